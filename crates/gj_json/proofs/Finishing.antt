@@ -1,0 +1,144 @@
+-- What the end of a text answers, and the levels that are open.
+use Rattle.std.proofs.Common.{◌≡◌, ℕ, ◌+◌, ◌≤◌, Bool, true, false, if◌then◌else◌, List, [], ◌∷◌, ◌++◌, length, take, Option, Some, None, refl, sym, ap, ◌∙◌, arith, append_assoc}
+use Rattle.std.specs.Option.{option_to_list}
+use Rattle.std.proofs.lemmas.List.{append-nil, map-append}
+use Rattle.std.proofs.Math.Seq.{take-append_seam}
+use Rattle.gj_json.specs.declared.event.Event.{Event}
+use Rattle.gj_json.specs.declared.event.What.TheVariants as What
+use Rattle.gj_json.specs.declared.fault.JsonFault.{JsonFault}
+use Rattle.gj_json.specs.declared.fault.Cause.TheVariants.{Truncated}
+use Rattle.gj_json.specs.declared.mode.NumberState.{NumberState}
+use Rattle.gj_json.specs.declared.levels.Level.{Level}
+use Rattle.gj_json.specs.declared.mode.Mode.{Mode}
+use Rattle.gj_json.specs.declared.mode.Mode.TheVariants.{ValueDone, NumberOn}
+use Rattle.gj_json.specs.declared.reader.Reader.{Reader}
+use Rattle.gj_json.specs.Limits.{Allowed}
+use Rattle.gj_json.specs.Tree.{Text, Tree, number, depth}
+use Rattle.gj_json.specs.Text.{IsText, IsTextWithin}
+use Rattle.gj_json.specs.Refusal.{RefusedFor, IsAdmitted}
+use Rattle.gj_json.specs.Events.{Timed, events, mark_events, text_events, all_events, events_by}
+use Rattle.gj_json.specs.Open.{open_at}
+use Rattle.gj_json.specs.Levels.{levels_in, inner_of}
+use Rattle.gj_json.specs.Machine.{Frame, in_array, in_object, Leaf, value_due, value_done, array_opened, object_opened, constant_on, number_on, string_on, name_due, name_on, colon_due, Partial, Broken, text_due, mark_one, mark_two, begun, finish_leaf, text_with, finish, number_may_end}
+use Rattle.gj_json.specs.Reader.{StandsFor}
+use Rattle.gj_json.specs.Seen.{seen, partial_timed, stack_timed, leaf_timed, ConstantAt, BegunAs, EdgeAt}
+use Rattle.gj_json.specs.Stands.{StandsWell, StandsRefused, StandsAs, LeafAs, FitsLeaf, FitsBroken, levels_of, levels_with}
+use Rattle.gj_json.specs.Told.{event_at, last_event}
+use Rattle.gj_json.proofs.Completes.{Goes, TextFrom}
+use Rattle.gj_json.proofs.Closing.{fits_viable}
+use Rattle.gj_json.proofs.End.{finish_iff}
+use Rattle.gj_json.proofs.Feeding.{live_offset}
+use Rattle.gj_json.proofs.Opened.{open_levels}
+use Rattle.gj_json.proofs.Past.{events_seen}
+use Rattle.gj_json.proofs.Reading.{well_of}
+use Rattle.gj_json.proofs.Texts.{text_goes_on, Finishes, text_finishes, finishes_text}
+use Rattle.gj_json.proofs.Times.{told}
+
+-- what the last event says of the end of the machine's run
+abbrev Says : ℕ → List Timed → Option (Option Event) → Option Tree → Type 0
+Says d before None o = o ≡ None
+Says d before (Some found) o = (tree : Tree) × (o ≡ Some tree) × (depth tree ≤ d) × (told (events tree) ≡ told before ++ option_to_list found)
+
+top_says : (d : ℕ) (stack : List Frame) (t : Tree) (n start : ℕ) → depth t + length stack ≤ d → Says d (stack_timed stack ++ events t) (last_event ValueDone (inner_of (levels_of stack)) start) (finish_leaf stack (value_done t) n)
+top_says d [] t n start f = (t, refl, omega (arith, f), sym (append-nil (told (events t))))
+top_says d (in_array place done ∷ stack) t n start f = refl
+top_says d (in_object place done np name ne ∷ stack) t n start f = refl
+
+number_says : (d : ℕ) (stack : List Frame) (place : ℕ) (so_far : List ℕ) (state : NumberState) (n : ℕ)
+    → Says d (stack_timed stack ++ []) (last_event (NumberOn state) (inner_of (levels_of stack)) place) (finish_leaf stack (number_on place so_far state) n)
+number_says d [] place so_far state n = go (number_may_end state)
+  where
+    go : (t : Bool) → Says d [] (if t then Some (Some (event_at place What.Number)) else None) (if t then Some (number place so_far n) else None)
+    go true = (number place so_far n, refl, omega arith, refl)
+    go false = refl
+number_says d (in_array p done ∷ stack) place so_far state n = refl
+number_says d (in_object p done np name ne ∷ stack) place so_far state n = refl
+
+leaf_says : (d : ℕ) (stack : List Frame) (leaf : Leaf) (mode : Mode) (start n : ℕ) → LeafAs leaf mode → FitsLeaf d stack leaf → BegunAs leaf start → ConstantAt leaf n
+    → Says d (stack_timed stack ++ leaf_timed leaf) (last_event mode (inner_of (levels_with leaf (levels_of stack))) start) (finish_leaf stack leaf n)
+leaf_says d stack (value_done t) mode start n a f g w = rw a (top_says d stack t n start f.0)
+leaf_says d stack (number_on place so_far state) mode start n a f g w = rw (a, g) (number_says d stack place so_far state n)
+leaf_says d [] (constant_on which place []) mode start n a f g w = absurd (omega (arith, w.1))
+leaf_says d [] (constant_on which place (x ∷ left)) mode start n a f g w = rw (a.1) refl
+leaf_says d (frame ∷ stack) (constant_on which place left) mode start n a f g w = rw (a.1) refl
+leaf_says d [] value_due mode start n a f g w = rw a refl
+leaf_says d (frame ∷ stack) value_due mode start n a f g w = rw a refl
+leaf_says d [] (array_opened place) mode start n a f g w = rw a refl
+leaf_says d (frame ∷ stack) (array_opened place) mode start n a f g w = rw a refl
+leaf_says d [] (object_opened place) mode start n a f g w = rw a refl
+leaf_says d (frame ∷ stack) (object_opened place) mode start n a f g w = rw a refl
+leaf_says d [] (string_on place so_far state) mode start n a f g w = rw a refl
+leaf_says d (frame ∷ stack) (string_on place so_far state) mode start n a f g w = rw a refl
+leaf_says d [] (name_due place done) mode start n a f g w = rw a refl
+leaf_says d (frame ∷ stack) (name_due place done) mode start n a f g w = rw a refl
+leaf_says d [] (name_on place done np so_far state) mode start n a f g w = rw a refl
+leaf_says d (frame ∷ stack) (name_on place done np so_far state) mode start n a f g w = rw a refl
+leaf_says d [] (colon_due place done np name ne) mode start n a f g w = rw a refl
+leaf_says d (frame ∷ stack) (colon_due place done np name ne) mode start n a f g w = rw a refl
+
+-- ---- a whole text
+
+abbrev TextSays : ℕ → List Timed → Option (Option Event) → Option Text → Type 0
+TextSays d before None o = o ≡ None
+TextSays d before (Some found) o = (text : Text) × (o ≡ Some text) × (depth text.value ≤ d) × (told (text_events text) ≡ told before ++ option_to_list found)
+
+marked_says : (d : ℕ) (marked : Bool) (before : List Timed) (found : Option (Option Event)) (o : Option Tree) → Says d before found o → TextSays d (mark_events marked ++ before) found (text_with marked o)
+marked_says d marked before None o h = rw h refl
+marked_says d marked before (Some found) o h = (
+  record { marked = marked; value = h.0 },
+  rw (h.1) refl,
+  h.2,
+  map-append (λ (x : Timed). x.event) (mark_events marked) (events h.0) ∙ ap (λ xs. told (mark_events marked) ++ xs) h.3
+      ∙ sym (append_assoc (told (mark_events marked)) (told before) (option_to_list found)) ∙ ap (λ xs. xs ++ option_to_list found) (sym (map-append (λ (x : Timed). x.event) (mark_events marked) before)),
+)
+
+text_says : (d : ℕ) (s : Broken) (mode : Mode) (levels : List Level) (start n : ℕ) → StandsAs s mode levels → FitsBroken d s → EdgeAt s start n → TextSays d (seen s) (last_event mode (inner_of levels) start) (finish s n)
+text_says d text_due mode levels start n a f e = rw (a.0) refl
+text_says d mark_one mode levels start n a f e = rw (a.0) refl
+text_says d mark_two mode levels start n a f e = rw (a.0) refl
+text_says d (begun marked s) mode levels start n a f e =
+    rw (a.1) (marked_says d marked (partial_timed s) _ (finish_leaf s.stack s.leaf n) (leaf_says d s.stack s.leaf mode start n a.0 f e.0 e.1))
+
+-- ---- the reader
+
+abbrev pub Ends : Allowed → ℕ → List ℕ → Option (Option Event) → Type 0
+Ends limits offset bytes None = RefusedFor Truncated limits bytes offset
+Ends limits offset bytes (Some found) = (text : Text) × IsAdmitted limits text bytes × (all_events text ≡ events_by (length bytes) text ++ option_to_list found)
+
+ends_go : (limits : Allowed) (mode : Mode) (levels : List Level) (start offset : ℕ) (bytes : List ℕ) (k : StandsWell limits mode levels start offset bytes) (o : Option (Option Event))
+    → TextSays limits.depth (seen k.state) o (finish k.state (length bytes)) → Ends limits offset bytes o
+ends_go limits mode levels start offset bytes k None h =
+    (k.at, k.within, fits_viable limits.depth bytes (rw (k.runs) k.fits), λ text t. let g = text_finishes text bytes t.0 in let j : Finishes text (length bytes) (Some k.state) = rw (k.runs) at g in cc)
+ends_go limits mode levels start offset bytes k (Some found) h =
+    let f : Finishes h.0 (length bytes) (Some k.state) = h.1 in
+    let t : IsText h.0 bytes = finishes_text h.0 bytes (rw (k.runs) f) in
+    let c : TextFrom h.0 (length bytes) [] k.state = (finish_iff k.state h.0 (length bytes)).1 f in
+    let s : events_by (length bytes) h.0 ≡ told (seen k.state) = events_seen k.state h.0 (length bytes) start [] (rw (← k.at) k.timely) c in
+    (h.0, ((t, h.2), omega (arith, k.at, k.within)), h.3 ∙ ap (λ xs. xs ++ option_to_list found) (sym s))
+
+pub ends : (reader : Reader) (bytes : List ℕ) → reader.fault ≡ None → StandsFor reader bytes → Ends reader.limits reader.offset bytes (last_event reader.mode (inner_of (levels_in reader.levels)) reader.start)
+ends reader bytes live h =
+    let k = well_of reader bytes live h in
+    ends_go reader.limits reader.mode (levels_in reader.levels) reader.start reader.offset bytes k (last_event reader.mode (inner_of (levels_in reader.levels)) reader.start)
+    (text_says reader.limits.depth k.state reader.mode (levels_in reader.levels) reader.start (length bytes) k.kept k.fits (rw (← k.at) k.timely.edge))
+
+well_levels : (limits : Allowed) (mode : Mode) (levels : List Level) (start offset : ℕ) (bytes rest : List ℕ) (text : Text) → StandsWell limits mode levels start offset bytes → IsText text (bytes ++ rest) → length levels ≡ open_at offset text
+well_levels limits mode levels start offset bytes rest text k t =
+    let c : TextFrom text (length bytes) rest k.state = (let j = text_goes_on text bytes rest t in let i : Goes (TextFrom text (length bytes) rest) (Some k.state) = rw (k.runs) at j in i) in
+    open_levels k.state mode levels text offset start rest k.kept k.timely (rw (k.at) c)
+
+taken_split : (bytes taken rest : List ℕ) (offset : ℕ) → bytes ≡ taken ++ rest → offset ≡ length taken → take offset bytes ≡ taken
+taken_split bytes taken rest offset e n = rw (e, n) (take-append_seam taken rest)
+
+pub levels_are : (reader : Reader) (bytes rest : List ℕ) (text : Text) → StandsFor reader bytes → IsText text (take reader.offset bytes ++ rest) → length (levels_in reader.levels) ≡ open_at reader.offset text
+levels_are reader bytes rest text h t = go reader.fault refl
+  where
+    go : (o : Option JsonFault) → reader.fault ≡ o → length (levels_in reader.levels) ≡ open_at reader.offset text
+    go None e =
+        let w = well_of reader bytes e h in
+        let f : take reader.offset bytes ≡ bytes = taken_split bytes bytes [] reader.offset (sym (append-nil bytes)) w.at in
+        well_levels reader.limits reader.mode (levels_in reader.levels) reader.start reader.offset bytes rest text w (rw f at t)
+    go (Some fault) e =
+        let r : StandsRefused reader.limits fault reader.mode (levels_in reader.levels) reader.start reader.offset bytes = rw e at h in
+        let f : take reader.offset bytes ≡ r.taken = taken_split bytes r.taken r.rest reader.offset r.split r.well.at in
+        well_levels reader.limits reader.mode (levels_in reader.levels) reader.start reader.offset r.taken rest text r.well (rw f at t)

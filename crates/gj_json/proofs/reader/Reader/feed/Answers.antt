@@ -1,0 +1,48 @@
+-- The piece up to what is allowed, and the byte behind it.
+use Rattle.std.proofs.Common.{◌≡◌, ◌+◌, ◌-◌, ◌≤◌, ◌<◌, length, take, arith}
+use Rattle.gj_json.specs.Feeding.{FeedsTo}
+use Rattle.gj_json.proofs.Feeding
+use Rattle.gj_json.proofs.reader.Reader.feed.Goals as goal
+
+pub returns-in-Some-clause-stands : goal.returns-in-Some-clause-stands
+returns-in-Some-clause-stands g c = λ bytes h. Feeding.refused_stands c.args.self.now bytes c.args.piece.now c.in-Some.fault c.in-Some.is h
+
+pub returns-in-Some-clause-answer : goal.returns-in-Some-clause-answer
+returns-in-Some-clause-answer g c = λ bytes h.
+    Feeding.kept_answer c.args.self.now _ c.in-Some.fault c.in-Some.is (Feeding.refused_stands c.args.self.now bytes c.args.piece.now c.in-Some.fault c.in-Some.is h)
+
+pub returns-then-piece-room-clause-answer : goal.returns-then-piece-room-clause-answer
+returns-then-piece-room-clause-answer g c = λ bytes h.
+    Feeding.by_answer (g.S.EventSink.heard c.args.sink.now) (g.S.EventSink.heard c.take_piece.new.sink) c.args.self.now c.take_piece.new.self c.args.piece.now bytes c.take_piece.result c.take_piece.ensures.feeds h
+
+full : (g : _) (c : goal.After-refuse g) → FeedsTo (g.S.EventSink.heard c.args.sink.now) (g.S.EventSink.heard c.take_piece-2.new.sink) c.args.self.now c.refuse.new.self c.args.piece.now c.refuse.result
+full g c =
+    let fed = rw (c.in-Ok.is) at c.take_piece-2.ensures.feeds in
+    let room : c.bytes.result - c.args.self.now.offset < length c.args.piece.now = omega (arith, c.if-piece-room.false) in
+    Feeding.beyond c.args.piece.now (c.bytes.result - c.args.self.now.offset) room c.args.self.now c.take_piece-2.new.self c.refuse.new.self c.refuse.result
+    fed
+    (omega (arith, c.bytes.ensures.value, c.args.self.now.within)) c.refuse.ensures
+
+pub returns-in-Ok-clause-stands : goal.returns-in-Ok-clause-stands
+returns-in-Ok-clause-stands g c = (full g c).feeds.stands
+
+pub returns-in-Ok-clause-answer : goal.returns-in-Ok-clause-answer
+returns-in-Ok-clause-answer g c = λ bytes h. Feeding.to_answer c.args.self.now c.refuse.new.self c.args.piece.now bytes c.refuse.result (full g c) h
+
+pub returns-in-Ok-clause-heard : goal.returns-in-Ok-clause-heard
+returns-in-Ok-clause-heard g c = (full g c).feeds.told
+
+short : (g : _) (c : goal.In-Err g) → FeedsTo (g.S.EventSink.heard c.args.sink.now) (g.S.EventSink.heard c.take_piece-2.new.sink) c.args.self.now c.take_piece-2.new.self c.args.piece.now c.in-Err.fault
+short g c =
+    let fed = rw (c.in-Err.is) at c.take_piece-2.ensures.feeds in
+    let room : c.bytes.result - c.args.self.now.offset < length c.args.piece.now = omega (arith, c.if-piece-room.false) in
+    Feeding.within_to c.args.piece.now (c.bytes.result - c.args.self.now.offset) room c.args.self.now c.take_piece-2.new.self c.in-Err.fault fed
+
+pub returns-in-Err-clause-stands : goal.returns-in-Err-clause-stands
+returns-in-Err-clause-stands g c = (short g c).feeds.stands
+
+pub returns-in-Err-clause-answer : goal.returns-in-Err-clause-answer
+returns-in-Err-clause-answer g c = λ bytes h. Feeding.to_answer c.args.self.now c.take_piece-2.new.self c.args.piece.now bytes c.in-Err.fault (short g c) h
+
+pub returns-in-Err-clause-heard : goal.returns-in-Err-clause-heard
+returns-in-Err-clause-heard g c = (short g c).feeds.told

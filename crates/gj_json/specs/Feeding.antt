@@ -1,0 +1,37 @@
+-- Internal: what a call that takes bytes leaves of a reader and of a sink.
+use Rattle.std.specs.Prelude.{◌≡◌, ℕ, ◌+◌, ◌≤◌, List, ◌++◌, length, take, Option, Some, None}
+use Rattle.std.specs.List.{AllByRecursion}
+use Rattle.gj_json.specs.declared.event.Event.{Event}
+use Rattle.gj_json.specs.declared.fault.JsonFault.{JsonFault}
+use Rattle.gj_json.specs.declared.reader.Reader.{Reader}
+use Rattle.gj_json.specs.Levels.{levels_in}
+use Rattle.gj_json.specs.Quiet.{IsQuiet}
+use Rattle.gj_json.specs.Reader.{StandsFor, Hears}
+
+-- bytes that leave all but the offset as it is
+pub record Skips (old new : Reader) (given : List ℕ) : Type 0 where
+  pub limits : new.limits ≡ old.limits
+  pub fault : new.fault ≡ old.fault
+  pub mode : new.mode ≡ old.mode
+  pub levels : new.levels ≡ old.levels
+  pub start : new.start ≡ old.start
+  pub offset : new.offset ≡ old.offset + length given
+  pub quiet : AllByRecursion (IsQuiet old.mode) given
+
+-- The reader was given these bytes, and its sink has heard of them what was taken.
+pub record Feeds (heard_before heard_after : List Event → Type 0) (old new : Reader) (given : List ℕ) : Type 0 where
+  pub limits : new.limits ≡ old.limits
+  pub on : old.offset ≤ new.offset
+  pub stands : (bytes : List ℕ) → StandsFor old bytes → StandsFor new (bytes ++ given)
+  pub told : (bytes : List ℕ) (events : List Event) → StandsFor old bytes → heard_before events → Hears heard_after events old.offset new.offset (take new.offset (bytes ++ given))
+
+-- and it refused none of them
+pub record FeedsAll (heard_before heard_after : List Event → Type 0) (old new : Reader) (given : List ℕ) : Type 0 where
+  pub feeds : Feeds heard_before heard_after old new given
+  pub live : new.fault ≡ None
+  pub offset : new.offset ≡ old.offset + length given
+
+-- or it refused one
+pub record FeedsTo (heard_before heard_after : List Event → Type 0) (old new : Reader) (given : List ℕ) (fault : JsonFault) : Type 0 where
+  pub feeds : Feeds heard_before heard_after old new given
+  pub refused : new.fault ≡ Some fault

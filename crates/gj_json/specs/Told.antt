@@ -1,0 +1,72 @@
+-- Internal: which events a byte completes, from what the reader keeps.
+use Rattle.gj_json.specs.Machine.{number_may_end}
+use Rattle.std.specs.Prelude.{ℕ, List, [], ◌∷◌, ◌++◌, Option, Some, None, Bool, true, false, if◌then◌else◌}
+use Rattle.std.specs.Option.{option_to_list}
+use Rattle.gj_json.specs.declared.event.Event.{Event}
+use Rattle.gj_json.specs.declared.event.What.{What}
+use Rattle.gj_json.specs.declared.levels.Level.{Level}
+use Rattle.gj_json.specs.declared.levels.Level.TheVariants.{Array, Object}
+use Rattle.gj_json.specs.declared.mode.Mode.{Mode}
+use Rattle.gj_json.specs.declared.mode.Mode.TheVariants.{MarkTwo, ValueDue, ValueDone, ConstantOn, NumberOn, StringOn, NameOn, ColonDue}
+use Rattle.gj_json.specs.declared.mode.Move.{Move}
+use Rattle.gj_json.specs.declared.mode.Move.TheVariants.{Refuse, Go, Open, Close}
+use Rattle.gj_json.specs.Events.{what_of}
+
+abbrev pub event_at : ℕ → What → Event
+event_at place what = record { place = place; what = what }
+
+-- a number under way has ended before this byte
+abbrev pub ended : Mode → Move → Bool
+ended (NumberOn state) Refuse = false
+ended (NumberOn state) (Go (NumberOn next)) = false
+ended (NumberOn state) _ = true
+ended _ move = false
+
+abbrev pub value_ended : Mode → ℕ → Option Event
+value_ended (ConstantOn which count) start = Some (event_at start (what_of which))
+value_ended (StringOn state) start = Some (event_at start What.Text)
+value_ended _ start = None
+
+-- the event of a move from one mode to another
+abbrev pub gone : Mode → Mode → ℕ → Option Event
+gone mode ValueDone start = value_ended mode start
+gone (NameOn state) ColonDue start = Some (event_at start What.Name)
+gone MarkTwo ValueDue start = Some (event_at 0 What.Mark)
+gone _ _ start = None
+
+abbrev pub opening_of : Level → What
+opening_of Array = What.OpenArray
+opening_of Object = What.OpenObject
+
+abbrev pub closing_of : Level → What
+closing_of Array = What.CloseArray
+closing_of Object = What.CloseObject
+
+abbrev pub made_event : Mode → Option Level → Move → ℕ → ℕ → Option Event
+made_event mode inner Refuse start n = None
+made_event mode inner (Go next) start n = gone mode next start
+made_event mode inner (Open level) start n = Some (event_at n (opening_of level))
+made_event mode (Some level) Close start n = Some (event_at n (closing_of level))
+made_event mode None Close start n = None
+
+-- all events of the byte at n
+abbrev pub emitted : Mode → Option Level → Move → ℕ → ℕ → List Event
+emitted mode inner move start n = (if ended mode move then event_at start What.Number ∷ [] else []) ++ option_to_list (made_event mode inner move start n)
+
+-- whether a literal name, a number, a string or a name is under way
+abbrev pub is_on : Mode → Bool
+is_on (ConstantOn which count) = true
+is_on (NumberOn state) = true
+is_on (StringOn state) = true
+is_on (NameOn state) = true
+is_on _ = false
+
+-- where what is under way began, after a byte at n
+abbrev pub start_after : Mode → ℕ → ℕ → ℕ
+start_after mode start n = if is_on mode then start else n
+
+-- what is left to say where the text ends here, or None where it may not
+abbrev pub last_event : Mode → Option Level → ℕ → Option (Option Event)
+last_event ValueDone None start = Some None
+last_event (NumberOn state) None start = if number_may_end state then Some (Some (event_at start What.Number)) else None
+last_event _ _ start = None

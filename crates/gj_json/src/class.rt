@@ -1,0 +1,53 @@
+ghost use Rattle.std.specs.Prelude.{◌≡◌};
+ghost use Rattle.gj_json.specs.Classes.{class_of};
+
+use crate::constant::Constant;
+
+/// What a byte is to the grammar, outside of a string.
+#[derive(Clone, Copy, PartialEq, Eq)]
+pub enum Class {
+    White,
+    OpenArray,
+    CloseArray,
+    OpenObject,
+    CloseObject,
+    Comma,
+    Colon,
+    Quote,
+    Minus,
+    Plus,
+    Point,
+    Exponent,
+    ZeroDigit,
+    FirstDigit,
+    /// The first letter of a literal name.
+    Letter(Constant),
+    Other,
+}
+
+/// The class of a byte.
+#[tactic(auto, unfolding(crate::specs::Classes::class_of))]
+pub fn classify(byte: u8) -> Class
+    ensures { result ≡ class_of byte }
+{
+    match byte {
+        b'1'..=b'9' => Class::FirstDigit,
+        b'0' => Class::ZeroDigit,
+        b' ' | b'\t' | b'\n' | b'\r' => Class::White,
+        b'[' => Class::OpenArray,
+        b']' => Class::CloseArray,
+        b'{' => Class::OpenObject,
+        b'}' => Class::CloseObject,
+        b',' => Class::Comma,
+        b':' => Class::Colon,
+        b'"' => Class::Quote,
+        b'-' => Class::Minus,
+        b'+' => Class::Plus,
+        b'.' => Class::Point,
+        b'e' | b'E' => Class::Exponent,
+        b'n' => Class::Letter(Constant::Null),
+        b't' => Class::Letter(Constant::True),
+        b'f' => Class::Letter(Constant::False),
+        _ => Class::Other,
+    }
+}

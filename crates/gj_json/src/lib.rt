@@ -1,0 +1,27 @@
+//! A streaming reader of JSON texts (RFC 8259), byte by byte or piece by piece, in fixed memory.
+//!
+//! The events that it tells are those of the text's tree, in order, each with its place; an input that is no admitted
+//! text is refused at the first byte that cannot stand where it does, with the cause. The grammar stands in
+//! `specs/Grammar.antt`, what is refused in `specs/Refusal.antt`, the events in `specs/Events.antt`.
+#![tactic(auto)]
+
+mod class;
+mod constant;
+mod event;
+mod fault;
+mod levels;
+mod limits;
+mod mode;
+mod moves;
+mod numbers;
+mod reader;
+mod runs;
+mod sink;
+mod strings;
+mod told;
+
+pub use event::{Event, What};
+pub use fault::{Cause, JsonFault};
+pub use limits::Limits;
+pub use reader::Reader;
+pub use sink::EventSink;

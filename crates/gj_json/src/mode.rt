@@ -1,0 +1,86 @@
+//! What the reader keeps of the text so far, beside the levels that are open.
+
+use crate::constant::Constant;
+use crate::levels::Level;
+
+/// How far a number has come.
+#[derive(Clone, Copy, PartialEq, Eq)]
+pub enum NumberState {
+    AfterMinus,
+    AfterZero,
+    InDigits,
+    AfterPoint,
+    InFraction,
+    AfterExponent,
+    AfterSign,
+    InExponent,
+}
+
+/// What the second byte of a character in UTF-8 may be, which the first byte tells (RFC 3629, section 4).
+#[derive(Clone, Copy, PartialEq, Eq)]
+pub enum Bounds {
+    /// 80 to BF (hexadecimal), as each byte behind the second.
+    Any,
+    /// A0 to BF: no longer form than needed.
+    AfterE0,
+    /// 80 to 9F: no surrogate.
+    AfterED,
+    /// 90 to BF: no longer form than needed.
+    AfterF0,
+    /// 80 to 8F: nothing past U+10FFFF.
+    AfterF4,
+}
+
+/// How far the character under way in a string has come.
+#[derive(Clone, Copy, PartialEq, Eq)]
+pub enum StringState {
+    /// No character is under way.
+    Plain,
+    /// Behind a backslash.
+    Escape,
+    /// Behind `\u`, and behind the digits of this value.
+    HexDue,
+    HexOne(u32),
+    HexTwo(u32),
+    HexThree(u32),
+    /// In a character of several bytes: how many follow the next, what the next may be, and the bits so far.
+    InCharacter(u8, Bounds, u32),
+}
+
+/// What may come next.
+#[derive(Clone, Copy, PartialEq, Eq)]
+pub enum Mode {
+    /// A byte order mark, white space or a value: nothing has come.
+    TextDue,
+    /// Behind one byte, or two, of a mark.
+    MarkOne,
+    MarkTwo,
+    ValueDue,
+    ValueDone,
+    ArrayOpened,
+    ObjectOpened,
+    /// So many letters of the literal name have come.
+    ConstantOn(Constant, u8),
+    NumberOn(NumberState),
+    StringOn(StringState),
+    NameDue,
+    NameOn(StringState),
+    ColonDue,
+}
+
+/// What a byte does.
+#[derive(Clone, Copy, PartialEq, Eq)]
+pub enum Move {
+    Refuse,
+    Go(Mode),
+    Open(Level),
+    Close,
+}
+
+/// What a byte does to a string under way.
+#[derive(Clone, Copy, PartialEq, Eq)]
+pub enum StringMove {
+    Ends,
+    Goes(StringState),
+    Refuses,
+}

@@ -1,0 +1,238 @@
+//! What a byte does, from what the reader keeps.
+
+ghost use Rattle.std.specs.Prelude.{◌≡◌, ◌==◌, ◌<◌, if◌then◌else◌, length};
+ghost use Rattle.gj_json.specs.Bytes.{mark_first};
+ghost use Rattle.gj_json.specs.Classes.{class_of};
+ghost use Rattle.gj_json.specs.Grammar.{letters_of};
+ghost use Rattle.gj_json.specs.Moves.{begin_move, due_move, array_move, name_move, object_move, name_due_move, colon_move, after_move, constant_move, number_move, value_string_move, name_string_move, string_move, move_of, IsMode, IsMove, IsStringState};
+ghost use Rattle.gj_json.specs.Machine.{number_next, number_may_end, string_next};
+ghost use Rattle.gj_json.specs.declared.mode.Mode.TheVariants.{MarkOne};
+ghost use Rattle.gj_json.specs.declared.mode.Move.TheVariants.{Go, Refuse};
+
+use crate::class::{Class, classify};
+use crate::constant::Constant;
+use crate::levels::Level;
+use crate::mode::{Mode, Move, NumberState, StringMove, StringState};
+use crate::numbers::{may_end, next_number};
+use crate::strings::next_string;
+
+/// U+FEFF in UTF-8.
+const MARK_FIRST: u8 = 0xEF;
+
+const MARK_SECOND: u8 = 0xBB;
+
+const MARK_THIRD: u8 = 0xBF;
+
+fn begin(class: Class) -> Move
+    ensures value { result ≡ begin_move class }
+    ensures mode { IsMove result }
+{
+    match class {
+        Class::OpenArray => Move::Open(Level::Array),
+        Class::OpenObject => Move::Open(Level::Object),
+        Class::Quote => Move::Go(Mode::StringOn(StringState::Plain)),
+        Class::Minus => Move::Go(Mode::NumberOn(NumberState::AfterMinus)),
+        Class::ZeroDigit => Move::Go(Mode::NumberOn(NumberState::AfterZero)),
+        Class::FirstDigit => Move::Go(Mode::NumberOn(NumberState::InDigits)),
+        Class::Letter(which) => Move::Go(Mode::ConstantOn(which, 1)),
+        _ => Move::Refuse,
+    }
+}
+
+fn begin_name(class: Class) -> Move
+    ensures value { result ≡ name_move class }
+    ensures mode { IsMove result }
+{
+    match class {
+        Class::Quote => Move::Go(Mode::NameOn(StringState::Plain)),
+        _ => Move::Refuse,
+    }
+}
+
+fn after_value(inner: Option<Level>, class: Class) -> Move
+    ensures value { result ≡ after_move inner class }
+    ensures mode { IsMove result }
+{
+    match class {
+        Class::White => Move::Go(Mode::ValueDone),
+        Class::Comma => match inner {
+            Some(Level::Array) => Move::Go(Mode::ValueDue),
+            Some(Level::Object) => Move::Go(Mode::NameDue),
+            None => Move::Refuse,
+        },
+        Class::CloseArray => match inner {
+            Some(Level::Array) => Move::Close,
+            _ => Move::Refuse,
+        },
+        Class::CloseObject => match inner {
+            Some(Level::Object) => Move::Close,
+            _ => Move::Refuse,
+        },
+        _ => Move::Refuse,
+    }
+}
+
+fn letters(which: Constant) -> &'static [u8]
+    ensures { result.now ≡ letters_of which }
+{
+    match which {
+        Constant::Null => b"null",
+        Constant::True => b"true",
+        Constant::False => b"false",
+    }
+}
+
+fn next_letter(which: Constant, count: u8, byte: u8) -> Move
+    requires { count < length (letters_of which) }
+    ensures value { result ≡ constant_move which count byte }
+    ensures mode { IsMove result }
+{
+    let all = letters(which);
+    if byte == all[count as usize] {
+        if count as usize + 1 == all.len() {
+            Move::Go(Mode::ValueDone)
+        } else {
+            Move::Go(Mode::ConstantOn(which, count + 1))
+        }
+    } else {
+        Move::Refuse
+    }
+}
+
+fn next_of_text(byte: u8) -> Move
+    ensures value { result ≡ (if byte == mark_first then Go MarkOne else due_move (class_of byte)) }
+    ensures mode { IsMove result }
+{
+    if byte == MARK_FIRST {
+        return Move::Go(Mode::MarkOne);
+    }
+    value_due(classify(byte))
+}
+
+fn expect(byte: u8, expected: u8, mode: Mode) -> Move
+    requires { IsMode mode }
+    ensures value { result ≡ (if byte == expected then Go mode else Refuse) }
+    ensures mode { IsMove result }
+{
+    if byte == expected {
+        Move::Go(mode)
+    } else {
+        Move::Refuse
+    }
+}
+
+fn value_due(class: Class) -> Move
+    ensures value { result ≡ due_move class }
+    ensures mode { IsMove result }
+{
+    match class {
+        Class::White => Move::Go(Mode::ValueDue),
+        class => begin(class),
+    }
+}
+
+fn array_opened(class: Class) -> Move
+    ensures value { result ≡ array_move class }
+    ensures mode { IsMove result }
+{
+    match class {
+        Class::White => Move::Go(Mode::ArrayOpened),
+        Class::CloseArray => Move::Close,
+        class => begin(class),
+    }
+}
+
+fn object_opened(class: Class) -> Move
+    ensures value { result ≡ object_move class }
+    ensures mode { IsMove result }
+{
+    match class {
+        Class::White => Move::Go(Mode::ObjectOpened),
+        Class::CloseObject => Move::Close,
+        class => begin_name(class),
+    }
+}
+
+fn name_due(class: Class) -> Move
+    ensures value { result ≡ name_due_move class }
+    ensures mode { IsMove result }
+{
+    match class {
+        Class::White => Move::Go(Mode::NameDue),
+        class => begin_name(class),
+    }
+}
+
+fn colon_due(class: Class) -> Move
+    ensures value { result ≡ colon_move class }
+    ensures mode { IsMove result }
+{
+    match class {
+        Class::White => Move::Go(Mode::ColonDue),
+        Class::Colon => Move::Go(Mode::ValueDue),
+        _ => Move::Refuse,
+    }
+}
+
+fn in_number(state: NumberState, inner: Option<Level>, class: Class) -> Move
+    ensures value { result ≡ number_move (number_next state class) (number_may_end state) (after_move inner class) }
+    ensures mode { IsMove result }
+{
+    match next_number(state, class) {
+        Some(next) => Move::Go(Mode::NumberOn(next)),
+        None => {
+            if may_end(state) {
+                after_value(inner, class)
+            } else {
+                Move::Refuse
+            }
+        }
+    }
+}
+
+fn in_string(state: StringState, byte: u8) -> Move
+    requires { IsStringState state }
+    ensures value { result ≡ value_string_move (string_move (string_next state byte)) }
+    ensures mode { IsMove result }
+{
+    match next_string(state, byte) {
+        StringMove::Ends => Move::Go(Mode::ValueDone),
+        StringMove::Goes(next) => Move::Go(Mode::StringOn(next)),
+        StringMove::Refuses => Move::Refuse,
+    }
+}
+
+fn in_name(state: StringState, byte: u8) -> Move
+    requires { IsStringState state }
+    ensures value { result ≡ name_string_move (string_move (string_next state byte)) }
+    ensures mode { IsMove result }
+{
+    match next_string(state, byte) {
+        StringMove::Ends => Move::Go(Mode::ColonDue),
+        StringMove::Goes(next) => Move::Go(Mode::NameOn(next)),
+        StringMove::Refuses => Move::Refuse,
+    }
+}
+
+/// What a byte does in a mode, where `inner` is the innermost level that is open.
+pub fn next(mode: Mode, inner: Option<Level>, byte: u8) -> Move
+    requires { IsMode mode }
+    ensures value { result ≡ move_of mode inner byte }
+    ensures mode { IsMove result }
+{
+    match mode {
+        Mode::TextDue => next_of_text(byte),
+        Mode::MarkOne => expect(byte, MARK_SECOND, Mode::MarkTwo),
+        Mode::MarkTwo => expect(byte, MARK_THIRD, Mode::ValueDue),
+        Mode::ValueDue => value_due(classify(byte)),
+        Mode::ValueDone => after_value(inner, classify(byte)),
+        Mode::ArrayOpened => array_opened(classify(byte)),
+        Mode::ObjectOpened => object_opened(classify(byte)),
+        Mode::ConstantOn(which, count) => next_letter(which, count, byte),
+        Mode::NumberOn(state) => in_number(state, inner, classify(byte)),
+        Mode::StringOn(state) => in_string(state, byte),
+        Mode::NameDue => name_due(classify(byte)),
+        Mode::NameOn(state) => in_name(state, byte),
+        Mode::ColonDue => colon_due(classify(byte)),
+    }
+}

@@ -1,0 +1,276 @@
+ghost use Rattle.std.specs.Prelude.{◌≡◌, ℕ, ◌+◌, ◌^◌, ◌≤◌, ◌<◌, ◌++◌, ◌∷◌, [], List, length, take, IfOk, MatchResult, Some, None, Err};
+ghost use Rattle.gj_json.specs.Moves.{IsMode, IsMove, move_of};
+ghost use Rattle.gj_json.specs.Levels.{levels_in, inner_of, outer_of};
+ghost use Rattle.gj_json.specs.Told.{emitted};
+ghost use Rattle.gj_json.specs.declared.mode.Mode.TheVariants.{ValueDone};
+
+use crate::event::Event;
+use crate::fault::{Cause, JsonFault};
+use crate::levels::{Level, Levels};
+use crate::limits::Limits;
+use crate::mode::{Mode, Move};
+use crate::moves::next;
+use crate::runs::quiet_run;
+use crate::sink::{EventPair, EventSink};
+use crate::told::{is_on, last_event, tell_events};
+use arrayvec::ArrayVec;
+
+/// Reads a text: byte by byte or in pieces of any size.
+///
+/// It keeps where it stands in the grammar and one bit for each level that is open, whatever the length of the text.
+#[derive(Clone, Copy)]
+pub struct Reader {
+    limits: Limits,
+    offset: u64,
+    /// The place of the literal name, number, string or name that is under way.
+    start: u64,
+    levels: Levels,
+    mode: Mode,
+    fault: Option<JsonFault>,
+    ghost sound: { IsMode mode },
+    ghost within: { offset ≤ limits.bytes },
+    ghost nested: { length (levels_in levels) ≤ limits.depth },
+}
+
+impl Reader {
+    ghost use Rattle.gj_json.specs.declared.event.Event.{Event};
+    ghost use Rattle.gj_json.specs.declared.fault.JsonFault.{JsonFault};
+    ghost use Rattle.gj_json.specs.Tree.{Text};
+    ghost use Rattle.gj_json.specs.Text.{IsText};
+    ghost use Rattle.gj_json.specs.Open.{open_at};
+    ghost use Rattle.gj_json.specs.Reader.{StandsFor, limits_of, refusal_of, offset_of, Answers, Completed, Hears, FinishAnswers};
+    ghost use Rattle.gj_json.specs.Feeding.{Skips, FeedsAll, FeedsTo};
+    ghost use Rattle.gj_json.specs.Step.{Applied, IsRefusedWith, told_on, Passes, opened};
+
+    /// A reader of a text under these limits, before its first byte.
+    pub fn new(limits: Limits) -> Self
+        ensures stands { StandsFor result [] }
+        ensures limits { limits_of result ≡ limits }
+        ensures offset { offset_of result ≡ 0 }
+        ensures open { refusal_of result ≡ None }
+    {
+        Reader {
+            limits,
+            offset: 0,
+            start: 0,
+            levels: Levels::new(),
+            mode: Mode::TextDue,
+            fault: None,
+        }
+    }
+
+    fn refuse(&mut self, cause: Cause) -> JsonFault
+        ensures { IsRefusedWith cause self.old self.new result }
+    {
+        let fault = JsonFault {
+            place: self.offset,
+            cause,
+        };
+        self.fault = Some(fault);
+        fault
+    }
+
+    fn go(&mut self, mode: Mode)
+        requires room { self.old.offset < self.old.limits.bytes }
+        requires sound { IsMode mode }
+        ensures { Passes mode (levels_in self.old.levels) self.old self.new }
+    {
+        if !is_on(self.mode) {
+            self.start = self.offset;
+        }
+        self.mode = mode;
+        self.offset += 1;
+    }
+
+    fn open(&mut self, level: Level)
+        requires room { self.old.offset < self.old.limits.bytes }
+        requires deep { length (levels_in self.old.levels) < self.old.limits.depth }
+        requires narrow { self.old.limits.depth ≤ 64 }
+        ensures { Passes (opened level) (level ∷ levels_in self.old.levels) self.old self.new }
+    {
+        self.levels.push(level);
+        self.go(match level {
+            Level::Array => Mode::ArrayOpened,
+            Level::Object => Mode::ObjectOpened,
+        });
+    }
+
+    fn close(&mut self)
+        requires room { self.old.offset < self.old.limits.bytes }
+        ensures { Passes ValueDone (outer_of (levels_in self.old.levels)) self.old self.new }
+    {
+        self.levels.pop();
+        self.go(Mode::ValueDone);
+    }
+
+    fn apply(&mut self, made: Move) -> Result<(), JsonFault>
+        requires live { self.old.fault ≡ None }
+        requires room { self.old.offset < self.old.limits.bytes }
+        requires sound { IsMove made }
+        ensures { Applied made self.old self.new result }
+    {
+        match made {
+            Move::Refuse => return Err(self.refuse(Cause::Syntax)),
+            Move::Go(mode) => self.go(mode),
+            Move::Open(level) => {
+                if self.levels.len() == self.limits.depth() {
+                    return Err(self.refuse(Cause::Depth));
+                }
+                self.open(level);
+            }
+            Move::Close => self.close(),
+        }
+        Ok(())
+    }
+
+    /// Takes a byte that the limit on the bytes allows, and tells the events that it completes.
+    fn take_byte<S: EventSink>(&mut self, byte: u8, sink: &mut S) -> Result<(), JsonFault>
+        requires live { self.old.fault ≡ None }
+        requires room { self.old.offset < self.old.limits.bytes }
+        ensures applied { Applied (move_of self.old.mode (inner_of (levels_in self.old.levels)) byte) self.old self.new result }
+        ensures heard { (events : List Event) → S.heard sink.old events → S.heard sink.new (events ++ told_on result (emitted self.old.mode (inner_of (levels_in self.old.levels)) (move_of self.old.mode (inner_of (levels_in self.old.levels)) byte) self.old.start self.old.offset)) }
+    {
+        let inner = self.levels.inner();
+        let mode = self.mode;
+        let start = self.start;
+        let offset = self.offset;
+        let made = next(mode, inner, byte);
+        if let Err(fault) = self.apply(made) {
+            return Err(fault);
+        }
+        tell_events(sink, mode, inner, made, start, offset);
+        Ok(())
+    }
+
+    /// Takes the bytes at the front of the piece that change nothing but the offset: how many.
+    fn skip_quiet(&mut self, piece: &[u8]) -> usize
+        requires room { self.old.offset + length piece.now ≤ self.old.limits.bytes }
+        requires small { self.old.limits.bytes ≤ 2 ^ 60 }
+        ensures within { result ≤ length piece.now }
+        ensures skips { Skips self.old self.new (take result piece.now) }
+    {
+        let count = quiet_run(self.mode, piece);
+        self.offset += count as u64;
+        count
+    }
+
+    /// Takes bytes from the front of the piece, one at least: how many.
+    fn take_some<S: EventSink>(&mut self, piece: &[u8], sink: &mut S) -> Result<usize, JsonFault>
+        requires live { self.old.fault ≡ None }
+        requires some { 0 < length piece.now }
+        requires room { self.old.offset + length piece.now ≤ self.old.limits.bytes }
+        requires small { self.old.limits.bytes ≤ 2 ^ 60 }
+        ensures within { IfOk result (λ n. (0 < n) × (n ≤ length piece.now)) }
+        ensures feeds { MatchResult result (λ n. FeedsAll (S.heard sink.old) (S.heard sink.new) self.old self.new (take n piece.now)) (FeedsTo (S.heard sink.old) (S.heard sink.new) self.old self.new piece.now) }
+    {
+        let quiet = self.skip_quiet(piece);
+        if quiet == piece.len() {
+            return Ok(quiet);
+        }
+        match self.take_byte(piece[quiet], sink) {
+            Ok(()) => Ok(quiet + 1),
+            Err(fault) => Err(fault),
+        }
+    }
+
+    /// Takes a piece that the limit on the bytes allows.
+    fn take_piece<S: EventSink>(&mut self, piece: &[u8], sink: &mut S) -> Result<(), JsonFault>
+        requires live { self.old.fault ≡ None }
+        requires room { self.old.offset + length piece.now ≤ self.old.limits.bytes }
+        requires small { self.old.limits.bytes ≤ 2 ^ 60 }
+        ensures feeds { MatchResult result (λ done. FeedsAll (S.heard sink.old) (S.heard sink.new) self.old self.new piece.now) (FeedsTo (S.heard sink.old) (S.heard sink.new) self.old self.new piece.now) }
+    {
+        let mut at = 0;
+        while at < piece.len() {
+            match self.take_some(&piece[at..], sink) {
+                Ok(count) => at += count,
+                Err(fault) => return Err(fault),
+            }
+        }
+        Ok(())
+    }
+
+    /// Takes a piece of the text, of any size, and tells the sink the events that are complete in it, in order.
+    ///
+    /// It is what `push` of each byte in turn leaves and tells, up to a byte that is refused. The bytes before that one
+    /// are taken; from then on each call answers the same fault and changes nothing.
+    pub fn feed<S: EventSink>(&mut self, piece: &[u8], sink: &mut S) -> Result<(), JsonFault>
+        ensures stands { (bytes : List ℕ) → StandsFor self.old bytes → StandsFor self.new (bytes ++ piece.now) }
+        ensures answer { (bytes : List ℕ) → StandsFor self.old bytes → Answers (limits_of self.old) (bytes ++ piece.now) result }
+        ensures heard { (bytes : List ℕ) (events : List Event) → StandsFor self.old bytes → S.heard sink.old events
+            → Hears (S.heard sink.new) events (offset_of self.old) (offset_of self.new) (take (offset_of self.new) (bytes ++ piece.now)) }
+        ensures limits { limits_of self.new ≡ limits_of self.old }
+        ensures refusal { MatchResult result (λ done. refusal_of self.new ≡ None) (λ fault. refusal_of self.new ≡ Some fault) }
+        ensures again { (fault : JsonFault) → refusal_of self.old ≡ Some fault → (self.new ≡ self.old) × (sink.new ≡ sink.old) × (result ≡ Err fault) }
+    {
+        if let Some(fault) = self.fault {
+            return Err(fault);
+        }
+        let room = self.limits.bytes() - self.offset;
+        if piece.len() as u64 <= room {
+            return self.take_piece(piece, sink);
+        }
+        match self.take_piece(&piece[..room as usize], sink) {
+            Ok(()) => Err(self.refuse(Cause::Length)),
+            Err(fault) => Err(fault),
+        }
+    }
+
+    /// Takes the next byte, and answers the events that it completes, two at the most.
+    ///
+    /// A byte that is refused is not taken; from then on each call answers the same fault and changes nothing.
+    pub fn push(&mut self, byte: u8) -> Result<ArrayVec<Event, 2>, JsonFault>
+        ensures stands { (bytes : List ℕ) → StandsFor self.old bytes → StandsFor self.new (bytes ++ byte ∷ []) }
+        ensures answer { (bytes : List ℕ) → StandsFor self.old bytes → Answers (limits_of self.old) (bytes ++ byte ∷ []) result }
+        ensures events { (bytes : List ℕ) → StandsFor self.old bytes → IfOk result (λ found. Completed (length bytes) (length bytes + 1) (bytes ++ byte ∷ []) found.items) }
+        ensures limits { limits_of self.new ≡ limits_of self.old }
+        ensures refusal { MatchResult result (λ found. refusal_of self.new ≡ None) (λ fault. refusal_of self.new ≡ Some fault) }
+        ensures again { (fault : JsonFault) → refusal_of self.old ≡ Some fault → (self.new ≡ self.old) × (result ≡ Err fault) }
+    {
+        if let Some(fault) = self.fault {
+            return Err(fault);
+        }
+        if self.offset == self.limits.bytes() {
+            return Err(self.refuse(Cause::Length));
+        }
+        let mut told = EventPair::new();
+        match self.take_byte(byte, &mut told) {
+            Ok(()) => Ok(told.events),
+            Err(fault) => Err(fault),
+        }
+    }
+
+    /// Ends the text. Only now has a number at its end ended, which is the event that is answered.
+    pub fn finish(self) -> Result<Option<Event>, JsonFault>
+        ensures answer { (bytes : List ℕ) → StandsFor self bytes → FinishAnswers (limits_of self) bytes result }
+        ensures again { (fault : JsonFault) → refusal_of self ≡ Some fault → result ≡ Err fault }
+    {
+        if let Some(fault) = self.fault {
+            return Err(fault);
+        }
+        match last_event(self.mode, self.levels.inner(), self.start) {
+            Some(found) => Ok(found),
+            None => Err(JsonFault {
+                place: self.offset,
+                cause: Cause::Truncated,
+            }),
+        }
+    }
+
+    /// How many bytes were taken: the place of the refused one, once there was one.
+    pub fn offset(&self) -> u64
+        ensures value { result ≡ offset_of self.now }
+        ensures taken { (bytes : List ℕ) → StandsFor self.now bytes → refusal_of self.now ≡ None → result ≡ length bytes }
+        ensures refused { (bytes : List ℕ) (fault : JsonFault) → StandsFor self.now bytes → refusal_of self.now ≡ Some fault → result ≡ fault.place }
+    {
+        self.offset
+    }
+
+    /// How many arrays and objects are open after the bytes that were taken.
+    pub fn levels(&self) -> u8
+        ensures open { (bytes rest : List ℕ) (text : Text) → StandsFor self.now bytes → IsText text (take (offset_of self.now) bytes ++ rest) → result ≡ open_at (offset_of self.now) text }
+        ensures small { result ≤ 64 }
+    {
+        self.levels.len()
+    }
+}

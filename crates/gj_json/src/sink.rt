@@ -1,0 +1,39 @@
+ghost use Rattle.std.specs.Prelude.{◌≡◌, ◌≤◌, ◌∷◌, ◌++◌, [], List, length};
+
+use crate::event::Event;
+use arrayvec::ArrayVec;
+
+/// What a reader tells its events to, in order.
+pub trait EventSink {
+    /// The events that it was told so far may be these.
+    ghost heard: { Self → List Event → Type 0 };
+
+    ghost use Rattle.gj_json.specs.declared.event.Event.{Event};
+
+    fn tell(&mut self, event: Event)
+        ensures { (events : List Event) → heard self.old events → heard self.new (events ++ event ∷ []) };
+}
+
+/// The events of one byte, of which there are two at the most.
+#[derive(Drop)]
+pub struct EventPair {
+    pub events: ArrayVec<Event, 2>,
+}
+
+impl EventPair {
+    pub fn new() -> Self
+        ensures { result.events.items ≡ [] }
+    {
+        EventPair {
+            events: ArrayVec::new(),
+        }
+    }
+}
+
+impl EventSink for EventPair {
+    ghost heard = { λ pair events. length events ≤ 2 → pair.events.items ≡ events };
+
+    fn tell(&mut self, event: Event) {
+        let _ = self.events.try_push(event);
+    }
+}

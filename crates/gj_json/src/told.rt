@@ -1,0 +1,166 @@
+//! Which events a byte completes.
+
+ghost use Rattle.std.specs.Prelude.{◌≡◌, ◌++◌, List};
+ghost use Rattle.gj_json.specs.Told.{ended, value_ended, gone, opening_of, closing_of, made_event, emitted, is_on as is_on_of, last_event as last_event_of};
+ghost use Rattle.gj_json.specs.Events.{what_of as what_of_constant};
+ghost use Rattle.gj_json.specs.declared.event.Event.{Event};
+
+use crate::constant::Constant;
+use crate::event::{Event, What};
+use crate::levels::Level;
+use crate::mode::{Mode, Move};
+use crate::numbers::may_end;
+use crate::sink::EventSink;
+
+/// Whether a number under way has ended before the byte of this move.
+fn has_ended(mode: Mode, made: Move) -> bool
+    ensures { result ≡ ended mode made }
+{
+    match mode {
+        Mode::NumberOn(_) => match made {
+            Move::Refuse => false,
+            Move::Go(Mode::NumberOn(_)) => false,
+            _ => true,
+        },
+        _ => false,
+    }
+}
+
+/// Whether a literal name, a number, a string or a name is under way.
+pub fn is_on(mode: Mode) -> bool
+    ensures { result ≡ is_on_of mode }
+{
+    match mode {
+        Mode::ConstantOn(_, _) | Mode::NumberOn(_) | Mode::StringOn(_) | Mode::NameOn(_) => true,
+        _ => false,
+    }
+}
+
+fn what_of(which: Constant) -> What
+    ensures { result ≡ what_of_constant which }
+{
+    match which {
+        Constant::Null => What::Null,
+        Constant::True => What::True,
+        Constant::False => What::False,
+    }
+}
+
+fn ended_value(mode: Mode, start: u64) -> Option<Event>
+    ensures { result ≡ value_ended mode start }
+{
+    let what = match mode {
+        Mode::ConstantOn(which, _) => what_of(which),
+        Mode::StringOn(_) => What::Text,
+        _ => return None,
+    };
+    Some(Event { place: start, what })
+}
+
+/// The event that a move to the mode `next` completes.
+fn event_of_going(mode: Mode, next: Mode, start: u64) -> Option<Event>
+    ensures { result ≡ gone mode next start }
+{
+    match next {
+        Mode::ValueDone => ended_value(mode, start),
+        Mode::ColonDue => match mode {
+            Mode::NameOn(_) => Some(Event {
+                place: start,
+                what: What::Name,
+            }),
+            _ => None,
+        },
+        Mode::ValueDue => match mode {
+            Mode::MarkTwo => Some(Event {
+                place: 0,
+                what: What::Mark,
+            }),
+            _ => None,
+        },
+        _ => None,
+    }
+}
+
+fn opening(level: Level) -> What
+    ensures { result ≡ opening_of level }
+{
+    match level {
+        Level::Array => What::OpenArray,
+        Level::Object => What::OpenObject,
+    }
+}
+
+fn closing(level: Level) -> What
+    ensures { result ≡ closing_of level }
+{
+    match level {
+        Level::Array => What::CloseArray,
+        Level::Object => What::CloseObject,
+    }
+}
+
+/// The event that the byte at `offset` completes, beside the number that it ends.
+fn event_of(mode: Mode, inner: Option<Level>, made: Move, start: u64, offset: u64) -> Option<Event>
+    ensures { result ≡ made_event mode inner made start offset }
+{
+    match made {
+        Move::Refuse => None,
+        Move::Go(next) => event_of_going(mode, next, start),
+        Move::Open(level) => Some(Event {
+            place: offset,
+            what: opening(level),
+        }),
+        Move::Close => match inner {
+            Some(level) => Some(Event {
+                place: offset,
+                what: closing(level),
+            }),
+            None => None,
+        },
+    }
+}
+
+/// Tells the events that the byte at `offset` completes, by what the reader kept before it and the move that it makes.
+pub fn tell_events<S: EventSink>(
+    sink: &mut S,
+    mode: Mode,
+    inner: Option<Level>,
+    made: Move,
+    start: u64,
+    offset: u64,
+)
+    ensures { (events : List Event) → S.heard sink.old events → S.heard sink.new (events ++ emitted mode inner made start offset) }
+{
+    if has_ended(mode, made) {
+        sink.tell(Event {
+            place: start,
+            what: What::Number,
+        });
+    }
+    if let Some(event) = event_of(mode, inner, made, start, offset) {
+        sink.tell(event);
+    }
+}
+
+/// What is left to tell where the text ends, or `None` where it may not end: `start` is the place of what is under way.
+pub fn last_event(mode: Mode, inner: Option<Level>, start: u64) -> Option<Option<Event>>
+    ensures { result ≡ last_event_of mode inner start }
+{
+    if let Some(_) = inner {
+        return None;
+    }
+    match mode {
+        Mode::ValueDone => Some(None),
+        Mode::NumberOn(state) => {
+            if may_end(state) {
+                Some(Some(Event {
+                    place: start,
+                    what: What::Number,
+                }))
+            } else {
+                None
+            }
+        }
+        _ => None,
+    }
+}
