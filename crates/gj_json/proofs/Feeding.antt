@@ -19,28 +19,17 @@ use Rattle.gj_json.specs.Refusal.{Stops, RefusedFor, IsRefusal, IsByByte}
 use Rattle.gj_json.specs.Events.{events_by}
 use Rattle.gj_json.specs.Levels.{levels_in}
 use Rattle.gj_json.specs.Feeding.{Skips, Feeds, FeedsAll, FeedsTo}
-use Rattle.gj_json.specs.Reader.{StandsFor, Answers, Completed, Hears}
+use Rattle.gj_json.specs.Reader.{StandsFor, Answers, Completed, Hears, HearsBy}
 use Rattle.gj_json.specs.Stands.{Stands, StandsWell, StandsRefused}
 use Rattle.gj_json.specs.declared.mode.Mode.TheVariants.{ValueDone}
 use Rattle.gj_json.specs.declared.mode.Move.{Move}
 use Rattle.gj_json.specs.declared.mode.Move.TheVariants.{Refuse, Go, Open, Close}
 use Rattle.gj_json.specs.Levels.{outer_of}
 use Rattle.gj_json.specs.Step.{Applied, PassesTo, RefusesWith, IsRefusedWith, opened, told_on}
-use Rattle.gj_json.proofs.Reading.{pushed, completed, move_by, told_by, stop, well_viable, well_of, refuses_on}
+use Rattle.gj_json.proofs.Reading.{pushed, completed, move_by, told_by, stop, well_viable, well_of, refuses_on, lasts}
 use Rattle.gj_json.proofs.Quietly.{quiet_run}
 
 -- ---- what a reader that stands for bytes says of them
-
--- a refusal lasts
-last_stop : (limits : Allowed) (bytes more : List ℕ) (place : ℕ) → Stops limits bytes place → Stops limits (bytes ++ more) place
-last_stop limits bytes more place s = record { good = s.good; byte = s.byte; rest = s.rest ++ more; split = ap (λ xs. xs ++ more) s.split ∙ append_assoc s.good (s.byte ∷ s.rest) more; at = s.at; viable = s.viable }
-
-pub lasts : (limits : Allowed) (bytes more : List ℕ) (cause : Cause) (place : ℕ) → IsByByte cause → RefusedFor cause limits bytes place → RefusedFor cause limits (bytes ++ more) place
-unfolding last_stop
-lasts limits bytes more Syntax place y h = (last_stop limits bytes more place h.0, h.1, h.2)
-lasts limits bytes more Depth place y h = (last_stop limits bytes more place h.0, h.1, h.2, h.3)
-lasts limits bytes more Length place y h = (last_stop limits bytes more place h.0, h.1)
-lasts limits bytes more Truncated place y h = absurd y
 
 -- a reader that has refused a byte stands for whatever follows
 pub refused_stands : (reader : Reader) (bytes more : List ℕ) (fault : JsonFault) → reader.fault ≡ Some fault → StandsFor reader bytes → StandsFor reader (bytes ++ more)
@@ -65,12 +54,13 @@ answers_ok reader bytes limits result x r l e h =
 pub answers_err : {A : Type 0} (reader : Reader) (bytes : List ℕ) (limits : Allowed) (result : Result A JsonFault) (fault : JsonFault) → result ≡ Err fault → reader.limits ≡ limits → reader.fault ≡ Some fault → StandsFor reader bytes → Answers limits bytes result
 answers_err reader bytes limits result fault r l e h =
     let k : StandsRefused reader.limits fault reader.mode (levels_in reader.levels) reader.start reader.offset bytes = rw e at h in
-    rw (r, ← l) (k.by_byte, k.refusal)
+    let g : IsRefusal reader.limits bytes fault × ((more : List ℕ) → IsRefusal reader.limits (bytes ++ more) fault) = (k.refusal, λ more. lasts reader.limits bytes more fault.cause fault.place k.by_byte k.refusal) in
+    rw (r, ← l) g
 
-pub kept_answer : (reader : Reader) (bytes : List ℕ) (fault : JsonFault) → reader.fault ≡ Some fault → StandsFor reader bytes → IsByByte fault.cause × IsRefusal reader.limits bytes fault
+pub kept_answer : (reader : Reader) (bytes : List ℕ) (fault : JsonFault) → reader.fault ≡ Some fault → StandsFor reader bytes → IsRefusal reader.limits bytes fault × ((more : List ℕ) → IsRefusal reader.limits (bytes ++ more) fault)
 kept_answer reader bytes fault e h =
     let k : StandsRefused reader.limits fault reader.mode (levels_in reader.levels) reader.start reader.offset bytes = rw e at h in
-    (k.by_byte, k.refusal)
+    (k.refusal, λ more. lasts reader.limits bytes more fault.cause fault.place k.by_byte k.refusal)
 
 pub live_offset : (reader : Reader) (bytes : List ℕ) → reader.fault ≡ None → StandsFor reader bytes → reader.offset ≡ length bytes
 live_offset reader bytes e h = (well_of reader bytes e h).at
@@ -351,7 +341,7 @@ module _ (piece : List ℕ) (room : ℕ) (longer : room < length piece) where
 
 -- ---- what a piece answers
 
-pub to_answer : {before after : List Event → Type 0} (old new : Reader) (given bytes : List ℕ) (fault : JsonFault) → FeedsTo before after old new given fault → StandsFor old bytes → IsByByte fault.cause × IsRefusal old.limits (bytes ++ given) fault
+pub to_answer : {before after : List Event → Type 0} (old new : Reader) (given bytes : List ℕ) (fault : JsonFault) → FeedsTo before after old new given fault → StandsFor old bytes → IsRefusal old.limits (bytes ++ given) fault × ((more : List ℕ) → IsRefusal old.limits ((bytes ++ given) ++ more) fault)
 to_answer old new given bytes fault f h = let k = kept_answer new (bytes ++ given) fault f.refused (f.feeds.stands bytes h) in rw (f.feeds.limits) at k
 
 -- by what a whole piece leaves
@@ -359,3 +349,27 @@ pub by_answer : (before after : List Event → Type 0) (old new : Reader) (given
     → MatchResult result (λ done. FeedsAll before after old new given) (FeedsTo before after old new given) → StandsFor old bytes → Answers old.limits (bytes ++ given) result
 by_answer before after old new given bytes (Ok x) f h = answers_ok new (bytes ++ given) old.limits (Ok x) x refl f.feeds.limits f.live (f.feeds.stands bytes h)
 by_answer before after old new given bytes (Err fault) f h = to_answer old new given bytes fault f h
+
+-- ---- what a piece is heard as
+
+pub heard_all : {before after : List Event → Type 0} (old new : Reader) (given bytes : List ℕ) (events : List Event) → old.fault ≡ None → FeedsAll before after old new given → StandsFor old bytes → before events
+    → Hears after events (length bytes) (length (bytes ++ given)) (bytes ++ given)
+heard_all old new given bytes events live f h k =
+    let t = f.feeds.told bytes events h k in
+    let m : old.offset ≡ length bytes = live_offset old bytes live h in
+    let n : new.offset ≡ length (bytes ++ given) = live_offset new (bytes ++ given) f.live (f.feeds.stands bytes h) in
+    let e : take new.offset (bytes ++ given) ≡ bytes ++ given = take_all_of (bytes ++ given) new.offset n in
+    rw (m, e, n) at t
+
+pub heard_to : {before after : List Event → Type 0} (old new : Reader) (given bytes : List ℕ) (events : List Event) (fault : JsonFault) → old.fault ≡ None → FeedsTo before after old new given fault → StandsFor old bytes → before events
+    → Hears after events (length bytes) fault.place (take fault.place (bytes ++ given))
+heard_to old new given bytes events fault live f h k =
+    let t = f.feeds.told bytes events h k in
+    let m : old.offset ≡ length bytes = live_offset old bytes live h in
+    let n : new.offset ≡ fault.place = sym (refused_offset new (bytes ++ given) fault f.refused (f.feeds.stands bytes h)) in
+    rw (m, n) at t
+
+pub heard_by : (before after : List Event → Type 0) (old new : Reader) (given bytes : List ℕ) (events : List Event) (result : Result (Unit {0}) JsonFault) → old.fault ≡ None
+    → MatchResult result (λ done. FeedsAll before after old new given) (FeedsTo before after old new given) → StandsFor old bytes → before events → HearsBy after events bytes given result
+heard_by before after old new given bytes events (Ok x) live f h k = heard_all old new given bytes events live f h k
+heard_by before after old new given bytes events (Err fault) live f h k = heard_to old new given bytes events fault live f h k

@@ -31,7 +31,7 @@ use Rattle.gj_json.proofs.Feeding.{live_offset}
 use Rattle.gj_json.proofs.Opened.{open_levels}
 use Rattle.gj_json.proofs.Past.{events_seen}
 use Rattle.gj_json.proofs.Reading.{well_of}
-use Rattle.gj_json.proofs.Texts.{text_goes_on, Finishes, text_finishes, finishes_text}
+use Rattle.gj_json.proofs.Texts.{text_start, text_goes_on, Finishes, text_finishes, finishes_text}
 use Rattle.gj_json.proofs.Times.{told}
 
 -- what the last event says of the end of the machine's run
@@ -142,3 +142,6 @@ levels_are reader bytes rest text h t = go reader.fault refl
         let r : StandsRefused reader.limits fault reader.mode (levels_in reader.levels) reader.start reader.offset bytes = rw e at h in
         let f : take reader.offset bytes ≡ r.taken = taken_split bytes r.taken r.rest reader.offset r.split r.well.at in
         well_levels reader.limits reader.mode (levels_in reader.levels) reader.start reader.offset r.taken rest text r.well (rw f at t)
+
+pub none_at_first : (text : Text) (rest : List ℕ) → IsText text rest → events_by 0 text ≡ []
+none_at_first text rest t = events_seen text_due text 0 0 rest (record { seen_by = tt; edge = refl }) (text_start text rest t)

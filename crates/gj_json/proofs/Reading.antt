@@ -55,6 +55,18 @@ some_viable d bytes s e f = let g = well_viable d bytes s e f in (g.0, g.1, g.2.
 none_viable : (bytes : List ℕ) → run bytes ≡ None → IsViable bytes → ⊥
 none_viable bytes e h = let g = text_goes_on h.1 bytes h.0 h.2 in let k : Goes (TextFrom h.1 (length bytes) h.0) None = rw e at g in k
 
+-- ---- a refusal lasts
+
+last_stop : (limits : Allowed) (bytes more : List ℕ) (place : ℕ) → Stops limits bytes place → Stops limits (bytes ++ more) place
+last_stop limits bytes more place s = record { good = s.good; byte = s.byte; rest = s.rest ++ more; split = ap (λ xs. xs ++ more) s.split ∙ append_assoc s.good (s.byte ∷ s.rest) more; at = s.at; viable = s.viable }
+
+pub lasts : (limits : Allowed) (bytes more : List ℕ) (cause : Cause) (place : ℕ) → IsByByte cause → RefusedFor cause limits bytes place → RefusedFor cause limits (bytes ++ more) place
+unfolding last_stop
+lasts limits bytes more Syntax place y h = (last_stop limits bytes more place h.0, h.1, h.2)
+lasts limits bytes more Depth place y h = (last_stop limits bytes more place h.0, h.1, h.2, h.3)
+lasts limits bytes more Length place y h = (last_stop limits bytes more place h.0, h.1)
+lasts limits bytes more Truncated place y h = absurd y
+
 -- ---- a byte, from what the reader keeps
 
 module _ (limits : Allowed) (mode : Mode) (levels : List Level) (start offset : ℕ) (bytes : List ℕ) (b : ℕ) where
@@ -120,7 +132,7 @@ refuses_on old new b bytes cause result w r y f =
     let i : IsByByte r.fault.cause = rw (r.refused.cause_is) y in
     let g : IsRefusal old.limits (bytes ++ b ∷ []) r.fault = rw (r.refused.cause_is, r.refused.place) f in
     let k : StandsRefused old.limits r.fault old.mode (levels_in old.levels) old.start old.offset (bytes ++ b ∷ []) = record { by_byte = i; refusal = g; place = r.refused.place; taken = bytes; rest = b ∷ []; split = refl; well = w } in
-    (rw (r.refused.kept, r.refused.limits, r.refused.mode_is, r.refused.levels_are, r.refused.start, r.refused.offset) k, rw (r.answer) (i, g))
+    (rw (r.refused.kept, r.refused.limits, r.refused.mode_is, r.refused.levels_are, r.refused.start, r.refused.offset) k, rw (r.answer) (g, λ more. lasts old.limits (bytes ++ b ∷ []) more r.fault.cause r.fault.place i g))
 
 answered : (old new : Reader) (b : ℕ) (bytes : List ℕ) (result : Result (Unit {0}) JsonFault) (made : Move) (es : List Event) (o : Option Broken) → old.fault ≡ None → old.offset < old.limits.bytes → length (levels_in old.levels) ≤ old.limits.depth
     → (k : StandsWell old.limits old.mode (levels_in old.levels) old.start old.offset bytes) → step k.state (length bytes) b ≡ o → Applied made old new result → Follows old.limits.depth (levels_in old.levels) made o

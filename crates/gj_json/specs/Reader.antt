@@ -1,5 +1,5 @@
 -- What a reader stands for, and what its calls answer.
-use Rattle.std.specs.Prelude.{◌≡◌, ℕ, ◌+◌, ◌≤◌, List, [], ◌∷◌, ◌++◌, length, Option, Some, None, Result, Ok, Err}
+use Rattle.std.specs.Prelude.{◌≡◌, ℕ, ◌+◌, ◌≤◌, List, ◌++◌, length, take, Option, Some, None, Result, Ok, Err}
 use Rattle.std.specs.Option.{option_to_list}
 use Rattle.gj_json.specs.declared.fault.JsonFault.{JsonFault}
 use Rattle.gj_json.specs.declared.reader.Reader.{Reader}
@@ -8,7 +8,7 @@ use Rattle.gj_json.specs.Limits.{Allowed}
 use Rattle.gj_json.specs.Tree.{Text}
 use Rattle.gj_json.specs.Text.{IsText, IsViableWithin}
 use Rattle.gj_json.specs.Events.{all_events, events_by}
-use Rattle.gj_json.specs.Refusal.{IsRefusal, IsByByte, IsAdmitted}
+use Rattle.gj_json.specs.Refusal.{IsRefusal, IsAdmitted}
 use Rattle.gj_json.specs.Levels.{levels_in}
 use Rattle.gj_json.specs.Stands.{Stands}
 
@@ -29,10 +29,11 @@ refusal_of reader = reader.fault
 abbrev pub offset_of : Reader → ℕ
 offset_of reader = reader.offset
 
--- to bytes that were given in all
+-- To bytes that were given in all: they may still become an admitted text, or the fault is the refusal of every input
+-- that begins so.
 abbrev pub Answers : {A : Type 0} → Allowed → List ℕ → Result A JsonFault → Type 0
 Answers limits bytes (Ok done) = IsViableWithin limits.depth bytes × (length bytes ≤ limits.bytes)
-Answers limits bytes (Err fault) = IsByByte fault.cause × IsRefusal limits bytes fault
+Answers limits bytes (Err fault) = IsRefusal limits bytes fault × ((more : List ℕ) → IsRefusal limits (bytes ++ more) fault)
 
 -- Each text that begins with these bytes has these events more complete in its first `to` bytes than in its first `from`.
 abbrev pub Completed : ℕ → ℕ → List ℕ → List Event → Type 0
@@ -41,6 +42,11 @@ Completed from to bytes found = (text : Text) (rest : List ℕ) → IsText text 
 -- A sink that had heard `events` has heard these more.
 abbrev pub Hears : (List Event → Type 0) → List Event → ℕ → ℕ → List ℕ → Type 0
 Hears heard events from to bytes = (found : List Event) × heard (events ++ found) × Completed from to bytes found
+
+-- by a call that was given bytes behind `bytes`: up to the place of the refusal, where there is one
+abbrev pub HearsBy : {A : Type 0} → (List Event → Type 0) → List Event → List ℕ → List ℕ → Result A JsonFault → Type 0
+HearsBy heard events bytes given (Ok done) = Hears heard events (length bytes) (length (bytes ++ given)) (bytes ++ given)
+HearsBy heard events bytes given (Err fault) = Hears heard events (length bytes) fault.place (take fault.place (bytes ++ given))
 
 -- the input ends: it is an admitted text, with the last event where one was left, or it is refused
 abbrev pub FinishAnswers : Allowed → List ℕ → Result (Option Event) JsonFault → Type 0

@@ -37,8 +37,9 @@ impl Reader {
     ghost use Rattle.gj_json.specs.declared.fault.JsonFault.{JsonFault};
     ghost use Rattle.gj_json.specs.Tree.{Text};
     ghost use Rattle.gj_json.specs.Text.{IsText};
+    ghost use Rattle.gj_json.specs.Events.{events_by};
     ghost use Rattle.gj_json.specs.Open.{open_at};
-    ghost use Rattle.gj_json.specs.Reader.{StandsFor, limits_of, refusal_of, offset_of, Answers, Completed, Hears, FinishAnswers};
+    ghost use Rattle.gj_json.specs.Reader.{StandsFor, limits_of, refusal_of, offset_of, Answers, Completed, HearsBy, FinishAnswers};
     ghost use Rattle.gj_json.specs.Feeding.{Skips, FeedsAll, FeedsTo};
     ghost use Rattle.gj_json.specs.Step.{Applied, IsRefusedWith, told_on, Passes, opened};
 
@@ -48,6 +49,7 @@ impl Reader {
         ensures limits { limits_of result ≡ limits }
         ensures offset { offset_of result ≡ 0 }
         ensures open { refusal_of result ≡ None }
+        ensures events { (text : Text) (rest : List ℕ) → IsText text rest → events_by 0 text ≡ [] }
     {
         Reader {
             limits,
@@ -59,13 +61,19 @@ impl Reader {
         }
     }
 
+    fn fault_here(&self, cause: Cause) -> JsonFault
+        ensures { result ≡ record { place = self.now.offset; cause = cause } }
+    {
+        JsonFault {
+            place: self.offset,
+            cause,
+        }
+    }
+
     fn refuse(&mut self, cause: Cause) -> JsonFault
         ensures { IsRefusedWith cause self.old self.new result }
     {
-        let fault = JsonFault {
-            place: self.offset,
-            cause,
-        };
+        let fault = self.fault_here(cause);
         self.fault = Some(fault);
         fault
     }
@@ -197,8 +205,8 @@ impl Reader {
     pub fn feed<S: EventSink>(&mut self, piece: &[u8], sink: &mut S) -> Result<(), JsonFault>
         ensures stands { (bytes : List ℕ) → StandsFor self.old bytes → StandsFor self.new (bytes ++ piece.now) }
         ensures answer { (bytes : List ℕ) → StandsFor self.old bytes → Answers (limits_of self.old) (bytes ++ piece.now) result }
-        ensures heard { (bytes : List ℕ) (events : List Event) → StandsFor self.old bytes → S.heard sink.old events
-            → Hears (S.heard sink.new) events (offset_of self.old) (offset_of self.new) (take (offset_of self.new) (bytes ++ piece.now)) }
+        ensures heard { (bytes : List ℕ) (events : List Event) → refusal_of self.old ≡ None → StandsFor self.old bytes → S.heard sink.old events
+            → HearsBy (S.heard sink.new) events bytes piece.now result }
         ensures limits { limits_of self.new ≡ limits_of self.old }
         ensures refusal { MatchResult result (λ done. refusal_of self.new ≡ None) (λ fault. refusal_of self.new ≡ Some fault) }
         ensures again { (fault : JsonFault) → refusal_of self.old ≡ Some fault → (self.new ≡ self.old) × (sink.new ≡ sink.old) × (result ≡ Err fault) }
@@ -250,10 +258,7 @@ impl Reader {
         }
         match last_event(self.mode, self.levels.inner(), self.start) {
             Some(found) => Ok(found),
-            None => Err(JsonFault {
-                place: self.offset,
-                cause: Cause::Truncated,
-            }),
+            None => Err(self.fault_here(Cause::Truncated)),
         }
     }
 
@@ -274,3 +279,6 @@ impl Reader {
         self.levels.len()
     }
 }
+
+#[cfg(test)]
+mod tests;

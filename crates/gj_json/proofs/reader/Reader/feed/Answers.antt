@@ -15,6 +15,10 @@ pub returns-then-piece-room-clause-answer : goal.returns-then-piece-room-clause-
 returns-then-piece-room-clause-answer g c = λ bytes h.
     Feeding.by_answer (g.S.EventSink.heard c.args.sink.now) (g.S.EventSink.heard c.take_piece.new.sink) c.args.self.now c.take_piece.new.self c.args.piece.now bytes c.take_piece.result c.take_piece.ensures.feeds h
 
+pub returns-then-piece-room-clause-heard : goal.returns-then-piece-room-clause-heard
+returns-then-piece-room-clause-heard g c = λ bytes events live h k.
+    Feeding.heard_by (g.S.EventSink.heard c.args.sink.now) (g.S.EventSink.heard c.take_piece.new.sink) c.args.self.now c.take_piece.new.self c.args.piece.now bytes events c.take_piece.result live c.take_piece.ensures.feeds h k
+
 full : (g : _) (c : goal.After-refuse g) → FeedsTo (g.S.EventSink.heard c.args.sink.now) (g.S.EventSink.heard c.take_piece-2.new.sink) c.args.self.now c.refuse.new.self c.args.piece.now c.refuse.result
 full g c =
     let fed = rw (c.in-Ok.is) at c.take_piece-2.ensures.feeds in
@@ -30,7 +34,7 @@ pub returns-in-Ok-clause-answer : goal.returns-in-Ok-clause-answer
 returns-in-Ok-clause-answer g c = λ bytes h. Feeding.to_answer c.args.self.now c.refuse.new.self c.args.piece.now bytes c.refuse.result (full g c) h
 
 pub returns-in-Ok-clause-heard : goal.returns-in-Ok-clause-heard
-returns-in-Ok-clause-heard g c = (full g c).feeds.told
+returns-in-Ok-clause-heard g c = λ bytes events live h k. Feeding.heard_to c.args.self.now c.refuse.new.self c.args.piece.now bytes events c.refuse.result live (full g c) h k
 
 short : (g : _) (c : goal.In-Err g) → FeedsTo (g.S.EventSink.heard c.args.sink.now) (g.S.EventSink.heard c.take_piece-2.new.sink) c.args.self.now c.take_piece-2.new.self c.args.piece.now c.in-Err.fault
 short g c =
@@ -45,4 +49,4 @@ pub returns-in-Err-clause-answer : goal.returns-in-Err-clause-answer
 returns-in-Err-clause-answer g c = λ bytes h. Feeding.to_answer c.args.self.now c.take_piece-2.new.self c.args.piece.now bytes c.in-Err.fault (short g c) h
 
 pub returns-in-Err-clause-heard : goal.returns-in-Err-clause-heard
-returns-in-Err-clause-heard g c = (short g c).feeds.told
+returns-in-Err-clause-heard g c = λ bytes events live h k. Feeding.heard_to c.args.self.now c.take_piece-2.new.self c.args.piece.now bytes events c.in-Err.fault live (short g c) h k

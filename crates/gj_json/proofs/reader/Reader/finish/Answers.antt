@@ -13,4 +13,5 @@ pub returns-in-None-clause-answer : goal.returns-in-None-clause-answer
 returns-in-None-clause-answer c = λ bytes h.
     let e = sym c.in-None.is ∙ c.last_event.ensures in
     let k = ends c.args.self bytes c.in_default.is h in
-    rw (← c.inner.ensures, ← e) at k
+    let j = rw (← c.inner.ensures, ← e) at k in
+    rw (c.fault_here.ensures) j

@@ -1,0 +1,4 @@
+mod First
+mod Fed
+mod Judging
+mod Out

@@ -1,0 +1,48 @@
+use thiserror::Error;
+
+/// A read failed.
+#[derive(Clone, Copy, Debug, PartialEq, Eq, Error)]
+#[error("read failed after {offset} bytes")]
+pub struct ReadFault {
+    /// How many bytes had come before.
+    pub offset: u64,
+}
+
+/// A write failed.
+#[derive(Clone, Copy, Debug, PartialEq, Eq, Error)]
+#[error("write failed after {written} bytes")]
+pub struct WriteFault {
+    /// How many bytes of the report had gone out before.
+    pub written: u64,
+}
+
+/// What ended a run before its report was whole.
+#[derive(Clone, Copy, Debug, PartialEq, Eq, Error)]
+pub enum RunFault {
+    /// Nothing was written.
+    #[error(transparent)]
+    Read(ReadFault),
+    /// The verdict was there, but not all of its report went out.
+    #[error(transparent)]
+    Write(WriteFault),
+}
+
+#[cfg(test)]
+mod tests {
+    use super::*;
+    use std::test::Fail;
+
+    #[test]
+    fn says_what_failed(rt: HostRuntime) -> Result<(), Fail> {
+        let read = ReadFault { offset: 10 };
+        let write = WriteFault { written: 0 };
+        for (fault, text) in [
+            (RunFault::Read(read), "read failed after 10 bytes"),
+            (RunFault::Write(write), "write failed after 0 bytes"),
+        ] {
+            let said = format!(in rt.alloc(); "{fault}")?;
+            assert_eq!(rt; said.as_str(), text);
+        }
+        Ok(())
+    }
+}

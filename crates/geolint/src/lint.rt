@@ -1,0 +1,45 @@
+ghost use Rattle.std.specs.Prelude.{◌≡◌, ℕ, List, ◌+◌, ◌<◌, ◌≤◌, length, IfOk, IfErr};
+ghost use Rattle.std.specs.Io.KnownBytes.{Consumes};
+ghost use Rattle.geolint.specs.Counts.{CountsFailure};
+ghost use Rattle.geolint.specs.Judged.{JudgesRead};
+
+use crate::fault::ReadFault;
+use crate::linter::Linter;
+use crate::source::Source;
+use crate::verdict::Verdict;
+use gj_json::Limits;
+
+/// The most bytes of a read.
+const PIECE: usize = 8192;
+
+/// Reads an input until it ends or is refused, and answers its verdict.
+///
+/// No read follows a refusal, and there are at most as many reads as the input may have bytes, and one. An error is
+/// answered where a read failed, with the number of bytes that had come before.
+pub fn lint_reader<S: Source>(reader: &mut S, limits: Limits) -> Result<Verdict, ReadFault>
+    ensures few { S.reads reader.new ≤ S.reads reader.old + (limits.bytes + 1) }
+    ensures failed { CountsFailure (S.failed_reads reader.old) (S.failed_reads reader.new) result }
+    ensures given { IfErr result (λ fault. S.bytes_given reader.new < u64.MAX
+        → S.bytes_given reader.new ≡ S.bytes_given reader.old + fault.offset) }
+    ensures offset { IfErr result (λ fault.
+        (read : List ℕ) × Consumes (S.remaining reader.old) (S.remaining reader.new) read × (length read ≡ fault.offset)) }
+    ensures verdict { IfOk result (λ verdict.
+        JudgesRead limits (S.remaining reader.old) (S.remaining reader.new) verdict) }
+{
+    let _most = limits.bytes();
+    let mut linter = Linter::new(limits);
+    let mut piece = [0; PIECE];
+    let mut offset = 0;
+    loop {
+        match reader.read_piece(&mut piece) {
+            Err(_) => return Err(ReadFault { offset }),
+            Ok(0) => return Ok(linter.finish()),
+            Ok(count) => {
+                offset += count as u64;
+                if let Err(fault) = linter.feed(&piece[..count]) {
+                    return Ok(Verdict::NotJson(fault));
+                }
+            }
+        }
+    }
+}

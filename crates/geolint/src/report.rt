@@ -1,0 +1,95 @@
+ghost use Rattle.std.specs.Prelude.{◌≡◌, ◌+◌, ◌-◌, ◌^◌, ◌<◌, ◌≤◌, length, IfOk, OnOk, IfErr};
+ghost use Rattle.std.specs.Io.KnownBytes.{Appends};
+ghost use Rattle.geolint.specs.Counts.{CountsFailure};
+ghost use Rattle.geolint.specs.Report.{cause_text, refusal_line, report};
+ghost use Rattle.geolint.specs.Written.{joined, IsFrontOut};
+
+use crate::fault::WriteFault;
+use crate::sink::Sink;
+use crate::verdict::Verdict;
+use gj_json::{Cause, JsonFault};
+use itoa::Buffer;
+
+/// Writes a part of a report, of which so many bytes went out before it; answers how many went out with it.
+fn write_bytes<W: Sink>(bytes: &[u8], before: u64, writer: &mut W) -> Result<u64, WriteFault>
+    requires { before + length bytes.now < 2 ^ 64 }
+    ensures count { IfOk result (λ written. written ≡ before + length bytes.now) }
+    ensures whole { OnOk result (Appends (W.taken writer.old) (W.taken writer.new) bytes.now) }
+    ensures behind { IfErr result (λ fault. before ≤ fault.written) }
+    ensures front { IfErr result (λ fault.
+        IsFrontOut (W.taken writer.old) (W.taken writer.new) bytes.now (fault.written - before)) }
+    ensures failed { CountsFailure (W.failed_writes writer.old) (W.failed_writes writer.new) result }
+{
+    let mut at = 0;
+    while at < bytes.len() {
+        match writer.write_piece(&bytes[at..]) {
+            Ok(count) if count > 0 => at += count,
+            _ => {
+                let written = before + at as u64;
+                return Err(WriteFault { written });
+            }
+        }
+    }
+    Ok(before + bytes.len() as u64)
+}
+
+/// Writes slices of a report, one behind the other, as `write_bytes` does each.
+fn write_pieces<W: Sink>(pieces: &[&[u8]], before: u64, writer: &mut W) -> Result<u64, WriteFault>
+    requires { before + length (joined pieces.now) < 2 ^ 64 }
+    ensures count { IfOk result (λ written. written ≡ before + length (joined pieces.now)) }
+    ensures whole { OnOk result (Appends (W.taken writer.old) (W.taken writer.new) (joined pieces.now)) }
+    ensures behind { IfErr result (λ fault. before ≤ fault.written) }
+    ensures front { IfErr result (λ fault.
+        IsFrontOut (W.taken writer.old) (W.taken writer.new) (joined pieces.now) (fault.written - before)) }
+    ensures failed { CountsFailure (W.failed_writes writer.old) (W.failed_writes writer.new) result }
+{
+    let mut written = before;
+    for piece in pieces {
+        written = write_bytes(piece, written, writer)?;
+    }
+    Ok(written)
+}
+
+fn text_of(cause: Cause) -> &'static [u8]
+    ensures { result.now ≡ cause_text cause }
+{
+    match cause {
+        Cause::Syntax => b"syntax",
+        Cause::Truncated => b"truncated",
+        Cause::Depth => b"too deep",
+        Cause::Length => b"too long",
+    }
+}
+
+fn write_refusal<W: Sink>(fault: JsonFault, writer: &mut W) -> Result<u64, WriteFault>
+    ensures count { IfOk result (λ written. written ≡ length (refusal_line fault)) }
+    ensures whole { OnOk result (Appends (W.taken writer.old) (W.taken writer.new) (refusal_line fault)) }
+    ensures front { IfErr result (λ write.
+        IsFrontOut (W.taken writer.old) (W.taken writer.new) (refusal_line fault) write.written) }
+    ensures failed { CountsFailure (W.failed_writes writer.old) (W.failed_writes writer.new) result }
+{
+    let mut digits = Buffer::new();
+    let place = digits.format(fault.place).as_bytes();
+    let pieces: [&[u8]; 5] = [b"not JSON at ", place, b": ", text_of(fault.cause), b"\n"];
+    write_pieces(&pieces, 0, writer)
+}
+
+/// Writes the report of a verdict: one line.
+///
+/// On `Ok` all of it is behind what the writer had taken. On an error the first `written` bytes of it are, and not all.
+pub fn write_report<W: Sink>(verdict: Verdict, writer: &mut W) -> Result<(), WriteFault>
+    ensures whole { OnOk result (Appends (W.taken writer.old) (W.taken writer.new) (report verdict)) }
+    ensures front { IfErr result (λ fault.
+        IsFrontOut (W.taken writer.old) (W.taken writer.new) (report verdict) fault.written) }
+    ensures failed { CountsFailure (W.failed_writes writer.old) (W.failed_writes writer.new) result }
+{
+    match verdict {
+        Verdict::Valid => write_bytes(b"valid\n", 0, writer)?,
+        Verdict::Broken => write_bytes(b"broken\n", 0, writer)?,
+        Verdict::NotJson(fault) => write_refusal(fault, writer)?,
+    };
+    Ok(())
+}
+
+#[cfg(test)]
+mod tests;

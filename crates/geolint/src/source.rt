@@ -1,0 +1,129 @@
+ghost use Rattle.std.specs.Prelude.{◌≡◌, ℕ, List, Option};
+ghost use Rattle.std.specs.Io.{ReadsAtMost};
+ghost use Rattle.std.specs.Io.KnownBytes.{ReadConsumes};
+ghost use Rattle.geolint.specs.Counts.{one_more, CountsFailure, CountsBytes};
+
+use crate::failed::Failed;
+use std::io::Read;
+
+/// What bytes are read from, piece by piece.
+///
+/// It counts its reads, those that failed and the bytes that it gave, each as a `u64` that stays at `u64::MAX` once
+/// there. A caller that is to know of each read has to begin below that.
+pub trait Source {
+    // The bytes that reads will give from here on, where the source tells them.
+    ghost remaining: { Self → Option (List ℕ) };
+
+    // How many reads there were, failed ones among them.
+    ghost reads: { Self → ℕ };
+
+    // How many of them failed.
+    ghost failed_reads: { Self → ℕ };
+
+    // How many bytes came.
+    ghost bytes_given: { Self → ℕ };
+
+    /// Reads into the front of the piece and answers how many bytes came: at most its length, and 0 into a piece with
+    /// room only where no byte is left. What stands in the piece behind them is left open.
+    ///
+    /// On an error no byte came.
+    fn read_piece(&mut self, piece: &mut [u8]) -> Result<usize, Failed>
+        ensures bound { ReadsAtMost result piece.new }
+        ensures bytes { ReadConsumes (remaining self.old) (remaining self.new) result piece.new }
+        ensures reads { reads self.new ≡ one_more (reads self.old) }
+        ensures failed { CountsFailure (failed_reads self.old) (failed_reads self.new) result }
+        ensures given { CountsBytes (bytes_given self.old) (bytes_given self.new) result };
+}
+
+/// A `Source` over a reader of std. It tells the bytes where the reader does, and any error is a failed read.
+#[derive(Drop)]
+pub struct FromRead<R> {
+    reader: R,
+    reads: u64,
+    failed_reads: u64,
+    bytes_given: u64,
+}
+
+impl<R: Read> FromRead<R> {
+    /// The reader as a source that has counted nothing yet.
+    pub fn new(reader: R) -> FromRead<R>
+        ensures bytes { ⟦<FromRead<R> as Source>⟧.remaining result ≡ R.remaining reader }
+        ensures reads { ⟦<FromRead<R> as Source>⟧.reads result ≡ 0 }
+        ensures failed { ⟦<FromRead<R> as Source>⟧.failed_reads result ≡ 0 }
+        ensures given { ⟦<FromRead<R> as Source>⟧.bytes_given result ≡ 0 }
+    {
+        FromRead {
+            reader,
+            reads: 0,
+            failed_reads: 0,
+            bytes_given: 0,
+        }
+    }
+}
+
+impl<R: Read> Source for FromRead<R> {
+    ghost remaining = { λ s. R.remaining s.reader };
+
+    ghost reads = { λ s. s.reads };
+
+    ghost failed_reads = { λ s. s.failed_reads };
+
+    ghost bytes_given = { λ s. s.bytes_given };
+
+    fn read_piece(&mut self, piece: &mut [u8]) -> Result<usize, Failed> {
+        self.reads = self.reads.saturating_add(1);
+        match self.reader.read(piece) {
+            Ok(count) => {
+                self.bytes_given = self.bytes_given.saturating_add(count as u64);
+                Ok(count)
+            }
+            Err(_) => {
+                self.failed_reads = self.failed_reads.saturating_add(1);
+                Err(Failed)
+            }
+        }
+    }
+}
+
+#[cfg(test)]
+mod tests {
+    use super::*;
+    use std::io;
+    use std::io::ErrorKind;
+
+    #[derive(Drop)]
+    struct Fails(ErrorKind);
+
+    impl Read for Fails {
+        fn read(&mut self, _buf: &mut [u8]) -> io::Result<usize> {
+            Err(io::Error::from(self.0))
+        }
+    }
+
+    #[test]
+    fn takes_any_error_for_a_failed_read(rt: HostRuntime) {
+        for kind in [ErrorKind::Interrupted, ErrorKind::UnexpectedEof] {
+            let mut source = FromRead::new(Fails(kind));
+            assert_eq!(rt; source.read_piece(&mut [0; 2]), Err(Failed), "{kind:?}");
+            assert_eq!(rt;
+                (source.reads, source.failed_reads, source.bytes_given),
+                (1, 1, 0)
+            );
+        }
+    }
+
+    #[test]
+    fn gives_the_bytes_of_a_reader_in_pieces(rt: HostRuntime) {
+        let bytes: &[u8] = b"abc";
+        let mut source = FromRead::new(bytes);
+        let mut piece = [0; 2];
+        for (count, byte) in [(2, b'a'), (1, b'c'), (0, b'c')] {
+            assert_eq!(rt; source.read_piece(&mut piece), Ok(count));
+            assert_eq!(rt; piece[0], byte, "after a read of {count}");
+        }
+        assert_eq!(rt;
+            (source.reads, source.failed_reads, source.bytes_given),
+            (3, 0, 3)
+        );
+    }
+}

@@ -1,0 +1,9 @@
+//! Readers and writers for tests, which give and take what a test tells them to.
+
+mod array_sink;
+mod endless;
+mod slice_source;
+
+pub use array_sink::{ArraySink, Ending};
+pub use endless::Endless;
+pub use slice_source::SliceSource;
