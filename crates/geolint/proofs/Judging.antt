@@ -1,6 +1,9 @@
 -- Lemmas on the verdict of what was read.
-use Rattle.std.proofs.Common.{◌≡◌, ℕ, List, [], ◌++◌, Some, None, take, ap, sym, ◌∙◌, subst, append-nil}
+use Rattle.std.proofs.Common.{inl, inr, arith, ◌≤◌, ◌+◌, ◌-◌, ◌<◌, ◌^◌, ◌≡◌, ℕ, List, [], ◌++◌, Some, None, take, ap, sym, ◌∙◌, subst, append-nil}
 use Rattle.std.specs.Prelude.{Option}
+use Rattle.std.specs.Io.Iter.{u64_saturate}
+use Rattle.std.proofs.Math.Nat.{min-eq_left, min-eq_right}
+use Rattle.std.proofs.lemmas.Bool.{cases_lt}
 use Rattle.std.specs.Io.KnownBytes.{Consumes, IsAtEnd}
 use Rattle.std.proofs.KnownBytes.{Consumes-trans}
 use Rattle.gj_json.specs.Limits.{Allowed}
@@ -50,3 +53,17 @@ Consumes-none a b c read piece n none first second =
 pub IsVerdict-of_refusal : (here limits : Allowed) (bytes : List ℕ) (fault : JsonFault) → here ≡ limits
     → ((more : List ℕ) → IsRefusal here (bytes ++ more) fault) → (more : List ℕ) → IsVerdict limits (bytes ++ more) (NotJson fault)
 IsVerdict-of_refusal here limits bytes fault same refused more = subst (λ (l : Allowed). IsRefusal l (bytes ++ more) fault) same (refused more)
+
+-- a count of bytes that stops at the greatest `u64`, one read later
+pub given_more : (begin here there offset count : ℕ) → there ≡ u64_saturate (here + count) → (here < 2 ^ 64 - 1 → here ≡ begin + offset)
+    → there < 2 ^ 64 - 1 → there ≡ begin + (offset + count)
+given_more begin here there offset count grown before below =
+    elim (cases_lt (here + count) (2 ^ 64 - 1)) [
+        inl within ↦
+            let grown_to : there ≡ here + count = grown ∙ min-eq_left (omega (arith, within)) in
+            let so_far : here ≡ begin + offset = before (omega (arith, within)) in
+            omega (arith, grown_to, so_far)
+        | inr over ↦
+            let stopped : there ≡ 2 ^ 64 - 1 = grown ∙ min-eq_right over in
+            absurd (omega (arith, stopped, below))
+    ]

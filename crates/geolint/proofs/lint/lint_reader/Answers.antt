@@ -1,8 +1,9 @@
-use Rattle.std.proofs.Common.{rules, ℕ, List, ◌++◌, take, length, ◌<◌, subst}
+use Rattle.std.proofs.Common.{rules, ℕ, List, ◌++◌, ◌+◌, ◌≡◌, ◌∙◌, ap, take, length, ◌<◌, ◌≤◌, subst, length-append}
+use Rattle.std.proofs.lemmas.List.{length-take-le}
 use Rattle.std.proofs.KnownBytes.{Consumes-trans}
 use Rattle.gj_json.specs.Limits.{Allowed}
 use Rattle.geolint.specs.Verdict.{IsVerdict}
-use Rattle.geolint.proofs.Judging.{JudgesRead-end, JudgesRead-lasting, Consumes-none, IsVerdict-of_refusal}
+use Rattle.geolint.proofs.Judging.{JudgesRead-end, JudgesRead-lasting, Consumes-none, IsVerdict-of_refusal, given_more}
 use Rattle.geolint.specs.Linter.{limits_of}
 use Rattle.geolint.proofs.lint.lint_reader.Goals as goal
 
@@ -25,4 +26,19 @@ returns-in-Err-feed-clause-verdict g c =
     (λ (more : List ℕ). c.in-Err-feed.ensures.refused read more stands))
 
 pub loop-linter-preserved : goal.loop-linter-preserved
-loop-linter-preserved g c = ?
+loop-linter-preserved g c =
+    let (read, took, count, stands) = c.loop-linter.invariant.read in
+    let piece = take c.in-Ok.count c.read_piece.new.piece in
+    let fed = Consumes-trans _ _ _ read piece took c.in-Ok.ensures.bytes.0 in
+    let piece_length : length piece ≡ c.in-Ok.count = length-take-le c.in-Ok.count c.read_piece.new.piece c.in-Ok.ensures.bound.0 in
+    let length_is : length (read ++ piece) ≡ c.loop-linter.offset + c.in-Ok.count = length-append read piece ∙ ap (λ (n : ℕ). n + length piece) count ∙ ap (λ (n : ℕ). c.loop-linter.offset + n) piece_length in
+    let bound : length (read ++ piece) ≤ (limits_of c.loop-linter.linter).bytes = c.in_default.ensures.open read stands in
+    let within : c.loop-linter.offset + c.in-Ok.count ≤ c.args.limits.bytes = subst (λ (limits : Allowed). c.loop-linter.offset + c.in-Ok.count ≤ limits.bytes) c.loop-linter.invariant.limits (subst (λ (n : ℕ). n ≤ (limits_of c.loop-linter.linter).bytes) length_is bound) in
+    record {
+      read = (read ++ piece, fed, length_is, c.feed.ensures.stands read stands);
+      limits = c.feed.ensures.limits ∙ c.loop-linter.invariant.limits;
+      within = within;
+      few = search rules;
+      unfailed = search rules;
+      given = given_more _ _ _ _ _ c.in-Ok.ensures.given c.loop-linter.invariant.given;
+    }
