@@ -36,3 +36,6 @@ pub fn run<S: Source, W: Sink>(
         _ => Ok(Outcome::Fail),
     }
 }
+
+#[cfg(test)]
+mod tests;
