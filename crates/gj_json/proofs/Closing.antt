@@ -20,8 +20,8 @@ use Rattle.gj_json.specs.declared.mode.NumberState.TheVariants.{AfterMinus as af
 use Rattle.gj_json.specs.declared.mode.StringState.{StringState}
 use Rattle.gj_json.specs.declared.mode.StringState.TheVariants.{Plain as plain, Escape as escape, HexDue as hex_due, HexOne as hex_one, HexTwo as hex_two, HexThree as hex_three, InCharacter as in_character}
 use Rattle.gj_json.specs.Characters.{escape_of, hex_of, low_of}
-use Rattle.gj_json.specs.Machine.{Broken, text_due, mark_one, mark_two, begun, Frame, in_array, in_object, Member, Leaf, Partial, value_due, value_done, array_opened, object_opened, constant_on, number_on, string_on, name_due, name_on, colon_due, back_elements, back_members, number_next, letters_after, run, string_next, string_goes, within}
-use Rattle.gj_json.proofs.Completes.{TextFrom, After, AfterName, Completes, CompletesFrom, Goes, NumberRest, StringRest, StringOn, Due}
+use Rattle.gj_json.specs.Machine.{Broken, text_due, mark_one, mark_two, begun, Frame, in_array, in_object, Member, Leaf, value_due, value_done, array_opened, object_opened, constant_on, number_on, string_on, name_due, name_on, colon_due, back_elements, back_members, number_next, letters_after, run, string_next, string_goes, within}
+use Rattle.gj_json.proofs.Completes.{TextFrom, After, AfterName, Completes, Goes, NumberRest, StringRest, StringOn}
 
 -- ---- what is open, within a limit of the depth
 

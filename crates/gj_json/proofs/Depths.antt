@@ -2,7 +2,7 @@
 use Rattle.std.proofs.Common.{ℕ, ◌+◌, ◌≤◌, List, [], ◌∷◌, length, arith}
 use Rattle.std.specs.List.{AllByRecursion}
 use Rattle.gj_json.specs.Tree.{Tree, depth}
-use Rattle.gj_json.specs.Machine.{Partial, Broken, text_due, mark_one, mark_two, begun, Frame, Leaf, in_array, in_object, Member, value_due, value_done, array_opened, object_opened, constant_on, number_on, string_on, name_due, name_on, colon_due}
+use Rattle.gj_json.specs.Machine.{Broken, begun, Frame, Leaf, in_array, in_object, Member, value_due, value_done, array_opened, object_opened, constant_on, number_on, string_on, name_due, name_on, colon_due}
 use Rattle.gj_json.specs.Stands.{FitsLeaf, FitsName, Fits, FitsBroken}
 use Rattle.gj_json.proofs.Closing.{levels_fit}
 use Rattle.gj_json.proofs.Opened.{own_levels}

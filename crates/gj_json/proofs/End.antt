@@ -1,7 +1,7 @@
 -- Where nothing more comes, a state completes to the tree that it finishes with.
 use Rattle.std.proofs.Common.{ap, Option, ◌≡◌, ℕ, ◌+◌, Bool, true, false, if◌then◌else◌, List, [], ◌∷◌, ◌++◌, length, Some, None, refl, sym, arith}
 use Rattle.std.proofs.lemmas.List.{append-nil}
-use Rattle.gj_json.specs.Bytes.{mark_first, mark_second, mark_third, open_brace, open_bracket, quote as quote_byte}
+use Rattle.gj_json.specs.Bytes.{open_brace, open_bracket, quote as quote_byte}
 use Rattle.gj_json.specs.declared.constant.Constant.{Constant}
 use Rattle.gj_json.specs.declared.constant.Constant.TheVariants.{Null, True, False}
 use Rattle.gj_json.specs.Tree.{Text, Tree, constant, number, string, array, object, Elements, end_of_array, element, Members, end_of_object, member}
@@ -13,8 +13,8 @@ use Rattle.gj_json.proofs.Forms
 use Rattle.gj_json.proofs.Spelled
 use Rattle.gj_json.proofs.Forward.{placed}
 use Rattle.gj_json.specs.declared.mode.StringState.{StringState}
-use Rattle.gj_json.specs.Machine.{Broken, text_due, mark_one, mark_two, begun, finish, text_with, Frame, in_array, in_object, Member, Leaf, Partial, value_due, value_done, array_opened, object_opened, constant_on, number_on, string_on, name_due, name_on, colon_due, finish_leaf, number_may_end}
-use Rattle.gj_json.proofs.Completes.{TextFrom, After, AfterName, Completes, CompletesFrom, NumberRest, StringRest, StringOn, Due}
+use Rattle.gj_json.specs.Machine.{Broken, text_due, mark_one, mark_two, begun, finish, text_with, Frame, in_array, in_object, Member, Leaf, value_due, value_done, array_opened, object_opened, constant_on, number_on, string_on, name_due, name_on, colon_due, finish_leaf, number_may_end}
+use Rattle.gj_json.proofs.Completes.{TextFrom, After, AfterName, Completes, NumberRest, StringRest, StringOn, Due}
 
 quoted_end : (place : ℕ) (content : List ℕ) (end : ℕ) {K : ℕ → List ℕ → Type 0} {n : ℕ} → Then (Quoted place content end) K n [] → ⊥
 quoted_end place content end h =

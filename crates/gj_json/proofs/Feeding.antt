@@ -1,6 +1,5 @@
 -- What a call that takes bytes leaves, one call after another.
-use Rattle.std.proofs.Common.{inl, inr, ◌≡◌, ℕ, ◌+◌, ◌-◌, ◌≤◌, ◌<◌, List, [], ◌∷◌, ◌++◌, length, take, drop, take-add, get_or, Option, Some, None, Result, Ok, Err, refl, sym, ap, subst, ◌∙◌, arith, append_assoc, append-nil}
-use Rattle.std.specs.List.{AllByRecursion}
+use Rattle.std.proofs.Common.{inl, inr, ◌≡◌, ℕ, ◌+◌, ◌-◌, ◌≤◌, ◌<◌, List, [], ◌∷◌, ◌++◌, length, take, drop, take-add, get_or, Some, None, Result, Ok, Err, refl, sym, ap, subst, ◌∙◌, arith, append_assoc, append-nil}
 use Rattle.std.specs.Result.{MatchResult}
 use Rattle.std.proofs.lemmas.List.{length-append, length-drop, length-take-le, take-append-le, take-append-drop, take_more}
 use Rattle.std.proofs.Math.Seq.{take-length, take-append-add}
@@ -8,19 +7,18 @@ use Rattle.std.proofs.lemmas.Bool.Decides.{eqb_tells}
 use Rattle.gj_json.specs.declared.event.Event.{Event}
 use Rattle.gj_json.specs.declared.fault.JsonFault.{JsonFault}
 use Rattle.gj_json.specs.declared.fault.Cause.{Cause}
-use Rattle.gj_json.specs.declared.fault.Cause.TheVariants.{Syntax, Depth, Length, Truncated}
+use Rattle.gj_json.specs.declared.fault.Cause.TheVariants.{Syntax, Depth, Length}
 use Rattle.gj_json.specs.declared.levels.Level.{Level}
 use Rattle.gj_json.specs.declared.mode.Mode.{Mode}
 use Rattle.gj_json.specs.declared.reader.Reader.{Reader}
 use Rattle.gj_json.specs.Limits.{Allowed}
-use Rattle.gj_json.specs.Tree.{Text}
 use Rattle.gj_json.specs.Text.{IsText}
-use Rattle.gj_json.specs.Refusal.{Stops, RefusedFor, IsRefusal, IsByByte}
+use Rattle.gj_json.specs.Refusal.{IsRefusal}
 use Rattle.gj_json.specs.Events.{events_by}
 use Rattle.gj_json.specs.Levels.{levels_in}
 use Rattle.gj_json.specs.Feeding.{Skips, Feeds, FeedsAll, FeedsTo}
 use Rattle.gj_json.specs.Reader.{StandsFor, Answers, Completed, Hears, HearsBy}
-use Rattle.gj_json.specs.Stands.{Stands, StandsWell, StandsRefused}
+use Rattle.gj_json.specs.Stands.{StandsWell, StandsRefused}
 use Rattle.gj_json.specs.declared.mode.Mode.TheVariants.{ValueDone}
 use Rattle.gj_json.specs.declared.mode.Move.{Move}
 use Rattle.gj_json.specs.declared.mode.Move.TheVariants.{Refuse, Go, Open, Close}

@@ -14,12 +14,12 @@ use Rattle.gj_json.specs.declared.mode.Mode.TheVariants.{ValueDone, NumberOn}
 use Rattle.gj_json.specs.declared.reader.Reader.{Reader}
 use Rattle.gj_json.specs.Limits.{Allowed}
 use Rattle.gj_json.specs.Tree.{Text, Tree, number, depth}
-use Rattle.gj_json.specs.Text.{IsText, IsTextWithin}
+use Rattle.gj_json.specs.Text.{IsText}
 use Rattle.gj_json.specs.Refusal.{RefusedFor, IsAdmitted}
 use Rattle.gj_json.specs.Events.{Timed, events, mark_events, text_events, all_events, events_by}
 use Rattle.gj_json.specs.Open.{open_at}
 use Rattle.gj_json.specs.Levels.{levels_in, inner_of}
-use Rattle.gj_json.specs.Machine.{Frame, in_array, in_object, Leaf, value_due, value_done, array_opened, object_opened, constant_on, number_on, string_on, name_due, name_on, colon_due, Partial, Broken, text_due, mark_one, mark_two, begun, finish_leaf, text_with, finish, number_may_end}
+use Rattle.gj_json.specs.Machine.{Frame, in_array, in_object, Leaf, value_due, value_done, array_opened, object_opened, constant_on, number_on, string_on, name_due, name_on, colon_due, Broken, text_due, mark_one, mark_two, begun, finish_leaf, text_with, finish, number_may_end}
 use Rattle.gj_json.specs.Reader.{StandsFor}
 use Rattle.gj_json.specs.Seen.{seen, partial_timed, stack_timed, leaf_timed, ConstantAt, BegunAs, EdgeAt}
 use Rattle.gj_json.specs.Stands.{StandsWell, StandsRefused, StandsAs, LeafAs, FitsLeaf, FitsBroken, levels_of, levels_with}
@@ -27,7 +27,6 @@ use Rattle.gj_json.specs.Told.{event_at, last_event}
 use Rattle.gj_json.proofs.Completes.{Goes, TextFrom}
 use Rattle.gj_json.proofs.Closing.{fits_viable}
 use Rattle.gj_json.proofs.End.{finish_iff}
-use Rattle.gj_json.proofs.Feeding.{live_offset}
 use Rattle.gj_json.proofs.Opened.{open_levels}
 use Rattle.gj_json.proofs.Past.{events_seen}
 use Rattle.gj_json.proofs.Reading.{well_of}

@@ -1,5 +1,5 @@
 -- Where a state completes by a byte and more, the step by that byte is made, and its state completes by the rest.
-use Rattle.std.proofs.Common.{Bool, true, false, Option, ◌==◌, ◌≡◌, ℕ, ◌+◌, inl, inr, if◌then◌else◌, List, [], ◌∷◌, ◌++◌, Some, None, refl, sym, ap, subst, ◌∙◌, append_assoc, append-nil, eq-eqb}
+use Rattle.std.proofs.Common.{Bool, true, false, Option, ◌≡◌, ℕ, ◌+◌, inl, inr, if◌then◌else◌, List, [], ◌∷◌, ◌++◌, Some, None, refl, sym, ap, subst, ◌∙◌, append_assoc, append-nil, eq-eqb}
 use Rattle.gj_json.specs.Bytes.{colon as colon_byte, mark_first, mark_second, mark_third, open_brace, open_bracket, quote as quote_byte}
 use Rattle.gj_json.specs.declared.constant.Constant.{Constant}
 use Rattle.gj_json.specs.declared.constant.Constant.TheVariants.{Null, True, False}
@@ -18,7 +18,7 @@ use Rattle.gj_json.specs.declared.mode.NumberState.{NumberState}
 use Rattle.gj_json.specs.declared.mode.NumberState.TheVariants.{AfterMinus as after_minus, AfterZero as after_zero, InDigits as in_digits}
 use Rattle.gj_json.specs.declared.mode.StringState.{StringState}
 use Rattle.gj_json.specs.declared.mode.StringState.TheVariants.{Plain as plain}
-use Rattle.gj_json.specs.Machine.{Broken, text_due, mark_one, mark_two, begun, with_mark, Frame, in_array, in_object, Member, Leaf, Partial, begin_value, after_value, value_due, value_done, array_opened, object_opened, constant_on, number_on as number_on_leaf, string_on, name_due, name_on as name_on_leaf, colon_due, step_value_due, step_array_opened, step_object_opened, step_name_due, step_colon_due, step_constant, step_number, step_string, step_name, step_leaf, step, letters_after, back_elements, back_members, number_first, number_next, number_may_end, string_next, to}
+use Rattle.gj_json.specs.Machine.{Broken, text_due, mark_one, mark_two, begun, with_mark, Frame, in_array, in_object, Member, Leaf, Partial, begin_value, after_value, value_due, value_done, array_opened, object_opened, constant_on, number_on as number_on_leaf, string_on, name_due, name_on as name_on_leaf, colon_due, step_value_due, step_array_opened, step_object_opened, step_name_due, step_colon_due, step_constant, step_number, step_string, step_name, step_leaf, step, letters_after, back_elements, back_members, number_first, number_next, number_may_end, string_next}
 use Rattle.gj_json.proofs.Completes.{TextFrom, After, AfterName, Completes, CompletesFrom, Goes, NumberRest, StringOn, Due}
 use Rattle.gj_json.proofs.Spelled
 

@@ -5,7 +5,7 @@ use Rattle.gj_json.specs.declared.event.What.TheVariants as What
 use Rattle.gj_json.specs.Tree.{Text, Tree, constant, number, string, array, object, Elements, end_of_array, element, Members, end_of_object, member}
 use Rattle.gj_json.specs.Events.{Timed, timed, events, elements_events, members_events}
 use Rattle.gj_json.specs.Open.{is_open, open_in, elements_open, members_open, open_at}
-use Rattle.gj_json.specs.Machine.{Partial, Broken, text_due, mark_one, mark_two, begun, Frame, in_array, in_object, Member, Leaf, value_due, value_done, array_opened, object_opened, constant_on, number_on, string_on, name_due, name_on, colon_due, back_elements, back_members}
+use Rattle.gj_json.specs.Machine.{Broken, text_due, mark_one, mark_two, begun, Frame, in_array, in_object, Member, Leaf, value_due, value_done, array_opened, object_opened, constant_on, number_on, string_on, name_due, name_on, colon_due, back_elements, back_members}
 use Rattle.gj_json.specs.Stands.{levels_of, levels_with, StandsAs}
 use Rattle.gj_json.proofs.Simulation.{levels_length}
 use Rattle.gj_json.specs.declared.levels.Level.{Level}

@@ -6,8 +6,8 @@ use Rattle.gj_json.specs.declared.event.What.{What}
 use Rattle.gj_json.specs.Tree.{Text, Tree, constant, number, string, array, object, Elements, element, Members, member}
 use Rattle.gj_json.specs.Grammar.{Then, White, Exactly, Ends, Spells, SpellsMoreElements, SpellsMoreMembers}
 use Rattle.gj_json.specs.Events.{Timed, timed, events, elements_events, members_events, mark_events, text_events, by, events_by}
-use Rattle.gj_json.specs.Machine.{Partial, Broken, text_due, mark_one, mark_two, begun, Frame, in_array, in_object, Member, Leaf, value_due, value_done, array_opened, object_opened, constant_on, number_on, string_on, name_due, name_on, colon_due, back_elements, back_members}
-use Rattle.gj_json.specs.Seen.{done_elements, done_members, stack_timed, leaf_timed, partial_timed, seen, ConstantAt, EdgeAt, IsTimely, InTime}
+use Rattle.gj_json.specs.Machine.{Broken, text_due, mark_one, mark_two, begun, Frame, in_array, in_object, Member, Leaf, value_due, value_done, array_opened, object_opened, constant_on, number_on, string_on, name_due, name_on, colon_due, back_elements, back_members}
+use Rattle.gj_json.specs.Seen.{done_elements, done_members, stack_timed, leaf_timed, partial_timed, seen, ConstantAt, EdgeAt, IsTimely}
 use Rattle.gj_json.proofs.Completes.{TextFrom, Due, After, AfterName, Completes}
 use Rattle.gj_json.proofs.Times.{Late, told, by-append, by-in_time, by-late, late-append, later, late, late_elements, late_more_elements, late_members, late_more_members, quoted_after, ends_after}
 

@@ -1,20 +1,16 @@
 -- White space, digits and plain characters leave some modes as they are.
-use Rattle.std.proofs.Common.{◌≡◌, ℕ, ◌≤◌, ◌+◌, ◌≢◌, ◌==◌, ◌&&◌, ◌||◌, Bool, true, false, not, nat_le, cond, List, [], ◌∷◌, length, take, Option, Some, refl, ap, inl, inr, arith, subst, sym}
+use Rattle.std.proofs.Common.{◌≡◌, ℕ, ◌+◌, Bool, true, false, cond, List, [], ◌∷◌, take, refl, inl, inr, arith}
 use Rattle.std.specs.List.{AllByRecursion, prefix_len}
 use Rattle.std.proofs.Math.Numerals.{one-add}
 use Rattle.std.proofs.lemmas.Bool.Decides.{nat_tests}
 use Rattle.gj_json.specs.Bytes.{IsWhite, IsDigit}
 use Rattle.gj_json.specs.Characters.{IsPlain}
-use Rattle.gj_json.specs.declared.class.Class.{Class}
-use Rattle.gj_json.specs.declared.class.Class.TheVariants.{White as white, ZeroDigit as zero_digit, FirstDigit as first_digit}
-use Rattle.gj_json.specs.declared.levels.Level.{Level}
+use Rattle.gj_json.specs.declared.class.Class.TheVariants.{White as white}
 use Rattle.gj_json.specs.declared.mode.Mode.{Mode}
 use Rattle.gj_json.specs.declared.mode.Mode.TheVariants.{ValueDue, ValueDone, ArrayOpened, ObjectOpened, NumberOn, StringOn, NameDue, NameOn, ColonDue}
-use Rattle.gj_json.specs.declared.mode.Move.TheVariants.{Go}
 use Rattle.gj_json.specs.declared.mode.NumberState.TheVariants.{InDigits, InFraction, InExponent}
 use Rattle.gj_json.specs.declared.mode.StringState.TheVariants.{Plain}
 use Rattle.gj_json.specs.Classes.{class_of}
-use Rattle.gj_json.specs.Moves.{move_of}
 use Rattle.gj_json.specs.Quiet.{IsQuiet, is_plain, is_white, is_digit}
 use Rattle.gj_json.proofs.Classes.{class_is}
 use Rattle.gj_json.proofs.Spelled.{plain_on, digit_class}

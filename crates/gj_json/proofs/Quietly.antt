@@ -1,15 +1,12 @@
 -- Bytes that change nothing but the offset, in a row.
-use Rattle.std.proofs.Common.{◌≡◌, ℕ, ◌+◌, ◌≤◌, ◌<◌, Bool, true, false, List, [], ◌∷◌, ◌++◌, length, Option, Some, None, refl, sym, ap, subst, ◌∙◌, arith, append_assoc, append-nil}
+use Rattle.std.proofs.Common.{◌≡◌, ℕ, ◌+◌, ◌≤◌, ◌<◌, List, [], ◌∷◌, ◌++◌, length, Option, Some, None, refl, sym, subst, ◌∙◌, arith, append_assoc, append-nil}
 use Rattle.std.specs.List.{AllByRecursion}
-use Rattle.std.proofs.lemmas.List.{length-append}
 use Rattle.gj_json.specs.declared.event.Event.{Event}
 use Rattle.gj_json.specs.declared.levels.Level.{Level}
 use Rattle.gj_json.specs.declared.mode.Mode.{Mode}
 use Rattle.gj_json.specs.declared.mode.Mode.TheVariants.{TextDue, MarkOne, MarkTwo, ValueDue, ValueDone, ArrayOpened, ObjectOpened, ConstantOn, NumberOn, StringOn, NameDue, NameOn, ColonDue}
-use Rattle.gj_json.specs.declared.mode.Move.{Move}
 use Rattle.gj_json.specs.declared.mode.Move.TheVariants.{Go}
 use Rattle.gj_json.specs.Limits.{Allowed}
-use Rattle.gj_json.specs.Tree.{Text}
 use Rattle.gj_json.specs.Text.{IsText}
 use Rattle.gj_json.specs.Events.{events_by}
 use Rattle.gj_json.specs.Levels.{inner_of}
@@ -17,11 +14,11 @@ use Rattle.gj_json.specs.Machine.{Broken, text_due, mark_one, mark_two, begun, s
 use Rattle.gj_json.specs.Moves.{move_of}
 use Rattle.gj_json.specs.Quiet.{IsQuiet}
 use Rattle.gj_json.specs.Reader.{Completed}
-use Rattle.gj_json.specs.Seen.{IsTimely, EdgeAt, BegunAs, seen}
+use Rattle.gj_json.specs.Seen.{EdgeAt, BegunAs, seen}
 use Rattle.gj_json.specs.Stands.{StandsWell, StandsAs, LeafAs, FitsBroken}
-use Rattle.gj_json.specs.Told.{emitted, is_on, start_after}
+use Rattle.gj_json.specs.Told.{emitted, start_after}
 use Rattle.gj_json.proofs.Completes.{Goes}
-use Rattle.gj_json.proofs.Simulation.{Follows, moves}
+use Rattle.gj_json.proofs.Simulation.{moves}
 use Rattle.gj_json.proofs.Telling.{Tells}
 use Rattle.gj_json.proofs.Reading.{passed, told_by_step, completed_from}
 

@@ -1,6 +1,6 @@
 -- What a byte leaves and answers.
-use Rattle.std.proofs.Common.{◌≡◌, ℕ, ◌+◌, ◌≤◌, ◌<◌, inl, inr, List, [], ◌∷◌, ◌++◌, length, take, Option, Some, None, Result, Ok, Err, refl, sym, ap, subst, ◌∙◌, arith, append_assoc, append-nil}
-use Rattle.std.proofs.lemmas.List.{length-append, take_at, map-append}
+use Rattle.std.proofs.Common.{◌≡◌, ℕ, ◌+◌, ◌≤◌, ◌<◌, inl, inr, List, [], ◌∷◌, ◌++◌, length, Option, Some, None, Result, refl, sym, ap, subst, ◌∙◌, arith, append_assoc}
+use Rattle.std.proofs.lemmas.List.{length-append, map-append}
 use Rattle.std.proofs.lemmas.Bool.Decides.{eqb_tells}
 use Rattle.gj_json.specs.declared.event.Event.{Event}
 use Rattle.gj_json.specs.declared.fault.JsonFault.{JsonFault}
@@ -21,9 +21,9 @@ use Rattle.gj_json.specs.Levels.{levels_in, inner_of, outer_of}
 use Rattle.gj_json.specs.Machine.{Broken, text_due, mark_one, mark_two, begun, step, run_from, run}
 use Rattle.gj_json.specs.Moves.{move_of}
 use Rattle.gj_json.specs.Reader.{StandsFor, Answers, Completed}
-use Rattle.gj_json.specs.Seen.{seen, IsTimely}
-use Rattle.gj_json.specs.Stands.{Stands, StandsWell, StandsRefused, StandsAs, FitsBroken, levels_of}
-use Rattle.gj_json.specs.Step.{Passes, IsRefusedWith, RefusesWith, PassesTo, Applied, opened, told_on}
+use Rattle.gj_json.specs.Seen.{seen}
+use Rattle.gj_json.specs.Stands.{StandsWell, StandsRefused, StandsAs, FitsBroken}
+use Rattle.gj_json.specs.Step.{RefusesWith, PassesTo, Applied, opened}
 use Rattle.gj_json.specs.Told.{emitted, start_after}
 use Rattle.gj_json.proofs.Completes.{Goes, TextFrom}
 use Rattle.gj_json.proofs.Texts.{text_goes_on}

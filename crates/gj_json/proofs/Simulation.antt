@@ -7,11 +7,10 @@ use Rattle.gj_json.specs.declared.class.Class.TheVariants.{White, OpenArray, Clo
 use Rattle.gj_json.specs.declared.constant.Constant.{Constant}
 use Rattle.gj_json.specs.declared.constant.Constant.TheVariants.{Null, True, False}
 use Rattle.gj_json.specs.declared.mode.NumberState.{NumberState}
-use Rattle.gj_json.specs.declared.mode.StringState.{StringState}
 use Rattle.gj_json.specs.declared.levels.Level.{Level}
 use Rattle.gj_json.specs.declared.levels.Level.TheVariants.{Array, Object}
 use Rattle.gj_json.specs.declared.mode.Mode.{Mode}
-use Rattle.gj_json.specs.declared.mode.Mode.TheVariants.{ValueDone, ArrayOpened, ObjectOpened, ConstantOn, TextDue, MarkOne, MarkTwo, ValueDue}
+use Rattle.gj_json.specs.declared.mode.Mode.TheVariants.{ValueDone, ConstantOn, MarkOne, MarkTwo, ValueDue}
 use Rattle.gj_json.specs.declared.mode.Move.{Move}
 use Rattle.gj_json.specs.declared.mode.Move.TheVariants.{Refuse, Go, Open, Close}
 use Rattle.gj_json.specs.Tree.{Tree, constant, number, end_of_array, element, end_of_object, member, depth}

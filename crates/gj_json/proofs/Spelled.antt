@@ -3,7 +3,7 @@ use Rattle.std.proofs.Common.{zero, suc, ◌-◌, ◌%◌, ◌<◌, ◌≡◌, �
 use Rattle.std.proofs.lemmas.Bool.Decides.{nat_tests, eqb_tells}
 use Rattle.std.specs.List.{AllByRecursion}
 use Rattle.std.proofs.lemmas.List.{append-nil}
-use Rattle.gj_json.specs.Bytes.{backslash, carriage_return, decimal_point, letter_u, lower_e, mark_first, minus_sign, plus_sign, quote as quote_byte, space, upper_e, zero_digit as zero_byte}
+use Rattle.gj_json.specs.Bytes.{backslash, decimal_point, letter_u, lower_e, minus_sign, plus_sign, quote as quote_byte, space, upper_e, zero_digit as zero_byte}
 use Rattle.gj_json.specs.Bytes.{IsDigit, IsFirstDigit}
 use Rattle.gj_json.specs.declared.mode.Bounds.{Bounds}
 use Rattle.gj_json.specs.declared.mode.Bounds.TheVariants.{Any, AfterE0, AfterED, AfterF0, AfterF4}

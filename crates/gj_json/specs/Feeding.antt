@@ -1,10 +1,9 @@
 -- Internal: what a call that takes bytes leaves of a reader and of a sink.
-use Rattle.std.specs.Prelude.{◌≡◌, ℕ, ◌+◌, ◌≤◌, List, ◌++◌, length, take, Option, Some, None}
+use Rattle.std.specs.Prelude.{◌≡◌, ℕ, ◌+◌, ◌≤◌, List, ◌++◌, length, take, Some, None}
 use Rattle.std.specs.List.{AllByRecursion}
 use Rattle.gj_json.specs.declared.event.Event.{Event}
 use Rattle.gj_json.specs.declared.fault.JsonFault.{JsonFault}
 use Rattle.gj_json.specs.declared.reader.Reader.{Reader}
-use Rattle.gj_json.specs.Levels.{levels_in}
 use Rattle.gj_json.specs.Quiet.{IsQuiet}
 use Rattle.gj_json.specs.Reader.{StandsFor, Hears}
 

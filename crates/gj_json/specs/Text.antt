@@ -1,5 +1,5 @@
 -- Texts, and what can still become one (RFC 8259, section 2; a byte order mark may stand before it, which section 8.1 allows a reader to pass over).
-use Rattle.std.specs.Prelude.{◌≡◌, ℕ, ◌≤◌, List, [], ◌++◌, Bool, true, false}
+use Rattle.std.specs.Prelude.{ℕ, ◌≤◌, List, [], ◌++◌, Bool, true, false}
 use Rattle.gj_json.specs.Bytes.{mark_bytes}
 use Rattle.gj_json.specs.Tree.{Text, depth}
 use Rattle.gj_json.specs.Grammar.{Then, White, Exactly, Spells}

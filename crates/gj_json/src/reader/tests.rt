@@ -55,9 +55,15 @@ fn by_bytes(limits: Limits, input: &[u8]) -> Option<JsonFault> {
 fn expect(rt: &impl Abort, limits: Limits, input: &[u8], expected: Option<JsonFault>, row: &str) {
     assert!(rt; by_bytes(limits, input) == expected, "{row}, byte by byte");
     for cut in 0..input.len() {
-        assert!(rt; in_two(limits, &input[..cut], &input[cut..]) == expected, "{row}, cut at {cut}");
+        assert!(rt;
+            in_two(limits, &input[..cut], &input[cut..]) == expected,
+            "{row}, cut at {cut}"
+        );
     }
-    assert!(rt; in_two(limits, input, b"") == expected, "{row}, in one piece");
+    assert!(rt;
+        in_two(limits, input, b"") == expected,
+        "{row}, in one piece"
+    );
 }
 
 fn refused(cause: Cause, place: u64) -> Option<JsonFault> {
@@ -68,9 +74,18 @@ fn refused(cause: Cause, place: u64) -> Option<JsonFault> {
 fn texts_are_admitted(rt: HostRuntime) {
     let rows: [(&[u8], &str); 14] = [
         (b"{\"type\":\"Point\",\"coordinates\":[1,2]}", "a point"),
-        (b"[1, -0.5e+3, {\"a\": null, \"b\": [true, false]}] ", "a value of each kind"),
-        (b"{\"\\u0074ype\":\"\\u0050oint\",\"coordinates\":[1,2]}", "escaped names"),
-        (b"\"\\\"\\\\\\/\\b\\f\\n\\r\\t\\uD800\\uabCD\"", "each escape, a lone surrogate and both cases of digits"),
+        (
+            b"[1, -0.5e+3, {\"a\": null, \"b\": [true, false]}] ",
+            "a value of each kind",
+        ),
+        (
+            b"{\"\\u0074ype\":\"\\u0050oint\",\"coordinates\":[1,2]}",
+            "escaped names",
+        ),
+        (
+            b"\"\\\"\\\\\\/\\b\\f\\n\\r\\t\\uD800\\uabCD\"",
+            "each escape, a lone surrogate and both cases of digits",
+        ),
         (b"\xEF\xBB\xBF{}", "a byte order mark"),
         (b"\xEF\xBB\xBF \r\n\t7", "white space behind a mark"),
         (b"0", "zero"),
@@ -79,8 +94,14 @@ fn texts_are_admitted(rt: HostRuntime) {
         (b"1.50", "a fraction"),
         (b"\"\x7F\"", "the byte 7F is a character"),
         (b"\"\xC2\x80\xDF\xBF\"", "characters of two bytes"),
-        (b"\"\xE0\xA0\x80\xED\x9F\xBF\xEF\xBF\xBF\"", "characters of three bytes"),
-        (b"\"\xF0\x90\x80\x80\xF4\x8F\xBF\xBF\"", "characters of four bytes"),
+        (
+            b"\"\xE0\xA0\x80\xED\x9F\xBF\xEF\xBF\xBF\"",
+            "characters of three bytes",
+        ),
+        (
+            b"\"\xF0\x90\x80\x80\xF4\x8F\xBF\xBF\"",
+            "characters of four bytes",
+        ),
     ];
     for (input, row) in rows {
         expect(&rt, Limits::usual(), input, None, row);
@@ -91,16 +112,46 @@ fn texts_are_admitted(rt: HostRuntime) {
 fn inputs_are_refused(rt: HostRuntime) {
     let rows: [(&[u8], Cause, u64, &str); 36] = [
         (b"", Cause::Truncated, 0, "the empty input"),
-        (b"{\"a\":\"\xE2\x82(", Cause::Syntax, 8, "a character cut short by another byte"),
-        (b"{\"type\":\"Point\"} x", Cause::Syntax, 17, "a letter behind the text"),
+        (
+            b"{\"a\":\"\xE2\x82(",
+            Cause::Syntax,
+            8,
+            "a character cut short by another byte",
+        ),
+        (
+            b"{\"type\":\"Point\"} x",
+            Cause::Syntax,
+            17,
+            "a letter behind the text",
+        ),
         (b"01", Cause::Syntax, 1, "a zero before a number"),
         (b"[1,2", Cause::Truncated, 4, "an array that is open"),
         (b"\xEF\xBB", Cause::Truncated, 2, "two bytes of a mark"),
         (b"\xEF{", Cause::Syntax, 1, "a byte of a mark, and another"),
-        (b" \xEF\xBB\xBF1", Cause::Syntax, 1, "a mark behind white space"),
-        (b"\xEF\xBB\xBF\xEF\xBB\xBF1", Cause::Syntax, 3, "a second mark"),
-        (b"{\"a\":1,}", Cause::Syntax, 7, "a comma before a closing brace"),
-        (b"[1,]", Cause::Syntax, 3, "a comma before a closing bracket"),
+        (
+            b" \xEF\xBB\xBF1",
+            Cause::Syntax,
+            1,
+            "a mark behind white space",
+        ),
+        (
+            b"\xEF\xBB\xBF\xEF\xBB\xBF1",
+            Cause::Syntax,
+            3,
+            "a second mark",
+        ),
+        (
+            b"{\"a\":1,}",
+            Cause::Syntax,
+            7,
+            "a comma before a closing brace",
+        ),
+        (
+            b"[1,]",
+            Cause::Syntax,
+            3,
+            "a comma before a closing bracket",
+        ),
         (b"[1 2]", Cause::Syntax, 3, "no comma"),
         (b"-", Cause::Truncated, 1, "a sign alone"),
         (b"1.", Cause::Truncated, 2, "a point and no digit"),
@@ -108,24 +159,59 @@ fn inputs_are_refused(rt: HostRuntime) {
         (b"1e+", Cause::Truncated, 3, "an exponent with no digit"),
         (b"+1", Cause::Syntax, 0, "a plus sign"),
         (b"tru", Cause::Truncated, 3, "a literal name cut short"),
-        (b"trux", Cause::Syntax, 3, "another letter in a literal name"),
+        (
+            b"trux",
+            Cause::Syntax,
+            3,
+            "another letter in a literal name",
+        ),
         (b"True", Cause::Syntax, 0, "an upper-case letter"),
         (b"\"\\x\"", Cause::Syntax, 2, "an escape that is none"),
         (b"\"\\u12G4\"", Cause::Syntax, 5, "a digit that is none"),
         (b"\"\\u123\"", Cause::Syntax, 6, "three digits"),
         (b"\"\n", Cause::Syntax, 1, "a line feed in a string"),
-        (b"\"\x1F", Cause::Syntax, 1, "a control character in a string"),
-        (b"\"\x80", Cause::Syntax, 1, "a byte that begins no character"),
-        (b"\"\xC0\x80", Cause::Syntax, 1, "a longer form of two bytes"),
-        (b"\"\xE0\x9F\xBF", Cause::Syntax, 2, "a longer form of three bytes"),
+        (
+            b"\"\x1F",
+            Cause::Syntax,
+            1,
+            "a control character in a string",
+        ),
+        (
+            b"\"\x80",
+            Cause::Syntax,
+            1,
+            "a byte that begins no character",
+        ),
+        (
+            b"\"\xC0\x80",
+            Cause::Syntax,
+            1,
+            "a longer form of two bytes",
+        ),
+        (
+            b"\"\xE0\x9F\xBF",
+            Cause::Syntax,
+            2,
+            "a longer form of three bytes",
+        ),
         (b"\"\xED\xA0\x80", Cause::Syntax, 2, "a surrogate in UTF-8"),
-        (b"\"\xF0\x8F\xBF\xBF", Cause::Syntax, 2, "a longer form of four bytes"),
+        (
+            b"\"\xF0\x8F\xBF\xBF",
+            Cause::Syntax,
+            2,
+            "a longer form of four bytes",
+        ),
         (b"\"\xF4\x90\x80\x80", Cause::Syntax, 2, "past U+10FFFF"),
         (b"\"\xF5", Cause::Syntax, 1, "a byte past those of UTF-8"),
         (b"{1:2}", Cause::Syntax, 1, "a name that is no string"),
         (b"{\"a\" 1}", Cause::Syntax, 5, "no colon"),
         (b"[}", Cause::Syntax, 1, "a brace that closes an array"),
-        (b"{\"a\":1]", Cause::Syntax, 6, "a bracket that closes an object"),
+        (
+            b"{\"a\":1]",
+            Cause::Syntax,
+            6,
+            "a bracket that closes an object",
+        ),
     ];
     for (input, cause, place, row) in rows {
         expect(&rt, Limits::usual(), input, refused(cause, place), row);
@@ -135,25 +221,67 @@ fn inputs_are_refused(rt: HostRuntime) {
 #[test]
 fn limits_are_kept(rt: HostRuntime) -> Result<(), AllocError> {
     let deep = vec![in rt.alloc(); b'['; 65]?;
-    expect(&rt, Limits::usual(), &deep, refused(Cause::Depth, 64), "65 brackets");
-    expect(&rt, Limits::usual(), &deep[..64], refused(Cause::Truncated, 64), "64 brackets");
+    expect(
+        &rt,
+        Limits::usual(),
+        &deep,
+        refused(Cause::Depth, 64),
+        "65 brackets",
+    );
+    expect(
+        &rt,
+        Limits::usual(),
+        &deep[..64],
+        refused(Cause::Truncated, 64),
+        "64 brackets",
+    );
     let mut closed = vec![in rt.alloc(); b'['; 64]?;
     closed.push(b'}')?;
-    expect(&rt, Limits::usual(), &closed, refused(Cause::Syntax, 64), "64 brackets and a brace");
+    expect(
+        &rt,
+        Limits::usual(),
+        &closed,
+        refused(Cause::Syntax, 64),
+        "64 brackets and a brace",
+    );
     let point = b"{\"type\":\"Point\",\"coordinates\":[1,2]}";
     if let Some(limits) = Limits::new(64, 10) {
-        expect(&rt, limits, point, refused(Cause::Length, 10), "ten bytes are allowed");
+        expect(
+            &rt,
+            limits,
+            point,
+            refused(Cause::Length, 10),
+            "ten bytes are allowed",
+        );
     }
     if let Some(limits) = Limits::new(64, 36) {
         expect(&rt, limits, point, None, "as many bytes as are allowed");
     }
     if let Some(limits) = Limits::new(1, 100) {
-        expect(&rt, limits, b"[[", refused(Cause::Depth, 1), "one level is allowed");
+        expect(
+            &rt,
+            limits,
+            b"[[",
+            refused(Cause::Depth, 1),
+            "one level is allowed",
+        );
         expect(&rt, limits, b"[]", None, "one level");
-        expect(&rt, limits, b"7!", refused(Cause::Syntax, 1), "syntax comes before the end of the text");
+        expect(
+            &rt,
+            limits,
+            b"7!",
+            refused(Cause::Syntax, 1),
+            "syntax comes before the end of the text",
+        );
     }
     if let Some(limits) = Limits::new(1, 1) {
-        expect(&rt, limits, b"7!", refused(Cause::Length, 1), "length comes before syntax at one byte");
+        expect(
+            &rt,
+            limits,
+            b"7!",
+            refused(Cause::Length, 1),
+            "length comes before syntax at one byte",
+        );
     }
     Ok(())
 }
@@ -173,10 +301,16 @@ fn limits_are_made(rt: HostRuntime) {
         let limits = Limits::new(depth, bytes);
         assert!(rt; limits.is_some() == made, "depth {depth}, {bytes} bytes");
         if let Some(limits) = limits {
-            assert!(rt; limits.depth() == depth && limits.bytes() == bytes, "what was set");
+            assert!(rt;
+                limits.depth() == depth && limits.bytes() == bytes,
+                "what was set"
+            );
         }
     }
-    assert!(rt; Limits::usual().depth() == 64 && Limits::usual().bytes() == 1 << 60, "the usual limits");
+    assert!(rt;
+        Limits::usual().depth() == 64 && Limits::usual().bytes() == 1 << 60,
+        "the usual limits"
+    );
 }
 
 fn event(place: u64, what: What) -> Event {
@@ -257,11 +391,20 @@ fn levels_and_offset_are_those_of_the_bytes_taken(rt: HostRuntime) {
     let mut reader = Reader::new(Limits::usual());
     let mut sink = no_events();
     let _ = reader.feed(b"{\"features\":[{\"properties\":{\"a\":[", &mut sink);
-    assert!(rt; reader.levels() == 5 && reader.offset() == 33, "five are open");
+    assert!(rt;
+        reader.levels() == 5 && reader.offset() == 33,
+        "five are open"
+    );
     let _ = reader.feed(b"]}", &mut sink);
-    assert!(rt; reader.levels() == 3 && reader.offset() == 35, "three are open");
+    assert!(rt;
+        reader.levels() == 3 && reader.offset() == 35,
+        "three are open"
+    );
     let _ = reader.feed(b"]]]", &mut sink);
-    assert!(rt; reader.levels() == 3 && reader.offset() == 35, "nothing is taken from a refused byte on");
+    assert!(rt;
+        reader.levels() == 3 && reader.offset() == 35,
+        "nothing is taken from a refused byte on"
+    );
 }
 
 #[test]

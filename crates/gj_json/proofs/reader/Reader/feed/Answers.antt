@@ -1,5 +1,5 @@
 -- The piece up to what is allowed, and the byte behind it.
-use Rattle.std.proofs.Common.{◌≡◌, ◌+◌, ◌-◌, ◌≤◌, ◌<◌, length, take, arith}
+use Rattle.std.proofs.Common.{◌-◌, ◌<◌, length, arith}
 use Rattle.gj_json.specs.Feeding.{FeedsTo}
 use Rattle.gj_json.proofs.Feeding
 use Rattle.gj_json.proofs.reader.Reader.feed.Goals as goal

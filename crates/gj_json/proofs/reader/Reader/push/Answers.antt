@@ -1,8 +1,6 @@
 -- What a byte leaves and answers, from the step that it makes.
-use Rattle.std.proofs.Common.{◌≡◌, ℕ, ◌+◌, ◌<◌, ◌++◌, ◌∷◌, [], List, length, None, refl, sym, ◌∙◌, arith, ◌≤◌}
-use Rattle.gj_json.specs.declared.event.Event.{Event}
-use Rattle.gj_json.specs.Reader.{StandsFor, Completed}
-use Rattle.gj_json.proofs.Reading.{pushed, completed, told_by, move_by}
+use Rattle.std.proofs.Common.{◌≡◌, ◌<◌, ◌++◌, ◌∷◌, [], length, ◌∙◌, arith, ◌≤◌}
+use Rattle.gj_json.proofs.Reading.{pushed, completed, told_by}
 use Rattle.gj_json.proofs.Telling.{emitted_few}
 use Rattle.gj_json.proofs.Feeding
 use Rattle.gj_json.proofs.reader.Reader.push.Goals as goal

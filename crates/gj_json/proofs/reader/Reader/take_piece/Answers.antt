@@ -1,5 +1,4 @@
 -- The piece, front by front.
-use Rattle.std.proofs.Common.{arith}
 use Rattle.gj_json.proofs.Feeding
 use Rattle.gj_json.proofs.reader.Reader.take_piece.Goals as goal
 

@@ -1,4 +1,4 @@
-use Rattle.std.proofs.Common.{◌≡◌, ◌≤◌, ◌-◌, length, take}
+use Rattle.std.proofs.Common.{◌≤◌, ◌-◌, length, take}
 use Rattle.gj_json.specs.Feeding.{FeedsAll}
 use Rattle.gj_json.proofs.reader.Reader.take_piece.Given as goal
 

@@ -1,5 +1,5 @@
 -- Quiet bytes, and then one byte.
-use Rattle.std.proofs.Common.{◌≡◌, ◌≤◌, ◌<◌, length, refl, arith}
+use Rattle.std.proofs.Common.{◌<◌, length, arith}
 use Rattle.gj_json.proofs.Feeding
 use Rattle.gj_json.proofs.reader.Reader.take_some.Goals as goal
 
