@@ -1,5 +1,5 @@
 -- What a piece leaves of a linter, and what its end answers.
-use Rattle.std.proofs.Common.{◌≡◌, ℕ, List, [], ◌∷◌, ◌++◌, length, Bool, true, false, Option, Some, None, Result, Ok, Err, refl, ap, ◌∙◌, sym, append_assoc, append-nil}
+use Rattle.std.proofs.Common.{◌≡◌, ℕ, List, [], ◌++◌, length, Bool, true, false, Option, Some, None, Result, Ok, Err, refl, ap, ◌∙◌, sym, append_assoc, append-nil}
 use Rattle.std.specs.Option.{option_to_list}
 use Rattle.std.specs.Result.{MatchResult}
 use Rattle.gj_json.specs.declared.event.Event.{Event}
@@ -10,9 +10,9 @@ use Rattle.gj_json.specs.Refusal.{IsAdmitted}
 use Rattle.gj_json.specs.Tree.{Text}
 use Rattle.gj_json.specs.Text.{IsText}
 use Rattle.gj_json.specs.Events.{all_events, events_by}
-use Rattle.gj_json.specs.Reader.{StandsFor as ReaderStandsFor, refusal_of, Hears, HearsBy, FinishAnswers}
+use Rattle.gj_json.specs.Reader.{refusal_of, Hears, HearsBy, FinishAnswers}
 use Rattle.geolint.specs.declared.linter.FirstEvent.{FirstEvent}
-use Rattle.geolint.specs.First.{first_is_object, object_from, object_with, object_verdict}
+use Rattle.geolint.specs.First.{first_is_object, object_with, object_verdict}
 use Rattle.geolint.specs.Verdict.{IsVerdict}
 use Rattle.geolint.specs.Linter.{KnowsFirst}
 use Rattle.geolint.proofs.First.{object_from-append, with_last, all_first, is_object, object_is, object_is_not}

@@ -1,11 +1,11 @@
 -- What the first event of a value says, from event to event.
-use Rattle.std.proofs.Common.{◌≡◌, ◌+◌, List, [], ◌∷◌, ◌++◌, Bool, true, false, map, Option, Some, None, refl, ap, ◌∙◌, sym}
+use Rattle.std.proofs.Common.{◌≡◌, ◌+◌, List, [], ◌∷◌, ◌++◌, Bool, true, false, map, Option, Some, None, refl}
 use Rattle.std.specs.Option.{option_to_list}
 use Rattle.gj_json.specs.declared.constant.Constant.TheVariants.{Null, True, False}
 use Rattle.gj_json.specs.declared.event.Event.{Event}
 use Rattle.gj_json.specs.declared.event.What.TheVariants as What
 use Rattle.gj_json.specs.Tree.{Tree, constant, number, string, array, object, Text}
-use Rattle.gj_json.specs.Events.{Timed, timed, events, elements_events, members_events, mark_events, text_events, all_events}
+use Rattle.gj_json.specs.Events.{Timed, timed, events, elements_events, members_events, mark_events, all_events}
 use Rattle.geolint.specs.First.{object_by, object_from, first_is_object, object_with}
 use Rattle.geolint.specs.Verdict.{IsObject}
 

@@ -1,5 +1,5 @@
 -- Lemmas on the verdict of what was read.
-use Rattle.std.proofs.Common.{inl, inr, arith, ◌≤◌, ◌+◌, ◌-◌, ◌<◌, ◌^◌, ◌≡◌, ℕ, List, [], ◌++◌, Some, None, take, ap, sym, ◌∙◌, subst, append-nil}
+use Rattle.std.proofs.Common.{inl, inr, arith, ◌+◌, ◌-◌, ◌<◌, ◌^◌, ◌≡◌, ℕ, List, [], ◌++◌, Some, None, take, ap, sym, ◌∙◌, subst, append-nil}
 use Rattle.std.specs.Prelude.{Option}
 use Rattle.std.specs.Io.Iter.{u64_saturate}
 use Rattle.std.proofs.Math.Nat.{min-eq_left, min-eq_right}
@@ -59,11 +59,11 @@ pub given_more : (begin here there offset count : ℕ) → there ≡ u64_saturat
     → there < 2 ^ 64 - 1 → there ≡ begin + (offset + count)
 given_more begin here there offset count grown before below =
     elim (cases_lt (here + count) (2 ^ 64 - 1)) [
-        inl within ↦
-            let grown_to : there ≡ here + count = grown ∙ min-eq_left (omega (arith, within)) in
-            let so_far : here ≡ begin + offset = before (omega (arith, within)) in
-            omega (arith, grown_to, so_far)
-        | inr over ↦
-            let stopped : there ≡ 2 ^ 64 - 1 = grown ∙ min-eq_right over in
-            absurd (omega (arith, stopped, below))
+      | inl within ↦
+          let grown_to : there ≡ here + count = grown ∙ min-eq_left (omega (arith, within)) in
+          let so_far : here ≡ begin + offset = before (omega (arith, within)) in
+          omega (arith, grown_to, so_far)
+      | inr over ↦
+          let stopped : there ≡ 2 ^ 64 - 1 = grown ∙ min-eq_right over in
+          absurd (omega (arith, stopped, below))
     ]

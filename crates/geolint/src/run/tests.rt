@@ -31,7 +31,11 @@ fn outcome_of(line: &str) -> Outcome {
 /// One run over a reader, which has to give this line.
 fn gives(rt: &impl Abort, reader: &mut SliceSource, limits: Limits, line: &str) {
     let mut sink = writer();
-    assert_eq!(rt; run(reader, &mut sink, options(limits)), Ok(outcome_of(line)), "{line}");
+    assert_eq!(rt;
+        run(reader, &mut sink, options(limits)),
+        Ok(outcome_of(line)),
+        "{line}"
+    );
     assert_eq!(rt; sink.bytes(), line.as_bytes(), "{line}");
 }
 
@@ -127,7 +131,10 @@ fn a_text_has_at_most_the_bytes_allowed(rt: HostRuntime) {
     expect(&rt, POINT, limits, "not JSON at 10: too long\n");
     let mut reader = Endless::new(b' ');
     let mut sink = writer();
-    assert_eq!(rt; run(&mut reader, &mut sink, options(limits)), Ok(Outcome::Fail));
+    assert_eq!(rt;
+        run(&mut reader, &mut sink, options(limits)),
+        Ok(Outcome::Fail)
+    );
     assert_eq!(rt; sink.bytes(), "not JSON at 10: too long\n".as_bytes());
 }
 
@@ -138,7 +145,10 @@ fn a_failed_read_ends_a_run_with_no_report(rt: HostRuntime) {
         let mut reader = SliceSource::failing_after(POINT, offset);
         let mut sink = writer();
         let fault = RunFault::Read(ReadFault { offset });
-        assert_eq!(rt; run(&mut reader, &mut sink, options(Limits::usual())), Err(fault));
+        assert_eq!(rt;
+            run(&mut reader, &mut sink, options(Limits::usual())),
+            Err(fault)
+        );
         assert!(rt; sink.bytes().is_empty(), "after {reads} reads");
     }
 }
@@ -157,7 +167,10 @@ fn a_failed_write_leaves_a_front_of_the_report(rt: HostRuntime) {
         let mut sink = ArraySink::new(1, room, Ending::Fails);
         let written = room as u64;
         let fault = RunFault::Write(WriteFault { written });
-        assert_eq!(rt; run(&mut reader, &mut sink, options(Limits::usual())), Err(fault));
+        assert_eq!(rt;
+            run(&mut reader, &mut sink, options(Limits::usual())),
+            Err(fault)
+        );
         assert_eq!(rt; sink.bytes(), &line.as_bytes()[..room], "room for {room}");
     }
 }

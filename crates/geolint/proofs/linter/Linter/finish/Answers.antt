@@ -1,5 +1,4 @@
 -- What the end of the text answers.
-use Rattle.std.proofs.Common.{◌∙◌, ap}
 use Rattle.geolint.proofs.Fed.{live_end, text_verdict}
 use Rattle.geolint.proofs.linter.Linter.finish.Goals as goal
 
