@@ -1,0 +1,18 @@
+use Rattle.std.proofs.Common.{arith}
+use Rattle.gj_number.specs.Digits.{kept_of}
+use Rattle.gj_number.proofs.Keeping.{keep_natural, none_natural}
+use Rattle.gj_number.proofs.digits.Digits.push_natural.Goals as goal
+
+pub returns-then-digit-ne0 : goal.returns-then-digit-ne0
+returns-then-digit-ne0 c whole old =
+    let d = c.args.self.now in
+    let n = c.keep.new.self in
+    rw (c.keep.ensures.places) (keep_natural (kept_of d) d.count d.pending d.places whole c.args.digit (kept_of n) n.count n.pending c.if-digit-ne0.true c.requires c.keep.ensures.kept old)
+
+pub returns-then-self-gt0 : goal.returns-then-self-gt0
+returns-then-self-gt0 c whole old = rw (c.if-digit-ne0.false) (c.add_zero.ensures whole old)
+
+pub returns-else-self-gt0 : goal.returns-else-self-gt0
+returns-else-self-gt0 c whole old =
+    let d = c.args.self.now in
+    rw (c.if-digit-ne0.false) (none_natural (kept_of d) d.count d.pending d.places whole (omega arith) old)

@@ -1,0 +1,9 @@
+use Rattle.gj_number.proofs.Denoting.{denoted_normal}
+use Rattle.gj_number.proofs.Same.{same_value}
+use Rattle.gj_number.proofs.laws.one_form.Goals as goal
+
+pub returns-clause-denoted : goal.returns-clause-denoted
+returns-clause-denoted c = denoted_normal
+
+pub returns-clause-same : goal.returns-clause-same
+returns-clause-same c = same_value

@@ -1,0 +1,47 @@
+use Rattle.std.proofs.Common.{◌≡◌, ◌+◌, take, fold, length, true, false, refl, sym, ◌∙◌}
+use Rattle.std.proofs.lemmas.List.{length-take-le}
+use Rattle.gj_number.specs.Value.{with_digit}
+use Rattle.gj_number.specs.Literal.{StandsFor}
+use Rattle.gj_number.specs.Machine.{Scan, start}
+use Rattle.gj_number.proofs.Reaching.{reaches_on}
+use Rattle.gj_number.proofs.Standing.{natural_on, fraction_on}
+use Rattle.gj_number.proofs.literal.Literal.push_run.Goals as goal
+
+pub returns-in-InNatural-clause-stands : goal.returns-in-InNatural-clause-stands
+unfolding StandsFor
+returns-in-InNatural-clause-stands c bytes h =
+    let digits = take c.push_natural_run.result c.args.piece.now in
+    let state = sym h.2.state ∙ c.in-InNatural.is in
+    let next : Scan = record h.0 { whole = fold with_digit h.0.whole digits } in
+    let none = h.2.before_fraction (rw state refl) in (
+      next,
+      reaches_on start h.0 next bytes digits h.1 (natural_on h.0 digits state c.push_natural_run.ensures.digits),
+      record {
+        state = h.2.state;
+        negative = h.2.negative;
+        digits = rw none (c.push_natural_run.ensures.keeps h.0.whole (rw none at h.2.digits));
+        exponent_negative = h.2.exponent_negative;
+        exponent = h.2.exponent;
+        before_fraction = h.2.before_fraction;
+      },
+    )
+
+pub returns-in-InFraction-clause-stands : goal.returns-in-InFraction-clause-stands
+unfolding StandsFor
+returns-in-InFraction-clause-stands c bytes h =
+    let n = c.push_fraction_run.result in
+    let digits = take n c.args.piece.now in
+    let state = sym h.2.state ∙ c.in-InFraction.is in
+    let many : length digits ≡ n = length-take-le n c.args.piece.now c.push_fraction_run.ensures.length in
+    let next : Scan = record h.0 { whole = fold with_digit h.0.whole digits; fraction = h.0.fraction + length digits } in (
+      next,
+      reaches_on start h.0 next bytes digits h.1 (fraction_on h.0 digits state c.push_fraction_run.ensures.digits),
+      record {
+        state = h.2.state;
+        negative = h.2.negative;
+        digits = rw many (c.push_fraction_run.ensures.keeps h.0.whole h.0.fraction h.2.digits);
+        exponent_negative = h.2.exponent_negative;
+        exponent = h.2.exponent;
+        before_fraction = (λ e. absurd (let f : false ≡ true = rw state at e in cc));
+      },
+    )

@@ -1,0 +1,257 @@
+//! The digits that are kept of a number.
+ghost use Rattle.std.specs.Prelude.{◌≡◌, ◌≢◌, ◌↔◌, ℕ, ◌+◌, ◌-◌, ◌*◌, ◌^◌, ◌<◌, ◌≤◌, min, length, take, All, fold, IsTrue, pos, ◌+ℤ◌, ◌-ℤ◌};
+ghost use Rattle.gj_number.specs.Exact.{signed};
+ghost use Rattle.gj_number.specs.Kept.{limited_power};
+ghost use Rattle.gj_number.specs.Value.{held_value, with_digit};
+ghost use Rattle.gj_number.specs.Bytes.{IsDigit};
+
+use crate::decimal::Decimal;
+use crate::exponent::{EXPONENT_LIMIT, Exponent, held_power};
+use crate::join::joined;
+use crate::run::{HEAD_DIGITS, Run};
+use crate::tens::ten_to;
+
+/// How many digits are kept.
+pub(crate) const MOST_DIGITS: u8 = 30;
+
+/// The count of digits where the number is not held, whatever exponent of a magnitude of at most
+/// 1,000 and whatever digits follow.
+const FAR: u8 = 31;
+
+/// How many digits behind the point are counted, and how many zeros before it. A number whose last
+/// digit but zeros stands further off is not held, since an exponent moves it by at most 1,000
+/// places and the power of a held number is from -400 to 400.
+const MOST_PLACES: u16 = 1400;
+
+/// The digits of a number up to the last that is no zero, without the zeros in front.
+#[derive(Clone, Copy)]
+pub(crate) struct Digits {
+    /// The first nineteen digits, or fewer where fewer have come.
+    head: u64,
+    /// The digits behind these.
+    rest: u64,
+    /// How many zeros stand behind the kept digits.
+    pending: u16,
+    /// How many digits stand behind the point.
+    places: u16,
+    /// How many digits are kept, or [`FAR`].
+    count: u8,
+    ghost head_bounded: { head < 10 ^ min count 19 },
+    ghost rest_bounded: { rest < 10 ^ (count - 19) },
+    ghost count_bounded: { count ≤ 31 },
+    ghost places_bounded: { places ≤ 1400 },
+    ghost pending_bounded: { pending ≤ 1400 + places },
+}
+
+impl Digits {
+    ghost use Rattle.gj_number.specs.Digits.{Keeps, KeepsAll, HasRoom, AddsDigit, kept_of};
+
+    /// No digit.
+    pub(crate) fn new() -> Digits
+        ensures { Keeps result 0 0 }
+    {
+        Digits {
+            head: 0,
+            rest: 0,
+            pending: 0,
+            places: 0,
+            count: 0,
+        }
+    }
+
+    /// Takes a digit before the point.
+    #[inline]
+    pub(crate) fn push_natural(&mut self, digit: u8)
+        requires { digit < 10 }
+        ensures { (whole : ℕ) → Keeps self.old whole 0 → Keeps self.new (whole * 10 + digit) 0 }
+    {
+        if digit != 0 {
+            self.keep(digit);
+        } else if self.count > 0 {
+            self.add_zero();
+        }
+    }
+
+    /// Takes a zero before the point and behind a digit that is none.
+    #[inline]
+    fn add_zero(&mut self)
+        requires { self.old.count ≢ 0 }
+        ensures { (whole : ℕ) → Keeps self.old whole 0 → Keeps self.new (whole * 10 + 0) 0 }
+    {
+        if self.pending < MOST_PLACES {
+            self.pending += 1;
+        } else {
+            self.mark_far();
+        }
+    }
+
+    /// Takes a digit behind the point.
+    #[inline]
+    pub(crate) fn push_fraction(&mut self, digit: u8)
+        requires { digit < 10 }
+        ensures { (whole fraction : ℕ) → Keeps self.old whole fraction → Keeps self.new (whole * 10 + digit) (fraction + 1) }
+    {
+        if self.places < MOST_PLACES {
+            self.places += 1;
+            if digit != 0 {
+                self.keep(digit);
+            } else if self.count != 0 {
+                self.pending += 1;
+            }
+        } else if digit != 0 {
+            self.mark_far();
+        }
+    }
+
+    /// Takes the digits at the front of the piece that stand before the point, while `head` has room
+    /// for them, and answers how many.
+    #[inline]
+    pub(crate) fn push_natural_run(&mut self, piece: &[u8]) -> usize
+        ensures length { result ≤ length piece.now }
+        ensures digits { All IsDigit (take result piece.now) }
+        ensures keeps { (whole : ℕ) → Keeps self.old whole 0
+            → Keeps self.new (fold with_digit whole (take result piece.now)) 0 }
+    {
+        if self.has_room() {
+            self.push_run(piece)
+        } else {
+            0
+        }
+    }
+
+    /// The same for digits that stand behind the point.
+    #[inline]
+    pub(crate) fn push_fraction_run(&mut self, piece: &[u8]) -> usize
+        ensures length { result ≤ length piece.now }
+        ensures digits { All IsDigit (take result piece.now) }
+        ensures keeps { (whole fraction : ℕ) → Keeps self.old whole fraction
+            → Keeps self.new (fold with_digit whole (take result piece.now)) (fraction + result) }
+    {
+        if self.has_room() && self.places <= MOST_PLACES - HEAD_DIGITS as u16 {
+            let taken = self.push_run(piece);
+            self.places += taken as u16;
+            taken
+        } else {
+            0
+        }
+    }
+
+    /// Whether a digit that is no zero has come, and `head` has room for one more.
+    #[inline]
+    fn has_room(&self) -> bool
+        ensures { IsTrue result ↔ HasRoom self.now }
+    {
+        self.count > 0 && self.count as u16 + self.pending < HEAD_DIGITS as u16
+    }
+
+    /// Takes a run of digits, but for how many stand behind the point.
+    #[inline]
+    fn push_run(&mut self, piece: &[u8]) -> usize
+        requires { HasRoom self.old }
+        ensures length { result ≤ length piece.now }
+        ensures digits { All IsDigit (take result piece.now) }
+        ensures few { result ≤ 19 }
+        ensures places { self.new.places ≡ self.old.places }
+        ensures keeps { (whole : ℕ) → KeepsAll self.old whole → KeepsAll self.new (fold with_digit whole (take result piece.now)) }
+    {
+        let mut run = Run::new(self.head, self.count, self.pending as u8);
+        let taken = run.take(piece);
+        *self = Digits {
+            head: run.head,
+            rest: 0,
+            pending: run.pending() as u16,
+            places: self.places,
+            count: run.count,
+        };
+        taken
+    }
+
+    /// Keeps only that the number is not held.
+    #[inline]
+    fn mark_far(&mut self)
+        ensures far { self.new.count ≡ 31 }
+        ensures places { self.new.places ≡ self.old.places }
+    {
+        self.count = FAR;
+    }
+
+    /// Keeps a digit that is no zero, and the zeros before it.
+    #[inline]
+    fn keep(&mut self, digit: u8)
+        requires { digit < 10 }
+        ensures kept { AddsDigit self.old self.new digit }
+        ensures places { self.new.places ≡ self.old.places }
+    {
+        if self.pending == 0 && self.count < HEAD_DIGITS {
+            self.head = self.head * 10 + digit as u64;
+            self.count += 1;
+        } else {
+            self.keep_behind(digit);
+        }
+    }
+
+    /// The same where zeros are to be kept too, or `head` is full.
+    fn keep_behind(&mut self, digit: u8)
+        requires { digit < 10 }
+        ensures kept { AddsDigit self.old self.new digit }
+        ensures places { self.new.places ≡ self.old.places }
+    {
+        let count = self.count as usize;
+        let more = self.pending as usize + 1;
+        if count + more > MOST_DIGITS as usize {
+            self.mark_far();
+            return;
+        }
+        let (head, rest) = joined(self.head, self.rest, count, more, digit);
+        *self = Digits {
+            head,
+            rest,
+            pending: 0,
+            places: self.places,
+            count: (count + more) as u8,
+        };
+    }
+
+    /// The decimal of these digits, with this sign and this exponent, where it is held.
+    pub(crate) fn decimal(&self, negative: bool, exponent: Exponent) -> Option<Decimal>
+        requires { (whole : ℕ) × (fraction : ℕ) × Keeps self.now whole fraction }
+        ensures { (most whole fraction written : ℕ) → Keeps self.now whole fraction → whole < 10 ^ most → exponent.magnitude ≡ min written 1001
+            → result ≡ held_value negative most whole fraction (signed exponent.negative written) }
+    {
+        if self.count == 0 {
+            return Some(Decimal::zero());
+        }
+        if self.count > MOST_DIGITS || exponent.magnitude > EXPONENT_LIMIT {
+            return None;
+        }
+        match self.power(exponent) {
+            Some(power) => Some(Decimal::new(negative, self.whole(), power)),
+            None => None,
+        }
+    }
+
+    /// The power of ten of the last kept digit under this exponent, if a held number may have it.
+    fn power(&self, exponent: Exponent) -> Option<i16>
+        ensures { result ≡ limited_power (signed exponent.negative exponent.magnitude -ℤ pos self.now.places +ℤ pos self.now.pending) }
+    {
+        let magnitude = exponent.magnitude;
+        if exponent.negative {
+            held_power(self.pending, self.places + magnitude)
+        } else {
+            held_power(self.pending + magnitude, self.places)
+        }
+    }
+
+    /// The kept digits as one number.
+    fn whole(&self) -> u128
+        requires { self.now.count ≤ 30 }
+        ensures { result ≡ kept_of self.now }
+    {
+        if self.count <= HEAD_DIGITS {
+            self.head as u128
+        } else {
+            self.head as u128 * ten_to((self.count - HEAD_DIGITS) as usize) as u128
+                + self.rest as u128
+        }
+    }
+}

@@ -1,0 +1,50 @@
+//! The exponent that a number is written with.
+ghost use Rattle.std.specs.Prelude.{◌≡◌, ◌+◌, ◌*◌, ◌<◌, ◌≤◌, min, pos, ◌-ℤ◌};
+ghost use Rattle.gj_number.specs.Kept.{limited_power};
+
+/// The largest magnitude of a held number's written exponent.
+pub(crate) const EXPONENT_LIMIT: u16 = 1000;
+
+/// The largest magnitude of a held number's power.
+const POWER_LIMIT: u16 = 400;
+
+/// A written exponent. Its magnitude stays at 1,001 once it is past 1,000.
+#[derive(Clone, Copy)]
+pub(crate) struct Exponent {
+    pub(crate) magnitude: u16,
+    pub(crate) negative: bool,
+    ghost bounded: { magnitude ≤ 1001 },
+}
+
+impl Exponent {
+    /// Takes the next digit.
+    #[inline]
+    pub(crate) fn push(&mut self, digit: u8)
+        requires { digit < 10 }
+        ensures magnitude { self.new.magnitude ≡ min (self.old.magnitude * 10 + digit) 1001 }
+        ensures negative { self.new.negative ≡ self.old.negative }
+    {
+        self.magnitude = (self.magnitude * 10 + digit as u16).min(EXPONENT_LIMIT + 1);
+    }
+}
+
+/// `up` less `down`, if a held number may have that power.
+pub(crate) fn held_power(up: u16, down: u16) -> Option<i16>
+    ensures { result ≡ limited_power (pos up -ℤ pos down) }
+{
+    if up >= down {
+        let power = up - down;
+        if power <= POWER_LIMIT {
+            Some(power as i16)
+        } else {
+            None
+        }
+    } else {
+        let power = down - up;
+        if power <= POWER_LIMIT {
+            Some(-(power as i16))
+        } else {
+            None
+        }
+    }
+}

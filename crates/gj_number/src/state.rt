@@ -1,0 +1,103 @@
+//! Where in a number its next byte stands.
+ghost use Rattle.std.specs.Prelude.{◌≡◌};
+ghost use Rattle.gj_number.specs.Bytes.{IsDigit};
+ghost use Rattle.gj_number.specs.Machine.{class_of, next_of, may_end_in};
+
+/// The bytes that the grammar of a number (RFC 8259, section 6) tells apart.
+#[derive(Clone, Copy)]
+pub(crate) enum Class {
+    Minus,
+    Plus,
+    Point,
+    /// `e` or `E`.
+    Letter,
+    Zero,
+    NonZero,
+    Other,
+}
+
+impl Class {
+    #[inline]
+    #[tactic(auto, unfolding(crate::specs::Machine::class_of))]
+    pub(crate) fn of(byte: u8) -> Class
+        ensures { result ≡ class_of byte }
+    {
+        match byte {
+            b'1'..=b'9' => Class::NonZero,
+            b'0' => Class::Zero,
+            b'-' => Class::Minus,
+            b'+' => Class::Plus,
+            b'.' => Class::Point,
+            b'e' | b'E' => Class::Letter,
+            _ => Class::Other,
+        }
+    }
+
+    /// The class of a digit.
+    #[inline]
+    pub(crate) fn of_digit(byte: u8) -> Class
+        requires { IsDigit byte }
+        ensures { result ≡ class_of byte }
+    {
+        if byte == b'0' {
+            Class::Zero
+        } else {
+            Class::NonZero
+        }
+    }
+}
+
+/// What has been read of a number.
+#[derive(Clone, Copy)]
+pub(crate) enum State {
+    Start,
+    AfterMinus,
+    /// Behind a first digit 0, which no digit may follow.
+    AfterZero,
+    InNatural,
+    AfterPoint,
+    InFraction,
+    AfterLetter,
+    /// Behind the sign of an exponent.
+    AfterSign,
+    InExponent,
+}
+
+impl State {
+    /// The state behind a byte of this class, or `None` where no such byte may stand here.
+    #[inline]
+    pub(crate) fn next(self, class: Class) -> Option<State>
+        ensures { result ≡ next_of self class }
+    {
+        match (self, class) {
+            (State::Start, Class::Minus) => Some(State::AfterMinus),
+            (State::Start | State::AfterMinus, Class::Zero) => Some(State::AfterZero),
+            (State::Start | State::AfterMinus, Class::NonZero) => Some(State::InNatural),
+            (State::InNatural, Class::Zero | Class::NonZero) => Some(State::InNatural),
+            (State::AfterZero | State::InNatural, Class::Point) => Some(State::AfterPoint),
+            (State::AfterPoint | State::InFraction, Class::Zero | Class::NonZero) => Some(
+                State::InFraction,
+            ),
+            (State::AfterZero | State::InNatural | State::InFraction, Class::Letter) => Some(
+                State::AfterLetter,
+            ),
+            (State::AfterLetter, Class::Minus | Class::Plus) => Some(State::AfterSign),
+            (
+                State::AfterLetter | State::AfterSign | State::InExponent,
+                Class::Zero | Class::NonZero,
+            ) => Some(State::InExponent),
+            _ => None,
+        }
+    }
+
+    /// Whether the bytes so far are a number.
+    #[inline]
+    pub(crate) fn may_end(self) -> bool
+        ensures { result ≡ may_end_in self }
+    {
+        match self {
+            State::AfterZero | State::InNatural | State::InFraction | State::InExponent => true,
+            _ => false,
+        }
+    }
+}
