@@ -156,7 +156,7 @@ name_ending d stack place done np so_far state n f =
     let g = colon_ending d stack place done np (so_far ++ t.0) e e f in
     (g.0, t.1 ++ quote_byte ∷ g.1, (t.0, e, quoted_ending state t.0 t.1 g.1 t.2 g.2), g.3)
 
-number_ending : (state : NumberState) → (more : List ℕ) × NumberRest state more
+pub number_ending : (state : NumberState) → (more : List ℕ) × NumberRest state more
 number_ending after_minus = (zero_byte ∷ [], (after_zero, ap (λ c. number_next after_minus c) (class_is zero_digit zero_byte refl (λ e. cc)), refl))
 number_ending after_zero = ([], refl)
 number_ending in_digits = ([], refl)

@@ -261,7 +261,7 @@ none_follows _ white h = refl
 none_follows _ _ h = absurd h
 
 -- a byte that goes on after a value is none of a number's
-no_more : (P : Partial → Type 0) (stack : List Frame) (t : Tree) (n : ℕ) (state : NumberState) (c : Class) → Goes P (after_value stack t n c) → number_next state c ≡ None
+pub no_more : (P : Partial → Type 0) (stack : List Frame) (t : Tree) (n : ℕ) (state : NumberState) (c : Class) → Goes P (after_value stack t n c) → number_next state c ≡ None
 no_more P stack t n state c h = none_follows state c (follows P stack t n c h)
 
 on_number : (stack : List Frame) (place : ℕ) (so_far : List ℕ) (state : NumberState) (T : Tree) (n b : ℕ) (rest : List ℕ) → Completes stack (number_on_leaf place so_far state) T n (b ∷ rest)

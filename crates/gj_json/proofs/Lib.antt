@@ -19,3 +19,16 @@ pub mod Reading
 pub mod Quietly
 pub mod Feeding
 pub mod Finishing
+pub mod Reaching
+pub mod Deepest
+pub mod Longest
+pub mod LeftPart
+pub mod NumberFronts
+pub mod CharacterFronts
+pub mod OneMore
+pub mod EdgeAdds
+pub mod StepsSpelled
+pub mod Leads
+pub mod ValueLeads
+pub mod BrokenLeads
+pub mod BrokenOff

@@ -200,12 +200,12 @@ plain_on b h =
     rw (e, g, f) refl
 
 -- what a step from a character's end says of its byte
-abbrev SaidPlain : ℕ → StringStep → Type 0
+abbrev pub SaidPlain : ℕ → StringStep → Type 0
 SaidPlain b string_ends = b ≡ quote_byte
 SaidPlain b (string_goes more next) = (IsPlain b × (more ≡ b ∷ []) × (next ≡ plain)) ⊎ ((b ≡ backslash) × (more ≡ []) × (next ≡ escape)) ⊎ ((first : Lead) × (lead_of b ≡ Some first) × (more ≡ []) × (next ≡ in_character first.more first.bounds first.value))
 SaidPlain b string_refuses = Unit {0}
 
-said_plain : (b : ℕ) → SaidPlain b (plain_step b)
+pub said_plain : (b : ℕ) → SaidPlain b (plain_step b)
 unfolding plain_step
 said_plain b = first (b == quote_byte) refl
   where
@@ -318,7 +318,7 @@ content_from (b ∷ bytes) before content state l h =
 pub content_back : (bytes content : List ℕ) → StringRest plain content bytes → SpellsContent content bytes
 content_back bytes content h = content_from bytes [] content plain refl h
 
-backslash_on : plain_step backslash ≡ string_goes [] escape
+pub backslash_on : plain_step backslash ≡ string_goes [] escape
 unfolding plain_step
 backslash_on = refl
 
@@ -372,7 +372,7 @@ lead_large b first e = go (nat_le b 0xC1) refl e
     go true f e = cc
     go false f e = grind (arith, nat_tests)
 
-lead_on : (b : ℕ) (first : Lead) → lead_of b ≡ Some first → plain_step b ≡ string_goes [] (in_character first.more first.bounds first.value)
+pub lead_on : (b : ℕ) (first : Lead) → lead_of b ≡ Some first → plain_step b ≡ string_goes [] (in_character first.more first.bounds first.value)
 unfolding plain_step
 lead_on b first e =
     let l : 0xC1 < b = lead_large b first e in

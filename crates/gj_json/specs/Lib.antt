@@ -4,13 +4,16 @@ pub mod Number
 pub mod Characters
 pub mod Grammar
 pub mod Text
+pub mod Broken
 pub mod Limits
 pub mod Refusal
+pub mod Longest
 pub mod Events
 pub mod Open
 pub mod Reader
 pub mod Levels
 pub mod Classes
+pub mod NumberStates
 pub mod Machine
 pub mod Moves
 pub mod Told

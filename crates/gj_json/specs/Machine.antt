@@ -1,114 +1,29 @@
 -- Internal: a machine that reads a text byte by byte into a tree under way. What a reader stands for is said by it.
 use Rattle.std.specs.Prelude.{zero, suc, ◌%◌, ◌*◌, ℕ, ◌+◌, ◌==◌, ◌&&◌, Bool, true, false, if◌then◌else◌, List, [], ◌∷◌, ◌++◌, Option, Some, None, nat_le}
+pub use Rattle.gj_json.specs.Broken.{Member, Frame, in_array, in_object, Leaf, value_due, value_done, array_opened, object_opened, constant_on, number_on, string_on, name_due, name_on, colon_due, Partial, Broken, text_due, mark_one, mark_two, begun, back_elements, member_of, back_members}
+pub use Rattle.gj_json.specs.NumberStates.{number_first, number_next, number_may_end}
 use Rattle.gj_json.specs.declared.constant.Constant.{Constant}
 use Rattle.gj_json.specs.declared.constant.Constant.TheVariants.{Null, True, False}
 use Rattle.gj_json.specs.declared.mode.Bounds.{Bounds}
 use Rattle.gj_json.specs.declared.mode.Bounds.TheVariants.{Any}
 use Rattle.gj_json.specs.Characters.{escape_of, hex_of, Lead, lead_of, low_of, high_of}
 use Rattle.gj_json.specs.Bytes.{mark_first, mark_second, mark_third, space, backslash, quote as quote_byte, letter_u, after_n, after_t, after_f}
-use Rattle.gj_json.specs.Tree.{Text, Tree, constant, number, string, array, object, Elements, end_of_array, element, Members, end_of_object, member}
+use Rattle.gj_json.specs.Tree.{Text, Tree, constant, number, string, array, object, end_of_array, element, end_of_object, member}
 use Rattle.gj_json.specs.declared.class.Class.{Class}
 use Rattle.gj_json.specs.declared.class.Class.TheVariants.{White as white, OpenArray as open_array, CloseArray as close_array, OpenObject as open_object, CloseObject as close_object, Comma as comma, Colon as colon, Quote as quote, Minus as minus, Plus as plus, Point as point, Exponent as exponent, ZeroDigit as zero_digit, FirstDigit as first_digit, Letter as letter, Other as other}
 use Rattle.gj_json.specs.Classes.{class_of}
 use Rattle.gj_json.specs.declared.mode.NumberState.{NumberState}
-use Rattle.gj_json.specs.declared.mode.NumberState.TheVariants.{AfterMinus as after_minus, AfterZero as after_zero, InDigits as in_digits, AfterPoint as after_point, InFraction as in_fraction, AfterExponent as after_exponent, AfterSign as after_sign, InExponent as in_exponent}
+use Rattle.gj_json.specs.declared.mode.NumberState.TheVariants.{AfterMinus as after_minus, AfterZero as after_zero, InDigits as in_digits}
 use Rattle.gj_json.specs.declared.mode.StringState.{StringState}
 use Rattle.gj_json.specs.declared.mode.StringState.TheVariants.{Plain as plain, Escape as escape, HexDue as hex_due, HexOne as hex_one, HexTwo as hex_two, HexThree as hex_three, InCharacter as in_character}
 
--- a member that has ended
-pub record Member : Type 0 where
-  pub place : ℕ
-  pub name : List ℕ
-  pub end : ℕ
-  pub value : Tree
-
--- A container that is open, with what has ended in it, the last first. In an object, a member's value is due.
-pub data Frame : Type 0 where
-  in_array : (place : ℕ) → (done : List Tree) → Frame
-  in_object : (place : ℕ) → (done : List Member) → (name_place : ℕ) → (name : List ℕ) → (name_end : ℕ) → Frame
-
--- What stands at the right edge: what is due there, or what is under way. An object's frame is open in some of the leaves.
-pub data Leaf : Type 0 where
-  value_due : Leaf
-  value_done : (value : Tree) → Leaf
-  array_opened : (place : ℕ) → Leaf
-  object_opened : (place : ℕ) → Leaf
-  constant_on : (which : Constant) → (place : ℕ) → (left : List ℕ) → Leaf
-  number_on : (place : ℕ) → (so_far : List ℕ) → (state : NumberState) → Leaf
-  string_on : (place : ℕ) → (so_far : List ℕ) → (state : StringState) → Leaf
-  name_due : (place : ℕ) → (done : List Member) → Leaf
-  name_on : (place : ℕ) → (done : List Member) → (name_place : ℕ) → (so_far : List ℕ) → (state : StringState) → Leaf
-  colon_due : (place : ℕ) → (done : List Member) → (name_place : ℕ) → (name : List ℕ) → (name_end : ℕ) → Leaf
-
--- a value under way: what is open around it, the innermost first, and what stands at the right edge
-pub record Partial : Type 0 where
-  pub stack : List Frame
-  pub leaf : Leaf
-
--- A text that is broken off: nothing has come, or so many bytes of a mark, or the value has come into sight.
-pub data Broken : Type 0 where
-  text_due : Broken
-  mark_one : Broken
-  mark_two : Broken
-  begun : (marked : Bool) → (partial : Partial) → Broken
-
 abbrev pub to : List Frame → Leaf → Option Partial
 to stack leaf = Some (record { stack = stack; leaf = leaf })
-
-abbrev pub back_elements : List Tree → Elements → Elements
-back_elements [] more = more
-back_elements (t ∷ done) more = back_elements done (element t more)
-
-abbrev pub member_of : Member → Members → Members
-member_of m more = member m.place m.name m.end m.value more
-
-abbrev pub back_members : List Member → Members → Members
-back_members [] more = more
-back_members (m ∷ done) more = back_members done (member_of m more)
 
 abbrev pub letters_after : Constant → List ℕ
 letters_after Null = after_n
 letters_after True = after_t
 letters_after False = after_f
-
--- ---- numbers
-
-abbrev pub number_first : Class → Option NumberState
-number_first minus = Some after_minus
-number_first zero_digit = Some after_zero
-number_first first_digit = Some in_digits
-number_first _ = None
-
-abbrev pub number_next : NumberState → Class → Option NumberState
-number_next after_minus zero_digit = Some after_zero
-number_next after_minus first_digit = Some in_digits
-number_next after_zero point = Some after_point
-number_next after_zero exponent = Some after_exponent
-number_next in_digits zero_digit = Some in_digits
-number_next in_digits first_digit = Some in_digits
-number_next in_digits point = Some after_point
-number_next in_digits exponent = Some after_exponent
-number_next after_point zero_digit = Some in_fraction
-number_next after_point first_digit = Some in_fraction
-number_next in_fraction zero_digit = Some in_fraction
-number_next in_fraction first_digit = Some in_fraction
-number_next in_fraction exponent = Some after_exponent
-number_next after_exponent zero_digit = Some in_exponent
-number_next after_exponent first_digit = Some in_exponent
-number_next after_exponent minus = Some after_sign
-number_next after_exponent plus = Some after_sign
-number_next after_sign zero_digit = Some in_exponent
-number_next after_sign first_digit = Some in_exponent
-number_next in_exponent zero_digit = Some in_exponent
-number_next in_exponent first_digit = Some in_exponent
-number_next _ _ = None
-
-abbrev pub number_may_end : NumberState → Bool
-number_may_end after_zero = true
-number_may_end in_digits = true
-number_may_end in_fraction = true
-number_may_end in_exponent = true
-number_may_end _ = false
 
 -- ---- strings
 

@@ -9,6 +9,7 @@ mod class;
 mod constant;
 mod event;
 mod fault;
+pub mod laws;
 mod levels;
 mod limits;
 mod mode;
@@ -22,6 +23,10 @@ mod told;
 
 pub use event::{Event, What};
 pub use fault::{Cause, JsonFault};
+pub use laws::{
+    broken_off, left_part, longest_front, one_broken, one_refusal, one_text, same_events,
+    viable_fronts,
+};
 pub use limits::Limits;
 pub use reader::Reader;
 pub use sink::EventSink;

@@ -428,3 +428,24 @@ fn starts_a_character(first: u8, second: u8) -> bool {
         Err(error) => error.error_len().is_none(),
     }
 }
+
+#[test]
+fn a_number_has_any_length(rt: HostRuntime) {
+    let rows: [(&[u8], u8, &[u8]); 4] = [
+        (b"[[[[1", b'0', b"]]]]"),
+        (b"[[[[0.", b'3', b"]]]]"),
+        (b"[[[[-1e", b'9', b"]]]]"),
+        (b"[[[[1E-", b'0', b"7]]]]"),
+    ];
+    for (front, digit, behind) in rows {
+        let mut reader = Reader::new(Limits::usual());
+        let mut sink = no_events();
+        assert!(rt; reader.feed(front, &mut sink).is_ok());
+        for _ in 0..1_000 {
+            assert!(rt; reader.feed(&[digit; 1_000], &mut sink).is_ok());
+            assert_eq!(rt; reader.levels(), 4);
+        }
+        assert!(rt; reader.feed(behind, &mut sink).is_ok());
+        assert!(rt; end(reader).is_none());
+    }
+}
