@@ -1,8 +1,8 @@
 -- What a call that takes bytes leaves, one call after another.
 use Rattle.std.proofs.Common.{inl, inr, ◌≡◌, ℕ, ◌+◌, ◌-◌, ◌≤◌, ◌<◌, List, [], ◌∷◌, ◌++◌, length, take, drop, take-add, get_or, Some, None, Result, Ok, Err, refl, sym, ap, subst, ◌∙◌, arith, append_assoc, append-nil}
 use Rattle.std.specs.Result.{MatchResult}
-use Rattle.std.proofs.lemmas.List.{length-append, length-drop, length-take-le, take-append-le, take-append-drop, take_more}
-use Rattle.std.proofs.Math.Seq.{take-length, take-append-add}
+use Rattle.std.proofs.lemmas.List.{length-append, length-take-le, take-append-le, take-append-drop, take_more}
+use Rattle.std.proofs.Math.Seq.{take-append-add}
 use Rattle.std.proofs.lemmas.Bool.Decides.{eqb_tells}
 use Rattle.gj_json.specs.declared.event.Event.{Event}
 use Rattle.gj_json.specs.declared.fault.JsonFault.{JsonFault}
@@ -26,6 +26,7 @@ use Rattle.gj_json.specs.Levels.{outer_of}
 use Rattle.gj_json.specs.Step.{Applied, PassesTo, RefusesWith, IsRefusedWith, opened, told_on}
 use Rattle.gj_json.proofs.Reading.{pushed, completed, move_by, told_by, stop, well_viable, well_of, refuses_on, lasts}
 use Rattle.gj_json.proofs.Quietly.{quiet_run}
+use Rattle.gj_json.proofs.Slices.{take_all_of, rest_of}
 
 -- ---- what a reader that stands for bytes says of them
 
@@ -73,9 +74,6 @@ refused_within reader bytes fault e h =
     omega (arith, k.well.at, ap length k.split, length-append k.taken k.rest)
 
 -- ---- the bytes that were taken
-
-take_all_of : (xs : List ℕ) (n : ℕ) → n ≡ length xs → take n xs ≡ xs
-take_all_of xs n e = rw e (take-length xs)
 
 -- nothing was taken: nothing is told
 nothing : (n m : ℕ) (bytes : List ℕ) → m ≡ n → Completed n m bytes []
@@ -134,17 +132,17 @@ byte_feeds {before} {after} old new b result live room nested a t =
       told = λ bytes events h k. byte_hears after old new b bytes events result live h o (t events k);
     }
 
--- ---- bytes that change nothing but the offset
+-- ---- bytes that complete nothing
 
-skip_well : (old new : Reader) (given : List ℕ) → old.fault ≡ None → Skips old new given → (mode : Mode) → mode ≡ old.mode → (bytes : List ℕ) → StandsWell old.limits old.mode (levels_in old.levels) old.start (old.offset + length given) (bytes ++ given) → StandsFor new (bytes ++ given)
-skip_well old new given live s mode m bytes w = rw (s.fault, live, s.limits, s.mode, s.levels, s.start, s.offset) w
+skip_well : (old new : Reader) (given : List ℕ) → old.fault ≡ None → Skips old new given → (bytes : List ℕ) → StandsWell old.limits new.mode (levels_in old.levels) old.start (old.offset + length given) (bytes ++ given) → StandsFor new (bytes ++ given)
+skip_well old new given live s bytes w = rw (s.fault, live, s.limits, s.levels, s.start, s.offset) w
 
 pub skip_feeds : {heard : List Event → Type 0} (old new : Reader) (given : List ℕ) → old.fault ≡ None → old.offset + length given ≤ old.limits.bytes → Skips old new given → FeedsAll heard heard old new given
 skip_feeds {heard} old new given live room s = record {
   feeds = record {
     limits = s.limits;
     on = omega (arith, s.offset);
-    stands = λ bytes h. skip_well old new given live s old.mode refl bytes (run bytes h).0;
+    stands = λ bytes h. skip_well old new given live s bytes (run bytes h).0;
     told = λ bytes events h k.
         let n : new.offset ≡ length (bytes ++ given) = omega (arith, s.offset, live_offset old bytes live h, length-append bytes given) in
         let t : take new.offset (bytes ++ given) ≡ bytes ++ given = take_all_of (bytes ++ given) new.offset n in
@@ -155,8 +153,8 @@ skip_feeds {heard} old new given live room s = record {
   offset = s.offset;
 }
   where
-    run : (bytes : List ℕ) → StandsFor old bytes → StandsWell old.limits old.mode (levels_in old.levels) old.start (old.offset + length given) (bytes ++ given) × Completed old.offset (old.offset + length given) (bytes ++ given) []
-    run bytes h = quiet_run old.limits old.mode (levels_in old.levels) old.start given old.offset bytes (well_of old bytes live h) room s.quiet
+    run : (bytes : List ℕ) → StandsFor old bytes → StandsWell old.limits new.mode (levels_in old.levels) old.start (old.offset + length given) (bytes ++ given) × Completed old.offset (old.offset + length given) (bytes ++ given) []
+    run bytes h = quiet_run old.limits (levels_in old.levels) old.start given old.mode new.mode old.offset bytes (well_of old bytes live h) room s.leads
 
 -- ---- one call after another
 
@@ -304,13 +302,6 @@ pub piece_to : {before middle after : List Event → Type 0} (first next last : 
 piece_to {before} {middle} {after} first next last piece at fault f g =
     let P : List ℕ → Type 0 = λ xs. FeedsTo before after first last xs fault in
     subst P (append-nil (take at piece ++ drop at piece) ∙ take-append-drop at piece) (feeds_to_on first next last (take at piece) (drop at piece) [] fault f g)
-
--- the rest of a piece, as a slice has it
-pub rest_of : (piece : List ℕ) (at : ℕ) → take (length piece - at) (drop at piece) ≡ drop at piece
-rest_of piece at = let l : length piece - at ≡ length (drop at piece) = omega (arith, length-drop at piece) in take_all_of (drop at piece) (length piece - at) l
-
-pub piece_within : (piece : List ℕ) (at n : ℕ) → at ≤ length piece → n ≤ length (take (length piece - at) (drop at piece)) → at + n ≤ length piece
-piece_within piece at n w h = let e : length (take (length piece - at) (drop at piece)) ≡ length (drop at piece) = ap length (rest_of piece at) in omega (arith, e, length-drop at piece)
 
 pub rest_all : {before after : List Event → Type 0} (old new : Reader) (piece : List ℕ) (at n : ℕ) → FeedsAll before after old new (take n (take (length piece - at) (drop at piece))) → FeedsAll before after old new (take n (drop at piece))
 rest_all {before} {after} old new piece at n f = let P : List ℕ → Type 0 = λ xs. FeedsAll before after old new (take n xs) in subst P (rest_of piece at) f

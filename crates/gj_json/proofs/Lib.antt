@@ -8,6 +8,7 @@ pub mod Backward
 pub mod End
 pub mod Texts
 pub mod Closing
+pub mod Slices
 pub mod QuietLemmas
 pub mod Simulation
 pub mod Times

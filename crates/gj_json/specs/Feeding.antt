@@ -1,21 +1,19 @@
 -- Internal: what a call that takes bytes leaves of a reader and of a sink.
 use Rattle.std.specs.Prelude.{◌≡◌, ℕ, ◌+◌, ◌≤◌, List, ◌++◌, length, take, Some, None}
-use Rattle.std.specs.List.{AllByRecursion}
 use Rattle.gj_json.specs.declared.event.Event.{Event}
 use Rattle.gj_json.specs.declared.fault.JsonFault.{JsonFault}
 use Rattle.gj_json.specs.declared.reader.Reader.{Reader}
-use Rattle.gj_json.specs.Quiet.{IsQuiet}
+use Rattle.gj_json.specs.Quiet.{Leads}
 use Rattle.gj_json.specs.Reader.{StandsFor, Hears}
 
--- bytes that leave all but the offset as it is
+-- bytes that leave all but the mode and the offset as it is, and complete nothing
 pub record Skips (old new : Reader) (given : List ℕ) : Type 0 where
   pub limits : new.limits ≡ old.limits
   pub fault : new.fault ≡ old.fault
-  pub mode : new.mode ≡ old.mode
   pub levels : new.levels ≡ old.levels
   pub start : new.start ≡ old.start
   pub offset : new.offset ≡ old.offset + length given
-  pub quiet : AllByRecursion (IsQuiet old.mode) given
+  pub leads : Leads old.mode given new.mode
 
 -- The reader was given these bytes, and its sink has heard of them what was taken.
 pub record Feeds (heard_before heard_after : List Event → Type 0) (old new : Reader) (given : List ℕ) : Type 0 where

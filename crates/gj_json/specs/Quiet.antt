@@ -1,10 +1,14 @@
--- Internal: the bytes that change nothing but the offset.
-use Rattle.std.specs.Prelude.{◌≡◌, ℕ, ◌==◌, ◌&&◌, ◌||◌, Bool, not, nat_le, Option}
+-- Internal: the bytes that complete nothing and open or close nothing.
+use Rattle.std.specs.Prelude.{◌≡◌, ℕ, ◌==◌, ◌&&◌, ◌||◌, Bool, not, nat_le, List, [], ◌∷◌, Option}
 use Rattle.gj_json.specs.Bytes.{space, tab, line_feed, carriage_return, quote, backslash, zero_digit, nine_digit}
 use Rattle.gj_json.specs.declared.levels.Level.{Level}
 use Rattle.gj_json.specs.declared.mode.Mode.{Mode}
 use Rattle.gj_json.specs.declared.mode.Move.TheVariants.{Go}
-use Rattle.gj_json.specs.Moves.{move_of}
+use Rattle.gj_json.specs.declared.mode.StringState.{StringState}
+use Rattle.gj_json.specs.declared.mode.StringMove.TheVariants.{Goes}
+use Rattle.gj_json.specs.Machine.{string_next}
+use Rattle.gj_json.specs.Moves.{move_of, string_move}
+use Rattle.gj_json.specs.Told.{emitted, is_on}
 
 abbrev pub IsQuiet : Mode → ℕ → Type 0
 IsQuiet mode b = (inner : Option Level) → move_of mode inner b ≡ Go mode
@@ -17,3 +21,19 @@ is_white b = b == space || b == tab || b == line_feed || b == carriage_return
 
 abbrev pub is_digit : ℕ → Bool
 is_digit b = nat_le zero_digit b && nat_le b nine_digit
+
+-- the byte leads from one mode to another, completes nothing, and what is under way goes on
+pub record LeadsBy (mode : Mode) (b : ℕ) (next : Mode) : Type 0 where
+  pub moves : (inner : Option Level) → move_of mode inner b ≡ Go next
+  pub on : is_on mode ≡ is_on next
+  pub nothing : (inner : Option Level) (start n : ℕ) → emitted mode inner (Go next) start n ≡ []
+
+-- and so do these bytes
+abbrev pub Leads : Mode → List ℕ → Mode → Type 0
+Leads mode [] last = mode ≡ last
+Leads mode (b ∷ bytes) last = (next : Mode) × LeadsBy mode b next × Leads next bytes last
+
+-- the bytes lead from one state of a string to another
+abbrev pub StringLeads : StringState → List ℕ → StringState → Type 0
+StringLeads state [] last = state ≡ last
+StringLeads state (b ∷ bytes) last = (next : StringState) × (string_move (string_next state b) ≡ Goes next) × StringLeads next bytes last

@@ -10,7 +10,7 @@ use crate::levels::{Level, Levels};
 use crate::limits::Limits;
 use crate::mode::{Mode, Move};
 use crate::moves::next;
-use crate::runs::quiet_run;
+use crate::runs::{quiet_run, string_run};
 use crate::sink::{EventPair, EventSink};
 use crate::told::{is_on, last_event, tell_events};
 use arrayvec::ArrayVec;
@@ -41,6 +41,7 @@ impl Reader {
     ghost use Rattle.gj_json.specs.Open.{open_at};
     ghost use Rattle.gj_json.specs.Reader.{StandsFor, limits_of, refusal_of, offset_of, Answers, Completed, HearsBy, FinishAnswers};
     ghost use Rattle.gj_json.specs.Feeding.{Skips, FeedsAll, FeedsTo};
+    ghost use Rattle.gj_json.specs.Quiet.{Leads};
     ghost use Rattle.gj_json.specs.Step.{Applied, IsRefusedWith, told_on, Passes, opened};
 
     /// A reader of a text under these limits, before its first byte.
@@ -150,16 +151,37 @@ impl Reader {
         Ok(())
     }
 
-    /// Takes the bytes at the front of the piece that change nothing but the offset: how many.
+    /// Takes so many bytes, which lead to this mode and complete nothing.
+    fn skip(&mut self, count: usize, mode: Mode) -> usize
+        requires room { self.old.offset + count ≤ self.old.limits.bytes }
+        requires small { self.old.limits.bytes ≤ 2 ^ 60 }
+        requires sound { IsMode mode }
+        ensures count { result ≡ count }
+        ensures skips { (given : List ℕ) → length given ≡ count → Leads self.old.mode given mode → Skips self.old self.new given }
+    {
+        self.mode = mode;
+        self.offset += count as u64;
+        count
+    }
+
+    /// Takes the bytes at the front of the piece that complete nothing and open or close nothing: how many.
     fn skip_quiet(&mut self, piece: &[u8]) -> usize
         requires room { self.old.offset + length piece.now ≤ self.old.limits.bytes }
         requires small { self.old.limits.bytes ≤ 2 ^ 60 }
         ensures within { result ≤ length piece.now }
         ensures skips { Skips self.old self.new (take result piece.now) }
     {
-        let count = quiet_run(self.mode, piece);
-        self.offset += count as u64;
-        count
+        match self.mode {
+            Mode::StringOn(state) => {
+                let run = string_run(state, piece);
+                self.skip(run.count, Mode::StringOn(run.state))
+            }
+            Mode::NameOn(state) => {
+                let run = string_run(state, piece);
+                self.skip(run.count, Mode::NameOn(run.state))
+            }
+            mode => self.skip(quiet_run(mode, piece), mode),
+        }
     }
 
     /// Takes bytes from the front of the piece, one at least: how many.

@@ -1,10 +1,12 @@
-//! Bytes in a row that change nothing but the offset.
+//! Bytes in a row that complete nothing and open or close nothing.
 
 ghost use Rattle.std.specs.Prelude.{◌≡◌, ◌≤◌, length, take};
 ghost use Rattle.std.specs.List.{AllByRecursion, prefix_len};
-ghost use Rattle.gj_json.specs.Quiet.{IsQuiet, is_plain, is_white, is_digit};
+ghost use Rattle.gj_json.specs.Moves.{IsStringState};
+ghost use Rattle.gj_json.specs.Quiet.{IsQuiet, StringLeads, is_plain, is_white, is_digit};
 
-use crate::mode::{Mode, NumberState, StringState};
+use crate::mode::{Mode, NumberState, StringMove, StringState};
+use crate::strings::next_string;
 
 fn is_plain(byte: u8) -> bool
     ensures { result ≡ is_plain byte }
@@ -49,8 +51,6 @@ pub fn quiet_run(mode: Mode, piece: &[u8]) -> usize
     ensures quiet { AllByRecursion (IsQuiet mode) (take result piece.now) }
 {
     match mode {
-        Mode::StringOn(StringState::Plain) => plain_run(piece),
-        Mode::NameOn(StringState::Plain) => plain_run(piece),
         Mode::ValueDue => white_run(piece),
         Mode::ValueDone => white_run(piece),
         Mode::ArrayOpened => white_run(piece),
@@ -62,4 +62,47 @@ pub fn quiet_run(mode: Mode, piece: &[u8]) -> usize
         Mode::NumberOn(NumberState::InExponent) => digit_run(piece),
         _ => 0,
     }
+}
+
+/// Bytes of a string: how many, and how far the character under way has come behind them.
+#[derive(Clone, Copy)]
+pub struct StringRun {
+    pub count: usize,
+    pub state: StringState,
+}
+
+/// How many bytes at the front of the piece leave the state of a string as it is.
+fn plain_front(state: StringState, piece: &[u8]) -> usize
+    ensures within { result ≤ length piece.now }
+    ensures leads { StringLeads state (take result piece.now) state }
+{
+    match state {
+        StringState::Plain => plain_run(piece),
+        _ => 0,
+    }
+}
+
+/// The bytes at the front of the piece that go on in a string.
+pub fn string_run(state: StringState, piece: &[u8]) -> StringRun
+    requires { IsStringState state }
+    ensures within { result.count ≤ length piece.now }
+    ensures state { IsStringState result.state }
+    ensures leads { StringLeads state (take result.count piece.now) result.state }
+{
+    let mut count = 0;
+    let mut here = state;
+    while count < piece.len() {
+        count += plain_front(here, &piece[count..]);
+        if count == piece.len() {
+            break;
+        }
+        match next_string(here, piece[count]) {
+            StringMove::Goes(next) => {
+                here = next;
+                count += 1;
+            }
+            _ => break,
+        }
+    }
+    StringRun { count, state: here }
 }

@@ -1,23 +1,10 @@
 -- What passes the test of a mode leaves it as it is.
 use Rattle.std.proofs.lemmas.List.Sums.{prefix_len-le-length}
-use Rattle.gj_json.specs.declared.mode.Mode.TheVariants.{ValueDue, ValueDone, ArrayOpened, ObjectOpened, NumberOn, StringOn, NameDue, NameOn, ColonDue}
+use Rattle.gj_json.specs.declared.mode.Mode.TheVariants.{ValueDue, ValueDone, ArrayOpened, ObjectOpened, NumberOn, NameDue, ColonDue}
 use Rattle.gj_json.specs.declared.mode.NumberState.TheVariants.{InDigits, InFraction, InExponent}
-use Rattle.gj_json.specs.declared.mode.StringState.TheVariants.{Plain}
-use Rattle.gj_json.specs.Quiet.{is_plain, is_white, is_digit}
+use Rattle.gj_json.specs.Quiet.{is_white, is_digit}
 use Rattle.gj_json.proofs.QuietLemmas
 use Rattle.gj_json.proofs.runs.quiet_run.Goals as goal
-
-pub returns-in-StringOn-Plain-clause-within : goal.returns-in-StringOn-Plain-clause-within
-returns-in-StringOn-Plain-clause-within c = rw (c.plain_run.ensures) (prefix_len-le-length is_plain c.args.piece.now)
-
-pub returns-in-StringOn-Plain-clause-quiet : goal.returns-in-StringOn-Plain-clause-quiet
-returns-in-StringOn-Plain-clause-quiet c = let e = rw (c.in-StringOn-Plain.is) at c.in-StringOn-Plain.field-0-is in rw (c.in-StringOn-Plain.is, e, c.plain_run.ensures) (QuietLemmas.plain_run (StringOn Plain) tt c.args.piece.now)
-
-pub returns-in-NameOn-Plain-clause-within : goal.returns-in-NameOn-Plain-clause-within
-returns-in-NameOn-Plain-clause-within c = rw (c.plain_run-in-NameOn-Plain.ensures) (prefix_len-le-length is_plain c.args.piece.now)
-
-pub returns-in-NameOn-Plain-clause-quiet : goal.returns-in-NameOn-Plain-clause-quiet
-returns-in-NameOn-Plain-clause-quiet c = let e = rw (c.in-NameOn-Plain.is) at c.in-NameOn-Plain.field-0-is in rw (c.in-NameOn-Plain.is, e, c.plain_run-in-NameOn-Plain.ensures) (QuietLemmas.plain_run (NameOn Plain) tt c.args.piece.now)
 
 pub returns-in-ValueDue-clause-within : goal.returns-in-ValueDue-clause-within
 returns-in-ValueDue-clause-within c = rw (c.white_run.ensures) (prefix_len-le-length is_white c.args.piece.now)

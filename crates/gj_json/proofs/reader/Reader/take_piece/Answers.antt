@@ -1,5 +1,6 @@
 -- The piece, front by front.
 use Rattle.gj_json.proofs.Feeding
+use Rattle.gj_json.proofs.Slices.{more_within}
 use Rattle.gj_json.proofs.reader.Reader.take_piece.Goals as goal
 
 pub loop-at-preserved : goal.loop-at-preserved
@@ -7,7 +8,7 @@ loop-at-preserved g c =
     let fed = rw (c.in-Ok.is) at c.take_some.ensures.feeds in
     let within = rw (c.in-Ok.is) at c.take_some.ensures.within in
     record {
-      within = Feeding.piece_within c.args.piece.now c.loop-at.at c.in-Ok.count c.loop-at.invariant.within within.1;
+      within = more_within c.args.piece.now c.loop-at.at c.in-Ok.count c.loop-at.invariant.within within.1;
       fed = Feeding.piece_all c.args.self.now c.loop-at.self c.take_some.new.self c.args.piece.now c.loop-at.at c.in-Ok.count c.loop-at.invariant.fed
           (Feeding.rest_all c.loop-at.self c.take_some.new.self c.args.piece.now c.loop-at.at c.in-Ok.count fed);
     }
