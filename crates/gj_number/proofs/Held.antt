@@ -1,5 +1,5 @@
 -- The decimal of the kept digits is that of the whole number.
-use Rattle.std.proofs.Common.{◌≡◌, ◌≢◌, ℕ, ◌%◌, ◌^◌, ◌<◌, ◌≤◌, min, ◌⊎◌, inl, inr, Bool, Some, None, sym, ap, subst, arith, ℤ, pos, ◌+ℤ◌, ◌-ℤ◌, unsigned_abs}
+use Rattle.std.proofs.Common.{◌≡◌, ◌≢◌, ℕ, ◌%◌, ◌^◌, ◌<◌, ◌≤◌, min, ◌⊎◌, inl, inr, Bool, Some, None, sym, subst, arith, ℤ, pos, ◌+ℤ◌, ◌-ℤ◌, unsigned_abs}
 use Rattle.std.proofs.lemmas.Bool.Decides.{leb_tells}
 use Rattle.gj_number.specs.Exact.{IsWithinLimits, zero_exact, signed, power_limit}
 use Rattle.gj_number.specs.Value.{held_value}
@@ -27,19 +27,19 @@ has_digits kept count pending places whole fraction some few h = elim h [
   | inr o ↦ elim o [ inl d ↦ d | inr l ↦ absurd (let e = l.0 in omega arith) ]
 ]
 
-module _ (negative minus : Bool) (kept count pending places whole fraction magnitude : ℕ) (old : IsKept kept count pending places whole fraction) where
-  -- the invariant of the decimal that is made
-  pub decimal_limits : (power : ℤ) → count ≢ 0 → count ≤ 30 → limited_power (signed minus magnitude -ℤ pos places +ℤ pos pending) ≡ Some power → IsWithinLimits (exact_of negative kept power)
-  decimal_limits power some few e =
-      let d = has_digits kept count pending places whole fraction some few old in
-      let p = limited (signed minus magnitude -ℤ pos places +ℤ pos pending) power e in
-      record {
-        zero_is = (λ z. absurd (d.last (ap (λ n. n % 10) z)));
-        stripped = (λ _. d.last);
-        digits = few_digits kept count d.below d.few;
-        power = (let P : ℤ → Type 0 = λ z. unsigned_abs z ≤ power_limit in subst P p.0 p.1);
-      }
+-- the invariant of the decimal that is made
+pub decimal_limits : (negative minus : Bool) (kept count pending places magnitude : ℕ) (power : ℤ) → count ≤ 30 → kept < 10 ^ count → 0 < kept % 10
+    → limited_power (signed minus magnitude -ℤ pos places +ℤ pos pending) ≡ Some power → IsWithinLimits (exact_of negative kept power)
+decimal_limits negative minus kept count pending places magnitude power few below last e =
+    let p = limited (signed minus magnitude -ℤ pos places +ℤ pos pending) power e in
+    record {
+      zero_is = (λ z. absurd (let l = rw z at last in omega arith));
+      stripped = (λ _ z. absurd (let l = rw z at last in omega arith));
+      digits = few_digits kept count below few;
+      power = (let P : ℤ → Type 0 = λ z. unsigned_abs z ≤ power_limit in subst P p.0 p.1);
+    }
 
+module _ (negative minus : Bool) (kept count pending places whole fraction magnitude : ℕ) (old : IsKept kept count pending places whole fraction) where
   module _ (most written : ℕ) (small : whole < 10 ^ most) (magnitude_is : magnitude ≡ min written 1001) where
     pub zero_held : count ≡ 0 → Some zero_exact ≡ held_value negative most whole fraction (signed minus written)
     zero_held none = elim old [

@@ -14,6 +14,7 @@ pub mod Standing
 pub mod Far
 pub mod Keeping
 pub mod Bounds
+pub mod Last
 pub mod Running
 pub mod Powers
 pub mod Cutting

@@ -1,10 +1,14 @@
 -- Internal to this crate: what a literal's bounded parts keep of its digits and its exponent.
-use Rattle.std.specs.Prelude.{◌≡◌, ◌≢◌, ℕ, ◌+◌, ◌-◌, ◌*◌, ◌%◌, ◌^◌, ◌<◌, ◌≤◌, min, ◌⊎◌, nat_lt, nat_le, if◌then◌else◌, ℤ, unsigned_abs, Option, Some, None}
+use Rattle.std.specs.Prelude.{◌≡◌, ◌≢◌, ℕ, ◌+◌, ◌-◌, ◌*◌, ◌%◌, ◌^◌, ◌<◌, ◌≤◌, min, ◌⊎◌, nat_lt, nat_le, if◌then◌else◌, ◌&&◌, ℤ, unsigned_abs, Option, Some, None}
 use Rattle.gj_number.specs.Exact.{power_limit, cut_limit}
 
 -- the first nineteen digits and the rest of them, as one number
 abbrev pub kept_number : ℕ → ℕ → ℕ → ℕ
 kept_number head rest count = head * 10 ^ (count - 19) + rest
+
+-- the last of the kept digits, and 1 where there is none or too many have come
+abbrev pub last_digit : ℕ → ℕ → ℕ → ℕ
+last_digit head rest count = if nat_le 1 count && nat_le count 30 then kept_number head rest count % 10 else 1
 
 -- With no exponent from -1,000 to 1,000 is such a number held, whatever digits follow: it has more than thirty digits,
 -- or its last digit but zeros stands too far before the point or behind it.

@@ -1,7 +1,7 @@
 //! The digits that are kept of a number.
 ghost use Rattle.std.specs.Prelude.{◌≡◌, ◌≢◌, ◌↔◌, ℕ, ◌+◌, ◌-◌, ◌*◌, ◌^◌, ◌<◌, ◌≤◌, min, length, take, All, fold, IsTrue, pos, ◌+ℤ◌, ◌-ℤ◌};
 ghost use Rattle.gj_number.specs.Exact.{signed};
-ghost use Rattle.gj_number.specs.Kept.{limited_power};
+ghost use Rattle.gj_number.specs.Kept.{limited_power, last_digit};
 ghost use Rattle.gj_number.specs.Value.{held_value, with_digit};
 ghost use Rattle.gj_number.specs.Bytes.{IsDigit};
 
@@ -41,6 +41,7 @@ pub(crate) struct Digits {
     ghost count_bounded: { count ≤ 31 },
     ghost places_bounded: { places ≤ 1400 },
     ghost pending_bounded: { pending ≤ 1400 + places },
+    ghost stripped: { 0 < last_digit head rest count },
 }
 
 impl Digits {
@@ -178,7 +179,8 @@ impl Digits {
     /// Keeps a digit that is no zero, and the zeros before it.
     #[inline]
     fn keep(&mut self, digit: u8)
-        requires { digit < 10 }
+        requires digit { digit < 10 }
+        requires nonzero { digit ≢ 0 }
         ensures kept { AddsDigit self.old self.new digit }
         ensures places { self.new.places ≡ self.old.places }
     {
@@ -192,7 +194,8 @@ impl Digits {
 
     /// The same where zeros are to be kept too, or `head` is full.
     fn keep_behind(&mut self, digit: u8)
-        requires { digit < 10 }
+        requires digit { digit < 10 }
+        requires nonzero { digit ≢ 0 }
         ensures kept { AddsDigit self.old self.new digit }
         ensures places { self.new.places ≡ self.old.places }
     {
@@ -214,7 +217,6 @@ impl Digits {
 
     /// The decimal of these digits, with this sign and this exponent, where it is held.
     pub(crate) fn decimal(&self, negative: bool, exponent: Exponent) -> Option<Decimal>
-        requires { (whole : ℕ) × (fraction : ℕ) × Keeps self.now whole fraction }
         ensures { (most whole fraction written : ℕ) → Keeps self.now whole fraction → whole < 10 ^ most → exponent.magnitude ≡ min written 1001
             → result ≡ held_value negative most whole fraction (signed exponent.negative written) }
     {

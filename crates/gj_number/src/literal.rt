@@ -153,9 +153,9 @@ impl Literal {
         self.state.may_end()
     }
 
-    /// The decimal that the number denotes, or `None` where it is not held.
+    /// The decimal that the number denotes, or `None` where it is not held. Where the bytes so far are
+    /// no number, as [`Literal::may_end`] says, the answer means nothing.
     pub fn value(&self) -> Option<Decimal>
-        requires number { (bytes : List ℕ) × StandsFor self.now bytes × IsNumber bytes }
         ensures value { (bytes : List ℕ) → StandsFor self.now bytes → IsNumber bytes → result ≡ value_of bytes }
     {
         self.digits.decimal(self.negative, self.exponent)

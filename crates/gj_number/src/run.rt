@@ -1,5 +1,5 @@
 //! Runs of digits, for which there is room in a `u64`.
-ghost use Rattle.std.specs.Prelude.{◌≡◌, ℕ, ◌+◌, ◌-◌, ◌*◌, ◌^◌, ◌<◌, ◌≤◌, length, take, All, fold};
+ghost use Rattle.std.specs.Prelude.{◌≡◌, ℕ, ◌+◌, ◌-◌, ◌*◌, ◌%◌, ◌^◌, ◌<◌, ◌≤◌, length, take, All, fold};
 ghost use Rattle.gj_number.specs.Bytes.{IsDigit};
 ghost use Rattle.gj_number.specs.Value.{with_digit};
 
@@ -24,6 +24,7 @@ pub(crate) struct Run {
     ghost room: { total ≤ 19 },
     ghost all_bounded: { all < 10 ^ total },
     ghost head_bounded: { head < 10 ^ count },
+    ghost stripped: { 0 < head % 10 },
     ghost all_is: { all ≡ head * 10 ^ (total - count) },
 }
 
@@ -36,6 +37,7 @@ impl Run {
         requires some { 0 < count }
         requires room { count + pending ≤ 19 }
         requires bounded { head < 10 ^ count }
+        requires stripped { 0 < head % 10 }
         ensures head { result.head ≡ head }
         ensures count { result.count ≡ count }
         ensures pending { pending_of result ≡ pending }
@@ -55,6 +57,7 @@ impl Run {
         ensures room { self.now.count + result ≤ 19 }
         ensures bounded { self.now.head < 10 ^ self.now.count }
         ensures some { 0 < self.now.count }
+        ensures stripped { 0 < self.now.head % 10 }
     {
         self.total - self.count
     }

@@ -1,8 +1,9 @@
-use Rattle.std.proofs.Common.{◌≡◌, ◌<◌, ◌⊎◌, inl, inr, refl, sym, ◌∙◌, ap, Some, rules, w16}
+use Rattle.std.proofs.Common.{◌≡◌, ◌<◌, ◌≤◌, arith, ◌⊎◌, inl, inr, refl, sym, ◌∙◌, ap, Some, rules, w16}
 use mir.Val.{SFits}
 use Rattle.std.proofs.lemmas.Int.{to_z-of_z}
 use Rattle.gj_number.specs.Digits.{kept_of}
 use Rattle.gj_number.proofs.Held.{decimal_limits, zero_held, far_not_held, power_not_held, decimal_held}
+use Rattle.gj_number.proofs.Last.{kept_below, last_is}
 use Rattle.gj_number.proofs.Limits.{exact_of}
 use Rattle.gj_number.proofs.digits.Digits.decimal.Goals as goal
 
@@ -12,9 +13,10 @@ new-requires c =
     let x = c.args.exponent in
     let p = c.in-Some.power in
     let fits : SFits w16 p = search rules in
+    let few : d.count ≤ 30 = omega (arith, c.if-self-gt-MOST_DIGITS.false) in
     rw (c.whole.ensures, to_z-of_z w16 p fits)
-    (decimal_limits c.args.negative x.negative (kept_of d) d.count d.pending d.places c.requires.0 c.requires.1 x.magnitude c.requires.2 p
-    c.if-self-eq0.false c.if-self-gt-MOST_DIGITS.false (sym c.power.ensures ∙ c.in-Some.is))
+    (decimal_limits c.args.negative x.negative (kept_of d) d.count d.pending d.places x.magnitude p few
+    (kept_below d.head d.rest d.count d.head_bounded d.rest_bounded) (last_is d.head d.rest d.count c.if-self-eq0.false few d.stripped) (sym c.power.ensures ∙ c.in-Some.is))
 
 pub returns-then-self-eq0 : goal.returns-then-self-eq0
 returns-then-self-eq0 c most whole fraction written old small magnitude =

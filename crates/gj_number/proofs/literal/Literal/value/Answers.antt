@@ -3,10 +3,6 @@ use Rattle.gj_number.specs.Literal.{StandsFor}
 use Rattle.gj_number.proofs.Standing.{value_by}
 use Rattle.gj_number.proofs.literal.Literal.value.Goals as goal
 
-pub decimal-requires : goal.decimal-requires
-unfolding StandsFor
-decimal-requires c = let k = c.requires.number.1 in (k.0.whole, k.0.fraction, k.2.digits)
-
 pub returns : goal.returns
 unfolding StandsFor
 returns c = record {
