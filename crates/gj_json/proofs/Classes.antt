@@ -1,7 +1,7 @@
 -- Which class of bytes a byte is of.
-use Rattle.std.proofs.Common.{◌≡◌, ℕ, ◌==◌, inl, inr, Bool, true, false, if◌then◌else◌, ◌&&◌, refl, arith, nat_le}
+use Rattle.std.proofs.Common.{◌≡◌, ℕ, ◌==◌, inl, inr, Bool, true, false, if◌then◌else◌, ◌&&◌, refl, arith, nat_le, nat_lt}
 use Rattle.std.proofs.lemmas.Bool.Decides.{nat_tests, eqb_tells}
-use Rattle.gj_json.specs.Bytes.{carriage_return, close_brace, close_bracket, colon as colon_byte, comma as comma_byte, decimal_point, letter_f, letter_n, letter_t, line_feed, lower_e, minus_sign, nine_digit, one_digit, open_brace, open_bracket, plus_sign, quote as quote_byte, space, tab, upper_e, zero_digit as zero_byte}
+use Rattle.gj_json.specs.Bytes.{carriage_return, close_brace, close_bracket, colon as colon_byte, comma as comma_byte, decimal_point, letter_f, letter_n, letter_t, line_feed, lower_e, minus_sign, nine_digit, open_brace, open_bracket, plus_sign, quote as quote_byte, space, tab, upper_e, zero_digit as zero_byte}
 use Rattle.gj_json.specs.Bytes.{IsFirstDigit}
 use Rattle.gj_json.specs.declared.constant.Constant.TheVariants.{Null, True, False}
 use Rattle.gj_json.specs.declared.class.Class.{Class}
@@ -11,10 +11,10 @@ use Rattle.gj_json.specs.Classes.{class_of, Means}
 pick : (b k : ℕ) (c d : Class) → (b ≡ k → Means c b) → Means d b → Means (if b == k then c else d) b
 pick b k c d met unmet = elim (eqb_tells b k) [ inl h ↦ rw h.0 (met h.1) | inr h ↦ rw h.0 unmet ]
 
-range : (b : ℕ) (d : Class) → Means d b → Means (if nat_le one_digit b && nat_le b nine_digit then first_digit else d) b
-range b d unmet = go (nat_le one_digit b && nat_le b nine_digit) refl
+range : (b : ℕ) (d : Class) → Means d b → Means (if nat_lt zero_byte b && nat_le b nine_digit then first_digit else d) b
+range b d unmet = go (nat_lt zero_byte b && nat_le b nine_digit) refl
   where
-    go : (t : Bool) → (nat_le one_digit b && nat_le b nine_digit) ≡ t → Means (if t then first_digit else d) b
+    go : (t : Bool) → (nat_lt zero_byte b && nat_le b nine_digit) ≡ t → Means (if t then first_digit else d) b
     go true e = (grind (arith, nat_tests), grind (arith, nat_tests))
     go false e = unmet
 
@@ -31,7 +31,7 @@ at b k c e h = rw h e
 
 pub class-first_digit : (b : ℕ) → IsFirstDigit b → class_of b ≡ first_digit
 unfolding class_of
-class-first_digit b h = let e : (nat_le one_digit b && nat_le b nine_digit) ≡ true = grind (arith, nat_tests) in rw e refl
+class-first_digit b h = let e : (nat_lt zero_byte b && nat_le b nine_digit) ≡ true = grind (arith, nat_tests) in rw e refl
 
 -- a class that is named is the class of each byte that it means
 pub class_is : (c : Class) (b : ℕ) → Means c b → (c ≡ other → ⊥) → class_of b ≡ c

@@ -6,7 +6,7 @@ use Rattle.gj_json.specs.declared.constant.Constant.{Constant}
 use Rattle.gj_json.specs.declared.constant.Constant.TheVariants.{Null, True, False}
 use Rattle.gj_json.specs.Tree.{Text, Tree, constant, number, string, array, object, Elements, end_of_array, element, Members, end_of_object, member}
 use Rattle.gj_json.specs.Grammar.{Then, White, Exactly, Ends, Quoted, letters_of, Spells, SpellsElements, SpellsMoreElements, SpellsMembers, SpellsMoreMembers}
-use Rattle.gj_json.specs.Number.{IsNumber}
+use Rattle.gj_number.specs.Grammar.{IsNumber}
 use Rattle.gj_json.specs.Text.{SpellsMark}
 use Rattle.gj_json.specs.Characters.{SpellsContent}
 use Rattle.gj_json.proofs.Forms

@@ -3,7 +3,7 @@ use Rattle.std.proofs.Common.{◌≡◌, ℕ, true, List, [], ◌∷◌, ◌++�
 use Rattle.std.proofs.lemmas.List.{append-nil}
 use Rattle.gj_json.specs.declared.mode.NumberState.{NumberState}
 use Rattle.gj_json.specs.Classes.{class_of}
-use Rattle.gj_json.specs.Number.{IsNumber}
+use Rattle.gj_number.specs.Grammar.{IsNumber}
 use Rattle.gj_json.specs.NumberStates.{number_first, number_next, number_may_end, number_from, number_state}
 use Rattle.gj_json.specs.Broken.{BeginsNumber}
 use Rattle.gj_json.proofs.Classes.{means}

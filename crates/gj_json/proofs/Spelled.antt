@@ -8,7 +8,7 @@ use Rattle.gj_json.specs.Bytes.{IsDigit, IsFirstDigit}
 use Rattle.gj_json.specs.declared.mode.Bounds.{Bounds}
 use Rattle.gj_json.specs.declared.mode.Bounds.TheVariants.{Any, AfterE0, AfterED, AfterF0, AfterF4}
 use Rattle.gj_json.specs.Grammar.{Then, Exactly, Ends}
-use Rattle.gj_json.specs.Number.{IsNatural, IsDigits, IsFraction, IsSign, IsExponent, IsUnsigned, IsNumber}
+use Rattle.gj_number.specs.Grammar.{IsNatural, IsDigits, IsFraction, IsSign, IsExponent, IsUnsigned, IsNumber}
 use Rattle.gj_json.specs.Characters.{IsPlain, IsUnicode, SpellsContent, SpellsCharacter, escape_of, hex_of, Lead, lead, lead_of, IsTail, IsUtf8, low_of, high_of}
 use Rattle.gj_json.proofs.Forms
 use Rattle.gj_json.specs.declared.class.Class.{Class}

@@ -8,7 +8,7 @@ use Rattle.gj_json.specs.declared.mode.StringState.{StringState}
 use Rattle.gj_json.specs.declared.mode.StringState.TheVariants.{Plain, Escape, HexDue, HexOne, HexTwo, HexThree, InCharacter}
 use Rattle.gj_json.specs.Bytes.{open_bracket, open_brace, comma, colon, quote, backslash, letter_u, mark_first, mark_second}
 use Rattle.gj_json.specs.Tree.{Text, Tree, constant, number, string, array, object, Elements, element, Members, member, depth}
-use Rattle.gj_json.specs.Number.{IsNumber}
+use Rattle.gj_number.specs.Grammar.{BeginsNumber as NumberFront}
 use Rattle.gj_json.specs.Characters.{hex_of, Lead, lead_of, low_of, high_of, SpellsContent}
 use Rattle.gj_json.specs.Grammar.{Then, White, Exactly, Quoted, letters_of, Spells}
 use Rattle.gj_json.specs.NumberStates.{number_state}
@@ -75,7 +75,7 @@ BeginsCharacter (InCharacter more bounds value) bytes =
 
 -- some bytes, which some bytes more make a number
 abbrev pub BeginsNumber : List ℕ → Type 0
-BeginsNumber so_far = (so_far ≢ []) × ((more : List ℕ) × IsNumber (so_far ++ more))
+BeginsNumber so_far = (so_far ≢ []) × NumberFront so_far
 
 -- an opening quote, the content so far, and the first bytes of a character
 abbrev pub BeginsQuoted : ℕ → List ℕ → StringState → ℕ → List ℕ → Type 0

@@ -1,5 +1,6 @@
 -- The bytes that the grammar names, and its classes of bytes (RFC 8259, section 2). No other file writes a byte as a number.
-use Rattle.std.specs.Prelude.{◌≡◌, ℕ, ◌≤◌, ◌⊎◌, List, [], ◌∷◌}
+use Rattle.std.specs.Prelude.{◌≡◌, ℕ, ◌⊎◌, List, [], ◌∷◌}
+pub use Rattle.gj_number.specs.Bytes.{minus_sign, plus_sign, decimal_point, lower_e, upper_e, zero_digit, nine_digit, IsDigit, IsFirstDigit}
 
 -- the structural characters
 abbrev pub open_bracket : ℕ
@@ -80,37 +81,6 @@ after_t = 114 ∷ 117 ∷ 101 ∷ []
 
 abbrev pub after_f : List ℕ
 after_f = 97 ∷ 108 ∷ 115 ∷ 101 ∷ []
-
--- numbers
-abbrev pub minus_sign : ℕ
-minus_sign = 45
-
-abbrev pub plus_sign : ℕ
-plus_sign = 43
-
-abbrev pub decimal_point : ℕ
-decimal_point = 46
-
-abbrev pub lower_e : ℕ
-lower_e = 101
-
-abbrev pub upper_e : ℕ
-upper_e = 69
-
-abbrev pub zero_digit : ℕ
-zero_digit = 48
-
-abbrev pub one_digit : ℕ
-one_digit = 49
-
-abbrev pub nine_digit : ℕ
-nine_digit = 57
-
-abbrev pub IsDigit : ℕ → Type 0
-IsDigit b = (zero_digit ≤ b) × (b ≤ nine_digit)
-
-abbrev pub IsFirstDigit : ℕ → Type 0
-IsFirstDigit b = (one_digit ≤ b) × (b ≤ nine_digit)
 
 -- the hexadecimal digits behind the nine
 abbrev pub upper_a : ℕ

@@ -1,6 +1,6 @@
 -- Internal: which class of bytes a byte is of.
-use Rattle.std.specs.Prelude.{◌⊎◌, ◌≡◌, ℕ, ◌==◌, ◌&&◌, if◌then◌else◌, nat_le}
-use Rattle.gj_json.specs.Bytes.{open_bracket, close_bracket, open_brace, close_brace, comma as comma_byte, colon as colon_byte, quote as quote_byte, space, tab, line_feed, carriage_return, minus_sign, plus_sign, decimal_point, lower_e, upper_e, zero_digit as zero, one_digit, nine_digit, letter_n, letter_t, letter_f, IsWhite, IsFirstDigit}
+use Rattle.std.specs.Prelude.{◌⊎◌, ◌≡◌, ℕ, ◌==◌, ◌&&◌, if◌then◌else◌, nat_le, nat_lt}
+use Rattle.gj_json.specs.Bytes.{open_bracket, close_bracket, open_brace, close_brace, comma as comma_byte, colon as colon_byte, quote as quote_byte, space, tab, line_feed, carriage_return, minus_sign, plus_sign, decimal_point, lower_e, upper_e, zero_digit as zero, nine_digit, letter_n, letter_t, letter_f, IsWhite, IsFirstDigit}
 use Rattle.gj_json.specs.declared.constant.Constant.{Constant}
 use Rattle.gj_json.specs.declared.constant.Constant.TheVariants.{Null, True, False}
 use Rattle.gj_json.specs.declared.class.Class.{Class}
@@ -8,7 +8,7 @@ use Rattle.gj_json.specs.declared.class.Class.TheVariants.{White as white, OpenA
 
 unfoldable pub class_of : ℕ → Class
 class_of b =
-    if nat_le one_digit b && nat_le b nine_digit then first_digit else
+    if nat_lt zero b && nat_le b nine_digit then first_digit else
     if b == zero then zero_digit else
     if b == space then white else
     if b == tab then white else

@@ -2,7 +2,7 @@
 use Rattle.std.specs.Prelude.{◌≡◌, ℕ, ◌+◌, List, [], ◌∷◌, ◌++◌, length}
 use Rattle.std.specs.List.{AllByRecursion}
 use Rattle.gj_json.specs.Bytes.{open_bracket, close_bracket, open_brace, close_brace, comma, colon, quote, letter_n, letter_t, letter_f, after_n, after_t, after_f, IsWhite}
-use Rattle.gj_json.specs.Number.{IsNumber}
+use Rattle.gj_number.specs.Grammar.{IsNumber}
 use Rattle.gj_json.specs.Characters.{SpellsContent}
 use Rattle.gj_json.specs.declared.constant.Constant.{Constant}
 use Rattle.gj_json.specs.declared.constant.Constant.TheVariants.{Null, True, False}

@@ -1,6 +1,5 @@
 pub mod Bytes
 pub mod Tree
-pub mod Number
 pub mod Characters
 pub mod Grammar
 pub mod Text
