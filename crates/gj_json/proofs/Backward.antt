@@ -12,8 +12,8 @@ use Rattle.gj_json.specs.declared.class.Class.TheVariants.{White as white, OpenA
 use Rattle.gj_json.specs.Classes.{class_of, Means, first_letter}
 use Rattle.gj_json.proofs.Classes.{means}
 use Rattle.gj_json.proofs.Forms
-use Rattle.gj_json.specs.declared.mode.NumberState.{NumberState}
-use Rattle.gj_json.specs.declared.mode.NumberState.TheVariants.{AfterMinus as after_minus, AfterZero as after_zero, InDigits as in_digits}
+use Rattle.gj_json.specs.NumberStates.{NumberState}
+use Rattle.gj_json.specs.NumberStates.{after_minus, after_zero, in_digits}
 use Rattle.gj_json.specs.declared.mode.StringState.{StringState}
 use Rattle.gj_json.specs.declared.mode.StringState.TheVariants.{Plain as plain}
 use Rattle.gj_json.specs.Machine.{Broken, text_due, mark_one, mark_two, begun, with_mark, Frame, in_array, in_object, Member, Leaf, Partial, begin_value, after_value, value_due, value_done, array_opened, object_opened, constant_on, number_on as number_on_leaf, string_on, name_due, name_on as name_on_leaf, colon_due, step_value_due, step_array_opened, step_object_opened, step_name_due, step_colon_due, step_constant, step_number, step_string, step_name, step_leaf, step, letters_after, back_members, number_first, number_next, number_may_end, string_next, StringStep, string_ends, string_goes, string_refuses, to, begin_name}

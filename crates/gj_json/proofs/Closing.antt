@@ -15,8 +15,8 @@ use Rattle.gj_json.proofs.Forms
 use Rattle.gj_json.proofs.Backward
 use Rattle.gj_json.specs.Stands.{Fits, FitsName, FitsLeaf, FitsBroken}
 use Rattle.gj_json.proofs.Texts.{text_goes_on, text_from}
-use Rattle.gj_json.specs.declared.mode.NumberState.{NumberState}
-use Rattle.gj_json.specs.declared.mode.NumberState.TheVariants.{AfterMinus as after_minus, AfterZero as after_zero, InDigits as in_digits, AfterPoint as after_point, InFraction as in_fraction, AfterExponent as after_exponent, AfterSign as after_sign, InExponent as in_exponent}
+use Rattle.gj_json.specs.NumberStates.{NumberState}
+use Rattle.gj_json.specs.NumberStates.{after_minus, after_zero, in_digits, after_point, in_fraction, after_exponent, after_sign, in_exponent}
 use Rattle.gj_json.specs.declared.mode.StringState.{StringState}
 use Rattle.gj_json.specs.declared.mode.StringState.TheVariants.{Plain as plain, Escape as escape, HexDue as hex_due, HexOne as hex_one, HexTwo as hex_two, HexThree as hex_three, InCharacter as in_character}
 use Rattle.gj_json.specs.Characters.{escape_of, hex_of, low_of}

@@ -5,7 +5,7 @@ use Rattle.gj_json.specs.Bytes.{colon as colon_byte, mark_second, mark_third, qu
 use Rattle.gj_json.specs.Tree.{Text, Tree, constant, number, string, array, object, Elements, element, Members, member}
 use Rattle.gj_json.specs.Grammar.{Then, White, Exactly, Ends, Quoted, Spells, SpellsElements, SpellsMoreElements, SpellsMembers, SpellsMoreMembers}
 use Rattle.gj_json.specs.Classes.{class_of}
-use Rattle.gj_json.specs.declared.mode.NumberState.{NumberState}
+use Rattle.gj_json.specs.NumberStates.{NumberState}
 use Rattle.gj_json.specs.declared.mode.StringState.{StringState}
 use Rattle.gj_json.specs.declared.mode.StringState.TheVariants.{Plain as plain}
 use Rattle.gj_json.specs.Machine.{Member, Frame, in_array, in_object, string_goes, string_next, Leaf, value_due, value_done, array_opened, object_opened, constant_on, number_on, string_on, name_due, name_on, colon_due, Partial, Broken, text_due, mark_one, mark_two, begun, back_elements, back_members, number_next, number_may_end}

@@ -3,7 +3,7 @@ use Rattle.std.proofs.Common.{◌≡◌, ◌≢◌, ℕ, ◌+◌, true, List, []
 use Rattle.gj_json.specs.Bytes.{quote as quote_byte, IsWhite}
 use Rattle.gj_json.specs.declared.constant.Constant.{Constant}
 use Rattle.gj_json.specs.declared.constant.Constant.TheVariants.{Null, True, False}
-use Rattle.gj_json.specs.declared.mode.NumberState.{NumberState}
+use Rattle.gj_json.specs.NumberStates.{NumberState}
 use Rattle.gj_json.specs.declared.mode.StringState.{StringState}
 use Rattle.gj_json.specs.declared.mode.StringState.TheVariants.{Plain as plain}
 use Rattle.gj_json.specs.Tree.{number}

@@ -16,16 +16,19 @@ use Rattle.gj_json.specs.Text.{IsText}
 use Rattle.gj_json.specs.Refusal.{IsRefusal}
 use Rattle.gj_json.specs.Events.{events_by}
 use Rattle.gj_json.specs.Levels.{levels_in}
-use Rattle.gj_json.specs.Feeding.{Skips, Feeds, FeedsAll, FeedsTo}
+use Rattle.gj_json.specs.Feeding.{Skips, SkipsBy, leading, in_literal, Feeds, FeedsAll, FeedsTo}
+use Rattle.gj_json.specs.Under.{under_of}
+use Rattle.gj_json.proofs.Comes.{mode_under}
+use Rattle.gj_json.proofs.Literals.{keeps_none}
 use Rattle.gj_json.specs.Reader.{StandsFor, Answers, Completed, Hears, HearsBy}
-use Rattle.gj_json.specs.Stands.{StandsWell, StandsRefused}
+use Rattle.gj_json.specs.Stands.{StandsOpen, StandsRefused}
 use Rattle.gj_json.specs.declared.mode.Mode.TheVariants.{ValueDone}
 use Rattle.gj_json.specs.declared.mode.Move.{Move}
 use Rattle.gj_json.specs.declared.mode.Move.TheVariants.{Refuse, Go, Open, Close}
 use Rattle.gj_json.specs.Levels.{outer_of}
-use Rattle.gj_json.specs.Step.{Applied, PassesTo, RefusesWith, IsRefusedWith, opened, told_on}
-use Rattle.gj_json.proofs.Reading.{pushed, completed, move_by, told_by, stop, well_viable, well_of, refuses_on, lasts}
-use Rattle.gj_json.proofs.Quietly.{quiet_run}
+use Rattle.gj_json.specs.Step.{Applied, PassesTo, RefusesWith, IsRefusedWith, opened, told_on, move_by, told_by, Takes}
+use Rattle.gj_json.proofs.Reading.{pushed, completed, stop, well_viable, well_of, open_of, refuses_on, lasts}
+use Rattle.gj_json.proofs.Quietly.{quiet_run, digits_run}
 use Rattle.gj_json.proofs.Slices.{take_all_of, rest_of}
 
 -- ---- what a reader that stands for bytes says of them
@@ -105,15 +108,18 @@ outcome (Open level) old new result n h = elim (eqb_tells (length (levels_in old
 outcome Close old new result n h = passes_outcome ValueDone (outer_of (levels_in old.levels)) old new result h
 
 -- the events of a byte, heard
-byte_hears : (after : List Event → Type 0) (old new : Reader) (b : ℕ) (bytes : List ℕ) (events : List Event) (result : Result (Unit {0}) JsonFault) → old.fault ≡ None → StandsFor old bytes → Outcome old new result
-    → after (events ++ told_on result (told_by old b)) → Hears after events old.offset new.offset (take new.offset (bytes ++ b ∷ []))
-byte_hears after old new b bytes events result live h (took r o f l) k =
+byte_hears : {before after : List Event → Type 0} (old new : Reader) (b : ℕ) (bytes : List ℕ) (events : List Event) (result : Result (Unit {0}) JsonFault) → old.fault ≡ None → StandsFor old bytes → Outcome old new result
+    → Takes before after old new b result → before events → Hears after events old.offset new.offset (take new.offset (bytes ++ b ∷ []))
+byte_hears {before} {after} old new b bytes events result live h (took r o f l) w k =
+    let es = told_by old w.turn w.value b in
     let n : new.offset ≡ length (bytes ++ b ∷ []) = omega (arith, o, live_offset old bytes live h, length-append bytes (b ∷ [])) in
     let t : take new.offset (bytes ++ b ∷ []) ≡ bytes ++ b ∷ [] = take_all_of (bytes ++ b ∷ []) new.offset n in
-    let c : Completed old.offset (old.offset + 1) (bytes ++ b ∷ []) (told_by old b) = completed old b bytes live h in
-    (told_by old b, rw r at k, rw (t, o) c)
-byte_hears after old new b bytes events result live h (refused fault r o f l) k =
-    let z : after (events ++ []) = rw r at k in
+    let c : Completed old.offset (old.offset + 1) (bytes ++ b ∷ []) es = completed old b bytes w.turn w.value w.says live h in
+    let j : after (events ++ told_on result es) = w.told events k in
+    (es, rw r at j, rw (t, o) c)
+byte_hears {before} {after} old new b bytes events result live h (refused fault r o f l) w k =
+    let j : after (events ++ told_on result (told_by old w.turn w.value b)) = w.told events k in
+    let z : after (events ++ []) = rw r at j in
     hears_nothing after events old.offset new.offset (take new.offset (bytes ++ b ∷ [])) o (rw append-nil at z)
 
 pub outcome_on : (old new : Reader) (result : Result (Unit {0}) JsonFault) → Outcome old new result → (new.limits ≡ old.limits) × (old.offset ≤ new.offset)
@@ -121,21 +127,33 @@ outcome_on old new result (took r o f l) = (l, omega (arith, o))
 outcome_on old new result (refused fault r o f l) = (l, omega (arith, o))
 
 pub byte_feeds : {before after : List Event → Type 0} (old new : Reader) (b : ℕ) (result : Result (Unit {0}) JsonFault) → old.fault ≡ None → old.offset < old.limits.bytes → length (levels_in old.levels) ≤ old.limits.depth
-    → Applied (move_by old b) old new result → ((events : List Event) → before events → after (events ++ told_on result (told_by old b))) → Feeds before after old new (b ∷ [])
-byte_feeds {before} {after} old new b result live room nested a t =
-    let o = outcome (move_by old b) old new result nested a in
+    → Takes before after old new b result → Feeds before after old new (b ∷ [])
+byte_feeds {before} {after} old new b result live room nested w =
+    let o = outcome (move_by old w.turn b) old new result nested w.applied in
     let l = outcome_on old new result o in
     record {
       limits = l.0;
       on = l.1;
-      stands = λ bytes h. (pushed old new b bytes result live room nested a h).0;
-      told = λ bytes events h k. byte_hears after old new b bytes events result live h o (t events k);
+      stands = λ bytes h. (pushed old new b bytes result live room nested w h).0;
+      told = λ bytes events h k. byte_hears old new b bytes events result live h o w k;
     }
 
 -- ---- bytes that complete nothing
 
-skip_well : (old new : Reader) (given : List ℕ) → old.fault ≡ None → Skips old new given → (bytes : List ℕ) → StandsWell old.limits new.mode (levels_in old.levels) old.start (old.offset + length given) (bytes ++ given) → StandsFor new (bytes ++ given)
+skip_well : (old new : Reader) (given : List ℕ) → old.fault ≡ None → Skips old new given → (bytes : List ℕ) → StandsOpen old.limits new.mode (levels_in old.levels) new.literal old.start (old.offset + length given) (bytes ++ given) → StandsFor new (bytes ++ given)
 skip_well old new given live s bytes w = rw (s.fault, live, s.limits, s.levels, s.start, s.offset) w
+
+-- what bytes leave that complete nothing
+skipped : (old new : Reader) (given : List ℕ) (bytes : List ℕ) → SkipsBy old new given → old.offset + length given ≤ old.limits.bytes → StandsOpen old.limits old.mode (levels_in old.levels) old.literal old.start old.offset bytes
+    → StandsOpen old.limits new.mode (levels_in old.levels) new.literal old.start (old.offset + length given) (bytes ++ given) × Completed old.offset (old.offset + length given) (bytes ++ given) []
+skipped old new given bytes (leading leads other) room k =
+    let q = quiet_run old.limits (levels_in old.levels) old.start given old.mode new.mode old.offset bytes k.well room leads in
+    (record { well = q.0; keeps = keeps_none (under_of q.0.state) new.literal (sym (mode_under q.0.state new.mode (levels_in old.levels) q.0.kept) ∙ other) }, q.1)
+skipped old new given bytes (in_literal from to goes) room k =
+    let P : Mode → Type 0 = λ m. StandsOpen old.limits m (levels_in old.levels) old.literal old.start old.offset bytes in
+    let Q : Mode → Type 0 = λ m. StandsOpen old.limits m (levels_in old.levels) new.literal old.start (old.offset + length given) (bytes ++ given) in
+    let d = digits_run old.limits (levels_in old.levels) old.start given old.literal new.literal old.offset bytes (subst P from k) goes room in
+    (subst Q (sym to) d.0, d.1)
 
 pub skip_feeds : {heard : List Event → Type 0} (old new : Reader) (given : List ℕ) → old.fault ≡ None → old.offset + length given ≤ old.limits.bytes → Skips old new given → FeedsAll heard heard old new given
 skip_feeds {heard} old new given live room s = record {
@@ -153,8 +171,8 @@ skip_feeds {heard} old new given live room s = record {
   offset = s.offset;
 }
   where
-    run : (bytes : List ℕ) → StandsFor old bytes → StandsWell old.limits new.mode (levels_in old.levels) old.start (old.offset + length given) (bytes ++ given) × Completed old.offset (old.offset + length given) (bytes ++ given) []
-    run bytes h = quiet_run old.limits (levels_in old.levels) old.start given old.mode new.mode old.offset bytes (well_of old bytes live h) room s.leads
+    run : (bytes : List ℕ) → StandsFor old bytes → StandsOpen old.limits new.mode (levels_in old.levels) new.literal old.start (old.offset + length given) (bytes ++ given) × Completed old.offset (old.offset + length given) (bytes ++ given) []
+    run bytes h = skipped old new given bytes s.by room (open_of old bytes live h)
 
 -- ---- one call after another
 
@@ -223,15 +241,15 @@ err_kept old new result fault (took r o f l) e = cc
 err_kept old new result fault (refused other r o f l) e = let k : other ≡ fault = cc in f ∙ ap (λ (x : JsonFault). Some x) k
 
 pub byte_all : {before after : List Event → Type 0} (old new : Reader) (b : ℕ) (result : Result (Unit {0}) JsonFault) (x : Unit {0}) → old.fault ≡ None → old.offset < old.limits.bytes → length (levels_in old.levels) ≤ old.limits.depth
-    → Applied (move_by old b) old new result → ((events : List Event) → before events → after (events ++ told_on result (told_by old b))) → result ≡ Ok x → FeedsAll before after old new (b ∷ [])
-byte_all old new b result x live room nested a t e =
-    let k = ok_live old new result x (outcome (move_by old b) old new result nested a) e in
-    record { feeds = byte_feeds old new b result live room nested a t; live = k.0 ∙ live; offset = k.1 }
+    → Takes before after old new b result → result ≡ Ok x → FeedsAll before after old new (b ∷ [])
+byte_all old new b result x live room nested w e =
+    let k = ok_live old new result x (outcome (move_by old w.turn b) old new result nested w.applied) e in
+    record { feeds = byte_feeds old new b result live room nested w; live = k.0 ∙ live; offset = k.1 }
 
 pub byte_to : {before after : List Event → Type 0} (old new : Reader) (b : ℕ) (result : Result (Unit {0}) JsonFault) (fault : JsonFault) → old.fault ≡ None → old.offset < old.limits.bytes → length (levels_in old.levels) ≤ old.limits.depth
-    → Applied (move_by old b) old new result → ((events : List Event) → before events → after (events ++ told_on result (told_by old b))) → result ≡ Err fault → FeedsTo before after old new (b ∷ []) fault
-byte_to old new b result fault live room nested a t e =
-    record { feeds = byte_feeds old new b result live room nested a t; refused = err_kept old new result fault (outcome (move_by old b) old new result nested a) e }
+    → Takes before after old new b result → result ≡ Err fault → FeedsTo before after old new (b ∷ []) fault
+byte_to old new b result fault live room nested w e =
+    record { feeds = byte_feeds old new b result live room nested w; refused = err_kept old new result fault (outcome (move_by old w.turn b) old new result nested w.applied) e }
 
 -- the byte behind the most that are allowed
 pub length_stands : {A : Type 0} (old new : Reader) (b : ℕ) (bytes : List ℕ) (fault : JsonFault) (result : Result A JsonFault) → result ≡ Err fault → old.fault ≡ None → old.offset ≡ old.limits.bytes → IsRefusedWith Length old new fault → StandsFor old bytes
@@ -273,20 +291,20 @@ byte_taken : (piece : List ℕ) (n : ℕ) → n < length piece → take n piece 
 byte_taken piece n w = sym (take_more piece n 0 w)
 
 pub some_all : {before after : List Event → Type 0} (old mid new : Reader) (piece : List ℕ) (n : ℕ) (result : Result (Unit {0}) JsonFault) (x : Unit {0}) → old.fault ≡ None → n < length piece → old.offset + length piece ≤ old.limits.bytes
-    → Skips old mid (take n piece) → Applied (move_by mid (get_or piece n 0)) mid new result → ((events : List Event) → before events → after (events ++ told_on result (told_by mid (get_or piece n 0)))) → result ≡ Ok x
+    → Skips old mid (take n piece) → Takes before after mid new (get_or piece n 0) result → result ≡ Ok x
     → FeedsAll before after old new (take (n + 1) piece)
-some_all {before} {after} old mid new piece n result x live w room s a t e =
+some_all {before} {after} old mid new piece n result x live w room s t e =
     let f : FeedsAll before before old mid (take n piece) = front_skipped old mid piece n live (omega arith) room s in
-    let g : FeedsAll before after mid new (get_or piece n 0 ∷ []) = byte_all mid new (get_or piece n 0) result x f.live (mid_room old mid piece n w room s) mid.nested a t e in
+    let g : FeedsAll before after mid new (get_or piece n 0 ∷ []) = byte_all mid new (get_or piece n 0) result x f.live (mid_room old mid piece n w room s) mid.nested t e in
     let P : List ℕ → Type 0 = λ xs. FeedsAll before after old new xs in
     subst P (byte_taken piece n w) (feeds_all_on old mid new (take n piece) (get_or piece n 0 ∷ []) f g)
 
 pub some_to : {before after : List Event → Type 0} (old mid new : Reader) (piece : List ℕ) (n : ℕ) (result : Result (Unit {0}) JsonFault) (fault : JsonFault) → old.fault ≡ None → n < length piece → old.offset + length piece ≤ old.limits.bytes
-    → Skips old mid (take n piece) → Applied (move_by mid (get_or piece n 0)) mid new result → ((events : List Event) → before events → after (events ++ told_on result (told_by mid (get_or piece n 0)))) → result ≡ Err fault
+    → Skips old mid (take n piece) → Takes before after mid new (get_or piece n 0) result → result ≡ Err fault
     → FeedsTo before after old new piece fault
-some_to {before} {after} old mid new piece n result fault live w room s a t e =
+some_to {before} {after} old mid new piece n result fault live w room s t e =
     let f : FeedsAll before before old mid (take n piece) = front_skipped old mid piece n live (omega arith) room s in
-    let g : FeedsTo before after mid new (get_or piece n 0 ∷ []) fault = byte_to mid new (get_or piece n 0) result fault f.live (mid_room old mid piece n w room s) mid.nested a t e in
+    let g : FeedsTo before after mid new (get_or piece n 0 ∷ []) fault = byte_to mid new (get_or piece n 0) result fault f.live (mid_room old mid piece n w room s) mid.nested t e in
     let P : List ℕ → Type 0 = λ xs. FeedsTo before after old new xs fault in
     let k : (take n piece ++ get_or piece n 0 ∷ []) ++ drop (n + 1) piece ≡ piece = ap (λ xs. xs ++ drop (n + 1) piece) (byte_taken piece n w) ∙ take-append-drop (n + 1) piece in
     subst P k (feeds_to_on old mid new (take n piece) (get_or piece n 0 ∷ []) (drop (n + 1) piece) fault f g)

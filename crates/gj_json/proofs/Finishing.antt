@@ -1,5 +1,5 @@
 -- What the end of a text answers, and the levels that are open.
-use Rattle.std.proofs.Common.{◌≡◌, ℕ, ◌+◌, ◌≤◌, Bool, true, false, if◌then◌else◌, List, [], ◌∷◌, ◌++◌, length, take, Option, Some, None, refl, sym, ap, ◌∙◌, arith, append_assoc}
+use Rattle.std.proofs.Common.{◌≡◌, ℕ, ◌+◌, ◌≤◌, ◌↔◌, Bool, true, false, if◌then◌else◌, List, [], ◌∷◌, ◌++◌, length, take, Option, Some, None, refl, sym, ap, ◌∙◌, arith, append_assoc}
 use Rattle.std.specs.Option.{option_to_list}
 use Rattle.std.proofs.lemmas.List.{append-nil, map-append}
 use Rattle.std.proofs.Math.Seq.{take-append_seam}
@@ -7,7 +7,7 @@ use Rattle.gj_json.specs.declared.event.Event.{Event}
 use Rattle.gj_json.specs.declared.event.What.TheVariants as What
 use Rattle.gj_json.specs.declared.fault.JsonFault.{JsonFault}
 use Rattle.gj_json.specs.declared.fault.Cause.TheVariants.{Truncated}
-use Rattle.gj_json.specs.declared.mode.NumberState.{NumberState}
+use Rattle.gj_json.specs.NumberStates.{NumberState}
 use Rattle.gj_json.specs.declared.levels.Level.{Level}
 use Rattle.gj_json.specs.declared.mode.Mode.{Mode}
 use Rattle.gj_json.specs.declared.mode.Mode.TheVariants.{ValueDone, NumberOn}
@@ -29,7 +29,13 @@ use Rattle.gj_json.proofs.Closing.{fits_viable}
 use Rattle.gj_json.proofs.End.{finish_iff}
 use Rattle.gj_json.proofs.Opened.{open_levels}
 use Rattle.gj_json.proofs.Past.{events_seen}
-use Rattle.gj_json.proofs.Reading.{well_of}
+use Rattle.gj_json.proofs.Reading.{well_of, open_of}
+use Rattle.gj_number.specs.Exact.{Exact}
+use Rattle.gj_number.specs.Grammar.{IsNumber}
+use Rattle.gj_number.specs.Value.{value_of}
+use Rattle.gj_number.specs.Literal.{StandsFor as LiteralStandsFor}
+use Rattle.gj_json.specs.Under.{Under, nothing, number as number_under, content, under_leaf, under_of, Keeps}
+use Rattle.gj_json.proofs.Literals.{ends_by, number_by}
 use Rattle.gj_json.proofs.Texts.{text_start, text_goes_on, Finishes, text_finishes, finishes_text}
 use Rattle.gj_json.proofs.Times.{told}
 
@@ -38,42 +44,48 @@ abbrev Says : ℕ → List Timed → Option (Option Event) → Option Tree → T
 Says d before None o = o ≡ None
 Says d before (Some found) o = (tree : Tree) × (o ≡ Some tree) × (depth tree ≤ d) × (told (events tree) ≡ told before ++ option_to_list found)
 
-top_says : (d : ℕ) (stack : List Frame) (t : Tree) (n start : ℕ) → depth t + length stack ≤ d → Says d (stack_timed stack ++ events t) (last_event ValueDone (inner_of (levels_of stack)) start) (finish_leaf stack (value_done t) n)
-top_says d [] t n start f = (t, refl, omega (arith, f), sym (append-nil (told (events t))))
-top_says d (in_array place done ∷ stack) t n start f = refl
-top_says d (in_object place done np name ne ∷ stack) t n start f = refl
+-- the number under way may end here or not, and has this value where it may
+abbrev pub EndsAs : Under → Bool → Option Exact → Type 0
+EndsAs (number_under so_far state) may_end value = (may_end ≡ number_may_end state) × (number_may_end state ≡ true → value ≡ value_of so_far)
+EndsAs _ may_end value = Unit {0}
 
-number_says : (d : ℕ) (stack : List Frame) (place : ℕ) (so_far : List ℕ) (state : NumberState) (n : ℕ)
-    → Says d (stack_timed stack ++ []) (last_event (NumberOn state) (inner_of (levels_of stack)) place) (finish_leaf stack (number_on place so_far state) n)
-number_says d [] place so_far state n = go (number_may_end state)
-  where
-    go : (t : Bool) → Says d [] (if t then Some (Some (event_at place What.Number)) else None) (if t then Some (number place so_far n) else None)
-    go true = (number place so_far n, refl, omega arith, refl)
-    go false = refl
-number_says d (in_array p done ∷ stack) place so_far state n = refl
-number_says d (in_object p done np name ne ∷ stack) place so_far state n = refl
+module _ (may_end : Bool) (value : Option Exact) where
+  top_says : (d : ℕ) (stack : List Frame) (t : Tree) (n start : ℕ) → depth t + length stack ≤ d → Says d (stack_timed stack ++ events t) (last_event ValueDone (inner_of (levels_of stack)) may_end value start) (finish_leaf stack (value_done t) n)
+  top_says d [] t n start f = (t, refl, omega (arith, f), sym (append-nil (told (events t))))
+  top_says d (in_array place done ∷ stack) t n start f = refl
+  top_says d (in_object place done np name ne ∷ stack) t n start f = refl
 
-leaf_says : (d : ℕ) (stack : List Frame) (leaf : Leaf) (mode : Mode) (start n : ℕ) → LeafAs leaf mode → FitsLeaf d stack leaf → BegunAs leaf start → ConstantAt leaf n
-    → Says d (stack_timed stack ++ leaf_timed leaf) (last_event mode (inner_of (levels_with leaf (levels_of stack))) start) (finish_leaf stack leaf n)
-leaf_says d stack (value_done t) mode start n a f g w = rw a (top_says d stack t n start f.0)
-leaf_says d stack (number_on place so_far state) mode start n a f g w = rw (a, g) (number_says d stack place so_far state n)
-leaf_says d [] (constant_on which place []) mode start n a f g w = absurd (omega (arith, w.1))
-leaf_says d [] (constant_on which place (x ∷ left)) mode start n a f g w = rw (a.1) refl
-leaf_says d (frame ∷ stack) (constant_on which place left) mode start n a f g w = rw (a.1) refl
-leaf_says d [] value_due mode start n a f g w = rw a refl
-leaf_says d (frame ∷ stack) value_due mode start n a f g w = rw a refl
-leaf_says d [] (array_opened place) mode start n a f g w = rw a refl
-leaf_says d (frame ∷ stack) (array_opened place) mode start n a f g w = rw a refl
-leaf_says d [] (object_opened place) mode start n a f g w = rw a refl
-leaf_says d (frame ∷ stack) (object_opened place) mode start n a f g w = rw a refl
-leaf_says d [] (string_on place so_far state) mode start n a f g w = rw a refl
-leaf_says d (frame ∷ stack) (string_on place so_far state) mode start n a f g w = rw a refl
-leaf_says d [] (name_due place done) mode start n a f g w = rw a refl
-leaf_says d (frame ∷ stack) (name_due place done) mode start n a f g w = rw a refl
-leaf_says d [] (name_on place done np so_far state) mode start n a f g w = rw a refl
-leaf_says d (frame ∷ stack) (name_on place done np so_far state) mode start n a f g w = rw a refl
-leaf_says d [] (colon_due place done np name ne) mode start n a f g w = rw a refl
-leaf_says d (frame ∷ stack) (colon_due place done np name ne) mode start n a f g w = rw a refl
+  number_says : (d : ℕ) (stack : List Frame) (place : ℕ) (so_far : List ℕ) (state : NumberState) (n : ℕ) → EndsAs (number_under so_far state) may_end value
+      → Says d (stack_timed stack ++ []) (last_event NumberOn (inner_of (levels_of stack)) may_end value place) (finish_leaf stack (number_on place so_far state) n)
+  number_says d [] place so_far state n h = rw (h.0) (go (number_may_end state) h.1)
+    where
+      go : (t : Bool) → (t ≡ true → value ≡ value_of so_far) → Says d [] (if t then Some (Some (event_at place (What.Number value))) else None) (if t then Some (number place so_far n) else None)
+      go true v = (number place so_far n, refl, omega arith, rw (v refl) refl)
+      go false v = refl
+  number_says d (in_array p done ∷ stack) place so_far state n h = refl
+  number_says d (in_object p done np name ne ∷ stack) place so_far state n h = refl
+
+  leaf_says : (d : ℕ) (stack : List Frame) (leaf : Leaf) (mode : Mode) (start n : ℕ) → LeafAs leaf mode → EndsAs (under_leaf leaf) may_end value → FitsLeaf d stack leaf → BegunAs leaf start → ConstantAt leaf n
+      → Says d (stack_timed stack ++ leaf_timed leaf) (last_event mode (inner_of (levels_with leaf (levels_of stack))) may_end value start) (finish_leaf stack leaf n)
+  leaf_says d stack (value_done t) mode start n a u f g w = rw a (top_says d stack t n start f.0)
+  leaf_says d stack (number_on place so_far state) mode start n a u f g w = rw (a, g) (number_says d stack place so_far state n u)
+  leaf_says d [] (constant_on which place []) mode start n a u f g w = absurd (omega (arith, w.1))
+  leaf_says d [] (constant_on which place (x ∷ left)) mode start n a u f g w = rw (a.1) refl
+  leaf_says d (frame ∷ stack) (constant_on which place left) mode start n a u f g w = rw (a.1) refl
+  leaf_says d [] value_due mode start n a u f g w = rw a refl
+  leaf_says d (frame ∷ stack) value_due mode start n a u f g w = rw a refl
+  leaf_says d [] (array_opened place) mode start n a u f g w = rw a refl
+  leaf_says d (frame ∷ stack) (array_opened place) mode start n a u f g w = rw a refl
+  leaf_says d [] (object_opened place) mode start n a u f g w = rw a refl
+  leaf_says d (frame ∷ stack) (object_opened place) mode start n a u f g w = rw a refl
+  leaf_says d [] (string_on place so_far state) mode start n a u f g w = rw a refl
+  leaf_says d (frame ∷ stack) (string_on place so_far state) mode start n a u f g w = rw a refl
+  leaf_says d [] (name_due place done) mode start n a u f g w = rw a refl
+  leaf_says d (frame ∷ stack) (name_due place done) mode start n a u f g w = rw a refl
+  leaf_says d [] (name_on place done np so_far state) mode start n a u f g w = rw a refl
+  leaf_says d (frame ∷ stack) (name_on place done np so_far state) mode start n a u f g w = rw a refl
+  leaf_says d [] (colon_due place done np name ne) mode start n a u f g w = rw a refl
+  leaf_says d (frame ∷ stack) (colon_due place done np name ne) mode start n a u f g w = rw a refl
 
 -- ---- a whole text
 
@@ -91,12 +103,13 @@ marked_says d marked before (Some found) o h = (
       ∙ sym (append_assoc (told (mark_events marked)) (told before) (option_to_list found)) ∙ ap (λ xs. xs ++ option_to_list found) (sym (map-append (λ (x : Timed). x.event) (mark_events marked) before)),
 )
 
-text_says : (d : ℕ) (s : Broken) (mode : Mode) (levels : List Level) (start n : ℕ) → StandsAs s mode levels → FitsBroken d s → EdgeAt s start n → TextSays d (seen s) (last_event mode (inner_of levels) start) (finish s n)
-text_says d text_due mode levels start n a f e = rw (a.0) refl
-text_says d mark_one mode levels start n a f e = rw (a.0) refl
-text_says d mark_two mode levels start n a f e = rw (a.0) refl
-text_says d (begun marked s) mode levels start n a f e =
-    rw (a.1) (marked_says d marked (partial_timed s) _ (finish_leaf s.stack s.leaf n) (leaf_says d s.stack s.leaf mode start n a.0 f e.0 e.1))
+module _ (may_end : Bool) (value : Option Exact) where
+  text_says : (d : ℕ) (s : Broken) (mode : Mode) (levels : List Level) (start n : ℕ) → StandsAs s mode levels → EndsAs (under_of s) may_end value → FitsBroken d s → EdgeAt s start n → TextSays d (seen s) (last_event mode (inner_of levels) may_end value start) (finish s n)
+  text_says d text_due mode levels start n a u f e = rw (a.0) refl
+  text_says d mark_one mode levels start n a u f e = rw (a.0) refl
+  text_says d mark_two mode levels start n a u f e = rw (a.0) refl
+  text_says d (begun marked s) mode levels start n a u f e =
+      rw (a.1) (marked_says d marked (partial_timed s) _ (finish_leaf s.stack s.leaf n) (leaf_says may_end value d s.stack s.leaf mode start n a.0 u f e.0 e.1))
 
 -- ---- the reader
 
@@ -115,11 +128,30 @@ ends_go limits mode levels start offset bytes k (Some found) h =
     let s : events_by (length bytes) h.0 ≡ told (seen k.state) = events_seen k.state h.0 (length bytes) start [] (rw (← k.at) k.timely) c in
     (h.0, ((t, h.2), omega (arith, k.at, k.within)), h.3 ∙ ap (λ xs. xs ++ option_to_list found) (sym s))
 
-pub ends : (reader : Reader) (bytes : List ℕ) → reader.fault ≡ None → StandsFor reader bytes → Ends reader.limits reader.offset bytes (last_event reader.mode (inner_of (levels_in reader.levels)) reader.start)
-ends reader bytes live h =
-    let k = well_of reader bytes live h in
-    ends_go reader.limits reader.mode (levels_in reader.levels) reader.start reader.offset bytes k (last_event reader.mode (inner_of (levels_in reader.levels)) reader.start)
-    (text_says reader.limits.depth k.state reader.mode (levels_in reader.levels) reader.start (length bytes) k.kept k.fits (rw (← k.at) k.timely.edge))
+-- what the literal says of the number under way
+abbrev pub LiteralEnds : Reader → Bool → Option Exact → Type 0
+LiteralEnds reader may_end value = (bytes : List ℕ) → LiteralStandsFor reader.literal bytes → ((may_end ≡ true) ↔ IsNumber bytes) × (IsNumber bytes → value ≡ value_of bytes)
+
+ends_as : (u : Under) (reader : Reader) (may_end : Bool) (value : Option Exact) → LiteralEnds reader may_end value → Keeps u reader.literal → EndsAs u may_end value
+ends_as nothing reader may_end value h k = tt
+ends_as (content so_far state) reader may_end value h k = tt
+ends_as (number_under so_far state) reader may_end value h k = (
+  go may_end (number_may_end state) (λ e. ends_by so_far state k.1 ((h so_far k.0).0.0 e)) (λ e. (h so_far k.0).0.1 (number_by so_far state k.1 e)),
+  λ e. (h so_far k.0).1 (number_by so_far state k.1 e),
+)
+  where
+    go : (x y : Bool) → (x ≡ true → y ≡ true) → (y ≡ true → x ≡ true) → x ≡ y
+    go true y f g = sym (f refl)
+    go false true f g = g refl
+    go false false f g = refl
+
+pub ends : (reader : Reader) (bytes : List ℕ) (may_end : Bool) (value : Option Exact) → LiteralEnds reader may_end value → reader.fault ≡ None → StandsFor reader bytes
+    → Ends reader.limits reader.offset bytes (last_event reader.mode (inner_of (levels_in reader.levels)) may_end value reader.start)
+ends reader bytes may_end value l live h =
+    let o = open_of reader bytes live h in
+    let k = o.well in
+    ends_go reader.limits reader.mode (levels_in reader.levels) reader.start reader.offset bytes k (last_event reader.mode (inner_of (levels_in reader.levels)) may_end value reader.start)
+    (text_says may_end value reader.limits.depth k.state reader.mode (levels_in reader.levels) reader.start (length bytes) k.kept (ends_as (under_of k.state) reader may_end value l o.keeps) k.fits (rw (← k.at) k.timely.edge))
 
 well_levels : (limits : Allowed) (mode : Mode) (levels : List Level) (start offset : ℕ) (bytes rest : List ℕ) (text : Text) → StandsWell limits mode levels start offset bytes → IsText text (bytes ++ rest) → length levels ≡ open_at offset text
 well_levels limits mode levels start offset bytes rest text k t =

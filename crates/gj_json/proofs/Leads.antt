@@ -3,7 +3,7 @@ use Rattle.std.proofs.Common.{◌≡◌, ℕ, ◌+◌, ◌⊎◌, inl, inr, Bool
 use Rattle.gj_json.specs.Bytes.{IsWhite}
 use Rattle.gj_json.specs.declared.class.Class.{Class}
 use Rattle.gj_json.specs.declared.class.Class.TheVariants.{White as white, CloseArray as close_array}
-use Rattle.gj_json.specs.declared.mode.NumberState.{NumberState}
+use Rattle.gj_json.specs.NumberStates.{NumberState}
 use Rattle.gj_json.specs.Tree.{Tree, number}
 use Rattle.gj_json.specs.Grammar.{Then, White, Exactly}
 use Rattle.gj_json.specs.Classes.{class_of}

@@ -16,6 +16,9 @@ pub mod Past
 pub mod Telling
 pub mod Opened
 pub mod Depths
+pub mod Comes
+pub mod Literals
+pub mod Alike
 pub mod Reading
 pub mod Quietly
 pub mod Feeding

@@ -1,7 +1,7 @@
 -- The first bytes of a number, and the state that they lead to.
 use Rattle.std.proofs.Common.{◌≡◌, ℕ, true, List, [], ◌∷◌, ◌++◌, Option, Some, None, refl, sym, subst, ◌∙◌}
 use Rattle.std.proofs.lemmas.List.{append-nil}
-use Rattle.gj_json.specs.declared.mode.NumberState.{NumberState}
+use Rattle.gj_json.specs.NumberStates.{NumberState}
 use Rattle.gj_json.specs.Classes.{class_of}
 use Rattle.gj_number.specs.Grammar.{IsNumber}
 use Rattle.gj_json.specs.NumberStates.{number_first, number_next, number_may_end, number_from, number_state}
@@ -11,7 +11,7 @@ use Rattle.gj_json.proofs.Completes.{NumberRest}
 use Rattle.gj_json.proofs.Closing.{number_ending}
 use Rattle.gj_json.proofs.Spelled.{no_number, number_on, number_back}
 
-from_none : (bytes : List ℕ) → number_from None bytes ≡ None
+pub from_none : (bytes : List ℕ) → number_from None bytes ≡ None
 from_none [] = refl
 from_none (b ∷ bytes) = refl
 
@@ -50,7 +50,7 @@ pub record UnderWay (so_far : List ℕ) (s : NumberState) : Type 0 where
   pub begins : BeginsNumber so_far
   pub state : number_state so_far ≡ Some s
 
-under_way : (so_far : List ℕ) (s : NumberState) → number_state so_far ≡ Some s → UnderWay so_far s
+pub under_way : (so_far : List ℕ) (s : NumberState) → number_state so_far ≡ Some s → UnderWay so_far s
 under_way so_far s e = let g = number_ending s in record { begins = (state_some so_far s e, (g.0, state_number so_far g.0 s e g.1)); state = e }
 
 pub number_begun : (b : ℕ) (s : NumberState) → number_first (class_of b) ≡ Some s → UnderWay (b ∷ []) s

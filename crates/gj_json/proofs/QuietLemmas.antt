@@ -1,10 +1,10 @@
 -- White space and digits leave some modes as they are, and bytes of a string its mode.
-use Rattle.std.proofs.Common.{◌≡◌, ℕ, ◌+◌, ◌-◌, ◌<◌, Bool, true, false, cond, List, [], ◌∷◌, ◌++◌, length, take, drop, take-add, get_or, Option, refl, sym, ap, subst, inl, inr, arith}
+use Rattle.std.proofs.Common.{◌≡◌, ℕ, ◌+◌, ◌-◌, ◌<◌, Bool, true, false, cond, List, [], ◌∷◌, ◌++◌, length, take, drop, take-add, get_or, Option, refl, sym, ap, subst, arith}
 use Rattle.std.proofs.lemmas.List.{take_more}
 use Rattle.std.specs.List.{AllByRecursion, prefix_len}
 use Rattle.std.proofs.Math.Numerals.{one-add}
 use Rattle.std.proofs.lemmas.Bool.Decides.{nat_tests}
-use Rattle.gj_json.specs.Bytes.{IsWhite, IsDigit}
+use Rattle.gj_json.specs.Bytes.{IsWhite}
 use Rattle.gj_json.specs.Characters.{IsPlain}
 use Rattle.gj_json.specs.declared.class.Class.TheVariants.{White as white}
 use Rattle.gj_json.specs.declared.mode.Mode.{Mode}
@@ -15,14 +15,14 @@ use Rattle.gj_json.specs.declared.mode.StringMove.TheVariants.{Goes}
 use Rattle.gj_json.specs.declared.mode.StringState.{StringState}
 use Rattle.gj_json.specs.Machine.{string_next}
 use Rattle.gj_json.specs.Moves.{string_move}
-use Rattle.gj_json.specs.Told.{emitted}
+use Rattle.gj_json.specs.Told.{emitted, in_number}
+use Rattle.gj_number.specs.Exact.{Exact}
 use Rattle.gj_json.proofs.Slices.{rest_of}
-use Rattle.gj_json.specs.declared.mode.NumberState.TheVariants.{InDigits, InFraction, InExponent}
 use Rattle.gj_json.specs.declared.mode.StringState.TheVariants.{Plain}
 use Rattle.gj_json.specs.Classes.{class_of}
-use Rattle.gj_json.specs.Quiet.{IsQuiet, Leads, StringLeads, is_plain, is_white, is_digit}
+use Rattle.gj_json.specs.Quiet.{IsQuiet, Leads, StringLeads, is_plain, is_white}
 use Rattle.gj_json.proofs.Classes.{class_is}
-use Rattle.gj_json.proofs.Spelled.{plain_on, digit_class}
+use Rattle.gj_json.proofs.Spelled.{plain_on}
 
 -- the modes in which such bytes are quiet
 abbrev pub PassesWhite : Mode → Type 0
@@ -33,12 +33,6 @@ PassesWhite ObjectOpened = Unit {0}
 PassesWhite NameDue = Unit {0}
 PassesWhite ColonDue = Unit {0}
 PassesWhite _ = ⊥
-
-abbrev pub PassesDigits : Mode → Type 0
-PassesDigits (NumberOn InDigits) = Unit {0}
-PassesDigits (NumberOn InFraction) = Unit {0}
-PassesDigits (NumberOn InExponent) = Unit {0}
-PassesDigits _ = ⊥
 
 -- what passes a test, up to the first byte that does not
 all_run : (p : ℕ → Bool) (P : ℕ → Type 0) → ((b : ℕ) → p b ≡ true → P b) → (xs : List ℕ) → AllByRecursion P (take (prefix_len p xs) xs)
@@ -63,31 +57,19 @@ class_white : (b : ℕ) → is_white b ≡ true → class_of b ≡ white
 class_white b e = class_is white b (white_is b e) (λ e. cc)
 
 quiet_white : (mode : Mode) → PassesWhite mode → (b : ℕ) → is_white b ≡ true → IsQuiet mode b
-quiet_white ValueDue h b e = λ inner. rw (class_white b e) refl
-quiet_white ValueDone h b e = λ inner. rw (class_white b e) refl
-quiet_white ArrayOpened h b e = λ inner. rw (class_white b e) refl
-quiet_white ObjectOpened h b e = λ inner. rw (class_white b e) refl
-quiet_white NameDue h b e = λ inner. rw (class_white b e) refl
-quiet_white ColonDue h b e = λ inner. rw (class_white b e) refl
+quiet_white ValueDue h b e = λ turn inner. rw (class_white b e) refl
+quiet_white ValueDone h b e = λ turn inner. rw (class_white b e) refl
+quiet_white ArrayOpened h b e = λ turn inner. rw (class_white b e) refl
+quiet_white ObjectOpened h b e = λ turn inner. rw (class_white b e) refl
+quiet_white NameDue h b e = λ turn inner. rw (class_white b e) refl
+quiet_white ColonDue h b e = λ turn inner. rw (class_white b e) refl
 quiet_white _ h b e = absurd h
-
-digit_is : (b : ℕ) → is_digit b ≡ true → IsDigit b
-digit_is b e = (grind (arith, nat_tests), grind (arith, nat_tests))
-
-quiet_digit : (mode : Mode) → PassesDigits mode → (b : ℕ) → is_digit b ≡ true → IsQuiet mode b
-quiet_digit (NumberOn InDigits) h b e = λ inner. elim (digit_class b (digit_is b e)) [ inl c ↦ rw c refl | inr c ↦ rw c refl ]
-quiet_digit (NumberOn InFraction) h b e = λ inner. elim (digit_class b (digit_is b e)) [ inl c ↦ rw c refl | inr c ↦ rw c refl ]
-quiet_digit (NumberOn InExponent) h b e = λ inner. elim (digit_class b (digit_is b e)) [ inl c ↦ rw c refl | inr c ↦ rw c refl ]
-quiet_digit _ h b e = absurd h
 
 pub plain_run : (xs : List ℕ) → StringLeads Plain (take (prefix_len is_plain xs) xs) Plain
 plain_run xs = plain_leads (take (prefix_len is_plain xs) xs) (all_run is_plain IsPlain plain_is xs)
 
 pub white_run : (mode : Mode) → PassesWhite mode → (xs : List ℕ) → AllByRecursion (IsQuiet mode) (take (prefix_len is_white xs) xs)
 white_run mode h xs = all_run is_white (IsQuiet mode) (quiet_white mode h) xs
-
-pub digit_run : (mode : Mode) → PassesDigits mode → (xs : List ℕ) → AllByRecursion (IsQuiet mode) (take (prefix_len is_digit xs) xs)
-digit_run mode h xs = all_run is_digit (IsQuiet mode) (quiet_digit mode h) xs
 
 -- ---- one front of a piece after another
 
@@ -110,28 +92,33 @@ leads_byte a b c piece at w h g =
 
 pub string_leads : (a b : StringState) (xs : List ℕ) → StringLeads a xs b → Leads (StringOn a) xs (StringOn b)
 string_leads a b [] h = ap (λ (s : StringState). StringOn s) h
-string_leads a b (x ∷ xs) h = (StringOn h.0, record { moves = λ inner. rw (h.1) refl; on = refl; nothing = λ inner start n. refl }, string_leads h.0 b xs h.2)
+string_leads a b (x ∷ xs) h = (StringOn h.0, record { moves = λ turn inner. rw (h.1) refl; on = refl; nothing = λ inner value start n. refl }, string_leads h.0 b xs h.2)
 
 pub name_leads : (a b : StringState) (xs : List ℕ) → StringLeads a xs b → Leads (NameOn a) xs (NameOn b)
 name_leads a b [] h = ap (λ (s : StringState). NameOn s) h
-name_leads a b (x ∷ xs) h = (NameOn h.0, record { moves = λ inner. rw (h.1) refl; on = refl; nothing = λ inner start n. refl }, name_leads h.0 b xs h.2)
+name_leads a b (x ∷ xs) h = (NameOn h.0, record { moves = λ turn inner. rw (h.1) refl; on = refl; nothing = λ inner value start n. refl }, name_leads h.0 b xs h.2)
 
 -- a move to the same mode completes nothing
-quiet_events : (mode : Mode) (inner : Option Level) (start n : ℕ) → emitted mode inner (Go mode) start n ≡ []
-quiet_events TextDue inner start n = refl
-quiet_events MarkOne inner start n = refl
-quiet_events MarkTwo inner start n = refl
-quiet_events ValueDue inner start n = refl
-quiet_events ValueDone inner start n = refl
-quiet_events ArrayOpened inner start n = refl
-quiet_events ObjectOpened inner start n = refl
-quiet_events (ConstantOn which count) inner start n = refl
-quiet_events (NumberOn state) inner start n = refl
-quiet_events (StringOn state) inner start n = refl
-quiet_events NameDue inner start n = refl
-quiet_events (NameOn state) inner start n = refl
-quiet_events ColonDue inner start n = refl
+quiet_events : (mode : Mode) (inner : Option Level) (value : Option Exact) (start n : ℕ) → emitted mode inner (Go mode) value start n ≡ []
+quiet_events TextDue inner value start n = refl
+quiet_events MarkOne inner value start n = refl
+quiet_events MarkTwo inner value start n = refl
+quiet_events ValueDue inner value start n = refl
+quiet_events ValueDone inner value start n = refl
+quiet_events ArrayOpened inner value start n = refl
+quiet_events ObjectOpened inner value start n = refl
+quiet_events (ConstantOn which count) inner value start n = refl
+quiet_events NumberOn inner value start n = refl
+quiet_events (StringOn state) inner value start n = refl
+quiet_events NameDue inner value start n = refl
+quiet_events (NameOn state) inner value start n = refl
+quiet_events ColonDue inner value start n = refl
 
 pub quiet_leads : (mode : Mode) (xs : List ℕ) → AllByRecursion (IsQuiet mode) xs → Leads mode xs mode
 quiet_leads mode [] h = refl
 quiet_leads mode (x ∷ xs) h = (mode, record { moves = h.0; on = refl; nothing = quiet_events mode }, quiet_leads mode xs h.1)
+
+-- a mode in which no number is under way
+pub other_mode : (mode : Mode) → (mode ≡ NumberOn → ⊥) → in_number mode ≡ false
+other_mode NumberOn h = absurd (h refl)
+other_mode _ h = refl

@@ -1,5 +1,5 @@
 -- Bytes that complete nothing, in a row.
-use Rattle.std.proofs.Common.{◌≡◌, ℕ, ◌+◌, ◌≤◌, ◌<◌, List, [], ◌∷◌, ◌++◌, length, Option, Some, None, refl, sym, subst, ◌∙◌, arith, append_assoc, append-nil}
+use Rattle.std.proofs.Common.{◌≡◌, ℕ, ◌+◌, ◌≤◌, ◌<◌, true, List, [], ◌∷◌, ◌++◌, length, Option, Some, None, refl, sym, subst, ◌∙◌, arith, append_assoc, append-nil}
 use Rattle.gj_json.specs.declared.event.Event.{Event}
 use Rattle.gj_json.specs.declared.levels.Level.{Level}
 use Rattle.gj_json.specs.declared.mode.Mode.{Mode}
@@ -12,7 +12,17 @@ use Rattle.gj_json.specs.Moves.{move_of}
 use Rattle.gj_json.specs.Quiet.{LeadsBy, Leads}
 use Rattle.gj_json.specs.Reader.{Completed}
 use Rattle.gj_json.specs.Seen.{EdgeAt, BegunAs, seen}
-use Rattle.gj_json.specs.Stands.{StandsWell, StandsAs, LeafAs, FitsBroken}
+use Rattle.gj_json.specs.Stands.{StandsWell, StandsOpen, StandsAs, LeafAs, FitsBroken}
+use Rattle.gj_number.specs.Grammar.{BeginsNumber}
+use Rattle.gj_number.specs.declared.literal.Literal.{Literal}
+use Rattle.gj_number.specs.Literal.{StandsFor as LiteralStandsFor}
+use Rattle.gj_json.specs.declared.mode.Mode.TheVariants.{NumberOn}
+use Rattle.gj_json.specs.declared.mode.Move.TheVariants.{Go}
+use Rattle.gj_json.specs.declared.mode.NumberTurn.{NumberTurn}
+use Rattle.gj_json.specs.NumberStates.{NumberState, number_state}
+use Rattle.gj_json.specs.Under.{Under, nothing, number, content, under_of, ComesFrom, Keeps, Turns}
+use Rattle.gj_json.proofs.Comes.{is_number, CameTo, step_came, mode_under}
+use Rattle.gj_json.proofs.Literals.{own_turn, own_turns, own_value, own_has, goes_on, came_number, number_front}
 use Rattle.gj_json.specs.Told.{emitted, is_on, start_after}
 use Rattle.gj_json.proofs.Completes.{Goes}
 use Rattle.gj_json.proofs.Simulation.{moves}
@@ -38,31 +48,105 @@ edge_start mark_one mode next levels start n m on a h = h
 edge_start mark_two mode next levels start n m on a h = h
 edge_start (begun marked s) mode next levels start n m on a h = (leaf_start s.leaf mode next start n on a.0 h.0, h.1)
 
-module _ (limits : Allowed) (levels : List Level) (start : ℕ) where
-  quiet_byte : (mode next : Mode) (offset : ℕ) (bytes : List ℕ) (b : ℕ) → StandsWell limits mode levels start offset bytes → offset < limits.bytes → LeadsBy mode b next → StandsWell limits next levels start (offset + 1) (bytes ++ b ∷ [])
-  quiet_byte mode next offset bytes b k room q =
-      go (step k.state (length bytes) b) refl (rw (q.moves (inner_of levels)) at (moves limits.depth k.state mode levels (length bytes) b k.kept k.fits)) (told_by_step limits mode levels start offset bytes b k)
-    where
-      go : (o : Option Broken) → step k.state (length bytes) b ≡ o → Goes (λ s. StandsAs s next levels × FitsBroken limits.depth s) o
-          → Tells (seen k.state) (start_after mode start offset) offset (emitted mode (inner_of levels) (move_of mode (inner_of levels) b) start offset) o → StandsWell limits next levels start (offset + 1) (bytes ++ b ∷ [])
-      go None e h t = absurd h
-      go (Some s) e h t =
-          let w = passed limits mode levels start offset bytes b k s next levels (emitted mode (inner_of levels) (move_of mode (inner_of levels) b) start offset) room e h.0 h.1 t in
-          record {
-            state = w.state;
-            runs = w.runs;
-            fits = w.fits;
-            kept = w.kept;
-            at = w.at;
-            within = w.within;
-            timely = record { seen_by = w.timely.seen_by; edge = edge_start w.state mode next levels start offset (offset + 1) q.on w.kept w.timely.edge };
-          }
+-- bytes after bytes, of which neither complete anything
+no_more : (offset n : ℕ) (bytes : List ℕ) (b : ℕ) (run : List ℕ) → Completed offset (offset + 1) (bytes ++ b ∷ []) [] → Completed (offset + 1) n ((bytes ++ b ∷ []) ++ run) [] → Completed offset n (bytes ++ (b ∷ run)) []
+no_more offset n bytes b run c d = λ T rest t.
+    let u : IsText T (((bytes ++ b ∷ []) ++ run) ++ rest) = rw (append_assoc bytes (b ∷ []) run) t in
+    let v : IsText T ((bytes ++ b ∷ []) ++ (run ++ rest)) = rw (append_assoc (bytes ++ b ∷ []) run rest) at u in
+    d T rest u ∙ append-nil (events_by (offset + 1) T) ∙ c T (run ++ rest) v
 
-  quiet_completed : (mode next : Mode) (offset : ℕ) (bytes : List ℕ) (b : ℕ) → StandsWell limits mode levels start offset bytes → LeadsBy mode b next → Completed offset (offset + 1) (bytes ++ b ∷ []) []
-  quiet_completed mode next offset bytes b k q =
-      let e : emitted mode (inner_of levels) (move_of mode (inner_of levels) b) start offset ≡ [] = rw (q.moves (inner_of levels)) (q.nothing (inner_of levels) start offset) in
+module _ (limits : Allowed) (levels : List Level) (start : ℕ) where
+  -- a byte that leads to another mode, by what it does to the number under way
+  byte_well : (mode next : Mode) (offset : ℕ) (bytes : List ℕ) (b : ℕ) (k : StandsWell limits mode levels start offset bytes) (turn : NumberTurn) → Turns (under_of k.state) b turn → offset < limits.bytes
+      → move_of mode turn (inner_of levels) b ≡ Go next → is_on mode ≡ is_on next → (w : StandsWell limits next levels start (offset + 1) (bytes ++ b ∷ [])) × ComesFrom (under_of k.state) b (under_of w.state)
+  unfolding passed
+  byte_well mode next offset bytes b k turn t room m on =
+      go (step k.state (length bytes) b) refl (rw m at (moves limits.depth k.state mode turn levels (length bytes) b k.kept t k.fits))
+      (told_by_step limits mode levels start offset bytes b k turn (own_value (under_of k.state)) t (own_has (under_of k.state) turn)) (step_came k.state (length bytes) b)
+    where
+      es : List Event
+      es = emitted mode (inner_of levels) (move_of mode turn (inner_of levels) b) (own_value (under_of k.state)) start offset
+
+      go : (o : Option Broken) → step k.state (length bytes) b ≡ o → Goes (λ s. StandsAs s next levels × FitsBroken limits.depth s) o
+          → Tells (seen k.state) (start_after mode start offset) offset es o → CameTo (under_of k.state) b o → (w : StandsWell limits next levels start (offset + 1) (bytes ++ b ∷ [])) × ComesFrom (under_of k.state) b (under_of w.state)
+      go None e f h c = absurd f
+      go (Some s) e f h c =
+          let w = passed limits mode levels start offset bytes b k s next levels es room e f.0 f.1 h in (
+            record {
+              state = s;
+              runs = w.runs;
+              fits = w.fits;
+              kept = w.kept;
+              at = w.at;
+              within = w.within;
+              timely = record { seen_by = w.timely.seen_by; edge = edge_start s mode next levels start offset (offset + 1) on f.0 w.timely.edge };
+            },
+            c,
+          )
+
+  byte_completes : (mode next : Mode) (offset : ℕ) (bytes : List ℕ) (b : ℕ) (k : StandsWell limits mode levels start offset bytes) (turn : NumberTurn) → Turns (under_of k.state) b turn
+      → move_of mode turn (inner_of levels) b ≡ Go next → emitted mode (inner_of levels) (Go next) (own_value (under_of k.state)) start offset ≡ [] → Completed offset (offset + 1) (bytes ++ b ∷ []) []
+  byte_completes mode next offset bytes b k turn t m n =
+      let e : emitted mode (inner_of levels) (move_of mode turn (inner_of levels) b) (own_value (under_of k.state)) start offset ≡ [] = rw m n in
       let P : List Event → Type 0 = λ es. Completed offset (offset + 1) (bytes ++ b ∷ []) es in
-      subst P e (completed_from limits mode levels start offset bytes b k)
+      subst P e (completed_from limits mode levels start offset bytes b k turn (own_value (under_of k.state)) t (own_has (under_of k.state) turn))
+
+  quiet_byte : (mode next : Mode) (offset : ℕ) (bytes : List ℕ) (b : ℕ) → StandsWell limits mode levels start offset bytes → offset < limits.bytes → LeadsBy mode b next
+      → StandsWell limits next levels start (offset + 1) (bytes ++ b ∷ []) × Completed offset (offset + 1) (bytes ++ b ∷ []) []
+  quiet_byte mode next offset bytes b k room q =
+      let turn = own_turn (under_of k.state) b in
+      let t = own_turns (under_of k.state) b in (
+        (byte_well mode next offset bytes b k turn t room (q.moves turn (inner_of levels)) q.on).0,
+        byte_completes mode next offset bytes b k turn t (q.moves turn (inner_of levels)) (q.nothing (inner_of levels) (own_value (under_of k.state)) start offset),
+      )
+
+  -- the number under way behind the bytes
+  record AfterDigits (from to : ℕ) (bytes so_far : List ℕ) : Type 0 where
+    pub well : StandsWell limits NumberOn levels start to bytes
+    pub state : NumberState
+    pub under : under_of well.state ≡ number so_far state
+    pub leads : number_state so_far ≡ Some state
+    pub nothing_more : Completed from to bytes []
+
+  -- digits that go on in a number
+  digits_well : (run so_far : List ℕ) (state : NumberState) (offset : ℕ) (bytes : List ℕ) (k : StandsWell limits NumberOn levels start offset bytes) → under_of k.state ≡ number so_far state → number_state so_far ≡ Some state
+      → BeginsNumber (so_far ++ run) → offset + length run ≤ limits.bytes → AfterDigits offset (offset + length run) (bytes ++ run) (so_far ++ run)
+  digits_well [] so_far state offset bytes k u n h room =
+      let e : offset ≡ offset + 0 = omega arith in
+      let P : ℕ → Type 0 = λ to. AfterDigits offset to (bytes ++ []) (so_far ++ []) in
+      subst P e (rw (append-nil bytes, append-nil so_far) (record { well = k; state = state; under = u; leads = n; nothing_more = λ T rest t. sym (append-nil (events_by offset T)) }))
+  digits_well (b ∷ run) so_far state offset bytes k u n h room =
+      let more : BeginsNumber ((so_far ++ b ∷ []) ++ run) = rw (append_assoc so_far (b ∷ []) run) h in
+      let goes : BeginsNumber (so_far ++ b ∷ []) = number_front (so_far ++ b ∷ []) run more in
+      let t : Turns (under_of k.state) b NumberTurn.Goes = rw u (goes_on so_far b state n goes) in
+      let w = byte_well NumberOn NumberOn offset bytes b k NumberTurn.Goes t (omega arith) refl refl in
+      let c : ComesFrom (number so_far state) b (under_of w.0.state) = rw u at w.1 in
+      let next = came_number so_far state b n (under_of w.0.state) (sym (mode_under w.0.state NumberOn levels w.0.kept)) c in
+      let d = byte_completes NumberOn NumberOn offset bytes b k NumberTurn.Goes t refl refl in
+      let g = digits_well run (so_far ++ b ∷ []) next.0 (offset + 1) (bytes ++ b ∷ []) w.0 next.1 next.2 more (omega arith) in
+      let e : offset + 1 + length run ≡ offset + length (b ∷ run) = omega arith in
+      let P : ℕ → Type 0 = λ to. AfterDigits offset to (bytes ++ (b ∷ run)) (so_far ++ (b ∷ run)) in
+      let Q : List ℕ → Type 0 = λ xs. AfterDigits (offset + 1) (offset + 1 + length run) ((bytes ++ b ∷ []) ++ run) xs in
+      let j : AfterDigits (offset + 1) (offset + 1 + length run) ((bytes ++ b ∷ []) ++ run) (so_far ++ (b ∷ run)) = subst Q (append_assoc so_far (b ∷ []) run) g in
+      subst P e (earlier offset (offset + 1 + length run) bytes b run (so_far ++ (b ∷ run)) d j)
+    where
+      earlier : (offset to : ℕ) (bytes : List ℕ) (b : ℕ) (run so_far : List ℕ) → Completed offset (offset + 1) (bytes ++ b ∷ []) [] → AfterDigits (offset + 1) to ((bytes ++ b ∷ []) ++ run) so_far → AfterDigits offset to (bytes ++ (b ∷ run)) so_far
+      earlier offset to bytes b run so_far d g =
+          let P : List ℕ → Type 0 = λ xs. Completed offset to xs [] → AfterDigits offset to xs so_far in
+          subst P (append_assoc bytes (b ∷ []) run) (λ n. record { well = g.well; state = g.state; under = g.under; leads = g.leads; nothing_more = n }) (no_more offset to bytes b run d g.nothing_more)
+
+  pub digits_run : (run : List ℕ) (old new : Literal) (offset : ℕ) (bytes : List ℕ) → StandsOpen limits NumberOn levels old start offset bytes
+      → ((so_far : List ℕ) → LiteralStandsFor old so_far → LiteralStandsFor new (so_far ++ run) × BeginsNumber (so_far ++ run)) → offset + length run ≤ limits.bytes
+      → StandsOpen limits NumberOn levels new start (offset + length run) (bytes ++ run) × Completed offset (offset + length run) (bytes ++ run) []
+  digits_run run old new offset bytes k goes room = go (under_of k.well.state) refl k.keeps (sym (mode_under k.well.state NumberOn levels k.well.kept))
+    where
+      go : (u : Under) → under_of k.well.state ≡ u → Keeps u old → is_number u ≡ true → StandsOpen limits NumberOn levels new start (offset + length run) (bytes ++ run) × Completed offset (offset + length run) (bytes ++ run) []
+      go nothing e h n = cc
+      go (content so_far state) e h n = cc
+      go (number so_far state) e h n =
+          let f = goes so_far h.0 in
+          let d = digits_well run so_far state offset bytes k.well e h.1 f.1 room in
+          (record { well = d.well; keeps = rw (d.under) (f.0, d.leads) }, d.nothing_more)
 
   pub quiet_run : (run : List ℕ) (mode last : Mode) (offset : ℕ) (bytes : List ℕ) → StandsWell limits mode levels start offset bytes → offset + length run ≤ limits.bytes → Leads mode run last
       → StandsWell limits last levels start (offset + length run) (bytes ++ run) × Completed offset (offset + length run) (bytes ++ run) []
@@ -75,14 +159,8 @@ module _ (limits : Allowed) (levels : List Level) (start : ℕ) where
       (subst P e (rw (append-nil bytes) j), subst Q e (λ T rest t. sym (append-nil (events_by offset T))))
   quiet_run (b ∷ run) mode last offset bytes k room q =
       let w = quiet_byte mode q.0 offset bytes b k (omega arith) q.1 in
-      let c = quiet_completed mode q.0 offset bytes b k q.1 in
-      let g = quiet_run run q.0 last (offset + 1) (bytes ++ b ∷ []) w (omega arith) q.2 in
+      let g = quiet_run run q.0 last (offset + 1) (bytes ++ b ∷ []) w.0 (omega arith) q.2 in
       let e : offset + 1 + length run ≡ offset + length (b ∷ run) = omega arith in
       let P : ℕ → Type 0 = λ n. StandsWell limits last levels start n (bytes ++ (b ∷ run)) in
-      let Q : ℕ → Type 0 = λ n. Completed offset n (bytes ++ (b ∷ run)) [] in (
-        subst P e (rw (← append_assoc bytes (b ∷ []) run) g.0),
-        subst Q e (λ T rest t.
-            let u : IsText T (((bytes ++ b ∷ []) ++ run) ++ rest) = rw (append_assoc bytes (b ∷ []) run) t in
-            let v : IsText T ((bytes ++ b ∷ []) ++ (run ++ rest)) = rw (append_assoc (bytes ++ b ∷ []) run rest) at u in
-            g.1 T rest u ∙ append-nil (events_by (offset + 1) T) ∙ c T (run ++ rest) v),
-      )
+      let Q : ℕ → Type 0 = λ n. Completed offset n (bytes ++ (b ∷ run)) [] in
+      (subst P e (rw (← append_assoc bytes (b ∷ []) run) g.0), subst Q e (no_more offset (offset + 1 + length run) bytes b run w.1 g.1))

@@ -1,5 +1,5 @@
 -- What a byte leaves and answers.
-use Rattle.std.proofs.Common.{◌≡◌, ℕ, ◌+◌, ◌≤◌, ◌<◌, inl, inr, List, [], ◌∷◌, ◌++◌, length, Option, Some, None, Result, refl, sym, ap, subst, ◌∙◌, arith, append_assoc}
+use Rattle.std.proofs.Common.{◌≡◌, ℕ, ◌+◌, ◌≤◌, ◌<◌, inl, inr, List, [], ◌∷◌, ◌++◌, length, Option, Some, None, Result, Ok, refl, sym, ap, subst, ◌∙◌, arith, append_assoc}
 use Rattle.std.proofs.lemmas.List.{length-append, map-append}
 use Rattle.std.proofs.lemmas.Bool.Decides.{eqb_tells}
 use Rattle.gj_json.specs.declared.event.Event.{Event}
@@ -22,8 +22,13 @@ use Rattle.gj_json.specs.Machine.{Broken, text_due, mark_one, mark_two, begun, s
 use Rattle.gj_json.specs.Moves.{move_of}
 use Rattle.gj_json.specs.Reader.{StandsFor, Answers, Completed}
 use Rattle.gj_json.specs.Seen.{seen}
-use Rattle.gj_json.specs.Stands.{StandsWell, StandsRefused, StandsAs, FitsBroken}
-use Rattle.gj_json.specs.Step.{RefusesWith, PassesTo, Applied, opened}
+use Rattle.gj_json.specs.Stands.{StandsWell, StandsOpen, StandsRefused, StandsAs, FitsBroken}
+use Rattle.gj_json.specs.Step.{RefusesWith, PassesTo, Applied, opened, move_by, told_by, Takes}
+use Rattle.gj_number.specs.Exact.{Exact}
+use Rattle.gj_json.specs.declared.mode.NumberTurn.{NumberTurn}
+use Rattle.gj_json.specs.Under.{under_of, Keeps, Turns, HasValue, LiteralSays, LiteralGoes}
+use Rattle.gj_json.proofs.Comes.{CameTo, step_came, mode_under}
+use Rattle.gj_json.proofs.Literals.{turns_by, keeps_on}
 use Rattle.gj_json.specs.Told.{emitted, start_after}
 use Rattle.gj_json.proofs.Completes.{Goes, TextFrom}
 use Rattle.gj_json.proofs.Texts.{text_goes_on}
@@ -97,7 +102,7 @@ module _ (limits : Allowed) (mode : Mode) (levels : List Level) (start offset : 
       (stop k, room, some_viable (limits.depth + 1) (bytes ++ b ∷ []) next r f, too_deep next inner level r a l)
 
   -- the state behind a byte that passes
-  pub passed : (k : Old) (next : Broken) (mode' : Mode) (levels' : List Level) (es : List Event) → offset < limits.bytes → step k.state (length bytes) b ≡ Some next → StandsAs next mode' levels' → FitsBroken limits.depth next
+  unfoldable pub passed : (k : Old) (next : Broken) (mode' : Mode) (levels' : List Level) (es : List Event) → offset < limits.bytes → step k.state (length bytes) b ≡ Some next → StandsAs next mode' levels' → FitsBroken limits.depth next
       → Tells (seen k.state) (start_after mode start offset) offset es (Some next) → StandsWell limits mode' levels' (start_after mode start offset) (offset + 1) (bytes ++ b ∷ [])
   passed k next mode' levels' es room e a f t =
       let l : length (bytes ++ b ∷ []) ≡ length bytes + 1 = omega (arith, length-append bytes (b ∷ [])) in
@@ -111,18 +116,29 @@ module _ (limits : Allowed) (mode : Mode) (levels : List Level) (start offset : 
         timely = timely_on (seen k.state) (start_after mode start offset) offset es next k.timely.seen_by t;
       }
 
-  pub told_by_step : (k : Old) → Tells (seen k.state) (start_after mode start offset) offset (emitted mode (inner_of levels) (move_of mode (inner_of levels) b) start offset) (step k.state (length bytes) b)
-  told_by_step k = let e : length bytes ≡ offset = sym k.at in rw e (step_tells k.state mode levels start offset b k.kept k.timely.edge)
+  pub told_by_step : (k : Old) (turn : NumberTurn) (value : Option Exact) → Turns (under_of k.state) b turn → HasValue (under_of k.state) turn value
+      → Tells (seen k.state) (start_after mode start offset) offset (emitted mode (inner_of levels) (move_of mode turn (inner_of levels) b) value start offset) (step k.state (length bytes) b)
+  told_by_step k turn value t v = let e : length bytes ≡ offset = sym k.at in rw e (step_tells value k.state mode turn levels start offset b k.kept t v k.timely.edge)
 
 -- ---- a byte, from reader to reader
 
+pub open_of : (reader : Reader) (bytes : List ℕ) → reader.fault ≡ None → StandsFor reader bytes → StandsOpen reader.limits reader.mode (levels_in reader.levels) reader.literal reader.start reader.offset bytes
+open_of reader bytes live h = rw live at h
+
 pub well_of : (reader : Reader) (bytes : List ℕ) → reader.fault ≡ None → StandsFor reader bytes → StandsWell reader.limits reader.mode (levels_in reader.levels) reader.start reader.offset bytes
-well_of reader bytes live h = rw live at h
+well_of reader bytes live h = (open_of reader bytes live h).well
+
+-- what is kept of the number under way behind the byte
+next_keeps : (old new : Reader) (b : ℕ) (bytes : List ℕ) (k : StandsOpen old.limits old.mode (levels_in old.levels) old.literal old.start old.offset bytes) (turn : NumberTurn) → Turns (under_of k.well.state) b turn → LiteralGoes old new b turn
+    → (next : Broken) (mode : Mode) (levels : List Level) → step k.well.state (length bytes) b ≡ Some next → StandsAs next mode levels → new.mode ≡ mode → Keeps (under_of next) new.literal
+next_keeps old new b bytes k turn t g next mode levels e a m =
+    let c : CameTo (under_of k.well.state) b (Some next) = (let j = step_came k.well.state (length bytes) b in rw e at j) in
+    keeps_on (under_of k.well.state) (under_of next) old new b turn c k.keeps t g (mode_under k.well.state old.mode (levels_in old.levels) k.well.kept) (rw m (mode_under next mode levels a))
 
 passes_on : (old new : Reader) (b : ℕ) (bytes : List ℕ) (mode : Mode) (levels : List Level) (result : Result (Unit {0}) JsonFault) → old.fault ≡ None → PassesTo mode levels old new result
-    → StandsWell old.limits mode levels (start_after old.mode old.start old.offset) (old.offset + 1) (bytes ++ b ∷ []) → StandsFor new (bytes ++ b ∷ []) × Answers old.limits (bytes ++ b ∷ []) result
-passes_on old new b bytes mode levels result live p w = (
-  rw (p.passes.fault, live, p.passes.limits, p.passes.mode_is, p.passes.levels_are, p.passes.start, p.passes.offset) w,
+    → (w : StandsWell old.limits mode levels (start_after old.mode old.start old.offset) (old.offset + 1) (bytes ++ b ∷ [])) → Keeps (under_of w.state) new.literal → StandsFor new (bytes ++ b ∷ []) × Answers old.limits (bytes ++ b ∷ []) result
+passes_on old new b bytes mode levels result live p w keeps = (
+  rw (p.passes.fault, live, p.passes.limits, p.passes.mode_is, p.passes.levels_are, p.passes.start, p.passes.offset) (record { well = w; keeps = keeps }),
   rw (p.answer) (well_viable old.limits.depth (bytes ++ b ∷ []) w.state w.runs w.fits, omega (arith, w.at, w.within)),
 )
 
@@ -134,39 +150,48 @@ refuses_on old new b bytes cause result w r y f =
     let k : StandsRefused old.limits r.fault old.mode (levels_in old.levels) old.start old.offset (bytes ++ b ∷ []) = record { by_byte = i; refusal = g; place = r.refused.place; taken = bytes; rest = b ∷ []; split = refl; well = w } in
     (rw (r.refused.kept, r.refused.limits, r.refused.mode_is, r.refused.levels_are, r.refused.start, r.refused.offset) k, rw (r.answer) (g, λ more. lasts old.limits (bytes ++ b ∷ []) more r.fault.cause r.fault.place i g))
 
-answered : (old new : Reader) (b : ℕ) (bytes : List ℕ) (result : Result (Unit {0}) JsonFault) (made : Move) (es : List Event) (o : Option Broken) → old.fault ≡ None → old.offset < old.limits.bytes → length (levels_in old.levels) ≤ old.limits.depth
-    → (k : StandsWell old.limits old.mode (levels_in old.levels) old.start old.offset bytes) → step k.state (length bytes) b ≡ o → Applied made old new result → Follows old.limits.depth (levels_in old.levels) made o
-    → Follows (old.limits.depth + 1) (levels_in old.levels) made o → Tells (seen k.state) (start_after old.mode old.start old.offset) old.offset es o → StandsFor new (bytes ++ b ∷ []) × Answers old.limits (bytes ++ b ∷ []) result
-answered old new b bytes result Refuse es o live room nested k e w h g t =
-    refuses_on old new b bytes Syntax result k w tt (syntax_refused old.limits old.mode (levels_in old.levels) old.start old.offset bytes b k room (e ∙ h))
-answered old new b bytes result (Go mode) es None live room nested k e w h g t = absurd h
-answered old new b bytes result (Go mode) es (Some next) live room nested k e w h g t =
-    passes_on old new b bytes mode (levels_in old.levels) result live w (passed old.limits old.mode (levels_in old.levels) old.start old.offset bytes b k next mode (levels_in old.levels) es room e h.0 h.1 t)
-answered old new b bytes result (Open level) es None live room nested k e w h g t = absurd h
-answered old new b bytes result (Open level) es (Some next) live room nested k e w h g t = elim (eqb_tells (length (levels_in old.levels)) old.limits.depth) [
-  | inl u ↦ refuses_on old new b bytes Depth result k (w.0 u.1) tt (depth_refused old.limits old.mode (levels_in old.levels) old.start old.offset bytes b k next (opened level) level room e h.0 u.1 (g.1 (omega (arith, u.1))))
-  | inr u ↦ (let less : length (levels_in old.levels) < old.limits.depth = omega (arith, u.1) in
-      passes_on old new b bytes (opened level) (level ∷ levels_in old.levels) result live (w.1 less)
-      (passed old.limits old.mode (levels_in old.levels) old.start old.offset bytes b k next (opened level) (level ∷ levels_in old.levels) es room e h.0 (h.1 (omega arith)) t))
-]
-answered old new b bytes result Close es None live room nested k e w h g t = absurd h
-answered old new b bytes result Close es (Some next) live room nested k e w h g t =
-    passes_on old new b bytes ValueDone (outer_of (levels_in old.levels)) result live w (passed old.limits old.mode (levels_in old.levels) old.start old.offset bytes b k next ValueDone (outer_of (levels_in old.levels)) es room e h.0 h.1 t)
+module _ (old new : Reader) (b : ℕ) (bytes : List ℕ) (result : Result (Unit {0}) JsonFault) (live : old.fault ≡ None) (room : old.offset < old.limits.bytes) (nested : length (levels_in old.levels) ≤ old.limits.depth)
+    (turn : NumberTurn) (goes : result ≡ Ok tt → LiteralGoes old new b turn) (k : StandsOpen old.limits old.mode (levels_in old.levels) old.literal old.start old.offset bytes) (turns : Turns (under_of k.well.state) b turn) where
+  abbrev Answer : Type 0
+  Answer = StandsFor new (bytes ++ b ∷ []) × Answers old.limits (bytes ++ b ∷ []) result
 
-abbrev pub move_by : Reader → ℕ → Move
-move_by reader b = move_of reader.mode (inner_of (levels_in reader.levels)) b
+  -- a byte that passes
+  goes_on : (es : List Event) (next : Broken) (mode : Mode) (levels : List Level) → step k.well.state (length bytes) b ≡ Some next → PassesTo mode levels old new result → StandsAs next mode levels → FitsBroken old.limits.depth next
+      → Tells (seen k.well.state) (start_after old.mode old.start old.offset) old.offset es (Some next) → Answer
+  unfolding passed
+  goes_on es next mode levels e w a f t =
+      passes_on old new b bytes mode levels result live w (passed old.limits old.mode (levels_in old.levels) old.start old.offset bytes b k.well next mode levels es room e a f t)
+      (next_keeps old new b bytes k turn turns (goes w.answer) next mode levels e a w.passes.mode_is)
 
-abbrev pub told_by : Reader → ℕ → List Event
-told_by reader b = emitted reader.mode (inner_of (levels_in reader.levels)) (move_by reader b) reader.start reader.offset
+  answered : (made : Move) (es : List Event) (o : Option Broken) → step k.well.state (length bytes) b ≡ o → Applied made old new result → Follows old.limits.depth (levels_in old.levels) made o
+      → Follows (old.limits.depth + 1) (levels_in old.levels) made o → Tells (seen k.well.state) (start_after old.mode old.start old.offset) old.offset es o → Answer
+  answered Refuse es o e w h g t =
+      refuses_on old new b bytes Syntax result k.well w tt (syntax_refused old.limits old.mode (levels_in old.levels) old.start old.offset bytes b k.well room (e ∙ h))
+  answered (Go mode) es None e w h g t = absurd h
+  answered (Go mode) es (Some next) e w h g t = goes_on es next mode (levels_in old.levels) e w h.0 h.1 t
+  answered (Open level) es None e w h g t = absurd h
+  answered (Open level) es (Some next) e w h g t = elim (eqb_tells (length (levels_in old.levels)) old.limits.depth) [
+    | inl u ↦ refuses_on old new b bytes Depth result k.well (w.0 u.1) tt (depth_refused old.limits old.mode (levels_in old.levels) old.start old.offset bytes b k.well next (opened level) level room e h.0 u.1 (g.1 (omega (arith, u.1))))
+    | inr u ↦ (let less : length (levels_in old.levels) < old.limits.depth = omega (arith, u.1) in
+        goes_on es next (opened level) (level ∷ levels_in old.levels) e (w.1 less) h.0 (h.1 (omega arith)) t)
+  ]
+  answered Close es None e w h g t = absurd h
+  answered Close es (Some next) e w h g t = goes_on es next ValueDone (outer_of (levels_in old.levels)) e w h.0 h.1 t
 
-pub pushed : (old new : Reader) (b : ℕ) (bytes : List ℕ) (result : Result (Unit {0}) JsonFault) → old.fault ≡ None → old.offset < old.limits.bytes → length (levels_in old.levels) ≤ old.limits.depth
-    → Applied (move_by old b) old new result → StandsFor old bytes → StandsFor new (bytes ++ b ∷ []) × Answers old.limits (bytes ++ b ∷ []) result
+-- what is under way, by what the literal says
+pub says : (old : Reader) (b : ℕ) (bytes : List ℕ) (turn : NumberTurn) (value : Option Exact) → LiteralSays old b turn value → (k : StandsOpen old.limits old.mode (levels_in old.levels) old.literal old.start old.offset bytes)
+    → Turns (under_of k.well.state) b turn × HasValue (under_of k.well.state) turn value
+says old b bytes turn value s k = turns_by (under_of k.well.state) old b turn value s k.keeps (mode_under k.well.state old.mode (levels_in old.levels) k.well.kept)
+
+pub pushed : {before after : List Event → Type 0} (old new : Reader) (b : ℕ) (bytes : List ℕ) (result : Result (Unit {0}) JsonFault) → old.fault ≡ None → old.offset < old.limits.bytes → length (levels_in old.levels) ≤ old.limits.depth
+    → Takes before after old new b result → StandsFor old bytes → StandsFor new (bytes ++ b ∷ []) × Answers old.limits (bytes ++ b ∷ []) result
 pushed old new b bytes result live room nested w h =
-    let k = well_of old bytes live h in
-    answered old new b bytes result (move_by old b) (told_by old b) (step k.state (length bytes) b) live room nested k refl w
-    (moves old.limits.depth k.state old.mode (levels_in old.levels) (length bytes) b k.kept k.fits)
-    (moves (old.limits.depth + 1) k.state old.mode (levels_in old.levels) (length bytes) b k.kept (broken_deeper old.limits.depth k.state k.fits))
-    (told_by_step old.limits old.mode (levels_in old.levels) old.start old.offset bytes b k)
+    let k = open_of old bytes live h in
+    let s = says old b bytes w.turn w.value w.says k in
+    answered old new b bytes result live room nested w.turn w.goes k s.0 (move_by old w.turn b) (told_by old w.turn w.value b) (step k.well.state (length bytes) b) refl w.applied
+    (moves old.limits.depth k.well.state old.mode w.turn (levels_in old.levels) (length bytes) b k.well.kept s.0 k.well.fits)
+    (moves (old.limits.depth + 1) k.well.state old.mode w.turn (levels_in old.levels) (length bytes) b k.well.kept s.0 (broken_deeper old.limits.depth k.well.state k.well.fits))
+    (told_by_step old.limits old.mode (levels_in old.levels) old.start old.offset bytes b k.well w.turn w.value s.0 s.1)
 
 -- ---- the events of a byte
 
@@ -178,17 +203,20 @@ completed_by limits mode levels start offset bytes b k T rest es (Some s) before
     events_seen s T (offset + 1) (start_after mode start offset) rest i c ∙ ap told t.0 ∙ map-append (λ (x : Timed). x.event) (seen k.state) (all_at (offset + 1) es)
     ∙ ap (λ xs. told (seen k.state) ++ xs) (told-all_at (offset + 1) es) ∙ ap (λ xs. xs ++ es) (sym before)
 
-pub completed_from : (limits : Allowed) (mode : Mode) (levels : List Level) (start offset : ℕ) (bytes : List ℕ) (b : ℕ) → StandsWell limits mode levels start offset bytes
-    → Completed offset (offset + 1) (bytes ++ b ∷ []) (emitted mode (inner_of levels) (move_of mode (inner_of levels) b) start offset)
-completed_from limits mode levels start offset bytes b k = λ T rest t.
+pub completed_from : (limits : Allowed) (mode : Mode) (levels : List Level) (start offset : ℕ) (bytes : List ℕ) (b : ℕ) (k : StandsWell limits mode levels start offset bytes) (turn : NumberTurn) (value : Option Exact)
+    → Turns (under_of k.state) b turn → HasValue (under_of k.state) turn value → Completed offset (offset + 1) (bytes ++ b ∷ []) (emitted mode (inner_of levels) (move_of mode turn (inner_of levels) b) value start offset)
+completed_from limits mode levels start offset bytes b k turn value d v = λ T rest t.
     let u : IsText T (bytes ++ (b ∷ rest)) = rw append_assoc at t in
     let c : TextFrom T (length bytes) (b ∷ rest) k.state = (let j = text_goes_on T bytes (b ∷ rest) u in let i : Goes (TextFrom T (length bytes) (b ∷ rest)) (Some k.state) = rw (k.runs) at j in i) in
     let P : ℕ → Type 0 = λ n. TextFrom T n (b ∷ rest) k.state in
     let e : length bytes ≡ offset = sym k.at in
     let R : ℕ → Type 0 = λ n. Goes (TextFrom T (offset + 1) rest) (step k.state n b) in
-    completed_by limits mode levels start offset bytes b k T rest (emitted mode (inner_of levels) (move_of mode (inner_of levels) b) start offset) (step k.state (length bytes) b)
+    completed_by limits mode levels start offset bytes b k T rest (emitted mode (inner_of levels) (move_of mode turn (inner_of levels) b) value start offset) (step k.state (length bytes) b)
     (events_seen k.state T offset start (b ∷ rest) k.timely (subst P e c)) (subst R k.at (forward k.state T offset b rest (subst P e c)))
-    (told_by_step limits mode levels start offset bytes b k)
+    (told_by_step limits mode levels start offset bytes b k turn value d v)
 
-pub completed : (old : Reader) (b : ℕ) (bytes : List ℕ) → old.fault ≡ None → StandsFor old bytes → Completed old.offset (old.offset + 1) (bytes ++ b ∷ []) (told_by old b)
-completed old b bytes live h = completed_from old.limits old.mode (levels_in old.levels) old.start old.offset bytes b (well_of old bytes live h)
+pub completed : (old : Reader) (b : ℕ) (bytes : List ℕ) (turn : NumberTurn) (value : Option Exact) → LiteralSays old b turn value → old.fault ≡ None → StandsFor old bytes → Completed old.offset (old.offset + 1) (bytes ++ b ∷ []) (told_by old turn value b)
+completed old b bytes turn value s live h =
+    let k = open_of old bytes live h in
+    let d = says old b bytes turn value s k in
+    completed_from old.limits old.mode (levels_in old.levels) old.start old.offset bytes b k.well turn value d.0 d.1

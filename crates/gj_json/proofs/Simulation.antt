@@ -6,7 +6,7 @@ use Rattle.gj_json.specs.declared.class.Class.{Class}
 use Rattle.gj_json.specs.declared.class.Class.TheVariants.{White, OpenArray, CloseArray, OpenObject, CloseObject, Comma, Colon, Quote, Minus, Plus, Point, Exponent, ZeroDigit, FirstDigit, Letter, Other}
 use Rattle.gj_json.specs.declared.constant.Constant.{Constant}
 use Rattle.gj_json.specs.declared.constant.Constant.TheVariants.{Null, True, False}
-use Rattle.gj_json.specs.declared.mode.NumberState.{NumberState}
+use Rattle.gj_json.specs.NumberStates.{NumberState, turn_of}
 use Rattle.gj_json.specs.declared.levels.Level.{Level}
 use Rattle.gj_json.specs.declared.levels.Level.TheVariants.{Array, Object}
 use Rattle.gj_json.specs.declared.mode.Mode.{Mode}
@@ -21,6 +21,8 @@ use Rattle.gj_json.specs.Machine.{Frame, in_array, in_object, Member, Leaf, Part
 use Rattle.gj_json.specs.Moves.{string_move, begin_move, due_move, array_move, name_move, object_move, name_due_move, colon_move, after_move, constant_move, number_move, value_string_move, name_string_move, move_of}
 use Rattle.gj_json.specs.Stands.{levels_of, levels_with, LeafAs, PartialAs, StandsAs, Fits, FitsName, FitsLeaf, FitsBroken}
 use Rattle.gj_json.specs.Step.{opened}
+use Rattle.gj_json.specs.declared.mode.NumberTurn.{NumberTurn}
+use Rattle.gj_json.specs.Under.{under_leaf, under_of, Turns}
 use Rattle.gj_json.proofs.Completes.{Goes}
 use Rattle.gj_json.proofs.Closing.{elements_joined, members_joined, levels_fit}
 
@@ -113,7 +115,7 @@ on_name_string d stack place done np so_far n (string_goes more state) f = ((ref
 on_name_string d stack place done np so_far n string_refuses f = refl
 
 on_number : (d : ℕ) (stack : List Frame) (place : ℕ) (so_far : List ℕ) (n b : ℕ) (c : Class) (o : Option NumberState) (may_end : Bool) → Fits d stack
-    → Simulates d (levels_of stack) (number_move o may_end (after_move (inner_of (levels_of stack)) c)) (step_number stack place so_far n b o (if may_end then after_value stack (number place so_far n) n c else None))
+    → Simulates d (levels_of stack) (number_move (turn_of o may_end) (after_move (inner_of (levels_of stack)) c)) (step_number stack place so_far n b o (if may_end then after_value stack (number place so_far n) n c else None))
 on_number d stack place so_far n b c (Some next) may_end f = ((refl, refl), f)
 on_number d stack place so_far n b c None true f = on_after d stack (number place so_far n) n c (omega (arith, levels_fit d stack f), f)
 on_number d stack place so_far n b c None false f = refl
@@ -141,18 +143,18 @@ on_constant d stack which place (a ∷ x ∷ left) n b count l c f =
     let full : (count + 1 == length (letters_of which)) ≡ false = grind (arith, nat_tests) in
     rw (full, ← ea) (test_go d stack (b == a) (ConstantOn which (count + 1)) (constant_on which place (x ∷ left)) (count + 1, refl, (rw (← s) er), more) refl f)
 
-leaf_moves : (d : ℕ) (stack : List Frame) (leaf : Leaf) (mode : Mode) (n b : ℕ) → LeafAs leaf mode → FitsLeaf d stack leaf
-    → Simulates d (levels_with leaf (levels_of stack)) (move_of mode (inner_of (levels_with leaf (levels_of stack))) b) (step_leaf stack leaf n b)
-leaf_moves d stack value_due mode n b a f = rw a (on_value_due d stack n b (class_of b) f)
-leaf_moves d stack (value_done t) mode n b a f = rw a (on_after d stack t n (class_of b) f)
-leaf_moves d stack (array_opened place) mode n b a f = rw a (on_array_opened d stack place n b (class_of b) f)
-leaf_moves d stack (object_opened place) mode n b a f = rw a (on_object_opened d stack place n b (class_of b) f)
-leaf_moves d stack (constant_on which place left) mode n b a f = rw (a.1) (on_constant d stack which place left n b a.0 a.2 a.3 f)
-leaf_moves d stack (number_on place so_far state) mode n b a f = rw a (on_number d stack place so_far n b (class_of b) (number_next state (class_of b)) (number_may_end state) f)
-leaf_moves d stack (string_on place so_far state) mode n b a f = rw a (on_string d stack place so_far n (string_next state b) f)
-leaf_moves d stack (name_due place done) mode n b a f = rw a (on_name_due d stack place done n (class_of b) f)
-leaf_moves d stack (name_on place done np so_far state) mode n b a f = rw a (on_name_string d stack place done np so_far n (string_next state b) f)
-leaf_moves d stack (colon_due place done np name ne) mode n b a f = rw a (on_colon_due d stack place done np name ne n (class_of b) f)
+leaf_moves : (d : ℕ) (stack : List Frame) (leaf : Leaf) (mode : Mode) (turn : NumberTurn) (n b : ℕ) → LeafAs leaf mode → Turns (under_leaf leaf) b turn → FitsLeaf d stack leaf
+    → Simulates d (levels_with leaf (levels_of stack)) (move_of mode turn (inner_of (levels_with leaf (levels_of stack))) b) (step_leaf stack leaf n b)
+leaf_moves d stack value_due mode turn n b a w f = rw a (on_value_due d stack n b (class_of b) f)
+leaf_moves d stack (value_done t) mode turn n b a w f = rw a (on_after d stack t n (class_of b) f)
+leaf_moves d stack (array_opened place) mode turn n b a w f = rw a (on_array_opened d stack place n b (class_of b) f)
+leaf_moves d stack (object_opened place) mode turn n b a w f = rw a (on_object_opened d stack place n b (class_of b) f)
+leaf_moves d stack (constant_on which place left) mode turn n b a w f = rw (a.1) (on_constant d stack which place left n b a.0 a.2 a.3 f)
+leaf_moves d stack (number_on place so_far state) mode turn n b a w f = rw (a, w) (on_number d stack place so_far n b (class_of b) (number_next state (class_of b)) (number_may_end state) f)
+leaf_moves d stack (string_on place so_far state) mode turn n b a w f = rw a (on_string d stack place so_far n (string_next state b) f)
+leaf_moves d stack (name_due place done) mode turn n b a w f = rw a (on_name_due d stack place done n (class_of b) f)
+leaf_moves d stack (name_on place done np so_far state) mode turn n b a w f = rw a (on_name_string d stack place done np so_far n (string_next state b) f)
+leaf_moves d stack (colon_due place done np name ne) mode turn n b a w f = rw a (on_colon_due d stack place done np name ne n (class_of b) f)
 
 -- ---- a whole text
 
@@ -179,9 +181,10 @@ mark_follows : (d : ℕ) (s : Broken) (mode : Mode) (t : Bool) → StandsAs s mo
 mark_follows d s mode true a f = (a, f)
 mark_follows d s mode false a f = refl
 
-pub moves : (d : ℕ) (s : Broken) (mode : Mode) (levels : List Level) (n b : ℕ) → StandsAs s mode levels → FitsBroken d s → Follows d levels (move_of mode (inner_of levels) b) (step s n b)
-moves d text_due mode levels n b a f = rw (a.0, a.1) (due_follows d n b (b == mark_first))
-moves d mark_one mode levels n b a f = rw (a.0, a.1) (mark_follows d mark_two MarkTwo (b == mark_second) (refl, refl) tt)
-moves d mark_two mode levels n b a f = rw (a.0, a.1) (mark_follows d (begun true (record { stack = []; leaf = value_due })) ValueDue (b == mark_third) (refl, refl) tt)
-moves d (begun marked s) mode levels n b a f =
-    rw (a.1) (marked_follows d (levels_with s.leaf (levels_of s.stack)) (move_of mode (inner_of (levels_with s.leaf (levels_of s.stack))) b) marked (step_leaf s.stack s.leaf n b) (leaf_moves d s.stack s.leaf mode n b a.0 f))
+pub moves : (d : ℕ) (s : Broken) (mode : Mode) (turn : NumberTurn) (levels : List Level) (n b : ℕ) → StandsAs s mode levels → Turns (under_of s) b turn → FitsBroken d s
+    → Follows d levels (move_of mode turn (inner_of levels) b) (step s n b)
+moves d text_due mode turn levels n b a t f = rw (a.0, a.1) (due_follows d n b (b == mark_first))
+moves d mark_one mode turn levels n b a t f = rw (a.0, a.1) (mark_follows d mark_two MarkTwo (b == mark_second) (refl, refl) tt)
+moves d mark_two mode turn levels n b a t f = rw (a.0, a.1) (mark_follows d (begun true (record { stack = []; leaf = value_due })) ValueDue (b == mark_third) (refl, refl) tt)
+moves d (begun marked s) mode turn levels n b a t f =
+    rw (a.1) (marked_follows d (levels_with s.leaf (levels_of s.stack)) (move_of mode turn (inner_of (levels_with s.leaf (levels_of s.stack))) b) marked (step_leaf s.stack s.leaf n b) (leaf_moves d s.stack s.leaf mode turn n b a.0 t f))

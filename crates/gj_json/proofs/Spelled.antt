@@ -15,8 +15,8 @@ use Rattle.gj_json.specs.declared.class.Class.{Class}
 use Rattle.gj_json.specs.declared.class.Class.TheVariants.{Minus as minus, Plus as plus, Point as point, Exponent as exponent, ZeroDigit as zero_digit, FirstDigit as first_digit}
 use Rattle.gj_json.specs.Classes.{class_of, Means}
 use Rattle.gj_json.proofs.Classes.{means, class_is}
-use Rattle.gj_json.specs.declared.mode.NumberState.{NumberState}
-use Rattle.gj_json.specs.declared.mode.NumberState.TheVariants.{AfterMinus as after_minus, AfterZero as after_zero, InDigits as in_digits, AfterPoint as after_point, InFraction as in_fraction, AfterExponent as after_exponent, AfterSign as after_sign, InExponent as in_exponent}
+use Rattle.gj_json.specs.NumberStates.{NumberState}
+use Rattle.gj_json.specs.NumberStates.{after_minus, after_zero, in_digits, after_point, in_fraction, after_exponent, after_sign, in_exponent}
 use Rattle.gj_json.specs.declared.mode.StringState.{StringState}
 use Rattle.gj_json.specs.declared.mode.StringState.TheVariants.{Plain as plain, Escape as escape, HexDue as hex_due, HexOne as hex_one, HexTwo as hex_two, HexThree as hex_three, InCharacter as in_character}
 use Rattle.gj_json.specs.Machine.{number_first, number_next, number_may_end, StringStep, string_ends, string_goes, string_refuses, string_next, plain_step, escape_step, hex_step, hex_end, lead_step, tail_step, within}

@@ -5,8 +5,8 @@ use Rattle.gj_json.specs.Bytes.{comma as comma_byte, mark_first, mark_second, ma
 use Rattle.gj_json.specs.declared.constant.Constant.{Constant}
 use Rattle.gj_json.specs.declared.class.Class.{Class}
 use Rattle.gj_json.specs.declared.class.Class.TheVariants.{White as white, OpenArray as open_array, CloseArray as close_array, OpenObject as open_object, CloseObject as close_object, Comma as comma, Colon as colon, Quote as quote, Minus as minus, Plus as plus, Point as point, Exponent as exponent, ZeroDigit as zero_digit, FirstDigit as first_digit, Letter as letter, Other as other}
-use Rattle.gj_json.specs.declared.mode.NumberState.{NumberState}
-use Rattle.gj_json.specs.declared.mode.NumberState.TheVariants.{AfterMinus as after_minus, AfterZero as after_zero, InDigits as in_digits}
+use Rattle.gj_json.specs.NumberStates.{NumberState}
+use Rattle.gj_json.specs.NumberStates.{after_minus, after_zero, in_digits}
 use Rattle.gj_json.specs.declared.mode.StringState.{StringState}
 use Rattle.gj_json.specs.declared.mode.StringState.TheVariants.{Plain as plain}
 use Rattle.gj_json.specs.Tree.{Tree, constant, number}

@@ -7,6 +7,7 @@ use Rattle.gj_json.specs.declared.constant.Constant.TheVariants.{Null, True, Fal
 use Rattle.gj_json.specs.Bytes.{mark_bytes}
 use Rattle.gj_json.specs.Tree.{Tree, constant, number, string, array, object, Elements, end_of_array, element, Members, end_of_object, member, Text}
 use Rattle.gj_json.specs.Grammar.{letters_of}
+use Rattle.gj_number.specs.Value.{value_of}
 
 pub record Timed : Type 0 where
   pub at : ℕ
@@ -25,7 +26,7 @@ abbrev mutual
   pub events : Tree → List Timed
   events (constant which place) = timed (place + length (letters_of which)) place (what_of which) ∷ []
   -- only the byte behind it tells that a number has ended
-  events (number place literal end) = timed (end + 1) place What.Number ∷ []
+  events (number place literal end) = timed (end + 1) place (What.Number (value_of literal)) ∷ []
   events (string place content end) = timed end place What.Text ∷ []
   events (array place elements close) = timed (place + 1) place What.OpenArray ∷ (elements_events elements ++ timed (close + 1) close What.CloseArray ∷ [])
   events (object place members close) = timed (place + 1) place What.OpenObject ∷ (members_events members ++ timed (close + 1) close What.CloseObject ∷ [])

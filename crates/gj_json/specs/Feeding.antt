@@ -1,19 +1,28 @@
 -- Internal: what a call that takes bytes leaves of a reader and of a sink.
-use Rattle.std.specs.Prelude.{◌≡◌, ℕ, ◌+◌, ◌≤◌, List, ◌++◌, length, take, Some, None}
+use Rattle.std.specs.Prelude.{◌≡◌, ℕ, ◌+◌, ◌≤◌, false, List, ◌++◌, length, take, Some, None}
+use Rattle.gj_number.specs.Grammar.{BeginsNumber}
+use Rattle.gj_number.specs.Literal.{StandsFor as LiteralStandsFor}
+use Rattle.gj_json.specs.declared.mode.Mode.TheVariants.{NumberOn}
+use Rattle.gj_json.specs.Told.{in_number}
 use Rattle.gj_json.specs.declared.event.Event.{Event}
 use Rattle.gj_json.specs.declared.fault.JsonFault.{JsonFault}
 use Rattle.gj_json.specs.declared.reader.Reader.{Reader}
 use Rattle.gj_json.specs.Quiet.{Leads}
 use Rattle.gj_json.specs.Reader.{StandsFor, Hears}
 
--- bytes that leave all but the mode and the offset as it is, and complete nothing
+-- Bytes that complete nothing: they lead to another mode and leave the literal as it is, or they go on in a number.
+pub data SkipsBy (old new : Reader) (given : List ℕ) : Type 0 where
+  leading : Leads old.mode given new.mode → in_number new.mode ≡ false → SkipsBy old new given
+  in_literal : old.mode ≡ NumberOn → new.mode ≡ NumberOn → ((bytes : List ℕ) → LiteralStandsFor old.literal bytes → LiteralStandsFor new.literal (bytes ++ given) × BeginsNumber (bytes ++ given)) → SkipsBy old new given
+
+-- and they leave all else but the offset as it is
 pub record Skips (old new : Reader) (given : List ℕ) : Type 0 where
   pub limits : new.limits ≡ old.limits
   pub fault : new.fault ≡ old.fault
   pub levels : new.levels ≡ old.levels
   pub start : new.start ≡ old.start
   pub offset : new.offset ≡ old.offset + length given
-  pub leads : Leads old.mode given new.mode
+  pub by : SkipsBy old new given
 
 -- The reader was given these bytes, and its sink has heard of them what was taken.
 pub record Feeds (heard_before heard_after : List Event → Type 0) (old new : Reader) (given : List ℕ) : Type 0 where

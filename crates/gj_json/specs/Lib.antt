@@ -17,6 +17,7 @@ pub mod Machine
 pub mod Moves
 pub mod Told
 pub mod Seen
+pub mod Under
 pub mod Stands
 pub mod Quiet
 pub mod Step

@@ -12,8 +12,8 @@ use Rattle.gj_json.specs.Tree.{Text, Tree, constant, number, string, array, obje
 use Rattle.gj_json.specs.declared.class.Class.{Class}
 use Rattle.gj_json.specs.declared.class.Class.TheVariants.{White as white, OpenArray as open_array, CloseArray as close_array, OpenObject as open_object, CloseObject as close_object, Comma as comma, Colon as colon, Quote as quote, Minus as minus, Plus as plus, Point as point, Exponent as exponent, ZeroDigit as zero_digit, FirstDigit as first_digit, Letter as letter, Other as other}
 use Rattle.gj_json.specs.Classes.{class_of}
-use Rattle.gj_json.specs.declared.mode.NumberState.{NumberState}
-use Rattle.gj_json.specs.declared.mode.NumberState.TheVariants.{AfterMinus as after_minus, AfterZero as after_zero, InDigits as in_digits}
+use Rattle.gj_json.specs.NumberStates.{NumberState}
+use Rattle.gj_json.specs.NumberStates.{after_minus, after_zero, in_digits}
 use Rattle.gj_json.specs.declared.mode.StringState.{StringState}
 use Rattle.gj_json.specs.declared.mode.StringState.TheVariants.{Plain as plain, Escape as escape, HexDue as hex_due, HexOne as hex_one, HexTwo as hex_two, HexThree as hex_three, InCharacter as in_character}
 

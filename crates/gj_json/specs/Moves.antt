@@ -1,10 +1,9 @@
 -- Internal: what a byte does, from what the reader keeps alone.
-use Rattle.std.specs.Prelude.{ℕ, ◌+◌, ◌==◌, ◌<◌, ◌-◌, if◌then◌else◌, Bool, true, false, Option, Some, None, length, slice_index}
+use Rattle.std.specs.Prelude.{ℕ, ◌+◌, ◌==◌, ◌<◌, ◌-◌, if◌then◌else◌, Option, Some, length, slice_index}
 use Rattle.gj_json.specs.declared.class.Class.{Class}
 use Rattle.gj_json.specs.declared.class.Class.TheVariants.{White, OpenArray, CloseArray, OpenObject, CloseObject, Comma, Colon, Quote, Minus, ZeroDigit, FirstDigit, Letter}
 use Rattle.gj_json.specs.declared.constant.Constant.{Constant}
-use Rattle.gj_json.specs.declared.mode.NumberState.{NumberState}
-use Rattle.gj_json.specs.declared.mode.NumberState.TheVariants.{AfterMinus, AfterZero, InDigits}
+use Rattle.gj_json.specs.declared.mode.NumberTurn.{NumberTurn}
 use Rattle.gj_json.specs.declared.mode.StringState.{StringState}
 use Rattle.gj_json.specs.declared.mode.StringState.TheVariants.{Plain, Escape, HexDue, HexOne, HexTwo, HexThree, InCharacter}
 use Rattle.gj_json.specs.declared.mode.StringMove.{StringMove}
@@ -18,7 +17,7 @@ use Rattle.gj_json.specs.declared.mode.Move.TheVariants.{Refuse, Go, Open, Close
 use Rattle.gj_json.specs.Bytes.{mark_first, mark_second, mark_third}
 use Rattle.gj_json.specs.Classes.{class_of}
 use Rattle.gj_json.specs.Grammar.{letters_of}
-use Rattle.gj_json.specs.Machine.{StringStep, string_ends, string_goes, string_refuses, string_next, number_next, number_may_end}
+use Rattle.gj_json.specs.Machine.{StringStep, string_ends, string_goes, string_refuses, string_next}
 
 abbrev pub string_move : StringStep → StringMove
 string_move string_ends = Ends
@@ -29,9 +28,9 @@ abbrev pub begin_move : Class → Move
 begin_move OpenArray = Open Array
 begin_move OpenObject = Open Object
 begin_move Quote = Go (StringOn Plain)
-begin_move Minus = Go (NumberOn AfterMinus)
-begin_move ZeroDigit = Go (NumberOn AfterZero)
-begin_move FirstDigit = Go (NumberOn InDigits)
+begin_move Minus = Go NumberOn
+begin_move ZeroDigit = Go NumberOn
+begin_move FirstDigit = Go NumberOn
 begin_move (Letter which) = Go (ConstantOn which 1)
 begin_move _ = Refuse
 
@@ -76,10 +75,10 @@ constant_move which count b =
     then (if count + 1 == length (letters_of which) then Go ValueDone else Go (ConstantOn which (count + 1)))
     else Refuse
 
-abbrev pub number_move : Option NumberState → Bool → Move → Move
-number_move (Some state) may_end after = Go (NumberOn state)
-number_move None true after = after
-number_move None false after = Refuse
+abbrev pub number_move : NumberTurn → Move → Move
+number_move NumberTurn.Goes after = Go NumberOn
+number_move NumberTurn.Ends after = after
+number_move NumberTurn.Refuses after = Refuse
 
 abbrev pub value_string_move : StringMove → Move
 value_string_move Ends = Go ValueDone
@@ -91,20 +90,21 @@ name_string_move Ends = Go ColonDue
 name_string_move (Goes state) = Go (NameOn state)
 name_string_move Refuses = Refuse
 
-abbrev pub move_of : Mode → Option Level → ℕ → Move
-move_of TextDue inner b = if b == mark_first then Go MarkOne else due_move (class_of b)
-move_of MarkOne inner b = if b == mark_second then Go MarkTwo else Refuse
-move_of MarkTwo inner b = if b == mark_third then Go ValueDue else Refuse
-move_of ValueDue inner b = due_move (class_of b)
-move_of ValueDone inner b = after_move inner (class_of b)
-move_of ArrayOpened inner b = array_move (class_of b)
-move_of ObjectOpened inner b = object_move (class_of b)
-move_of (ConstantOn which count) inner b = constant_move which count b
-move_of (NumberOn state) inner b = number_move (number_next state (class_of b)) (number_may_end state) (after_move inner (class_of b))
-move_of (StringOn state) inner b = value_string_move (string_move (string_next state b))
-move_of NameDue inner b = name_due_move (class_of b)
-move_of (NameOn state) inner b = name_string_move (string_move (string_next state b))
-move_of ColonDue inner b = colon_move (class_of b)
+-- what the byte does to a number under way counts in that mode alone
+abbrev pub move_of : Mode → NumberTurn → Option Level → ℕ → Move
+move_of TextDue turn inner b = if b == mark_first then Go MarkOne else due_move (class_of b)
+move_of MarkOne turn inner b = if b == mark_second then Go MarkTwo else Refuse
+move_of MarkTwo turn inner b = if b == mark_third then Go ValueDue else Refuse
+move_of ValueDue turn inner b = due_move (class_of b)
+move_of ValueDone turn inner b = after_move inner (class_of b)
+move_of ArrayOpened turn inner b = array_move (class_of b)
+move_of ObjectOpened turn inner b = object_move (class_of b)
+move_of (ConstantOn which count) turn inner b = constant_move which count b
+move_of NumberOn turn inner b = number_move turn (after_move inner (class_of b))
+move_of (StringOn state) turn inner b = value_string_move (string_move (string_next state b))
+move_of NameDue turn inner b = name_due_move (class_of b)
+move_of (NameOn state) turn inner b = name_string_move (string_move (string_next state b))
+move_of ColonDue turn inner b = colon_move (class_of b)
 
 -- ---- which states the reader keeps, said by a number that is not 0
 

@@ -2,9 +2,19 @@
 use Rattle.std.specs.Prelude.{ℕ, Bool, true, false, List, [], ◌∷◌, Option, Some, None}
 use Rattle.gj_json.specs.declared.class.Class.{Class}
 use Rattle.gj_json.specs.declared.class.Class.TheVariants.{Minus as minus, Plus as plus, Point as point, Exponent as exponent, ZeroDigit as zero_digit, FirstDigit as first_digit}
-use Rattle.gj_json.specs.declared.mode.NumberState.{NumberState}
-use Rattle.gj_json.specs.declared.mode.NumberState.TheVariants.{AfterMinus as after_minus, AfterZero as after_zero, InDigits as in_digits, AfterPoint as after_point, InFraction as in_fraction, AfterExponent as after_exponent, AfterSign as after_sign, InExponent as in_exponent}
+use Rattle.gj_json.specs.declared.mode.NumberTurn.{NumberTurn}
+use Rattle.gj_json.specs.declared.mode.NumberTurn.TheVariants.{Goes, Ends, Refuses}
 use Rattle.gj_json.specs.Classes.{class_of}
+
+pub data NumberState : Type 0 where
+  after_minus : NumberState
+  after_zero : NumberState
+  in_digits : NumberState
+  after_point : NumberState
+  in_fraction : NumberState
+  after_exponent : NumberState
+  after_sign : NumberState
+  in_exponent : NumberState
 
 abbrev pub number_first : Class → Option NumberState
 number_first minus = Some after_minus
@@ -52,3 +62,9 @@ number_from (Some state) (b ∷ bytes) = number_from (number_next state (class_o
 abbrev pub number_state : List ℕ → Option NumberState
 number_state [] = None
 number_state (b ∷ bytes) = number_from (number_first (class_of b)) bytes
+
+-- what a byte does to a number under way, which goes on so or not, and which may end here or not
+abbrev pub turn_of : Option NumberState → Bool → NumberTurn
+turn_of (Some state) may_end = Goes
+turn_of None true = Ends
+turn_of None false = Refuses

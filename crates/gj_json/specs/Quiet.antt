@@ -1,8 +1,10 @@
 -- Internal: the bytes that complete nothing and open or close nothing.
 use Rattle.std.specs.Prelude.{◌≡◌, ℕ, ◌==◌, ◌&&◌, ◌||◌, Bool, not, nat_le, List, [], ◌∷◌, Option}
-use Rattle.gj_json.specs.Bytes.{space, tab, line_feed, carriage_return, quote, backslash, zero_digit, nine_digit}
+use Rattle.gj_json.specs.Bytes.{space, tab, line_feed, carriage_return, quote, backslash}
 use Rattle.gj_json.specs.declared.levels.Level.{Level}
 use Rattle.gj_json.specs.declared.mode.Mode.{Mode}
+use Rattle.gj_json.specs.declared.mode.NumberTurn.{NumberTurn}
+use Rattle.gj_number.specs.Exact.{Exact}
 use Rattle.gj_json.specs.declared.mode.Move.TheVariants.{Go}
 use Rattle.gj_json.specs.declared.mode.StringState.{StringState}
 use Rattle.gj_json.specs.declared.mode.StringMove.TheVariants.{Goes}
@@ -11,7 +13,7 @@ use Rattle.gj_json.specs.Moves.{move_of, string_move}
 use Rattle.gj_json.specs.Told.{emitted, is_on}
 
 abbrev pub IsQuiet : Mode → ℕ → Type 0
-IsQuiet mode b = (inner : Option Level) → move_of mode inner b ≡ Go mode
+IsQuiet mode b = (turn : NumberTurn) (inner : Option Level) → move_of mode turn inner b ≡ Go mode
 
 abbrev pub is_plain : ℕ → Bool
 is_plain b = nat_le space b && nat_le b 0x7F && not (b == quote) && not (b == backslash)
@@ -19,14 +21,11 @@ is_plain b = nat_le space b && nat_le b 0x7F && not (b == quote) && not (b == ba
 abbrev pub is_white : ℕ → Bool
 is_white b = b == space || b == tab || b == line_feed || b == carriage_return
 
-abbrev pub is_digit : ℕ → Bool
-is_digit b = nat_le zero_digit b && nat_le b nine_digit
-
 -- the byte leads from one mode to another, completes nothing, and what is under way goes on
 pub record LeadsBy (mode : Mode) (b : ℕ) (next : Mode) : Type 0 where
-  pub moves : (inner : Option Level) → move_of mode inner b ≡ Go next
+  pub moves : (turn : NumberTurn) (inner : Option Level) → move_of mode turn inner b ≡ Go next
   pub on : is_on mode ≡ is_on next
-  pub nothing : (inner : Option Level) (start n : ℕ) → emitted mode inner (Go next) start n ≡ []
+  pub nothing : (inner : Option Level) (value : Option Exact) (start n : ℕ) → emitted mode inner (Go next) value start n ≡ []
 
 -- and so do these bytes
 abbrev pub Leads : Mode → List ℕ → Mode → Type 0

@@ -12,6 +12,8 @@ use Rattle.gj_json.specs.Grammar.{letters_of}
 use Rattle.gj_json.specs.Machine.{Frame, in_array, in_object, Member, Leaf, Partial, value_due, value_done, array_opened, object_opened, constant_on, number_on, string_on, name_due, name_on, colon_due, Broken, text_due, mark_one, mark_two, begun, run}
 use Rattle.gj_json.specs.Refusal.{IsRefusal, IsByByte}
 use Rattle.gj_json.specs.Seen.{IsTimely}
+use Rattle.gj_json.specs.Under.{under_of, Keeps}
+use Rattle.gj_number.specs.declared.literal.Literal.{Literal}
 
 -- ---- what is open, within a limit of the depth
 
@@ -62,7 +64,7 @@ LeafAs (value_done t) mode = mode ≡ ValueDone
 LeafAs (array_opened place) mode = mode ≡ ArrayOpened
 LeafAs (object_opened place) mode = mode ≡ ObjectOpened
 LeafAs (constant_on which place left) mode = (count : ℕ) × (mode ≡ ConstantOn which count) × (left ≡ drop count (letters_of which)) × (count < length (letters_of which))
-LeafAs (number_on place so_far state) mode = mode ≡ NumberOn state
+LeafAs (number_on place so_far state) mode = mode ≡ NumberOn
 LeafAs (string_on place so_far state) mode = mode ≡ StringOn state
 LeafAs (name_due place done) mode = mode ≡ NameDue
 LeafAs (name_on place done np so_far state) mode = mode ≡ NameOn state
@@ -97,6 +99,11 @@ pub record StandsRefused (limits : Allowed) (fault : JsonFault) (mode : Mode) (l
   pub split : bytes ≡ taken ++ rest
   pub well : StandsWell limits mode levels start offset taken
 
-abbrev pub Stands : Allowed → Option JsonFault → Mode → List Level → ℕ → ℕ → List ℕ → Type 0
-Stands limits None mode levels start offset bytes = StandsWell limits mode levels start offset bytes
-Stands limits (Some fault) mode levels start offset bytes = StandsRefused limits fault mode levels start offset bytes
+-- and what is kept of the number or the string under way
+pub record StandsOpen (limits : Allowed) (mode : Mode) (levels : List Level) (literal : Literal) (start offset : ℕ) (bytes : List ℕ) : Type 0 where
+  pub well : StandsWell limits mode levels start offset bytes
+  pub keeps : Keeps (under_of well.state) literal
+
+abbrev pub Stands : Allowed → Option JsonFault → Mode → List Level → Literal → ℕ → ℕ → List ℕ → Type 0
+Stands limits None mode levels literal start offset bytes = StandsOpen limits mode levels literal start offset bytes
+Stands limits (Some fault) mode levels literal start offset bytes = StandsRefused limits fault mode levels start offset bytes

@@ -1,5 +1,5 @@
 -- Internal: what a byte does to the fields of a reader.
-use Rattle.std.specs.Prelude.{◌≡◌, ◌+◌, ◌<◌, List, [], ◌∷◌, length, Some, Result, Ok, Err}
+use Rattle.std.specs.Prelude.{◌≡◌, ℕ, ◌+◌, ◌<◌, List, [], ◌∷◌, ◌++◌, length, Option, Some, Result, Ok, Err}
 use Rattle.gj_json.specs.declared.event.Event.{Event}
 use Rattle.gj_json.specs.declared.fault.JsonFault.{JsonFault}
 use Rattle.gj_json.specs.declared.fault.Cause.{Cause}
@@ -11,8 +11,12 @@ use Rattle.gj_json.specs.declared.mode.Mode.TheVariants.{ArrayOpened, ObjectOpen
 use Rattle.gj_json.specs.declared.mode.Move.{Move}
 use Rattle.gj_json.specs.declared.mode.Move.TheVariants.{Refuse, Go, Open, Close}
 use Rattle.gj_json.specs.declared.reader.Reader.{Reader}
-use Rattle.gj_json.specs.Levels.{levels_in, outer_of}
-use Rattle.gj_json.specs.Told.{start_after}
+use Rattle.gj_json.specs.declared.mode.NumberTurn.{NumberTurn}
+use Rattle.gj_number.specs.Exact.{Exact}
+use Rattle.gj_json.specs.Levels.{levels_in, inner_of, outer_of}
+use Rattle.gj_json.specs.Moves.{move_of}
+use Rattle.gj_json.specs.Told.{start_after, emitted}
+use Rattle.gj_json.specs.Under.{LiteralSays, LiteralGoes}
 
 abbrev pub opened : Level → Mode
 opened Array = ArrayOpened
@@ -59,3 +63,20 @@ Applied Close old new result = PassesTo ValueDone (outer_of (levels_in old.level
 abbrev pub told_on : Result (Unit {0}) JsonFault → List Event → List Event
 told_on (Ok done) events = events
 told_on (Err fault) events = []
+
+-- ---- a whole byte, by what it does to the number under way and the value that this has
+
+abbrev pub move_by : Reader → NumberTurn → ℕ → Move
+move_by reader turn b = move_of reader.mode turn (inner_of (levels_in reader.levels)) b
+
+abbrev pub told_by : Reader → NumberTurn → Option Exact → ℕ → List Event
+told_by reader turn value b = emitted reader.mode (inner_of (levels_in reader.levels)) (move_by reader turn b) value reader.start reader.offset
+
+-- the reader was given the byte, and its sink has heard of it what was taken
+pub record Takes (before after : List Event → Type 0) (old new : Reader) (b : ℕ) (result : Result (Unit {0}) JsonFault) : Type 0 where
+  pub turn : NumberTurn
+  pub value : Option Exact
+  pub says : LiteralSays old b turn value
+  pub goes : result ≡ Ok tt → LiteralGoes old new b turn
+  pub applied : Applied (move_by old turn b) old new result
+  pub told : (events : List Event) → before events → after (events ++ told_on result (told_by old turn value b))

@@ -1,5 +1,4 @@
 -- Internal: which events a byte completes, from what the reader keeps.
-use Rattle.gj_json.specs.Machine.{number_may_end}
 use Rattle.std.specs.Prelude.{ℕ, List, [], ◌∷◌, ◌++◌, Option, Some, None, Bool, true, false, if◌then◌else◌}
 use Rattle.std.specs.Option.{option_to_list}
 use Rattle.gj_json.specs.declared.event.Event.{Event}
@@ -11,15 +10,16 @@ use Rattle.gj_json.specs.declared.mode.Mode.TheVariants.{MarkTwo, ValueDue, Valu
 use Rattle.gj_json.specs.declared.mode.Move.{Move}
 use Rattle.gj_json.specs.declared.mode.Move.TheVariants.{Refuse, Go, Open, Close}
 use Rattle.gj_json.specs.Events.{what_of}
+use Rattle.gj_number.specs.Exact.{Exact}
 
 abbrev pub event_at : ℕ → What → Event
 event_at place what = record { place = place; what = what }
 
 -- a number under way has ended before this byte
 abbrev pub ended : Mode → Move → Bool
-ended (NumberOn state) Refuse = false
-ended (NumberOn state) (Go (NumberOn next)) = false
-ended (NumberOn state) _ = true
+ended NumberOn Refuse = false
+ended NumberOn (Go NumberOn) = false
+ended NumberOn _ = true
 ended _ move = false
 
 abbrev pub value_ended : Mode → ℕ → Option Event
@@ -49,14 +49,19 @@ made_event mode inner (Open level) start n = Some (event_at n (opening_of level)
 made_event mode (Some level) Close start n = Some (event_at n (closing_of level))
 made_event mode None Close start n = None
 
--- all events of the byte at n
-abbrev pub emitted : Mode → Option Level → Move → ℕ → ℕ → List Event
-emitted mode inner move start n = (if ended mode move then event_at start What.Number ∷ [] else []) ++ option_to_list (made_event mode inner move start n)
+-- all events of the byte at n, where the number under way has this value
+abbrev pub emitted : Mode → Option Level → Move → Option Exact → ℕ → ℕ → List Event
+emitted mode inner move value start n = (if ended mode move then event_at start (What.Number value) ∷ [] else []) ++ option_to_list (made_event mode inner move start n)
+
+-- whether a number is under way
+abbrev pub in_number : Mode → Bool
+in_number NumberOn = true
+in_number _ = false
 
 -- whether a literal name, a number, a string or a name is under way
 abbrev pub is_on : Mode → Bool
 is_on (ConstantOn which count) = true
-is_on (NumberOn state) = true
+is_on NumberOn = true
 is_on (StringOn state) = true
 is_on (NameOn state) = true
 is_on _ = false
@@ -65,8 +70,9 @@ is_on _ = false
 abbrev pub start_after : Mode → ℕ → ℕ → ℕ
 start_after mode start n = if is_on mode then start else n
 
--- what is left to say where the text ends here, or None where it may not
-abbrev pub last_event : Mode → Option Level → ℕ → Option (Option Event)
-last_event ValueDone None start = Some None
-last_event (NumberOn state) None start = if number_may_end state then Some (Some (event_at start What.Number)) else None
-last_event _ _ start = None
+-- What is left to say where the text ends here, or None where it may not: the number under way may end or not, and has
+-- this value.
+abbrev pub last_event : Mode → Option Level → Bool → Option Exact → ℕ → Option (Option Event)
+last_event ValueDone None may_end value start = Some None
+last_event NumberOn None may_end value start = if may_end then Some (Some (event_at start (What.Number value))) else None
+last_event _ _ may_end value start = None

@@ -1,3 +1,5 @@
+use gj_number::Decimal;
+
 /// What stands at a place of a text.
 #[derive(Clone, Copy, Default, PartialEq, Eq)]
 pub enum What {
@@ -10,7 +12,8 @@ pub enum What {
     Name,
     /// A string that is a value.
     Text,
-    Number,
+    /// A number, with its value where that is held (see [`Decimal`]).
+    Number(Option<Decimal>),
     True,
     False,
     Null,

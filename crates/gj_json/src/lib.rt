@@ -14,7 +14,6 @@ mod levels;
 mod limits;
 mod mode;
 mod moves;
-mod numbers;
 mod reader;
 mod runs;
 mod sink;

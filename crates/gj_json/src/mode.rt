@@ -3,17 +3,15 @@
 use crate::constant::Constant;
 use crate::levels::Level;
 
-/// How far a number has come.
+/// What a byte does to a number under way.
 #[derive(Clone, Copy, PartialEq, Eq)]
-pub enum NumberState {
-    AfterMinus,
-    AfterZero,
-    InDigits,
-    AfterPoint,
-    InFraction,
-    AfterExponent,
-    AfterSign,
-    InExponent,
+pub enum NumberTurn {
+    /// It goes on with the byte.
+    Goes,
+    /// It has ended before the byte.
+    Ends,
+    /// It may neither go on so nor end.
+    Refuses,
 }
 
 /// What the second byte of a character in UTF-8 may be, which the first byte tells (RFC 3629, section 4).
@@ -61,7 +59,7 @@ pub enum Mode {
     ObjectOpened,
     /// So many letters of the literal name have come.
     ConstantOn(Constant, u8),
-    NumberOn(NumberState),
+    NumberOn,
     StringOn(StringState),
     NameDue,
     NameOn(StringState),

@@ -4,16 +4,16 @@ ghost use Rattle.std.specs.Prelude.{◌≡◌, ◌==◌, ◌<◌, if◌then◌el
 ghost use Rattle.gj_json.specs.Bytes.{mark_first};
 ghost use Rattle.gj_json.specs.Classes.{class_of};
 ghost use Rattle.gj_json.specs.Grammar.{letters_of};
-ghost use Rattle.gj_json.specs.Moves.{begin_move, due_move, array_move, name_move, object_move, name_due_move, colon_move, after_move, constant_move, number_move, value_string_move, name_string_move, string_move, move_of, IsMode, IsMove, IsStringState};
-ghost use Rattle.gj_json.specs.Machine.{number_next, number_may_end, string_next};
+ghost use Rattle.gj_json.specs.Moves.{begin_move, due_move, array_move, name_move, object_move, name_due_move, colon_move, after_move, constant_move, value_string_move, name_string_move, string_move, move_of, IsMode, IsMove, IsStringState};
+ghost use Rattle.gj_json.specs.Machine.{string_next};
 ghost use Rattle.gj_json.specs.declared.mode.Mode.TheVariants.{MarkOne};
 ghost use Rattle.gj_json.specs.declared.mode.Move.TheVariants.{Go, Refuse};
+ghost use Rattle.gj_json.specs.declared.mode.NumberTurn.TheVariants.{Ends};
 
 use crate::class::{Class, classify};
 use crate::constant::Constant;
 use crate::levels::Level;
-use crate::mode::{Mode, Move, NumberState, StringMove, StringState};
-use crate::numbers::{may_end, next_number};
+use crate::mode::{Mode, Move, StringMove, StringState};
 use crate::strings::next_string;
 
 /// U+FEFF in UTF-8.
@@ -31,9 +31,7 @@ fn begin(class: Class) -> Move
         Class::OpenArray => Move::Open(Level::Array),
         Class::OpenObject => Move::Open(Level::Object),
         Class::Quote => Move::Go(Mode::StringOn(StringState::Plain)),
-        Class::Minus => Move::Go(Mode::NumberOn(NumberState::AfterMinus)),
-        Class::ZeroDigit => Move::Go(Mode::NumberOn(NumberState::AfterZero)),
-        Class::FirstDigit => Move::Go(Mode::NumberOn(NumberState::InDigits)),
+        Class::Minus | Class::ZeroDigit | Class::FirstDigit => Move::Go(Mode::NumberOn),
         Class::Letter(which) => Move::Go(Mode::ConstantOn(which, 1)),
         _ => Move::Refuse,
     }
@@ -174,22 +172,6 @@ fn colon_due(class: Class) -> Move
     }
 }
 
-fn in_number(state: NumberState, inner: Option<Level>, class: Class) -> Move
-    ensures value { result ≡ number_move (number_next state class) (number_may_end state) (after_move inner class) }
-    ensures mode { IsMove result }
-{
-    match next_number(state, class) {
-        Some(next) => Move::Go(Mode::NumberOn(next)),
-        None => {
-            if may_end(state) {
-                after_value(inner, class)
-            } else {
-                Move::Refuse
-            }
-        }
-    }
-}
-
 fn in_string(state: StringState, byte: u8) -> Move
     requires { IsStringState state }
     ensures value { result ≡ value_string_move (string_move (string_next state byte)) }
@@ -214,10 +196,10 @@ fn in_name(state: StringState, byte: u8) -> Move
     }
 }
 
-/// What a byte does in a mode, where `inner` is the innermost level that is open.
+/// What a byte does in a mode, where `inner` is the innermost level that is open, and a number under way has ended.
 pub fn next(mode: Mode, inner: Option<Level>, byte: u8) -> Move
     requires { IsMode mode }
-    ensures value { result ≡ move_of mode inner byte }
+    ensures value { result ≡ move_of mode Ends inner byte }
     ensures mode { IsMove result }
 {
     match mode {
@@ -225,11 +207,10 @@ pub fn next(mode: Mode, inner: Option<Level>, byte: u8) -> Move
         Mode::MarkOne => expect(byte, MARK_SECOND, Mode::MarkTwo),
         Mode::MarkTwo => expect(byte, MARK_THIRD, Mode::ValueDue),
         Mode::ValueDue => value_due(classify(byte)),
-        Mode::ValueDone => after_value(inner, classify(byte)),
+        Mode::ValueDone | Mode::NumberOn => after_value(inner, classify(byte)),
         Mode::ArrayOpened => array_opened(classify(byte)),
         Mode::ObjectOpened => object_opened(classify(byte)),
         Mode::ConstantOn(which, count) => next_letter(which, count, byte),
-        Mode::NumberOn(state) => in_number(state, inner, classify(byte)),
         Mode::StringOn(state) => in_string(state, byte),
         Mode::NameDue => name_due(classify(byte)),
         Mode::NameOn(state) => in_name(state, byte),

@@ -1,8 +1,11 @@
-ghost use Rattle.std.specs.Prelude.{◌≡◌, ℕ, ◌+◌, ◌^◌, ◌≤◌, ◌<◌, ◌++◌, ◌∷◌, [], List, length, take, IfOk, MatchResult, Some, None, Err};
-ghost use Rattle.gj_json.specs.Moves.{IsMode, IsMove, move_of};
-ghost use Rattle.gj_json.specs.Levels.{levels_in, inner_of, outer_of};
-ghost use Rattle.gj_json.specs.Told.{emitted};
-ghost use Rattle.gj_json.specs.declared.mode.Mode.TheVariants.{ValueDone};
+ghost use Rattle.std.specs.Prelude.{◌≡◌, ℕ, ◌+◌, ◌^◌, ◌≤◌, ◌<◌, ◌++◌, ◌∷◌, [], false, List, length, take, IfOk, MatchResult, Some, None, Err};
+ghost use Rattle.gj_number.specs.Grammar.{BeginsNumber};
+ghost use Rattle.gj_number.specs.Literal.{StandsFor as LiteralStandsFor};
+ghost use Rattle.gj_json.specs.Moves.{IsMode, IsMove};
+ghost use Rattle.gj_json.specs.Levels.{levels_in, outer_of};
+ghost use Rattle.gj_json.specs.Told.{in_number};
+ghost use Rattle.gj_json.specs.declared.mode.Mode.TheVariants.{NumberOn, ValueDone};
+ghost use Rattle.gj_json.specs.declared.mode.NumberTurn.TheVariants.{Ends};
 
 use crate::event::Event;
 use crate::fault::{Cause, JsonFault};
@@ -12,8 +15,18 @@ use crate::mode::{Mode, Move};
 use crate::moves::next;
 use crate::runs::{quiet_run, string_run};
 use crate::sink::{EventPair, EventSink};
-use crate::told::{is_on, last_event, tell_events};
+use crate::told::{is_number, is_on, last_event, tell_events};
 use arrayvec::ArrayVec;
+use gj_number::{Decimal, Literal, Step};
+
+/// The number that the byte begins, where it begins one.
+fn literal_of(byte: u8) -> Literal
+    ensures { BeginsNumber (byte ∷ []) → LiteralStandsFor result (byte ∷ []) }
+{
+    let mut literal = Literal::new();
+    let _ = literal.push(byte);
+    literal
+}
 
 /// Reads a text: byte by byte or in pieces of any size.
 ///
@@ -25,6 +38,8 @@ pub struct Reader {
     /// The place of the literal name, number, string or name that is under way.
     start: u64,
     levels: Levels,
+    /// The number that is under way.
+    literal: Literal,
     mode: Mode,
     fault: Option<JsonFault>,
     ghost sound: { IsMode mode },
@@ -42,7 +57,7 @@ impl Reader {
     ghost use Rattle.gj_json.specs.Reader.{StandsFor, limits_of, refusal_of, offset_of, Answers, Completed, HearsBy, FinishAnswers};
     ghost use Rattle.gj_json.specs.Feeding.{Skips, FeedsAll, FeedsTo};
     ghost use Rattle.gj_json.specs.Quiet.{Leads};
-    ghost use Rattle.gj_json.specs.Step.{Applied, IsRefusedWith, told_on, Passes, opened};
+    ghost use Rattle.gj_json.specs.Step.{Applied, IsRefusedWith, told_on, Passes, opened, move_by, told_by, Takes};
 
     /// A reader of a text under these limits, before its first byte.
     pub fn new(limits: Limits) -> Self
@@ -57,6 +72,7 @@ impl Reader {
             offset: 0,
             start: 0,
             levels: Levels::new(),
+            literal: Literal::new(),
             mode: Mode::TextDue,
             fault: None,
         }
@@ -72,7 +88,8 @@ impl Reader {
     }
 
     fn refuse(&mut self, cause: Cause) -> JsonFault
-        ensures { IsRefusedWith cause self.old self.new result }
+        ensures refused { IsRefusedWith cause self.old self.new result }
+        ensures literal { self.new.literal ≡ self.old.literal }
     {
         let fault = self.fault_here(cause);
         self.fault = Some(fault);
@@ -82,7 +99,8 @@ impl Reader {
     fn go(&mut self, mode: Mode)
         requires room { self.old.offset < self.old.limits.bytes }
         requires sound { IsMode mode }
-        ensures { Passes mode (levels_in self.old.levels) self.old self.new }
+        ensures passes { Passes mode (levels_in self.old.levels) self.old self.new }
+        ensures literal { self.new.literal ≡ self.old.literal }
     {
         if !is_on(self.mode) {
             self.start = self.offset;
@@ -95,7 +113,8 @@ impl Reader {
         requires room { self.old.offset < self.old.limits.bytes }
         requires deep { length (levels_in self.old.levels) < self.old.limits.depth }
         requires narrow { self.old.limits.depth ≤ 64 }
-        ensures { Passes (opened level) (level ∷ levels_in self.old.levels) self.old self.new }
+        ensures passes { Passes (opened level) (level ∷ levels_in self.old.levels) self.old self.new }
+        ensures literal { self.new.literal ≡ self.old.literal }
     {
         self.levels.push(level);
         self.go(match level {
@@ -106,7 +125,8 @@ impl Reader {
 
     fn close(&mut self)
         requires room { self.old.offset < self.old.limits.bytes }
-        ensures { Passes ValueDone (outer_of (levels_in self.old.levels)) self.old self.new }
+        ensures passes { Passes ValueDone (outer_of (levels_in self.old.levels)) self.old self.new }
+        ensures literal { self.new.literal ≡ self.old.literal }
     {
         self.levels.pop();
         self.go(Mode::ValueDone);
@@ -116,7 +136,8 @@ impl Reader {
         requires live { self.old.fault ≡ None }
         requires room { self.old.offset < self.old.limits.bytes }
         requires sound { IsMove made }
-        ensures { Applied made self.old self.new result }
+        ensures applied { Applied made self.old self.new result }
+        ensures literal { self.new.literal ≡ self.old.literal }
     {
         match made {
             Move::Refuse => return Err(self.refuse(Cause::Syntax)),
@@ -132,12 +153,19 @@ impl Reader {
         Ok(())
     }
 
-    /// Takes a byte that the limit on the bytes allows, and tells the events that it completes.
-    fn take_byte<S: EventSink>(&mut self, byte: u8, sink: &mut S) -> Result<(), JsonFault>
+    /// Takes a byte of a text in which no number is under way before it or the one that is has ended with this value, and
+    /// tells the events that it completes.
+    fn take_other<S: EventSink>(
+        &mut self,
+        byte: u8,
+        value: Option<Decimal>,
+        sink: &mut S,
+    ) -> Result<(), JsonFault>
         requires live { self.old.fault ≡ None }
         requires room { self.old.offset < self.old.limits.bytes }
-        ensures applied { Applied (move_of self.old.mode (inner_of (levels_in self.old.levels)) byte) self.old self.new result }
-        ensures heard { (events : List Event) → S.heard sink.old events → S.heard sink.new (events ++ told_on result (emitted self.old.mode (inner_of (levels_in self.old.levels)) (move_of self.old.mode (inner_of (levels_in self.old.levels)) byte) self.old.start self.old.offset)) }
+        ensures applied { Applied (move_by self.old Ends byte) self.old self.new result }
+        ensures literal { self.new.literal ≡ self.old.literal }
+        ensures heard { (events : List Event) → S.heard sink.old events → S.heard sink.new (events ++ told_on result (told_by self.old Ends value byte)) }
     {
         let inner = self.levels.inner();
         let mode = self.mode;
@@ -147,7 +175,48 @@ impl Reader {
         if let Err(fault) = self.apply(made) {
             return Err(fault);
         }
-        tell_events(sink, mode, inner, made, start, offset);
+        tell_events(sink, mode, inner, made, value, start, offset);
+        Ok(())
+    }
+
+    /// Takes a byte while a number is under way.
+    fn take_in_number<S: EventSink>(&mut self, byte: u8, sink: &mut S) -> Result<(), JsonFault>
+        requires live { self.old.fault ≡ None }
+        requires room { self.old.offset < self.old.limits.bytes }
+        requires number { self.old.mode ≡ NumberOn }
+        ensures { Takes (S.heard sink.old) (S.heard sink.new) self.old self.new byte result }
+    {
+        match self.literal.push(byte) {
+            Step::Goes => {
+                self.go(Mode::NumberOn);
+                Ok(())
+            }
+            Step::Ends => {
+                if self.literal.may_end() {
+                    let value = self.literal.value();
+                    self.take_other(byte, value, sink)
+                } else {
+                    Err(self.refuse(Cause::Syntax))
+                }
+            }
+        }
+    }
+
+    /// Takes a byte that the limit on the bytes allows, and tells the events that it completes.
+    fn take_byte<S: EventSink>(&mut self, byte: u8, sink: &mut S) -> Result<(), JsonFault>
+        requires live { self.old.fault ≡ None }
+        requires room { self.old.offset < self.old.limits.bytes }
+        ensures { Takes (S.heard sink.old) (S.heard sink.new) self.old self.new byte result }
+    {
+        if is_number(self.mode) {
+            return self.take_in_number(byte, sink);
+        }
+        if let Err(fault) = self.take_other(byte, None, sink) {
+            return Err(fault);
+        }
+        if is_number(self.mode) {
+            self.literal = literal_of(byte);
+        }
         Ok(())
     }
 
@@ -157,11 +226,24 @@ impl Reader {
         requires small { self.old.limits.bytes ≤ 2 ^ 60 }
         requires sound { IsMode mode }
         ensures count { result ≡ count }
-        ensures skips { (given : List ℕ) → length given ≡ count → Leads self.old.mode given mode → Skips self.old self.new given }
+        ensures skips { (given : List ℕ) → length given ≡ count → Leads self.old.mode given mode → in_number mode ≡ false → Skips self.old self.new given }
     {
         self.mode = mode;
         self.offset += count as u64;
         count
+    }
+
+    /// Takes the digits at the front of the piece that go on in the number under way: how many.
+    fn skip_digits(&mut self, piece: &[u8]) -> usize
+        requires room { self.old.offset + length piece.now ≤ self.old.limits.bytes }
+        requires small { self.old.limits.bytes ≤ 2 ^ 60 }
+        requires number { self.old.mode ≡ NumberOn }
+        ensures within { result ≤ length piece.now }
+        ensures skips { Skips self.old self.new (take result piece.now) }
+    {
+        let digits = self.literal.push_digits(piece);
+        self.offset += digits as u64;
+        digits
     }
 
     /// Takes the bytes at the front of the piece that complete nothing and open or close nothing: how many.
@@ -180,6 +262,7 @@ impl Reader {
                 let run = string_run(state, piece);
                 self.skip(run.count, Mode::NameOn(run.state))
             }
+            Mode::NumberOn => self.skip_digits(piece),
             mode => self.skip(quiet_run(mode, piece), mode),
         }
     }
@@ -278,7 +361,9 @@ impl Reader {
         if let Some(fault) = self.fault {
             return Err(fault);
         }
-        match last_event(self.mode, self.levels.inner(), self.start) {
+        let may_end = self.literal.may_end();
+        let value = self.literal.value();
+        match last_event(self.mode, self.levels.inner(), may_end, value, self.start) {
             Some(found) => Ok(found),
             None => Err(self.fault_here(Cause::Truncated)),
         }

@@ -3,9 +3,9 @@
 ghost use Rattle.std.specs.Prelude.{◌≡◌, ◌≤◌, length, take};
 ghost use Rattle.std.specs.List.{AllByRecursion, prefix_len};
 ghost use Rattle.gj_json.specs.Moves.{IsStringState};
-ghost use Rattle.gj_json.specs.Quiet.{IsQuiet, StringLeads, is_plain, is_white, is_digit};
+ghost use Rattle.gj_json.specs.Quiet.{IsQuiet, StringLeads, is_plain, is_white};
 
-use crate::mode::{Mode, NumberState, StringMove, StringState};
+use crate::mode::{Mode, StringMove, StringState};
 use crate::strings::next_string;
 
 fn is_plain(byte: u8) -> bool
@@ -18,12 +18,6 @@ fn is_white(byte: u8) -> bool
     ensures { result ≡ is_white byte }
 {
     byte == b' ' || byte == b'\t' || byte == b'\n' || byte == b'\r'
-}
-
-fn is_digit(byte: u8) -> bool
-    ensures { result ≡ is_digit byte }
-{
-    b'0' <= byte && byte <= b'9'
 }
 
 /// How many bytes at the front of the piece are characters by themselves.
@@ -39,12 +33,6 @@ fn white_run(piece: &[u8]) -> usize
     piece.iter().take_while(|byte| is_white(**byte)).count()
 }
 
-fn digit_run(piece: &[u8]) -> usize
-    ensures { result ≡ prefix_len is_digit piece.now }
-{
-    piece.iter().take_while(|byte| is_digit(**byte)).count()
-}
-
 /// How many bytes at the front of the piece leave the mode as it is, and complete no event.
 pub fn quiet_run(mode: Mode, piece: &[u8]) -> usize
     ensures within { result ≤ length piece.now }
@@ -57,9 +45,6 @@ pub fn quiet_run(mode: Mode, piece: &[u8]) -> usize
         Mode::ObjectOpened => white_run(piece),
         Mode::NameDue => white_run(piece),
         Mode::ColonDue => white_run(piece),
-        Mode::NumberOn(NumberState::InDigits) => digit_run(piece),
-        Mode::NumberOn(NumberState::InFraction) => digit_run(piece),
-        Mode::NumberOn(NumberState::InExponent) => digit_run(piece),
         _ => 0,
     }
 }

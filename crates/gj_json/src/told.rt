@@ -3,25 +3,36 @@
 ghost use Rattle.std.specs.Prelude.{◌≡◌, ◌++◌, List};
 ghost use Rattle.gj_json.specs.Told.{ended, value_ended, gone, opening_of, closing_of, made_event, emitted, is_on as is_on_of, last_event as last_event_of};
 ghost use Rattle.gj_json.specs.Events.{what_of as what_of_constant};
+ghost use Rattle.gj_json.specs.Told.{in_number};
 ghost use Rattle.gj_json.specs.declared.event.Event.{Event};
 
 use crate::constant::Constant;
 use crate::event::{Event, What};
 use crate::levels::Level;
 use crate::mode::{Mode, Move};
-use crate::numbers::may_end;
 use crate::sink::EventSink;
+use gj_number::Decimal;
 
 /// Whether a number under way has ended before the byte of this move.
 fn has_ended(mode: Mode, made: Move) -> bool
     ensures { result ≡ ended mode made }
 {
     match mode {
-        Mode::NumberOn(_) => match made {
+        Mode::NumberOn => match made {
             Move::Refuse => false,
-            Move::Go(Mode::NumberOn(_)) => false,
+            Move::Go(Mode::NumberOn) => false,
             _ => true,
         },
+        _ => false,
+    }
+}
+
+/// Whether a number is under way.
+pub fn is_number(mode: Mode) -> bool
+    ensures { result ≡ in_number mode }
+{
+    match mode {
+        Mode::NumberOn => true,
         _ => false,
     }
 }
@@ -31,7 +42,7 @@ pub fn is_on(mode: Mode) -> bool
     ensures { result ≡ is_on_of mode }
 {
     match mode {
-        Mode::ConstantOn(_, _) | Mode::NumberOn(_) | Mode::StringOn(_) | Mode::NameOn(_) => true,
+        Mode::ConstantOn(_, _) | Mode::NumberOn | Mode::StringOn(_) | Mode::NameOn(_) => true,
         _ => false,
     }
 }
@@ -120,21 +131,23 @@ fn event_of(mode: Mode, inner: Option<Level>, made: Move, start: u64, offset: u6
     }
 }
 
-/// Tells the events that the byte at `offset` completes, by what the reader kept before it and the move that it makes.
+/// Tells the events that the byte at `offset` completes, by what the reader kept before it and the move that it makes:
+/// `value` is that of the number under way.
 pub fn tell_events<S: EventSink>(
     sink: &mut S,
     mode: Mode,
     inner: Option<Level>,
     made: Move,
+    value: Option<Decimal>,
     start: u64,
     offset: u64,
 )
-    ensures { (events : List Event) → S.heard sink.old events → S.heard sink.new (events ++ emitted mode inner made start offset) }
+    ensures { (events : List Event) → S.heard sink.old events → S.heard sink.new (events ++ emitted mode inner made value start offset) }
 {
     if has_ended(mode, made) {
         sink.tell(Event {
             place: start,
-            what: What::Number,
+            what: What::Number(value),
         });
     }
     if let Some(event) = event_of(mode, inner, made, start, offset) {
@@ -142,20 +155,27 @@ pub fn tell_events<S: EventSink>(
     }
 }
 
-/// What is left to tell where the text ends, or `None` where it may not end: `start` is the place of what is under way.
-pub fn last_event(mode: Mode, inner: Option<Level>, start: u64) -> Option<Option<Event>>
-    ensures { result ≡ last_event_of mode inner start }
+/// What is left to tell where the text ends, or `None` where it may not end: the number under way may end or not, and has
+/// this value, and `start` is the place of what is under way.
+pub fn last_event(
+    mode: Mode,
+    inner: Option<Level>,
+    may_end: bool,
+    value: Option<Decimal>,
+    start: u64,
+) -> Option<Option<Event>>
+    ensures { result ≡ last_event_of mode inner may_end value start }
 {
     if let Some(_) = inner {
         return None;
     }
     match mode {
         Mode::ValueDone => Some(None),
-        Mode::NumberOn(state) => {
-            if may_end(state) {
+        Mode::NumberOn => {
+            if may_end {
                 Some(Some(Event {
                     place: start,
-                    what: What::Number,
+                    what: What::Number(value),
                 }))
             } else {
                 None

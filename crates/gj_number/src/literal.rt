@@ -106,6 +106,7 @@ impl Literal {
         ensures length { result ≤ length piece.now }
         ensures digits { All IsDigit (take result piece.now) }
         ensures stands { (bytes : List ℕ) → StandsFor self.old bytes → StandsFor self.new (bytes ++ take result piece.now) }
+        ensures begins { (bytes : List ℕ) → StandsFor self.new bytes → BeginsNumber bytes }
         ensures all { (bytes : List ℕ) → StandsFor self.old bytes → result < length piece.now → IsDigit (slice_index piece.now result)
             → BeginsNumber (bytes ++ take (result + 1) piece.now) → ⊥ }
     {

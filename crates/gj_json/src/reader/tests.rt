@@ -1,11 +1,14 @@
 //! Rows of inputs and what they are refused for; each in one piece, byte by byte and at every cut into two.
 
+ghost use Rattle.std.specs.Prelude.{◌≤◌, length};
+
 use super::Reader;
 use crate::event::{Event, What};
 use crate::fault::{Cause, JsonFault};
 use crate::limits::Limits;
 use crate::sink::EventSink;
 use arrayvec::ArrayVec;
+use gj_number::{Decimal, Literal};
 use std::alloc::{AllocError, Global};
 use std::process::Abort;
 
@@ -19,7 +22,9 @@ impl EventSink for FirstEvents {
     ghost heard = { λ sink events. Unit {0} };
 
     fn tell(&mut self, event: Event) {
-        let _ = self.events.try_push(event);
+        if self.events.get(15).is_none() {
+            self.events.push(event);
+        }
     }
 }
 
@@ -317,6 +322,80 @@ fn event(place: u64, what: What) -> Event {
     Event { place, what }
 }
 
+/// The value of a number, from its own reader.
+fn decimal(number: &[u8]) -> Option<Decimal> {
+    let mut literal = Literal::new();
+    for byte in number {
+        let _ = literal.push(*byte);
+    }
+    literal.value()
+}
+
+/// The first number that a sink was told.
+fn first_number(sink: &FirstEvents) -> Option<Decimal> {
+    for event in &sink.events {
+        if let What::Number(value) = event.what {
+            return value;
+        }
+    }
+    None
+}
+
+#[test]
+fn numbers_have_their_values(rt: HostRuntime) {
+    let rows: [(&[u8], Option<(bool, u128, i16)>); 16] = [
+        (b"[0]", Some((false, 0, 0))),
+        (b"[-0.0]", Some((false, 0, 0))),
+        (b"[0e99999]", Some((false, 0, 0))),
+        (b"[1.50,2]", Some((false, 15, -1))),
+        (b"[15e-1]", Some((false, 15, -1))),
+        (b"[-180]", Some((true, 18, 1))),
+        (b"[1e+2 ]", Some((false, 1, 2))),
+        (b"[100e-2]", Some((false, 1, 0))),
+        (b"[1e-07]", Some((false, 1, -7))),
+        (b"[-0.00000019]", Some((true, 19, -8))),
+        (
+            b"[1.4210854715202004e-14]",
+            Some((false, 14210854715202004, -30)),
+        ),
+        (
+            b"[9999999999.9999999]",
+            Some((false, 99999999999999999, -7)),
+        ),
+        (b"{\"a\":1e400}", Some((false, 1, 400))),
+        (b"[0.1e-399]", Some((false, 1, -400))),
+        (b"[1e401]", None),
+        (b"[1234567890123456789012345678901]", None),
+    ];
+    for (input, parts) in rows {
+        for cut in 0..input.len() {
+            let mut reader = Reader::new(Limits::usual());
+            let mut sink = no_events();
+            let _ = reader.feed(&input[..cut], &mut sink);
+            let _ = reader.feed(&input[cut..], &mut sink);
+            let value = first_number(&sink).map(|decimal| decimal.parts());
+            assert!(rt; value == parts, "cut at {cut}");
+        }
+    }
+}
+
+/// Whether the input in two pieces tells these events, and its end the last one.
+fn are_told(input: &[u8], cut: usize, told: &[Event], last: &Option<Event>) -> bool
+    requires { cut ≤ length input.now }
+{
+    let mut reader = Reader::new(Limits::usual());
+    let mut sink = no_events();
+    let _ = reader.feed(&input[..cut], &mut sink);
+    let _ = reader.feed(&input[cut..], &mut sink);
+    if sink.events.as_slice() != told {
+        return false;
+    }
+    match reader.finish() {
+        Ok(found) => found == *last,
+        Err(_) => false,
+    }
+}
+
 #[test]
 fn events_come_in_order(rt: HostRuntime) -> Result<(), AllocError> {
     let rows: [(&[u8], &[Event], Option<Event>); 6] = [
@@ -325,12 +404,12 @@ fn events_come_in_order(rt: HostRuntime) -> Result<(), AllocError> {
             &[
                 event(0, What::OpenObject),
                 event(1, What::Name),
-                event(5, What::Number),
+                event(5, What::Number(decimal(b"1"))),
                 event(6, What::CloseObject),
             ],
             None,
         ),
-        (b"7", &[], Some(event(0, What::Number))),
+        (b"7", &[], Some(event(0, What::Number(decimal(b"7"))))),
         (b"\"x\"", &[event(0, What::Text)], None),
         (
             b"\xEF\xBB\xBF[]",
@@ -356,21 +435,16 @@ fn events_come_in_order(rt: HostRuntime) -> Result<(), AllocError> {
             b"[-1.5e3,\"\\n\"]",
             &[
                 event(0, What::OpenArray),
-                event(1, What::Number),
+                event(1, What::Number(decimal(b"-1.5e3"))),
                 event(8, What::Text),
                 event(12, What::CloseArray),
             ],
             None,
         ),
     ];
-    for (input, told, last) in rows {
-        for cut in 0..input.len() {
-            let mut reader = Reader::new(Limits::usual());
-            let mut sink = no_events();
-            let _ = reader.feed(&input[..cut], &mut sink);
-            let _ = reader.feed(&input[cut..], &mut sink);
-            assert!(rt; sink.events.as_slice() == told, "cut at {cut}");
-            assert!(rt; reader.finish() == Ok(last), "at the end");
+    for row in &rows {
+        for cut in 0..row.0.len() {
+            assert!(rt; are_told(row.0, cut, row.1, &row.2), "cut at {cut}");
         }
     }
     Ok(())

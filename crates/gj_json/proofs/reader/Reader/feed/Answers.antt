@@ -25,7 +25,7 @@ full g c =
     let room : c.bytes.result - c.args.self.now.offset < length c.args.piece.now = omega (arith, c.if-piece-room.false) in
     Feeding.beyond c.args.piece.now (c.bytes.result - c.args.self.now.offset) room c.args.self.now c.take_piece-2.new.self c.refuse.new.self c.refuse.result
     fed
-    (omega (arith, c.bytes.ensures.value, c.args.self.now.within)) c.refuse.ensures
+    (omega (arith, c.bytes.ensures.value, c.args.self.now.within)) c.refuse.ensures.refused
 
 pub returns-in-Ok-clause-stands : goal.returns-in-Ok-clause-stands
 returns-in-Ok-clause-stands g c = (full g c).feeds.stands

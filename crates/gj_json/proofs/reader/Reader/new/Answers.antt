@@ -1,6 +1,22 @@
 -- Before the first byte nothing is complete.
+use Rattle.std.proofs.Common.{refl, arith}
+use Rattle.gj_json.specs.Machine.{text_due}
 use Rattle.gj_json.proofs.Finishing.{none_at_first}
 use Rattle.gj_json.proofs.reader.Reader.new.Goals as goal
+
+pub returns-clause-stands : goal.returns-clause-stands
+returns-clause-stands c = record {
+  well = record {
+    state = text_due;
+    runs = refl;
+    fits = tt;
+    kept = (refl, c.new.ensures);
+    at = refl;
+    within = omega arith;
+    timely = record { seen_by = tt; edge = refl };
+  };
+  keeps = tt;
+}
 
 pub returns-clause-events : goal.returns-clause-events
 returns-clause-events c = λ text rest t. none_at_first text rest t

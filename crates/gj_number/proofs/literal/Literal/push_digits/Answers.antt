@@ -5,6 +5,8 @@ use Rattle.std.proofs.lemmas.List.Elements.{All-append, All-more}
 use Rattle.gj_number.specs.Bytes.{IsDigit}
 use Rattle.gj_number.specs.Grammar.{BeginsNumber}
 use Rattle.gj_number.specs.Literal.{StandsFor}
+use Rattle.gj_number.specs.declared.literal.Literal.{Literal}
+use Rattle.gj_number.proofs.Standing.{begins}
 use Rattle.gj_number.proofs.literal.Literal.push_digits.Goals as goal
 
 -- the bytes so far with one more of the piece
@@ -51,3 +53,14 @@ returns-then-not-push_digit-clause-all c bytes h below digit begins =
     let more = take_more piece i 0 c.loop-at-test.true in
     let P : List ℕ → Type 0 = λ xs. BeginsNumber xs in
     c.push_digit.ensures.refused (bytes ++ take i piece) (c.loop-at.invariant.stands bytes h) c.if-not-push_digit.true digit (subst P (sym (one_more bytes piece i more)) begins)
+
+-- whatever a literal stands for begins a number
+stands_begin : (literal : Literal) (bytes : List ℕ) → StandsFor literal bytes → BeginsNumber bytes
+unfolding StandsFor
+stands_begin literal bytes h = begins bytes h.0 h.1
+
+pub returns-then-not-push_digit-clause-begins : goal.returns-then-not-push_digit-clause-begins
+returns-then-not-push_digit-clause-begins c = λ bytes h. stands_begin c.push_digit.new.self bytes h
+
+pub returns-clause-begins : goal.returns-clause-begins
+returns-clause-begins c = λ bytes h. stands_begin c.loop-at.self bytes h
