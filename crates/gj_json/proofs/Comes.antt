@@ -11,9 +11,9 @@ use Rattle.gj_json.specs.Classes.{class_of}
 use Rattle.gj_json.specs.Machine.{Broken, text_due, mark_one, mark_two, begun, with_mark, step, Frame, in_array, in_object, Member, Leaf, Partial, value_due, value_done, array_opened, object_opened, constant_on, number_on, string_on, name_due, name_on, colon_due, to, step_leaf, begin_value, after_value, step_value_due, step_array_opened, step_object_opened, step_name_due, step_colon_due, step_constant, step_number, step_string, step_name, string_next, StringStep, string_ends, string_goes, string_refuses, number_next, number_may_end}
 use Rattle.gj_json.specs.NumberStates.{NumberState}
 use Rattle.gj_json.specs.Stands.{LeafAs, StandsAs}
-use Rattle.gj_json.specs.Told.{in_number}
+use Rattle.gj_json.specs.Told.{in_number, text_state}
 use Rattle.gj_json.specs.Tree.{Tree, constant, number as number_tree}
-use Rattle.gj_json.specs.Under.{Under, nothing, number, content, under_leaf, under_of, ComesFrom}
+use Rattle.gj_json.specs.Under.{Under, nothing, number, text, under_leaf, under_of, ComesFrom}
 
 abbrev pub Came : Under → ℕ → Option Partial → Type 0
 Came before b None = Unit {0}
@@ -91,12 +91,12 @@ number_came stack place so_far state n b c (Some next) may_end e = (refl, e)
 number_came stack place so_far state n b c None true e = after_came (number so_far state) b stack (number_tree place so_far n) n c
 number_came stack place so_far state n b c None false e = tt
 
-string_came : (stack : List Frame) (place : ℕ) (so_far : List ℕ) (state : StringState) (n b : ℕ) (s : StringStep) → string_next state b ≡ s → Came (content so_far state) b (step_string stack place so_far n s)
+string_came : (stack : List Frame) (place : ℕ) (so_far : List ℕ) (state : StringState) (n b : ℕ) (s : StringStep) → string_next state b ≡ s → Came (text so_far state) b (step_string stack place so_far n s)
 string_came stack place so_far state n b string_ends e = tt
 string_came stack place so_far state n b (string_goes more next) e = (more, refl, e)
 string_came stack place so_far state n b string_refuses e = tt
 
-name_string_came : (stack : List Frame) (place : ℕ) (done : List Member) (np : ℕ) (so_far : List ℕ) (state : StringState) (n b : ℕ) (s : StringStep) → string_next state b ≡ s → Came (content so_far state) b (step_name stack place done np so_far n s)
+name_string_came : (stack : List Frame) (place : ℕ) (done : List Member) (np : ℕ) (so_far : List ℕ) (state : StringState) (n b : ℕ) (s : StringStep) → string_next state b ≡ s → Came (text so_far state) b (step_name stack place done np so_far n s)
 name_string_came stack place done np so_far state n b string_ends e = tt
 name_string_came stack place done np so_far state n b (string_goes more next) e = (more, refl, e)
 name_string_came stack place done np so_far state n b string_refuses e = tt
@@ -164,3 +164,26 @@ mode_under text_due mode levels a = rw (a.0) refl
 mode_under mark_one mode levels a = rw (a.0) refl
 mode_under mark_two mode levels a = rw (a.0) refl
 mode_under (begun marked s) mode levels a = leaf_mode s.leaf mode a.0
+
+-- and which character of a string
+abbrev pub state_under : Under → Option StringState
+state_under (text so_far state) = Some state
+state_under _ = None
+
+leaf_state : (leaf : Leaf) (mode : Mode) → LeafAs leaf mode → text_state mode ≡ state_under (under_leaf leaf)
+leaf_state value_due mode a = rw a refl
+leaf_state (value_done t) mode a = rw a refl
+leaf_state (array_opened place) mode a = rw a refl
+leaf_state (object_opened place) mode a = rw a refl
+leaf_state (constant_on which place left) mode a = rw (a.1) refl
+leaf_state (number_on place so_far state) mode a = rw a refl
+leaf_state (string_on place so_far state) mode a = rw a refl
+leaf_state (name_due place done) mode a = rw a refl
+leaf_state (name_on place done np so_far state) mode a = rw a refl
+leaf_state (colon_due place done np name ne) mode a = rw a refl
+
+pub mode_state : (s : Broken) (mode : Mode) (levels : List Level) → StandsAs s mode levels → text_state mode ≡ state_under (under_of s)
+mode_state text_due mode levels a = rw (a.0) refl
+mode_state mark_one mode levels a = rw (a.0) refl
+mode_state mark_two mode levels a = rw (a.0) refl
+mode_state (begun marked s) mode levels a = leaf_state s.leaf mode a.0

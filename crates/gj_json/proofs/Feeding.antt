@@ -16,9 +16,9 @@ use Rattle.gj_json.specs.Text.{IsText}
 use Rattle.gj_json.specs.Refusal.{IsRefusal}
 use Rattle.gj_json.specs.Events.{events_by}
 use Rattle.gj_json.specs.Levels.{levels_in}
-use Rattle.gj_json.specs.Feeding.{Skips, SkipsBy, leading, in_literal, Feeds, FeedsAll, FeedsTo}
+use Rattle.gj_json.specs.Feeding.{Skips, SkipsBy, leading, in_literal, in_text, Feeds, FeedsAll, FeedsTo}
 use Rattle.gj_json.specs.Under.{under_of}
-use Rattle.gj_json.proofs.Comes.{mode_under}
+use Rattle.gj_json.proofs.Comes.{mode_under, mode_state}
 use Rattle.gj_json.proofs.Literals.{keeps_none}
 use Rattle.gj_json.specs.Reader.{StandsFor, Answers, Completed, Hears, HearsBy}
 use Rattle.gj_json.specs.Stands.{StandsOpen, StandsRefused}
@@ -28,7 +28,7 @@ use Rattle.gj_json.specs.declared.mode.Move.TheVariants.{Refuse, Go, Open, Close
 use Rattle.gj_json.specs.Levels.{outer_of}
 use Rattle.gj_json.specs.Step.{Applied, PassesTo, RefusesWith, IsRefusedWith, opened, told_on, move_by, told_by, Takes}
 use Rattle.gj_json.proofs.Reading.{pushed, completed, stop, well_viable, well_of, open_of, refuses_on, lasts}
-use Rattle.gj_json.proofs.Quietly.{quiet_run, digits_run}
+use Rattle.gj_json.proofs.Quietly.{quiet_run, digits_run, text_run}
 use Rattle.gj_json.proofs.Slices.{take_all_of, rest_of}
 
 -- ---- what a reader that stands for bytes says of them
@@ -140,20 +140,22 @@ byte_feeds {before} {after} old new b result live room nested w =
 
 -- ---- bytes that complete nothing
 
-skip_well : (old new : Reader) (given : List ℕ) → old.fault ≡ None → Skips old new given → (bytes : List ℕ) → StandsOpen old.limits new.mode (levels_in old.levels) new.literal old.start (old.offset + length given) (bytes ++ given) → StandsFor new (bytes ++ given)
+skip_well : (old new : Reader) (given : List ℕ) → old.fault ≡ None → Skips old new given → (bytes : List ℕ) → StandsOpen old.limits new.mode (levels_in old.levels) new.literal new.content old.start (old.offset + length given) (bytes ++ given) → StandsFor new (bytes ++ given)
 skip_well old new given live s bytes w = rw (s.fault, live, s.limits, s.levels, s.start, s.offset) w
 
 -- what bytes leave that complete nothing
-skipped : (old new : Reader) (given : List ℕ) (bytes : List ℕ) → SkipsBy old new given → old.offset + length given ≤ old.limits.bytes → StandsOpen old.limits old.mode (levels_in old.levels) old.literal old.start old.offset bytes
-    → StandsOpen old.limits new.mode (levels_in old.levels) new.literal old.start (old.offset + length given) (bytes ++ given) × Completed old.offset (old.offset + length given) (bytes ++ given) []
-skipped old new given bytes (leading leads other) room k =
+skipped : (old new : Reader) (given : List ℕ) (bytes : List ℕ) → SkipsBy old new given → old.offset + length given ≤ old.limits.bytes → StandsOpen old.limits old.mode (levels_in old.levels) old.literal old.content old.start old.offset bytes
+    → StandsOpen old.limits new.mode (levels_in old.levels) new.literal new.content old.start (old.offset + length given) (bytes ++ given) × Completed old.offset (old.offset + length given) (bytes ++ given) []
+skipped old new given bytes (leading leads other none) room k =
     let q = quiet_run old.limits (levels_in old.levels) old.start given old.mode new.mode old.offset bytes k.well room leads in
-    (record { well = q.0; keeps = keeps_none (under_of q.0.state) new.literal (sym (mode_under q.0.state new.mode (levels_in old.levels) q.0.kept) ∙ other) }, q.1)
+    (record { well = q.0; keeps = keeps_none (under_of q.0.state) new.literal new.content (sym (mode_under q.0.state new.mode (levels_in old.levels) q.0.kept) ∙ other) (sym (mode_state q.0.state new.mode (levels_in old.levels) q.0.kept) ∙ none) }, q.1)
 skipped old new given bytes (in_literal from to goes) room k =
-    let P : Mode → Type 0 = λ m. StandsOpen old.limits m (levels_in old.levels) old.literal old.start old.offset bytes in
-    let Q : Mode → Type 0 = λ m. StandsOpen old.limits m (levels_in old.levels) new.literal old.start (old.offset + length given) (bytes ++ given) in
-    let d = digits_run old.limits (levels_in old.levels) old.start given old.literal new.literal old.offset bytes (subst P from k) goes room in
+    let P : Mode → Type 0 = λ m. StandsOpen old.limits m (levels_in old.levels) old.literal old.content old.start old.offset bytes in
+    let Q : Mode → Type 0 = λ m. StandsOpen old.limits m (levels_in old.levels) new.literal new.content old.start (old.offset + length given) (bytes ++ given) in
+    let d = digits_run old.limits (levels_in old.levels) old.start given old.literal new.literal old.content new.content old.offset bytes (subst P from k) goes room in
     (subst Q (sym to) d.0, d.1)
+skipped old new given bytes (in_text first last characters modes reads holds) room k =
+    text_run old.limits (levels_in old.levels) old.start given characters first last old.mode new.mode old.literal new.literal old.content new.content old.offset bytes k modes reads holds room
 
 pub skip_feeds : {heard : List Event → Type 0} (old new : Reader) (given : List ℕ) → old.fault ≡ None → old.offset + length given ≤ old.limits.bytes → Skips old new given → FeedsAll heard heard old new given
 skip_feeds {heard} old new given live room s = record {
@@ -171,7 +173,7 @@ skip_feeds {heard} old new given live room s = record {
   offset = s.offset;
 }
   where
-    run : (bytes : List ℕ) → StandsFor old bytes → StandsOpen old.limits new.mode (levels_in old.levels) new.literal old.start (old.offset + length given) (bytes ++ given) × Completed old.offset (old.offset + length given) (bytes ++ given) []
+    run : (bytes : List ℕ) → StandsFor old bytes → StandsOpen old.limits new.mode (levels_in old.levels) new.literal new.content old.start (old.offset + length given) (bytes ++ given) × Completed old.offset (old.offset + length given) (bytes ++ given) []
     run bytes h = skipped old new given bytes s.by room (open_of old bytes live h)
 
 -- ---- one call after another

@@ -34,7 +34,7 @@ use Rattle.gj_number.specs.Exact.{Exact}
 use Rattle.gj_number.specs.Grammar.{IsNumber}
 use Rattle.gj_number.specs.Value.{value_of}
 use Rattle.gj_number.specs.Literal.{StandsFor as LiteralStandsFor}
-use Rattle.gj_json.specs.Under.{Under, nothing, number as number_under, content, under_leaf, under_of, Keeps}
+use Rattle.gj_json.specs.Under.{Under, nothing, number as number_under, text as text_under, under_leaf, under_of, Keeps}
 use Rattle.gj_json.proofs.Literals.{ends_by, number_by}
 use Rattle.gj_json.proofs.Texts.{text_start, text_goes_on, Finishes, text_finishes, finishes_text}
 use Rattle.gj_json.proofs.Times.{told}
@@ -132,9 +132,9 @@ ends_go limits mode levels start offset bytes k (Some found) h =
 abbrev pub LiteralEnds : Reader → Bool → Option Exact → Type 0
 LiteralEnds reader may_end value = (bytes : List ℕ) → LiteralStandsFor reader.literal bytes → ((may_end ≡ true) ↔ IsNumber bytes) × (IsNumber bytes → value ≡ value_of bytes)
 
-ends_as : (u : Under) (reader : Reader) (may_end : Bool) (value : Option Exact) → LiteralEnds reader may_end value → Keeps u reader.literal → EndsAs u may_end value
+ends_as : (u : Under) (reader : Reader) (may_end : Bool) (value : Option Exact) → LiteralEnds reader may_end value → Keeps u reader.literal reader.content → EndsAs u may_end value
 ends_as nothing reader may_end value h k = tt
-ends_as (content so_far state) reader may_end value h k = tt
+ends_as (text_under so_far state) reader may_end value h k = tt
 ends_as (number_under so_far state) reader may_end value h k = (
   go may_end (number_may_end state) (λ e. ends_by so_far state k.1 ((h so_far k.0).0.0 e)) (λ e. (h so_far k.0).0.1 (number_by so_far state k.1 e)),
   λ e. (h so_far k.0).1 (number_by so_far state k.1 e),

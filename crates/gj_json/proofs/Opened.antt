@@ -3,6 +3,7 @@ use Rattle.std.proofs.Common.{sym, ◌≡◌, ℕ, ◌+◌, ◌≤◌, ◌<◌, 
 use Rattle.std.proofs.lemmas.Bool.Decides.{nat_tests}
 use Rattle.gj_json.specs.declared.event.What.TheVariants as What
 use Rattle.gj_json.specs.Tree.{Text, Tree, constant, number, string, array, object, Elements, end_of_array, element, Members, end_of_object, member}
+use Rattle.gj_json.specs.Names.{known_of}
 use Rattle.gj_json.specs.Events.{Timed, timed, events, elements_events, members_events}
 use Rattle.gj_json.specs.Open.{is_open, open_in, elements_open, members_open, open_at}
 use Rattle.gj_json.specs.Machine.{Broken, text_due, mark_one, mark_two, begun, Frame, in_array, in_object, Member, Leaf, value_due, value_done, array_opened, object_opened, constant_on, number_on, string_on, name_due, name_on, colon_due, back_elements, back_members}
@@ -83,7 +84,7 @@ back_open n (t ∷ done) more h =
 back_members_open : (n : ℕ) (done : List Member) (more : Members) → InTime n (done_members done) → members_open n (back_members done more) ≡ members_open n more
 back_members_open n [] more h = refl
 back_members_open n (m ∷ done) more h =
-    let g = front n (done_members done) (timed m.end m.place What.Name ∷ events m.value) h in
+    let g = front n (done_members done) (timed m.end m.place (What.Name (known_of m.name)) ∷ events m.value) h in
     back_members_open n done (member m.place m.name m.end m.value more) g.0 ∙ omega (arith, complete m.value n g.1.1)
 
 -- around the value t are the containers of the stack
@@ -95,8 +96,8 @@ after_open (in_array place done ∷ stack) t T n m bytes l i h =
     let r = after_open stack (array place (back_elements done (element t h.0)) h.1) T n _ _ (omega arith) g.0 h.2.after.after in
     omega (arith, r, back_open n done (element t h.0) g.1.1, opened n place h.1 g.1.0 (omega (arith, k.1.0)), elements_to_come h.0 n (later n m (elements_events h.0) l k.0))
 after_open (in_object place done np name ne ∷ stack) t T n m bytes l i h =
-    let g = front n (stack_timed stack) (timed (place + 1) place What.OpenObject ∷ (done_members done ++ timed ne np What.Name ∷ [])) i in
-    let j = front n (done_members done) (timed ne np What.Name ∷ []) g.1.1 in
+    let g = front n (stack_timed stack) (timed (place + 1) place What.OpenObject ∷ (done_members done ++ timed ne np (What.Name (known_of name)) ∷ [])) i in
+    let j = front n (done_members done) (timed ne np (What.Name (known_of name)) ∷ []) g.1.1 in
     let k = front_late m (members_events h.0) (timed (h.1 + 1) h.1 What.CloseObject ∷ []) (later m _ (members_events h.0 ++ timed (h.1 + 1) h.1 What.CloseObject ∷ []) (omega arith) (late_more_members h.0 h.1 _ _ h.2.after.before)) in
     let r = after_open stack (object place (back_members done (member np name ne t h.0)) h.1) T n _ _ (omega arith) g.0 h.2.after.after in
     omega (arith, r, back_members_open n done (member np name ne t h.0) j.0, opened n place h.1 g.1.0 (omega (arith, k.1.0)), members_to_come h.0 n (later n m (members_events h.0) l k.0))
@@ -163,8 +164,8 @@ levels_open stack (name_on place done np so_far state) T n bytes i h =
     let g = front n (stack_timed stack) (timed (place + 1) place What.OpenObject ∷ done_members done) i in
     name_open stack place done np (so_far ++ h.0) h.1 T n _ _ (omega arith) g.0 g.1.0 g.1.1 h.2.after
 levels_open stack (colon_due place done np name ne) T n bytes i h =
-    let g = front n (stack_timed stack) (timed (place + 1) place What.OpenObject ∷ (done_members done ++ timed ne np What.Name ∷ [])) i in
-    name_open stack place done np name ne T n _ _ (omega arith) g.0 g.1.0 (front n (done_members done) (timed ne np What.Name ∷ []) g.1.1).0 h
+    let g = front n (stack_timed stack) (timed (place + 1) place What.OpenObject ∷ (done_members done ++ timed ne np (What.Name (known_of name)) ∷ [])) i in
+    name_open stack place done np name ne T n _ _ (omega arith) g.0 g.1.0 (front n (done_members done) (timed ne np (What.Name (known_of name)) ∷ []) g.1.1).0 h
 
 -- ---- a whole text
 

@@ -4,6 +4,7 @@ use Rattle.std.proofs.lemmas.List.{append-nil}
 use Rattle.gj_json.specs.Bytes.{colon as colon_byte, quote as quote_byte}
 use Rattle.gj_json.specs.declared.event.What.{What}
 use Rattle.gj_json.specs.Tree.{Text, Tree, constant, number, string, array, object, Elements, element, Members, member}
+use Rattle.gj_json.specs.Names.{known_of}
 use Rattle.gj_json.specs.Grammar.{Then, White, Exactly, Ends, Spells, SpellsMoreElements, SpellsMoreMembers}
 use Rattle.gj_json.specs.Events.{Timed, timed, events, elements_events, members_events, mark_events, text_events, by, events_by}
 use Rattle.gj_json.specs.Machine.{Broken, text_due, mark_one, mark_two, begun, Frame, in_array, in_object, Member, Leaf, value_due, value_done, array_opened, object_opened, constant_on, number_on, string_on, name_due, name_on, colon_due, back_elements, back_members}
@@ -17,7 +18,7 @@ back_elements-events (t ∷ done) more = back_elements-events done (element t mo
 
 pub back_members-events : (done : List Member) (more : Members) → members_events (back_members done more) ≡ done_members done ++ members_events more
 back_members-events [] more = refl
-back_members-events (m ∷ done) more = back_members-events done (member m.place m.name m.end m.value more) ∙ sym (append_assoc (done_members done) (timed m.end m.place What.Name ∷ events m.value) (members_events more))
+back_members-events (m ∷ done) more = back_members-events done (member m.place m.name m.end m.value more) ∙ sym (append_assoc (done_members done) (timed m.end m.place (What.Name (known_of m.name)) ∷ events m.value) (members_events more))
 
 regroup : (S X D E M G : List Timed) (o c : Timed) → X ≡ D ++ (E ++ M) → S ++ ((o ∷ (X ++ c ∷ [])) ++ G) ≡ (S ++ (o ∷ D)) ++ (E ++ ((M ++ c ∷ []) ++ G))
 regroup S X D E M G o c e = rw e (simp append_assoc)
@@ -42,7 +43,7 @@ after_seen (in_object place done np name ne ∷ stack) t T n bytes h =
     let l : Late n (members_events h.0 ++ timed (h.1 + 1) h.1 What.CloseObject ∷ []) = later n _ (members_events h.0 ++ timed (h.1 + 1) h.1 What.CloseObject ∷ []) (omega arith) (late_more_members h.0 h.1 _ _ w.after.before) in (
       (members_events h.0 ++ timed (h.1 + 1) h.1 What.CloseObject ∷ []) ++ g.0,
       late-append n _ g.0 l (later n _ g.0 (omega arith) g.1),
-      g.2 ∙ regroup_named (stack_timed stack) _ (done_members done) (events t) (members_events h.0) g.0 (timed (place + 1) place What.OpenObject) (timed ne np What.Name) (timed (h.1 + 1) h.1 What.CloseObject) (back_members-events done (member np name ne t h.0)),
+      g.2 ∙ regroup_named (stack_timed stack) _ (done_members done) (events t) (members_events h.0) g.0 (timed (place + 1) place What.OpenObject) (timed ne np (What.Name (known_of name))) (timed (h.1 + 1) h.1 What.CloseObject) (back_members-events done (member np name ne t h.0)),
     )
 
 -- ---- the same of each state: its past, and what comes later
@@ -60,7 +61,7 @@ opened_split : (S X G : List Timed) (o c : Timed) (E : List Timed) → E ≡ S +
 opened_split S X G o c E e = e ∙ simp append_assoc
 
 name_split : (stack : List Frame) (place : ℕ) (done : List Member) (np : ℕ) (name : List ℕ) (ne : ℕ) (T : Tree) (n : ℕ) (bytes : List ℕ) → AfterName stack place done np name ne T n bytes
-    → (rest : List Timed) × Late n rest × (events T ≡ (stack_timed stack ++ (timed (place + 1) place What.OpenObject ∷ (done_members done ++ timed ne np What.Name ∷ []))) ++ rest)
+    → (rest : List Timed) × Late n rest × (events T ≡ (stack_timed stack ++ (timed (place + 1) place What.OpenObject ∷ (done_members done ++ timed ne np (What.Name (known_of name)) ∷ []))) ++ rest)
 name_split stack place done np name ne T n bytes h =
     let w : Then White (Then (Exactly (colon_byte ∷ [])) (Then White (Then (Spells h.0) (After (in_object place done np name ne ∷ stack) h.0 T)))) n bytes = h.1 in
     let v : Then White (Then (Spells h.0) (After (in_object place done np name ne ∷ stack) h.0 T)) (n + length w.first + length w.after.first) w.after.rest = w.after.after in
@@ -98,11 +99,11 @@ split stack (string_on place so_far state) T n bytes k h =
 split stack (name_due place done) T n bytes k h =
     let g = name_split stack place done h.0 h.1 h.2 T _ _ h.3.after.after in
     let q = quoted_after h.0 h.1 h.2 h.3.after.before in
-    (timed h.2 h.0 What.Name ∷ g.0, (omega (arith, q), later n _ g.0 (omega arith) g.1), due_split (stack_timed stack) (done_members done) g.0 (timed (place + 1) place What.OpenObject) (timed h.2 h.0 What.Name) (events T) g.2)
+    (timed h.2 h.0 (What.Name (known_of h.1)) ∷ g.0, (omega (arith, q), later n _ g.0 (omega arith) g.1), due_split (stack_timed stack) (done_members done) g.0 (timed (place + 1) place What.OpenObject) (timed h.2 h.0 (What.Name (known_of h.1))) (events T) g.2)
 split stack (name_on place done np so_far state) T n bytes k h =
     let g = name_split stack place done np (so_far ++ h.0) h.1 T _ _ h.2.after in
     let q = string_after {end = h.1} h.2.before in
-    (timed h.1 np What.Name ∷ g.0, (omega (arith, q), later n _ g.0 (omega arith) g.1), due_split (stack_timed stack) (done_members done) g.0 (timed (place + 1) place What.OpenObject) (timed h.1 np What.Name) (events T) g.2)
+    (timed h.1 np (What.Name (known_of (so_far ++ h.0))) ∷ g.0, (omega (arith, q), later n _ g.0 (omega arith) g.1), due_split (stack_timed stack) (done_members done) g.0 (timed (place + 1) place What.OpenObject) (timed h.1 np (What.Name (known_of (so_far ++ h.0)))) (events T) g.2)
 split stack (colon_due place done np name ne) T n bytes k h = name_split stack place done np name ne T n bytes h
 
 -- ---- a whole text

@@ -1,5 +1,5 @@
 -- Bytes that complete nothing, in a row.
-use Rattle.std.proofs.Common.{◌≡◌, ℕ, ◌+◌, ◌≤◌, ◌<◌, true, List, [], ◌∷◌, ◌++◌, length, Option, Some, None, refl, sym, subst, ◌∙◌, arith, append_assoc, append-nil}
+use Rattle.std.proofs.Common.{inl, inr, ◌≡◌, ℕ, ◌+◌, ◌≤◌, ◌<◌, true, List, [], ◌∷◌, ◌++◌, length, Option, Some, None, refl, sym, ap, subst, ◌∙◌, arith, append_assoc, append-nil}
 use Rattle.gj_json.specs.declared.event.Event.{Event}
 use Rattle.gj_json.specs.declared.levels.Level.{Level}
 use Rattle.gj_json.specs.declared.mode.Mode.{Mode}
@@ -7,23 +7,30 @@ use Rattle.gj_json.specs.Limits.{Allowed}
 use Rattle.gj_json.specs.Text.{IsText}
 use Rattle.gj_json.specs.Events.{events_by}
 use Rattle.gj_json.specs.Levels.{inner_of}
-use Rattle.gj_json.specs.Machine.{Broken, text_due, mark_one, mark_two, begun, step, Leaf, value_due, value_done, array_opened, object_opened, constant_on, number_on, string_on, name_due, name_on, colon_due}
-use Rattle.gj_json.specs.Moves.{move_of}
-use Rattle.gj_json.specs.Quiet.{LeadsBy, Leads}
+use Rattle.gj_json.specs.Machine.{Broken, text_due, mark_one, mark_two, begun, step, string_next, string_goes, Leaf, value_due, value_done, array_opened, object_opened, constant_on, number_on, string_on, name_due, name_on, colon_due}
+use Rattle.gj_json.specs.Moves.{move_of, string_move, value_string_move, name_string_move}
+use Rattle.gj_json.specs.Quiet.{LeadsBy, Leads, Reads}
 use Rattle.gj_json.specs.Reader.{Completed}
 use Rattle.gj_json.specs.Seen.{EdgeAt, BegunAs, seen}
 use Rattle.gj_json.specs.Stands.{StandsWell, StandsOpen, StandsAs, LeafAs, FitsBroken}
 use Rattle.gj_number.specs.Grammar.{BeginsNumber}
 use Rattle.gj_number.specs.declared.literal.Literal.{Literal}
 use Rattle.gj_number.specs.Literal.{StandsFor as LiteralStandsFor}
-use Rattle.gj_json.specs.declared.mode.Mode.TheVariants.{NumberOn}
+use Rattle.gj_json.specs.declared.content.Content.{Content}
+use Rattle.gj_json.specs.declared.mode.StringState.{StringState}
+use Rattle.gj_json.specs.declared.mode.Mode.TheVariants.{NumberOn, StringOn, NameOn}
+use Rattle.gj_json.specs.Content.{Holds}
+use Rattle.gj_json.specs.Names.{Words}
+use Rattle.gj_json.specs.Feeding.{GoesOn}
+use Rattle.gj_number.specs.Exact.{Exact}
+use Rattle.gj_json.proofs.OneCharacter.{OneCharacter, one_character}
 use Rattle.gj_json.specs.declared.mode.Move.TheVariants.{Go}
 use Rattle.gj_json.specs.declared.mode.NumberTurn.{NumberTurn}
 use Rattle.gj_json.specs.NumberStates.{NumberState, number_state}
-use Rattle.gj_json.specs.Under.{Under, nothing, number, content, under_of, ComesFrom, Keeps, Turns}
-use Rattle.gj_json.proofs.Comes.{is_number, CameTo, step_came, mode_under}
-use Rattle.gj_json.proofs.Literals.{own_turn, own_turns, own_value, own_has, goes_on, came_number, number_front}
-use Rattle.gj_json.specs.Told.{emitted, is_on, start_after}
+use Rattle.gj_json.specs.Under.{Under, nothing, number, text, under_of, ComesFrom, Keeps, Turns}
+use Rattle.gj_json.proofs.Comes.{is_number, state_under, CameTo, step_came, mode_under, mode_state}
+use Rattle.gj_json.proofs.Literals.{own_turn, own_turns, own_value, own_has, own_words, own_has_words, goes_on, came_number, came_text, number_front}
+use Rattle.gj_json.specs.Told.{emitted, is_on, start_after, text_state}
 use Rattle.gj_json.proofs.Completes.{Goes}
 use Rattle.gj_json.proofs.Simulation.{moves}
 use Rattle.gj_json.proofs.Telling.{Tells}
@@ -55,6 +62,39 @@ no_more offset n bytes b run c d = λ T rest t.
     let v : IsText T ((bytes ++ b ∷ []) ++ (run ++ rest)) = rw (append_assoc (bytes ++ b ∷ []) run rest) at u in
     d T rest u ∙ append-nil (events_by (offset + 1) T) ∙ c T (run ++ rest) v
 
+-- a mode in which a string, or a name, is under way
+record IsTextMode (on : StringState → Mode) : Type 0 where
+  pub moves : (state next : StringState) (more : List ℕ) (b : ℕ) (turn : NumberTurn) (inner : Option Level) → string_next state b ≡ string_goes more next → move_of (on state) turn inner b ≡ Go (on next)
+  pub is_text : (state : StringState) → is_on (on state) ≡ true
+  pub nothing : (state next : StringState) (inner : Option Level) (value : Option Exact) (words : Words) (start n : ℕ) → emitted (on state) inner (Go (on next)) value words start n ≡ []
+  pub state : (state : StringState) → text_state (on state) ≡ Some state
+
+string_mode : IsTextMode StringOn
+string_mode = record {
+  moves = λ state next more b turn inner e. let o : OneCharacter (string_goes more next) = (let p = one_character state b in rw e at p) in rw e (move more next o);
+  is_text = λ state. refl;
+  nothing = λ state next inner value words start n. refl;
+  state = λ state. refl;
+}
+  where
+    move : (more : List ℕ) (next : StringState) → OneCharacter (string_goes more next) → value_string_move (string_move (string_goes more next)) ≡ Go (StringOn next)
+    move [] next o = refl
+    move (c ∷ []) next o = rw o refl
+    move (c ∷ d ∷ more) next o = absurd o
+
+name_mode : IsTextMode NameOn
+name_mode = record {
+  moves = λ state next more b turn inner e. let o : OneCharacter (string_goes more next) = (let p = one_character state b in rw e at p) in rw e (move more next o);
+  is_text = λ state. refl;
+  nothing = λ state next inner value words start n. refl;
+  state = λ state. refl;
+}
+  where
+    move : (more : List ℕ) (next : StringState) → OneCharacter (string_goes more next) → name_string_move (string_move (string_goes more next)) ≡ Go (NameOn next)
+    move [] next o = refl
+    move (c ∷ []) next o = rw o refl
+    move (c ∷ d ∷ more) next o = absurd o
+
 module _ (limits : Allowed) (levels : List Level) (start : ℕ) where
   -- a byte that leads to another mode, by what it does to the number under way
   byte_well : (mode next : Mode) (offset : ℕ) (bytes : List ℕ) (b : ℕ) (k : StandsWell limits mode levels start offset bytes) (turn : NumberTurn) → Turns (under_of k.state) b turn → offset < limits.bytes
@@ -62,10 +102,10 @@ module _ (limits : Allowed) (levels : List Level) (start : ℕ) where
   unfolding passed
   byte_well mode next offset bytes b k turn t room m on =
       go (step k.state (length bytes) b) refl (rw m at (moves limits.depth k.state mode turn levels (length bytes) b k.kept t k.fits))
-      (told_by_step limits mode levels start offset bytes b k turn (own_value (under_of k.state)) t (own_has (under_of k.state) turn)) (step_came k.state (length bytes) b)
+      (told_by_step limits mode levels start offset bytes b k turn (own_value (under_of k.state)) (own_words (under_of k.state)) t (own_has (under_of k.state) turn) (own_has_words (under_of k.state))) (step_came k.state (length bytes) b)
     where
       es : List Event
-      es = emitted mode (inner_of levels) (move_of mode turn (inner_of levels) b) (own_value (under_of k.state)) start offset
+      es = emitted mode (inner_of levels) (move_of mode turn (inner_of levels) b) (own_value (under_of k.state)) (own_words (under_of k.state)) start offset
 
       go : (o : Option Broken) → step k.state (length bytes) b ≡ o → Goes (λ s. StandsAs s next levels × FitsBroken limits.depth s) o
           → Tells (seen k.state) (start_after mode start offset) offset es o → CameTo (under_of k.state) b o → (w : StandsWell limits next levels start (offset + 1) (bytes ++ b ∷ [])) × ComesFrom (under_of k.state) b (under_of w.state)
@@ -85,11 +125,11 @@ module _ (limits : Allowed) (levels : List Level) (start : ℕ) where
           )
 
   byte_completes : (mode next : Mode) (offset : ℕ) (bytes : List ℕ) (b : ℕ) (k : StandsWell limits mode levels start offset bytes) (turn : NumberTurn) → Turns (under_of k.state) b turn
-      → move_of mode turn (inner_of levels) b ≡ Go next → emitted mode (inner_of levels) (Go next) (own_value (under_of k.state)) start offset ≡ [] → Completed offset (offset + 1) (bytes ++ b ∷ []) []
+      → move_of mode turn (inner_of levels) b ≡ Go next → emitted mode (inner_of levels) (Go next) (own_value (under_of k.state)) (own_words (under_of k.state)) start offset ≡ [] → Completed offset (offset + 1) (bytes ++ b ∷ []) []
   byte_completes mode next offset bytes b k turn t m n =
-      let e : emitted mode (inner_of levels) (move_of mode turn (inner_of levels) b) (own_value (under_of k.state)) start offset ≡ [] = rw m n in
+      let e : emitted mode (inner_of levels) (move_of mode turn (inner_of levels) b) (own_value (under_of k.state)) (own_words (under_of k.state)) start offset ≡ [] = rw m n in
       let P : List Event → Type 0 = λ es. Completed offset (offset + 1) (bytes ++ b ∷ []) es in
-      subst P e (completed_from limits mode levels start offset bytes b k turn (own_value (under_of k.state)) t (own_has (under_of k.state) turn))
+      subst P e (completed_from limits mode levels start offset bytes b k turn (own_value (under_of k.state)) (own_words (under_of k.state)) t (own_has (under_of k.state) turn) (own_has_words (under_of k.state)))
 
   quiet_byte : (mode next : Mode) (offset : ℕ) (bytes : List ℕ) (b : ℕ) → StandsWell limits mode levels start offset bytes → offset < limits.bytes → LeadsBy mode b next
       → StandsWell limits next levels start (offset + 1) (bytes ++ b ∷ []) × Completed offset (offset + 1) (bytes ++ b ∷ []) []
@@ -97,7 +137,7 @@ module _ (limits : Allowed) (levels : List Level) (start : ℕ) where
       let turn = own_turn (under_of k.state) b in
       let t = own_turns (under_of k.state) b in (
         (byte_well mode next offset bytes b k turn t room (q.moves turn (inner_of levels)) q.on).0,
-        byte_completes mode next offset bytes b k turn t (q.moves turn (inner_of levels)) (q.nothing (inner_of levels) (own_value (under_of k.state)) start offset),
+        byte_completes mode next offset bytes b k turn t (q.moves turn (inner_of levels)) (q.nothing (inner_of levels) (own_value (under_of k.state)) (own_words (under_of k.state)) start offset),
       )
 
   -- the number under way behind the bytes
@@ -135,18 +175,79 @@ module _ (limits : Allowed) (levels : List Level) (start : ℕ) where
           let P : List ℕ → Type 0 = λ xs. Completed offset to xs [] → AfterDigits offset to xs so_far in
           subst P (append_assoc bytes (b ∷ []) run) (λ n. record { well = g.well; state = g.state; under = g.under; leads = g.leads; nothing_more = n }) (no_more offset to bytes b run d g.nothing_more)
 
-  pub digits_run : (run : List ℕ) (old new : Literal) (offset : ℕ) (bytes : List ℕ) → StandsOpen limits NumberOn levels old start offset bytes
+  pub digits_run : (run : List ℕ) (old new : Literal) (before after : Content) (offset : ℕ) (bytes : List ℕ) → StandsOpen limits NumberOn levels old before start offset bytes
       → ((so_far : List ℕ) → LiteralStandsFor old so_far → LiteralStandsFor new (so_far ++ run) × BeginsNumber (so_far ++ run)) → offset + length run ≤ limits.bytes
-      → StandsOpen limits NumberOn levels new start (offset + length run) (bytes ++ run) × Completed offset (offset + length run) (bytes ++ run) []
-  digits_run run old new offset bytes k goes room = go (under_of k.well.state) refl k.keeps (sym (mode_under k.well.state NumberOn levels k.well.kept))
+      → StandsOpen limits NumberOn levels new after start (offset + length run) (bytes ++ run) × Completed offset (offset + length run) (bytes ++ run) []
+  digits_run run old new before after offset bytes k goes room = go (under_of k.well.state) refl k.keeps (sym (mode_under k.well.state NumberOn levels k.well.kept))
     where
-      go : (u : Under) → under_of k.well.state ≡ u → Keeps u old → is_number u ≡ true → StandsOpen limits NumberOn levels new start (offset + length run) (bytes ++ run) × Completed offset (offset + length run) (bytes ++ run) []
+      go : (u : Under) → under_of k.well.state ≡ u → Keeps u old before → is_number u ≡ true → StandsOpen limits NumberOn levels new after start (offset + length run) (bytes ++ run) × Completed offset (offset + length run) (bytes ++ run) []
       go nothing e h n = cc
-      go (content so_far state) e h n = cc
+      go (text so_far state) e h n = cc
       go (number so_far state) e h n =
           let f = goes so_far h.0 in
           let d = digits_well run so_far state offset bytes k.well e h.1 f.1 room in
           (record { well = d.well; keeps = rw (d.under) (f.0, d.leads) }, d.nothing_more)
+
+  -- the string under way behind the bytes
+  record AfterText (on : StringState → Mode) (from to : ℕ) (bytes so_far : List ℕ) (last : StringState) : Type 0 where
+    pub well : StandsWell limits (on last) levels start to bytes
+    pub under : under_of well.state ≡ text so_far last
+    pub nothing_more : Completed from to bytes []
+
+  -- bytes that go on in a string
+  text_well : (on : StringState → Mode) → IsTextMode on → (run so_far characters : List ℕ) (state last : StringState) (offset : ℕ) (bytes : List ℕ) (k : StandsWell limits (on state) levels start offset bytes)
+      → under_of k.state ≡ text so_far state → Reads state run characters last → offset + length run ≤ limits.bytes → AfterText on offset (offset + length run) (bytes ++ run) (so_far ++ characters) last
+  text_well on i [] so_far characters state last offset bytes k u h room =
+      let e : offset ≡ offset + 0 = omega arith in
+      let P : ℕ → Type 0 = λ to. AfterText on offset to (bytes ++ []) (so_far ++ characters) last in
+      let Q : StringState → Type 0 = λ s. AfterText on offset offset bytes so_far s in
+      subst P e (rw (h.1, append-nil bytes, append-nil so_far) (subst Q h.0 (record { well = k; under = u; nothing_more = λ T rest t. sym (append-nil (events_by offset T)) })))
+  text_well on i (b ∷ run) so_far characters state last offset bytes k u h room =
+      let turn = own_turn (under_of k.state) b in
+      let t = own_turns (under_of k.state) b in
+      let m = i.moves state h.0 h.1 b turn (inner_of levels) h.3 in
+      let w = byte_well (on state) (on h.0) offset bytes b k turn t (omega arith) m (i.is_text state ∙ sym (i.is_text h.0)) in
+      let C : Under → Type 0 = λ v. ComesFrom v b (under_of w.0.state) in
+      let c : ComesFrom (text so_far state) b (under_of w.0.state) = subst C u w.1 in
+      let next = came_text so_far h.1 state h.0 b h.3 (under_of w.0.state) (sym (mode_state w.0.state (on h.0) levels w.0.kept) ∙ i.state h.0) c in
+      let d = byte_completes (on state) (on h.0) offset bytes b k turn t m (i.nothing state h.0 (inner_of levels) (own_value (under_of k.state)) (own_words (under_of k.state)) start offset) in
+      let g = text_well on i run (so_far ++ h.1) h.2 h.0 last (offset + 1) (bytes ++ b ∷ []) w.0 next h.5 (omega arith) in
+      let e : offset + 1 + length run ≡ offset + length (b ∷ run) = omega arith in
+      let P : ℕ → Type 0 = λ to. AfterText on offset to (bytes ++ (b ∷ run)) (so_far ++ characters) last in
+      let Q : List ℕ → Type 0 = λ xs. AfterText on (offset + 1) (offset + 1 + length run) ((bytes ++ b ∷ []) ++ run) xs last in
+      let j : AfterText on (offset + 1) (offset + 1 + length run) ((bytes ++ b ∷ []) ++ run) (so_far ++ characters) last = subst Q (append_assoc so_far h.1 h.2 ∙ ap (λ xs. so_far ++ xs) (sym h.4)) g in
+      subst P e (earlier offset (offset + 1 + length run) bytes b run (so_far ++ characters) d j)
+    where
+      earlier : (offset to : ℕ) (bytes : List ℕ) (b : ℕ) (run so_far : List ℕ) → Completed offset (offset + 1) (bytes ++ b ∷ []) [] → AfterText on (offset + 1) to ((bytes ++ b ∷ []) ++ run) so_far last → AfterText on offset to (bytes ++ (b ∷ run)) so_far last
+      earlier offset to bytes b run so_far d g =
+          let P : List ℕ → Type 0 = λ xs. Completed offset to xs [] → AfterText on offset to xs so_far last in
+          subst P (append_assoc bytes (b ∷ []) run) (λ n. record { well = g.well; under = g.under; nothing_more = n }) (no_more offset to bytes b run d g.nothing_more)
+
+  text_mode_run : (on : StringState → Mode) → IsTextMode on → (run characters : List ℕ) (first last : StringState) (old new : Literal) (before after : Content) (offset : ℕ) (bytes : List ℕ) → StandsOpen limits (on first) levels old before start offset bytes
+      → Reads first run characters last → ((so_far : List ℕ) → Holds before so_far → Holds after (so_far ++ characters)) → offset + length run ≤ limits.bytes
+      → StandsOpen limits (on last) levels new after start (offset + length run) (bytes ++ run) × Completed offset (offset + length run) (bytes ++ run) []
+  text_mode_run on i run characters first last old new before after offset bytes k h holds room = go (under_of k.well.state) refl k.keeps (sym (mode_state k.well.state (on first) levels k.well.kept) ∙ i.state first)
+    where
+      go : (u : Under) → under_of k.well.state ≡ u → Keeps u old before → state_under u ≡ Some first → StandsOpen limits (on last) levels new after start (offset + length run) (bytes ++ run) × Completed offset (offset + length run) (bytes ++ run) []
+      go nothing e j n = cc
+      go (number so_far state) e j n = cc
+      go (text so_far state) e j n =
+          let same : state ≡ first = cc in
+          let P : StringState → Type 0 = λ s. under_of k.well.state ≡ text so_far s in
+          let d = text_well on i run so_far characters first last offset bytes k.well (subst P same e) h room in
+          (record { well = d.well; keeps = rw (d.under) (holds so_far j) }, d.nothing_more)
+
+  pub text_run : (run characters : List ℕ) (first last : StringState) (mode next : Mode) (old new : Literal) (before after : Content) (offset : ℕ) (bytes : List ℕ) → StandsOpen limits mode levels old before start offset bytes
+      → GoesOn mode first next last → Reads first run characters last → ((so_far : List ℕ) → Holds before so_far → Holds after (so_far ++ characters)) → offset + length run ≤ limits.bytes
+      → StandsOpen limits next levels new after start (offset + length run) (bytes ++ run) × Completed offset (offset + length run) (bytes ++ run) []
+  text_run run characters first last mode next old new before after offset bytes k (inl m) h holds room =
+      let P : Mode → Type 0 = λ x. StandsOpen limits x levels old before start offset bytes in
+      let Q : Mode → Type 0 = λ x. StandsOpen limits x levels new after start (offset + length run) (bytes ++ run) × Completed offset (offset + length run) (bytes ++ run) [] in
+      subst Q (sym m.1) (text_mode_run StringOn string_mode run characters first last old new before after offset bytes (subst P m.0 k) h holds room)
+  text_run run characters first last mode next old new before after offset bytes k (inr m) h holds room =
+      let P : Mode → Type 0 = λ x. StandsOpen limits x levels old before start offset bytes in
+      let Q : Mode → Type 0 = λ x. StandsOpen limits x levels new after start (offset + length run) (bytes ++ run) × Completed offset (offset + length run) (bytes ++ run) [] in
+      subst Q (sym m.1) (text_mode_run NameOn name_mode run characters first last old new before after offset bytes (subst P m.0 k) h holds room)
 
   pub quiet_run : (run : List ℕ) (mode last : Mode) (offset : ℕ) (bytes : List ℕ) → StandsWell limits mode levels start offset bytes → offset + length run ≤ limits.bytes → Leads mode run last
       → StandsWell limits last levels start (offset + length run) (bytes ++ run) × Completed offset (offset + length run) (bytes ++ run) []

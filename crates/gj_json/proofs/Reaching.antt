@@ -19,7 +19,7 @@ use Rattle.gj_json.specs.Told.{emitted, start_after}
 use Rattle.gj_json.proofs.Completes.{Goes, TextFrom}
 use Rattle.gj_json.proofs.Texts.{text_goes_on}
 use Rattle.gj_json.specs.Under.{under_of}
-use Rattle.gj_json.proofs.Literals.{own_turn, own_turns, own_value, own_has}
+use Rattle.gj_json.proofs.Literals.{own_turn, own_turns, own_value, own_has, own_words, own_has_words}
 use Rattle.gj_json.proofs.Simulation.{Follows, moves}
 use Rattle.gj_json.proofs.Opened.{open_levels}
 use Rattle.gj_json.proofs.Past.{events_seen}
@@ -49,6 +49,7 @@ reached_on s next n b k e =
     let turn = own_turn (under_of s) b in
     let turns = own_turns (under_of s) b in
     let value = own_value (under_of s) in
+    let words = own_words (under_of s) in
     let deep = k.depth + (length k.levels + 1) in
     let P : Option Broken → ℕ → Type 0 = λ o d. Follows d k.levels (move_of k.mode turn (inner_of k.levels) b) o in
     let follows : (more : ℕ) → P (Some next) (deep + more) = λ more.
@@ -57,9 +58,9 @@ reached_on s next n b k e =
     let R : Option Broken → Type 0 = λ o. P o (deep + more) in
     subst R e (moves (deep + more) s k.mode turn k.levels n b k.kept turns f) in
     let g = moved k.levels (move_of k.mode turn (inner_of k.levels) b) next deep (omega arith) follows in
-    let es = emitted k.mode (inner_of k.levels) (move_of k.mode turn (inner_of k.levels) b) value k.start n in
+    let es = emitted k.mode (inner_of k.levels) (move_of k.mode turn (inner_of k.levels) b) value words k.start n in
     let T : Option Broken → Type 0 = λ o. Tells (seen s) (start_after k.mode k.start n) n es o in
-    let t : T (Some next) = subst T e (step_tells value s k.mode turn k.levels k.start n b k.kept turns (own_has (under_of s) turn) k.timely.edge) in
+    let t : T (Some next) = subst T e (step_tells value words s k.mode turn k.levels k.start n b k.kept turns (own_has (under_of s) turn) (own_has_words (under_of s)) k.timely.edge) in
     record {
       mode = g.0;
       levels = g.1;

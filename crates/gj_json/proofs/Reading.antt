@@ -26,9 +26,11 @@ use Rattle.gj_json.specs.Stands.{StandsWell, StandsOpen, StandsRefused, StandsAs
 use Rattle.gj_json.specs.Step.{RefusesWith, PassesTo, Applied, opened, move_by, told_by, Takes}
 use Rattle.gj_number.specs.Exact.{Exact}
 use Rattle.gj_json.specs.declared.mode.NumberTurn.{NumberTurn}
-use Rattle.gj_json.specs.Under.{under_of, Keeps, Turns, HasValue, LiteralSays, LiteralGoes}
-use Rattle.gj_json.proofs.Comes.{CameTo, step_came, mode_under}
-use Rattle.gj_json.proofs.Literals.{turns_by, keeps_on}
+use Rattle.gj_json.specs.Under.{under_of, Keeps, Turns, HasValue, HasWords, LiteralSays, LiteralGoes, ContentGoes}
+use Rattle.gj_json.specs.Content.{words_in}
+use Rattle.gj_json.specs.Names.{Words}
+use Rattle.gj_json.proofs.Comes.{CameTo, step_came, mode_under, mode_state}
+use Rattle.gj_json.proofs.Literals.{turns_by, keeps_on, words_by}
 use Rattle.gj_json.specs.Told.{emitted, start_after}
 use Rattle.gj_json.proofs.Completes.{Goes, TextFrom}
 use Rattle.gj_json.proofs.Texts.{text_goes_on}
@@ -116,27 +118,28 @@ module _ (limits : Allowed) (mode : Mode) (levels : List Level) (start offset : 
         timely = timely_on (seen k.state) (start_after mode start offset) offset es next k.timely.seen_by t;
       }
 
-  pub told_by_step : (k : Old) (turn : NumberTurn) (value : Option Exact) → Turns (under_of k.state) b turn → HasValue (under_of k.state) turn value
-      → Tells (seen k.state) (start_after mode start offset) offset (emitted mode (inner_of levels) (move_of mode turn (inner_of levels) b) value start offset) (step k.state (length bytes) b)
-  told_by_step k turn value t v = let e : length bytes ≡ offset = sym k.at in rw e (step_tells value k.state mode turn levels start offset b k.kept t v k.timely.edge)
+  pub told_by_step : (k : Old) (turn : NumberTurn) (value : Option Exact) (words : Words) → Turns (under_of k.state) b turn → HasValue (under_of k.state) turn value → HasWords (under_of k.state) words
+      → Tells (seen k.state) (start_after mode start offset) offset (emitted mode (inner_of levels) (move_of mode turn (inner_of levels) b) value words start offset) (step k.state (length bytes) b)
+  told_by_step k turn value words t v x = let e : length bytes ≡ offset = sym k.at in rw e (step_tells value words k.state mode turn levels start offset b k.kept t v x k.timely.edge)
 
 -- ---- a byte, from reader to reader
 
-pub open_of : (reader : Reader) (bytes : List ℕ) → reader.fault ≡ None → StandsFor reader bytes → StandsOpen reader.limits reader.mode (levels_in reader.levels) reader.literal reader.start reader.offset bytes
+pub open_of : (reader : Reader) (bytes : List ℕ) → reader.fault ≡ None → StandsFor reader bytes → StandsOpen reader.limits reader.mode (levels_in reader.levels) reader.literal reader.content reader.start reader.offset bytes
 open_of reader bytes live h = rw live at h
 
 pub well_of : (reader : Reader) (bytes : List ℕ) → reader.fault ≡ None → StandsFor reader bytes → StandsWell reader.limits reader.mode (levels_in reader.levels) reader.start reader.offset bytes
 well_of reader bytes live h = (open_of reader bytes live h).well
 
 -- what is kept of the number under way behind the byte
-next_keeps : (old new : Reader) (b : ℕ) (bytes : List ℕ) (k : StandsOpen old.limits old.mode (levels_in old.levels) old.literal old.start old.offset bytes) (turn : NumberTurn) → Turns (under_of k.well.state) b turn → LiteralGoes old new b turn
-    → (next : Broken) (mode : Mode) (levels : List Level) → step k.well.state (length bytes) b ≡ Some next → StandsAs next mode levels → new.mode ≡ mode → Keeps (under_of next) new.literal
-next_keeps old new b bytes k turn t g next mode levels e a m =
+next_keeps : (old new : Reader) (b : ℕ) (bytes : List ℕ) (k : StandsOpen old.limits old.mode (levels_in old.levels) old.literal old.content old.start old.offset bytes) (turn : NumberTurn) → Turns (under_of k.well.state) b turn → LiteralGoes old new b turn → ContentGoes old new b
+    → (next : Broken) (mode : Mode) (levels : List Level) → step k.well.state (length bytes) b ≡ Some next → StandsAs next mode levels → new.mode ≡ mode → Keeps (under_of next) new.literal new.content
+next_keeps old new b bytes k turn t g w next mode levels e a m =
     let c : CameTo (under_of k.well.state) b (Some next) = (let j = step_came k.well.state (length bytes) b in rw e at j) in
-    keeps_on (under_of k.well.state) (under_of next) old new b turn c k.keeps t g (mode_under k.well.state old.mode (levels_in old.levels) k.well.kept) (rw m (mode_under next mode levels a))
+    keeps_on (under_of k.well.state) (under_of next) old new b turn c k.keeps t g w (mode_under k.well.state old.mode (levels_in old.levels) k.well.kept) (rw m (mode_under next mode levels a))
+    (mode_state k.well.state old.mode (levels_in old.levels) k.well.kept) (rw m (mode_state next mode levels a))
 
 passes_on : (old new : Reader) (b : ℕ) (bytes : List ℕ) (mode : Mode) (levels : List Level) (result : Result (Unit {0}) JsonFault) → old.fault ≡ None → PassesTo mode levels old new result
-    → (w : StandsWell old.limits mode levels (start_after old.mode old.start old.offset) (old.offset + 1) (bytes ++ b ∷ [])) → Keeps (under_of w.state) new.literal → StandsFor new (bytes ++ b ∷ []) × Answers old.limits (bytes ++ b ∷ []) result
+    → (w : StandsWell old.limits mode levels (start_after old.mode old.start old.offset) (old.offset + 1) (bytes ++ b ∷ [])) → Keeps (under_of w.state) new.literal new.content → StandsFor new (bytes ++ b ∷ []) × Answers old.limits (bytes ++ b ∷ []) result
 passes_on old new b bytes mode levels result live p w keeps = (
   rw (p.passes.fault, live, p.passes.limits, p.passes.mode_is, p.passes.levels_are, p.passes.start, p.passes.offset) (record { well = w; keeps = keeps }),
   rw (p.answer) (well_viable old.limits.depth (bytes ++ b ∷ []) w.state w.runs w.fits, omega (arith, w.at, w.within)),
@@ -151,7 +154,7 @@ refuses_on old new b bytes cause result w r y f =
     (rw (r.refused.kept, r.refused.limits, r.refused.mode_is, r.refused.levels_are, r.refused.start, r.refused.offset) k, rw (r.answer) (g, λ more. lasts old.limits (bytes ++ b ∷ []) more r.fault.cause r.fault.place i g))
 
 module _ (old new : Reader) (b : ℕ) (bytes : List ℕ) (result : Result (Unit {0}) JsonFault) (live : old.fault ≡ None) (room : old.offset < old.limits.bytes) (nested : length (levels_in old.levels) ≤ old.limits.depth)
-    (turn : NumberTurn) (goes : result ≡ Ok tt → LiteralGoes old new b turn) (k : StandsOpen old.limits old.mode (levels_in old.levels) old.literal old.start old.offset bytes) (turns : Turns (under_of k.well.state) b turn) where
+    (turn : NumberTurn) (goes : result ≡ Ok tt → LiteralGoes old new b turn × ContentGoes old new b) (k : StandsOpen old.limits old.mode (levels_in old.levels) old.literal old.content old.start old.offset bytes) (turns : Turns (under_of k.well.state) b turn) where
   abbrev Answer : Type 0
   Answer = StandsFor new (bytes ++ b ∷ []) × Answers old.limits (bytes ++ b ∷ []) result
 
@@ -161,7 +164,7 @@ module _ (old new : Reader) (b : ℕ) (bytes : List ℕ) (result : Result (Unit 
   unfolding passed
   goes_on es next mode levels e w a f t =
       passes_on old new b bytes mode levels result live w (passed old.limits old.mode (levels_in old.levels) old.start old.offset bytes b k.well next mode levels es room e a f t)
-      (next_keeps old new b bytes k turn turns (goes w.answer) next mode levels e a w.passes.mode_is)
+      (next_keeps old new b bytes k turn turns (goes w.answer).0 (goes w.answer).1 next mode levels e a w.passes.mode_is)
 
   answered : (made : Move) (es : List Event) (o : Option Broken) → step k.well.state (length bytes) b ≡ o → Applied made old new result → Follows old.limits.depth (levels_in old.levels) made o
       → Follows (old.limits.depth + 1) (levels_in old.levels) made o → Tells (seen k.well.state) (start_after old.mode old.start old.offset) old.offset es o → Answer
@@ -179,7 +182,7 @@ module _ (old new : Reader) (b : ℕ) (bytes : List ℕ) (result : Result (Unit 
   answered Close es (Some next) e w h g t = goes_on es next ValueDone (outer_of (levels_in old.levels)) e w h.0 h.1 t
 
 -- what is under way, by what the literal says
-pub says : (old : Reader) (b : ℕ) (bytes : List ℕ) (turn : NumberTurn) (value : Option Exact) → LiteralSays old b turn value → (k : StandsOpen old.limits old.mode (levels_in old.levels) old.literal old.start old.offset bytes)
+pub says : (old : Reader) (b : ℕ) (bytes : List ℕ) (turn : NumberTurn) (value : Option Exact) → LiteralSays old b turn value → (k : StandsOpen old.limits old.mode (levels_in old.levels) old.literal old.content old.start old.offset bytes)
     → Turns (under_of k.well.state) b turn × HasValue (under_of k.well.state) turn value
 says old b bytes turn value s k = turns_by (under_of k.well.state) old b turn value s k.keeps (mode_under k.well.state old.mode (levels_in old.levels) k.well.kept)
 
@@ -191,7 +194,7 @@ pushed old new b bytes result live room nested w h =
     answered old new b bytes result live room nested w.turn w.goes k s.0 (move_by old w.turn b) (told_by old w.turn w.value b) (step k.well.state (length bytes) b) refl w.applied
     (moves old.limits.depth k.well.state old.mode w.turn (levels_in old.levels) (length bytes) b k.well.kept s.0 k.well.fits)
     (moves (old.limits.depth + 1) k.well.state old.mode w.turn (levels_in old.levels) (length bytes) b k.well.kept s.0 (broken_deeper old.limits.depth k.well.state k.well.fits))
-    (told_by_step old.limits old.mode (levels_in old.levels) old.start old.offset bytes b k.well w.turn w.value s.0 s.1)
+    (told_by_step old.limits old.mode (levels_in old.levels) old.start old.offset bytes b k.well w.turn w.value (words_in old.content) s.0 s.1 (words_by (under_of k.well.state) old.literal old.content k.keeps))
 
 -- ---- the events of a byte
 
@@ -203,20 +206,20 @@ completed_by limits mode levels start offset bytes b k T rest es (Some s) before
     events_seen s T (offset + 1) (start_after mode start offset) rest i c ∙ ap told t.0 ∙ map-append (λ (x : Timed). x.event) (seen k.state) (all_at (offset + 1) es)
     ∙ ap (λ xs. told (seen k.state) ++ xs) (told-all_at (offset + 1) es) ∙ ap (λ xs. xs ++ es) (sym before)
 
-pub completed_from : (limits : Allowed) (mode : Mode) (levels : List Level) (start offset : ℕ) (bytes : List ℕ) (b : ℕ) (k : StandsWell limits mode levels start offset bytes) (turn : NumberTurn) (value : Option Exact)
-    → Turns (under_of k.state) b turn → HasValue (under_of k.state) turn value → Completed offset (offset + 1) (bytes ++ b ∷ []) (emitted mode (inner_of levels) (move_of mode turn (inner_of levels) b) value start offset)
-completed_from limits mode levels start offset bytes b k turn value d v = λ T rest t.
+pub completed_from : (limits : Allowed) (mode : Mode) (levels : List Level) (start offset : ℕ) (bytes : List ℕ) (b : ℕ) (k : StandsWell limits mode levels start offset bytes) (turn : NumberTurn) (value : Option Exact) (words : Words)
+    → Turns (under_of k.state) b turn → HasValue (under_of k.state) turn value → HasWords (under_of k.state) words → Completed offset (offset + 1) (bytes ++ b ∷ []) (emitted mode (inner_of levels) (move_of mode turn (inner_of levels) b) value words start offset)
+completed_from limits mode levels start offset bytes b k turn value words d v x = λ T rest t.
     let u : IsText T (bytes ++ (b ∷ rest)) = rw append_assoc at t in
     let c : TextFrom T (length bytes) (b ∷ rest) k.state = (let j = text_goes_on T bytes (b ∷ rest) u in let i : Goes (TextFrom T (length bytes) (b ∷ rest)) (Some k.state) = rw (k.runs) at j in i) in
     let P : ℕ → Type 0 = λ n. TextFrom T n (b ∷ rest) k.state in
     let e : length bytes ≡ offset = sym k.at in
     let R : ℕ → Type 0 = λ n. Goes (TextFrom T (offset + 1) rest) (step k.state n b) in
-    completed_by limits mode levels start offset bytes b k T rest (emitted mode (inner_of levels) (move_of mode turn (inner_of levels) b) value start offset) (step k.state (length bytes) b)
+    completed_by limits mode levels start offset bytes b k T rest (emitted mode (inner_of levels) (move_of mode turn (inner_of levels) b) value words start offset) (step k.state (length bytes) b)
     (events_seen k.state T offset start (b ∷ rest) k.timely (subst P e c)) (subst R k.at (forward k.state T offset b rest (subst P e c)))
-    (told_by_step limits mode levels start offset bytes b k turn value d v)
+    (told_by_step limits mode levels start offset bytes b k turn value words d v x)
 
 pub completed : (old : Reader) (b : ℕ) (bytes : List ℕ) (turn : NumberTurn) (value : Option Exact) → LiteralSays old b turn value → old.fault ≡ None → StandsFor old bytes → Completed old.offset (old.offset + 1) (bytes ++ b ∷ []) (told_by old turn value b)
 completed old b bytes turn value s live h =
     let k = open_of old bytes live h in
     let d = says old b bytes turn value s k in
-    completed_from old.limits old.mode (levels_in old.levels) old.start old.offset bytes b k.well turn value d.0 d.1
+    completed_from old.limits old.mode (levels_in old.levels) old.start old.offset bytes b k.well turn value (words_in old.content) d.0 d.1 (words_by (under_of k.well.state) old.literal old.content k.keeps)

@@ -24,6 +24,7 @@ use Rattle.gj_json.specs.Step.{opened}
 use Rattle.gj_json.specs.declared.mode.NumberTurn.{NumberTurn}
 use Rattle.gj_json.specs.Under.{under_leaf, under_of, Turns}
 use Rattle.gj_json.proofs.Completes.{Goes}
+use Rattle.gj_json.proofs.OneCharacter.{OneCharacter, one_character}
 use Rattle.gj_json.proofs.Closing.{elements_joined, members_joined, levels_fit}
 
 -- what the move says of the machine's step
@@ -103,16 +104,20 @@ on_colon_due d stack place done np name ne n White f = ((refl, refl), f)
 on_colon_due d stack place done np name ne n Colon f = ((refl, refl), f)
 on_colon_due d stack place done np name ne n _ f = refl
 
-on_string : (d : ℕ) (stack : List Frame) (place : ℕ) (so_far : List ℕ) (n : ℕ) (s : StringStep) → Fits d stack → Simulates d (levels_of stack) (value_string_move (string_move s)) (step_string stack place so_far n s)
-on_string d stack place so_far n string_ends f = ((refl, refl), (omega (arith, levels_fit d stack f), f))
-on_string d stack place so_far n (string_goes more state) f = ((refl, refl), f)
-on_string d stack place so_far n string_refuses f = refl
+on_string : (d : ℕ) (stack : List Frame) (place : ℕ) (so_far : List ℕ) (n : ℕ) (s : StringStep) → OneCharacter s → Fits d stack → Simulates d (levels_of stack) (value_string_move (string_move s)) (step_string stack place so_far n s)
+on_string d stack place so_far n string_ends o f = ((refl, refl), (omega (arith, levels_fit d stack f), f))
+on_string d stack place so_far n (string_goes [] state) o f = ((refl, refl), f)
+on_string d stack place so_far n (string_goes (c ∷ []) state) o f = ((rw o refl, refl), f)
+on_string d stack place so_far n (string_goes (c ∷ e ∷ more) state) o f = absurd o
+on_string d stack place so_far n string_refuses o f = refl
 
-on_name_string : (d : ℕ) (stack : List Frame) (place : ℕ) (done : List Member) (np : ℕ) (so_far : List ℕ) (n : ℕ) (s : StringStep) → FitsName d stack done
+on_name_string : (d : ℕ) (stack : List Frame) (place : ℕ) (done : List Member) (np : ℕ) (so_far : List ℕ) (n : ℕ) (s : StringStep) → OneCharacter s → FitsName d stack done
     → Simulates d (Object ∷ levels_of stack) (name_string_move (string_move s)) (step_name stack place done np so_far n s)
-on_name_string d stack place done np so_far n string_ends f = ((refl, refl), f)
-on_name_string d stack place done np so_far n (string_goes more state) f = ((refl, refl), f)
-on_name_string d stack place done np so_far n string_refuses f = refl
+on_name_string d stack place done np so_far n string_ends o f = ((refl, refl), f)
+on_name_string d stack place done np so_far n (string_goes [] state) o f = ((refl, refl), f)
+on_name_string d stack place done np so_far n (string_goes (c ∷ []) state) o f = ((rw o refl, refl), f)
+on_name_string d stack place done np so_far n (string_goes (c ∷ e ∷ more) state) o f = absurd o
+on_name_string d stack place done np so_far n string_refuses o f = refl
 
 on_number : (d : ℕ) (stack : List Frame) (place : ℕ) (so_far : List ℕ) (n b : ℕ) (c : Class) (o : Option NumberState) (may_end : Bool) → Fits d stack
     → Simulates d (levels_of stack) (number_move (turn_of o may_end) (after_move (inner_of (levels_of stack)) c)) (step_number stack place so_far n b o (if may_end then after_value stack (number place so_far n) n c else None))
@@ -151,9 +156,9 @@ leaf_moves d stack (array_opened place) mode turn n b a w f = rw a (on_array_ope
 leaf_moves d stack (object_opened place) mode turn n b a w f = rw a (on_object_opened d stack place n b (class_of b) f)
 leaf_moves d stack (constant_on which place left) mode turn n b a w f = rw (a.1) (on_constant d stack which place left n b a.0 a.2 a.3 f)
 leaf_moves d stack (number_on place so_far state) mode turn n b a w f = rw (a, w) (on_number d stack place so_far n b (class_of b) (number_next state (class_of b)) (number_may_end state) f)
-leaf_moves d stack (string_on place so_far state) mode turn n b a w f = rw a (on_string d stack place so_far n (string_next state b) f)
+leaf_moves d stack (string_on place so_far state) mode turn n b a w f = rw a (on_string d stack place so_far n (string_next state b) (one_character state b) f)
 leaf_moves d stack (name_due place done) mode turn n b a w f = rw a (on_name_due d stack place done n (class_of b) f)
-leaf_moves d stack (name_on place done np so_far state) mode turn n b a w f = rw a (on_name_string d stack place done np so_far n (string_next state b) f)
+leaf_moves d stack (name_on place done np so_far state) mode turn n b a w f = rw a (on_name_string d stack place done np so_far n (string_next state b) (one_character state b) f)
 leaf_moves d stack (colon_due place done np name ne) mode turn n b a w f = rw a (on_colon_due d stack place done np name ne n (class_of b) f)
 
 -- ---- a whole text

@@ -7,6 +7,7 @@ use Rattle.gj_json.specs.declared.constant.Constant.TheVariants.{Null, True, Fal
 use Rattle.gj_json.specs.Bytes.{mark_bytes}
 use Rattle.gj_json.specs.Tree.{Tree, constant, number, string, array, object, Elements, end_of_array, element, Members, end_of_object, member, Text}
 use Rattle.gj_json.specs.Grammar.{letters_of}
+use Rattle.gj_json.specs.Names.{known_of, word_of}
 use Rattle.gj_number.specs.Value.{value_of}
 
 pub record Timed : Type 0 where
@@ -27,7 +28,7 @@ abbrev mutual
   events (constant which place) = timed (place + length (letters_of which)) place (what_of which) ∷ []
   -- only the byte behind it tells that a number has ended
   events (number place literal end) = timed (end + 1) place (What.Number (value_of literal)) ∷ []
-  events (string place content end) = timed end place What.Text ∷ []
+  events (string place content end) = timed end place (What.Text (word_of content)) ∷ []
   events (array place elements close) = timed (place + 1) place What.OpenArray ∷ (elements_events elements ++ timed (close + 1) close What.CloseArray ∷ [])
   events (object place members close) = timed (place + 1) place What.OpenObject ∷ (members_events members ++ timed (close + 1) close What.CloseObject ∷ [])
 
@@ -37,7 +38,7 @@ abbrev mutual
 
   pub members_events : Members → List Timed
   members_events end_of_object = []
-  members_events (member place name end value more) = timed end place What.Name ∷ (events value ++ members_events more)
+  members_events (member place name end value more) = timed end place (What.Name (known_of name)) ∷ (events value ++ members_events more)
 
 -- a byte order mark stands at 0
 abbrev pub mark_events : Bool → List Timed
@@ -46,6 +47,10 @@ mark_events false = []
 
 abbrev pub text_events : Text → List Timed
 text_events text = mark_events text.marked ++ events text.value
+
+-- the events of one value, without their times
+abbrev pub value_events : Tree → List Event
+value_events value = map (λ x. x.event) (events value)
 
 -- all events, without their times
 abbrev pub all_events : Text → List Event

@@ -7,6 +7,7 @@ pub mod Broken
 pub mod Limits
 pub mod Refusal
 pub mod Longest
+pub mod Names
 pub mod Events
 pub mod Open
 pub mod Reader
@@ -17,6 +18,7 @@ pub mod Machine
 pub mod Moves
 pub mod Told
 pub mod Seen
+pub mod Content
 pub mod Under
 pub mod Stands
 pub mod Quiet

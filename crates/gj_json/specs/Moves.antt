@@ -1,5 +1,5 @@
 -- Internal: what a byte does, from what the reader keeps alone.
-use Rattle.std.specs.Prelude.{ℕ, ◌+◌, ◌==◌, ◌<◌, ◌-◌, if◌then◌else◌, Option, Some, length, slice_index}
+use Rattle.std.specs.Prelude.{ℕ, ◌+◌, ◌==◌, ◌<◌, ◌-◌, if◌then◌else◌, Option, Some, length, slice_index, [], ◌∷◌}
 use Rattle.gj_json.specs.declared.class.Class.{Class}
 use Rattle.gj_json.specs.declared.class.Class.TheVariants.{White, OpenArray, CloseArray, OpenObject, CloseObject, Comma, Colon, Quote, Minus, ZeroDigit, FirstDigit, Letter}
 use Rattle.gj_json.specs.declared.constant.Constant.{Constant}
@@ -7,7 +7,7 @@ use Rattle.gj_json.specs.declared.mode.NumberTurn.{NumberTurn}
 use Rattle.gj_json.specs.declared.mode.StringState.{StringState}
 use Rattle.gj_json.specs.declared.mode.StringState.TheVariants.{Plain, Escape, HexDue, HexOne, HexTwo, HexThree, InCharacter}
 use Rattle.gj_json.specs.declared.mode.StringMove.{StringMove}
-use Rattle.gj_json.specs.declared.mode.StringMove.TheVariants.{Ends, Goes, Refuses}
+use Rattle.gj_json.specs.declared.mode.StringMove.TheVariants.{Ends, Goes, Reads, Refuses}
 use Rattle.gj_json.specs.declared.levels.Level.{Level}
 use Rattle.gj_json.specs.declared.levels.Level.TheVariants.{Array, Object}
 use Rattle.gj_json.specs.declared.mode.Mode.{Mode}
@@ -21,7 +21,9 @@ use Rattle.gj_json.specs.Machine.{StringStep, string_ends, string_goes, string_r
 
 abbrev pub string_move : StringStep → StringMove
 string_move string_ends = Ends
-string_move (string_goes more state) = Goes state
+string_move (string_goes [] state) = Goes state
+-- a character has ended, and none is under way
+string_move (string_goes (c ∷ more) state) = Reads c
 string_move string_refuses = Refuses
 
 abbrev pub begin_move : Class → Move
@@ -83,11 +85,13 @@ number_move NumberTurn.Refuses after = Refuse
 abbrev pub value_string_move : StringMove → Move
 value_string_move Ends = Go ValueDone
 value_string_move (Goes state) = Go (StringOn state)
+value_string_move (Reads c) = Go (StringOn Plain)
 value_string_move Refuses = Refuse
 
 abbrev pub name_string_move : StringMove → Move
 name_string_move Ends = Go ColonDue
 name_string_move (Goes state) = Go (NameOn state)
+name_string_move (Reads c) = Go (NameOn Plain)
 name_string_move Refuses = Refuse
 
 -- what the byte does to a number under way counts in that mode alone
@@ -127,6 +131,7 @@ IsStringState state = 0 < room state
 abbrev pub IsStringMove : StringMove → Type 0
 IsStringMove Ends = Unit {0}
 IsStringMove (Goes state) = IsStringState state
+IsStringMove (Reads c) = Unit {0}
 IsStringMove Refuses = Unit {0}
 
 -- how much room the numbers of a mode leave: the letters of a literal name that are to come, the room of a string's state

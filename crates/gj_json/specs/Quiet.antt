@@ -1,5 +1,5 @@
 -- Internal: the bytes that complete nothing and open or close nothing.
-use Rattle.std.specs.Prelude.{◌≡◌, ℕ, ◌==◌, ◌&&◌, ◌||◌, Bool, not, nat_le, List, [], ◌∷◌, Option}
+use Rattle.std.specs.Prelude.{◌≡◌, ℕ, ◌==◌, ◌&&◌, ◌||◌, Bool, not, nat_le, List, [], ◌∷◌, ◌++◌, Option}
 use Rattle.gj_json.specs.Bytes.{space, tab, line_feed, carriage_return, quote, backslash}
 use Rattle.gj_json.specs.declared.levels.Level.{Level}
 use Rattle.gj_json.specs.declared.mode.Mode.{Mode}
@@ -7,9 +7,9 @@ use Rattle.gj_json.specs.declared.mode.NumberTurn.{NumberTurn}
 use Rattle.gj_number.specs.Exact.{Exact}
 use Rattle.gj_json.specs.declared.mode.Move.TheVariants.{Go}
 use Rattle.gj_json.specs.declared.mode.StringState.{StringState}
-use Rattle.gj_json.specs.declared.mode.StringMove.TheVariants.{Goes}
-use Rattle.gj_json.specs.Machine.{string_next}
-use Rattle.gj_json.specs.Moves.{move_of, string_move}
+use Rattle.gj_json.specs.Machine.{string_next, string_goes}
+use Rattle.gj_json.specs.Moves.{move_of}
+use Rattle.gj_json.specs.Names.{Words}
 use Rattle.gj_json.specs.Told.{emitted, is_on}
 
 abbrev pub IsQuiet : Mode → ℕ → Type 0
@@ -25,14 +25,15 @@ is_white b = b == space || b == tab || b == line_feed || b == carriage_return
 pub record LeadsBy (mode : Mode) (b : ℕ) (next : Mode) : Type 0 where
   pub moves : (turn : NumberTurn) (inner : Option Level) → move_of mode turn inner b ≡ Go next
   pub on : is_on mode ≡ is_on next
-  pub nothing : (inner : Option Level) (value : Option Exact) (start n : ℕ) → emitted mode inner (Go next) value start n ≡ []
+  pub nothing : (inner : Option Level) (value : Option Exact) (words : Words) (start n : ℕ) → emitted mode inner (Go next) value words start n ≡ []
 
 -- and so do these bytes
 abbrev pub Leads : Mode → List ℕ → Mode → Type 0
 Leads mode [] last = mode ≡ last
 Leads mode (b ∷ bytes) last = (next : Mode) × LeadsBy mode b next × Leads next bytes last
 
--- the bytes lead from one state of a string to another
-abbrev pub StringLeads : StringState → List ℕ → StringState → Type 0
-StringLeads state [] last = state ≡ last
-StringLeads state (b ∷ bytes) last = (next : StringState) × (string_move (string_next state b) ≡ Goes next) × StringLeads next bytes last
+-- the bytes lead from one state of a string to another, and these characters end in them
+abbrev pub Reads : StringState → List ℕ → List ℕ → StringState → Type 0
+Reads state [] characters last = (state ≡ last) × (characters ≡ [])
+Reads state (b ∷ bytes) characters last =
+    (next : StringState) × (more : List ℕ) × (later : List ℕ) × (string_next state b ≡ string_goes more next) × (characters ≡ more ++ later) × Reads next bytes later last

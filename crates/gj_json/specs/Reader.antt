@@ -15,7 +15,7 @@ use Rattle.gj_json.specs.Stands.{Stands}
 -- The reader may have been given these bytes, refused ones among them. What it says is internal: a caller needs that
 -- `new` stands for no bytes, and that each call keeps it.
 abbrev pub StandsFor : Reader → List ℕ → Type 0
-StandsFor reader bytes = Stands reader.limits reader.fault reader.mode (levels_in reader.levels) reader.literal reader.start reader.offset bytes
+StandsFor reader bytes = Stands reader.limits reader.fault reader.mode (levels_in reader.levels) reader.literal reader.content reader.start reader.offset bytes
 
 -- what it reads under
 abbrev pub limits_of : Reader → Allowed

@@ -4,6 +4,7 @@ use Rattle.std.specs.List.{AllByRecursion}
 use Rattle.gj_json.specs.declared.event.What.{What}
 use Rattle.gj_json.specs.Tree.{Tree}
 use Rattle.gj_json.specs.Grammar.{letters_of}
+use Rattle.gj_json.specs.Names.{known_of}
 use Rattle.gj_json.specs.Events.{Timed, timed, events, mark_events}
 use Rattle.gj_json.specs.Machine.{Frame, in_array, in_object, Member, Leaf, value_due, value_done, array_opened, object_opened, constant_on, number_on, string_on, name_due, name_on, colon_due, Partial, Broken, text_due, mark_one, mark_two, begun}
 
@@ -16,12 +17,12 @@ done_elements (t ∷ done) = done_elements done ++ events t
 
 abbrev pub done_members : List Member → List Timed
 done_members [] = []
-done_members (m ∷ done) = done_members done ++ timed m.end m.place What.Name ∷ events m.value
+done_members (m ∷ done) = done_members done ++ timed m.end m.place (What.Name (known_of m.name)) ∷ events m.value
 
 abbrev pub stack_timed : List Frame → List Timed
 stack_timed [] = []
 stack_timed (in_array place done ∷ stack) = stack_timed stack ++ (timed (place + 1) place What.OpenArray ∷ done_elements done)
-stack_timed (in_object place done np name ne ∷ stack) = stack_timed stack ++ (timed (place + 1) place What.OpenObject ∷ (done_members done ++ timed ne np What.Name ∷ []))
+stack_timed (in_object place done np name ne ∷ stack) = stack_timed stack ++ (timed (place + 1) place What.OpenObject ∷ (done_members done ++ timed ne np (What.Name (known_of name)) ∷ []))
 
 abbrev pub leaf_timed : Leaf → List Timed
 leaf_timed value_due = []
@@ -33,7 +34,7 @@ leaf_timed (number_on place so_far state) = []
 leaf_timed (string_on place so_far state) = []
 leaf_timed (name_due place done) = timed (place + 1) place What.OpenObject ∷ done_members done
 leaf_timed (name_on place done np so_far state) = timed (place + 1) place What.OpenObject ∷ done_members done
-leaf_timed (colon_due place done np name ne) = timed (place + 1) place What.OpenObject ∷ (done_members done ++ timed ne np What.Name ∷ [])
+leaf_timed (colon_due place done np name ne) = timed (place + 1) place What.OpenObject ∷ (done_members done ++ timed ne np (What.Name (known_of name)) ∷ [])
 
 abbrev pub partial_timed : Partial → List Timed
 partial_timed s = stack_timed s.stack ++ leaf_timed s.leaf

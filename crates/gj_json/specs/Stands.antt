@@ -12,6 +12,7 @@ use Rattle.gj_json.specs.Grammar.{letters_of}
 use Rattle.gj_json.specs.Machine.{Frame, in_array, in_object, Member, Leaf, Partial, value_due, value_done, array_opened, object_opened, constant_on, number_on, string_on, name_due, name_on, colon_due, Broken, text_due, mark_one, mark_two, begun, run}
 use Rattle.gj_json.specs.Refusal.{IsRefusal, IsByByte}
 use Rattle.gj_json.specs.Seen.{IsTimely}
+use Rattle.gj_json.specs.declared.content.Content.{Content}
 use Rattle.gj_json.specs.Under.{under_of, Keeps}
 use Rattle.gj_number.specs.declared.literal.Literal.{Literal}
 
@@ -100,10 +101,10 @@ pub record StandsRefused (limits : Allowed) (fault : JsonFault) (mode : Mode) (l
   pub well : StandsWell limits mode levels start offset taken
 
 -- and what is kept of the number or the string under way
-pub record StandsOpen (limits : Allowed) (mode : Mode) (levels : List Level) (literal : Literal) (start offset : ℕ) (bytes : List ℕ) : Type 0 where
+pub record StandsOpen (limits : Allowed) (mode : Mode) (levels : List Level) (literal : Literal) (content : Content) (start offset : ℕ) (bytes : List ℕ) : Type 0 where
   pub well : StandsWell limits mode levels start offset bytes
-  pub keeps : Keeps (under_of well.state) literal
+  pub keeps : Keeps (under_of well.state) literal content
 
-abbrev pub Stands : Allowed → Option JsonFault → Mode → List Level → Literal → ℕ → ℕ → List ℕ → Type 0
-Stands limits None mode levels literal start offset bytes = StandsOpen limits mode levels literal start offset bytes
-Stands limits (Some fault) mode levels literal start offset bytes = StandsRefused limits fault mode levels start offset bytes
+abbrev pub Stands : Allowed → Option JsonFault → Mode → List Level → Literal → Content → ℕ → ℕ → List ℕ → Type 0
+Stands limits None mode levels literal content start offset bytes = StandsOpen limits mode levels literal content start offset bytes
+Stands limits (Some fault) mode levels literal content start offset bytes = StandsRefused limits fault mode levels start offset bytes

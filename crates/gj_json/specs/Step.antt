@@ -16,7 +16,8 @@ use Rattle.gj_number.specs.Exact.{Exact}
 use Rattle.gj_json.specs.Levels.{levels_in, inner_of, outer_of}
 use Rattle.gj_json.specs.Moves.{move_of}
 use Rattle.gj_json.specs.Told.{start_after, emitted}
-use Rattle.gj_json.specs.Under.{LiteralSays, LiteralGoes}
+use Rattle.gj_json.specs.Content.{words_in}
+use Rattle.gj_json.specs.Under.{LiteralSays, LiteralGoes, ContentGoes}
 
 abbrev pub opened : Level → Mode
 opened Array = ArrayOpened
@@ -70,13 +71,13 @@ abbrev pub move_by : Reader → NumberTurn → ℕ → Move
 move_by reader turn b = move_of reader.mode turn (inner_of (levels_in reader.levels)) b
 
 abbrev pub told_by : Reader → NumberTurn → Option Exact → ℕ → List Event
-told_by reader turn value b = emitted reader.mode (inner_of (levels_in reader.levels)) (move_by reader turn b) value reader.start reader.offset
+told_by reader turn value b = emitted reader.mode (inner_of (levels_in reader.levels)) (move_by reader turn b) value (words_in reader.content) reader.start reader.offset
 
 -- the reader was given the byte, and its sink has heard of it what was taken
 pub record Takes (before after : List Event → Type 0) (old new : Reader) (b : ℕ) (result : Result (Unit {0}) JsonFault) : Type 0 where
   pub turn : NumberTurn
   pub value : Option Exact
   pub says : LiteralSays old b turn value
-  pub goes : result ≡ Ok tt → LiteralGoes old new b turn
+  pub goes : result ≡ Ok tt → LiteralGoes old new b turn × ContentGoes old new b
   pub applied : Applied (move_by old turn b) old new result
   pub told : (events : List Event) → before events → after (events ++ told_on result (told_by old turn value b))

@@ -11,6 +11,8 @@ use Rattle.gj_json.specs.declared.mode.Move.{Move}
 use Rattle.gj_json.specs.declared.mode.Move.TheVariants.{Refuse, Go, Open, Close}
 use Rattle.gj_json.specs.Events.{what_of}
 use Rattle.gj_number.specs.Exact.{Exact}
+use Rattle.gj_json.specs.declared.mode.StringState.{StringState}
+use Rattle.gj_json.specs.Names.{Words}
 
 abbrev pub event_at : ℕ → What → Event
 event_at place what = record { place = place; what = what }
@@ -22,17 +24,17 @@ ended NumberOn (Go NumberOn) = false
 ended NumberOn _ = true
 ended _ move = false
 
-abbrev pub value_ended : Mode → ℕ → Option Event
-value_ended (ConstantOn which count) start = Some (event_at start (what_of which))
-value_ended (StringOn state) start = Some (event_at start What.Text)
-value_ended _ start = None
+abbrev pub value_ended : Mode → Words → ℕ → Option Event
+value_ended (ConstantOn which count) words start = Some (event_at start (what_of which))
+value_ended (StringOn state) words start = Some (event_at start (What.Text words.word))
+value_ended _ words start = None
 
 -- the event of a move from one mode to another
-abbrev pub gone : Mode → Mode → ℕ → Option Event
-gone mode ValueDone start = value_ended mode start
-gone (NameOn state) ColonDue start = Some (event_at start What.Name)
-gone MarkTwo ValueDue start = Some (event_at 0 What.Mark)
-gone _ _ start = None
+abbrev pub gone : Mode → Mode → Words → ℕ → Option Event
+gone mode ValueDone words start = value_ended mode words start
+gone (NameOn state) ColonDue words start = Some (event_at start (What.Name words.known))
+gone MarkTwo ValueDue words start = Some (event_at 0 What.Mark)
+gone _ _ words start = None
 
 abbrev pub opening_of : Level → What
 opening_of Array = What.OpenArray
@@ -42,21 +44,27 @@ abbrev pub closing_of : Level → What
 closing_of Array = What.CloseArray
 closing_of Object = What.CloseObject
 
-abbrev pub made_event : Mode → Option Level → Move → ℕ → ℕ → Option Event
-made_event mode inner Refuse start n = None
-made_event mode inner (Go next) start n = gone mode next start
-made_event mode inner (Open level) start n = Some (event_at n (opening_of level))
-made_event mode (Some level) Close start n = Some (event_at n (closing_of level))
-made_event mode None Close start n = None
+abbrev pub made_event : Mode → Option Level → Move → Words → ℕ → ℕ → Option Event
+made_event mode inner Refuse words start n = None
+made_event mode inner (Go next) words start n = gone mode next words start
+made_event mode inner (Open level) words start n = Some (event_at n (opening_of level))
+made_event mode (Some level) Close words start n = Some (event_at n (closing_of level))
+made_event mode None Close words start n = None
 
--- all events of the byte at n, where the number under way has this value
-abbrev pub emitted : Mode → Option Level → Move → Option Exact → ℕ → ℕ → List Event
-emitted mode inner move value start n = (if ended mode move then event_at start (What.Number value) ∷ [] else []) ++ option_to_list (made_event mode inner move start n)
+-- all events of the byte at n, where the number under way has this value and the string under way, as a name or a type, is these words
+abbrev pub emitted : Mode → Option Level → Move → Option Exact → Words → ℕ → ℕ → List Event
+emitted mode inner move value words start n = (if ended mode move then event_at start (What.Number value) ∷ [] else []) ++ option_to_list (made_event mode inner move words start n)
 
 -- whether a number is under way
 abbrev pub in_number : Mode → Bool
 in_number NumberOn = true
 in_number _ = false
+
+-- how far the character under way in a string or a name has come, where one is under way
+abbrev pub text_state : Mode → Option StringState
+text_state (StringOn state) = Some state
+text_state (NameOn state) = Some state
+text_state _ = None
 
 -- whether a literal name, a number, a string or a name is under way
 abbrev pub is_on : Mode → Bool

@@ -1,3 +1,4 @@
+use crate::names::{Known, Word};
 use gj_number::Decimal;
 
 /// What stands at a place of a text.
@@ -9,9 +10,9 @@ pub enum What {
     OpenArray,
     CloseArray,
     /// The name of a member.
-    Name,
+    Name(Known),
     /// A string that is a value.
-    Text,
+    Text(Word),
     /// A number, with its value where that is held (see [`Decimal`]).
     Number(Option<Decimal>),
     True,

@@ -7,6 +7,7 @@
 
 mod class;
 mod constant;
+mod content;
 mod event;
 mod fault;
 pub mod laws;
@@ -14,6 +15,7 @@ mod levels;
 mod limits;
 mod mode;
 mod moves;
+mod names;
 mod reader;
 mod runs;
 mod sink;
@@ -27,5 +29,6 @@ pub use laws::{
     viable_fronts,
 };
 pub use limits::Limits;
+pub use names::{Known, Word};
 pub use reader::Reader;
 pub use sink::EventSink;

@@ -80,5 +80,7 @@ pub enum Move {
 pub enum StringMove {
     Ends,
     Goes(StringState),
+    /// A character has ended with the byte, and none is under way.
+    Reads(u32),
     Refuses,
 }

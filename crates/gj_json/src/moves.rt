@@ -180,6 +180,7 @@ fn in_string(state: StringState, byte: u8) -> Move
     match next_string(state, byte) {
         StringMove::Ends => Move::Go(Mode::ValueDone),
         StringMove::Goes(next) => Move::Go(Mode::StringOn(next)),
+        StringMove::Reads(_) => Move::Go(Mode::StringOn(StringState::Plain)),
         StringMove::Refuses => Move::Refuse,
     }
 }
@@ -192,6 +193,7 @@ fn in_name(state: StringState, byte: u8) -> Move
     match next_string(state, byte) {
         StringMove::Ends => Move::Go(Mode::ColonDue),
         StringMove::Goes(next) => Move::Go(Mode::NameOn(next)),
+        StringMove::Reads(_) => Move::Go(Mode::NameOn(StringState::Plain)),
         StringMove::Refuses => Move::Refuse,
     }
 }

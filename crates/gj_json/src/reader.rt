@@ -1,32 +1,17 @@
-ghost use Rattle.std.specs.Prelude.{◌≡◌, ℕ, ◌+◌, ◌^◌, ◌≤◌, ◌<◌, ◌++◌, ◌∷◌, [], false, List, length, take, IfOk, MatchResult, Some, None, Err};
-ghost use Rattle.gj_number.specs.Grammar.{BeginsNumber};
-ghost use Rattle.gj_number.specs.Literal.{StandsFor as LiteralStandsFor};
-ghost use Rattle.gj_json.specs.Moves.{IsMode, IsMove};
-ghost use Rattle.gj_json.specs.Levels.{levels_in, outer_of};
-ghost use Rattle.gj_json.specs.Told.{in_number};
-ghost use Rattle.gj_json.specs.declared.mode.Mode.TheVariants.{NumberOn, ValueDone};
-ghost use Rattle.gj_json.specs.declared.mode.NumberTurn.TheVariants.{Ends};
+ghost use Rattle.std.specs.Prelude.{◌≡◌, ℕ, ◌+◌, ◌≤◌, ◌++◌, ◌∷◌, [], List, length, take, IfOk, MatchResult, Some, None, Err};
+ghost use Rattle.gj_json.specs.Moves.{IsMode};
+ghost use Rattle.gj_json.specs.Levels.{levels_in};
 
+use crate::content::Content;
 use crate::event::Event;
 use crate::fault::{Cause, JsonFault};
-use crate::levels::{Level, Levels};
+use crate::levels::Levels;
 use crate::limits::Limits;
-use crate::mode::{Mode, Move};
-use crate::moves::next;
-use crate::runs::{quiet_run, string_run};
+use crate::mode::Mode;
 use crate::sink::{EventPair, EventSink};
-use crate::told::{is_number, is_on, last_event, tell_events};
+use crate::told::last_event;
 use arrayvec::ArrayVec;
-use gj_number::{Decimal, Literal, Step};
-
-/// The number that the byte begins, where it begins one.
-fn literal_of(byte: u8) -> Literal
-    ensures { BeginsNumber (byte ∷ []) → LiteralStandsFor result (byte ∷ []) }
-{
-    let mut literal = Literal::new();
-    let _ = literal.push(byte);
-    literal
-}
+use gj_number::Literal;
 
 /// Reads a text: byte by byte or in pieces of any size.
 ///
@@ -40,6 +25,8 @@ pub struct Reader {
     levels: Levels,
     /// The number that is under way.
     literal: Literal,
+    /// The string or the name that is under way.
+    content: Content,
     mode: Mode,
     fault: Option<JsonFault>,
     ghost sound: { IsMode mode },
@@ -55,9 +42,6 @@ impl Reader {
     ghost use Rattle.gj_json.specs.Events.{events_by};
     ghost use Rattle.gj_json.specs.Open.{open_at};
     ghost use Rattle.gj_json.specs.Reader.{StandsFor, limits_of, refusal_of, offset_of, Answers, Completed, HearsBy, FinishAnswers};
-    ghost use Rattle.gj_json.specs.Feeding.{Skips, FeedsAll, FeedsTo};
-    ghost use Rattle.gj_json.specs.Quiet.{Leads};
-    ghost use Rattle.gj_json.specs.Step.{Applied, IsRefusedWith, told_on, Passes, opened, move_by, told_by, Takes};
 
     /// A reader of a text under these limits, before its first byte.
     pub fn new(limits: Limits) -> Self
@@ -73,234 +57,10 @@ impl Reader {
             start: 0,
             levels: Levels::new(),
             literal: Literal::new(),
+            content: Content::new(),
             mode: Mode::TextDue,
             fault: None,
         }
-    }
-
-    fn fault_here(&self, cause: Cause) -> JsonFault
-        ensures { result ≡ record { place = self.now.offset; cause = cause } }
-    {
-        JsonFault {
-            place: self.offset,
-            cause,
-        }
-    }
-
-    fn refuse(&mut self, cause: Cause) -> JsonFault
-        ensures refused { IsRefusedWith cause self.old self.new result }
-        ensures literal { self.new.literal ≡ self.old.literal }
-    {
-        let fault = self.fault_here(cause);
-        self.fault = Some(fault);
-        fault
-    }
-
-    fn go(&mut self, mode: Mode)
-        requires room { self.old.offset < self.old.limits.bytes }
-        requires sound { IsMode mode }
-        ensures passes { Passes mode (levels_in self.old.levels) self.old self.new }
-        ensures literal { self.new.literal ≡ self.old.literal }
-    {
-        if !is_on(self.mode) {
-            self.start = self.offset;
-        }
-        self.mode = mode;
-        self.offset += 1;
-    }
-
-    fn open(&mut self, level: Level)
-        requires room { self.old.offset < self.old.limits.bytes }
-        requires deep { length (levels_in self.old.levels) < self.old.limits.depth }
-        requires narrow { self.old.limits.depth ≤ 64 }
-        ensures passes { Passes (opened level) (level ∷ levels_in self.old.levels) self.old self.new }
-        ensures literal { self.new.literal ≡ self.old.literal }
-    {
-        self.levels.push(level);
-        self.go(match level {
-            Level::Array => Mode::ArrayOpened,
-            Level::Object => Mode::ObjectOpened,
-        });
-    }
-
-    fn close(&mut self)
-        requires room { self.old.offset < self.old.limits.bytes }
-        ensures passes { Passes ValueDone (outer_of (levels_in self.old.levels)) self.old self.new }
-        ensures literal { self.new.literal ≡ self.old.literal }
-    {
-        self.levels.pop();
-        self.go(Mode::ValueDone);
-    }
-
-    fn apply(&mut self, made: Move) -> Result<(), JsonFault>
-        requires live { self.old.fault ≡ None }
-        requires room { self.old.offset < self.old.limits.bytes }
-        requires sound { IsMove made }
-        ensures applied { Applied made self.old self.new result }
-        ensures literal { self.new.literal ≡ self.old.literal }
-    {
-        match made {
-            Move::Refuse => return Err(self.refuse(Cause::Syntax)),
-            Move::Go(mode) => self.go(mode),
-            Move::Open(level) => {
-                if self.levels.len() == self.limits.depth() {
-                    return Err(self.refuse(Cause::Depth));
-                }
-                self.open(level);
-            }
-            Move::Close => self.close(),
-        }
-        Ok(())
-    }
-
-    /// Takes a byte of a text in which no number is under way before it or the one that is has ended with this value, and
-    /// tells the events that it completes.
-    fn take_other<S: EventSink>(
-        &mut self,
-        byte: u8,
-        value: Option<Decimal>,
-        sink: &mut S,
-    ) -> Result<(), JsonFault>
-        requires live { self.old.fault ≡ None }
-        requires room { self.old.offset < self.old.limits.bytes }
-        ensures applied { Applied (move_by self.old Ends byte) self.old self.new result }
-        ensures literal { self.new.literal ≡ self.old.literal }
-        ensures heard { (events : List Event) → S.heard sink.old events → S.heard sink.new (events ++ told_on result (told_by self.old Ends value byte)) }
-    {
-        let inner = self.levels.inner();
-        let mode = self.mode;
-        let start = self.start;
-        let offset = self.offset;
-        let made = next(mode, inner, byte);
-        if let Err(fault) = self.apply(made) {
-            return Err(fault);
-        }
-        tell_events(sink, mode, inner, made, value, start, offset);
-        Ok(())
-    }
-
-    /// Takes a byte while a number is under way.
-    fn take_in_number<S: EventSink>(&mut self, byte: u8, sink: &mut S) -> Result<(), JsonFault>
-        requires live { self.old.fault ≡ None }
-        requires room { self.old.offset < self.old.limits.bytes }
-        requires number { self.old.mode ≡ NumberOn }
-        ensures { Takes (S.heard sink.old) (S.heard sink.new) self.old self.new byte result }
-    {
-        match self.literal.push(byte) {
-            Step::Goes => {
-                self.go(Mode::NumberOn);
-                Ok(())
-            }
-            Step::Ends => {
-                if self.literal.may_end() {
-                    let value = self.literal.value();
-                    self.take_other(byte, value, sink)
-                } else {
-                    Err(self.refuse(Cause::Syntax))
-                }
-            }
-        }
-    }
-
-    /// Takes a byte that the limit on the bytes allows, and tells the events that it completes.
-    fn take_byte<S: EventSink>(&mut self, byte: u8, sink: &mut S) -> Result<(), JsonFault>
-        requires live { self.old.fault ≡ None }
-        requires room { self.old.offset < self.old.limits.bytes }
-        ensures { Takes (S.heard sink.old) (S.heard sink.new) self.old self.new byte result }
-    {
-        if is_number(self.mode) {
-            return self.take_in_number(byte, sink);
-        }
-        if let Err(fault) = self.take_other(byte, None, sink) {
-            return Err(fault);
-        }
-        if is_number(self.mode) {
-            self.literal = literal_of(byte);
-        }
-        Ok(())
-    }
-
-    /// Takes so many bytes, which lead to this mode and complete nothing.
-    fn skip(&mut self, count: usize, mode: Mode) -> usize
-        requires room { self.old.offset + count ≤ self.old.limits.bytes }
-        requires small { self.old.limits.bytes ≤ 2 ^ 60 }
-        requires sound { IsMode mode }
-        ensures count { result ≡ count }
-        ensures skips { (given : List ℕ) → length given ≡ count → Leads self.old.mode given mode → in_number mode ≡ false → Skips self.old self.new given }
-    {
-        self.mode = mode;
-        self.offset += count as u64;
-        count
-    }
-
-    /// Takes the digits at the front of the piece that go on in the number under way: how many.
-    fn skip_digits(&mut self, piece: &[u8]) -> usize
-        requires room { self.old.offset + length piece.now ≤ self.old.limits.bytes }
-        requires small { self.old.limits.bytes ≤ 2 ^ 60 }
-        requires number { self.old.mode ≡ NumberOn }
-        ensures within { result ≤ length piece.now }
-        ensures skips { Skips self.old self.new (take result piece.now) }
-    {
-        let digits = self.literal.push_digits(piece);
-        self.offset += digits as u64;
-        digits
-    }
-
-    /// Takes the bytes at the front of the piece that complete nothing and open or close nothing: how many.
-    fn skip_quiet(&mut self, piece: &[u8]) -> usize
-        requires room { self.old.offset + length piece.now ≤ self.old.limits.bytes }
-        requires small { self.old.limits.bytes ≤ 2 ^ 60 }
-        ensures within { result ≤ length piece.now }
-        ensures skips { Skips self.old self.new (take result piece.now) }
-    {
-        match self.mode {
-            Mode::StringOn(state) => {
-                let run = string_run(state, piece);
-                self.skip(run.count, Mode::StringOn(run.state))
-            }
-            Mode::NameOn(state) => {
-                let run = string_run(state, piece);
-                self.skip(run.count, Mode::NameOn(run.state))
-            }
-            Mode::NumberOn => self.skip_digits(piece),
-            mode => self.skip(quiet_run(mode, piece), mode),
-        }
-    }
-
-    /// Takes bytes from the front of the piece, one at least: how many.
-    fn take_some<S: EventSink>(&mut self, piece: &[u8], sink: &mut S) -> Result<usize, JsonFault>
-        requires live { self.old.fault ≡ None }
-        requires some { 0 < length piece.now }
-        requires room { self.old.offset + length piece.now ≤ self.old.limits.bytes }
-        requires small { self.old.limits.bytes ≤ 2 ^ 60 }
-        ensures within { IfOk result (λ n. (0 < n) × (n ≤ length piece.now)) }
-        ensures feeds { MatchResult result (λ n. FeedsAll (S.heard sink.old) (S.heard sink.new) self.old self.new (take n piece.now)) (FeedsTo (S.heard sink.old) (S.heard sink.new) self.old self.new piece.now) }
-    {
-        let quiet = self.skip_quiet(piece);
-        if quiet == piece.len() {
-            return Ok(quiet);
-        }
-        match self.take_byte(piece[quiet], sink) {
-            Ok(()) => Ok(quiet + 1),
-            Err(fault) => Err(fault),
-        }
-    }
-
-    /// Takes a piece that the limit on the bytes allows.
-    fn take_piece<S: EventSink>(&mut self, piece: &[u8], sink: &mut S) -> Result<(), JsonFault>
-        requires live { self.old.fault ≡ None }
-        requires room { self.old.offset + length piece.now ≤ self.old.limits.bytes }
-        requires small { self.old.limits.bytes ≤ 2 ^ 60 }
-        ensures feeds { MatchResult result (λ done. FeedsAll (S.heard sink.old) (S.heard sink.new) self.old self.new piece.now) (FeedsTo (S.heard sink.old) (S.heard sink.new) self.old self.new piece.now) }
-    {
-        let mut at = 0;
-        while at < piece.len() {
-            match self.take_some(&piece[at..], sink) {
-                Ok(count) => at += count,
-                Err(fault) => return Err(fault),
-            }
-        }
-        Ok(())
     }
 
     /// Takes a piece of the text, of any size, and tells the sink the events that are complete in it, in order.
@@ -387,5 +147,7 @@ impl Reader {
     }
 }
 
+mod pieces;
+mod steps;
 #[cfg(test)]
 mod tests;

@@ -1,10 +1,12 @@
 //! Bytes in a row that complete nothing and open or close nothing.
 
-ghost use Rattle.std.specs.Prelude.{◌≡◌, ◌≤◌, length, take};
+ghost use Rattle.std.specs.Prelude.{◌≡◌, ◌≤◌, ◌++◌, ℕ, List, length, take};
 ghost use Rattle.std.specs.List.{AllByRecursion, prefix_len};
 ghost use Rattle.gj_json.specs.Moves.{IsStringState};
-ghost use Rattle.gj_json.specs.Quiet.{IsQuiet, StringLeads, is_plain, is_white};
+ghost use Rattle.gj_json.specs.Quiet.{IsQuiet, Reads, is_plain, is_white};
+ghost use Rattle.gj_json.specs.Content.{IsAscii, Holds};
 
+use crate::content::Content;
 use crate::mode::{Mode, StringMove, StringState};
 use crate::strings::next_string;
 
@@ -56,10 +58,11 @@ pub struct StringRun {
     pub state: StringState,
 }
 
-/// How many bytes at the front of the piece leave the state of a string as it is.
+/// How many bytes at the front of the piece are characters by themselves, where none is under way.
 fn plain_front(state: StringState, piece: &[u8]) -> usize
     ensures within { result ≤ length piece.now }
-    ensures leads { StringLeads state (take result piece.now) state }
+    ensures ascii { AllByRecursion IsAscii (take result piece.now) }
+    ensures reads { Reads state (take result piece.now) (take result piece.now) state }
 {
     match state {
         StringState::Plain => plain_run(piece),
@@ -67,27 +70,31 @@ fn plain_front(state: StringState, piece: &[u8]) -> usize
     }
 }
 
-/// The bytes at the front of the piece that go on in a string.
-pub fn string_run(state: StringState, piece: &[u8]) -> StringRun
+/// Takes the bytes at the front of the piece that go on in a string, and the characters that end in them.
+pub fn string_run(content: &mut Content, state: StringState, piece: &[u8]) -> StringRun
     requires { IsStringState state }
     ensures within { result.count ≤ length piece.now }
     ensures state { IsStringState result.state }
-    ensures leads { StringLeads state (take result.count piece.now) result.state }
+    ensures reads { (characters : List ℕ) × Reads state (take result.count piece.now) characters result.state × ((so_far : List ℕ) → Holds content.old so_far → Holds content.new (so_far ++ characters)) }
 {
     let mut count = 0;
     let mut here = state;
     while count < piece.len() {
-        count += plain_front(here, &piece[count..]);
+        let plain = plain_front(here, &piece[count..]);
+        content.push_run(&piece[count..count + plain]);
+        count += plain;
         if count == piece.len() {
             break;
         }
         match next_string(here, piece[count]) {
-            StringMove::Goes(next) => {
-                here = next;
-                count += 1;
+            StringMove::Goes(next) => here = next,
+            StringMove::Reads(character) => {
+                content.push(character);
+                here = StringState::Plain;
             }
             _ => break,
         }
+        count += 1;
     }
     StringRun { count, state: here }
 }

@@ -88,7 +88,7 @@ fn tail(more: u8, value: u32) -> StringMove
     ensures state { IsStringMove result }
 {
     if more == 0 {
-        StringMove::Goes(StringState::Plain)
+        StringMove::Reads(value)
     } else {
         StringMove::Goes(StringState::InCharacter(more - 1, Bounds::Any, value))
     }
@@ -104,7 +104,7 @@ fn next_plain(byte: u8) -> StringMove
     } else if byte == b'\\' {
         StringMove::Goes(StringState::Escape)
     } else if b' ' <= byte && byte <= 0x7F {
-        StringMove::Goes(StringState::Plain)
+        StringMove::Reads(byte as u32)
     } else {
         lead(byte)
     }
@@ -123,7 +123,7 @@ pub fn next_string(state: StringState, byte: u8) -> StringMove
                 StringMove::Goes(StringState::HexDue)
             } else {
                 match escaped(byte) {
-                    Some(_) => StringMove::Goes(StringState::Plain),
+                    Some(character) => StringMove::Reads(character as u32),
                     None => StringMove::Refuses,
                 }
             }
@@ -141,7 +141,7 @@ pub fn next_string(state: StringState, byte: u8) -> StringMove
             None => StringMove::Refuses,
         },
         StringState::HexThree(value) => match hex(byte) {
-            Some(_) => StringMove::Goes(StringState::Plain),
+            Some(digit) => StringMove::Reads(value * 16 + digit),
             None => StringMove::Refuses,
         },
         StringState::InCharacter(more, bounds, value) => {

@@ -2,11 +2,12 @@
 
 ghost use Rattle.std.specs.Prelude.{◌≡◌, ◌++◌, List};
 ghost use Rattle.gj_json.specs.Told.{ended, value_ended, gone, opening_of, closing_of, made_event, emitted, is_on as is_on_of, last_event as last_event_of};
+ghost use Rattle.gj_json.specs.Content.{words_in};
 ghost use Rattle.gj_json.specs.Events.{what_of as what_of_constant};
-ghost use Rattle.gj_json.specs.Told.{in_number};
 ghost use Rattle.gj_json.specs.declared.event.Event.{Event};
 
 use crate::constant::Constant;
+use crate::content::Content;
 use crate::event::{Event, What};
 use crate::levels::Level;
 use crate::mode::{Mode, Move};
@@ -23,16 +24,6 @@ fn has_ended(mode: Mode, made: Move) -> bool
             Move::Go(Mode::NumberOn) => false,
             _ => true,
         },
-        _ => false,
-    }
-}
-
-/// Whether a number is under way.
-pub fn is_number(mode: Mode) -> bool
-    ensures { result ≡ in_number mode }
-{
-    match mode {
-        Mode::NumberOn => true,
         _ => false,
     }
 }
@@ -57,27 +48,27 @@ fn what_of(which: Constant) -> What
     }
 }
 
-fn ended_value(mode: Mode, start: u64) -> Option<Event>
-    ensures { result ≡ value_ended mode start }
+fn ended_value(mode: Mode, content: &Content, start: u64) -> Option<Event>
+    ensures { result ≡ value_ended mode (words_in content.now) start }
 {
     let what = match mode {
         Mode::ConstantOn(which, _) => what_of(which),
-        Mode::StringOn(_) => What::Text,
+        Mode::StringOn(_) => What::Text(content.word()),
         _ => return None,
     };
     Some(Event { place: start, what })
 }
 
 /// The event that a move to the mode `next` completes.
-fn event_of_going(mode: Mode, next: Mode, start: u64) -> Option<Event>
-    ensures { result ≡ gone mode next start }
+fn event_of_going(mode: Mode, next: Mode, content: &Content, start: u64) -> Option<Event>
+    ensures { result ≡ gone mode next (words_in content.now) start }
 {
     match next {
-        Mode::ValueDone => ended_value(mode, start),
+        Mode::ValueDone => ended_value(mode, content, start),
         Mode::ColonDue => match mode {
             Mode::NameOn(_) => Some(Event {
                 place: start,
-                what: What::Name,
+                what: What::Name(content.known()),
             }),
             _ => None,
         },
@@ -111,12 +102,19 @@ fn closing(level: Level) -> What
 }
 
 /// The event that the byte at `offset` completes, beside the number that it ends.
-fn event_of(mode: Mode, inner: Option<Level>, made: Move, start: u64, offset: u64) -> Option<Event>
-    ensures { result ≡ made_event mode inner made start offset }
+fn event_of(
+    mode: Mode,
+    inner: Option<Level>,
+    made: Move,
+    content: &Content,
+    start: u64,
+    offset: u64,
+) -> Option<Event>
+    ensures { result ≡ made_event mode inner made (words_in content.now) start offset }
 {
     match made {
         Move::Refuse => None,
-        Move::Go(next) => event_of_going(mode, next, start),
+        Move::Go(next) => event_of_going(mode, next, content, start),
         Move::Open(level) => Some(Event {
             place: offset,
             what: opening(level),
@@ -132,17 +130,18 @@ fn event_of(mode: Mode, inner: Option<Level>, made: Move, start: u64, offset: u6
 }
 
 /// Tells the events that the byte at `offset` completes, by what the reader kept before it and the move that it makes:
-/// `value` is that of the number under way.
+/// `value` is that of the number under way, `content` that of the string.
 pub fn tell_events<S: EventSink>(
     sink: &mut S,
     mode: Mode,
     inner: Option<Level>,
     made: Move,
     value: Option<Decimal>,
+    content: &Content,
     start: u64,
     offset: u64,
 )
-    ensures { (events : List Event) → S.heard sink.old events → S.heard sink.new (events ++ emitted mode inner made value start offset) }
+    ensures { (events : List Event) → S.heard sink.old events → S.heard sink.new (events ++ emitted mode inner made value (words_in content.now) start offset) }
 {
     if has_ended(mode, made) {
         sink.tell(Event {
@@ -150,7 +149,7 @@ pub fn tell_events<S: EventSink>(
             what: What::Number(value),
         });
     }
-    if let Some(event) = event_of(mode, inner, made, start, offset) {
+    if let Some(event) = event_of(mode, inner, made, content, start, offset) {
         sink.tell(event);
     }
 }

@@ -6,6 +6,7 @@ use super::Reader;
 use crate::event::{Event, What};
 use crate::fault::{Cause, JsonFault};
 use crate::limits::Limits;
+use crate::names::{Known, Word};
 use crate::sink::EventSink;
 use arrayvec::ArrayVec;
 use gj_number::{Decimal, Literal};
@@ -341,6 +342,116 @@ fn first_number(sink: &FirstEvents) -> Option<Decimal> {
     None
 }
 
+/// The first name that a sink was told.
+fn first_name(sink: &FirstEvents) -> Option<Known> {
+    for event in &sink.events {
+        if let What::Name(known) = event.what {
+            return Some(known);
+        }
+    }
+    None
+}
+
+/// The first string that a sink was told.
+fn first_word(sink: &FirstEvents) -> Option<Word> {
+    for event in &sink.events {
+        if let What::Text(word) = event.what {
+            return Some(word);
+        }
+    }
+    None
+}
+
+#[test]
+fn names_are_known(rt: HostRuntime) {
+    let rows: [(&[u8], Known); 16] = [
+        (b"{\"type\":1}", Known::TypeName),
+        (b"{\"coordinates\":1}", Known::Coordinates),
+        (b"{\"geometries\":1}", Known::Geometries),
+        (b"{\"geometry\":1}", Known::Geometry),
+        (b"{\"properties\":1}", Known::Properties),
+        (b"{\"features\":1}", Known::Features),
+        (b"{\"bbox\":1}", Known::Bbox),
+        (b"{\"id\":1}", Known::Id),
+        (b"{\"\\u0074ype\":1}", Known::TypeName),
+        (b"{\"t\\u0079pe\":1}", Known::TypeName),
+        (b"{\"Type\":1}", Known::Other),
+        (b"{\"types\":1}", Known::Other),
+        (b"{\"typ\":1}", Known::Other),
+        (b"{\"\":1}", Known::Other),
+        (b"{\"t\xC3\xBFpe\":1}", Known::Other),
+        (b"{\"coordinatescoordinates\":1}", Known::Other),
+    ];
+    for (input, known) in rows {
+        for cut in 0..input.len() {
+            let mut reader = Reader::new(Limits::usual());
+            let mut sink = no_events();
+            let _ = reader.feed(&input[..cut], &mut sink);
+            let _ = reader.feed(&input[cut..], &mut sink);
+            assert!(rt; first_name(&sink) == Some(known), "cut at {cut}");
+        }
+    }
+}
+
+#[test]
+fn types_are_known(rt: HostRuntime) {
+    let rows: [(&[u8], Word); 14] = [
+        (b"[\"Point\"]", Word::Point),
+        (b"[\"MultiPoint\"]", Word::MultiPoint),
+        (b"[\"LineString\"]", Word::LineString),
+        (b"[\"MultiLineString\"]", Word::MultiLineString),
+        (b"[\"Polygon\"]", Word::Polygon),
+        (b"[\"MultiPolygon\"]", Word::MultiPolygon),
+        (b"[\"GeometryCollection\"]", Word::GeometryCollection),
+        (b"[\"Feature\"]", Word::Feature),
+        (b"[\"FeatureCollection\"]", Word::FeatureCollection),
+        (b"[\"\\u0050oint\"]", Word::Point),
+        (b"[\"point\"]", Word::Other),
+        (b"[\"Points\"]", Word::Other),
+        (b"[\"GeometryCollections\"]", Word::Other),
+        (b"[\"\\ud800\"]", Word::Other),
+    ];
+    for (input, word) in rows {
+        for cut in 0..input.len() {
+            let mut reader = Reader::new(Limits::usual());
+            let mut sink = no_events();
+            let _ = reader.feed(&input[..cut], &mut sink);
+            let _ = reader.feed(&input[cut..], &mut sink);
+            assert!(rt; first_word(&sink) == Some(word), "cut at {cut}");
+        }
+    }
+}
+
+#[test]
+fn each_byte_alone_gives_the_name(rt: HostRuntime) {
+    let mut reader = Reader::new(Limits::usual());
+    let mut sink = no_events();
+    for byte in b"{\"f\\u0065atures\":[]}" {
+        if let Ok(events) = reader.push(*byte) {
+            for event in &events {
+                sink.tell(*event);
+            }
+        }
+    }
+    assert!(rt;
+        first_name(&sink) == Some(Known::Features),
+        "an escape in it"
+    );
+}
+
+#[test]
+fn a_name_has_any_length(rt: HostRuntime) {
+    let mut reader = Reader::new(Limits::usual());
+    let mut sink = no_events();
+    assert!(rt; reader.feed(b"{\"", &mut sink).is_ok());
+    for _ in 0..1_000 {
+        assert!(rt; reader.feed(&[b't'; 1_000], &mut sink).is_ok());
+    }
+    assert!(rt; reader.feed(b"\":0}", &mut sink).is_ok());
+    assert!(rt; first_name(&sink) == Some(Known::Other), "no known name");
+    assert!(rt; end(reader).is_none());
+}
+
 #[test]
 fn numbers_have_their_values(rt: HostRuntime) {
     let rows: [(&[u8], Option<(bool, u128, i16)>); 16] = [
@@ -403,14 +514,14 @@ fn events_come_in_order(rt: HostRuntime) -> Result<(), AllocError> {
             b"{\"a\":1}",
             &[
                 event(0, What::OpenObject),
-                event(1, What::Name),
+                event(1, What::Name(Known::Other)),
                 event(5, What::Number(decimal(b"1"))),
                 event(6, What::CloseObject),
             ],
             None,
         ),
         (b"7", &[], Some(event(0, What::Number(decimal(b"7"))))),
-        (b"\"x\"", &[event(0, What::Text)], None),
+        (b"\"x\"", &[event(0, What::Text(Word::Other))], None),
         (
             b"\xEF\xBB\xBF[]",
             &[
@@ -436,7 +547,7 @@ fn events_come_in_order(rt: HostRuntime) -> Result<(), AllocError> {
             &[
                 event(0, What::OpenArray),
                 event(1, What::Number(decimal(b"-1.5e3"))),
-                event(8, What::Text),
+                event(8, What::Text(Word::Other)),
                 event(12, What::CloseArray),
             ],
             None,

@@ -1,30 +1,50 @@
 -- The bytes of a string, run by run and byte by byte.
-use Rattle.std.proofs.Common.{◌+◌, ◌≤◌, ◌<◌, length, take, arith, sym, ◌∙◌}
-use Rattle.gj_json.specs.Quiet.{StringLeads}
-use Rattle.gj_json.proofs.QuietLemmas.{leads_more, leads_byte}
+use Rattle.std.proofs.Common.{◌≡◌, ◌+◌, ◌≤◌, ◌<◌, [], ◌∷◌, get_or, length, arith, sym, ◌∙◌, append-nil}
+use Rattle.gj_json.specs.Machine.{string_next, string_goes}
+use Rattle.gj_json.specs.declared.mode.StringState.TheVariants.{Plain}
+use Rattle.gj_json.proofs.OneCharacter.{one_character, goes_is, reads_is}
+use Rattle.gj_json.proofs.Skipping.{HasRead, after_plain, after_byte}
 use Rattle.gj_json.proofs.Slices.{more_within}
 use Rattle.gj_json.proofs.runs.string_run.Goals as goal
+use Rattle.gj_json.proofs.runs.string_run.Goals.{in-Goes, in-Reads}
+
+plain_read : (c : goal.Then-count-piece) → HasRead c.args.state c.args.piece.now (c.loop-count.count + c.plain_front-plain.result) c.loop-count.here c.args.content.now c.push_run.new.self
+plain_read c =
+    after_plain c.args.state c.loop-count.here c.args.piece.now c.loop-count.count c.plain_front-plain.result c.args.content.now c.loop-count.content c.push_run.new.self
+    c.loop-count.invariant.reads c.plain_front-plain.ensures.reads c.plain_front-plain.ensures.ascii c.push_run.ensures
+
+pub returns-then-count-piece-clause-reads : goal.returns-then-count-piece-clause-reads
+returns-then-count-piece-clause-reads c = plain_read c
+
+pub returns-in_default-clause-reads : goal.returns-in_default-clause-reads
+returns-in_default-clause-reads c =
+    after_plain c.args.state c.loop-count.here c.args.piece.now c.loop-count.count c.plain_front-plain.result c.args.content.now c.loop-count.content c.push_run.new.self
+    c.loop-count.invariant.reads c.plain_front-plain.ensures.reads c.plain_front-plain.ensures.ascii c.push_run.ensures
 
 pub loop-count-preserved : goal.loop-count-preserved
 loop-count-preserved c =
-    let at = c.loop-count.count in
-    let n = c.plain_front-count.result in
-    let w : at + n ≤ length c.args.piece.now = more_within c.args.piece.now at n c.loop-count.invariant.within c.plain_front-count.ensures.within in
-    let less : at + n < length c.args.piece.now = omega (arith, w, c.if-count-piece.false) in
-    let h : StringLeads c.args.state (take (at + n) c.args.piece.now) c.loop-count.here = leads_more c.args.state c.loop-count.here c.loop-count.here c.args.piece.now at n c.loop-count.invariant.leads c.plain_front-count.ensures.leads in
-    record {
-      within = omega (arith, less);
-      state = c.in-Goes.ensures.state;
-      leads = leads_byte c.args.state c.loop-count.here c.in-Goes.next c.args.piece.now (at + n) less h (sym c.next_string.ensures.value ∙ c.in-Goes.is);
-    }
-
-pub returns-then-count-piece-clause-leads : goal.returns-then-count-piece-clause-leads
-returns-then-count-piece-clause-leads c =
-    leads_more c.args.state c.loop-count.here c.loop-count.here c.args.piece.now c.loop-count.count c.plain_front-count.result c.loop-count.invariant.leads c.plain_front-count.ensures.leads
-
-pub returns-in_default : goal.returns-in_default
-returns-in_default c = record {
-  within = more_within c.args.piece.now c.loop-count.count c.plain_front-count.result c.loop-count.invariant.within c.plain_front-count.ensures.within;
-  state = c.loop-count.invariant.state;
-  leads = leads_more c.args.state c.loop-count.here c.loop-count.here c.args.piece.now c.loop-count.count c.plain_front-count.result c.loop-count.invariant.leads c.plain_front-count.ensures.leads;
-}
+    let at = c.loop-count.count + c.plain_front-plain.result in
+    let piece = c.args.piece.now in
+    let here = c.loop-count.here in
+    let w : at ≤ length piece = more_within piece c.loop-count.count c.plain_front-plain.result c.loop-count.invariant.within c.plain_front-plain.ensures.within in
+    let less : at < length piece = omega (arith, w, c.if-count-piece.false) in
+    let read : HasRead c.args.state piece at here c.args.content.now c.push_run.new.self =
+    after_plain c.args.state here piece c.loop-count.count c.plain_front-plain.result c.args.content.now c.loop-count.content c.push_run.new.self
+    c.loop-count.invariant.reads c.plain_front-plain.ensures.reads c.plain_front-plain.ensures.ascii c.push_run.ensures in
+    elim c.match-next_string.branch [
+      | in-Goes w ↦ (
+          let e : string_next here (get_or piece at 0) ≡ string_goes [] w.in-Goes.next = goes_is (string_next here (get_or piece at 0)) w.in-Goes.next (sym c.next_string.ensures.value ∙ w.in-Goes.is) in
+          record {
+            within = omega (arith, less);
+            state = rw (w.here-is) w.in-Goes.ensures.state;
+            reads = rw (w.here-is, w.content-is) (after_byte c.args.state here w.in-Goes.next piece [] at c.args.content.now c.push_run.new.self c.push_run.new.self read less e (λ so_far k. rw append-nil k));
+          })
+      | in-Reads w ↦ (
+          let e : string_next here (get_or piece at 0) ≡ string_goes (w.in-Reads.character ∷ []) Plain =
+          reads_is (string_next here (get_or piece at 0)) w.in-Reads.character (one_character here (get_or piece at 0)) (sym c.next_string.ensures.value ∙ w.in-Reads.is) in
+          record {
+            within = omega (arith, less);
+            state = rw (w.here-is) (omega arith);
+            reads = rw (w.here-is, w.content-is) (after_byte c.args.state here Plain piece (w.in-Reads.character ∷ []) at c.args.content.now c.push_run.new.self w.push.new.self read less e w.push.ensures);
+          })
+    ]

@@ -1,13 +1,14 @@
-use Rattle.std.proofs.Common.{length, ◌-◌, ◌≤◌, take}
+use Rattle.std.proofs.Common.{ℕ, List, length, ◌-◌, ◌≤◌, ◌++◌, take}
+use Rattle.gj_json.specs.Content.{Holds}
 use Rattle.gj_json.specs.Moves.{IsStringState}
-use Rattle.gj_json.specs.Quiet.{StringLeads}
+use Rattle.gj_json.specs.Quiet.{Reads}
 use Rattle.gj_json.proofs.runs.string_run.Given as goal
 
 abbrev pub invariant-loop-count : goal.invariant-loop-count
 invariant-loop-count l = record {
   within : l.count ≤ length l.piece;
   state : IsStringState l.here;
-  leads : StringLeads l.initial.here (take l.count l.piece) l.here;
+  reads : (characters : List ℕ) × Reads l.initial.here (take l.count l.piece) characters l.here × ((so_far : List ℕ) → Holds l.fn.content so_far → Holds l.content (so_far ++ characters));
 }
 
 abbrev pub decreases-loop-count : goal.decreases-loop-count

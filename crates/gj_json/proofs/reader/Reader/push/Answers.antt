@@ -36,7 +36,7 @@ returns-in-Ok-clause-answer c = λ bytes h.
 
 pub returns-in-Ok-clause-events : goal.returns-in-Ok-clause-events
 returns-in-Ok-clause-events c = λ bytes h.
-    let few : length (told_by c.args.self.now c.take_byte.ensures.turn c.take_byte.ensures.value c.args.byte) ≤ 2 = emitted_few _ _ _ _ _ _ in
+    let few : length (told_by c.args.self.now c.take_byte.ensures.turn c.take_byte.ensures.value c.args.byte) ≤ 2 = emitted_few _ _ _ _ _ _ _ in
     let heard = c.take_byte.ensures.told [] (λ l. c.new-told.ensures) in
     let told = rw (c.in-Ok.is) at heard in
     let k = completed c.args.self.now c.args.byte bytes c.take_byte.ensures.turn c.take_byte.ensures.value c.take_byte.ensures.says c.in_default.is h in

@@ -13,10 +13,16 @@ returns-in-Goes g c = record {
     turns = λ bytes m k. c.push.ensures.begins bytes k c.in-Goes.is;
     values = λ e bytes m k n. cc;
   };
-  goes = λ e. record {
-    goes = λ t bytes m n k. rw (c.go.ensures.literal) (c.push.ensures.stands bytes k c.in-Goes.is);
-    begins = λ m n f. let x = rw (c.requires.number) at m in cc;
-  };
+  goes = λ e. (
+    record {
+      goes = λ t bytes m n k. rw (c.go.ensures.literal) (c.push.ensures.stands bytes k c.in-Goes.is);
+      begins = λ m t n f. let x = rw (c.requires.number) at m in cc;
+    },
+    record {
+      goes = λ state next more so_far t f k. let x = rw (c.requires.number) at t in cc;
+      begins = λ state t f h. let x = rw (c.requires.number) at t in cc;
+    },
+  );
   applied = Alike.goes c.args.self.now _ c.go.new.self c.args.byte c.requires.number (record { limits = refl; fault = refl; start = refl; offset = refl; mode = refl; levels = refl }) c.go.ensures.passes;
   told = λ events h. (let e = Alike.goes_tells c.args.self.now None c.args.byte c.requires.number in rw (e, append-nil) h);
 }
@@ -29,10 +35,16 @@ returns-then-may_end g c = record {
     turns = λ bytes m k. (λ f. c.push.ensures.refused bytes k c.in-Ends.is f, (c.may_end.ensures.number bytes (rw (c.push.ensures.kept c.in-Ends.is) k)).0 c.if-may_end.true);
     values = λ e bytes m k n. c.value-value.ensures.value bytes (rw (c.push.ensures.kept c.in-Ends.is) k) n;
   };
-  goes = λ e. record {
-    goes = λ t bytes m n k. cc;
-    begins = λ m n f. let x = rw (c.requires.number) at m in cc;
-  };
+  goes = λ e. (
+    record {
+      goes = λ t bytes m n k. cc;
+      begins = λ m t n f. let x = rw (c.requires.number) at m in cc;
+    },
+    record {
+      goes = λ state next more so_far t f k. let x = rw (c.requires.number) at t in cc;
+      begins = λ state t f h. let x = rw (c.requires.number) at t in cc;
+    },
+  );
   applied = Alike.applied c.args.self.now _ c.take_other.new.self (move_by c.args.self.now Ends c.args.byte) c.take_other.result (record { limits = refl; fault = refl; start = refl; offset = refl; mode = refl; levels = refl }) c.take_other.ensures.applied;
   told = λ events h. c.take_other.ensures.heard events h;
 }

@@ -1,0 +1,12 @@
+use Rattle.std.proofs.Common.{ℕ, ◌-◌, ◌≤◌, List, ◌++◌, length, take}
+use Rattle.gj_json.specs.Content.{Holds}
+use Rattle.gj_json.proofs.content.Content.push_run.Given as goal
+
+abbrev pub invariant-loop-at : goal.invariant-loop-at
+invariant-loop-at l = record {
+  within : l.at ≤ length l.run;
+  holds : (characters : List ℕ) → Holds l.fn.self characters → Holds l.self (characters ++ take l.at l.run);
+}
+
+abbrev pub decreases-loop-at : goal.decreases-loop-at
+decreases-loop-at l = length l.run - l.at

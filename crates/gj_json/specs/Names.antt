@@ -1,0 +1,37 @@
+-- Which names and types RFC 7946 gives a meaning (sections 1.4 and 3 to 6). They are compared by their characters, and
+-- the letters are ASCII: a content that holds anything else is none of them.
+use Rattle.std.specs.Prelude.{ℕ, if◌then◌else◌, List, codes}
+use Rattle.std.specs.Str.{bytes_eq}
+use Rattle.gj_json.specs.declared.names.Known.{Known}
+use Rattle.gj_json.specs.declared.names.Word.{Word}
+
+unfoldable pub known_of : List ℕ → Known
+known_of content =
+    if bytes_eq content (codes "type") then Known.TypeName else
+    if bytes_eq content (codes "coordinates") then Known.Coordinates else
+    if bytes_eq content (codes "geometries") then Known.Geometries else
+    if bytes_eq content (codes "geometry") then Known.Geometry else
+    if bytes_eq content (codes "properties") then Known.Properties else
+    if bytes_eq content (codes "features") then Known.Features else
+    if bytes_eq content (codes "bbox") then Known.Bbox else
+    if bytes_eq content (codes "id") then Known.Id else Known.Other
+
+unfoldable pub word_of : List ℕ → Word
+word_of content =
+    if bytes_eq content (codes "Point") then Word.Point else
+    if bytes_eq content (codes "MultiPoint") then Word.MultiPoint else
+    if bytes_eq content (codes "LineString") then Word.LineString else
+    if bytes_eq content (codes "MultiLineString") then Word.MultiLineString else
+    if bytes_eq content (codes "Polygon") then Word.Polygon else
+    if bytes_eq content (codes "MultiPolygon") then Word.MultiPolygon else
+    if bytes_eq content (codes "GeometryCollection") then Word.GeometryCollection else
+    if bytes_eq content (codes "Feature") then Word.Feature else
+    if bytes_eq content (codes "FeatureCollection") then Word.FeatureCollection else Word.Other
+
+-- which name and which type a content is
+pub record Words : Type 0 where
+  pub known : Known
+  pub word : Word
+
+abbrev pub words_of : List ℕ → Words
+words_of content = record { known = known_of content; word = word_of content }

@@ -1,0 +1,101 @@
+//! Bytes in a row, from what the reader keeps.
+
+ghost use Rattle.std.specs.Prelude.{◌≡◌, ◌+◌, ◌^◌, ◌≤◌, ◌<◌, length, take, IfOk, MatchResult, None};
+ghost use Rattle.gj_json.specs.Moves.{IsMode};
+ghost use Rattle.gj_json.specs.declared.mode.Mode.TheVariants.{NumberOn};
+
+use super::Reader;
+use crate::fault::JsonFault;
+use crate::mode::Mode;
+use crate::runs::{quiet_run, string_run};
+use crate::sink::EventSink;
+
+impl Reader {
+    ghost use Rattle.gj_json.specs.Feeding.{Passed, Skips, FeedsAll, FeedsTo};
+
+    /// Passes over so many bytes, behind which this is the mode.
+    fn skip(&mut self, count: usize, mode: Mode) -> usize
+        requires room { self.old.offset + count ≤ self.old.limits.bytes }
+        requires small { self.old.limits.bytes ≤ 2 ^ 60 }
+        requires sound { IsMode mode }
+        ensures count { result ≡ count }
+        ensures passed { Passed count mode self.old self.new }
+    {
+        self.mode = mode;
+        self.offset += count as u64;
+        count
+    }
+
+    /// Takes the digits at the front of the piece that go on in the number under way: how many.
+    fn skip_digits(&mut self, piece: &[u8]) -> usize
+        requires room { self.old.offset + length piece.now ≤ self.old.limits.bytes }
+        requires small { self.old.limits.bytes ≤ 2 ^ 60 }
+        requires number { self.old.mode ≡ NumberOn }
+        ensures within { result ≤ length piece.now }
+        ensures skips { Skips self.old self.new (take result piece.now) }
+    {
+        let digits = self.literal.push_digits(piece);
+        self.skip(digits, Mode::NumberOn)
+    }
+
+    /// Takes the bytes at the front of the piece that complete nothing and open or close nothing: how many.
+    fn skip_quiet(&mut self, piece: &[u8]) -> usize
+        requires room { self.old.offset + length piece.now ≤ self.old.limits.bytes }
+        requires small { self.old.limits.bytes ≤ 2 ^ 60 }
+        ensures within { result ≤ length piece.now }
+        ensures skips { Skips self.old self.new (take result piece.now) }
+    {
+        match self.mode {
+            Mode::StringOn(state) => {
+                let run = string_run(&mut self.content, state, piece);
+                self.skip(run.count, Mode::StringOn(run.state))
+            }
+            Mode::NameOn(state) => {
+                let run = string_run(&mut self.content, state, piece);
+                self.skip(run.count, Mode::NameOn(run.state))
+            }
+            Mode::NumberOn => self.skip_digits(piece),
+            mode => self.skip(quiet_run(mode, piece), mode),
+        }
+    }
+
+    /// Takes bytes from the front of the piece, one at least: how many.
+    fn take_some<S: EventSink>(&mut self, piece: &[u8], sink: &mut S) -> Result<usize, JsonFault>
+        requires live { self.old.fault ≡ None }
+        requires some { 0 < length piece.now }
+        requires room { self.old.offset + length piece.now ≤ self.old.limits.bytes }
+        requires small { self.old.limits.bytes ≤ 2 ^ 60 }
+        ensures within { IfOk result (λ n. (0 < n) × (n ≤ length piece.now)) }
+        ensures feeds { MatchResult result (λ n. FeedsAll (S.heard sink.old) (S.heard sink.new) self.old self.new (take n piece.now)) (FeedsTo (S.heard sink.old) (S.heard sink.new) self.old self.new piece.now) }
+    {
+        let quiet = self.skip_quiet(piece);
+        if quiet == piece.len() {
+            return Ok(quiet);
+        }
+        match self.take_byte(piece[quiet], sink) {
+            Ok(()) => Ok(quiet + 1),
+            Err(fault) => Err(fault),
+        }
+    }
+
+    /// Takes a piece that the limit on the bytes allows.
+    pub(super) fn take_piece<S: EventSink>(
+        &mut self,
+        piece: &[u8],
+        sink: &mut S,
+    ) -> Result<(), JsonFault>
+        requires live { self.old.fault ≡ None }
+        requires room { self.old.offset + length piece.now ≤ self.old.limits.bytes }
+        requires small { self.old.limits.bytes ≤ 2 ^ 60 }
+        ensures feeds { MatchResult result (λ done. FeedsAll (S.heard sink.old) (S.heard sink.new) self.old self.new piece.now) (FeedsTo (S.heard sink.old) (S.heard sink.new) self.old self.new piece.now) }
+    {
+        let mut at = 0;
+        while at < piece.len() {
+            match self.take_some(&piece[at..], sink) {
+                Ok(count) => at += count,
+                Err(fault) => return Err(fault),
+            }
+        }
+        Ok(())
+    }
+}

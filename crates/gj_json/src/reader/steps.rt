@@ -1,0 +1,238 @@
+//! One byte, from what the reader keeps.
+
+ghost use Rattle.std.specs.Prelude.{◌≡◌, ◌+◌, ◌≤◌, ◌<◌, ◌++◌, ◌∷◌, [], false, List, length, Some, None, Err};
+ghost use Rattle.gj_number.specs.Grammar.{BeginsNumber};
+ghost use Rattle.gj_number.specs.Literal.{StandsFor as LiteralStandsFor};
+ghost use Rattle.gj_json.specs.Moves.{IsMode, IsMove, IsStringState};
+ghost use Rattle.gj_json.specs.Levels.{levels_in, outer_of};
+ghost use Rattle.gj_json.specs.Told.{in_number, text_state};
+ghost use Rattle.gj_json.specs.declared.mode.StringState.TheVariants.{Plain};
+ghost use Rattle.gj_json.specs.declared.mode.Mode.TheVariants.{NumberOn, ValueDone};
+ghost use Rattle.gj_json.specs.declared.mode.NumberTurn.TheVariants.{Ends};
+
+use super::Reader;
+use crate::fault::{Cause, JsonFault};
+use crate::levels::Level;
+use crate::mode::{Mode, Move, StringMove, StringState};
+use crate::moves::next;
+use crate::sink::EventSink;
+use crate::strings::next_string;
+use crate::told::{is_on, tell_events};
+use gj_number::{Decimal, Literal, Step};
+
+/// The number that the byte begins, where it begins one.
+fn literal_of(byte: u8) -> Literal
+    ensures { BeginsNumber (byte ∷ []) → LiteralStandsFor result (byte ∷ []) }
+{
+    let mut literal = Literal::new();
+    let _ = literal.push(byte);
+    literal
+}
+
+impl Reader {
+    ghost use Rattle.gj_json.specs.declared.event.Event.{Event};
+    ghost use Rattle.gj_json.specs.Feeding.{GoesOn};
+    ghost use Rattle.gj_json.specs.Step.{Applied, IsRefusedWith, told_on, Passes, opened, move_by, told_by, Takes};
+
+    pub(super) fn fault_here(&self, cause: Cause) -> JsonFault
+        ensures { result ≡ record { place = self.now.offset; cause = cause } }
+    {
+        JsonFault {
+            place: self.offset,
+            cause,
+        }
+    }
+
+    pub(super) fn refuse(&mut self, cause: Cause) -> JsonFault
+        ensures refused { IsRefusedWith cause self.old self.new result }
+        ensures literal { self.new.literal ≡ self.old.literal }
+        ensures content { self.new.content ≡ self.old.content }
+    {
+        let fault = self.fault_here(cause);
+        self.fault = Some(fault);
+        fault
+    }
+
+    fn go(&mut self, mode: Mode)
+        requires room { self.old.offset < self.old.limits.bytes }
+        requires sound { IsMode mode }
+        ensures passes { Passes mode (levels_in self.old.levels) self.old self.new }
+        ensures literal { self.new.literal ≡ self.old.literal }
+        ensures content { self.new.content ≡ self.old.content }
+    {
+        if !is_on(self.mode) {
+            self.start = self.offset;
+        }
+        self.mode = mode;
+        self.offset += 1;
+    }
+
+    fn open(&mut self, level: Level)
+        requires room { self.old.offset < self.old.limits.bytes }
+        requires deep { length (levels_in self.old.levels) < self.old.limits.depth }
+        requires narrow { self.old.limits.depth ≤ 64 }
+        ensures passes { Passes (opened level) (level ∷ levels_in self.old.levels) self.old self.new }
+        ensures literal { self.new.literal ≡ self.old.literal }
+        ensures content { self.new.content ≡ self.old.content }
+    {
+        self.levels.push(level);
+        self.go(match level {
+            Level::Array => Mode::ArrayOpened,
+            Level::Object => Mode::ObjectOpened,
+        });
+    }
+
+    fn close(&mut self)
+        requires room { self.old.offset < self.old.limits.bytes }
+        ensures passes { Passes ValueDone (outer_of (levels_in self.old.levels)) self.old self.new }
+        ensures literal { self.new.literal ≡ self.old.literal }
+        ensures content { self.new.content ≡ self.old.content }
+    {
+        self.levels.pop();
+        self.go(Mode::ValueDone);
+    }
+
+    fn apply(&mut self, made: Move) -> Result<(), JsonFault>
+        requires live { self.old.fault ≡ None }
+        requires room { self.old.offset < self.old.limits.bytes }
+        requires sound { IsMove made }
+        ensures applied { Applied made self.old self.new result }
+        ensures literal { self.new.literal ≡ self.old.literal }
+        ensures content { self.new.content ≡ self.old.content }
+    {
+        match made {
+            Move::Refuse => return Err(self.refuse(Cause::Syntax)),
+            Move::Go(mode) => self.go(mode),
+            Move::Open(level) => {
+                if self.levels.len() == self.limits.depth() {
+                    return Err(self.refuse(Cause::Depth));
+                }
+                self.open(level);
+            }
+            Move::Close => self.close(),
+        }
+        Ok(())
+    }
+
+    /// Takes a byte that goes on in no number and ends no character of a string, and tells the events that it completes:
+    /// `value` is that of the number that has ended before it.
+    fn take_other<S: EventSink>(
+        &mut self,
+        byte: u8,
+        value: Option<Decimal>,
+        sink: &mut S,
+    ) -> Result<(), JsonFault>
+        requires live { self.old.fault ≡ None }
+        requires room { self.old.offset < self.old.limits.bytes }
+        ensures applied { Applied (move_by self.old Ends byte) self.old self.new result }
+        ensures literal { self.new.literal ≡ self.old.literal }
+        ensures content { self.new.content ≡ self.old.content }
+        ensures heard { (events : List Event) → S.heard sink.old events → S.heard sink.new (events ++ told_on result (told_by self.old Ends value byte)) }
+    {
+        let inner = self.levels.inner();
+        let mode = self.mode;
+        let start = self.start;
+        let offset = self.offset;
+        let made = next(mode, inner, byte);
+        if let Err(fault) = self.apply(made) {
+            return Err(fault);
+        }
+        tell_events(sink, mode, inner, made, value, &self.content, start, offset);
+        Ok(())
+    }
+
+    /// Takes a byte while a number is under way.
+    fn take_in_number<S: EventSink>(&mut self, byte: u8, sink: &mut S) -> Result<(), JsonFault>
+        requires live { self.old.fault ≡ None }
+        requires room { self.old.offset < self.old.limits.bytes }
+        requires number { self.old.mode ≡ NumberOn }
+        ensures { Takes (S.heard sink.old) (S.heard sink.new) self.old self.new byte result }
+    {
+        match self.literal.push(byte) {
+            Step::Goes => {
+                self.go(Mode::NumberOn);
+                Ok(())
+            }
+            Step::Ends => {
+                if self.literal.may_end() {
+                    let value = self.literal.value();
+                    self.take_other(byte, value, sink)
+                } else {
+                    Err(self.refuse(Cause::Syntax))
+                }
+            }
+        }
+    }
+
+    /// Takes a byte while a string or a name is under way: how far its character under way has come, and the mode between
+    /// two of its characters.
+    fn take_in_text<S: EventSink>(
+        &mut self,
+        state: StringState,
+        between: Mode,
+        byte: u8,
+        sink: &mut S,
+    ) -> Result<(), JsonFault>
+        requires live { self.old.fault ≡ None }
+        requires room { self.old.offset < self.old.limits.bytes }
+        requires sound { IsStringState state }
+        requires text { GoesOn self.old.mode state between Plain }
+        ensures { Takes (S.heard sink.old) (S.heard sink.new) self.old self.new byte result }
+    {
+        match next_string(state, byte) {
+            StringMove::Reads(character) => {
+                self.content.push(character);
+                self.go(between);
+                Ok(())
+            }
+            _ => self.take_other(byte, None, sink),
+        }
+    }
+
+    /// Takes a byte while no number, no string and no name is under way.
+    fn take_between<S: EventSink>(&mut self, byte: u8, sink: &mut S) -> Result<(), JsonFault>
+        requires live { self.old.fault ≡ None }
+        requires room { self.old.offset < self.old.limits.bytes }
+        requires number { in_number self.old.mode ≡ false }
+        requires text { text_state self.old.mode ≡ None }
+        ensures { Takes (S.heard sink.old) (S.heard sink.new) self.old self.new byte result }
+    {
+        if let Err(fault) = self.take_other(byte, None, sink) {
+            return Err(fault);
+        }
+        match self.mode {
+            Mode::NumberOn => self.literal = literal_of(byte),
+            Mode::StringOn(_) | Mode::NameOn(_) => self.content.clear(),
+            _ => {}
+        }
+        Ok(())
+    }
+
+    /// Takes a byte that the limit on the bytes allows, and tells the events that it completes.
+    pub(super) fn take_byte<S: EventSink>(
+        &mut self,
+        byte: u8,
+        sink: &mut S,
+    ) -> Result<(), JsonFault>
+        requires live { self.old.fault ≡ None }
+        requires room { self.old.offset < self.old.limits.bytes }
+        ensures { Takes (S.heard sink.old) (S.heard sink.new) self.old self.new byte result }
+    {
+        match self.mode {
+            Mode::NumberOn => self.take_in_number(byte, sink),
+            Mode::StringOn(state) => self.take_in_text(
+                state,
+                Mode::StringOn(StringState::Plain),
+                byte,
+                sink,
+            ),
+            Mode::NameOn(state) => self.take_in_text(
+                state,
+                Mode::NameOn(StringState::Plain),
+                byte,
+                sink,
+            ),
+            _ => self.take_between(byte, sink),
+        }
+    }
+}
