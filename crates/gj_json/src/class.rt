@@ -26,6 +26,7 @@ pub enum Class {
 }
 
 /// The class of a byte.
+#[inline(always)]
 #[tactic(auto, unfolding(crate::specs::Classes::class_of))]
 pub fn classify(byte: u8) -> Class
     ensures { result ≡ class_of byte }

@@ -23,6 +23,7 @@ const MARK_SECOND: u8 = 0xBB;
 
 const MARK_THIRD: u8 = 0xBF;
 
+#[inline(always)]
 fn begin(class: Class) -> Move
     ensures value { result ≡ begin_move class }
     ensures mode { IsMove result }
@@ -37,6 +38,7 @@ fn begin(class: Class) -> Move
     }
 }
 
+#[inline(always)]
 fn begin_name(class: Class) -> Move
     ensures value { result ≡ name_move class }
     ensures mode { IsMove result }
@@ -47,6 +49,7 @@ fn begin_name(class: Class) -> Move
     }
 }
 
+#[inline(always)]
 fn after_value(inner: Option<Level>, class: Class) -> Move
     ensures value { result ≡ after_move inner class }
     ensures mode { IsMove result }
@@ -119,6 +122,7 @@ fn expect(byte: u8, expected: u8, mode: Mode) -> Move
     }
 }
 
+#[inline(always)]
 fn value_due(class: Class) -> Move
     ensures value { result ≡ due_move class }
     ensures mode { IsMove result }
@@ -129,6 +133,7 @@ fn value_due(class: Class) -> Move
     }
 }
 
+#[inline(always)]
 fn array_opened(class: Class) -> Move
     ensures value { result ≡ array_move class }
     ensures mode { IsMove result }
@@ -140,6 +145,7 @@ fn array_opened(class: Class) -> Move
     }
 }
 
+#[inline(always)]
 fn object_opened(class: Class) -> Move
     ensures value { result ≡ object_move class }
     ensures mode { IsMove result }
@@ -151,6 +157,7 @@ fn object_opened(class: Class) -> Move
     }
 }
 
+#[inline(always)]
 fn name_due(class: Class) -> Move
     ensures value { result ≡ name_due_move class }
     ensures mode { IsMove result }
@@ -161,6 +168,7 @@ fn name_due(class: Class) -> Move
     }
 }
 
+#[inline(always)]
 fn colon_due(class: Class) -> Move
     ensures value { result ≡ colon_move class }
     ensures mode { IsMove result }
@@ -199,6 +207,7 @@ fn in_name(state: StringState, byte: u8) -> Move
 }
 
 /// What a byte does in a mode, where `inner` is the innermost level that is open, and a number under way has ended.
+#[inline(always)]
 pub fn next(mode: Mode, inner: Option<Level>, byte: u8) -> Move
     requires { IsMode mode }
     ensures value { result ≡ move_of mode Ends inner byte }

@@ -111,6 +111,7 @@ fn next_plain(byte: u8) -> StringMove
 }
 
 /// What a byte does to a string under way.
+#[inline]
 pub fn next_string(state: StringState, byte: u8) -> StringMove
     requires { IsStringState state }
     ensures value { result ≡ string_move (string_next state byte) }

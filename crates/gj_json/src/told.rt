@@ -15,6 +15,7 @@ use crate::sink::EventSink;
 use gj_number::Decimal;
 
 /// Whether a number under way has ended before the byte of this move.
+#[inline(always)]
 fn has_ended(mode: Mode, made: Move) -> bool
     ensures { result ≡ ended mode made }
 {
@@ -29,6 +30,7 @@ fn has_ended(mode: Mode, made: Move) -> bool
 }
 
 /// Whether a literal name, a number, a string or a name is under way.
+#[inline(always)]
 pub fn is_on(mode: Mode) -> bool
     ensures { result ≡ is_on_of mode }
 {
@@ -48,6 +50,7 @@ fn what_of(which: Constant) -> What
     }
 }
 
+#[inline(always)]
 fn ended_value(mode: Mode, content: &Content, start: u64) -> Option<Event>
     ensures { result ≡ value_ended mode (words_in content.now) start }
 {
@@ -60,6 +63,7 @@ fn ended_value(mode: Mode, content: &Content, start: u64) -> Option<Event>
 }
 
 /// The event that a move to the mode `next` completes.
+#[inline(always)]
 fn event_of_going(mode: Mode, next: Mode, content: &Content, start: u64) -> Option<Event>
     ensures { result ≡ gone mode next (words_in content.now) start }
 {
@@ -102,6 +106,7 @@ fn closing(level: Level) -> What
 }
 
 /// The event that the byte at `offset` completes, beside the number that it ends.
+#[inline(always)]
 fn event_of(
     mode: Mode,
     inner: Option<Level>,
@@ -131,6 +136,7 @@ fn event_of(
 
 /// Tells the events that the byte at `offset` completes, by what the reader kept before it and the move that it makes:
 /// `value` is that of the number under way, `content` that of the string.
+#[inline(always)]
 pub fn tell_events<S: EventSink>(
     sink: &mut S,
     mode: Mode,

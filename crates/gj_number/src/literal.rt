@@ -121,6 +121,28 @@ impl Literal {
         at
     }
 
+    /// Takes the bytes at the front of the piece as [`Literal::push`] of each would, up to the first that
+    /// `push` would refuse, and answers how many.
+    pub fn push_piece(&mut self, piece: &[u8]) -> usize
+        ensures length { result ≤ length piece.now }
+        ensures stands { (bytes : List ℕ) → StandsFor self.old bytes → StandsFor self.new (bytes ++ take result piece.now) }
+        ensures begins { (bytes : List ℕ) → StandsFor self.new bytes → BeginsNumber bytes }
+        ensures all { (bytes : List ℕ) → StandsFor self.old bytes → result < length piece.now → BeginsNumber (bytes ++ take (result + 1) piece.now) → ⊥ }
+    {
+        let mut at = 0;
+        while at < piece.len() {
+            at += self.push_digits(&piece[at..]);
+            if at == piece.len() {
+                break;
+            }
+            match self.push(piece[at]) {
+                Step::Goes => at += 1,
+                Step::Ends => return at,
+            }
+        }
+        at
+    }
+
     /// Takes some of the digits at the front of the piece, and answers how many.
     #[inline]
     fn push_run(&mut self, piece: &[u8]) -> usize

@@ -26,16 +26,16 @@ impl Reader {
         count
     }
 
-    /// Takes the digits at the front of the piece that go on in the number under way: how many.
-    fn skip_digits(&mut self, piece: &[u8]) -> usize
+    /// Takes the bytes at the front of the piece that go on in the number under way: how many.
+    fn skip_number(&mut self, piece: &[u8]) -> usize
         requires room { self.old.offset + length piece.now ≤ self.old.limits.bytes }
         requires small { self.old.limits.bytes ≤ 2 ^ 60 }
         requires number { self.old.mode ≡ NumberOn }
         ensures within { result ≤ length piece.now }
         ensures skips { Skips self.old self.new (take result piece.now) }
     {
-        let digits = self.literal.push_digits(piece);
-        self.skip(digits, Mode::NumberOn)
+        let count = self.literal.push_piece(piece);
+        self.skip(count, Mode::NumberOn)
     }
 
     /// Takes the bytes at the front of the piece that complete nothing and open or close nothing: how many.
@@ -54,7 +54,7 @@ impl Reader {
                 let run = string_run(&mut self.content, state, piece);
                 self.skip(run.count, Mode::NameOn(run.state))
             }
-            Mode::NumberOn => self.skip_digits(piece),
+            Mode::NumberOn => self.skip_number(piece),
             mode => self.skip(quiet_run(mode, piece), mode),
         }
     }

@@ -53,6 +53,7 @@ impl Reader {
         fault
     }
 
+    #[inline(always)]
     fn go(&mut self, mode: Mode)
         requires room { self.old.offset < self.old.limits.bytes }
         requires sound { IsMode mode }
@@ -92,6 +93,7 @@ impl Reader {
         self.go(Mode::ValueDone);
     }
 
+    #[inline(always)]
     fn apply(&mut self, made: Move) -> Result<(), JsonFault>
         requires live { self.old.fault ≡ None }
         requires room { self.old.offset < self.old.limits.bytes }
@@ -116,21 +118,25 @@ impl Reader {
 
     /// Takes a byte that goes on in no number and ends no character of a string, and tells the events that it completes:
     /// `value` is that of the number that has ended before it.
+    ///
+    /// The mode is handed in so that each caller's is known where it is inlined.
+    #[inline(always)]
     fn take_other<S: EventSink>(
         &mut self,
+        mode: Mode,
         byte: u8,
         value: Option<Decimal>,
         sink: &mut S,
     ) -> Result<(), JsonFault>
         requires live { self.old.fault ≡ None }
         requires room { self.old.offset < self.old.limits.bytes }
+        requires mode { mode ≡ self.old.mode }
         ensures applied { Applied (move_by self.old Ends byte) self.old self.new result }
         ensures literal { self.new.literal ≡ self.old.literal }
         ensures content { self.new.content ≡ self.old.content }
         ensures heard { (events : List Event) → S.heard sink.old events → S.heard sink.new (events ++ told_on result (told_by self.old Ends value byte)) }
     {
         let inner = self.levels.inner();
-        let mode = self.mode;
         let start = self.start;
         let offset = self.offset;
         let made = next(mode, inner, byte);
@@ -156,7 +162,7 @@ impl Reader {
             Step::Ends => {
                 if self.literal.may_end() {
                     let value = self.literal.value();
-                    self.take_other(byte, value, sink)
+                    self.take_other(Mode::NumberOn, byte, value, sink)
                 } else {
                     Err(self.refuse(Cause::Syntax))
                 }
@@ -185,19 +191,26 @@ impl Reader {
                 self.go(between);
                 Ok(())
             }
-            _ => self.take_other(byte, None, sink),
+            _ => self.take_other(self.mode, byte, None, sink),
         }
     }
 
     /// Takes a byte while no number, no string and no name is under way.
-    fn take_between<S: EventSink>(&mut self, byte: u8, sink: &mut S) -> Result<(), JsonFault>
+    #[inline(always)]
+    fn take_between<S: EventSink>(
+        &mut self,
+        mode: Mode,
+        byte: u8,
+        sink: &mut S,
+    ) -> Result<(), JsonFault>
         requires live { self.old.fault ≡ None }
         requires room { self.old.offset < self.old.limits.bytes }
+        requires mode { mode ≡ self.old.mode }
         requires number { in_number self.old.mode ≡ false }
         requires text { text_state self.old.mode ≡ None }
         ensures { Takes (S.heard sink.old) (S.heard sink.new) self.old self.new byte result }
     {
-        if let Err(fault) = self.take_other(byte, None, sink) {
+        if let Err(fault) = self.take_other(mode, byte, None, sink) {
             return Err(fault);
         }
         match self.mode {
@@ -232,7 +245,10 @@ impl Reader {
                 byte,
                 sink,
             ),
-            _ => self.take_between(byte, sink),
+            Mode::ValueDue => self.take_between(Mode::ValueDue, byte, sink),
+            Mode::ValueDone => self.take_between(Mode::ValueDone, byte, sink),
+            Mode::ArrayOpened => self.take_between(Mode::ArrayOpened, byte, sink),
+            mode => self.take_between(mode, byte, sink),
         }
     }
 }

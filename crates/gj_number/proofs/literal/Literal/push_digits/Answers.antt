@@ -1,25 +1,12 @@
-use Rattle.std.proofs.Common.{◌≡◌, ℕ, ◌+◌, ◌-◌, ◌≤◌, List, [], ◌∷◌, ◌++◌, take, drop, get_or, length, All, sym, ◌∙◌, ap, subst, append_assoc, arith, length-drop}
-use Rattle.std.proofs.Math.Seq.{take-add, take-length}
+use Rattle.std.proofs.Common.{ℕ, ◌+◌, ◌≤◌, List, ◌++◌, take, drop, length, All, sym, subst, arith, length-drop}
+use Rattle.std.proofs.Math.Seq.{take-add}
 use Rattle.std.proofs.lemmas.List.{take_more}
 use Rattle.std.proofs.lemmas.List.Elements.{All-append, All-more}
 use Rattle.gj_number.specs.Bytes.{IsDigit}
 use Rattle.gj_number.specs.Grammar.{BeginsNumber}
 use Rattle.gj_number.specs.Literal.{StandsFor}
-use Rattle.gj_number.specs.declared.literal.Literal.{Literal}
-use Rattle.gj_number.proofs.Standing.{begins}
+use Rattle.gj_number.proofs.Pieces.{one_more, run_more, rest_is, stands_begin}
 use Rattle.gj_number.proofs.literal.Literal.push_digits.Goals as goal
-
--- the bytes so far with one more of the piece
-one_more : (bytes piece : List ℕ) (i : ℕ) → take (i + 1) piece ≡ take i piece ++ get_or piece i 0 ∷ [] → (bytes ++ take i piece) ++ get_or piece i 0 ∷ [] ≡ bytes ++ take (i + 1) piece
-one_more bytes piece i e = append_assoc bytes (take i piece) (get_or piece i 0 ∷ []) ∙ ap (λ xs. bytes ++ xs) (sym e)
-
--- and with a run of them
-run_more : (bytes piece : List ℕ) (i n : ℕ) → (bytes ++ take i piece) ++ take n (drop i piece) ≡ bytes ++ take (i + n) piece
-run_more bytes piece i n = append_assoc bytes (take i piece) (take n (drop i piece)) ∙ ap (λ xs. bytes ++ xs) (sym (take-add i n piece))
-
--- the slice behind a place is all that is left
-rest_is : (piece : List ℕ) (i : ℕ) → take (length piece - i) (drop i piece) ≡ drop i piece
-rest_is piece i = rw (← length-drop i piece) (take-length (drop i piece))
 
 pub loop-at-preserved : goal.loop-at-preserved
 loop-at-preserved c =
@@ -53,11 +40,6 @@ returns-then-not-push_digit-clause-all c bytes h below digit begins =
     let more = take_more piece i 0 c.loop-at-test.true in
     let P : List ℕ → Type 0 = λ xs. BeginsNumber xs in
     c.push_digit.ensures.refused (bytes ++ take i piece) (c.loop-at.invariant.stands bytes h) c.if-not-push_digit.true digit (subst P (sym (one_more bytes piece i more)) begins)
-
--- whatever a literal stands for begins a number
-stands_begin : (literal : Literal) (bytes : List ℕ) → StandsFor literal bytes → BeginsNumber bytes
-unfolding StandsFor
-stands_begin literal bytes h = begins bytes h.0 h.1
 
 pub returns-then-not-push_digit-clause-begins : goal.returns-then-not-push_digit-clause-begins
 returns-then-not-push_digit-clause-begins c = λ bytes h. stands_begin c.push_digit.new.self bytes h
