@@ -1,5 +1,5 @@
 -- What a call that takes bytes leaves, one call after another.
-use Rattle.std.proofs.Common.{inl, inr, ◌≡◌, ℕ, ◌+◌, ◌-◌, ◌≤◌, ◌<◌, List, [], ◌∷◌, ◌++◌, length, take, drop, take-add, get_or, Some, None, Result, Ok, Err, refl, sym, ap, subst, ◌∙◌, arith, append_assoc, append-nil}
+use Rattle.std.proofs.Common.{inl, inr, ◌≡◌, ℕ, ◌+◌, ◌-◌, ◌≤◌, ◌<◌, List, [], ◌∷◌, ◌++◌, length, take, drop, take-add, get_or, Option, Some, None, Result, Ok, Err, refl, sym, ap, subst, ◌∙◌, arith, append_assoc, append-nil}
 use Rattle.std.specs.Result.{MatchResult}
 use Rattle.std.proofs.lemmas.List.{length-append, length-take-le, take-append-le, take-append-drop, take_more}
 use Rattle.std.proofs.Math.Seq.{take-append-add}
@@ -75,6 +75,13 @@ pub refused_within : (reader : Reader) (bytes : List ℕ) (fault : JsonFault) �
 refused_within reader bytes fault e h =
     let k : StandsRefused reader.limits fault reader.mode (levels_in reader.levels) reader.start reader.offset bytes = rw e at h in
     omega (arith, k.well.at, ap length k.split, length-append k.taken k.rest)
+
+pub taken_within : (reader : Reader) (bytes : List ℕ) → StandsFor reader bytes → reader.offset ≤ length bytes
+taken_within reader bytes h = go reader.fault refl
+  where
+    go : (o : Option JsonFault) → reader.fault ≡ o → reader.offset ≤ length bytes
+    go None e = omega (arith, live_offset reader bytes e h)
+    go (Some fault) e = refused_within reader bytes fault e h
 
 -- ---- the bytes that were taken
 
@@ -382,3 +389,7 @@ pub heard_by : (before after : List Event → Type 0) (old new : Reader) (given 
     → MatchResult result (λ done. FeedsAll before after old new given) (FeedsTo before after old new given) → StandsFor old bytes → before events → HearsBy after events bytes given result
 heard_by before after old new given bytes events (Ok x) live f h k = heard_all old new given bytes events live f h k
 heard_by before after old new given bytes events (Err fault) live f h k = heard_to old new given bytes events fault live f h k
+
+pub by_on : (before after : List Event → Type 0) (old new : Reader) (given : List ℕ) (result : Result (Unit {0}) JsonFault) → MatchResult result (λ done. FeedsAll before after old new given) (FeedsTo before after old new given) → old.offset ≤ new.offset
+by_on before after old new given (Ok x) f = f.feeds.on
+by_on before after old new given (Err fault) f = f.feeds.on

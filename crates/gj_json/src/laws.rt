@@ -1,6 +1,6 @@
 //! What holds of texts and of what is refused, whoever reads them: each contract is a law of the definitions.
 
-ghost use Rattle.std.specs.Prelude.{◌≡◌, ℕ, ◌≤◌, ◌++◌, ◌⊎◌, ◌↔◌, List, length};
+ghost use Rattle.std.specs.Prelude.{◌≡◌, ℕ, ◌≤◌, ◌++◌, ◌⊎◌, ◌↔◌, List, length, Some, None};
 ghost use Rattle.gj_json.specs.declared.fault.JsonFault.{JsonFault};
 ghost use Rattle.gj_json.specs.Limits.{Allowed};
 ghost use Rattle.gj_json.specs.Tree.{Text};
@@ -10,6 +10,8 @@ ghost use Rattle.gj_json.specs.Longest.{IsLongest, IsToldBy};
 ghost use Rattle.gj_json.specs.Broken.{Broken, SpellsBroken, broken_depth, Extends};
 ghost use Rattle.gj_json.specs.Events.{events_by};
 ghost use Rattle.gj_json.specs.Open.{open_at};
+ghost use Rattle.gj_json.specs.declared.reader.Reader.{Reader};
+ghost use Rattle.gj_json.specs.Reader.{StandsFor, refusal_of, offset_of};
 
 /// Bytes are the text of at most one tree.
 pub fn one_text()
@@ -22,6 +24,13 @@ pub fn same_events()
         → events_by (length bytes) first ≡ events_by (length bytes) second }
     ensures open { (bytes more other : List ℕ) (first second : Text) → IsText first (bytes ++ more) → IsText second (bytes ++ other)
         → open_at (length bytes) first ≡ open_at (length bytes) second }
+{}
+
+/// A reader took all bytes that it was given, or those before the one that it refused.
+pub fn bytes_taken()
+    ensures open { (reader : Reader) (bytes : List ℕ) → StandsFor reader bytes → refusal_of reader ≡ None → offset_of reader ≡ length bytes }
+    ensures refused { (reader : Reader) (bytes : List ℕ) (fault : JsonFault) → StandsFor reader bytes → refusal_of reader ≡ Some fault → offset_of reader ≡ fault.place }
+    ensures within { (reader : Reader) (bytes : List ℕ) → StandsFor reader bytes → offset_of reader ≤ length bytes }
 {}
 
 /// Each front of what can still become a text can still become one, within a depth too.

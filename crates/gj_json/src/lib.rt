@@ -25,7 +25,7 @@ mod told;
 pub use event::{Event, What};
 pub use fault::{Cause, JsonFault};
 pub use laws::{
-    broken_off, left_part, longest_front, one_broken, one_refusal, one_text, same_events,
+    broken_off, bytes_taken, left_part, longest_front, one_broken, one_refusal, one_text, same_events,
     viable_fronts,
 };
 pub use limits::Limits;

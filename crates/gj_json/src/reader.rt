@@ -73,6 +73,7 @@ impl Reader {
         ensures heard { (bytes : List ℕ) (events : List Event) → refusal_of self.old ≡ None → StandsFor self.old bytes → S.heard sink.old events
             → HearsBy (S.heard sink.new) events bytes piece.now result }
         ensures limits { limits_of self.new ≡ limits_of self.old }
+        ensures on { offset_of self.old ≤ offset_of self.new }
         ensures refusal { MatchResult result (λ done. refusal_of self.new ≡ None) (λ fault. refusal_of self.new ≡ Some fault) }
         ensures again { (fault : JsonFault) → refusal_of self.old ≡ Some fault → (self.new ≡ self.old) × (sink.new ≡ sink.old) × (result ≡ Err fault) }
     {

@@ -50,3 +50,13 @@ returns-in-Err-clause-answer g c = λ bytes h. Feeding.to_answer c.args.self.now
 
 pub returns-in-Err-clause-heard : goal.returns-in-Err-clause-heard
 returns-in-Err-clause-heard g c = λ bytes events live h k. Feeding.heard_to c.args.self.now c.take_piece-2.new.self c.args.piece.now bytes events c.in-Err.fault live (short g c) h k
+
+pub returns-then-piece-room-clause-on : goal.returns-then-piece-room-clause-on
+returns-then-piece-room-clause-on g c =
+    Feeding.by_on (g.S.EventSink.heard c.args.sink.now) (g.S.EventSink.heard c.take_piece.new.sink) c.args.self.now c.take_piece.new.self c.args.piece.now c.take_piece.result c.take_piece.ensures.feeds
+
+pub returns-in-Ok-clause-on : goal.returns-in-Ok-clause-on
+returns-in-Ok-clause-on g c = (full g c).feeds.on
+
+pub returns-in-Err-clause-on : goal.returns-in-Err-clause-on
+returns-in-Err-clause-on g c = (short g c).feeds.on
