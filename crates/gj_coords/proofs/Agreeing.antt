@@ -1,0 +1,33 @@
+-- Positions agree exactly where their first values are the same.
+use Rattle.std.proofs.Common.{◌≡◌, ◌↔◌, ℕ, Option, Some, None, Bool, ◌&&◌, ◌==◌, ℤ, refl, ap, ◌∙◌, IsTrue, Decides}
+use Rattle.std.specs.Bool.{beq}
+use Rattle.std.specs.Ordering.{int_eq}
+use Rattle.std.specs.Option.{option_eq}
+use Rattle.std.specs.Cmp.{booleans_Decides}
+use Rattle.std.proofs.lemmas.Bool.Decides.{Decides-eqb, Decides-int_eq, Decides-and}
+use Rattle.std.proofs.lemmas.Slice.Eq.{slice_eq-Decides}
+use Rattle.gj_number.specs.Exact.{Exact, same_parts}
+use Rattle.gj_json.specs.Tree.{Tree}
+use Rattle.gj_coords.specs.Ring.{agree, first_values}
+
+same_exact : (a b : Exact) → a.negative ≡ b.negative → a.digits ≡ b.digits → a.power ≡ b.power → a ≡ b
+same_exact a b e f g =
+    ap (λ x. exact x a.digits a.power) e ∙ (ap (λ x. exact b.negative x a.power) f ∙ ap (λ x. exact b.negative b.digits x) g)
+  where
+    exact : Bool → ℕ → ℤ → Exact
+    exact negative digits power = record { negative = negative; digits = digits; power = power }
+
+exact_decides : (a b : Exact) → Decides (same_parts a b) (a ≡ b)
+exact_decides a b =
+    let d = Decides-and (beq a.negative b.negative) (a.digits == b.digits && int_eq a.power b.power) (booleans_Decides a.negative b.negative)
+    (Decides-and (a.digits == b.digits) (int_eq a.power b.power) (Decides-eqb a.digits b.digits) (Decides-int_eq a.power b.power)) in
+    (λ t. let p = d.0 t in same_exact a b p.0 p.1.0 p.1.1, λ e. d.1 (ap (λ x. x.negative) e, (ap (λ x. x.digits) e, ap (λ x. x.power) e)))
+
+option_decides : (a b : Option Exact) → Decides (option_eq same_parts a b) (a ≡ b)
+option_decides None None = (λ _. refl, λ _. refl)
+option_decides None (Some b) = (λ t. cc, λ e. cc)
+option_decides (Some a) None = (λ t. cc, λ e. cc)
+option_decides (Some a) (Some b) = let d = exact_decides a b in (λ t. ap Some (d.0 t), λ e. d.1 (let same : a ≡ b = cc in same))
+
+pub agree_is : (a b : Tree) → IsTrue (agree a b) ↔ (first_values a ≡ first_values b)
+agree_is a b = slice_eq-Decides option_decides (first_values a) (first_values b) (agree a b) refl

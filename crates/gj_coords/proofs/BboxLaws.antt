@@ -1,0 +1,74 @@
+-- What the reader of a bounding box answers.
+use Rattle.std.proofs.Common.{◌≡◌, ◌↔◌, ℕ, ◌+◌, ◌%◌, ◌==◌, ◌||◌, ◌++◌, List, [], ◌∷◌, Option, Some, None, not, IsTrue, refl, ap, ◌∙◌, arith, add-one, length, nat_lt, if◌then◌else◌}
+use Rattle.std.proofs.lemmas.Bool.Decides.{nat_tests}
+use Rattle.std.specs.List.{flat_map}
+use Rattle.gj_json.specs.declared.constant.Constant.TheVariants.{Null, True, False}
+use Rattle.gj_json.specs.declared.event.Event.{Event}
+use Rattle.gj_json.specs.Tree.{Tree, constant, number, string, array, object}
+use Rattle.gj_json.specs.Events.{value_events}
+use Rattle.gj_coords.specs.declared.bbox.Bbox.{Bbox}
+use Rattle.gj_coords.specs.declared.bbox.BoxGather.{BoxGather}
+use Rattle.gj_coords.specs.declared.fault.Fault.{Fault}
+use Rattle.gj_coords.specs.declared.fault.Rule.TheVariants.{G21}
+use Rattle.gj_coords.specs.Fault.{fault_at, least}
+use Rattle.gj_coords.specs.Items.{items}
+use Rattle.gj_coords.specs.Box.{box_number, is_wrong_length, bbox_faults}
+use Rattle.gj_coords.specs.Sent.{head}
+use Rattle.gj_coords.specs.Reading.{Answers, IsCountable}
+use Rattle.gj_coords.specs.Gathering.{gathered, given}
+use Rattle.gj_coords.specs.Element.{element_machine}
+use Rattle.gj_coords.specs.BoxGather.{unlike_number, box_gathering, box_machine}
+use Rattle.gj_coords.specs.Bbox.{StandsFor}
+use Rattle.gj_coords.specs.ElementLaws.{element_answers}
+use Rattle.gj_coords.specs.ArrayLaws.{array_answers}
+use Rattle.gj_coords.specs.LeastLaws.{least_if}
+use Rattle.gj_coords.specs.TallyLaws.{gathered_count, gathered_place, gathered_fault, both_least}
+use Rattle.gj_coords.proofs.ReadingLaws.{ended_at_end, answer_at_end}
+
+number_least : (v : Tree) → unlike_number (head v).place (head v).what ≡ least (box_number v)
+number_least (constant Null place) = refl
+number_least (constant True place) = refl
+number_least (constant False place) = refl
+number_least (number place literal end) = refl
+number_least (string place content end) = refl
+number_least (array place es close) = refl
+number_least (object place ms close) = refl
+
+one_odder : (n : ℕ) → not (n % 2 == 1) ≡ ((n + 1) % 2 == 1)
+one_odder n = grind (arith, nat_tests)
+
+gathered_odd : (vs : List Tree) (g : BoxGather) (n : ℕ) → g.odd ≡ (n % 2 == 1) → (gathered box_gathering head g vs).odd ≡ ((n + length vs) % 2 == 1)
+gathered_odd [] g n h = h ∙ ap (λ k. k % 2 == 1) (omega arith)
+gathered_odd (v ∷ more) g n h =
+    gathered_odd more (box_gathering.added g (head v)) (n + 1) (ap not h ∙ one_odder n) ∙ ap (λ k. k % 2 == 1) (omega (arith, add-one n))
+
+abbrev box_answer : Tree → Option Fault
+box_answer = given box_gathering head
+
+box_least : (v : Tree) → box_answer v ≡ least (bbox_faults v)
+box_least (constant which place) = refl
+box_least (number place literal end) = refl
+box_least (string place content end) = refl
+box_least (object place ms close) = refl
+box_least (array place es close) =
+    let g : BoxGather = gathered box_gathering head (box_gathering.opened place) (items es) in
+    let few : nat_lt g.tally.count 4 ≡ nat_lt (length (items es)) 4 =
+    gathered_count box_gathering head (λ g. g.tally) (λ g a. refl) 4 (omega arith) (items es) (box_gathering.opened place) ∙ ap (λ n. nat_lt n 4) (omega arith) in
+    let odd : g.odd ≡ (length (items es) % 2 == 1) = gathered_odd (items es) (box_gathering.opened place) 0 refl ∙ ap (λ k. k % 2 == 1) (omega arith) in
+    let at : g.tally.place ≡ place = gathered_place box_gathering head (λ g. g.tally) (λ g a. refl) (items es) (box_gathering.opened place) in
+    both_least _ _ (if is_wrong_length (length (items es)) then fault_at place G21 ∷ [] else []) (flat_map box_number (items es))
+    (ap (λ b. if b || g.odd then Some (fault_at g.tally.place G21) else None) few ∙
+    (ap (λ b. if nat_lt (length (items es)) 4 || b then Some (fault_at g.tally.place G21) else None) odd ∙
+    (ap (λ p. if is_wrong_length (length (items es)) then Some (fault_at p G21) else None) at ∙
+    least_if (is_wrong_length (length (items es))) (fault_at place G21))))
+    (gathered_fault box_gathering head (λ g. g.fault) (λ e. unlike_number e.place e.what) box_number (λ g a. refl) number_least (items es) (box_gathering.opened place))
+
+box_answers : Answers box_machine box_answer
+box_answers = array_answers element_machine box_gathering head element_answers
+
+pub box_ends : (b : Bbox) (v : Tree) (es rest : List Event) → StandsFor b es → es ++ rest ≡ value_events v → IsCountable v →
+    IsTrue (box_machine.ended b.reader) ↔ (rest ≡ [])
+box_ends b v es rest k e room = ended_at_end box_machine box_answer box_answers b.reader v es rest k e room
+
+pub box_fault : (b : Bbox) (v : Tree) → StandsFor b (value_events v) → IsCountable v → box_machine.answered b.reader ≡ least (bbox_faults v)
+box_fault b v k room = answer_at_end box_machine box_answer box_answers b.reader v k room ∙ box_least v

@@ -1,0 +1,5 @@
+use Rattle.gj_coords.proofs.Agreeing.{agree_is}
+use Rattle.gj_coords.proofs.laws.positions_agree.Goals as goal
+
+pub returns : goal.returns
+returns c = agree_is

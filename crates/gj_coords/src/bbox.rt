@@ -1,0 +1,157 @@
+//! The value of `bbox` (RFC 7946, section 5).
+#[cfg(test)]
+mod tests;
+
+ghost use Rattle.std.specs.Prelude.{◌≡◌};
+ghost use Rattle.gj_coords.specs.BoxGather.{unlike_number};
+
+use crate::array::Array;
+use crate::element::Element;
+use crate::fault::{Fault, Rule, join_fault, lesser_fault};
+use crate::part::{Gather, Part};
+use crate::tally::Tally;
+use gj_json::{Event, What};
+
+/// A bounding box needs this many numbers.
+const NEEDED: u8 = 4;
+
+/// What a bounding box gathers of its elements.
+#[derive(Clone, Copy)]
+pub struct BoxGather {
+    pub tally: Tally,
+    pub fault: Option<Fault>,
+    /// Whether the number of elements is odd.
+    pub odd: bool,
+}
+
+/// The fault of an element that is no number, by its first event.
+fn not_a_number(element: &Event) -> Option<Fault>
+    ensures { result ≡ unlike_number element.now.place element.now.what }
+{
+    match element.what {
+        What::Number(_) => None,
+        _ => Some(Fault {
+            place: element.place,
+            rule: Rule::G20,
+        }),
+    }
+}
+
+impl BoxGather {
+    ghost use Rattle.std.specs.Prelude.{◌≡◌};
+    ghost use Rattle.gj_coords.specs.BoxGather.{wrong_length, box_gathering};
+
+    /// Adds an element by its first event.
+    fn add_element(&mut self, element: &Event)
+        ensures { self.new ≡ box_gathering.added self.old element.now }
+    {
+        join_fault(&mut self.fault, not_a_number(element));
+        self.tally.add();
+        self.odd = !self.odd;
+    }
+
+    /// The fault of a length that is odd or too small.
+    fn wrong_length(&self) -> Option<Fault>
+        ensures { result ≡ wrong_length self.now }
+    {
+        if self.tally.count < NEEDED || self.odd {
+            Some(Fault {
+                place: self.tally.place,
+                rule: Rule::G21,
+            })
+        } else {
+            None
+        }
+    }
+}
+
+impl Gather<Element> for BoxGather {
+    ghost use Rattle.gj_coords.specs.BoxGather.{box_gathering};
+
+    type Answer = Option<Fault>;
+
+    ghost gathering = { box_gathering };
+
+    fn new() -> BoxGather {
+        BoxGather {
+            tally: Tally::open(0),
+            fault: None,
+            odd: false,
+        }
+    }
+
+    fn open(&mut self, place: u64) {
+        self.tally = Tally::open(place);
+        self.fault = None;
+        self.odd = false;
+    }
+
+    fn add(&mut self, item: &Element) {
+        self.add_element(&item.first);
+    }
+
+    fn add_single(&mut self, event: &Event) {
+        self.add_element(event);
+    }
+
+    fn close(&self) -> Option<Fault> {
+        lesser_fault(self.wrong_length(), self.fault)
+    }
+
+    fn other(head: &Event) -> Option<Fault> {
+        Some(Fault {
+            place: head.place,
+            rule: Rule::G20,
+        })
+    }
+}
+
+/// Takes the events of one value of `bbox`, and tells its least fault.
+///
+/// It holds one fixed record, whatever the value. So it counts the levels in it in 64 bits, and promises nothing for a
+/// value of 2^64 levels or more.
+#[derive(Clone, Copy)]
+pub struct Bbox {
+    reader: Array<Element, BoxGather>,
+}
+
+impl Bbox {
+    ghost use Rattle.std.specs.Prelude.{◌≡◌, ◌↔◌, ◌<◌, ◌^◌, ◌++◌, ◌∷◌, List, [], IsTrue};
+    ghost use Rattle.gj_json.specs.declared.event.Event.{Event};
+    ghost use Rattle.gj_json.specs.Tree.{Tree, depth};
+    ghost use Rattle.gj_json.specs.Events.{value_events};
+    ghost use Rattle.gj_coords.specs.Fault.{least};
+    ghost use Rattle.gj_coords.specs.Box.{bbox_faults};
+    ghost use Rattle.gj_coords.specs.Bbox.{StandsFor};
+
+    /// No event has come.
+    pub fn new() -> Bbox
+        ensures stands { StandsFor result [] }
+    {
+        Bbox {
+            reader: Part::new(),
+        }
+    }
+
+    /// One event more, whatever it is.
+    pub fn event(&mut self, event: Event)
+        ensures stands { (events : List Event) → StandsFor self.old events → StandsFor self.new (events ++ event ∷ []) }
+    {
+        self.reader.event(&event);
+    }
+
+    /// Whether the events are those of a whole value.
+    pub fn done(&self) -> bool
+        ensures at_the_end { (value : Tree) (events rest : List Event) → StandsFor self.now events → events ++ rest ≡ value_events value →
+            depth value < 2 ^ 64 → IsTrue result ↔ (rest ≡ []) }
+    {
+        self.reader.done()
+    }
+
+    /// The least fault of the value as a bounding box.
+    pub fn fault(&self) -> Option<Fault>
+        ensures least { (value : Tree) → StandsFor self.now (value_events value) → depth value < 2 ^ 64 → result ≡ least (bbox_faults value) }
+    {
+        self.reader.answer()
+    }
+}

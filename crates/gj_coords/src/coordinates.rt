@@ -1,0 +1,62 @@
+//! The value of `coordinates` under the six types.
+#[cfg(test)]
+mod tests;
+
+use crate::fault::Fault;
+use crate::part::Part;
+use crate::simple::Simple;
+use crate::walk::Walk;
+use gj_json::Event;
+use std::mem::size_of;
+
+/// Takes the events of one value of `coordinates`, and tells its least fault for each of the six types.
+///
+/// It holds one fixed record, whatever the value. So it counts the levels in it in 64 bits, and promises nothing for a
+/// value of 2^64 levels or more.
+#[derive(Clone, Copy)]
+pub struct Coordinates {
+    walk: Walk,
+}
+
+// A linter holds one, and begins another for each member `coordinates`.
+const _: () = prove!(size_of::<Coordinates>() == 1920);
+
+impl Coordinates {
+    ghost use Rattle.std.specs.Prelude.{◌≡◌, ◌↔◌, ◌<◌, ◌^◌, ◌++◌, ◌∷◌, List, [], IsTrue};
+    ghost use Rattle.gj_json.specs.declared.event.Event.{Event};
+    ghost use Rattle.gj_json.specs.Tree.{Tree, depth};
+    ghost use Rattle.gj_json.specs.Events.{value_events};
+    ghost use Rattle.gj_coords.specs.Fault.{least};
+    ghost use Rattle.gj_coords.specs.Shape.{coordinates_faults};
+    ghost use Rattle.gj_coords.specs.Coordinates.{StandsFor};
+
+    /// No event has come.
+    pub fn new() -> Coordinates
+        ensures stands { StandsFor result [] }
+    {
+        Coordinates { walk: Part::new() }
+    }
+
+    /// One event more, whatever it is.
+    pub fn event(&mut self, event: Event)
+        ensures stands { (events : List Event) → StandsFor self.old events → StandsFor self.new (events ++ event ∷ []) }
+    {
+        self.walk.event(&event);
+    }
+
+    /// Whether the events are those of a whole value.
+    pub fn done(&self) -> bool
+        ensures at_the_end { (value : Tree) (events rest : List Event) → StandsFor self.now events → events ++ rest ≡ value_events value →
+            depth value < 2 ^ 64 → IsTrue result ↔ (rest ≡ []) }
+    {
+        self.walk.done()
+    }
+
+    /// The least fault of the value as the coordinates of this type.
+    pub fn fault(&self, simple: Simple) -> Option<Fault>
+        ensures least { (value : Tree) → StandsFor self.now (value_events value) → depth value < 2 ^ 64 →
+            result ≡ least (coordinates_faults simple value) }
+    {
+        self.walk.answer().of(simple)
+    }
+}

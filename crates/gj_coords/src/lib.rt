@@ -1,0 +1,36 @@
+//! What is wrong with the coordinates of a geometry, and with a bounding box (RFC 7946, sections 3.1 and 5).
+//!
+//! A [`Coordinates`] takes the events of one value, whatever it is, and holds one fixed record. Its
+//! [`Coordinates::fault`] is the least of all faults that the definitions list for the whole value as a type, for each
+//! of the six types at once. A [`Bbox`] does the same for a bounding box. A [`Watcher`] is the plain program for one type.
+#![tactic(auto)]
+
+mod array;
+mod bbox;
+mod coordinates;
+mod element;
+mod fault;
+mod first_level;
+pub mod laws;
+mod part;
+mod position;
+mod ring;
+#[cfg(test)]
+mod sample;
+mod second_level;
+mod several;
+mod simple;
+mod tally;
+mod third_level;
+mod walk;
+mod watcher;
+mod whole;
+
+pub use bbox::Bbox;
+pub use coordinates::Coordinates;
+pub use fault::{Fault, Rule, lesser_fault};
+pub use simple::Simple;
+pub use watcher::{
+    LineStringWatcher, MultiLineStringWatcher, MultiPointWatcher, MultiPolygonWatcher,
+    PointWatcher, PolygonWatcher, Watcher,
+};

@@ -1,0 +1,232 @@
+//! Positions (RFC 7946, section 3.1.1).
+ghost use Rattle.std.specs.Prelude.{◌≡◌};
+ghost use Rattle.gj_coords.specs.Position.{misshapen_at, position_closed};
+
+use crate::array::Array;
+use crate::element::Element;
+use crate::fault::{Fault, Rule, join_fault, lesser_fault};
+use crate::part::{Gather, Judged};
+use crate::tally::Tally;
+use gj_json::{Event, What};
+use gj_number::Decimal;
+
+/// A position needs this many elements.
+const NEEDED: u8 = 2;
+
+/// This many numbers of a position must be held, and are compared.
+const MOST_VALUES: u8 = 3;
+
+/// The exact values of a position's first three numbers, and their count.
+#[derive(Clone, Copy, PartialEq, Eq)]
+pub struct Values {
+    pub count: u8,
+    pub first: Option<Decimal>,
+    pub second: Option<Decimal>,
+    pub third: Option<Decimal>,
+}
+
+/// What a position gathers of its elements.
+#[derive(Clone, Copy)]
+pub struct Numbers {
+    pub values: Values,
+    pub tally: Tally,
+    pub fault: Option<Fault>,
+}
+
+/// What is known of a value that was read as a position: its first event, its least fault and its values.
+#[derive(Clone, Copy)]
+pub struct Position {
+    pub values: Values,
+    pub head: Event,
+    pub fault: Option<Fault>,
+}
+
+impl Values {
+    ghost use Rattle.std.specs.Prelude.{◌≡◌};
+    ghost use Rattle.gj_coords.specs.Position.{no_values, pushed, same_values};
+
+    pub fn none() -> Values
+        ensures { result ≡ no_values }
+    {
+        Values {
+            count: 0,
+            first: None,
+            second: None,
+            third: None,
+        }
+    }
+
+    fn clear(&mut self)
+        ensures { self.new ≡ no_values }
+    {
+        self.count = 0;
+        self.first = None;
+        self.second = None;
+        self.third = None;
+    }
+
+    fn push(&mut self, value: &Option<Decimal>)
+        ensures { self.new ≡ pushed self.old.count value.now self.old }
+    {
+        match self.count {
+            0 => self.first = *value,
+            1 => self.second = *value,
+            2 => self.third = *value,
+            _ => return,
+        }
+        self.count += 1;
+    }
+
+    /// Whether both have the same values, and as many.
+    pub fn same(&self, other: &Values) -> bool
+        ensures { result ≡ same_values self.now other.now }
+    {
+        *self == *other
+    }
+}
+
+impl Numbers {
+    ghost use Rattle.std.specs.Prelude.{◌≡◌};
+    ghost use Rattle.gj_json.specs.declared.event.What.TheVariants.{OpenArray};
+    ghost use Rattle.gj_coords.specs.Sent.{event_at};
+    ghost use Rattle.gj_coords.specs.Position.{number_added, numbers_start, position_least};
+
+    pub fn none() -> Numbers
+        ensures { result ≡ numbers_start 0 }
+    {
+        Numbers {
+            values: Values::none(),
+            tally: Tally::open(0),
+            fault: None,
+        }
+    }
+
+    pub fn clear(&mut self, place: u64)
+        ensures { self.new ≡ numbers_start place }
+    {
+        self.values.clear();
+        self.tally = Tally::open(place);
+        self.fault = None;
+    }
+
+    /// Adds an element by its first event.
+    pub fn add_element(&mut self, element: &Event)
+        ensures { self.new ≡ number_added self.old element.now }
+    {
+        match &element.what {
+            What::Number(value) => {
+                if value.is_none() && self.values.count < MOST_VALUES {
+                    let unheld = Fault {
+                        place: element.place,
+                        rule: Rule::G16,
+                    };
+                    join_fault(&mut self.fault, Some(unheld));
+                }
+                self.values.push(value);
+            }
+            _ => {
+                join_fault(&mut self.fault, misshapen(element.place));
+                self.values.push(&None);
+            }
+        }
+        self.tally.add();
+    }
+
+    /// Adds an element that is an array.
+    pub fn add_array(&mut self, place: u64)
+        ensures { self.new ≡ number_added self.old (event_at place OpenArray) }
+    {
+        join_fault(&mut self.fault, misshapen(place));
+        self.values.push(&None);
+        self.tally.add();
+    }
+
+    /// The least fault of the whole position.
+    pub fn least_fault(&self) -> Option<Fault>
+        ensures { result ≡ position_least self.now }
+    {
+        lesser_fault(self.tally.few(NEEDED, Rule::G12), self.fault)
+    }
+
+    pub fn position(&self) -> Position
+        ensures { result ≡ position_closed self.now }
+    {
+        Position {
+            values: self.values,
+            head: Event {
+                place: self.tally.place,
+                what: What::OpenArray,
+            },
+            fault: self.least_fault(),
+        }
+    }
+}
+
+impl Position {
+    ghost use Rattle.std.specs.Prelude.{◌≡◌};
+    ghost use Rattle.gj_coords.specs.Position.{no_position};
+
+    /// What is known of a value that is no array.
+    pub fn none(head: &Event) -> Position
+        ensures { result ≡ no_position head.now }
+    {
+        Position {
+            values: Values::none(),
+            head: *head,
+            fault: misshapen(head.place),
+        }
+    }
+}
+
+impl Gather<Element> for Numbers {
+    ghost use Rattle.gj_coords.specs.Position.{numbers_gathering};
+
+    type Answer = Position;
+
+    ghost gathering = { numbers_gathering };
+
+    fn new() -> Numbers {
+        Numbers::none()
+    }
+
+    fn open(&mut self, place: u64) {
+        self.clear(place);
+    }
+
+    fn add(&mut self, item: &Element) {
+        self.add_element(&item.first);
+    }
+
+    fn add_single(&mut self, event: &Event) {
+        self.add_element(event);
+    }
+
+    fn close(&self) -> Position {
+        self.position()
+    }
+
+    fn other(head: &Event) -> Position {
+        Position::none(head)
+    }
+}
+
+/// The fault of a value that has not the shape that is due.
+pub fn misshapen(place: u64) -> Option<Fault>
+    ensures { result ≡ misshapen_at place }
+{
+    Some(Fault {
+        place,
+        rule: Rule::G11,
+    })
+}
+
+impl Judged for Position {
+    ghost fault_of = { λ position. position.fault };
+
+    fn fault(&self) -> Option<Fault> {
+        self.fault
+    }
+}
+
+/// Reads a position.
+pub type PositionReader = Array<Element, Numbers>;

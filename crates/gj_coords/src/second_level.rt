@@ -1,0 +1,120 @@
+//! The second level of the value of `coordinates`: as a position, a line, a linear ring and a polygon.
+use crate::array::{Array, Stage};
+use crate::fault::{Fault, join_fault};
+use crate::part::Gather;
+use crate::position::{Numbers, Position, misshapen};
+use crate::ring::Positions;
+use crate::several::line_fault;
+use crate::third_level::{ThirdLevel, ThirdReader};
+use gj_json::Event;
+
+/// The least faults of a value as a position, a line, a linear ring and a polygon.
+#[derive(Clone, Copy)]
+pub struct SecondSummary {
+    pub position: Position,
+    pub line: Option<Fault>,
+    pub ring: Option<Fault>,
+    pub polygon: Option<Fault>,
+}
+
+/// What a value one array deep gathers of its elements: as numbers, as positions, and their least fault as linear rings.
+#[derive(Clone, Copy)]
+pub struct SecondLevel {
+    pub numbers: Numbers,
+    pub positions: Positions,
+    pub rings: Option<Fault>,
+}
+
+/// Reads a value one array deep.
+pub type SecondReader = Array<ThirdReader, SecondLevel>;
+
+impl SecondLevel {
+    ghost use Rattle.std.specs.Prelude.{◌≡◌};
+    ghost use Rattle.gj_coords.specs.Positions.{ring_closed};
+    ghost use Rattle.gj_coords.specs.Several.{line_closed};
+    ghost use Rattle.gj_coords.specs.Walk.{third_gathering, second_gathering};
+
+    /// Adds an element that is an array, by what it gathered.
+    fn add_array(&mut self, element: &ThirdLevel)
+        ensures { self.new ≡ second_gathering.added self.old (third_gathering.closed element.now) }
+    {
+        self.numbers.add_array(element.numbers.tally.place);
+        self.positions
+            .add(&element.numbers.values, element.numbers.least_fault());
+        join_fault(&mut self.rings, element.ring_fault());
+    }
+
+    /// Adds an element that is no array, by its first event.
+    fn add_other(&mut self, head: &Event)
+        ensures { self.new ≡ second_gathering.added self.old (third_gathering.otherwise head.now) }
+    {
+        self.numbers.add_element(head);
+        self.positions.add_misshapen(head.place);
+        join_fault(&mut self.rings, misshapen(head.place));
+    }
+
+    /// The least fault as a line.
+    pub fn line_fault(&self) -> Option<Fault>
+        ensures { result ≡ line_closed self.now.numbers.tally self.now.positions.fault }
+    {
+        line_fault(&self.numbers.tally, self.positions.fault)
+    }
+
+    /// The least fault as a linear ring.
+    pub fn ring_fault(&self) -> Option<Fault>
+        ensures { result ≡ ring_closed self.now.numbers.tally self.now.positions }
+    {
+        self.positions.ring_fault(&self.numbers.tally)
+    }
+}
+
+impl Gather<ThirdReader> for SecondLevel {
+    ghost use Rattle.gj_coords.specs.Walk.{second_gathering};
+
+    type Answer = SecondSummary;
+
+    ghost gathering = { second_gathering };
+
+    fn new() -> SecondLevel {
+        SecondLevel {
+            numbers: Numbers::none(),
+            positions: Positions::none(),
+            rings: None,
+        }
+    }
+
+    fn open(&mut self, place: u64) {
+        self.numbers.clear(place);
+        self.positions.clear();
+        self.rings = None;
+    }
+
+    fn add(&mut self, item: &ThirdReader) {
+        match item.stage {
+            Stage::Broken => self.add_other(&item.other.first),
+            _ => self.add_array(&item.gather),
+        }
+    }
+
+    fn add_single(&mut self, event: &Event) {
+        self.add_other(event);
+    }
+
+    fn close(&self) -> SecondSummary {
+        SecondSummary {
+            position: self.numbers.position(),
+            line: self.line_fault(),
+            ring: self.ring_fault(),
+            polygon: self.rings,
+        }
+    }
+
+    fn other(head: &Event) -> SecondSummary {
+        SecondSummary {
+            position: Position::none(head),
+            line: misshapen(head.place),
+            ring: misshapen(head.place),
+            polygon: misshapen(head.place),
+        }
+    }
+}

@@ -1,0 +1,45 @@
+//! How many elements an array has, as far as the rules ask.
+ghost use Rattle.std.specs.Prelude.{◌≡◌};
+ghost use Rattle.gj_coords.specs.Tally.{tally_at, counted, few_in};
+
+use crate::fault::{Fault, Rule};
+
+/// No rule asks for more elements than these.
+const MOST_COUNTED: u8 = 4;
+
+/// Where an array begins, and how many elements it has, counted up to the most that a rule asks for.
+#[derive(Clone, Copy)]
+pub struct Tally {
+    pub place: u64,
+    pub count: u8,
+}
+
+impl Tally {
+    pub fn open(place: u64) -> Tally
+        ensures { result ≡ tally_at place }
+    {
+        Tally { place, count: 0 }
+    }
+
+    pub fn add(&mut self)
+        ensures { self.new ≡ counted self.old }
+    {
+        if self.count < MOST_COUNTED {
+            self.count += 1;
+        }
+    }
+
+    /// The fault of an array that has fewer elements than it needs.
+    pub fn few(&self, needed: u8, rule: Rule) -> Option<Fault>
+        ensures { result ≡ few_in needed rule self.now }
+    {
+        if self.count < needed {
+            Some(Fault {
+                place: self.place,
+                rule,
+            })
+        } else {
+            None
+        }
+    }
+}

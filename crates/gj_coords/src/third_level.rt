@@ -1,0 +1,100 @@
+//! The third level of the value of `coordinates`: as a position, and as a linear ring.
+use crate::array::{Array, Stage};
+use crate::fault::Fault;
+use crate::part::Gather;
+use crate::position::{Numbers, Position, PositionReader, misshapen};
+use crate::ring::Positions;
+use gj_json::Event;
+
+/// The least faults of a value as a position and as a linear ring.
+#[derive(Clone, Copy)]
+pub struct ThirdSummary {
+    pub position: Position,
+    pub ring: Option<Fault>,
+}
+
+/// What a value two arrays deep gathers of its elements: as numbers, and as positions.
+#[derive(Clone, Copy)]
+pub struct ThirdLevel {
+    pub numbers: Numbers,
+    pub positions: Positions,
+}
+
+/// Reads a value two arrays deep.
+pub type ThirdReader = Array<PositionReader, ThirdLevel>;
+
+impl ThirdLevel {
+    ghost use Rattle.std.specs.Prelude.{◌≡◌};
+    ghost use Rattle.gj_coords.specs.Position.{position_closed, no_position};
+    ghost use Rattle.gj_coords.specs.Positions.{ring_closed};
+    ghost use Rattle.gj_coords.specs.Walk.{third_gathering};
+
+    /// Adds an element that is an array, by what it gathered.
+    fn add_array(&mut self, element: &Numbers)
+        ensures { self.new ≡ third_gathering.added self.old (position_closed element.now) }
+    {
+        self.numbers.add_array(element.tally.place);
+        self.positions.add(&element.values, element.least_fault());
+    }
+
+    /// Adds an element that is no array, by its first event.
+    fn add_other(&mut self, head: &Event)
+        ensures { self.new ≡ third_gathering.added self.old (no_position head.now) }
+    {
+        self.numbers.add_element(head);
+        self.positions.add_misshapen(head.place);
+    }
+
+    /// The least fault as a linear ring.
+    pub fn ring_fault(&self) -> Option<Fault>
+        ensures { result ≡ ring_closed self.now.numbers.tally self.now.positions }
+    {
+        self.positions.ring_fault(&self.numbers.tally)
+    }
+}
+
+impl Gather<PositionReader> for ThirdLevel {
+    ghost use Rattle.gj_coords.specs.Walk.{third_gathering};
+
+    type Answer = ThirdSummary;
+
+    ghost gathering = { third_gathering };
+
+    fn new() -> ThirdLevel {
+        ThirdLevel {
+            numbers: Numbers::none(),
+            positions: Positions::none(),
+        }
+    }
+
+    fn open(&mut self, place: u64) {
+        self.numbers.clear(place);
+        self.positions.clear();
+    }
+
+    fn add(&mut self, item: &PositionReader) {
+        // what is read and broken is an object: a value of one event is not read
+        match item.stage {
+            Stage::Broken => self.add_other(&item.other.first),
+            _ => self.add_array(&item.gather),
+        }
+    }
+
+    fn add_single(&mut self, event: &Event) {
+        self.add_other(event);
+    }
+
+    fn close(&self) -> ThirdSummary {
+        ThirdSummary {
+            position: self.numbers.position(),
+            ring: self.ring_fault(),
+        }
+    }
+
+    fn other(head: &Event) -> ThirdSummary {
+        ThirdSummary {
+            position: Position::none(head),
+            ring: misshapen(head.place),
+        }
+    }
+}

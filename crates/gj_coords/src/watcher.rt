@@ -1,0 +1,169 @@
+//! A watcher for each of the six types: each of them alone, composed of its parts.
+//!
+//! `Coordinates` answers for all six at once in one walk, and is several times faster than they are side by side.
+ghost use Rattle.std.specs.Prelude.{◌≡◌, ◌↔◌, ◌<◌, ◌^◌, ◌++◌, ◌∷◌, List as EventList, [], IsTrue};
+ghost use Rattle.gj_json.specs.declared.event.Event.{Event};
+ghost use Rattle.gj_json.specs.Tree.{Tree, depth};
+ghost use Rattle.gj_json.specs.Events.{value_events};
+ghost use Rattle.gj_coords.specs.declared.simple.Simple.{Simple};
+ghost use Rattle.gj_coords.specs.Fault.{least};
+ghost use Rattle.gj_coords.specs.Shape.{coordinates_faults};
+ghost use Rattle.gj_coords.specs.Reading.{Answers};
+
+use crate::array::Array;
+use crate::element::Element;
+use crate::fault::Fault;
+use crate::part::Part;
+use crate::position::{Numbers, PositionReader};
+use crate::ring::Ring;
+use crate::several::{LINE_NEEDS, LIST_NEEDS, Line, List, Several};
+use crate::whole::Whole;
+use gj_json::Event;
+
+/// Takes the events of one value of `coordinates`, and tells its least fault under one type.
+pub trait Watcher: Copy {
+    /// The type.
+    ghost simple: { Simple };
+
+    /// It was given these events.
+    ghost stands: { Self → EventList Event → Type 0 };
+
+    /// No event has come.
+    fn new() -> Self
+        ensures { stands result [] };
+
+    /// One event more, whatever it is.
+    fn event(&mut self, event: Event)
+        ensures { (events : EventList Event) → stands self.old events → stands self.new (events ++ event ∷ []) };
+
+    /// Whether the events are those of a whole value.
+    fn done(&self) -> bool
+        ensures at_the_end { (value : Tree) (events rest : EventList Event) → stands self.now events → events ++ rest ≡ value_events value →
+            depth value < 2 ^ 64 → IsTrue result ↔ (rest ≡ []) };
+
+    /// The least fault of the value under the type.
+    fn fault(&self) -> Option<Fault>
+        ensures least { (value : Tree) → stands self.now (value_events value) → depth value < 2 ^ 64 →
+            result ≡ least (coordinates_faults simple value) };
+}
+
+/// Reads a value under one type, and answers its least fault.
+pub trait TypeReader: Part<Answer = Option<Fault>> {
+    ghost simple: { Simple };
+
+    ghost answers: { Answers Self.machine (λ value. least (coordinates_faults simple value)) };
+}
+
+/// A watcher that reads by the parts of its type.
+#[derive(Clone, Copy)]
+pub struct Watch<R> {
+    reader: R,
+}
+
+impl<R: TypeReader> Watcher for Watch<R> {
+    ghost use Rattle.gj_coords.specs.Reading.{IsAfter};
+
+    ghost simple = { R.simple };
+
+    ghost stands = { λ watch events. IsAfter R.machine watch.reader events };
+
+    fn new() -> Self {
+        Watch { reader: R::new() }
+    }
+
+    fn event(&mut self, event: Event) {
+        self.reader.event(&event);
+    }
+
+    fn done(&self) -> bool {
+        self.reader.done()
+    }
+
+    fn fault(&self) -> Option<Fault> {
+        self.reader.answer()
+    }
+}
+
+/// Watches the coordinates of a Point (RFC 7946, section 3.1.2).
+pub type PointWatcher = Watch<PointReader>;
+
+type PointReader = Array<Element, Whole<Numbers>>;
+
+impl TypeReader for PointReader {
+    ghost use Rattle.gj_coords.specs.declared.simple.Simple.TheVariants.{Point};
+    ghost use Rattle.gj_coords.specs.SixLaws.{point_answers};
+
+    ghost simple = { Point };
+
+    ghost answers = { point_answers };
+}
+
+/// Watches the coordinates of a MultiPoint (RFC 7946, section 3.1.3).
+pub type MultiPointWatcher = Watch<MultiPointReader>;
+
+type MultiPointReader = Array<PositionReader, Whole<Several<LIST_NEEDS>>>;
+
+impl TypeReader for MultiPointReader {
+    ghost use Rattle.gj_coords.specs.declared.simple.Simple.TheVariants.{MultiPoint};
+    ghost use Rattle.gj_coords.specs.SixLaws.{multi_point_answers};
+
+    ghost simple = { MultiPoint };
+
+    ghost answers = { multi_point_answers };
+}
+
+/// Watches the coordinates of a LineString (RFC 7946, section 3.1.4).
+pub type LineStringWatcher = Watch<LineStringReader>;
+
+type LineStringReader = Array<PositionReader, Whole<Several<LINE_NEEDS>>>;
+
+impl TypeReader for LineStringReader {
+    ghost use Rattle.gj_coords.specs.declared.simple.Simple.TheVariants.{LineString};
+    ghost use Rattle.gj_coords.specs.SixLaws.{line_string_answers};
+
+    ghost simple = { LineString };
+
+    ghost answers = { line_string_answers };
+}
+
+/// Watches the coordinates of a MultiLineString (RFC 7946, section 3.1.5).
+pub type MultiLineStringWatcher = Watch<MultiLineStringReader>;
+
+type MultiLineStringReader = Array<Line, Whole<Several<LIST_NEEDS>>>;
+
+impl TypeReader for MultiLineStringReader {
+    ghost use Rattle.gj_coords.specs.declared.simple.Simple.TheVariants.{MultiLineString};
+    ghost use Rattle.gj_coords.specs.SixLaws.{multi_line_string_answers};
+
+    ghost simple = { MultiLineString };
+
+    ghost answers = { multi_line_string_answers };
+}
+
+/// Watches the coordinates of a Polygon (RFC 7946, section 3.1.6).
+pub type PolygonWatcher = Watch<PolygonReader>;
+
+type PolygonReader = Array<Ring, Whole<Several<LIST_NEEDS>>>;
+
+impl TypeReader for PolygonReader {
+    ghost use Rattle.gj_coords.specs.declared.simple.Simple.TheVariants.{Polygon};
+    ghost use Rattle.gj_coords.specs.SixLaws.{polygon_answers};
+
+    ghost simple = { Polygon };
+
+    ghost answers = { polygon_answers };
+}
+
+/// Watches the coordinates of a MultiPolygon (RFC 7946, section 3.1.7).
+pub type MultiPolygonWatcher = Watch<MultiPolygonReader>;
+
+type MultiPolygonReader = Array<List<Ring>, Whole<Several<LIST_NEEDS>>>;
+
+impl TypeReader for MultiPolygonReader {
+    ghost use Rattle.gj_coords.specs.declared.simple.Simple.TheVariants.{MultiPolygon};
+    ghost use Rattle.gj_coords.specs.SixLaws.{multi_polygon_answers};
+
+    ghost simple = { MultiPolygon };
+
+    ghost answers = { multi_polygon_answers };
+}

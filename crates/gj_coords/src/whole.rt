@@ -1,0 +1,53 @@
+//! The value of `coordinates` may be an empty array.
+use crate::fault::Fault;
+use crate::part::{Gather, Judged, Part};
+use gj_json::Event;
+
+/// What the value itself gathers: what its shape gathers, and whether it is empty.
+#[derive(Clone, Copy)]
+pub struct Whole<G> {
+    pub inner: G,
+    pub empty: bool,
+}
+
+impl<W: Part, G: Gather<W, Answer: Judged>> Gather<W> for Whole<G> {
+    ghost use Rattle.gj_coords.specs.Whole.{whole_gathering};
+
+    type Answer = Option<Fault>;
+
+    ghost gathering = { whole_gathering G.gathering G.Answer.fault_of };
+
+    fn new() -> Self {
+        Whole {
+            inner: G::new(),
+            empty: true,
+        }
+    }
+
+    fn open(&mut self, place: u64) {
+        self.inner.open(place);
+        self.empty = true;
+    }
+
+    fn add(&mut self, item: &W) {
+        self.inner.add(item);
+        self.empty = false;
+    }
+
+    fn add_single(&mut self, event: &Event) {
+        self.inner.add_single(event);
+        self.empty = false;
+    }
+
+    fn close(&self) -> Option<Fault> {
+        if self.empty {
+            None
+        } else {
+            self.inner.close().fault()
+        }
+    }
+
+    fn other(head: &Event) -> Option<Fault> {
+        G::other(head).fault()
+    }
+}
