@@ -9,9 +9,9 @@ use Rattle.std.proofs.KnownBytes.{Consumes-trans}
 use Rattle.gj_json.specs.Limits.{Allowed}
 use Rattle.gj_json.specs.Refusal.{IsRefusal}
 use Rattle.gj_json.specs.declared.fault.JsonFault.{JsonFault}
-use Rattle.geolint.specs.declared.verdict.Verdict.{Verdict}
-use Rattle.geolint.specs.declared.verdict.Verdict.TheVariants.{NotJson}
-use Rattle.geolint.specs.Verdict.{IsVerdict}
+use Rattle.gj_rules.specs.declared.verdict.Verdict.{Verdict}
+use Rattle.gj_rules.specs.declared.verdict.Verdict.TheVariants.{NotJson}
+use Rattle.gj_rules.specs.Verdict.{IsVerdict}
 use Rattle.geolint.specs.Judged.{JudgesRead}
 
 -- the reader has come to its end

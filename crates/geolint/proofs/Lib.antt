@@ -1,4 +1,2 @@
-mod First
-mod Fed
 mod Judging
 mod Out

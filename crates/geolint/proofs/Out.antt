@@ -1,6 +1,7 @@
 -- Lemmas on what went out into a writer.
 use Rattle.std.proofs.Common.{◌≡◌, ℕ, ◌+◌, ◌-◌, ◌<◌, ◌≤◌, List, ◌∷◌, ◌++◌, length, get_or, take, drop, arith, refl, sym, ap, ◌∙◌, subst, add-one, drop-cons, length-take, length-append, take-append-drop}
-use Rattle.std.specs.Prelude.{Option}
+use Rattle.std.specs.Prelude.{Option, Result, Ok, Err, IfErr}
+use Rattle.geolint.specs.declared.fault.WriteFault.{WriteFault}
 use Rattle.std.specs.Borrow.{Bor}
 use Rattle.std.proofs.Math.Seq.{take-append-add}
 use Rattle.std.proofs.lemmas.List.{take_rest, take-append-le}
@@ -47,3 +48,8 @@ IsFrontOut-within a b c all done piece rest n m split count out front =
       short = omega arith;
       front = subst (Appends a c) (sym taken) (Appends-trans a b c done (take m piece) out front.front);
     }
+
+-- with nothing out before it
+pub front_from_none : {A : Type 0} (result : Result A WriteFault) (a b : Option (List ℕ)) (xs : List ℕ) → IfErr result (λ (fault : WriteFault). IsFrontOut a b xs (fault.written - 0)) → IfErr result (λ (fault : WriteFault). IsFrontOut a b xs fault.written)
+front_from_none (Ok x) a b xs h = h
+front_from_none (Err fault) a b xs h = let e : fault.written - 0 ≡ fault.written = omega arith in rw e at h

@@ -1,8 +1,8 @@
 -- What the reading of an input gives.
 use Rattle.std.specs.Prelude.{◌≡◌, ℕ, List, [], ◌++◌, Option, Some, None, ⊤}
 use Rattle.gj_json.specs.Limits.{Allowed}
-use Rattle.geolint.specs.declared.verdict.Verdict.{Verdict}
-use Rattle.geolint.specs.Verdict.{IsVerdict}
+use Rattle.gj_rules.specs.declared.verdict.Verdict.{Verdict}
+use Rattle.gj_rules.specs.Verdict.{IsVerdict}
 
 -- a reader had all these bytes, and when it was left it had the rest
 pub record IsJudged (limits : Allowed) (all rest : List ℕ) (verdict : Verdict) : Type 0 where

@@ -6,8 +6,8 @@ use Rattle.geolint.specs.declared.fault.RunFault.{RunFault}
 use Rattle.geolint.specs.declared.fault.RunFault.TheVariants.{Read, Write}
 use Rattle.geolint.specs.declared.options.Outcome.{Outcome}
 use Rattle.geolint.specs.declared.options.Outcome.TheVariants.{Pass, Fail}
-use Rattle.geolint.specs.declared.verdict.Verdict.{Verdict}
-use Rattle.geolint.specs.declared.verdict.Verdict.TheVariants.{Valid, Broken, NotJson}
+use Rattle.gj_rules.specs.declared.verdict.Verdict.{Verdict}
+use Rattle.gj_rules.specs.declared.verdict.Verdict.TheVariants.{Valid, Broken, NotJson}
 use Rattle.geolint.specs.Counts.{one_more}
 use Rattle.geolint.specs.Judged.{JudgesRead}
 use Rattle.geolint.specs.Report.{report}
@@ -15,7 +15,7 @@ use Rattle.geolint.specs.Written.{IsFrontOut}
 
 abbrev pub outcome_of : Verdict → Outcome
 outcome_of Valid = Pass
-outcome_of Broken = Fail
+outcome_of (Broken fault) = Fail
 outcome_of (NotJson fault) = Fail
 
 -- a failed read ends a run, by a read fault

@@ -4,10 +4,9 @@ ghost use Rattle.geolint.specs.Counts.{CountsFailure};
 ghost use Rattle.geolint.specs.Judged.{JudgesRead};
 
 use crate::fault::ReadFault;
-use crate::linter::Linter;
 use crate::source::Source;
-use crate::verdict::Verdict;
 use gj_json::Limits;
+use gj_rules::{Linter, Progress, Verdict};
 
 /// The most bytes of a read.
 const PIECE: usize = 8192;
@@ -36,8 +35,9 @@ pub fn lint_reader<S: Source>(reader: &mut S, limits: Limits) -> Result<Verdict,
             Ok(0) => return Ok(linter.finish()),
             Ok(count) => {
                 offset += count as u64;
-                if let Err(fault) = linter.feed(&piece[..count]) {
-                    return Ok(Verdict::NotJson(fault));
+                match linter.feed(&piece[..count]) {
+                    Progress::Open => {}
+                    Progress::Refused(fault) => return Ok(Verdict::NotJson(fault)),
                 }
             }
         }

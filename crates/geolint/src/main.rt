@@ -8,7 +8,6 @@
 mod failed;
 mod fault;
 mod lint;
-mod linter;
 mod options;
 mod report;
 mod run;
@@ -16,7 +15,6 @@ mod sink;
 mod source;
 #[cfg(test)]
 mod testing;
-mod verdict;
 
 use crate::options::{Options, Outcome};
 use crate::run::run;

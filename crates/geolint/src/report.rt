@@ -1,13 +1,14 @@
 ghost use Rattle.std.specs.Prelude.{◌≡◌, ◌+◌, ◌-◌, ◌^◌, ◌<◌, ◌≤◌, length, IfOk, OnOk, IfErr};
 ghost use Rattle.std.specs.Io.KnownBytes.{Appends};
 ghost use Rattle.geolint.specs.Counts.{CountsFailure};
-ghost use Rattle.geolint.specs.Report.{cause_text, refusal_line, report};
+ghost use Rattle.geolint.specs.Report.{cause_text, rule_text, refusal_line, broken_line, report};
 ghost use Rattle.geolint.specs.Written.{joined, IsFrontOut};
 
 use crate::fault::WriteFault;
 use crate::sink::Sink;
-use crate::verdict::Verdict;
+use gj_coords::{Fault, Rule};
 use gj_json::{Cause, JsonFault};
+use gj_rules::Verdict;
 use itoa::Buffer;
 
 /// Writes a part of a report, of which so many bytes went out before it; answers how many went out with it.
@@ -74,6 +75,50 @@ fn write_refusal<W: Sink>(fault: JsonFault, writer: &mut W) -> Result<u64, Write
     write_pieces(&pieces, 0, writer)
 }
 
+fn text_of_rule(rule: Rule) -> &'static [u8]
+    ensures { result.now ≡ rule_text rule }
+{
+    match rule {
+        Rule::G1 => b"not an object",
+        Rule::G2 => b"type missing",
+        Rule::G3 => b"type not allowed here",
+        Rule::G4 => b"coordinates missing",
+        Rule::G5 => b"geometries missing",
+        Rule::G6 => b"geometry missing",
+        Rule::G7 => b"properties missing",
+        Rule::G8 => b"features missing",
+        Rule::G9 => b"member forbidden by section 7.1",
+        Rule::G10 => b"name repeated",
+        Rule::G11 => b"coordinates of the wrong shape",
+        Rule::G12 => b"position of fewer than two elements",
+        Rule::G13 => b"line of fewer than two elements",
+        Rule::G14 => b"ring of fewer than four elements",
+        Rule::G15 => b"ring not closed",
+        Rule::G16 => b"number beyond the profile",
+        Rule::G17 => b"not an array",
+        Rule::G18 => b"properties neither object nor null",
+        Rule::G19 => b"id neither string nor number",
+        Rule::G20 => b"bbox or its element of the wrong kind",
+        Rule::G21 => b"bbox length odd or below 4",
+    }
+}
+
+fn write_broken<W: Sink>(fault: Fault, writer: &mut W) -> Result<u64, WriteFault>
+    ensures count { IfOk result (λ written. written ≡ length (broken_line fault)) }
+    ensures whole { OnOk result (Appends (W.taken writer.old) (W.taken writer.new) (broken_line fault)) }
+    ensures front { IfErr result (λ write.
+        IsFrontOut (W.taken writer.old) (W.taken writer.new) (broken_line fault) write.written) }
+    ensures failed { CountsFailure (W.failed_writes writer.old) (W.failed_writes writer.new) result }
+{
+    let mut number_digits = Buffer::new();
+    let number = number_digits.format(fault.rule.number()).as_bytes();
+    let mut place_digits = Buffer::new();
+    let place = place_digits.format(fault.place).as_bytes();
+    let text = text_of_rule(fault.rule);
+    let pieces: [&[u8]; 7] = [b"broken G", number, b" at ", place, b": ", text, b"\n"];
+    write_pieces(&pieces, 0, writer)
+}
+
 /// Writes the report of a verdict: one line.
 ///
 /// On `Ok` all of it is behind what the writer had taken. On an error the first `written` bytes of it are, and not all.
@@ -85,7 +130,7 @@ pub fn write_report<W: Sink>(verdict: Verdict, writer: &mut W) -> Result<(), Wri
 {
     match verdict {
         Verdict::Valid => write_bytes(b"valid\n", 0, writer)?,
-        Verdict::Broken => write_bytes(b"broken\n", 0, writer)?,
+        Verdict::Broken(fault) => write_broken(fault, writer)?,
         Verdict::NotJson(fault) => write_refusal(fault, writer)?,
     };
     Ok(())

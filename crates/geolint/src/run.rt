@@ -7,7 +7,7 @@ use crate::options::{Options, Outcome};
 use crate::report::write_report;
 use crate::sink::Sink;
 use crate::source::Source;
-use crate::verdict::Verdict;
+use gj_rules::Verdict;
 
 /// Judges what the reader gives, writes the report of the verdict, and answers whether the input passes.
 ///

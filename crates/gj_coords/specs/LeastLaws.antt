@@ -1,4 +1,4 @@
--- Internal: the lesser of two faults can be taken in any grouping.
+-- Laws of `lesser` and `least`, for whoever joins faults: they can be taken in any grouping.
 use Rattle.std.specs.Prelude.{◌≡◌, ℕ, List, [], ◌∷◌, ◌++◌, Option, Some, None, Bool, true, false, refl, nat_lt, nat_eq, nat_le, ◌&&◌, ◌||◌, if◌then◌else◌}
 use Rattle.std.proofs.Common.{arith, sym, ◌∙◌, ap}
 use Rattle.std.proofs.lemmas.Bool.Decides.{nat_tests}

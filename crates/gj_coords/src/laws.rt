@@ -1,18 +1,21 @@
 //! Laws of the definitions, each the contract of a function that does nothing.
-ghost use Rattle.std.specs.Prelude.{◌≡◌, ◌↔◌, ◌++◌, ◌∷◌, [], List, Some, None, IsTrue};
+ghost use Rattle.std.specs.Prelude.{◌≡◌, ◌↔◌, ◌++◌, ◌∷◌, [], List, Option, Some, None, IsTrue};
 ghost use Rattle.std.specs.List.{AllByRecursion};
 ghost use Rattle.gj_json.specs.Tree.{Tree};
 ghost use Rattle.gj_coords.specs.declared.fault.Fault.{Fault};
-ghost use Rattle.gj_coords.specs.Fault.{comes_first, least};
+ghost use Rattle.gj_coords.specs.Fault.{comes_first, lesser, least};
 ghost use Rattle.gj_coords.specs.Ring.{agree, first_values};
 
-/// The least of some faults is one of them, and comes before each of them or is the same.
+/// The least of some faults is one of them, and comes before each of them or is the same. It can be
+/// taken in any grouping.
 pub fn least_fault()
     ensures none { (faults : List Fault) → (least faults ≡ None) ↔ (faults ≡ []) }
     ensures one_of_them { (faults : List Fault) (fault : Fault) → least faults ≡ Some fault →
         (before : List Fault) × (after : List Fault) × (faults ≡ before ++ fault ∷ after) }
     ensures first { (faults : List Fault) (fault : Fault) → least faults ≡ Some fault →
         AllByRecursion (λ other. IsTrue (comes_first fault other)) faults }
+    ensures grouping { (a b c : Option Fault) → lesser (lesser a b) c ≡ lesser a (lesser b c) }
+    ensures joined { (faults others : List Fault) → least (faults ++ others) ≡ lesser (least faults) (least others) }
 {}
 
 /// Two positions agree exactly where their first numbers have the same exact values, and are as many.

@@ -25,8 +25,8 @@ mod told;
 pub use event::{Event, What};
 pub use fault::{Cause, JsonFault};
 pub use laws::{
-    broken_off, bytes_taken, left_part, longest_front, one_broken, one_refusal, one_text, same_events,
-    viable_fronts,
+    broken_off, bytes_taken, left_part, longest_front, one_broken, one_refusal, one_text,
+    same_events, viable_fronts,
 };
 pub use limits::Limits;
 pub use names::{Known, Word};

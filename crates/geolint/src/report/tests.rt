@@ -5,10 +5,88 @@ fn refused(place: u64, cause: Cause) -> Verdict {
     Verdict::NotJson(JsonFault { place, cause })
 }
 
-fn reports() -> [(Verdict, &'static str); 8] {
+fn broken(place: u64, rule: Rule) -> Verdict {
+    Verdict::Broken(Fault { place, rule })
+}
+
+fn reports() -> [(Verdict, &'static str); 28] {
     [
         (Verdict::Valid, "valid\n"),
-        (Verdict::Broken, "broken\n"),
+        (broken(10, Rule::G1), "broken G1 at 10: not an object\n"),
+        (broken(200, Rule::G2), "broken G2 at 200: type missing\n"),
+        (
+            broken(3000, Rule::G3),
+            "broken G3 at 3000: type not allowed here\n",
+        ),
+        (
+            broken(40000, Rule::G4),
+            "broken G4 at 40000: coordinates missing\n",
+        ),
+        (
+            broken(500000, Rule::G5),
+            "broken G5 at 500000: geometries missing\n",
+        ),
+        (
+            broken(6000000, Rule::G6),
+            "broken G6 at 6000000: geometry missing\n",
+        ),
+        (
+            broken(70000000, Rule::G7),
+            "broken G7 at 70000000: properties missing\n",
+        ),
+        (
+            broken(800000000, Rule::G8),
+            "broken G8 at 800000000: features missing\n",
+        ),
+        (
+            broken(9000000000, Rule::G9),
+            "broken G9 at 9000000000: member forbidden by section 7.1\n",
+        ),
+        (
+            broken(100000000000, Rule::G10),
+            "broken G10 at 100000000000: name repeated\n",
+        ),
+        (
+            broken(1100000000000, Rule::G11),
+            "broken G11 at 1100000000000: coordinates of the wrong shape\n",
+        ),
+        (
+            broken(12000000000000, Rule::G12),
+            "broken G12 at 12000000000000: position of fewer than two elements\n",
+        ),
+        (
+            broken(130000000000000, Rule::G13),
+            "broken G13 at 130000000000000: line of fewer than two elements\n",
+        ),
+        (
+            broken(1400000000000000, Rule::G14),
+            "broken G14 at 1400000000000000: ring of fewer than four elements\n",
+        ),
+        (
+            broken(15000000000000000, Rule::G15),
+            "broken G15 at 15000000000000000: ring not closed\n",
+        ),
+        (
+            broken(16, Rule::G16),
+            "broken G16 at 16: number beyond the profile\n",
+        ),
+        (broken(17, Rule::G17), "broken G17 at 17: not an array\n"),
+        (
+            broken(18, Rule::G18),
+            "broken G18 at 18: properties neither object nor null\n",
+        ),
+        (
+            broken(19, Rule::G19),
+            "broken G19 at 19: id neither string nor number\n",
+        ),
+        (
+            broken(20, Rule::G20),
+            "broken G20 at 20: bbox or its element of the wrong kind\n",
+        ),
+        (
+            broken(21, Rule::G21),
+            "broken G21 at 21: bbox length odd or below 4\n",
+        ),
         (refused(0, Cause::Truncated), "not JSON at 0: truncated\n"),
         (refused(17, Cause::Syntax), "not JSON at 17: syntax\n"),
         (refused(4, Cause::Truncated), "not JSON at 4: truncated\n"),

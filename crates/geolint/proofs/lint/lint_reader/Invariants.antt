@@ -1,6 +1,6 @@
 use Rattle.std.proofs.Common.{ℕ, List, length, ◌+◌, ◌-◌, ◌<◌, ◌≤◌, ◌≡◌, ◌^◌}
 use Rattle.std.specs.Io.KnownBytes.{Consumes}
-use Rattle.geolint.specs.Linter.{StandsFor, limits_of}
+use Rattle.gj_rules.specs.Linter.{StandsFor, limits_of}
 use Rattle.geolint.proofs.lint.lint_reader.Given as goal
 
 abbrev pub invariant-loop-linter : goal.invariant-loop-linter

@@ -1,0 +1,31 @@
+-- A summary that has not the whole value goes on with it.
+use Rattle.std.proofs.Common.{◌≡◌, ℕ, Bool, true, false, IsTrue, ◌↔◌, List, [], ◌∷◌, ◌++◌, refl}
+use Rattle.gj_json.specs.declared.event.Event.{Event}
+use Rattle.gj_json.specs.declared.names.Known.TheVariants.{Coordinates}
+use Rattle.gj_json.specs.Tree.{Tree}
+use Rattle.gj_coords.specs.declared.coordinates.Coordinates as C
+use Rattle.gj_coords.specs.declared.bbox.Bbox.{Bbox}
+use Rattle.gj_rules.specs.declared.mode.Mode.{Mode}
+use Rattle.gj_rules.specs.declared.mode.Mode.TheVariants.{Due}
+use Rattle.gj_rules.specs.declared.rules.Rules.{Rules}
+use Rattle.gj_rules.specs.Kept.{Holds, HoldsIn, Fed}
+use Rattle.gj_rules.specs.Summaries.{StandsForCoordinates}
+
+held_on : (k : ℕ) (m : Mode) (old new : C.Coordinates) (bbox : Bbox) (es fs : List Event) → k ≡ 0 → m ≡ Due Coordinates
+    → (StandsForCoordinates old es → StandsForCoordinates new fs) → HoldsIn k m old bbox es → HoldsIn k m new bbox fs
+held_on k m old new bbox es fs a b t = rw (a, b) t
+
+held : (k : ℕ) (m : Mode) (c : C.Coordinates) (bbox : Bbox) (es : List Event) → k ≡ 0 → m ≡ Due Coordinates → HoldsIn k m c bbox es → StandsForCoordinates c es
+held k m c bbox es a b h = rw (a, b) at h
+
+lost : (b : Bool) → b ≡ false → IsTrue b → ⊥
+lost true e i = cc
+lost false e i = cc
+
+pub not_whole : (old : Rules) (new : C.Coordinates) (v : Tree) (taken : List Event) (event : Event) (left : List Event) (done : Bool) → old.skipped ≡ 0 → old.mode ≡ Due Coordinates
+    → (StandsForCoordinates old.coordinates taken → StandsForCoordinates new (taken ++ event ∷ []))
+    → done ≡ false → (StandsForCoordinates new (taken ++ event ∷ []) → IsTrue done ↔ (left ≡ [])) → Holds old taken
+    → Fed old v (taken ++ event ∷ []) left (record old { coordinates = new })
+not_whole old new v taken event [] done a b t f d h =
+    absurd (lost done f ((d (t (held old.skipped old.mode old.coordinates old.bbox taken a b h))).1 refl))
+not_whole old new v taken event (y ∷ ys) done a b t f d h = (refl, held_on old.skipped old.mode old.coordinates new old.bbox taken (taken ++ event ∷ []) a b t h)

@@ -1,0 +1,13 @@
+pub mod Slots
+pub mod Member
+pub mod Members
+pub mod Settle
+pub mod Timed
+pub mod Leads
+pub mod Feeding
+pub mod Order
+pub mod Cuts
+pub mod Halves
+pub mod Telling
+pub mod Examples
+pub mod Fed

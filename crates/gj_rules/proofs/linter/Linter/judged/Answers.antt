@@ -1,0 +1,14 @@
+-- The objects with a role are those of the events that the rules were told.
+use Rattle.std.proofs.Common.{List, sym, subst, arith}
+use Rattle.gj_json.specs.declared.event.Event.{Event}
+use Rattle.gj_rules.specs.Rules.{StandsFor as RulesStandFor}
+use Rattle.gj_rules.specs.Linter.{StandsFor}
+use Rattle.gj_rules.proofs.linter.Linter.judged.Goals as goal
+
+pub returns : goal.returns
+unfolding StandsFor
+returns c = record {
+  «open» = λ bytes rest text h t.
+      let P : List Event → Type 0 = λ xs. RulesStandFor c.args.self.now.rules xs in
+      c.judged.ensures text _ _ t.0 (omega (arith, t.1, c.args.self.now.shallow)) (subst P (sym (h.1.complete text rest t.0)) h.1.told);
+}

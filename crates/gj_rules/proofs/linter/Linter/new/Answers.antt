@@ -1,0 +1,8 @@
+-- Before the first byte no event has come.
+use Rattle.gj_rules.proofs.Fed.{new_told}
+use Rattle.gj_rules.specs.Linter.{StandsFor}
+use Rattle.gj_rules.proofs.linter.Linter.new.Goals as goal
+
+pub returns-clause-stands : goal.returns-clause-stands
+unfolding StandsFor
+returns-clause-stands c = (c.new-2.ensures.stands, new_told c.new-2.result c.new.result c.new-2.ensures.offset c.new.ensures.stands c.new-2.ensures.events)

@@ -1,0 +1,5 @@
+use Rattle.gj_rules.proofs.Telling.{answered}
+use Rattle.gj_rules.proofs.rules.Rules.fault.Goals as goal
+
+pub returns : goal.returns
+returns c = λ text d h. answered c.args.self.now text d h

@@ -1,0 +1,56 @@
+-- Internal: what the rules keep, and what their calls do to it.
+use Rattle.std.specs.Prelude.{ℕ, zero, ◌≡◌, ◌+◌, ◌<◌, List, [], ◌∷◌, length, reverse, ◌≤◌, ◌++◌}
+use Rattle.gj_json.specs.declared.event.Event.{Event}
+use Rattle.gj_json.specs.declared.names.Known.TheVariants as Known
+use Rattle.gj_json.specs.declared.event.What.{What}
+use Rattle.gj_json.specs.Tree.{Tree, depth}
+use Rattle.gj_json.specs.Events.{value_events}
+use Rattle.gj_coords.specs.declared.coordinates.Coordinates.{Coordinates}
+use Rattle.gj_coords.specs.declared.bbox.Bbox.{Bbox}
+use Rattle.gj_rules.specs.declared.frame.Frame.{Frame}
+use Rattle.gj_rules.specs.declared.mode.Mode.{Mode}
+use Rattle.gj_rules.specs.declared.mode.Mode.TheVariants.{RootDue, Due, Done}
+use Rattle.gj_rules.specs.declared.rules.Rules.{Rules}
+use Rattle.gj_rules.specs.declared.rules.TheConstants.{MOST_AROUND}
+use Rattle.gj_rules.specs.Levels.{most_levels}
+use Rattle.gj_rules.specs.Step.{Core, State, ended}
+use Rattle.gj_rules.specs.Summaries.{StandsForCoordinates, StandsForBbox}
+
+abbrev pub core_of : Rules → Core
+core_of rules = record { skipped = rules.skipped; mode = rules.mode; top = rules.top; outer = reverse rules.outer.items; answer = rules.answer }
+
+-- the summary of the value that is under way has taken these events of it
+abbrev pub HoldsIn : ℕ → Mode → Coordinates → Bbox → List Event → Type 0
+HoldsIn zero (Due Known.Coordinates) coordinates bbox taken = StandsForCoordinates coordinates taken
+HoldsIn zero (Due Known.Bbox) coordinates bbox taken = StandsForBbox bbox taken
+HoldsIn _ _ coordinates bbox taken = Unit {0}
+
+abbrev pub Holds : Rules → List Event → Type 0
+Holds rules taken = HoldsIn rules.skipped rules.mode rules.coordinates rules.bbox taken
+
+abbrev pub Stands : Rules → State → Type 0
+Stands rules s = (core_of rules ≡ s.core) × Holds rules s.feed.taken
+
+-- ---- what the calls of the rules do
+
+-- the number of frames in use
+abbrev pub frames_by : Mode → List Frame → ℕ
+frames_by RootDue outer = 0
+frames_by Done outer = 0
+frames_by _ outer = length outer + 1
+
+-- an object that opens has room for its frame
+abbrev pub HasRoom : What → List Frame → Type 0
+HasRoom What.OpenObject outer = length outer < MOST_AROUND
+HasRoom _ outer = Unit {0}
+
+-- the summary took one event more of its value
+abbrev pub Fed : Rules → Tree → List Event → List Event → Rules → Type 0
+Fed old value taken [] new = core_of new ≡ ended value (core_of old)
+Fed old value taken (next ∷ more) new = (core_of new ≡ core_of old) × Holds new taken
+
+-- the event was one more of the value that a summary takes
+abbrev pub Feeds : Rules → Event → Rules → Type 0
+Feeds old event new =
+    (value : Tree) (taken left : List Event) → depth value ≤ most_levels → Holds old taken → (taken ++ event ∷ []) ++ left ≡ value_events value
+    → Fed old value (taken ++ event ∷ []) left new

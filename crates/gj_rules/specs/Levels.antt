@@ -1,0 +1,5 @@
+-- How deep the arrays and objects of a text may nest, so that the rules say something of it.
+use Rattle.std.specs.Prelude.{ℕ}
+
+abbrev pub most_levels : ℕ
+most_levels = 64

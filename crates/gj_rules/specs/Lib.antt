@@ -1,0 +1,13 @@
+pub mod Role
+pub mod Members
+pub mod Faults
+pub mod Judged
+pub mod Levels
+pub mod Summaries
+pub mod Frame
+pub mod Told
+pub mod Step
+pub mod Kept
+pub mod Rules
+pub mod Verdict
+pub mod Linter

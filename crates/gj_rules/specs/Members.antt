@@ -1,0 +1,66 @@
+-- The members of an object that the rules look at: of each known name the first one, and those that repeat a name
+-- (RFC 7946, sections 3 to 3.3 and 5).
+use Rattle.std.specs.Prelude.{ℕ, Bool, true, false, if◌then◌else◌, List, [], ◌∷◌, ◌++◌, Option, Some, None}
+use Rattle.gj_json.specs.declared.names.Known.{Known}
+use Rattle.gj_json.specs.declared.names.Known.TheVariants.{TypeName, Coordinates, Geometries, Geometry, Properties, Features, Bbox, Id, Other}
+use Rattle.gj_json.specs.declared.names.Word.{Word}
+use Rattle.gj_json.specs.Names.{known_of, word_of}
+use Rattle.gj_json.specs.Tree.{Tree, string, Members, end_of_object, member}
+use Rattle.gj_coords.specs.declared.fault.Fault.{Fault}
+use Rattle.gj_coords.specs.declared.fault.Rule.{Rule}
+use Rattle.gj_coords.specs.declared.fault.Rule.TheVariants.{G10}
+use Rattle.gj_coords.specs.Fault.{fault_at}
+use Rattle.gj_coords.specs.Items.{place_of}
+use Rattle.gj_rules.specs.declared.frame.TypeValue.{TypeValue}
+
+-- the type that a value of `type` names
+abbrev pub type_of : Tree → Word
+type_of (string place content end) = word_of content
+type_of _ = Word.Other
+
+abbrev pub one : ℕ → Rule → List Fault
+one place rule = fault_at place rule ∷ []
+
+-- ---- names
+
+-- the names that the rules know
+abbrev pub is_known : Known → Bool
+is_known Other = false
+is_known _ = true
+
+abbrev pub same : Known → Known → Bool
+same TypeName TypeName = true
+same Coordinates Coordinates = true
+same Geometries Geometries = true
+same Geometry Geometry = true
+same Properties Properties = true
+same Features Features = true
+same Bbox Bbox = true
+same Id Id = true
+same Other Other = true
+same _ _ = false
+
+-- whether the name is among these
+abbrev pub mentions : List Known → Known → Bool
+mentions [] name = false
+mentions (x ∷ xs) name = if same name x then true else mentions xs name
+
+-- ---- members
+
+-- the value of the first member `type`
+abbrev pub first_type : Members → Option TypeValue
+first_type end_of_object = None
+first_type (member place name end value more) =
+    if same TypeName (known_of name) then Some (record { place = place_of value; word = type_of value }) else first_type more
+
+-- a known name that was mentioned before
+abbrev pub again : Bool → Bool → ℕ → List Fault
+again true true place = one place G10
+again _ _ place = []
+
+-- G10 at the name of each member with a known name that is not the first of it, among members behind others of the
+-- names `before`
+abbrev pub repeated : List Known → Members → List Fault
+repeated before end_of_object = []
+repeated before (member place name end value more) =
+    again (is_known (known_of name)) (mentions before (known_of name)) place ++ repeated (known_of name ∷ before) more

@@ -1,0 +1,14 @@
+-- What the rules stand for. Its body is internal: a caller needs that `new` stands for no events, and that each call
+-- keeps it.
+use Rattle.std.specs.Prelude.{◌≡◌, ◌≤◌, List, ◌++◌, map}
+use Rattle.gj_json.specs.declared.event.Event.{Event}
+use Rattle.gj_json.specs.Tree.{Text, depth}
+use Rattle.gj_rules.specs.declared.rules.Rules.{Rules}
+use Rattle.gj_rules.specs.Kept.{Stands}
+use Rattle.gj_rules.specs.Levels.{most_levels}
+use Rattle.gj_rules.specs.Step.{run, start}
+use Rattle.gj_rules.specs.Told.{Told, event_of, text_told}
+
+-- The rules may have been told these events. Nothing is said of events that no text within those levels begins with.
+abbrev pub StandsFor : Rules → List Event → Type 0
+StandsFor rules events = (text : Text) (done rest : List Told) → text_told text ≡ done ++ rest → map event_of done ≡ events → depth text.value ≤ most_levels → Stands rules (run done start)

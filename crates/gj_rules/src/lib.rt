@@ -1,0 +1,22 @@
+//! The rules of GeoJSON (RFC 7946), and the linter that judges an input by them.
+//!
+//! A [`Linter`] takes an input in pieces of any size and answers its [`Verdict`]. It is a
+//! [`Reader`](gj_json::Reader) that tells its events to [`Rules`]. These find the least fault of a
+//! text: that of the least place, and at one place of the lowest number. They keep one frame of a
+//! fixed size for each open object that has a role by its position, whatever the length of the text
+//! and wherever an object's `type` stands.
+#![tactic(auto)]
+
+mod frame;
+pub mod laws;
+mod linter;
+mod mode;
+mod opening;
+mod role;
+mod rules;
+mod shapes;
+mod verdict;
+
+pub use linter::{Linter, Progress};
+pub use rules::Rules;
+pub use verdict::{Verdict, one_verdict};

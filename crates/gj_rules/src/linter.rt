@@ -1,0 +1,137 @@
+//! An input that comes in pieces, judged.
+
+#[cfg(test)]
+mod tests;
+
+ghost use Rattle.std.specs.Prelude.{◌≡◌, ℕ, ◌≤◌, ◌++◌, [], List, length, take, None, Some};
+ghost use Rattle.gj_json.specs.declared.fault.JsonFault.{JsonFault};
+ghost use Rattle.gj_json.specs.Reader.{limits_of as reader_limits};
+ghost use Rattle.gj_json.specs.Tree.{Text};
+ghost use Rattle.gj_json.specs.Text.{IsText, IsTextWithin};
+ghost use Rattle.gj_json.specs.Open.{open_at};
+ghost use Rattle.gj_json.specs.declared.event.Event.{Event};
+ghost use Rattle.std.specs.Option.{option_to_list};
+ghost use Rattle.gj_rules.specs.Judged.{judged_at};
+ghost use Rattle.gj_rules.specs.Rules.{StandsFor as RulesStandFor};
+ghost use Rattle.gj_rules.specs.Verdict.{verdict_of};
+
+use crate::frame::Frame;
+use crate::rules::Rules;
+use crate::verdict::Verdict;
+use gj_coords::Fault;
+use gj_json::{Event, EventSink, JsonFault, Limits, Reader, bytes_taken};
+use std::mem::size_of;
+
+/// What a piece of an input shows.
+#[derive(Clone, Copy, Debug, PartialEq, Eq)]
+pub enum Progress {
+    /// The input may still become a JSON text within the limits.
+    Open,
+    /// The input is refused, and so is every input that begins so.
+    Refused(JsonFault),
+}
+
+/// Tells the event that only the end of the text completes, where there is one.
+fn tell_last(rules: &mut Rules, last: Option<Event>)
+    ensures { (events : List Event) → RulesStandFor rules.old events → RulesStandFor rules.new (events ++ option_to_list last) }
+{
+    if let Some(event) = last {
+        rules.tell(event);
+    }
+}
+
+/// The verdict of a JSON text with this least fault.
+fn verdict_of(fault: Option<Fault>) -> Verdict
+    ensures { result ≡ verdict_of fault }
+{
+    match fault {
+        Some(fault) => Verdict::Broken(fault),
+        None => Verdict::Valid,
+    }
+}
+
+/// Judges an input that comes in pieces of any size.
+///
+/// It holds one fixed record, with room for 33 frames: at most one for each two open levels, and one.
+#[derive(Drop)]
+pub struct Linter {
+    rules: Rules,
+    reader: Reader,
+    ghost shallow: { (reader_limits reader).depth ≤ 64 },
+}
+
+// At most 33 frames and 8,192 bytes.
+const _: () = prove!(size_of::<Linter>() <= 33 * size_of::<Frame>() + 8192);
+
+impl Linter {
+    ghost use Rattle.gj_rules.specs.Linter.{StandsFor, limits_of, refusal_of, offset_of, Answers, refusal_in};
+    ghost use Rattle.gj_rules.specs.Verdict.{IsVerdict};
+
+    /// Before the first byte of an input under these limits.
+    pub fn new(limits: Limits) -> Linter
+        ensures stands { StandsFor result [] }
+        ensures limits { limits_of result ≡ limits }
+    {
+        Linter {
+            rules: Rules::new(),
+            reader: Reader::new(limits),
+        }
+    }
+
+    /// Takes the next bytes of the input, up to a byte that is refused. From then on each call answers
+    /// the same fault and changes nothing. A broken rule never ends the reading.
+    pub fn feed(&mut self, piece: &[u8]) -> Progress
+        ensures stands { (bytes : List ℕ) → StandsFor self.old bytes → StandsFor self.new (bytes ++ piece.now) }
+        ensures answer { (bytes : List ℕ) → StandsFor self.old bytes → Answers (limits_of self.old) (bytes ++ piece.now) result }
+        ensures limits { limits_of self.new ≡ limits_of self.old }
+        ensures refusal { refusal_of self.new ≡ refusal_in result }
+        ensures again { (fault : JsonFault) → refusal_of self.old ≡ Some fault → (self.new ≡ self.old) × (result ≡ Progress.Refused fault) }
+    {
+        bytes_taken();
+        match self.reader.feed(piece, &mut self.rules) {
+            Ok(()) => Progress::Open,
+            Err(fault) => Progress::Refused(fault),
+        }
+    }
+
+    /// The verdict of the input that was fed, however it came in pieces.
+    pub fn finish(self) -> Verdict
+        ensures verdict { (bytes : List ℕ) → StandsFor self bytes → IsVerdict (limits_of self) bytes result }
+        ensures again { (fault : JsonFault) → refusal_of self ≡ Some fault → result ≡ Verdict.NotJson fault }
+    {
+        bytes_taken();
+        let Linter { mut rules, reader } = self;
+        match reader.finish() {
+            Err(fault) => Verdict::NotJson(fault),
+            Ok(last) => {
+                tell_last(&mut rules, last);
+                verdict_of(rules.fault())
+            }
+        }
+    }
+
+    /// How many bytes were taken: the place of the refused one, once there was one.
+    pub fn offset(&self) -> u64
+        ensures value { result ≡ offset_of self.now }
+        ensures taken { (bytes : List ℕ) → StandsFor self.now bytes → refusal_of self.now ≡ None → result ≡ length bytes }
+        ensures refused { (bytes : List ℕ) (fault : JsonFault) → StandsFor self.now bytes → refusal_of self.now ≡ Some fault → result ≡ fault.place }
+    {
+        self.reader.offset()
+    }
+
+    /// How many arrays and objects are open after the bytes that were taken.
+    pub fn levels(&self) -> u8
+        ensures open { (bytes rest : List ℕ) (text : Text) → StandsFor self.now bytes → IsText text (take (offset_of self.now) bytes ++ rest) → result ≡ open_at (offset_of self.now) text }
+        ensures small { result ≤ 64 }
+    {
+        self.reader.levels()
+    }
+
+    /// How many of the open objects have a role by their position: the number of frames in use.
+    pub fn judged(&self) -> u8
+        ensures open { (bytes rest : List ℕ) (text : Text) → StandsFor self.now bytes → IsTextWithin (limits_of self.now).depth text (take (offset_of self.now) bytes ++ rest)
+            → result ≡ judged_at (offset_of self.now) text }
+    {
+        self.rules.judged()
+    }
+}

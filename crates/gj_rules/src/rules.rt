@@ -1,0 +1,184 @@
+ghost use Rattle.std.specs.Prelude.{◌≡◌, ℕ, ◌<◌, ◌≤◌, [], List, true};
+
+mod steps;
+#[cfg(test)]
+mod tests;
+
+use crate::frame::Frame;
+use crate::mode::Mode;
+use crate::role::Role;
+use crate::shapes::Shapes;
+use arrayvec::ArrayVec;
+use gj_coords::{Bbox, Coordinates, Fault};
+use gj_json::{Event, EventSink, Known};
+use std::mem::size_of;
+
+/// How many objects with a role can be open around the innermost one, at 64 levels.
+const MOST_AROUND: usize = 32;
+
+/// Finds the least fault of a text from its events, in whatever order the members stand.
+///
+/// Only an object with a role has a frame, whatever its type and those of the objects around it. A
+/// value without a role is skipped by a count of its levels.
+#[derive(Drop)]
+pub struct Rules {
+    top: Frame,
+    /// The frames of the objects around, the outermost first.
+    outer: ArrayVec<Frame, MOST_AROUND>,
+    coordinates: Coordinates,
+    bbox: Bbox,
+    answer: Option<Fault>,
+    mode: Mode,
+    /// How many levels of a value are open that is not looked into.
+    skipped: u8,
+}
+
+// The frames lie in it from the start.
+const _: () = prove!(size_of::<Rules>() <= (MOST_AROUND + 1) * size_of::<Frame>() + 4096);
+
+impl Rules {
+    ghost use Rattle.gj_json.specs.Tree.{Text, depth};
+    ghost use Rattle.gj_json.specs.Events.{all_events, events_by};
+    ghost use Rattle.gj_json.specs.Text.{IsText};
+    ghost use Rattle.gj_coords.specs.Fault.{least};
+    ghost use Rattle.gj_rules.specs.Faults.{text_faults};
+    ghost use Rattle.gj_rules.specs.Judged.{judged_at};
+    ghost use Rattle.gj_rules.specs.Step.{core_step, is_feeding};
+    ghost use Rattle.gj_rules.specs.Kept.{core_of, frames_by, Holds, HasRoom, Feeds};
+    ghost use Rattle.gj_rules.specs.Levels.{most_levels};
+    ghost use Rattle.gj_rules.specs.Rules.{StandsFor};
+
+    /// Before the first event of a text.
+    pub fn new() -> Self
+        ensures stands { StandsFor result [] }
+    {
+        Rules {
+            top: Frame::new(Role::Root, 0),
+            outer: ArrayVec::new(),
+            coordinates: Coordinates::new(),
+            bbox: Bbox::new(),
+            answer: None,
+            mode: Mode::RootDue,
+            skipped: 0,
+        }
+    }
+
+    /// The least fault of the text whose events were told.
+    pub fn fault(&self) -> Option<Fault>
+        ensures { (text : Text) → depth text.value ≤ most_levels → StandsFor self.now (all_events text) → result ≡ least (text_faults text) }
+    {
+        self.answer
+    }
+
+    /// In a front of a text the number of open objects with a role, which is that of the frames in use.
+    pub fn judged(&self) -> u8
+        ensures { (text : Text) (bytes : List ℕ) (n : ℕ) → IsText text bytes → depth text.value ≤ most_levels → StandsFor self.now (events_by n text) → result ≡ judged_at n text }
+    {
+        self.frames()
+    }
+
+    fn frames(&self) -> u8
+        ensures { result ≡ frames_by self.now.mode self.now.outer.items }
+    {
+        match self.mode {
+            Mode::RootDue | Mode::Done => 0,
+            _ => self.outer.len() as u8 + 1,
+        }
+    }
+
+    /// An event that goes to no summary.
+    fn take(&mut self, event: Event)
+        ensures { self.old.skipped < 255 → (self.old.skipped ≡ 0 → HasRoom event.what self.old.outer.items) → core_of self.new ≡ core_step event (core_of self.old) }
+    {
+        if self.skipped > 0 {
+            self.skip(event.what);
+        } else {
+            match self.mode {
+                Mode::RootDue => self.root(event.what, event.place),
+                Mode::Names => self.names(event.what, event.place),
+                Mode::Due(name) => self.value(name, event.what, event.place),
+                Mode::Elements(role) => self.element(role, event.what, event.place),
+                Mode::Done => {}
+            }
+        }
+    }
+
+    /// Makes the summary new that takes the value that is due, where one does.
+    fn renew(&mut self)
+        ensures core { core_of self.new ≡ core_of self.old }
+        ensures holds { Holds self.new [] }
+    {
+        if self.skipped == 0 {
+            match self.mode {
+                Mode::Due(Known::Coordinates) => self.coordinates = Coordinates::new(),
+                Mode::Due(Known::Bbox) => self.bbox = Bbox::new(),
+                _ => {}
+            }
+        }
+    }
+
+    /// Whether the next event goes to a summary.
+    fn is_feeding(&self) -> bool
+        ensures { result ≡ is_feeding self.now.skipped self.now.mode }
+    {
+        if self.skipped > 0 {
+            return false;
+        }
+        match self.mode {
+            Mode::Due(Known::Coordinates) | Mode::Due(Known::Bbox) => true,
+            _ => false,
+        }
+    }
+
+    /// An event of the value of `coordinates`.
+    fn feed_coordinates(&mut self, event: Event)
+        requires skipped { self.old.skipped ≡ 0 }
+        requires mode { self.old.mode ≡ Mode.Due Known.Coordinates }
+        ensures { Feeds self.old event self.new }
+    {
+        self.coordinates.event(event);
+        if self.coordinates.done() {
+            self.top.set_shapes(Shapes::of(&self.coordinates));
+            self.mode = Mode::Names;
+        }
+    }
+
+    /// An event of the value of `bbox`.
+    fn feed_bbox(&mut self, event: Event)
+        requires skipped { self.old.skipped ≡ 0 }
+        requires mode { self.old.mode ≡ Mode.Due Known.Bbox }
+        ensures { Feeds self.old event self.new }
+    {
+        self.bbox.event(event);
+        if self.bbox.done() {
+            self.top.join(Known::Bbox, self.bbox.fault());
+            self.mode = Mode::Names;
+        }
+    }
+
+    /// An event of the value that a summary takes.
+    fn feed(&mut self, event: Event)
+        requires { is_feeding self.old.skipped self.old.mode ≡ true }
+        ensures { Feeds self.old event self.new }
+    {
+        match self.mode {
+            Mode::Due(Known::Coordinates) => self.feed_coordinates(event),
+            _ => self.feed_bbox(event),
+        }
+    }
+}
+
+impl EventSink for Rules {
+    ghost use Rattle.gj_rules.specs.Rules.{StandsFor};
+
+    ghost heard = { λ rules events. StandsFor rules events };
+
+    fn tell(&mut self, event: Event) {
+        if self.is_feeding() {
+            self.feed(event);
+        } else {
+            self.take(event);
+            self.renew();
+        }
+    }
+}

@@ -1,0 +1,137 @@
+//! What an event does that goes to no summary.
+ghost use Rattle.std.specs.Prelude.{◌≡◌, ◌<◌, length};
+
+use super::{MOST_AROUND, Rules};
+use crate::frame::Frame;
+use crate::mode::Mode;
+use crate::opening::{levels_in, opening_fault, word_in};
+use crate::role::Role;
+use gj_coords::{Fault, Rule};
+use gj_json::{Known, What};
+
+impl Rules {
+    ghost use Rattle.gj_rules.specs.Frame.{settled};
+    ghost use Rattle.gj_rules.specs.Step.{skip, pushed, popped, root_step, names_step, due_step, begun, element_step};
+    ghost use Rattle.gj_rules.specs.Kept.{core_of, HasRoom};
+
+    /// An object with a role opens. A text of at most 64 levels has at most 33 of them open at once.
+    fn push(&mut self, role: Role, place: u64)
+        ensures { length self.old.outer.items < MOST_AROUND → core_of self.new ≡ pushed role place (core_of self.old) }
+    {
+        if !self.outer.is_full() {
+            self.outer.push(self.top);
+        }
+        self.top = Frame::new(role, place);
+        self.mode = Mode::Names;
+    }
+
+    /// The innermost object with a role closes.
+    fn pop(&mut self)
+        ensures { core_of self.new ≡ popped (core_of self.old).outer self.old.top.role (settled self.old.top) (core_of self.old) }
+    {
+        let role = self.top.role;
+        let fault = self.top.settle();
+        match self.outer.pop() {
+            Some(parent) => {
+                self.top = parent;
+                self.top.join(role.member(), fault);
+                self.mode = Mode::behind(role);
+            }
+            None => {
+                self.mode = Mode::Done;
+                self.answer = fault;
+            }
+        }
+    }
+
+    /// The value of the text begins, or a byte order mark stands before it.
+    pub(super) fn root(&mut self, what: What, place: u64)
+        ensures { core_of self.new ≡ root_step what place (core_of self.old) }
+    {
+        match what {
+            What::Mark => {}
+            What::OpenObject => {
+                self.mode = Mode::Names;
+                self.top = Frame::new(Role::Root, place);
+            }
+            _ => {
+                self.mode = Mode::Done;
+                self.skipped = levels_in(&what);
+                self.answer = Some(Fault {
+                    place,
+                    rule: Rule::G1,
+                });
+            }
+        }
+    }
+
+    /// A name, or the end of the object.
+    pub(super) fn names(&mut self, what: What, place: u64)
+        ensures { core_of self.new ≡ names_step what place (core_of self.old) }
+    {
+        match what {
+            What::Name(name) => {
+                let due = self.top.name(name, place);
+                self.mode = Mode::Due(due);
+            }
+            _ => self.pop(),
+        }
+    }
+
+    /// A value begins that holds no value with a role.
+    fn begin(&mut self, name: Known, what: What, place: u64)
+        ensures { core_of self.new ≡ begun name what place (core_of self.old) }
+    {
+        self.mode = Mode::Names;
+        self.skipped = levels_in(&what);
+        let word = word_in(&what);
+        let fault = opening_fault(name, &what, place);
+        match name {
+            Known::TypeName => self.top.set_type(place, word),
+            _ => self.top.join(name, fault),
+        }
+    }
+
+    /// The value of a first member begins.
+    pub(super) fn value(&mut self, name: Known, what: What, place: u64)
+        ensures { HasRoom what self.old.outer.items → core_of self.new ≡ due_step name what place (core_of self.old) }
+    {
+        match (name, what) {
+            (Known::Geometry, What::OpenObject) => self.push(Role::Geometry, place),
+            (Known::Geometries, What::OpenArray) => self.mode = Mode::Elements(Role::Part),
+            (Known::Features, What::OpenArray) => self.mode = Mode::Elements(Role::Feature),
+            _ => self.begin(name, what, place),
+        }
+    }
+
+    /// An element of an array of values with this role begins, or the array ends.
+    pub(super) fn element(&mut self, role: Role, what: What, place: u64)
+        ensures { HasRoom what self.old.outer.items → core_of self.new ≡ element_step role what place (core_of self.old) }
+    {
+        match what {
+            What::OpenObject => self.push(role, place),
+            What::CloseArray => self.mode = Mode::Names,
+            _ => {
+                self.skipped = levels_in(&what);
+                self.top.join(
+                    role.member(),
+                    Some(Fault {
+                        place,
+                        rule: Rule::G1,
+                    }),
+                );
+            }
+        }
+    }
+
+    /// A part of a value that is not looked into.
+    pub(super) fn skip(&mut self, what: What)
+        ensures { self.old.skipped < 255 → core_of self.new ≡ record (core_of self.old) { skipped = skip what self.old.skipped } }
+    {
+        match what {
+            What::OpenObject | What::OpenArray => self.skipped = self.skipped.saturating_add(1),
+            What::CloseObject | What::CloseArray => self.skipped = self.skipped.saturating_sub(1),
+            _ => {}
+        }
+    }
+}

@@ -1,0 +1,28 @@
+ghost use Rattle.std.specs.Prelude.{◌≡◌, ℕ, List};
+ghost use Rattle.gj_json.specs.Limits.{Allowed};
+
+use gj_coords::Fault;
+use gj_json::{JsonFault, one_refusal, one_text};
+
+/// What an input is, as a whole.
+#[derive(Clone, Copy, Debug, PartialEq, Eq)]
+pub enum Verdict {
+    /// A GeoJSON text (RFC 7946).
+    Valid,
+    /// A JSON text that breaks a rule: the broken rule of the least place in the whole text.
+    Broken(Fault),
+    /// No JSON text within the limits: where and why it is refused. It comes before every rule.
+    NotJson(JsonFault),
+}
+
+ghost use Rattle.gj_rules.specs.Verdict.{IsVerdict};
+
+/// Under any limits each input has one verdict, and no other. It does nothing: its contract is a law
+/// of the definitions.
+pub fn one_verdict()
+    ensures some { (limits : Allowed) (bytes : List ℕ) → (verdict : Verdict) × IsVerdict limits bytes verdict }
+    ensures one { (limits : Allowed) (bytes : List ℕ) (first second : Verdict) → IsVerdict limits bytes first → IsVerdict limits bytes second → first ≡ second }
+{
+    one_text();
+    one_refusal();
+}
