@@ -65,6 +65,7 @@ other_known xs h = rw (
   no_word xs (codes "features") refl refl h,
   no_word xs (codes "bbox") refl refl h,
   no_word xs (codes "id") refl refl h,
+  no_word xs (codes "crs") refl refl h,
 ) refl
 
 other_word : (xs : List ℕ) → IsOther xs → word_of xs ≡ Word.Other

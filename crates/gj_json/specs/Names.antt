@@ -1,5 +1,6 @@
--- Which names and types RFC 7946 gives a meaning (sections 1.4 and 3 to 6). They are compared by their characters, and
--- the letters are ASCII: a content that holds anything else is none of them.
+-- Which names and types RFC 7946 gives a meaning (sections 1.4 and 3 to 6), and the name `crs`, which it has given up
+-- (section 4). They are compared by their characters, and the letters are ASCII: a content that holds anything else is
+-- none of them.
 use Rattle.std.specs.Prelude.{ℕ, if◌then◌else◌, List, codes}
 use Rattle.std.specs.Str.{bytes_eq}
 use Rattle.gj_json.specs.declared.names.Known.{Known}
@@ -14,7 +15,8 @@ known_of content =
     if bytes_eq content (codes "properties") then Known.Properties else
     if bytes_eq content (codes "features") then Known.Features else
     if bytes_eq content (codes "bbox") then Known.Bbox else
-    if bytes_eq content (codes "id") then Known.Id else Known.Other
+    if bytes_eq content (codes "id") then Known.Id else
+    if bytes_eq content (codes "crs") then Known.Crs else Known.Other
 
 unfoldable pub word_of : List ℕ → Word
 word_of content =

@@ -1,9 +1,10 @@
-//! The names and the types that RFC 7946 gives a meaning.
+//! The names and the types that RFC 7946 gives a meaning, and `crs`.
 
 ghost use Rattle.std.specs.Prelude.{◌≡◌};
 ghost use Rattle.gj_json.specs.Names.{known_of, word_of};
 
-/// The names of members that RFC 7946 gives a meaning (sections 3 to 6), and all others.
+/// The names of members that RFC 7946 gives a meaning (sections 3 to 6), `crs`, to which an earlier form of GeoJSON gave
+/// one (section 4), and all others.
 #[derive(Clone, Copy, Debug, Default, PartialEq, Eq)]
 pub enum Known {
     /// The name `type`.
@@ -15,6 +16,7 @@ pub enum Known {
     Features,
     Bbox,
     Id,
+    Crs,
     #[default]
     Other,
 }
@@ -56,6 +58,8 @@ pub fn name_of(letters: &[u8]) -> Known
         Known::Bbox
     } else if letters == b"id".as_slice() {
         Known::Id
+    } else if letters == b"crs".as_slice() {
+        Known::Crs
     } else {
         Known::Other
     }

@@ -5,7 +5,7 @@ use Rattle.std.proofs.lemmas.Bool.Decides.{nat_tests}
 use Rattle.gj_json.specs.declared.constant.Constant.TheVariants.{Null, True, False}
 use Rattle.gj_json.specs.declared.event.Event.{Event}
 use Rattle.gj_json.specs.declared.names.Known.{Known}
-use Rattle.gj_json.specs.declared.names.Known.TheVariants.{Coordinates, Geometries, Geometry, Features, Bbox, Other}
+use Rattle.gj_json.specs.declared.names.Known.TheVariants.{Coordinates, Geometries, Geometry, Features, Bbox, Crs, Other}
 use Rattle.gj_json.specs.declared.event.What.TheVariants as What
 use Rattle.gj_json.specs.Events.{value_events, by}
 use Rattle.gj_json.specs.Text.{IsText}
@@ -223,6 +223,7 @@ due_counted Geometries _ None false g gs fs h = refl
 due_counted Features Role.Root None false g gs fs h = refl
 due_counted Features _ None false g gs fs h = refl
 due_counted Other r slot b g gs fs h = refl
+due_counted Crs r slot b g gs fs h = refl
 due_counted _ r (Some s) b g gs fs h = refl
 due_counted _ Role.Root None b g gs fs h = refl
 due_counted _ _ None b g gs fs h = refl

@@ -1,7 +1,7 @@
 -- What one member does to a frame.
 use Rattle.std.proofs.Common.{◌≡◌, ℕ, Bool, true, false, if◌then◌else◌, Option, Some, None, refl, ◌∙◌}
 use Rattle.gj_json.specs.declared.names.Known.{Known}
-use Rattle.gj_json.specs.declared.names.Known.TheVariants.{TypeName, Coordinates, Geometries, Geometry, Properties, Features, Bbox, Id, Other}
+use Rattle.gj_json.specs.declared.names.Known.TheVariants.{TypeName, Coordinates, Geometries, Geometry, Properties, Features, Bbox, Id, Crs, Other}
 use Rattle.gj_coords.specs.declared.fault.Fault.{Fault}
 use Rattle.gj_coords.specs.declared.fault.Rule.TheVariants.{G10}
 use Rattle.gj_rules.specs.declared.role.Role.{Role}
@@ -27,10 +27,12 @@ same_is Features Features e = refl
 same_is Bbox Bbox e = refl
 same_is Id Id e = refl
 same_is Other Other e = refl
+same_is Crs Crs e = refl
 same_is _ _ e = cc
 
 other_same : (n : Known) → is_known n ≡ true → same n Other ≡ false
 other_same Other k = cc
+other_same Crs k = cc
 other_same _ k = refl
 
 -- ---- slots of other names
@@ -72,6 +74,7 @@ filled_other n Features v f e = joined_other n Features (least (judge Features v
 filled_other n Bbox v f e = joined_other n Bbox (least (judge Bbox v)) f.bbox f e
 filled_other n Id v f e = joined_other n Id (least (judge Id v)) f.id f e
 filled_other n Other v f e = refl
+filled_other n Crs v f e = refl
 
 named_other : (n m : Known) (place : ℕ) (f : Frame) (k : Bool) (o : Option Slot) → same n m ≡ false → slot_of n (if k then named_known m place o f else f) ≡ slot_of n f
 named_other n m place f true (Some slot) e = repeated_kept n (lesser f.repeated (Some (fault_at place G10))) f
@@ -101,6 +104,7 @@ slot_from used (Some first) = Some (record { name_at = first.name_at; fault = if
 
 filled_own : (m : Known) (place : ℕ) (v : Tree) (f : Frame) → is_known m ≡ true → slot_of m (filled m v (with_slot m (record { name_at = place; fault = None }) f)) ≡ Some (record { name_at = place; fault = least (judge m v) })
 filled_own Other place v f k = cc
+filled_own Crs place v f k = cc
 filled_own _ place v f k = refl
 
 own_slot : (m : Known) (place : ℕ) (v : Tree) (f : Frame) (u : Bool) (o : Option Slot) → uses f.role m ≡ u → slot_of m f ≡ o → is_known m ≡ true

@@ -1,7 +1,7 @@
 -- What all members do to a frame.
 use Rattle.std.proofs.Common.{◌≡◌, ℕ, Bool, true, false, if◌then◌else◌, List, ◌∷◌, Option, Some, None, is_some, refl, sym, ap, subst, ◌∙◌}
 use Rattle.gj_json.specs.declared.names.Known.{Known}
-use Rattle.gj_json.specs.declared.names.Known.TheVariants.{TypeName, Coordinates, Geometries, Geometry, Properties, Features, Bbox, Id, Other}
+use Rattle.gj_json.specs.declared.names.Known.TheVariants.{TypeName, Coordinates, Geometries, Geometry, Properties, Features, Bbox, Id, Crs, Other}
 use Rattle.gj_coords.specs.declared.fault.Fault.{Fault}
 use Rattle.gj_rules.specs.declared.role.Role.{Role}
 use Rattle.gj_rules.specs.declared.frame.Slot.{Slot}
@@ -37,6 +37,7 @@ joined_object m x (Some slot) f = with_slot_object m (record { name_at = slot.na
 pub filled_object : (m : Known) (v : Tree) (f : Frame) → IsSameObject f (filled m v f)
 filled_object TypeName v f = record { place = refl; role = refl }
 filled_object Other v f = record { place = refl; role = refl }
+filled_object Crs v f = record { place = refl; role = refl }
 filled_object Coordinates v f = record { place = refl; role = refl }
 filled_object Geometries v f = joined_object Geometries (least (judge Geometries v)) f.geometries f
 filled_object Geometry v f = joined_object Geometry (least (judge Geometry v)) f.geometry f
@@ -105,6 +106,7 @@ joined_type m x (Some slot) f = with_slot_type m (record { name_at = slot.name_a
 filled_type : (m : Known) (v : Tree) (f : Frame) → same TypeName m ≡ false → (filled m v f).type_value ≡ f.type_value
 filled_type TypeName v f e = cc
 filled_type Other v f e = refl
+filled_type Crs v f e = refl
 filled_type Coordinates v f e = refl
 filled_type Geometries v f e = joined_type Geometries (least (judge Geometries v)) f.geometries f
 filled_type Geometry v f e = joined_type Geometry (least (judge Geometry v)) f.geometry f
@@ -172,6 +174,7 @@ filled_shapes : (m : Known) (v : Tree) (f : Frame) → same Coordinates m ≡ fa
 filled_shapes Coordinates v f e = cc
 filled_shapes TypeName v f e = refl
 filled_shapes Other v f e = refl
+filled_shapes Crs v f e = refl
 filled_shapes Geometries v f e = joined_shapes Geometries (least (judge Geometries v)) f.geometries f
 filled_shapes Geometry v f e = joined_shapes Geometry (least (judge Geometry v)) f.geometry f
 filled_shapes Properties v f e = joined_shapes Properties (least (judge Properties v)) f.properties f
@@ -233,6 +236,7 @@ joined_repeated m x (Some slot) f = with_slot_repeated m (record { name_at = slo
 filled_repeated : (m : Known) (v : Tree) (f : Frame) → (filled m v f).repeated ≡ f.repeated
 filled_repeated TypeName v f = refl
 filled_repeated Other v f = refl
+filled_repeated Crs v f = refl
 filled_repeated Coordinates v f = refl
 filled_repeated Geometries v f = joined_repeated Geometries (least (judge Geometries v)) f.geometries f
 filled_repeated Geometry v f = joined_repeated Geometry (least (judge Geometry v)) f.geometry f

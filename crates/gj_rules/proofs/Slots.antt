@@ -1,7 +1,7 @@
 -- The slots of a frame.
 use Rattle.std.proofs.Common.{◌≡◌, true, Option, Some, None, refl, sym, ap, ◌∙◌}
 use Rattle.gj_json.specs.declared.names.Known.{Known}
-use Rattle.gj_json.specs.declared.names.Known.TheVariants.{TypeName, Coordinates, Geometries, Geometry, Properties, Features, Bbox, Id, Other}
+use Rattle.gj_json.specs.declared.names.Known.TheVariants.{TypeName, Coordinates, Geometries, Geometry, Properties, Features, Bbox, Id, Crs, Other}
 use Rattle.gj_coords.specs.declared.fault.Fault.{Fault}
 use Rattle.gj_rules.specs.declared.frame.Slot.{Slot}
 use Rattle.gj_rules.specs.declared.frame.Frame.{Frame}
@@ -21,6 +21,7 @@ with_slot-same Features slot f e = ap (λ (x : Option Slot). record f { features
 with_slot-same Bbox slot f e = ap (λ (x : Option Slot). record f { bbox = x }) (sym e)
 with_slot-same Id slot f e = ap (λ (x : Option Slot). record f { id = x }) (sym e)
 with_slot-same Other slot f e = refl
+with_slot-same Crs slot f e = refl
 
 pub with_slot-twice : (name : Known) (s t : Slot) (f : Frame) → with_slot name t (with_slot name s f) ≡ with_slot name t f
 with_slot-twice TypeName s t f = refl
@@ -28,6 +29,7 @@ with_slot-twice _ s t f = refl
 
 pub slot_of-with : (name : Known) (s : Slot) (f : Frame) → is_known name ≡ true → slot_of name (with_slot name s f) ≡ Some s
 slot_of-with Other s f e = cc
+slot_of-with Crs s f e = cc
 slot_of-with _ s f e = refl
 
 -- no other fault changes nothing

@@ -1,7 +1,7 @@
 -- Internal: what the calls of a frame do to its fields.
 use Rattle.std.specs.Prelude.{ℕ, Bool, true, false, if◌then◌else◌, Option, Some, None}
 use Rattle.gj_json.specs.declared.names.Known.{Known}
-use Rattle.gj_json.specs.declared.names.Known.TheVariants.{TypeName, Coordinates, Geometries, Geometry, Properties, Features, Bbox, Id, Other}
+use Rattle.gj_json.specs.declared.names.Known.TheVariants.{TypeName, Coordinates, Geometries, Geometry, Properties, Features, Bbox, Id, Crs, Other}
 use Rattle.gj_json.specs.declared.names.Word.{Word}
 use Rattle.gj_json.specs.Tree.{Tree, Members, end_of_object, member}
 use Rattle.gj_json.specs.Names.{known_of}
@@ -50,6 +50,7 @@ slot_of Features frame = frame.features
 slot_of Bbox frame = frame.bbox
 slot_of Id frame = frame.id
 slot_of Other frame = None
+slot_of Crs frame = None
 
 abbrev pub with_slot : Known → Slot → Frame → Frame
 with_slot TypeName slot frame = record frame { type_name = Some slot }
@@ -61,6 +62,7 @@ with_slot Features slot frame = record frame { features = Some slot }
 with_slot Bbox slot frame = record frame { bbox = Some slot }
 with_slot Id slot frame = record frame { id = Some slot }
 with_slot Other slot frame = frame
+with_slot Crs slot frame = frame
 
 abbrev pub joined_to : Known → Option Fault → Option Slot → Frame → Frame
 joined_to name fault None frame = frame

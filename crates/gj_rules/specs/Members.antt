@@ -2,7 +2,7 @@
 -- (RFC 7946, sections 3 to 3.3 and 5).
 use Rattle.std.specs.Prelude.{ℕ, Bool, true, false, if◌then◌else◌, List, [], ◌∷◌, ◌++◌, Option, Some, None}
 use Rattle.gj_json.specs.declared.names.Known.{Known}
-use Rattle.gj_json.specs.declared.names.Known.TheVariants.{TypeName, Coordinates, Geometries, Geometry, Properties, Features, Bbox, Id, Other}
+use Rattle.gj_json.specs.declared.names.Known.TheVariants.{TypeName, Coordinates, Geometries, Geometry, Properties, Features, Bbox, Id, Crs, Other}
 use Rattle.gj_json.specs.declared.names.Word.{Word}
 use Rattle.gj_json.specs.Names.{known_of, word_of}
 use Rattle.gj_json.specs.Tree.{Tree, string, Members, end_of_object, member}
@@ -26,6 +26,7 @@ one place rule = fault_at place rule ∷ []
 -- the names that the rules know
 abbrev pub is_known : Known → Bool
 is_known Other = false
+is_known Crs = false
 is_known _ = true
 
 abbrev pub same : Known → Known → Bool
@@ -38,6 +39,7 @@ same Features Features = true
 same Bbox Bbox = true
 same Id Id = true
 same Other Other = true
+same Crs Crs = true
 same _ _ = false
 
 -- whether the name is among these

@@ -84,7 +84,7 @@ impl Frame {
             Known::Features => self.features,
             Known::Bbox => self.bbox,
             Known::Id => self.id,
-            Known::Other => None,
+            Known::Crs | Known::Other => None,
         }
     }
 
@@ -100,7 +100,7 @@ impl Frame {
             Known::Features => self.features = Some(slot),
             Known::Bbox => self.bbox = Some(slot),
             Known::Id => self.id = Some(slot),
-            Known::Other => {}
+            Known::Crs | Known::Other => {}
         }
     }
 
@@ -138,7 +138,7 @@ impl Frame {
         ensures due { result ≡ due_after name self.old }
     {
         match name {
-            Known::Other => Known::Other,
+            Known::Crs | Known::Other => Known::Other,
             _ => match self.slot(name) {
                 Some(_) => self.repeated_name(place),
                 None => self.first_name(name, place),

@@ -364,7 +364,7 @@ fn first_word(sink: &FirstEvents) -> Option<Word> {
 
 #[test]
 fn names_are_known(rt: HostRuntime) {
-    let rows: [(&[u8], Known); 16] = [
+    let rows: [(&[u8], Known); 17] = [
         (b"{\"type\":1}", Known::TypeName),
         (b"{\"coordinates\":1}", Known::Coordinates),
         (b"{\"geometries\":1}", Known::Geometries),
@@ -373,6 +373,7 @@ fn names_are_known(rt: HostRuntime) {
         (b"{\"features\":1}", Known::Features),
         (b"{\"bbox\":1}", Known::Bbox),
         (b"{\"id\":1}", Known::Id),
+        (b"{\"crs\":1}", Known::Crs),
         (b"{\"\\u0074ype\":1}", Known::TypeName),
         (b"{\"t\\u0079pe\":1}", Known::TypeName),
         (b"{\"Type\":1}", Known::Other),

@@ -75,6 +75,10 @@ fn texts_without_a_fault(rt: HostRuntime) {
             "crs",
         ),
         (
+            "{\"crs\":1,\"crs\":2,\"type\":\"Point\",\"coordinates\":[1,2]}",
+            "crs twice",
+        ),
+        (
             "{\"type\":\"Feature\",\"geometry\":null,\"properties\":{\"geometry\":7,\"type\":1,\"type\":2}}",
             "properties unjudged",
         ),
