@@ -6,3 +6,6 @@ pub mod CoordinatesLaws
 pub mod BboxLaws
 pub mod LeastIs
 pub mod Agreeing
+pub mod WarningExamples
+pub mod WarningsStand
+pub mod WindingExamples

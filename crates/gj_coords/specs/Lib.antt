@@ -1,4 +1,5 @@
 pub mod Fault
+pub mod Warnings
 pub mod Items
 pub mod Ring
 pub mod Shape
@@ -26,3 +27,9 @@ pub mod BoxGather
 pub mod Whole
 pub mod WholeLaws
 pub mod SixLaws
+pub mod Noted
+pub mod NotedLaws
+pub mod WarningLaws
+pub mod Winding
+pub mod WindingGather
+pub mod WindingLaws

@@ -115,7 +115,7 @@ value_head (array place es close) = refl
 value_head (object place ms close) = refl
 
 -- the record of at most three values
-abbrev values_from : List (Option Exact) → Values
+abbrev pub values_from : List (Option Exact) → Values
 values_from [] = no_values
 values_from (a ∷ []) = record { count = 1; first = a; second = None; third = None }
 values_from (a ∷ b ∷ []) = record { count = 2; first = a; second = b; third = None }
@@ -141,7 +141,7 @@ gathered_values (u ∷ v ∷ w ∷ more) place =
     (ap (λ b. values_from (exact_value u ∷ b ∷ value_in (head w).what ∷ [])) (value_head v) ∙
     ap (λ c. values_from (exact_value u ∷ exact_value v ∷ c ∷ [])) (value_head w)))
 
-position_values : (v : Tree) → (position_answer v).values ≡ values_from (first_values v)
+pub position_values : (v : Tree) → (position_answer v).values ≡ values_from (first_values v)
 position_values (constant which place) = refl
 position_values (number place literal end) = refl
 position_values (string place content end) = refl

@@ -5,6 +5,9 @@ ghost use Rattle.gj_json.specs.Tree.{Tree};
 ghost use Rattle.gj_coords.specs.declared.fault.Fault.{Fault};
 ghost use Rattle.gj_coords.specs.Fault.{comes_first, lesser, least};
 ghost use Rattle.gj_coords.specs.Ring.{agree, first_values};
+ghost use Rattle.gj_coords.specs.declared.warnings.Warnings.{Warnings};
+ghost use Rattle.gj_coords.specs.Warnings.{Warning};
+ghost use Rattle.gj_coords.specs.Noted.{warnings_of, no_warnings, joined};
 
 /// The least of some faults is one of them, and comes before each of them or is the same. It can be
 /// taken in any grouping.
@@ -21,4 +24,14 @@ pub fn least_fault()
 /// Two positions agree exactly where their first numbers have the same exact values, and are as many.
 pub fn positions_agree()
     ensures { (a b : Tree) → IsTrue (agree a b) ↔ (first_values a ≡ first_values b) }
+{}
+
+/// Warnings can be joined in any grouping and order, and none of them change nothing. What is kept of two lists, one
+/// behind the other, is what is kept of each, joined.
+pub fn joined_warnings()
+    ensures none_first { (a : Warnings) → joined no_warnings a ≡ a }
+    ensures none_last { (a : Warnings) → joined a no_warnings ≡ a }
+    ensures grouping { (a b c : Warnings) → joined (joined a b) c ≡ joined a (joined b c) }
+    ensures order { (a b : Warnings) → joined a b ≡ joined b a }
+    ensures append { (warnings others : List Warning) → warnings_of (warnings ++ others) ≡ joined (warnings_of warnings) (warnings_of others) }
 {}

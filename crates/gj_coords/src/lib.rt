@@ -11,7 +11,9 @@ mod coordinates;
 mod element;
 mod fault;
 mod first_level;
+mod kind;
 pub mod laws;
+mod noted;
 mod part;
 mod position;
 mod ring;
@@ -23,13 +25,17 @@ mod simple;
 mod tally;
 mod third_level;
 mod walk;
+mod warnings;
 mod watcher;
 mod whole;
+mod winding;
 
 pub use bbox::Bbox;
 pub use coordinates::Coordinates;
 pub use fault::{Fault, Rule, lesser_fault};
+pub use kind::Kind;
 pub use simple::Simple;
+pub use warnings::Warnings;
 pub use watcher::{
     LineStringWatcher, MultiLineStringWatcher, MultiPointWatcher, MultiPolygonWatcher,
     PointWatcher, PolygonWatcher, Watcher,

@@ -1,0 +1,45 @@
+//! The kinds of warning.
+ghost use Rattle.std.specs.Prelude.{◌≡◌};
+ghost use Rattle.gj_coords.specs.Warnings.{kind_number};
+
+/// What a warning is given for.
+#[derive(Clone, Copy, Debug, PartialEq, Eq)]
+pub enum Kind {
+    /// A byte order mark (RFC 8259, section 8.1).
+    W1,
+    /// A ring that runs the wrong way (RFC 7946, section 3.1.6).
+    W2,
+    /// A position of more than three numbers (3.1.1).
+    W3,
+    /// A number with more than seven decimal places, among the first three of a position (11.2).
+    W4,
+    /// A position out of range (4).
+    W5,
+    /// An empty `coordinates` array (3.1).
+    W6,
+    /// A GeometryCollection that is an element of the `geometries` of another (3.1.8).
+    W7,
+    /// A bounding box whose south is above its north (5).
+    W8,
+    /// A member `crs` (4).
+    W9,
+}
+
+impl Kind {
+    /// The number in the kind's name.
+    pub fn number(self) -> u8
+        ensures { result ≡ kind_number self }
+    {
+        match self {
+            Kind::W1 => 1,
+            Kind::W2 => 2,
+            Kind::W3 => 3,
+            Kind::W4 => 4,
+            Kind::W5 => 5,
+            Kind::W6 => 6,
+            Kind::W7 => 7,
+            Kind::W8 => 8,
+            Kind::W9 => 9,
+        }
+    }
+}

@@ -1,0 +1,50 @@
+//! What is kept of the warnings of one kind.
+ghost use Rattle.std.specs.Prelude.{◌≡◌};
+ghost use Rattle.gj_coords.specs.Noted.{noted_as, is_nothing, joined_noted};
+
+/// How many warnings of one kind there are, and where the first stands.
+#[derive(Clone, Copy)]
+pub struct Noted {
+    /// How many there are. It stays at the greatest.
+    pub count: u32,
+    /// The least place, which is 0 where there are none.
+    pub first: u64,
+}
+
+impl Noted {
+    /// What is kept of one warning.
+    #[inline]
+    pub fn one(place: u64) -> Noted
+        ensures { result ≡ noted_as 1 place }
+    {
+        Noted {
+            count: 1,
+            first: place,
+        }
+    }
+
+    /// Whether it is what is kept of no warning. Both are tested, so that nothing joined to any value leaves it as it is.
+    #[inline]
+    fn is_nothing(&self) -> bool
+        ensures { result ≡ is_nothing self.now }
+    {
+        self.count == 0 && self.first == 0
+    }
+
+    /// Counts are added, and the lesser place is kept.
+    #[inline]
+    pub fn join(self, other: Noted) -> Noted
+        ensures { result ≡ joined_noted self other }
+    {
+        if self.is_nothing() {
+            other
+        } else if other.is_nothing() {
+            self
+        } else {
+            Noted {
+                count: self.count.saturating_add(other.count),
+                first: self.first.min(other.first),
+            }
+        }
+    }
+}

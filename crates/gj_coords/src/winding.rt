@@ -1,0 +1,210 @@
+//! How a linear ring runs (RFC 7946, section 3.1.6).
+#[cfg(test)]
+mod tests;
+
+ghost use Rattle.std.specs.Prelude.{◌≡◌, ◌+ℤ◌, ◌-ℤ◌, ◌*ℤ◌};
+ghost use Rattle.std.specs.Int.{int_wrap, w128};
+ghost use Rattle.gj_coords.specs.Winding.{bounded, bounded_cut, cut_value, both, sign_of};
+
+use gj_number::Decimal;
+
+/// 180 degrees as a cut number.
+const MOST_LONGITUDE: i32 = 1_800_000_000;
+
+/// 90 degrees as a cut number.
+const MOST_LATITUDE: i32 = 900_000_000;
+
+/// The longitude and the latitude of a position that is in range, as cut numbers.
+#[derive(Clone, Copy, Debug, PartialEq, Eq)]
+pub struct Corner {
+    pub x: i32,
+    pub y: i32,
+}
+
+/// How a ring runs.
+#[derive(Clone, Copy, Debug, PartialEq, Eq)]
+pub enum Turn {
+    /// Counterclockwise.
+    Left,
+    /// Clockwise.
+    Right,
+    /// Around no area.
+    Straight,
+    /// Some position is out of range.
+    Unjudged,
+}
+
+/// Takes the corners of a ring in turn, and tells how it runs. It holds one fixed record, whatever their number.
+#[derive(Clone, Copy)]
+pub struct Winding {
+    /// The sum of the terms so far, in 128 bits.
+    area: i128,
+    last: Option<Corner>,
+    /// Whether some position was out of range.
+    unjudged: bool,
+}
+
+impl Corner {
+    ghost use Rattle.std.specs.Prelude.{◌≡◌};
+    ghost use Rattle.gj_coords.specs.Winding.{corner_of, cross};
+
+    /// The corner of a longitude and a latitude, where both are in range.
+    pub fn new(longitude: &Option<Decimal>, latitude: &Option<Decimal>) -> Option<Corner>
+        ensures { result ≡ corner_of longitude.now latitude.now }
+    {
+        join(
+            bounded_cut(longitude, MOST_LONGITUDE),
+            bounded_cut(latitude, MOST_LATITUDE),
+        )
+    }
+
+    /// The term of the area for the way from this corner to the next.
+    fn cross(&self, next: &Corner) -> i128
+        ensures { result ≡ cross self.now next.now }
+    {
+        difference(product(self.x, next.y), product(next.x, self.y))
+    }
+}
+
+/// The cut number of a number, where it is at most so far from zero.
+fn bounded_cut(number: &Option<Decimal>, most: i32) -> Option<i32>
+    ensures { result ≡ bounded_cut most (cut_value number.now) }
+{
+    match number {
+        Some(decimal) => match decimal.cut() {
+            Some(cut) => within(cut, most),
+            None => None,
+        },
+        None => None,
+    }
+}
+
+/// The number, where it is at most so far from zero.
+fn within(number: i64, most: i32) -> Option<i32>
+    ensures { result ≡ bounded most number }
+{
+    let most = i64::from(most);
+    if -most <= number && number <= most {
+        Some(number as i32)
+    } else {
+        None
+    }
+}
+
+fn join(x: Option<i32>, y: Option<i32>) -> Option<Corner>
+    ensures { result ≡ both x y }
+{
+    match (x, y) {
+        (Some(x), Some(y)) => Some(Corner { x, y }),
+        _ => None,
+    }
+}
+
+fn product(x: i32, y: i32) -> i64
+    ensures { result ≡ x *ℤ y }
+{
+    i64::from(x) * i64::from(y)
+}
+
+fn difference(from: i64, taken: i64) -> i128
+    ensures { result ≡ from -ℤ taken }
+{
+    i128::from(from) - i128::from(taken)
+}
+
+fn wrapped_sum(area: i128, term: i128) -> i128
+    ensures { result ≡ int_wrap w128 (area +ℤ term) }
+{
+    area.wrapping_add(term)
+}
+
+fn sign(area: i128) -> Turn
+    ensures { result ≡ sign_of area }
+{
+    if area < 0 {
+        Turn::Right
+    } else if area > 0 {
+        Turn::Left
+    } else {
+        Turn::Straight
+    }
+}
+
+impl Turn {
+    ghost use Rattle.std.specs.Prelude.{◌≡◌};
+    ghost use Rattle.gj_coords.specs.Winding.{wrong_for_exterior, wrong_for_hole};
+
+    /// Whether an exterior ring that runs so runs the wrong way.
+    pub fn wrong_for_exterior(&self) -> bool
+        ensures { result ≡ wrong_for_exterior self.now }
+    {
+        *self == Turn::Right
+    }
+
+    /// Whether a hole that runs so runs the wrong way.
+    pub fn wrong_for_hole(&self) -> bool
+        ensures { result ≡ wrong_for_hole self.now }
+    {
+        *self == Turn::Left
+    }
+}
+
+impl Winding {
+    ghost use Rattle.std.specs.Prelude.{◌≡◌, ◌++◌, ◌∷◌, ◌<◌, ◌^◌, List, [], Option, length};
+    ghost use Rattle.gj_coords.specs.declared.winding.Corner.{Corner};
+    ghost use Rattle.gj_coords.specs.Winding.{turn_of, all_corners};
+    ghost use Rattle.gj_coords.specs.WindingGather.{StandsFor, no_winding, term_of, corner_added, winding_added, turn_in};
+
+    /// No position has come.
+    pub fn none() -> Winding
+        ensures value { result ≡ no_winding }
+        ensures stands { StandsFor result [] }
+    {
+        Winding {
+            area: 0,
+            last: None,
+            unjudged: false,
+        }
+    }
+
+    /// One position more: its corner, where it is in range.
+    pub fn add(&mut self, corner: Option<Corner>)
+        ensures added { self.new ≡ winding_added self.old corner }
+        ensures stands { (corners : List (Option Corner)) → StandsFor self.old corners → StandsFor self.new (corners ++ corner ∷ []) }
+    {
+        match corner {
+            Some(corner) => self.add_corner(&corner),
+            None => self.unjudged = true,
+        }
+    }
+
+    fn add_corner(&mut self, corner: &Corner)
+        ensures { self.new ≡ corner_added self.old corner.now }
+    {
+        self.area = wrapped_sum(self.area, self.term(corner));
+        self.last = Some(*corner);
+    }
+
+    /// The term of the area for the way from the last corner to this one.
+    fn term(&self, corner: &Corner) -> i128
+        ensures { result ≡ term_of self.now.last corner.now }
+    {
+        match &self.last {
+            Some(last) => last.cross(corner),
+            None => 0,
+        }
+    }
+
+    /// How the positions run. The sum is exact where they are fewer than 2^64.
+    pub fn turn(&self) -> Turn
+        ensures value { result ≡ turn_in self.now }
+        ensures turn { (corners : List (Option Corner)) → StandsFor self.now corners → length corners < 2 ^ 64 →
+            result ≡ turn_of (all_corners corners) }
+    {
+        if self.unjudged {
+            Turn::Unjudged
+        } else {
+            sign(self.area)
+        }
+    }
+}
