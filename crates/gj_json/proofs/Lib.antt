@@ -1,4 +1,5 @@
 pub mod LevelLemmas
+pub mod Fewer
 pub mod Classes
 pub mod Forms
 pub mod Completes
@@ -39,3 +40,9 @@ pub mod Leads
 pub mod ValueLeads
 pub mod BrokenLeads
 pub mod BrokenOff
+pub mod Steps
+pub mod Trailing
+pub mod Whole
+pub mod Located
+pub mod Locating
+pub mod PathExamples

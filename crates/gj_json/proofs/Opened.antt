@@ -16,7 +16,7 @@ use Rattle.gj_json.specs.Seen.{InTime, IsTimely, stack_timed, leaf_timed, partia
 use Rattle.gj_json.proofs.Completes.{TextFrom, After, AfterName, Due, Completes}
 use Rattle.gj_json.proofs.Times.{Late, later, late, late_elements, late_more_elements, late_members, late_more_members}
 
-front : (n : ℕ) (xs ys : List Timed) → InTime n (xs ++ ys) → InTime n xs × InTime n ys
+pub front : (n : ℕ) (xs ys : List Timed) → InTime n (xs ++ ys) → InTime n xs × InTime n ys
 front n [] ys h = (tt, h)
 front n (x ∷ xs) ys h = let g = front n xs ys h.1 in ((h.0, g.0), g.1)
 

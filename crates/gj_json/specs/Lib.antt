@@ -10,7 +10,9 @@ pub mod Longest
 pub mod Names
 pub mod Events
 pub mod Open
+pub mod Path
 pub mod Reader
+pub mod Locator
 pub mod Levels
 pub mod Classes
 pub mod NumberStates
@@ -23,4 +25,5 @@ pub mod Under
 pub mod Stands
 pub mod Quiet
 pub mod Step
+pub mod Trail
 pub mod Feeding

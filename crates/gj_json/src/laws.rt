@@ -8,8 +8,9 @@ ghost use Rattle.gj_json.specs.Text.{IsText, IsViable, IsViableWithin};
 ghost use Rattle.gj_json.specs.Refusal.{IsRefusal, IsAdmitted};
 ghost use Rattle.gj_json.specs.Longest.{IsLongest, IsToldBy};
 ghost use Rattle.gj_json.specs.Broken.{Broken, SpellsBroken, broken_depth, Extends};
-ghost use Rattle.gj_json.specs.Events.{events_by};
+ghost use Rattle.gj_json.specs.Events.{events_by, value_events};
 ghost use Rattle.gj_json.specs.Open.{open_at};
+ghost use Rattle.gj_json.specs.Path.{path_at};
 ghost use Rattle.gj_json.specs.declared.reader.Reader.{Reader};
 ghost use Rattle.gj_json.specs.Reader.{StandsFor, refusal_of, offset_of};
 
@@ -24,6 +25,12 @@ pub fn same_events()
         → events_by (length bytes) first ≡ events_by (length bytes) second }
     ensures open { (bytes more other : List ℕ) (first second : Text) → IsText first (bytes ++ more) → IsText second (bytes ++ other)
         → open_at (length bytes) first ≡ open_at (length bytes) second }
+{}
+
+/// Texts that begin alike have the same path there.
+pub fn same_path()
+    ensures { (bytes more other : List ℕ) (first second : Text) → IsText first (bytes ++ more) → IsText second (bytes ++ other)
+        → path_at (length bytes) first ≡ path_at (length bytes) second }
 {}
 
 /// A reader took all bytes that it was given, or those before the one that it refused.
@@ -68,4 +75,9 @@ pub fn one_broken()
 /// A text broken off is the left part of every text that goes on from its bytes.
 pub fn left_part()
     ensures { (broken : Broken) (text : Text) (bytes rest : List ℕ) → SpellsBroken broken bytes → IsText text (bytes ++ rest) → Extends broken text }
+{}
+
+/// A text has no more events than bytes.
+pub fn few_events()
+    ensures { (text : Text) (bytes : List ℕ) → IsText text bytes → length (value_events text.value) ≤ length bytes }
 {}

@@ -2,7 +2,8 @@
 //!
 //! The events that it tells are those of the text's tree, in order, each with its place; an input that is no admitted
 //! text is refused at the first byte that cannot stand where it does, with the cause. The grammar stands in
-//! `specs/Grammar.antt`, what is refused in `specs/Refusal.antt`, the events in `specs/Events.antt`.
+//! `specs/Grammar.antt`, what is refused in `specs/Refusal.antt`, the events in `specs/Events.antt`. A `Locator` tells the
+//! path to the value at a place, as `specs/Path.antt` says it.
 #![tactic(auto)]
 
 mod class;
@@ -13,22 +14,27 @@ mod fault;
 pub mod laws;
 mod levels;
 mod limits;
+mod locator;
 mod mode;
 mod moves;
 mod names;
+mod path;
 mod reader;
 mod runs;
 mod sink;
 mod strings;
 mod told;
+mod trail;
 
 pub use event::{Event, What};
 pub use fault::{Cause, JsonFault};
 pub use laws::{
-    broken_off, bytes_taken, left_part, longest_front, one_broken, one_refusal, one_text,
-    same_events, viable_fronts,
+    broken_off, bytes_taken, few_events, left_part, longest_front, one_broken, one_refusal,
+    one_text, same_events, same_path, viable_fronts,
 };
 pub use limits::Limits;
+pub use locator::Locator;
 pub use names::{Known, Word};
+pub use path::{Path, PathStep};
 pub use reader::Reader;
 pub use sink::EventSink;

@@ -152,3 +152,4 @@ mod pieces;
 mod steps;
 #[cfg(test)]
 mod tests;
+mod turns;

@@ -1,0 +1,18 @@
+-- The steps follow a byte that is taken, and stay at one that is refused.
+use Rattle.std.proofs.Common.{refl, ap, arith}
+use Rattle.gj_json.specs.Limits.{Allowed}
+use Rattle.gj_json.specs.Locator.{StandsFor}
+use Rattle.gj_json.proofs.Locating.{trail_on, trail_kept, was_live}
+use Rattle.gj_json.proofs.locator.Locator.push.Goals as goal
+
+pub returns-in-Ok-clause-stands : goal.returns-in-Ok-clause-stands
+unfolding StandsFor
+returns-in-Ok-clause-stands c = λ bytes h.
+    trail_on c.args.self.now (record { trail = c.follow.new.self; reader = c.feed.new.self }) c.args.byte bytes
+    (was_live c.args.self.now.reader.fault c.feed.result tt (λ fault e. (c.feed.ensures.again fault e).2) c.in-Ok.is)
+    c.in-Ok.ensures.refusal h (c.feed.ensures.stands bytes h.0) (omega (arith, c.next_turn-turn.ensures.small, ap (λ (l : Allowed). l.bytes) c.feed.ensures.limits)) (rw (← c.next_turn-turn.ensures.turn) c.follow.ensures)
+
+pub returns-in-Err-clause-stands : goal.returns-in-Err-clause-stands
+unfolding StandsFor
+returns-in-Err-clause-stands c = λ bytes h.
+    trail_kept c.args.self.now (record { trail = c.args.self.now.trail; reader = c.feed.new.self }) c.args.byte bytes c.in-Err.fault c.in-Err.ensures.refusal c.feed.ensures.on (λ first e. (c.feed.ensures.again first e).0) h (c.feed.ensures.stands bytes h.0) refl

@@ -1,0 +1,7 @@
+-- The step that is added stands innermost.
+use Rattle.std.proofs.Common.{rules}
+use Rattle.gj_json.proofs.Steps.{steps_pushed}
+use Rattle.gj_json.proofs.path.Path.open.Goals as goal
+
+pub returns-then-self-lt-MOST_STEPS : goal.returns-then-self-lt-MOST_STEPS
+returns-then-self-lt-MOST_STEPS c = λ h. steps_pushed c.args.self.now.steps c.args.self.now.count _ (search rules)

@@ -1,0 +1,129 @@
+//! The way from the root of a text to one of its values.
+
+ghost use Rattle.std.specs.Prelude.{◌≡◌, ◌≤◌, ◌<◌, ◌^◌, [], ◌∷◌, length, slice_get};
+ghost use Rattle.gj_json.specs.declared.path.PathStep.TheVariants.{Index};
+
+use crate::names::Known;
+use crate::trail::Turn;
+
+const MOST_STEPS: u8 = 64;
+
+/// A step from an array to one of its elements, or from an object to the value of one of its members (RFC 8259, sections 4
+/// and 5).
+#[derive(Clone, Copy, Debug, PartialEq, Eq)]
+pub enum PathStep {
+    /// So many elements stand before it.
+    Index(u64),
+    /// The member has this name.
+    Member(Known),
+}
+
+/// The step to the first element of an array.
+const FIRST: PathStep = PathStep::Index(0);
+
+/// The steps from the root of a text (RFC 8259, section 2) to one of its values, the outermost first, 64 at the most.
+#[derive(Clone, Copy, Debug, PartialEq, Eq)]
+pub struct Path {
+    /// Behind the steps stand first elements, so that equal paths are equal here too.
+    steps: [PathStep; 64],
+    count: u8,
+    ghost few: { count ≤ 64 },
+    ghost room: { count ≤ length steps },
+}
+
+impl Path {
+    ghost use Rattle.gj_json.specs.Path.{steps_of};
+    ghost use Rattle.gj_json.specs.Trail.{inner_steps, outer_steps, inner_step, with_inner, advanced, IsSmall, Fits, followed};
+
+    /// The path to the root.
+    pub(crate) fn new() -> Self
+        ensures { inner_steps result ≡ [] }
+    {
+        Path {
+            steps: [FIRST; 64],
+            count: 0,
+        }
+    }
+
+    /// How many steps it has.
+    pub fn len(&self) -> u16
+        ensures value { result ≡ length (steps_of self.now) }
+        ensures small { result ≤ 64 }
+    {
+        self.count as u16
+    }
+
+    /// The step at `i`, counted from 0 at the root, where it has so many.
+    pub fn step(&self, i: u16) -> Option<PathStep>
+        ensures { result ≡ slice_get (steps_of self.now) i }
+    {
+        if i < self.len() {
+            Some(self.steps[i as usize])
+        } else {
+            None
+        }
+    }
+
+    /// The innermost step.
+    fn inner(&self) -> Option<PathStep>
+        ensures { result ≡ inner_step (inner_steps self.now) }
+    {
+        if self.count == 0 {
+            None
+        } else {
+            Some(self.steps[self.count as usize - 1])
+        }
+    }
+
+    fn set_inner(&mut self, step: PathStep)
+        ensures { inner_steps self.new ≡ with_inner step (inner_steps self.old) }
+    {
+        if self.count > 0 {
+            self.steps[self.count as usize - 1] = step;
+        }
+    }
+
+    /// Adds the first element's step, where there is room.
+    fn open(&mut self)
+        ensures { length (inner_steps self.old) < 64 → inner_steps self.new ≡ Index 0 ∷ inner_steps self.old }
+    {
+        if self.count < MOST_STEPS {
+            self.steps[self.count as usize] = FIRST;
+            self.count += 1;
+        }
+    }
+
+    /// Takes the innermost step away, where there is one.
+    pub(crate) fn close(&mut self)
+        ensures { inner_steps self.new ≡ outer_steps (inner_steps self.old) }
+    {
+        if self.count > 0 {
+            self.count -= 1;
+            self.steps[self.count as usize] = FIRST;
+        }
+    }
+
+    /// Goes on to the next element, where the innermost step is into an array.
+    fn advance(&mut self)
+        ensures { IsSmall (advanced (inner_steps self.old)) → inner_steps self.new ≡ advanced (inner_steps self.old) }
+    {
+        if let Some(PathStep::Index(index)) = self.inner() {
+            if index < u64::MAX {
+                self.set_inner(PathStep::Index(index + 1));
+            }
+        }
+    }
+
+    /// Follows a byte that was taken.
+    pub(crate) fn follow(&mut self, turn: Turn)
+        ensures { Fits (followed turn (inner_steps self.old)) → inner_steps self.new ≡ followed turn (inner_steps self.old) }
+    {
+        match turn {
+            Turn::Stays => {}
+            Turn::Opens => self.open(),
+            Turn::Closes => self.close(),
+            Turn::Advances => self.advance(),
+            Turn::Names(known) => self.set_inner(PathStep::Member(known)),
+        }
+    }
+}
