@@ -2,4 +2,5 @@ pub mod Counts
 pub mod Report
 pub mod Written
 pub mod Judged
+pub mod Located
 pub mod Run

@@ -1,22 +1,28 @@
--- What a run does: it judges what the reader gives, and writes the report of the verdict.
-use Rattle.std.specs.Prelude.{◌≡◌, ℕ, List, length, Option, Result, Ok, Err, ◌+◌, ◌-◌, ◌^◌, ◌<◌}
+-- What a run does: it judges what the reader gives, and writes the report of the verdict, with the path where it is sought.
+use Rattle.std.specs.Prelude.{◌≡◌, ◌⊎◌, ℕ, Bool, ◌&&◌, not, if◌then◌else◌, List, length, Option, None, Result, Ok, Err, ◌+◌, ◌-◌, ◌^◌, ◌<◌}
 use Rattle.std.specs.Io.KnownBytes.{Appends, Consumes, Keeps}
 use Rattle.gj_json.specs.Limits.{Allowed}
+use Rattle.gj_json.specs.declared.path.Path.{Path}
+use Rattle.gj_coords.specs.declared.fault.Fault.{Fault}
+use Rattle.gj_coords.specs.Noted.{none_in}
 use Rattle.geolint.specs.declared.fault.RunFault.{RunFault}
 use Rattle.geolint.specs.declared.fault.RunFault.TheVariants.{Read, Write}
+use Rattle.geolint.specs.declared.options.Options.{Options}
 use Rattle.geolint.specs.declared.options.Outcome.{Outcome}
 use Rattle.geolint.specs.declared.options.Outcome.TheVariants.{Pass, Fail}
 use Rattle.gj_rules.specs.declared.verdict.Verdict.{Verdict}
 use Rattle.gj_rules.specs.declared.verdict.Verdict.TheVariants.{Valid, Broken, NotJson}
 use Rattle.geolint.specs.Counts.{one_more}
 use Rattle.geolint.specs.Judged.{JudgesRead}
+use Rattle.geolint.specs.Located.{Locates}
 use Rattle.geolint.specs.Report.{report}
 use Rattle.geolint.specs.Written.{IsFrontOut}
 
-abbrev pub outcome_of : Verdict → Outcome
-outcome_of Valid = Pass
-outcome_of (Broken fault) = Fail
-outcome_of (NotJson fault) = Fail
+-- a valid text passes; where the run is strict, only one without a warning
+abbrev pub outcome_of : Bool → Verdict → Outcome
+outcome_of strict (Valid warnings) = if strict && not (none_in warnings) then Fail else Pass
+outcome_of strict (Broken fault) = Fail
+outcome_of strict (NotJson fault) = Fail
 
 -- a failed read ends a run, by a read fault
 abbrev pub CountsReadFault : ℕ → ℕ → Result Outcome RunFault → Type 0
@@ -36,11 +42,42 @@ CountsOffset old new (Ok outcome) = Unit {0}
 CountsOffset old new (Err (Read fault)) = new < 2 ^ 64 - 1 → new ≡ old + fault.offset
 CountsOffset old new (Err (Write fault)) = Unit {0}
 
--- `had` and `left` are what the reader has to give before and after, `held` and `holds` what the writer has taken
-abbrev pub Runs : Allowed → Option (List ℕ) → Option (List ℕ) → Option (List ℕ) → Option (List ℕ) → Result Outcome RunFault → Type 0
+-- a read fault of a reader: so many bytes had come
+abbrev pub ReadFaultOf : Option (List ℕ) → Option (List ℕ) → (given now_given : ℕ) → RunFault → Type 0
+ReadFaultOf had left given now_given (Read fault) =
+    ((read : List ℕ) × Consumes had left read × (length read ≡ fault.offset)) × (now_given < 2 ^ 64 - 1 → now_given ≡ given + fault.offset)
+ReadFaultOf had left given now_given (Write fault) = ⊥
+
+-- a write fault of a report: a front of it is out
+abbrev pub WriteFaultOf : Option (List ℕ) → Option (List ℕ) → List ℕ → RunFault → Type 0
+WriteFaultOf held holds bytes (Read fault) = ⊥
+WriteFaultOf held holds bytes (Write fault) = IsFrontOut held holds bytes fault.written
+
+-- The path to what breaks a rule, sought in a second reader: none where a read of it failed. `had` and `left` are what it has
+-- to give before and after, `before` and `after` its counts of failed reads.
+abbrev pub Seeks : Allowed → Option (List ℕ) → Option (List ℕ) → (before after : ℕ) → Option Path → Fault → Type 0
+Seeks limits had left before after path fault = ((after ≡ before) × Locates limits fault.place had left path) ⊎ ((after ≡ one_more before) × (path ≡ None))
+
+-- for another verdict none is sought
+abbrev pub SeeksFor : Verdict → Allowed → Option (List ℕ) → Option (List ℕ) → (before after : ℕ) → Option Path → Type 0
+SeeksFor (Broken fault) limits had left before after path = Seeks limits had left before after path fault
+SeeksFor _ limits had left before after path = path ≡ None
+
+-- `had` and `left` are what the reader has to give before and after, `held` and `holds` what the writer has taken; `Found` says
+-- which path the report of a verdict has
+abbrev pub RunsBy : (Verdict → Option Path → Type 0) → Options → Option (List ℕ) → Option (List ℕ) → Option (List ℕ) → Option (List ℕ)
+    → Result Outcome RunFault → Type 0
 -- the whole report of the verdict went out
-Runs limits had left held holds (Ok outcome) = (verdict : Verdict) × JudgesRead limits had left verdict × Appends held holds (report verdict) × (outcome ≡ outcome_of verdict)
+RunsBy Found options had left held holds (Ok outcome) =
+    (verdict : Verdict) × (path : Option Path) × JudgesRead options.limits had left verdict × Found verdict path
+    × Appends held holds (report verdict path) × (outcome ≡ outcome_of options.strict verdict)
 -- a front of it did
-Runs limits had left held holds (Err (Write fault)) = (verdict : Verdict) × JudgesRead limits had left verdict × IsFrontOut held holds (report verdict) fault.written
+RunsBy Found options had left held holds (Err (Write fault)) =
+    (verdict : Verdict) × (path : Option Path) × JudgesRead options.limits had left verdict × Found verdict path
+    × IsFrontOut held holds (report verdict path) fault.written
 -- so many bytes came, and nothing went out
-Runs limits had left held holds (Err (Read fault)) = (read : List ℕ) × Consumes had left read × (length read ≡ fault.offset) × Keeps held holds
+RunsBy Found options had left held holds (Err (Read fault)) = (read : List ℕ) × Consumes had left read × (length read ≡ fault.offset) × Keeps held holds
+
+-- no path is sought
+abbrev pub Runs : Options → Option (List ℕ) → Option (List ℕ) → Option (List ℕ) → Option (List ℕ) → Result Outcome RunFault → Type 0
+Runs = RunsBy (λ verdict path. path ≡ None)

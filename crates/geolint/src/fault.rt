@@ -27,6 +27,30 @@ pub enum RunFault {
     Write(WriteFault),
 }
 
+/// What keeps the program from a report. Its text is the line for standard error.
+#[derive(Clone, Copy, Debug, PartialEq, Eq, Error)]
+pub enum ProgramFault {
+    /// The words are not words of the command.
+    #[error("{USAGE}")]
+    Usage,
+    /// The file could not be opened.
+    #[error("geolint: cannot open the file")]
+    Open,
+    /// A read failed, and nothing was written.
+    #[error("geolint: {0}")]
+    Read(ReadFault),
+    /// A write failed.
+    #[error("geolint: {0}")]
+    Write(WriteFault),
+    /// Memory was refused.
+    #[error("geolint: out of memory")]
+    Memory,
+}
+
+/// How the program is called.
+pub const USAGE: &str =
+    "usage: geolint (file or stdin) [--strict] [--quick] [--max-bytes N] [PATH]";
+
 #[cfg(test)]
 mod tests {
     use super::*;

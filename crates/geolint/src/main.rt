@@ -8,6 +8,7 @@
 mod failed;
 mod fault;
 mod lint;
+mod locate;
 mod options;
 mod report;
 mod run;
@@ -15,28 +16,94 @@ mod sink;
 mod source;
 #[cfg(test)]
 mod testing;
+mod words;
 
-use crate::options::{Options, Outcome};
-use crate::run::run;
+use crate::fault::{ProgramFault, RunFault, USAGE, WriteFault};
+use crate::options::Outcome;
+use crate::report::write_help;
+use crate::run::{run, run_with_path};
 use crate::sink::FromWrite;
 use crate::source::FromRead;
-use gj_json::Limits;
+use crate::words::{Order, WordsFault, read_words};
+use std::env;
+use std::fs::{self, File};
+use std::io::{self, ErrorKind};
 use std::process::ExitCode;
 
-/// Judges standard input and writes the report to standard output.
+/// Reads the words, judges the file or standard input, and writes the report to standard output.
 ///
-/// Status 0 says that the input passes, 1 that it does not, 2 that a read or a write failed.
+/// Status 0 says that the input passes or that help was asked for, 1 that it does not pass, 2 that there is no verdict or
+/// not all of its report: then a line on standard error says why.
 fn main(rt: HostRuntime) -> ExitCode {
-    let mut reader = FromRead::new(rt.stdin());
-    let mut writer = FromWrite::new(rt.stdout());
-    let options = Options {
-        limits: Limits::usual(),
-        strict: false,
-        quick: false,
-    };
-    match run(&mut reader, &mut writer, options) {
+    match answer(&rt) {
         Ok(Outcome::Pass) => ExitCode::from(0),
         Ok(Outcome::Fail) => ExitCode::from(1),
-        Err(_) => ExitCode::from(2),
+        Err(fault) => {
+            // Where standard error cannot be written either, the status alone says it.
+            let _ = eprintln!(rt; "{fault}");
+            ExitCode::from(2)
+        }
+    }
+}
+
+fn answer(rt: &HostRuntime) -> Result<Outcome, ProgramFault> {
+    match order(rt) {
+        Ok(order) => obey(rt, &order),
+        Err(WordsFault::Help) => {
+            write_help(&mut FromWrite::new(rt.stdout())).map_err(ProgramFault::Write)?;
+            Ok(Outcome::Pass)
+        }
+        Err(WordsFault::Usage) => Err(ProgramFault::Usage),
+        Err(WordsFault::Memory) => Err(ProgramFault::Memory),
+    }
+}
+
+/// The order of the words behind the program's name.
+fn order(rt: &HostRuntime) -> Result<Order, WordsFault> {
+    let words: Vec<String> = env::args(rt)
+        .map_err(words_fault)?
+        .skip(1)
+        .collect(rt.alloc())?;
+    read_words(rt.alloc(), words.as_slice())
+}
+
+/// Words that are no text are refused as words of another command are.
+fn words_fault(error: io::Error) -> WordsFault {
+    match error.kind() {
+        ErrorKind::OutOfMemory => WordsFault::Memory,
+        _ => WordsFault::Usage,
+    }
+}
+
+fn obey(rt: &HostRuntime, order: &Order) -> Result<Outcome, ProgramFault> {
+    let mut writer = FromWrite::new(rt.stdout());
+    let outcome = match &order.path {
+        None => run(&mut FromRead::new(rt.stdin()), &mut writer, order.options)?,
+        Some(path) => {
+            let mut first = FromRead::new(open(rt, path)?);
+            let mut second = FromRead::new(open(rt, path)?);
+            run_with_path(&mut first, &mut second, &mut writer, order.options)?
+        }
+    };
+    Ok(outcome)
+}
+
+fn open(rt: &HostRuntime, path: &String) -> Result<File, ProgramFault> {
+    fs::open(rt, path.as_str()).map_err(open_fault)
+}
+
+fn open_fault(error: io::Error) -> ProgramFault {
+    match error.kind() {
+        ErrorKind::OutOfMemory => ProgramFault::Memory,
+        _ => ProgramFault::Open,
+    }
+}
+
+impl From<RunFault> for ProgramFault {
+    fn from(fault: RunFault) -> ProgramFault {
+        match fault {
+            RunFault::Read(fault) => ProgramFault::Read(fault),
+            RunFault::Write(fault) => ProgramFault::Write(fault),
+        }
     }
 }

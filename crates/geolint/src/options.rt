@@ -5,17 +5,34 @@ use gj_json::Limits;
 pub struct Options {
     /// How deep the input may nest, and how many bytes it may have.
     pub limits: Limits,
-    /// A valid input with a warning does not pass. There are no warnings yet, so this changes nothing.
+    /// A valid input with a warning does not pass.
     pub strict: bool,
     /// The reading may stop as soon as the input cannot be valid any more. It does not yet, so this changes nothing.
     pub quick: bool,
 }
 
+impl Options {
+    ghost use Rattle.std.specs.Prelude.{◌≡◌, false};
+    ghost use Rattle.gj_json.specs.Limits.{most};
+
+    /// Under the usual limits, where a warning does not matter.
+    pub fn usual() -> Options
+        ensures limits { result.limits ≡ most }
+        ensures lenient { (result.strict ≡ false) × (result.quick ≡ false) }
+    {
+        Options {
+            limits: Limits::usual(),
+            strict: false,
+            quick: false,
+        }
+    }
+}
+
 /// How a run ends, where nothing failed.
 #[derive(Clone, Copy, Debug, PartialEq, Eq)]
 pub enum Outcome {
-    /// The input is valid.
+    /// The input is valid, and has no warning where that is asked for.
     Pass,
-    /// It is not.
+    /// It is not, or has a warning where none may be.
     Fail,
 }

@@ -1,13 +1,18 @@
 ghost use Rattle.std.specs.Prelude.{◌≡◌, ◌+◌, ◌-◌, ◌^◌, ◌<◌, ◌≤◌, length, IfOk, OnOk, IfErr};
 ghost use Rattle.std.specs.Io.KnownBytes.{Appends};
 ghost use Rattle.geolint.specs.Counts.{CountsFailure};
-ghost use Rattle.geolint.specs.Report.{cause_text, rule_text, refusal_line, broken_line, report};
+ghost use Rattle.geolint.specs.Report.{cause_text, rule_text, refusal_line, broken_line, broken_report, report};
 ghost use Rattle.geolint.specs.Written.{joined, IsFrontOut};
 
-use crate::fault::WriteFault;
+mod path;
+mod warnings;
+
+use crate::fault::{USAGE, WriteFault};
+use crate::report::path::write_path;
+use crate::report::warnings::write_valid;
 use crate::sink::Sink;
 use gj_coords::{Fault, Rule};
-use gj_json::{Cause, JsonFault};
+use gj_json::{Cause, JsonFault, Path};
 use gj_rules::Verdict;
 use itoa::Buffer;
 
@@ -103,8 +108,10 @@ fn text_of_rule(rule: Rule) -> &'static [u8]
     }
 }
 
-fn write_broken<W: Sink>(fault: Fault, writer: &mut W) -> Result<u64, WriteFault>
+/// Writes the line of a broken rule.
+fn write_fault<W: Sink>(fault: Fault, writer: &mut W) -> Result<u64, WriteFault>
     ensures count { IfOk result (λ written. written ≡ length (broken_line fault)) }
+    ensures short { IfOk result (λ written. written < 256) }
     ensures whole { OnOk result (Appends (W.taken writer.old) (W.taken writer.new) (broken_line fault)) }
     ensures front { IfErr result (λ write.
         IsFrontOut (W.taken writer.old) (W.taken writer.new) (broken_line fault) write.written) }
@@ -119,20 +126,47 @@ fn write_broken<W: Sink>(fault: Fault, writer: &mut W) -> Result<u64, WriteFault
     write_pieces(&pieces, 0, writer)
 }
 
-/// Writes the report of a verdict: one line.
+/// Writes the report of a broken rule.
+fn write_broken<W: Sink>(
+    fault: Fault,
+    path: Option<Path>,
+    writer: &mut W,
+) -> Result<u64, WriteFault>
+    ensures whole { OnOk result (Appends (W.taken writer.old) (W.taken writer.new) (broken_report fault path)) }
+    ensures front { IfErr result (λ write.
+        IsFrontOut (W.taken writer.old) (W.taken writer.new) (broken_report fault path) write.written) }
+    ensures failed { CountsFailure (W.failed_writes writer.old) (W.failed_writes writer.new) result }
+{
+    let before = write_fault(fault, writer)?;
+    write_path(path, before, writer)
+}
+
+/// Writes the report of a verdict: its line, for a valid text one line more for each kind of warning that it has, and for
+/// a broken rule one with the path of the value that breaks it, where it is given.
 ///
 /// On `Ok` all of it is behind what the writer had taken. On an error the first `written` bytes of it are, and not all.
-pub fn write_report<W: Sink>(verdict: Verdict, writer: &mut W) -> Result<(), WriteFault>
-    ensures whole { OnOk result (Appends (W.taken writer.old) (W.taken writer.new) (report verdict)) }
+pub fn write_report<W: Sink>(
+    verdict: Verdict,
+    path: Option<Path>,
+    writer: &mut W,
+) -> Result<(), WriteFault>
+    ensures whole { OnOk result (Appends (W.taken writer.old) (W.taken writer.new) (report verdict path)) }
     ensures front { IfErr result (λ fault.
-        IsFrontOut (W.taken writer.old) (W.taken writer.new) (report verdict) fault.written) }
+        IsFrontOut (W.taken writer.old) (W.taken writer.new) (report verdict path) fault.written) }
     ensures failed { CountsFailure (W.failed_writes writer.old) (W.failed_writes writer.new) result }
 {
     match verdict {
-        Verdict::Valid => write_bytes(b"valid\n", 0, writer)?,
-        Verdict::Broken(fault) => write_broken(fault, writer)?,
+        Verdict::Valid(warnings) => write_valid(&warnings, writer)?,
+        Verdict::Broken(fault) => write_broken(fault, path, writer)?,
         Verdict::NotJson(fault) => write_refusal(fault, writer)?,
     };
+    Ok(())
+}
+
+/// Writes how the program is called.
+pub fn write_help<W: Sink>(writer: &mut W) -> Result<(), WriteFault> {
+    let pieces: [&[u8]; 2] = [USAGE.as_bytes(), b"\n"];
+    write_pieces(&pieces, 0, writer)?;
     Ok(())
 }
 

@@ -1,12 +1,19 @@
-ghost use Rattle.std.specs.Prelude.{ℕ, ◌+◌, ◌≤◌};
-ghost use Rattle.geolint.specs.Run.{CountsReadFault, CountsWriteFault, CountsOffset, Runs};
+ghost use Rattle.std.specs.Prelude.{◌≡◌, ℕ, ◌+◌, ◌≤◌, MatchResult, IfOk, OnOk, IfErr};
+ghost use Rattle.std.specs.Io.KnownBytes.{Appends};
+ghost use Rattle.geolint.specs.Counts.{one_more};
+ghost use Rattle.geolint.specs.Judged.{JudgesRead};
+ghost use Rattle.geolint.specs.Report.{report as report_of};
+ghost use Rattle.geolint.specs.Run.{CountsReadFault, CountsWriteFault, CountsOffset, Runs, RunsBy, Seeks, SeeksFor, ReadFaultOf, WriteFaultOf, outcome_of};
 
 use crate::fault::RunFault;
 use crate::lint::lint_reader;
+use crate::locate::locate_reader;
 use crate::options::{Options, Outcome};
 use crate::report::write_report;
 use crate::sink::Sink;
 use crate::source::Source;
+use gj_coords::Fault;
+use gj_json::{Limits, Path};
 use gj_rules::Verdict;
 
 /// Judges what the reader gives, writes the report of the verdict, and answers whether the input passes.
@@ -21,19 +28,102 @@ pub fn run<S: Source, W: Sink>(
     ensures reads { CountsReadFault (S.failed_reads reader.old) (S.failed_reads reader.new) result }
     ensures given { CountsOffset (S.bytes_given reader.old) (S.bytes_given reader.new) result }
     ensures writes { CountsWriteFault (W.failed_writes writer.old) (W.failed_writes writer.new) result }
-    ensures runs { Runs options.limits (S.remaining reader.old) (S.remaining reader.new)
+    ensures runs { Runs options (S.remaining reader.old) (S.remaining reader.new)
         (W.taken writer.old) (W.taken writer.new) result }
 {
-    let verdict = match lint_reader(reader, options.limits) {
-        Ok(verdict) => verdict,
-        Err(fault) => return Err(RunFault::Read(fault)),
-    };
-    if let Err(fault) = write_report(verdict, writer) {
-        return Err(RunFault::Write(fault));
+    let verdict = judge(reader, options.limits)?;
+    report(verdict, None, writer, options.strict)
+}
+
+/// Judges what the first reader gives, and writes the report of the verdict. Where a rule is broken, the path of the value
+/// that breaks it is sought in the second reader, which is to give the same bytes; where it is not found there, or a read
+/// fails, the report has no path.
+///
+/// After an error of the first reader nothing was written. After one of the writer a front of the report was.
+pub fn run_with_path<S: Source, T: Source, W: Sink>(
+    first: &mut S,
+    second: &mut T,
+    writer: &mut W,
+    options: Options,
+) -> Result<Outcome, RunFault>
+    ensures few { S.reads first.new ≤ S.reads first.old + (options.limits.bytes + 1) }
+    ensures few_more { T.reads second.new ≤ T.reads second.old + (options.limits.bytes + 1) }
+    ensures reads { CountsReadFault (S.failed_reads first.old) (S.failed_reads first.new) result }
+    ensures given { CountsOffset (S.bytes_given first.old) (S.bytes_given first.new) result }
+    ensures writes { CountsWriteFault (W.failed_writes writer.old) (W.failed_writes writer.new) result }
+    ensures runs { RunsBy (λ verdict. SeeksFor verdict options.limits (T.remaining second.old) (T.remaining second.new)
+        (T.failed_reads second.old) (T.failed_reads second.new))
+        options (S.remaining first.old) (S.remaining first.new) (W.taken writer.old) (W.taken writer.new) result }
+{
+    let verdict = judge(first, options.limits)?;
+    let path = sought_path(verdict, second, options.limits);
+    report(verdict, path, writer, options.strict)
+}
+
+/// The verdict of what a reader gives.
+fn judge<S: Source>(reader: &mut S, limits: Limits) -> Result<Verdict, RunFault>
+    ensures few { S.reads reader.new ≤ S.reads reader.old + (limits.bytes + 1) }
+    ensures reads { MatchResult result (λ verdict. S.failed_reads reader.new ≡ S.failed_reads reader.old)
+        (λ fault. S.failed_reads reader.new ≡ one_more (S.failed_reads reader.old)) }
+    ensures verdict { IfOk result (λ verdict. JudgesRead limits (S.remaining reader.old) (S.remaining reader.new) verdict) }
+    ensures fault { IfErr result (λ fault. ReadFaultOf (S.remaining reader.old) (S.remaining reader.new)
+        (S.bytes_given reader.old) (S.bytes_given reader.new) fault) }
+{
+    match lint_reader(reader, limits) {
+        Ok(verdict) => Ok(verdict),
+        Err(fault) => Err(RunFault::Read(fault)),
     }
+}
+
+/// Writes the report, and answers whether the input passes.
+fn report<W: Sink>(
+    verdict: Verdict,
+    path: Option<Path>,
+    writer: &mut W,
+    strict: bool,
+) -> Result<Outcome, RunFault>
+    ensures writes { MatchResult result (λ outcome. W.failed_writes writer.new ≡ W.failed_writes writer.old)
+        (λ fault. W.failed_writes writer.new ≡ one_more (W.failed_writes writer.old)) }
+    ensures outcome { IfOk result (λ outcome. outcome ≡ outcome_of strict verdict) }
+    ensures whole { OnOk result (Appends (W.taken writer.old) (W.taken writer.new) (report_of verdict path)) }
+    ensures fault { IfErr result (λ fault. WriteFaultOf (W.taken writer.old) (W.taken writer.new) (report_of verdict path) fault) }
+{
+    match write_report(verdict, path, writer) {
+        Ok(()) => Ok(outcome_of(verdict, strict)),
+        Err(fault) => Err(RunFault::Write(fault)),
+    }
+}
+
+/// The path to the value that breaks a rule, where one is broken and the reader leads there.
+fn sought_path<T: Source>(verdict: Verdict, reader: &mut T, limits: Limits) -> Option<Path>
+    ensures few { T.reads reader.new ≤ T.reads reader.old + (limits.bytes + 1) }
+    ensures sought { SeeksFor verdict limits (T.remaining reader.old) (T.remaining reader.new)
+        (T.failed_reads reader.old) (T.failed_reads reader.new) result }
+{
     match verdict {
-        Verdict::Valid => Ok(Outcome::Pass),
-        _ => Ok(Outcome::Fail),
+        Verdict::Broken(fault) => path_to(fault, reader, limits),
+        _ => None,
+    }
+}
+
+fn path_to<T: Source>(fault: Fault, reader: &mut T, limits: Limits) -> Option<Path>
+    ensures few { T.reads reader.new ≤ T.reads reader.old + (limits.bytes + 1) }
+    ensures sought { Seeks limits (T.remaining reader.old) (T.remaining reader.new)
+        (T.failed_reads reader.old) (T.failed_reads reader.new) result fault }
+{
+    match locate_reader(reader, limits, fault.place) {
+        Ok(path) => path,
+        Err(_) => None,
+    }
+}
+
+/// Whether an input with this verdict passes: where the run is strict, only without a warning.
+fn outcome_of(verdict: Verdict, strict: bool) -> Outcome
+    ensures { result ≡ outcome_of strict verdict }
+{
+    match verdict {
+        Verdict::Valid(warnings) if !strict || warnings.is_empty() => Outcome::Pass,
+        _ => Outcome::Fail,
     }
 }
 

@@ -9,3 +9,11 @@ pub mod Agreeing
 pub mod WarningExamples
 pub mod WarningsStand
 pub mod WindingExamples
+pub mod CoordinateWarningExamples
+pub mod Sizes
+pub mod GatheredWarned
+pub mod WalkWarned
+pub mod KeptLaws
+pub mod WholeLaws
+pub mod SixFaults
+pub mod SixWarned

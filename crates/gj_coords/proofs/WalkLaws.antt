@@ -10,8 +10,8 @@ use Rattle.gj_coords.specs.declared.simple.Simple.TheVariants.{Point, MultiPoint
 use Rattle.gj_coords.specs.declared.several.Several.{Several}
 use Rattle.gj_coords.specs.declared.tally.Tally.{Tally}
 use Rattle.gj_coords.specs.declared.third_level.ThirdSummary.{ThirdSummary}
-use Rattle.gj_coords.specs.declared.second_level.SecondSummary.{SecondSummary}
-use Rattle.gj_coords.specs.declared.first_level.SixFaults.{SixFaults}
+use Rattle.gj_coords.specs.declared.first_level.FirstSummary.{FirstSummary}
+use Rattle.gj_coords.specs.declared.first_level.FirstSummary.TheVariants.{Other, Level}
 use Rattle.gj_coords.specs.declared.second_level.SecondLevel.{SecondLevel}
 use Rattle.gj_coords.specs.declared.first_level.FirstLevel.{FirstLevel}
 use Rattle.gj_coords.specs.Fault.{fault_at, lesser, least}
@@ -20,18 +20,21 @@ use Rattle.gj_coords.specs.Shape.{Shape, position, list, line, ring, shape_of, c
 use Rattle.gj_coords.specs.Sent.{head}
 use Rattle.gj_coords.specs.Gathering.{Gathering, gathered, given}
 use Rattle.gj_coords.specs.Tally.{counted, few_in}
-use Rattle.gj_coords.specs.Position.{numbers_gathering, misshapen_at}
+use Rattle.gj_coords.specs.Position.{numbers_gathering, misshapen_at, position_answer}
 use Rattle.gj_coords.specs.Positions.{position_added, ring_gathering}
+use Rattle.gj_coords.specs.Findings.{Judgement}
 use Rattle.gj_coords.specs.Several.{several_gathering}
-use Rattle.gj_coords.specs.Walk.{third_gathering, second_gathering, first_gathering, first_closed, all_six, fault_as}
+use Rattle.gj_coords.specs.Warned.{no_warned}
+use Rattle.gj_coords.specs.Walk.{third_gathering, second_gathering, first_gathering, some_fault_in, fault_as}
+use Rattle.gj_coords.specs.CoordinatesKept.{third_answer, second_answer, first_answer}
 use Rattle.gj_coords.specs.TallyLaws.{gathered_count}
-use Rattle.gj_coords.specs.PositionLaws.{position_answer, position_fault, position_head}
-use Rattle.gj_coords.specs.RingLaws.{joined_fault, ring_least}
+use Rattle.gj_coords.specs.PositionLaws.{position_fault, position_head}
+use Rattle.gj_coords.specs.RingLaws.{added_fault, ring_least}
 use Rattle.gj_coords.specs.SeveralLaws.{several_least}
 
 -- ---- one gathering inside another
 
-project : {G H A B C D : Type 0} (r : Gathering G A B) (q : Gathering H C D) (p : G → H) (f : A → C) (x : Tree → A) (y : Tree → C) →
+pub project : {G H A B C D : Type 0} (r : Gathering G A B) (q : Gathering H C D) (p : G → H) (f : A → C) (x : Tree → A) (y : Tree → C) →
     ((g : G) (a : A) → p (r.added g a) ≡ q.added (p g) (f a)) → ((v : Tree) → f (x v) ≡ y v) →
     (vs : List Tree) (g : G) → p (gathered r x g vs) ≡ gathered q y (p g) vs
 project r q p f x y step item [] g = refl
@@ -59,135 +62,120 @@ none_needed n = grind (arith, nat_tests)
 no_few : (t : Tally) (fault : Option Fault) → fault ≡ lesser (few_in 0 G13 t) fault
 no_few t fault = ap (λ b. lesser (if b then Some (fault_at t.place G13) else None) fault) (sym (none_needed t.count))
 
+-- ---- lists of values of which the faults alone are told
+
+abbrev by_fault : {A : Type 0} → (A → Option Fault) → Judgement A
+by_fault fault_of = record { fault_of = fault_of; warned_behind = λ others w a. w }
+
+abbrev listed : {needed : ℕ} → Tally → Option Fault → Several needed
+listed tally fault = record { tally = tally; fault = fault; warned = no_warned }
+
 -- ---- the third level
 
-abbrev pub third : Tree → ThirdSummary
-third = given third_gathering position_answer
-
-third_position : (v : Tree) → (third v).position ≡ position_answer v
+pub third_position : (v : Tree) → (third_answer v).position ≡ position_answer v
 third_position = role third_gathering numbers_gathering (λ g. g.numbers) (λ a. a.head) position_answer head (λ b. b.position) (λ d. d)
     (λ g a. refl) position_head (λ p. refl) (λ g. refl) (λ e. refl)
 
-third_ring : (v : Tree) → (third v).ring ≡ least (ring v)
+pub third_ring : (v : Tree) → (third_answer v).ring ≡ least (ring v)
 third_ring v =
-    role third_gathering ring_gathering (λ g. record { positions = g.positions; tally = g.numbers.tally }) (λ a. a) position_answer position_answer (λ b. b.ring) (λ d. d)
+    role third_gathering ring_gathering (λ g. record { positions = g.positions; tally = g.numbers.tally }) (λ a. a) position_answer position_answer (λ b. b.ring) (λ d. d.fault)
     (λ g a. refl) (λ v. refl) (λ p. refl) (λ g. refl) (λ e. refl) v ∙ ring_least v
 
 -- ---- the second level
 
-abbrev pub second : Tree → SecondSummary
-second = given second_gathering third
-
-second_position : (v : Tree) → (second v).position ≡ position_answer v
-second_position = role second_gathering numbers_gathering (λ g. g.numbers) (λ a. a.position.head) third head (λ b. b.position) (λ d. d)
+pub second_position : (v : Tree) → (second_answer v).position ≡ position_answer v
+second_position = role second_gathering numbers_gathering (λ g. g.numbers) (λ a. a.position.head) third_answer head (λ b. b.position) (λ d. d)
     (λ g a. refl) (λ v. ap (λ p. p.head) (third_position v) ∙ position_head v) (λ p. refl) (λ g. refl) (λ e. refl)
 
 -- the least fault of the positions goes on as that of a line does
 line_step : (g : SecondLevel) (a : ThirdSummary) →
-    ◌≡◌ {A = Several 2} (record { tally = counted g.numbers.tally; fault = (position_added g.positions a.position.values a.position.fault).fault })
-    (record { tally = counted g.numbers.tally; fault = lesser g.positions.fault a.position.fault })
+    ◌≡◌ {A = Several 2} (listed (counted g.numbers.tally) (position_added g.positions a.position).fault)
+    (listed (counted g.numbers.tally) (lesser g.positions.fault a.position.fault))
 line_step g a =
-    let with_fault : Option Fault → Several 2 = λ fault. record { tally = counted g.numbers.tally; fault = fault } in
-    ap with_fault (joined_fault g.positions a.position.values (lesser g.positions.fault a.position.fault))
+    let with_fault : Option Fault → Several 2 = λ fault. listed (counted g.numbers.tally) fault in
+    ap with_fault (added_fault g.positions a.position)
 
-second_line : (v : Tree) → (second v).line ≡ least (line v)
+second_line : (v : Tree) → (second_answer v).line ≡ least (line v)
 second_line v =
-    role second_gathering (several_gathering (λ a. a.fault) 2) (λ g. record { tally = g.numbers.tally; fault = g.positions.fault }) (λ a. a.position)
-    third position_answer (λ b. b.line) (λ d. d) line_step third_position (λ p. refl) (λ g. refl) (λ e. refl) v ∙
-    several_least (λ a. a.fault) 2 (omega arith) position_answer position position_fault v
+    role second_gathering (several_gathering (by_fault (λ a. a.fault)) 2) (λ g. listed g.numbers.tally g.positions.fault) (λ a. a.position)
+    third_answer position_answer (λ b. b.line) (λ d. d.fault) line_step third_position (λ p. refl) (λ g. refl) (λ e. refl) v ∙
+    several_least (by_fault (λ a. a.fault)) 2 (omega arith) position_answer position position_fault v
 
-second_ring : (v : Tree) → (second v).ring ≡ least (ring v)
+pub second_ring : (v : Tree) → (second_answer v).ring ≡ least (ring v)
 second_ring v =
-    role second_gathering ring_gathering (λ g. record { positions = g.positions; tally = g.numbers.tally }) (λ a. a.position) third position_answer (λ b. b.ring) (λ d. d)
+    role second_gathering ring_gathering (λ g. record { positions = g.positions; tally = g.numbers.tally }) (λ a. a.position) third_answer position_answer (λ b. b.ring) (λ d. d.fault)
     (λ g a. refl) third_position (λ p. refl) (λ g. refl) (λ e. refl) v ∙ ring_least v
 
 -- a list of what some role of the elements is
 list_role : {G A B : Type 0} (r : Gathering G A B) (p : G → Several 0) (x : Tree → A) (out : B → Option Fault) (fault_of : A → Option Fault) (shape : Shape) →
-    ((g : G) (a : A) → p (r.added g a) ≡ (several_gathering fault_of 0).added (p g) a) →
-    ((place : ℕ) → p (r.opened place) ≡ (several_gathering fault_of 0).opened place) →
+    ((g : G) (a : A) → p (r.added g a) ≡ (several_gathering (by_fault fault_of) 0).added (p g) a) →
+    ((place : ℕ) → p (r.opened place) ≡ (several_gathering (by_fault fault_of) 0).opened place) →
     ((g : G) → out (r.closed g) ≡ (p g).fault) → ((e : Event) → out (r.otherwise e) ≡ misshapen_at e.place) →
     ((v : Tree) → fault_of (x v) ≡ least (shape v)) →
     (v : Tree) → out (given r x v) ≡ least (list shape v)
 list_role r p x out fault_of shape step opened closed otherwise h v =
-    role r (several_gathering fault_of 0) p (λ a. a) x x out (λ d. d) step (λ v. refl) opened (λ g. closed g ∙ no_few (p g).tally (p g).fault) otherwise v ∙
-    several_least fault_of 0 (omega arith) x shape h v
+    role r (several_gathering (by_fault fault_of) 0) p (λ a. a) x x out (λ d. d.fault) step (λ v. refl) opened (λ g. closed g ∙ no_few (p g).tally (p g).fault) otherwise v ∙
+    several_least (by_fault fault_of) 0 (omega arith) x shape h v
 
-second_polygon : (v : Tree) → (second v).polygon ≡ least (list ring v)
-second_polygon = list_role second_gathering (λ g. record { tally = g.numbers.tally; fault = g.rings }) third (λ b. b.polygon) (λ a. a.ring) ring
+second_polygon : (v : Tree) → (second_answer v).polygon ≡ least (list ring v)
+second_polygon = list_role second_gathering (λ g. listed g.numbers.tally g.rings) third_answer (λ b. b.polygon) (λ a. a.ring) ring
     (λ g a. refl) (λ p. refl) (λ g. refl) (λ e. refl) third_ring
 
 -- ---- the first level
 
-abbrev pub first : Tree → SixFaults
-first = given first_gathering second
-
 -- as if an empty array were judged too
-abbrev judged_gathering : Gathering FirstLevel SecondSummary SixFaults
-judged_gathering = record first_gathering { closed = first_closed }
+abbrev judged_as : Simple → FirstSummary → Option Fault
+judged_as simple (Other place) = misshapen_at place
+judged_as simple (Level s) = some_fault_in simple s
 
-abbrev judged : Tree → SixFaults
-judged = given judged_gathering second
-
-judged_point : (v : Tree) → (judged v).point ≡ least (position v)
-judged_point v =
-    role judged_gathering numbers_gathering (λ g. g.numbers) (λ a. a.position.head) second head (λ b. b.point) (λ d. d.fault)
-    (λ g a. refl) (λ v. ap (λ p. p.head) (second_position v) ∙ position_head v) (λ p. refl) (λ g. refl) (λ e. refl) v ∙ position_fault v
-
-position_at_second : (v : Tree) → (second v).position.fault ≡ least (position v)
+position_at_second : (v : Tree) → (second_answer v).position.fault ≡ least (position v)
 position_at_second v = ap (λ p. p.fault) (second_position v) ∙ position_fault v
 
-judged_line_string : (v : Tree) → (judged v).line_string ≡ least (line v)
-judged_line_string v =
-    role judged_gathering (several_gathering (λ a. a.position.fault) 2) (λ g. record { tally = g.numbers.tally; fault = g.positions }) (λ a. a) second second
-    (λ b. b.line_string) (λ d. d) (λ g a. refl) (λ v. refl) (λ p. refl) (λ g. refl) (λ e. refl) v ∙
-    several_least (λ a. a.position.fault) 2 (omega arith) second position position_at_second v
+judged_point : (v : Tree) → judged_as Point (first_answer v) ≡ least (position v)
+judged_point v =
+    role first_gathering numbers_gathering (λ g. g.numbers) (λ a. a.position.head) second_answer head (judged_as Point) (λ d. d.fault)
+    (λ g a. refl) (λ v. ap (λ p. p.head) (second_position v) ∙ position_head v) (λ p. refl) (λ g. refl) (λ e. refl) v ∙ position_fault v
 
-judged_least : (simple : Simple) (v : Tree) → fault_as simple (judged v) ≡ least (shape_of simple v)
+judged_line_string : (v : Tree) → judged_as LineString (first_answer v) ≡ least (line v)
+judged_line_string v =
+    role first_gathering (several_gathering (by_fault (λ a. a.position.fault)) 2) (λ g. listed g.numbers.tally g.positions) (λ a. a) second_answer second_answer
+    (judged_as LineString) (λ d. d.fault) (λ g a. refl) (λ v. refl) (λ p. refl) (λ g. refl) (λ e. refl) v ∙
+    several_least (by_fault (λ a. a.position.fault)) 2 (omega arith) second_answer position position_at_second v
+
+judged_least : (simple : Simple) (v : Tree) → judged_as simple (first_answer v) ≡ least (shape_of simple v)
 judged_least Point v = judged_point v
 judged_least MultiPoint v =
-    list_role judged_gathering (λ g. record { tally = g.numbers.tally; fault = g.positions }) second (λ b. b.multi_point) (λ a. a.position.fault) position
+    list_role first_gathering (λ g. listed g.numbers.tally g.positions) second_answer (judged_as MultiPoint) (λ a. a.position.fault) position
     (λ g a. refl) (λ p. refl) (λ g. refl) (λ e. refl) position_at_second v
 judged_least LineString v = judged_line_string v
 judged_least MultiLineString v =
-    list_role judged_gathering (λ g. record { tally = g.numbers.tally; fault = g.lines }) second (λ b. b.multi_line_string) (λ a. a.line) line
+    list_role first_gathering (λ g. listed g.numbers.tally g.lines) second_answer (judged_as MultiLineString) (λ a. a.line) line
     (λ g a. refl) (λ p. refl) (λ g. refl) (λ e. refl) second_line v
 judged_least Polygon v =
-    list_role judged_gathering (λ g. record { tally = g.numbers.tally; fault = g.rings }) second (λ b. b.polygon) (λ a. a.ring) ring
+    list_role first_gathering (λ g. listed g.numbers.tally g.rings) second_answer (judged_as Polygon) (λ a. a.ring) ring
     (λ g a. refl) (λ p. refl) (λ g. refl) (λ e. refl) second_ring v
 judged_least MultiPolygon v =
-    list_role judged_gathering (λ g. record { tally = g.numbers.tally; fault = g.polygons }) second (λ b. b.multi_polygon) (λ a. a.polygon) (list ring)
+    list_role first_gathering (λ g. listed g.numbers.tally g.polygons) second_answer (judged_as MultiPolygon) (λ a. a.polygon) (list ring)
     (λ g a. refl) (λ p. refl) (λ g. refl) (λ e. refl) second_polygon v
 
 -- ---- an empty array has no fault
 
-all_alike : (simple : Simple) (fault : Option Fault) → fault_as simple (all_six fault) ≡ fault
-all_alike Point fault = refl
-all_alike MultiPoint fault = refl
-all_alike LineString fault = refl
-all_alike MultiLineString fault = refl
-all_alike Polygon fault = refl
-all_alike MultiPolygon fault = refl
-
-same_gathered : (vs : List Tree) (g : FirstLevel) → gathered first_gathering second g vs ≡ gathered judged_gathering second g vs
-same_gathered [] g = refl
-same_gathered (v ∷ more) g = same_gathered more (first_gathering.added g (second v))
-
 some_counted : (c n : ℕ) → nat_lt c 1 ≡ nat_lt (0 + suc n) 1 → (c == 0) ≡ false
 some_counted c n h = grind (arith, nat_tests, add-one n)
 
-not_empty : (place : ℕ) (v : Tree) (more : List Tree) → ((gathered first_gathering second (first_gathering.opened place) (v ∷ more)).numbers.tally.count == 0) ≡ false
+pub not_empty : (place : ℕ) (v : Tree) (more : List Tree) →
+    ((gathered first_gathering second_answer (first_gathering.opened place) (v ∷ more)).numbers.tally.count == 0) ≡ false
 not_empty place v more =
     some_counted _ (length more)
-    (gathered_count first_gathering second (λ g. g.numbers.tally) (λ g a. refl) 1 (omega arith) (v ∷ more) (first_gathering.opened place))
+    (gathered_count first_gathering second_answer (λ g. g.numbers.tally) (λ g a. refl) 1 (omega arith) (v ∷ more) (first_gathering.opened place))
 
-pub first_least : (simple : Simple) (v : Tree) → fault_as simple (first v) ≡ least (coordinates_faults simple v)
+pub first_least : (simple : Simple) (v : Tree) → fault_as simple (first_answer v) ≡ least (coordinates_faults simple v)
 first_least simple (constant which place) = judged_least simple (constant which place)
 first_least simple (number place literal end) = judged_least simple (number place literal end)
 first_least simple (string place content end) = judged_least simple (string place content end)
 first_least simple (object place ms close) = judged_least simple (object place ms close)
-first_least simple (array place end_of_array close) = all_alike simple None
+first_least simple (array place end_of_array close) = refl
 first_least simple (array place (element v more) close) =
-    let g : FirstLevel = gathered first_gathering second (first_gathering.opened place) (v ∷ items more) in
-    ap (λ b. fault_as simple (if b then all_six None else first_closed g)) (not_empty place v (items more)) ∙
-    (ap (λ h. fault_as simple (first_closed h)) (same_gathered (v ∷ items more) (first_gathering.opened place)) ∙
-    judged_least simple (array place (element v more) close))
+    let g : FirstLevel = gathered first_gathering second_answer (first_gathering.opened place) (v ∷ items more) in
+    ap (λ b. if b then None else some_fault_in simple g) (not_empty place v (items more)) ∙
+    judged_least simple (array place (element v more) close)

@@ -1,6 +1,6 @@
 -- Internal: what a `Warnings` keeps of a list of warnings, and how two of them are joined. The laws of `warnings_of`, `joined` and
 -- `added` are in `WarningLaws`: cite those, and unfold none of the three.
-use Rattle.std.specs.Prelude.{◌≡◌, ℕ, ◌+◌, min, ◌==◌, Bool, ◌&&◌, if◌then◌else◌, List, unwrap_or}
+use Rattle.std.specs.Prelude.{◌≡◌, ℕ, ◌+◌, min, ◌==◌, Bool, ◌&&◌, if◌then◌else◌, List, Option, Some, None, unwrap_or}
 use Rattle.gj_coords.specs.declared.kind.Kind.{Kind}
 use Rattle.gj_coords.specs.declared.noted.Noted.{Noted}
 use Rattle.gj_coords.specs.declared.warnings.Counts.{Counts}
@@ -66,6 +66,13 @@ kept warnings Kind.W7 = noted_as warnings.counts.w7 warnings.firsts.w7
 kept warnings Kind.W8 = noted_as warnings.counts.w8 warnings.firsts.w8
 kept warnings Kind.W9 = noted_as warnings.counts.w9 warnings.firsts.w9
 
+-- how many of a kind there are, and the least place, as they are told
+abbrev pub count_in : Kind → Warnings → ℕ
+count_in kind warnings = (kept warnings kind).count
+
+abbrev pub first_in : Kind → Warnings → Option ℕ
+first_in kind warnings = if (kept warnings kind).count == 0 then None else Some (kept warnings kind).first
+
 -- what is kept of a list of warnings
 unfoldable pub warnings_of : List Warning → Warnings
 warnings_of warnings = by_kind (λ kind. noted_of kind warnings)
@@ -86,6 +93,10 @@ joined a b = by_kind (λ kind. joined_noted (kept a kind) (kept b kind))
 abbrev pub replaced : Warnings → Kind → Noted → Warnings
 replaced warnings kind noted = by_kind (λ other. if same_kind kind other then noted else kept warnings other)
 
+-- some warnings of a kind more
+abbrev pub with_noted : Warnings → Kind → Noted → Warnings
+with_noted warnings kind noted = replaced warnings kind (joined_noted (kept warnings kind) noted)
+
 -- one warning more
 unfoldable pub added : Warnings → Kind → ℕ → Warnings
 added warnings kind place =
@@ -95,3 +106,6 @@ added warnings kind place =
 abbrev pub all_zero : Counts → Bool
 all_zero counts =
     counts.w1 == 0 && counts.w2 == 0 && counts.w3 == 0 && counts.w4 == 0 && counts.w5 == 0 && counts.w6 == 0 && counts.w7 == 0 && counts.w8 == 0 && counts.w9 == 0
+
+abbrev pub none_in : Warnings → Bool
+none_in warnings = all_zero warnings.counts

@@ -30,7 +30,7 @@ both_group a b c =
     ap (λ count. noted_as count (min (min a.first b.first) c.first)) (counts_group greatest_count a.count b.count c.count)
     ∙ ap (λ first. noted_as (min (a.count + min (b.count + c.count) greatest_count) greatest_count) first) (firsts_group a.first b.first c.first)
 
-nothing_at_zero : (a : Noted) → is_nothing a ≡ true → nothing_noted ≡ a
+pub nothing_at_zero : (a : Noted) → is_nothing a ≡ true → nothing_noted ≡ a
 nothing_at_zero a h =
     let count : 0 ≡ a.count = zero_count a.count a.first h in
     let first : 0 ≡ a.first = zero_first a.count a.first h in

@@ -12,8 +12,8 @@ use Rattle.gj_json.specs.declared.event.What.{What}
 use Rattle.gj_json.specs.Tree.{Tree, constant, number, string, array, object}
 use Rattle.gj_coords.specs.declared.fault.Fault.{Fault}
 use Rattle.gj_coords.specs.declared.fault.Rule.TheVariants.{G12}
+use Rattle.gj_coords.specs.declared.noted.Noted.{Noted}
 use Rattle.gj_coords.specs.declared.position.Numbers.{Numbers}
-use Rattle.gj_coords.specs.declared.position.Position.{Position}
 use Rattle.gj_coords.specs.declared.position.Values.{Values}
 use Rattle.gj_coords.specs.declared.tally.Tally.{Tally}
 use Rattle.gj_coords.specs.Fault.{lesser, least}
@@ -21,13 +21,10 @@ use Rattle.gj_coords.specs.Items.{items, elements_of}
 use Rattle.gj_coords.specs.Ring.{exact_value, first_values, agree}
 use Rattle.gj_coords.specs.Shape.{few, unheld, held_number, any_number, position}
 use Rattle.gj_coords.specs.Sent.{event_at, head}
-use Rattle.gj_coords.specs.Gathering.{gathered, given}
-use Rattle.gj_coords.specs.Position.{no_values, pushed, same_values, number_fault, value_in, numbers_start, number_added, numbers_gathering}
+use Rattle.gj_coords.specs.Gathering.{gathered}
+use Rattle.gj_coords.specs.Position.{no_values, pushed, same_values, number_fault, value_in, numbers_start, number_added, numbers_gathering, position_answer}
 use Rattle.gj_coords.specs.LeastLaws.{lesser-none, lesser_step}
 use Rattle.gj_coords.specs.TallyLaws.{gathered_place, few_gathered, both_least}
-
-abbrev pub position_answer : Tree → Position
-position_answer = given numbers_gathering head
 
 -- ---- the least fault
 
@@ -61,19 +58,19 @@ any_number_least (string place content end) = refl
 any_number_least (array place es close) = refl
 any_number_least (object place ms close) = refl
 
-among_first : (c left : ℕ) → c + suc left ≡ 3 → nat_lt c 3 ≡ true
+pub among_first : (c left : ℕ) → c + suc left ≡ 3 → nat_lt c 3 ≡ true
 among_first c left h = grind (arith, nat_tests)
 
-not_among_first : (c : ℕ) → c + 0 ≡ 3 → nat_lt c 3 ≡ false
+pub not_among_first : (c : ℕ) → c + 0 ≡ 3 → nat_lt c 3 ≡ false
 not_among_first c h = grind (arith, nat_tests)
 
-pushed_count : (c left : ℕ) (value : Option Exact) (v : Values) → c + suc left ≡ 3 → (pushed c value v).count + left ≡ 3
+pub pushed_count : (c left : ℕ) (value : Option Exact) (v : Values) → c + suc left ≡ 3 → (pushed c value v).count + left ≡ 3
 pushed_count zero left value v h = omega arith
 pushed_count (suc zero) left value v h = omega arith
 pushed_count (suc (suc zero)) left value v h = omega arith
 pushed_count (suc (suc (suc c))) left value v h = absurd (omega arith)
 
-pushed_full : (c : ℕ) (value : Option Exact) (v : Values) → c + 0 ≡ 3 → (pushed c value v) ≡ v
+pub pushed_full : (c : ℕ) (value : Option Exact) (v : Values) → c + 0 ≡ 3 → (pushed c value v) ≡ v
 pushed_full zero value v h = absurd (omega arith)
 pushed_full (suc zero) value v h = absurd (omega arith)
 pushed_full (suc (suc zero)) value v h = absurd (omega arith)
@@ -105,7 +102,7 @@ position_fault (array place es close) =
 
 -- ---- the values
 
-value_head : (v : Tree) → value_in (head v).what ≡ exact_value v
+pub value_head : (v : Tree) → value_in (head v).what ≡ exact_value v
 value_head (constant Null place) = refl
 value_head (constant True place) = refl
 value_head (constant False place) = refl
@@ -121,13 +118,15 @@ values_from (a ∷ []) = record { count = 1; first = a; second = None; third = N
 values_from (a ∷ b ∷ []) = record { count = 2; first = a; second = b; third = None }
 values_from (a ∷ b ∷ c ∷ more) = record { count = 3; first = a; second = b; third = c }
 
-abbrev full : Tally → Option Fault → Option Exact → Option Exact → Option Exact → Numbers
-full t f a b c = record { values = record { count = 3; first = a; second = b; third = c }; tally = t; fault = f }
+abbrev full : Tally → Option Fault → Noted → Option Exact → Option Exact → Option Exact → Numbers
+full t f p a b c = record { values = record { count = 3; first = a; second = b; third = c }; tally = t; fault = f; precise = p }
 
-full_stays : (vs : List Tree) (t : Tally) (f : Option Fault) (a b c : Option Exact) →
-    (gathered numbers_gathering head (full t f a b c) vs).values ≡ record { count = 3; first = a; second = b; third = c }
-full_stays [] t f a b c = refl
-full_stays (v ∷ more) t f a b c = full_stays more (number_added (full t f a b c) (head v)).tally (number_added (full t f a b c) (head v)).fault a b c
+full_stays : (vs : List Tree) (t : Tally) (f : Option Fault) (p : Noted) (a b c : Option Exact) →
+    (gathered numbers_gathering head (full t f p a b c) vs).values ≡ record { count = 3; first = a; second = b; third = c }
+full_stays [] t f p a b c = refl
+full_stays (v ∷ more) t f p a b c =
+    let s : Numbers = number_added (full t f p a b c) (head v) in
+    full_stays more s.tally s.fault s.precise a b c
 
 gathered_values : (vs : List Tree) (place : ℕ) → (gathered numbers_gathering head (numbers_start place) vs).values ≡ values_from (map exact_value (take 3 vs))
 gathered_values [] place = refl
@@ -136,7 +135,7 @@ gathered_values (u ∷ v ∷ []) place =
     ap (λ a. values_from (a ∷ value_in (head v).what ∷ [])) (value_head u) ∙ ap (λ b. values_from (exact_value u ∷ b ∷ [])) (value_head v)
 gathered_values (u ∷ v ∷ w ∷ more) place =
     let s : Numbers = gathered numbers_gathering head (numbers_start place) (u ∷ v ∷ w ∷ []) in
-    full_stays more s.tally s.fault (value_in (head u).what) (value_in (head v).what) (value_in (head w).what) ∙
+    full_stays more s.tally s.fault s.precise (value_in (head u).what) (value_in (head v).what) (value_in (head w).what) ∙
     (ap (λ a. values_from (a ∷ value_in (head v).what ∷ value_in (head w).what ∷ [])) (value_head u) ∙
     (ap (λ b. values_from (exact_value u ∷ b ∷ value_in (head w).what ∷ [])) (value_head v) ∙
     ap (λ c. values_from (exact_value u ∷ exact_value v ∷ c ∷ [])) (value_head w)))

@@ -9,33 +9,45 @@ use Rattle.gj_coords.specs.declared.simple.Simple.{Simple}
 use Rattle.gj_coords.specs.declared.simple.Simple.TheVariants.{Point, MultiPoint, LineString, MultiLineString, Polygon, MultiPolygon}
 use Rattle.gj_coords.specs.declared.third_level.ThirdSummary.{ThirdSummary}
 use Rattle.gj_coords.specs.declared.second_level.SecondSummary.{SecondSummary}
-use Rattle.gj_coords.specs.declared.first_level.SixFaults.{SixFaults}
+use Rattle.gj_coords.specs.declared.first_level.FirstSummary.{FirstSummary}
+use Rattle.gj_coords.specs.declared.first_level.FirstSummary.TheVariants.{Other, Level}
 use Rattle.gj_coords.specs.declared.third_level.ThirdLevel.{ThirdLevel}
 use Rattle.gj_coords.specs.declared.second_level.SecondLevel.{SecondLevel}
 use Rattle.gj_coords.specs.declared.first_level.FirstLevel.{FirstLevel}
+use Rattle.gj_coords.specs.declared.kind.Kind.TheVariants.{W6}
+use Rattle.gj_coords.specs.declared.warned.Warned.{Warned}
+use Rattle.gj_coords.specs.declared.winding.Turn.TheVariants.{Unjudged}
 use Rattle.gj_coords.specs.Fault.{lesser}
 use Rattle.gj_coords.specs.Reading.{Machine}
 use Rattle.gj_coords.specs.Element.{element_machine}
 use Rattle.gj_coords.specs.Gathering.{Gathering}
 use Rattle.gj_coords.specs.Array.{array_machine}
 use Rattle.gj_coords.specs.Several.{line_closed}
-use Rattle.gj_coords.specs.Position.{numbers_start, number_added, position_closed, no_position, numbers_gathering, misshapen_at}
-use Rattle.gj_coords.specs.Positions.{no_positions, position_added, ring_closed}
+use Rattle.gj_coords.specs.Warned.{no_warned, noted_in, taken}
+use Rattle.gj_coords.specs.WindingGather.{turn_in}
+use Rattle.gj_coords.specs.Position.{numbers_start, number_added, position_least, position_closed, no_position, numbers_gathering, misshapen_at, judged_noted}
+use Rattle.gj_coords.specs.Positions.{no_positions, position_added, ring_closed, role_behind, ring_noted}
 
 abbrev pub third_gathering : Gathering ThirdLevel Position ThirdSummary
 third_gathering = record {
   opened = λ place. record { numbers = numbers_start place; positions = no_positions };
-  added = λ s p. record { numbers = number_added s.numbers p.head; positions = position_added s.positions p.values p.fault };
-  closed = λ s. record { position = position_closed s.numbers; ring = ring_closed s.numbers.tally s.positions };
-  otherwise = λ e. record { position = no_position e; ring = misshapen_at e.place };
+  added = λ s p. record { numbers = number_added s.numbers p.head; positions = position_added s.positions p };
+  closed = λ s. record {
+    position = position_closed s.numbers;
+    ring = ring_closed s.numbers.tally s.positions;
+    turn = turn_in s.positions.winding;
+    warned = s.positions.warned;
+  };
+  otherwise = λ e. record { position = no_position e; ring = misshapen_at e.place; turn = Unjudged; warned = no_warned };
 }
 
 abbrev pub second_gathering : Gathering SecondLevel ThirdSummary SecondSummary
 second_gathering = record {
-  opened = λ place. record { numbers = numbers_start place; positions = no_positions; rings = None };
+  opened = λ place. record { numbers = numbers_start place; positions = no_positions; rings_warned = no_warned; rings = None };
   added = λ s a. record {
     numbers = number_added s.numbers a.position.head;
-    positions = position_added s.positions a.position.values a.position.fault;
+    positions = position_added s.positions a.position;
+    rings_warned = ring_noted (role_behind s.numbers.tally.count) s.rings_warned a.position.head.place a.ring a.turn a.warned;
     rings = lesser s.rings a.ring;
   };
   closed = λ s. record {
@@ -43,52 +55,87 @@ second_gathering = record {
     line = line_closed s.numbers.tally s.positions.fault;
     ring = ring_closed s.numbers.tally s.positions;
     polygon = s.rings;
+    turn = turn_in s.positions.winding;
+    warned = s.positions.warned;
+    rings_warned = s.rings_warned;
   };
-  otherwise = λ e. record { position = no_position e; line = misshapen_at e.place; ring = misshapen_at e.place; polygon = misshapen_at e.place };
+  otherwise = λ e. record {
+    position = no_position e;
+    line = misshapen_at e.place;
+    ring = misshapen_at e.place;
+    polygon = misshapen_at e.place;
+    turn = Unjudged;
+    warned = no_warned;
+    rings_warned = no_warned;
+  };
 }
 
-abbrev pub all_six : Option Fault → SixFaults
-all_six fault = record {
-  point = fault;
-  multi_point = fault;
-  line_string = fault;
-  multi_line_string = fault;
-  polygon = fault;
-  multi_polygon = fault;
-}
-
--- of an array that is not empty
-abbrev pub first_closed : FirstLevel → SixFaults
-first_closed s = record {
-  point = (position_closed s.numbers).fault;
-  multi_point = s.positions;
-  line_string = line_closed s.numbers.tally s.positions;
-  multi_line_string = s.lines;
-  polygon = s.rings;
-  multi_polygon = s.polygons;
-}
-
-abbrev pub first_gathering : Gathering FirstLevel SecondSummary SixFaults
+abbrev pub first_gathering : Gathering FirstLevel SecondSummary FirstSummary
 first_gathering = record {
-  opened = λ place. record { numbers = numbers_start place; positions = None; lines = None; rings = None; polygons = None };
+  opened = λ place. record {
+    numbers = numbers_start place;
+    positions_warned = no_warned;
+    lines_warned = no_warned;
+    rings_warned = no_warned;
+    polygons_warned = no_warned;
+    positions = None;
+    lines = None;
+    rings = None;
+    polygons = None;
+  };
   added = λ s a. record {
     numbers = number_added s.numbers a.position.head;
+    positions_warned = judged_noted a.position.fault s.positions_warned a.position;
+    lines_warned = taken s.lines_warned a.warned;
+    rings_warned = ring_noted (role_behind s.numbers.tally.count) s.rings_warned a.position.head.place a.ring a.turn a.warned;
+    polygons_warned = taken s.polygons_warned a.rings_warned;
     positions = lesser s.positions a.position.fault;
     lines = lesser s.lines a.line;
     rings = lesser s.rings a.ring;
     polygons = lesser s.polygons a.polygon;
   };
-  closed = λ s. if s.numbers.tally.count == 0 then all_six None else first_closed s;
-  otherwise = λ e. all_six (misshapen_at e.place);
+  closed = Level;
+  otherwise = λ e. Other e.place;
 }
 
-abbrev pub fault_as : Simple → SixFaults → Option Fault
-fault_as Point a = a.point
-fault_as MultiPoint a = a.multi_point
-fault_as LineString a = a.line_string
-fault_as MultiLineString a = a.multi_line_string
-fault_as Polygon a = a.polygon
-fault_as MultiPolygon a = a.multi_polygon
+-- ---- the least fault for a type
+
+-- of an array that is not empty
+abbrev pub some_fault_in : Simple → FirstLevel → Option Fault
+some_fault_in Point s = position_least s.numbers
+some_fault_in MultiPoint s = s.positions
+some_fault_in LineString s = line_closed s.numbers.tally s.positions
+some_fault_in MultiLineString s = s.lines
+some_fault_in Polygon s = s.rings
+some_fault_in MultiPolygon s = s.polygons
+
+abbrev pub fault_in : Simple → FirstLevel → Option Fault
+fault_in simple s = if s.numbers.tally.count == 0 then None else some_fault_in simple s
+
+abbrev pub fault_as : Simple → FirstSummary → Option Fault
+fault_as simple (Other place) = misshapen_at place
+fault_as simple (Level s) = fault_in simple s
+
+-- ---- what is worth a warning for a type
+
+abbrev pub point_warned_in : FirstLevel → Warned
+point_warned_in s = judged_noted (position_least s.numbers) no_warned (position_closed s.numbers)
+
+-- of an array that is not empty
+abbrev pub some_warned_in : Simple → FirstLevel → Warned
+some_warned_in Point s = point_warned_in s
+some_warned_in MultiPoint s = s.positions_warned
+some_warned_in LineString s = s.positions_warned
+some_warned_in MultiLineString s = s.lines_warned
+some_warned_in Polygon s = s.rings_warned
+some_warned_in MultiPolygon s = s.polygons_warned
+
+abbrev pub warned_in : Simple → FirstLevel → Warned
+warned_in simple s = if s.numbers.tally.count == 0 then noted_in no_warned W6 s.numbers.tally.place else some_warned_in simple s
+
+abbrev pub warned_as : Simple → FirstSummary → Warned
+warned_as simple (Other place) = no_warned
+warned_as simple (Level s) = warned_in simple s
 
 -- ---- the machines
 
@@ -101,5 +148,5 @@ third_machine = array_machine position_machine third_gathering
 abbrev pub second_machine : Machine (Array (Array (Array Element Numbers) ThirdLevel) SecondLevel) SecondSummary
 second_machine = array_machine third_machine second_gathering
 
-abbrev pub walk_machine : Machine (Array (Array (Array (Array Element Numbers) ThirdLevel) SecondLevel) FirstLevel) SixFaults
+abbrev pub walk_machine : Machine (Array (Array (Array (Array Element Numbers) ThirdLevel) SecondLevel) FirstLevel) FirstSummary
 walk_machine = array_machine second_machine first_gathering

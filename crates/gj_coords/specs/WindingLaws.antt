@@ -10,9 +10,10 @@ use Rattle.gj_number.specs.Exact.{Exact, cut_places}
 use Rattle.gj_json.specs.Tree.{Tree}
 use Rattle.gj_coords.specs.declared.winding.Corner.{Corner}
 use Rattle.gj_coords.specs.declared.winding.Winding.{Winding}
+use Rattle.gj_coords.specs.Position.{position_answer}
 use Rattle.gj_coords.specs.Items.{elements_of}
 use Rattle.gj_coords.specs.Ring.{exact_value}
-use Rattle.gj_coords.specs.PositionLaws.{position_answer, position_values, values_from}
+use Rattle.gj_coords.specs.PositionLaws.{position_values, values_from}
 use Rattle.gj_coords.specs.Winding.{most_longitude, most_latitude, bounded_cut, cut_value, both, corner_of, first_corner, cut_position, in_range, cross, area_from, area_of, with_corner, all_corners, sign_of, turn_of, ring_turn}
 use Rattle.gj_coords.specs.WindingGather.{no_winding, term_of, corner_added, winding_added, all_added, turn_in, last_from, last_corner, IsSmall, Runs, HasRun, StandsFor}
 

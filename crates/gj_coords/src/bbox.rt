@@ -5,11 +5,16 @@ mod tests;
 ghost use Rattle.std.specs.Prelude.{◌≡◌};
 ghost use Rattle.gj_coords.specs.BoxGather.{unlike_number};
 
+mod latitudes;
+
 use crate::array::Array;
+use crate::bbox::latitudes::{Latitudes, number_in};
 use crate::element::Element;
 use crate::fault::{Fault, Rule, join_fault, lesser_fault};
+use crate::kind::Kind;
 use crate::part::{Gather, Part};
 use crate::tally::Tally;
+use crate::warnings::Warnings;
 use gj_json::{Event, What};
 
 /// A bounding box needs this many numbers.
@@ -22,6 +27,14 @@ pub struct BoxGather {
     pub fault: Option<Fault>,
     /// Whether the number of elements is odd.
     pub odd: bool,
+    pub latitudes: Latitudes,
+}
+
+/// What is known of a bounding box: its least fault, and where it begins if its south is above its north.
+#[derive(Clone, Copy)]
+pub struct BoxFindings {
+    pub fault: Option<Fault>,
+    pub upside_down: Option<u64>,
 }
 
 /// The fault of an element that is no number, by its first event.
@@ -39,7 +52,7 @@ fn not_a_number(element: &Event) -> Option<Fault>
 
 impl BoxGather {
     ghost use Rattle.std.specs.Prelude.{◌≡◌};
-    ghost use Rattle.gj_coords.specs.BoxGather.{wrong_length, box_gathering};
+    ghost use Rattle.gj_coords.specs.BoxGather.{wrong_length, upside_down, box_gathering};
 
     /// Adds an element by its first event.
     fn add_element(&mut self, element: &Event)
@@ -48,6 +61,18 @@ impl BoxGather {
         join_fault(&mut self.fault, not_a_number(element));
         self.tally.add();
         self.odd = !self.odd;
+        self.latitudes.add(number_in(&element.what));
+    }
+
+    /// Where the box begins, if its south is above its north.
+    fn upside_down(&self) -> Option<u64>
+        ensures { result ≡ upside_down self.now }
+    {
+        if self.latitudes.upside_down() {
+            Some(self.tally.place)
+        } else {
+            None
+        }
     }
 
     /// The fault of a length that is odd or too small.
@@ -68,7 +93,7 @@ impl BoxGather {
 impl Gather<Element> for BoxGather {
     ghost use Rattle.gj_coords.specs.BoxGather.{box_gathering};
 
-    type Answer = Option<Fault>;
+    type Answer = BoxFindings;
 
     ghost gathering = { box_gathering };
 
@@ -77,6 +102,7 @@ impl Gather<Element> for BoxGather {
             tally: Tally::open(0),
             fault: None,
             odd: false,
+            latitudes: Latitudes::none(),
         }
     }
 
@@ -84,6 +110,7 @@ impl Gather<Element> for BoxGather {
         self.tally = Tally::open(place);
         self.fault = None;
         self.odd = false;
+        self.latitudes = Latitudes::none();
     }
 
     fn add(&mut self, item: &Element) {
@@ -94,19 +121,25 @@ impl Gather<Element> for BoxGather {
         self.add_element(event);
     }
 
-    fn close(&self) -> Option<Fault> {
-        lesser_fault(self.wrong_length(), self.fault)
+    fn close(&self) -> BoxFindings {
+        BoxFindings {
+            fault: lesser_fault(self.wrong_length(), self.fault),
+            upside_down: self.upside_down(),
+        }
     }
 
-    fn other(head: &Event) -> Option<Fault> {
-        Some(Fault {
-            place: head.place,
-            rule: Rule::G20,
-        })
+    fn other(head: &Event) -> BoxFindings {
+        BoxFindings {
+            fault: Some(Fault {
+                place: head.place,
+                rule: Rule::G20,
+            }),
+            upside_down: None,
+        }
     }
 }
 
-/// Takes the events of one value of `bbox`, and tells its least fault.
+/// Takes the events of one value of `bbox`, and tells its least fault and its warnings.
 ///
 /// It holds one fixed record, whatever the value. So it counts the levels in it in 64 bits, and promises nothing for a
 /// value of 2^64 levels or more.
@@ -123,6 +156,8 @@ impl Bbox {
     ghost use Rattle.gj_coords.specs.Fault.{least};
     ghost use Rattle.gj_coords.specs.Box.{bbox_faults};
     ghost use Rattle.gj_coords.specs.Bbox.{StandsFor};
+    ghost use Rattle.gj_coords.specs.BoxWarnings.{bbox_warnings};
+    ghost use Rattle.gj_coords.specs.Noted.{StandsFor as WarningsStandFor};
 
     /// No event has come.
     pub fn new() -> Bbox
@@ -152,6 +187,16 @@ impl Bbox {
     pub fn fault(&self) -> Option<Fault>
         ensures least { (value : Tree) → StandsFor self.now (value_events value) → depth value < 2 ^ 64 → result ≡ least (bbox_faults value) }
     {
-        self.reader.answer()
+        self.reader.answer().fault
+    }
+
+    /// The warnings of the value as a bounding box: W8 where its south is above its north.
+    pub fn warnings(&self) -> Warnings
+        ensures stands { (value : Tree) → StandsFor self.now (value_events value) → depth value < 2 ^ 64 → WarningsStandFor result (bbox_warnings value) }
+    {
+        match self.reader.answer().upside_down {
+            Some(place) => Warnings::none().add(Kind::W8, place),
+            None => Warnings::none(),
+        }
     }
 }

@@ -5,11 +5,12 @@ mod tests;
 use crate::fault::Fault;
 use crate::part::Part;
 use crate::simple::Simple;
-use crate::walk::Walk;
+use crate::walk::{Walk, all_warnings, least_fault};
+use crate::warnings::Warnings;
 use gj_json::Event;
 use std::mem::size_of;
 
-/// Takes the events of one value of `coordinates`, and tells its least fault for each of the six types.
+/// Takes the events of one value of `coordinates`, and tells its least fault and its warnings for each of the six types.
 ///
 /// It holds one fixed record, whatever the value. So it counts the levels in it in 64 bits, and promises nothing for a
 /// value of 2^64 levels or more.
@@ -19,16 +20,19 @@ pub struct Coordinates {
 }
 
 // A linter holds one, and begins another for each member `coordinates`.
-const _: () = prove!(size_of::<Coordinates>() == 1920);
+const _: () = prove!(size_of::<Coordinates>() == 2896);
 
 impl Coordinates {
-    ghost use Rattle.std.specs.Prelude.{◌≡◌, ◌↔◌, ◌<◌, ◌^◌, ◌++◌, ◌∷◌, List, [], IsTrue};
+    ghost use Rattle.std.specs.Prelude.{◌≡◌, ◌↔◌, ◌<◌, ◌^◌, ◌++◌, ◌∷◌, List, [], length, IsTrue};
     ghost use Rattle.gj_json.specs.declared.event.Event.{Event};
     ghost use Rattle.gj_json.specs.Tree.{Tree, depth};
     ghost use Rattle.gj_json.specs.Events.{value_events};
     ghost use Rattle.gj_coords.specs.Fault.{least};
     ghost use Rattle.gj_coords.specs.Shape.{coordinates_faults};
     ghost use Rattle.gj_coords.specs.Coordinates.{StandsFor};
+    ghost use Rattle.gj_coords.specs.Noted.{StandsFor as WarningsStandFor};
+    ghost use Rattle.gj_coords.specs.CoordinateWarnings.{coordinates_warnings};
+    ghost use Rattle.gj_coords.specs.CoordinatesKept.{coordinates_kept};
 
     /// No event has come.
     pub fn new() -> Coordinates
@@ -57,6 +61,19 @@ impl Coordinates {
         ensures least { (value : Tree) → StandsFor self.now (value_events value) → depth value < 2 ^ 64 →
             result ≡ least (coordinates_faults simple value) }
     {
-        self.walk.answer().of(simple)
+        least_fault(&self.walk, simple)
+    }
+
+    /// The warnings of the value as the coordinates of this type (RFC 7946, sections 3.1, 3.1.1, 3.1.6, 4 and 11.2).
+    ///
+    /// What breaks a rule, as a position or as a linear ring, gives none. How a ring runs is told by a sum in 128 bits,
+    /// which is exact where the value has fewer than 2^64 events; [`crate::laws::kept_warnings`] says so of what is kept.
+    pub fn warnings(&self, simple: Simple) -> Warnings
+        ensures kept { (value : Tree) → StandsFor self.now (value_events value) → depth value < 2 ^ 64 →
+            result ≡ coordinates_kept simple value }
+        ensures stands { (value : Tree) → StandsFor self.now (value_events value) → length (value_events value) < 2 ^ 64 →
+            WarningsStandFor result (coordinates_warnings simple value) }
+    {
+        all_warnings(&self.walk, simple)
     }
 }

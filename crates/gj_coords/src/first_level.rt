@@ -1,47 +1,64 @@
 //! The value of `coordinates` itself, as each of the six types.
 use crate::array::Stage;
 use crate::fault::{Fault, join_fault};
+use crate::kind::Kind;
 use crate::part::Gather;
 use crate::position::{Numbers, misshapen};
+use crate::ring::RingRole;
 use crate::second_level::{SecondLevel, SecondReader};
 use crate::several::line_fault;
 use crate::simple::Simple;
+use crate::warned::Warned;
 use gj_json::Event;
 
-/// The least faults of the whole value, for each type.
-#[derive(Clone, Copy)]
-pub struct SixFaults {
-    pub point: Option<Fault>,
-    pub multi_point: Option<Fault>,
-    pub line_string: Option<Fault>,
-    pub multi_line_string: Option<Fault>,
-    pub polygon: Option<Fault>,
-    pub multi_polygon: Option<Fault>,
-}
-
-/// What the whole value gathers of its elements: as numbers, and their least faults as positions, as lines, as linear
-/// rings and as polygons.
+/// What the whole value gathers of its elements: as numbers; and of them as positions, as lines, as linear rings and as
+/// polygons the least fault and what is worth a warning.
 #[derive(Clone, Copy)]
 pub struct FirstLevel {
     pub numbers: Numbers,
+    pub positions_warned: Warned,
+    pub lines_warned: Warned,
+    pub rings_warned: Warned,
+    pub polygons_warned: Warned,
     pub positions: Option<Fault>,
     pub lines: Option<Fault>,
     pub rings: Option<Fault>,
     pub polygons: Option<Fault>,
 }
 
+/// What is known of the whole value.
+#[derive(Clone, Copy)]
+pub enum FirstSummary {
+    /// Where it begins. It is no array.
+    Other(u64),
+    /// What an array gathered.
+    Level(FirstLevel),
+}
+
 impl FirstLevel {
     ghost use Rattle.std.specs.Prelude.{◌≡◌};
-    ghost use Rattle.gj_coords.specs.Walk.{second_gathering, first_gathering};
+    ghost use Rattle.gj_coords.specs.Walk.{second_gathering, first_gathering, fault_in, some_fault_in, warned_in, some_warned_in, point_warned_in};
 
     /// Adds an element that is an array, by what it gathered.
     fn add_array(&mut self, element: &SecondLevel)
         ensures { self.new ≡ first_gathering.added self.old (second_gathering.closed element.now) }
     {
-        self.numbers.add_array(element.numbers.tally.place);
-        join_fault(&mut self.positions, element.numbers.least_fault());
+        let place = element.numbers.tally.place;
+        let position = element.numbers.least_fault();
+        let ring = element.ring_fault();
+        let role = RingRole::behind(self.numbers.tally.count);
+        element
+            .numbers
+            .warn_as(&position, &mut self.positions_warned);
+        self.lines_warned.take(&element.positions.warned);
+        element
+            .positions
+            .warn_ring(role, place, &ring, &mut self.rings_warned);
+        self.polygons_warned.take(&element.rings_warned);
+        self.numbers.add_array(place);
+        join_fault(&mut self.positions, position);
         join_fault(&mut self.lines, element.line_fault());
-        join_fault(&mut self.rings, element.ring_fault());
+        join_fault(&mut self.rings, ring);
         join_fault(&mut self.polygons, element.rings);
     }
 
@@ -55,18 +72,82 @@ impl FirstLevel {
         join_fault(&mut self.rings, misshapen(head.place));
         join_fault(&mut self.polygons, misshapen(head.place));
     }
+
+    /// The least fault for a type.
+    pub fn fault(&self, simple: Simple) -> Option<Fault>
+        ensures { result ≡ fault_in simple self.now }
+    {
+        if self.numbers.tally.count == 0 {
+            None
+        } else {
+            self.some_fault(simple)
+        }
+    }
+
+    /// The least fault of an array that is not empty.
+    fn some_fault(&self, simple: Simple) -> Option<Fault>
+        ensures { result ≡ some_fault_in simple self.now }
+    {
+        match simple {
+            Simple::Point => self.numbers.least_fault(),
+            Simple::MultiPoint => self.positions,
+            Simple::LineString => line_fault(&self.numbers.tally, self.positions),
+            Simple::MultiLineString => self.lines,
+            Simple::Polygon => self.rings,
+            Simple::MultiPolygon => self.polygons,
+        }
+    }
+
+    /// What is worth a warning for a type.
+    pub fn warned(&self, simple: Simple) -> Warned
+        ensures { result ≡ warned_in simple self.now }
+    {
+        if self.numbers.tally.count == 0 {
+            let mut warned = Warned::none();
+            warned.note(Kind::W6, self.numbers.tally.place);
+            warned
+        } else {
+            self.some_warned(simple)
+        }
+    }
+
+    /// What is worth a warning in an array that is not empty.
+    fn some_warned(&self, simple: Simple) -> Warned
+        ensures { result ≡ some_warned_in simple self.now }
+    {
+        match simple {
+            Simple::Point => self.point_warned(),
+            Simple::MultiPoint | Simple::LineString => self.positions_warned,
+            Simple::MultiLineString => self.lines_warned,
+            Simple::Polygon => self.rings_warned,
+            Simple::MultiPolygon => self.polygons_warned,
+        }
+    }
+
+    fn point_warned(&self) -> Warned
+        ensures { result ≡ point_warned_in self.now }
+    {
+        let mut warned = Warned::none();
+        self.numbers
+            .warn_as(&self.numbers.least_fault(), &mut warned);
+        warned
+    }
 }
 
 impl Gather<SecondReader> for FirstLevel {
     ghost use Rattle.gj_coords.specs.Walk.{first_gathering};
 
-    type Answer = SixFaults;
+    type Answer = FirstSummary;
 
     ghost gathering = { first_gathering };
 
     fn new() -> FirstLevel {
         FirstLevel {
             numbers: Numbers::none(),
+            positions_warned: Warned::none(),
+            lines_warned: Warned::none(),
+            rings_warned: Warned::none(),
+            polygons_warned: Warned::none(),
             positions: None,
             lines: None,
             rings: None,
@@ -76,6 +157,10 @@ impl Gather<SecondReader> for FirstLevel {
 
     fn open(&mut self, place: u64) {
         self.numbers.clear(place);
+        self.positions_warned.clear();
+        self.lines_warned.clear();
+        self.rings_warned.clear();
+        self.polygons_warned.clear();
         self.positions = None;
         self.lines = None;
         self.rings = None;
@@ -93,54 +178,11 @@ impl Gather<SecondReader> for FirstLevel {
         self.add_other(event);
     }
 
-    fn close(&self) -> SixFaults {
-        if self.numbers.tally.count == 0 {
-            return SixFaults::all(None);
-        }
-        SixFaults {
-            point: self.numbers.least_fault(),
-            multi_point: self.positions,
-            line_string: line_fault(&self.numbers.tally, self.positions),
-            multi_line_string: self.lines,
-            polygon: self.rings,
-            multi_polygon: self.polygons,
-        }
+    fn close(&self) -> FirstSummary {
+        FirstSummary::Level(*self)
     }
 
-    fn other(head: &Event) -> SixFaults {
-        SixFaults::all(misshapen(head.place))
-    }
-}
-
-impl SixFaults {
-    ghost use Rattle.std.specs.Prelude.{◌≡◌};
-    ghost use Rattle.gj_coords.specs.Walk.{all_six, fault_as};
-
-    /// The same for each type.
-    fn all(fault: Option<Fault>) -> SixFaults
-        ensures { result ≡ all_six fault }
-    {
-        SixFaults {
-            point: fault,
-            multi_point: fault,
-            line_string: fault,
-            multi_line_string: fault,
-            polygon: fault,
-            multi_polygon: fault,
-        }
-    }
-
-    /// The one for this type.
-    pub fn of(&self, simple: Simple) -> Option<Fault>
-        ensures { result ≡ fault_as simple self.now }
-    {
-        match simple {
-            Simple::Point => self.point,
-            Simple::MultiPoint => self.multi_point,
-            Simple::LineString => self.line_string,
-            Simple::MultiLineString => self.multi_line_string,
-            Simple::Polygon => self.polygon,
-            Simple::MultiPolygon => self.multi_polygon,
-        }
+    fn other(head: &Event) -> FirstSummary {
+        FirstSummary::Other(head.place)
     }
 }

@@ -1,13 +1,17 @@
 //! Laws of the definitions, each the contract of a function that does nothing.
-ghost use Rattle.std.specs.Prelude.{◌≡◌, ◌↔◌, ◌++◌, ◌∷◌, [], List, Option, Some, None, IsTrue};
+ghost use Rattle.std.specs.Prelude.{◌≡◌, ◌↔◌, ◌<◌, ◌^◌, ◌++◌, ◌∷◌, [], List, length, Option, Some, None, IsTrue};
 ghost use Rattle.std.specs.List.{AllByRecursion};
 ghost use Rattle.gj_json.specs.Tree.{Tree};
+ghost use Rattle.gj_json.specs.Events.{value_events};
 ghost use Rattle.gj_coords.specs.declared.fault.Fault.{Fault};
 ghost use Rattle.gj_coords.specs.Fault.{comes_first, lesser, least};
 ghost use Rattle.gj_coords.specs.Ring.{agree, first_values};
 ghost use Rattle.gj_coords.specs.declared.warnings.Warnings.{Warnings};
 ghost use Rattle.gj_coords.specs.Warnings.{Warning};
+ghost use Rattle.gj_coords.specs.declared.simple.Simple.{Simple};
 ghost use Rattle.gj_coords.specs.Noted.{warnings_of, no_warnings, joined};
+ghost use Rattle.gj_coords.specs.CoordinateWarnings.{coordinates_warnings};
+ghost use Rattle.gj_coords.specs.CoordinatesKept.{coordinates_kept};
 
 /// The least of some faults is one of them, and comes before each of them or is the same. It can be
 /// taken in any grouping.
@@ -34,4 +38,10 @@ pub fn joined_warnings()
     ensures grouping { (a b c : Warnings) → joined (joined a b) c ≡ joined a (joined b c) }
     ensures order { (a b : Warnings) → joined a b ≡ joined b a }
     ensures append { (warnings others : List Warning) → warnings_of (warnings ++ others) ≡ joined (warnings_of warnings) (warnings_of others) }
+{}
+
+/// What is kept of a value of fewer than 2^64 events is what is kept of the list of its warnings.
+pub fn kept_warnings()
+    ensures { (simple : Simple) (value : Tree) → length (value_events value) < 2 ^ 64 →
+        coordinates_kept simple value ≡ warnings_of (coordinates_warnings simple value) }
 {}

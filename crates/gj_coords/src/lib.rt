@@ -1,8 +1,9 @@
 //! What is wrong with the coordinates of a geometry, and with a bounding box (RFC 7946, sections 3.1 and 5).
 //!
 //! A [`Coordinates`] takes the events of one value, whatever it is, and holds one fixed record. Its
-//! [`Coordinates::fault`] is the least of all faults that the definitions list for the whole value as a type, for each
-//! of the six types at once. A [`Bbox`] does the same for a bounding box. A [`Watcher`] is the plain program for one type.
+//! [`Coordinates::fault`] is the least of all faults that the definitions list for the whole value as a type, and its
+//! [`Coordinates::warnings`] are what is kept of all that is worth a warning in it, for each of the six types at once. A
+//! [`Bbox`] does the same for a bounding box. A [`Watcher`] is the plain program for one type.
 #![tactic(auto)]
 
 mod array;
@@ -10,12 +11,14 @@ mod bbox;
 mod coordinates;
 mod element;
 mod fault;
+mod findings;
 mod first_level;
 mod kind;
 pub mod laws;
 mod noted;
 mod part;
 mod position;
+mod position_warned;
 mod ring;
 #[cfg(test)]
 mod sample;
@@ -25,6 +28,7 @@ mod simple;
 mod tally;
 mod third_level;
 mod walk;
+mod warned;
 mod warnings;
 mod watcher;
 mod whole;

@@ -1,6 +1,6 @@
 //! What is kept of the warnings of one kind.
 ghost use Rattle.std.specs.Prelude.{◌≡◌};
-ghost use Rattle.gj_coords.specs.Noted.{noted_as, is_nothing, joined_noted};
+ghost use Rattle.gj_coords.specs.Noted.{noted_as, nothing_noted, is_nothing, joined_noted};
 
 /// How many warnings of one kind there are, and where the first stands.
 #[derive(Clone, Copy)]
@@ -12,6 +12,14 @@ pub struct Noted {
 }
 
 impl Noted {
+    /// What is kept of no warning.
+    #[inline]
+    pub fn nothing() -> Noted
+        ensures { result ≡ nothing_noted }
+    {
+        Noted { count: 0, first: 0 }
+    }
+
     /// What is kept of one warning.
     #[inline]
     pub fn one(place: u64) -> Noted
@@ -25,7 +33,7 @@ impl Noted {
 
     /// Whether it is what is kept of no warning. Both are tested, so that nothing joined to any value leaves it as it is.
     #[inline]
-    fn is_nothing(&self) -> bool
+    pub fn is_nothing(&self) -> bool
         ensures { result ≡ is_nothing self.now }
     {
         self.count == 0 && self.first == 0

@@ -1,10 +1,11 @@
 //! What the readers of coordinates are made of.
-ghost use Rattle.std.specs.Prelude.{◌≡◌, Option};
+ghost use Rattle.std.specs.Prelude.{◌≡◌};
 ghost use Rattle.gj_coords.specs.Reading.{Machine};
 ghost use Rattle.gj_coords.specs.Gathering.{Gathering};
-ghost use Rattle.gj_coords.specs.declared.fault.Fault.{Fault};
+ghost use Rattle.gj_coords.specs.Findings.{Judgement};
 
 use crate::fault::Fault;
+use crate::warned::Warned;
 use gj_json::Event;
 
 /// Reads one value event by event, and answers.
@@ -71,10 +72,15 @@ pub trait Gather<W: Part>: Copy {
         ensures { result ≡ gathering.otherwise head.now };
 }
 
-/// An answer that tells the least fault.
+/// An answer that tells of its value the least fault, and what is worth a warning.
 pub trait Judged: Copy {
-    ghost fault_of: { Self → Option Fault };
+    /// What its methods do, as functions.
+    ghost judgement: { Judgement Self };
 
     fn fault(&self) -> Option<Fault>
-        ensures { result ≡ fault_of self.now };
+        ensures { result ≡ judgement.fault_of self.now };
+
+    /// Notes what is worth a warning in the value, which is an element behind so many others.
+    fn warn(&self, others: u8, warned: &mut Warned)
+        ensures { warned.new ≡ judgement.warned_behind others warned.old self.now };
 }

@@ -1,12 +1,17 @@
 //! Positions (RFC 7946, section 3.1.1).
 ghost use Rattle.std.specs.Prelude.{◌≡◌};
+ghost use Rattle.gj_coords.specs.CoordinateWarnings.{is_precise};
 ghost use Rattle.gj_coords.specs.Position.{misshapen_at, position_closed};
 
 use crate::array::Array;
 use crate::element::Element;
 use crate::fault::{Fault, Rule, join_fault, lesser_fault};
-use crate::part::{Gather, Judged};
+use crate::noted::Noted;
+use crate::part::Gather;
+use crate::position_warned::note_position;
 use crate::tally::Tally;
+use crate::warned::Warned;
+use crate::winding::Corner;
 use gj_json::{Event, What};
 use gj_number::Decimal;
 
@@ -14,7 +19,10 @@ use gj_number::Decimal;
 const NEEDED: u8 = 2;
 
 /// This many numbers of a position must be held, and are compared.
-const MOST_VALUES: u8 = 3;
+pub const MOST_VALUES: u8 = 3;
+
+/// A number with more decimal places than these is too precise.
+const MOST_PLACES: u16 = 7;
 
 /// The exact values of a position's first three numbers, and their count.
 #[derive(Clone, Copy, PartialEq, Eq)]
@@ -31,19 +39,24 @@ pub struct Numbers {
     pub values: Values,
     pub tally: Tally,
     pub fault: Option<Fault>,
+    /// Those of the first three that are too precise.
+    pub precise: Noted,
 }
 
-/// What is known of a value that was read as a position: its first event, its least fault and its values.
+/// What is known of a value that was read as a position: its first event, its least fault, its values, how many elements
+/// it has as far as they are counted, and which of its numbers are too precise.
 #[derive(Clone, Copy)]
 pub struct Position {
     pub values: Values,
     pub head: Event,
     pub fault: Option<Fault>,
+    pub count: u8,
+    pub precise: Noted,
 }
 
 impl Values {
     ghost use Rattle.std.specs.Prelude.{◌≡◌};
-    ghost use Rattle.gj_coords.specs.Position.{no_values, pushed, same_values};
+    ghost use Rattle.gj_coords.specs.Position.{no_values, pushed, same_values, corner_in};
 
     pub fn none() -> Values
         ensures { result ≡ no_values }
@@ -83,13 +96,30 @@ impl Values {
     {
         *self == *other
     }
+
+    /// The corner of the first two, where they are in range.
+    pub fn corner(&self) -> Option<Corner>
+        ensures { result ≡ corner_in self.now }
+    {
+        Corner::new(&self.first, &self.second)
+    }
+}
+
+fn is_precise(value: &Option<Decimal>) -> bool
+    ensures { result ≡ is_precise value.now }
+{
+    match value {
+        Some(decimal) => decimal.places() > MOST_PLACES,
+        None => false,
+    }
 }
 
 impl Numbers {
     ghost use Rattle.std.specs.Prelude.{◌≡◌};
     ghost use Rattle.gj_json.specs.declared.event.What.TheVariants.{OpenArray};
     ghost use Rattle.gj_coords.specs.Sent.{event_at};
-    ghost use Rattle.gj_coords.specs.Position.{number_added, numbers_start, position_least};
+    ghost use Rattle.gj_coords.specs.declared.kind.Kind.TheVariants.{W3, W4, W5};
+    ghost use Rattle.gj_coords.specs.Position.{number_added, first_judged, numbers_start, position_least, position_noted, judged_noted};
 
     pub fn none() -> Numbers
         ensures { result ≡ numbers_start 0 }
@@ -98,6 +128,7 @@ impl Numbers {
             values: Values::none(),
             tally: Tally::open(0),
             fault: None,
+            precise: Noted::nothing(),
         }
     }
 
@@ -107,6 +138,22 @@ impl Numbers {
         self.values.clear();
         self.tally = Tally::open(place);
         self.fault = None;
+        self.precise = Noted::nothing();
+    }
+
+    /// Judges one of the first three numbers.
+    fn judge_first(&mut self, place: u64, value: &Option<Decimal>)
+        ensures { self.new ≡ first_judged self.old place value.now }
+    {
+        if value.is_none() {
+            let unheld = Fault {
+                place,
+                rule: Rule::G16,
+            };
+            join_fault(&mut self.fault, Some(unheld));
+        } else if is_precise(value) {
+            self.precise = self.precise.join(Noted::one(place));
+        }
     }
 
     /// Adds an element by its first event.
@@ -115,12 +162,8 @@ impl Numbers {
     {
         match &element.what {
             What::Number(value) => {
-                if value.is_none() && self.values.count < MOST_VALUES {
-                    let unheld = Fault {
-                        place: element.place,
-                        rule: Rule::G16,
-                    };
-                    join_fault(&mut self.fault, Some(unheld));
+                if self.values.count < MOST_VALUES {
+                    self.judge_first(element.place, value);
                 }
                 self.values.push(value);
             }
@@ -158,6 +201,31 @@ impl Numbers {
                 what: What::OpenArray,
             },
             fault: self.least_fault(),
+            count: self.tally.count,
+            precise: self.precise,
+        }
+    }
+
+    /// Notes what is worth a warning in a position that breaks no rule, and has this corner.
+    #[inline]
+    pub fn warn(&self, corner: &Option<Corner>, warned: &mut Warned)
+        ensures { warned.new ≡ position_noted warned.old self.now.tally.place self.now.tally.count corner.now self.now.precise }
+    {
+        note_position(
+            self.tally.place,
+            self.tally.count,
+            corner,
+            self.precise,
+            warned,
+        );
+    }
+
+    /// Notes what is worth a warning in a position, if it breaks no rule.
+    pub fn warn_as(&self, fault: &Option<Fault>, warned: &mut Warned)
+        ensures { warned.new ≡ judged_noted fault.now warned.old (position_closed self.now) }
+    {
+        if fault.is_none() {
+            self.warn(&self.values.corner(), warned);
         }
     }
 }
@@ -174,6 +242,8 @@ impl Position {
             values: Values::none(),
             head: *head,
             fault: misshapen(head.place),
+            count: 0,
+            precise: Noted::nothing(),
         }
     }
 }
@@ -218,14 +288,6 @@ pub fn misshapen(place: u64) -> Option<Fault>
         place,
         rule: Rule::G11,
     })
-}
-
-impl Judged for Position {
-    ghost fault_of = { λ position. position.fault };
-
-    fn fault(&self) -> Option<Fault> {
-        self.fault
-    }
 }
 
 /// Reads a position.

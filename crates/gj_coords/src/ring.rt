@@ -1,21 +1,36 @@
 //! Arrays of positions: what lines and linear rings have in common (RFC 7946, sections 3.1.4 and 3.1.6).
-use crate::array::Array;
+ghost use Rattle.std.specs.Prelude.{◌≡◌};
+ghost use Rattle.gj_coords.specs.Positions.{role_behind, runs_wrong};
+
+use crate::array::{Array, Stage};
 use crate::fault::{Fault, Rule, join_fault, lesser_fault};
-use crate::part::{Gather, Part};
-use crate::position::{Position, PositionReader, Values, misshapen};
+use crate::kind::Kind;
+use crate::part::{Gather, Judged};
+use crate::position::{Numbers, PositionReader, Values, misshapen};
 use crate::tally::Tally;
+use crate::warned::Warned;
+use crate::winding::{Corner, Turn, Winding};
 use gj_json::Event;
 
 /// A linear ring needs this many positions.
 const NEEDED: u8 = 4;
 
-/// What an array of positions gathers: its least fault; and where there is none, the values of its first position and
-/// whether its last position has the same.
+/// What an array of positions gathers: its least fault, and what is worth a warning in them; and where there is no fault,
+/// the values of its first position, whether its last position has the same, and how they run.
 #[derive(Clone, Copy)]
 pub struct Positions {
     pub first: Option<Values>,
+    pub winding: Winding,
+    pub warned: Warned,
     pub fault: Option<Fault>,
     pub closes: bool,
+}
+
+/// What a linear ring is in a polygon (RFC 7946, section 3.1.6).
+#[derive(Clone, Copy)]
+pub enum RingRole {
+    Exterior,
+    Hole,
 }
 
 /// What a linear ring gathers.
@@ -25,16 +40,50 @@ pub struct RingGather {
     pub tally: Tally,
 }
 
+/// What is known of a value that was read as a linear ring: its positions, its place and its least fault.
+#[derive(Clone, Copy)]
+pub struct LinearRing {
+    pub positions: Positions,
+    pub place: u64,
+    pub fault: Option<Fault>,
+}
+
+impl RingRole {
+    /// The one of a ring behind so many others.
+    pub fn behind(others: u8) -> RingRole
+        ensures { result ≡ role_behind others }
+    {
+        if others == 0 {
+            RingRole::Exterior
+        } else {
+            RingRole::Hole
+        }
+    }
+
+    /// Whether a ring that runs so runs the wrong way.
+    fn runs_wrong(self, turn: &Turn) -> bool
+        ensures { result ≡ runs_wrong self turn.now }
+    {
+        match self {
+            RingRole::Exterior => turn.wrong_for_exterior(),
+            RingRole::Hole => turn.wrong_for_hole(),
+        }
+    }
+}
+
 impl Positions {
     ghost use Rattle.std.specs.Prelude.{◌≡◌};
-    ghost use Rattle.gj_coords.specs.Position.{no_values, misshapen_at};
-    ghost use Rattle.gj_coords.specs.Positions.{no_positions, position_added, ring_closed};
+    ghost use Rattle.gj_coords.specs.WindingGather.{turn_in};
+    ghost use Rattle.gj_coords.specs.Position.{position_closed, misshapen_at};
+    ghost use Rattle.gj_coords.specs.Positions.{no_positions, position_added, misshapen_added, sound_joined, ring_closed, ring_noted};
 
     pub fn none() -> Positions
         ensures { result ≡ no_positions }
     {
         Positions {
             first: None,
+            winding: Winding::none(),
+            warned: Warned::none(),
             fault: None,
             closes: true,
         }
@@ -44,18 +93,32 @@ impl Positions {
         ensures { self.new ≡ no_positions }
     {
         self.first = None;
+        self.winding = Winding::none();
+        self.warned.clear();
         self.fault = None;
         self.closes = true;
     }
 
-    /// Adds a position by its values and its least fault.
-    pub fn add(&mut self, values: &Values, fault: Option<Fault>)
-        ensures { self.new ≡ position_added self.old values.now fault }
+    /// Adds a position by what it gathered.
+    pub fn add(&mut self, position: &Numbers)
+        ensures { self.new ≡ position_added self.old (position_closed position.now) }
     {
-        join_fault(&mut self.fault, fault);
-        if self.fault.is_some() {
+        let fault = position.least_fault();
+        if fault.is_some() {
+            join_fault(&mut self.fault, fault);
             return;
         }
+        let corner = position.values.corner();
+        position.warn(&corner, &mut self.warned);
+        if self.fault.is_none() {
+            self.add_sound(&position.values, corner);
+        }
+    }
+
+    /// Adds a position without a fault behind others without one.
+    fn add_sound(&mut self, values: &Values, corner: Option<Corner>)
+        ensures { self.new ≡ sound_joined self.old values.now corner }
+    {
         if self.first.is_none() {
             self.first = Some(*values);
         }
@@ -63,13 +126,24 @@ impl Positions {
             Some(first) => first.same(values),
             None => true,
         };
+        self.winding.add(corner);
     }
 
     /// Adds a value that is no array.
     pub fn add_misshapen(&mut self, place: u64)
-        ensures { self.new ≡ position_added self.old no_values (misshapen_at place) }
+        ensures { self.new ≡ misshapen_added self.old place }
     {
         join_fault(&mut self.fault, misshapen(place));
+    }
+
+    /// Notes what is worth a warning in these positions as a linear ring at this place that has this least fault.
+    pub fn warn_ring(&self, role: RingRole, place: u64, fault: &Option<Fault>, warned: &mut Warned)
+        ensures { warned.new ≡ ring_noted role warned.old place fault.now (turn_in self.now.winding) self.now.warned }
+    {
+        if fault.is_none() && role.runs_wrong(&self.winding.turn()) {
+            warned.note(Kind::W2, place);
+        }
+        warned.take(&self.warned);
     }
 
     /// The least fault of these positions as a linear ring.
@@ -91,12 +165,22 @@ impl Positions {
 
 impl RingGather {
     ghost use Rattle.std.specs.Prelude.{◌≡◌};
+    ghost use Rattle.gj_coords.specs.Position.{position_closed, no_position};
     ghost use Rattle.gj_coords.specs.Positions.{ring_gathering};
 
-    fn add_position(&mut self, position: &Position)
-        ensures { self.new ≡ ring_gathering.added self.old position.now }
+    /// Adds an element that is an array, by what it gathered.
+    fn add_array(&mut self, element: &Numbers)
+        ensures { self.new ≡ ring_gathering.added self.old (position_closed element.now) }
     {
-        self.positions.add(&position.values, position.fault);
+        self.positions.add(element);
+        self.tally.add();
+    }
+
+    /// Adds an element that is no array, by its first event.
+    fn add_other(&mut self, head: &Event)
+        ensures { self.new ≡ ring_gathering.added self.old (no_position head.now) }
+    {
+        self.positions.add_misshapen(head.place);
         self.tally.add();
     }
 }
@@ -104,7 +188,7 @@ impl RingGather {
 impl Gather<PositionReader> for RingGather {
     ghost use Rattle.gj_coords.specs.Positions.{ring_gathering};
 
-    type Answer = Option<Fault>;
+    type Answer = LinearRing;
 
     ghost gathering = { ring_gathering };
 
@@ -121,19 +205,46 @@ impl Gather<PositionReader> for RingGather {
     }
 
     fn add(&mut self, item: &PositionReader) {
-        self.add_position(&item.answer());
+        match item.stage {
+            Stage::Broken => self.add_other(&item.other.first),
+            _ => self.add_array(&item.gather),
+        }
     }
 
     fn add_single(&mut self, event: &Event) {
-        self.add_position(&Position::none(event));
+        self.add_other(event);
     }
 
-    fn close(&self) -> Option<Fault> {
-        self.positions.ring_fault(&self.tally)
+    fn close(&self) -> LinearRing {
+        LinearRing {
+            positions: self.positions,
+            place: self.tally.place,
+            fault: self.positions.ring_fault(&self.tally),
+        }
     }
 
-    fn other(head: &Event) -> Option<Fault> {
-        misshapen(head.place)
+    fn other(head: &Event) -> LinearRing {
+        LinearRing {
+            positions: Positions::none(),
+            place: head.place,
+            fault: misshapen(head.place),
+        }
+    }
+}
+
+impl Judged for LinearRing {
+    ghost use Rattle.gj_coords.specs.Positions.{ring_judged};
+
+    ghost judgement = { ring_judged };
+
+    fn fault(&self) -> Option<Fault> {
+        self.fault
+    }
+
+    fn warn(&self, others: u8, warned: &mut Warned) {
+        let role = RingRole::behind(others);
+        self.positions
+            .warn_ring(role, self.place, &self.fault, warned);
     }
 }
 

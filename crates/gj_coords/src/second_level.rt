@@ -3,25 +3,34 @@ use crate::array::{Array, Stage};
 use crate::fault::{Fault, join_fault};
 use crate::part::Gather;
 use crate::position::{Numbers, Position, misshapen};
-use crate::ring::Positions;
+use crate::ring::{Positions, RingRole};
 use crate::several::line_fault;
 use crate::third_level::{ThirdLevel, ThirdReader};
+use crate::warned::Warned;
+use crate::winding::Turn;
 use gj_json::Event;
 
-/// The least faults of a value as a position, a line, a linear ring and a polygon.
+/// What is known of a value as a position, a line, a linear ring and a polygon.
 #[derive(Clone, Copy)]
 pub struct SecondSummary {
     pub position: Position,
     pub line: Option<Fault>,
     pub ring: Option<Fault>,
     pub polygon: Option<Fault>,
+    /// How its positions run.
+    pub turn: Turn,
+    /// What is worth a warning in its positions.
+    pub warned: Warned,
+    /// What is worth a warning in its elements as the rings of a polygon.
+    pub rings_warned: Warned,
 }
 
-/// What a value one array deep gathers of its elements: as numbers, as positions, and their least fault as linear rings.
+/// What a value one array deep gathers of its elements: as numbers, as positions, and as the linear rings of a polygon.
 #[derive(Clone, Copy)]
 pub struct SecondLevel {
     pub numbers: Numbers,
     pub positions: Positions,
+    pub rings_warned: Warned,
     pub rings: Option<Fault>,
 }
 
@@ -38,10 +47,15 @@ impl SecondLevel {
     fn add_array(&mut self, element: &ThirdLevel)
         ensures { self.new ≡ second_gathering.added self.old (third_gathering.closed element.now) }
     {
-        self.numbers.add_array(element.numbers.tally.place);
-        self.positions
-            .add(&element.numbers.values, element.numbers.least_fault());
-        join_fault(&mut self.rings, element.ring_fault());
+        let place = element.numbers.tally.place;
+        let ring = element.ring_fault();
+        let role = RingRole::behind(self.numbers.tally.count);
+        element
+            .positions
+            .warn_ring(role, place, &ring, &mut self.rings_warned);
+        self.numbers.add_array(place);
+        self.positions.add(&element.numbers);
+        join_fault(&mut self.rings, ring);
     }
 
     /// Adds an element that is no array, by its first event.
@@ -79,6 +93,7 @@ impl Gather<ThirdReader> for SecondLevel {
         SecondLevel {
             numbers: Numbers::none(),
             positions: Positions::none(),
+            rings_warned: Warned::none(),
             rings: None,
         }
     }
@@ -86,6 +101,7 @@ impl Gather<ThirdReader> for SecondLevel {
     fn open(&mut self, place: u64) {
         self.numbers.clear(place);
         self.positions.clear();
+        self.rings_warned.clear();
         self.rings = None;
     }
 
@@ -106,6 +122,9 @@ impl Gather<ThirdReader> for SecondLevel {
             line: self.line_fault(),
             ring: self.ring_fault(),
             polygon: self.rings,
+            turn: self.positions.winding.turn(),
+            warned: self.positions.warned,
+            rings_warned: self.rings_warned,
         }
     }
 
@@ -115,6 +134,9 @@ impl Gather<ThirdReader> for SecondLevel {
             line: misshapen(head.place),
             ring: misshapen(head.place),
             polygon: misshapen(head.place),
+            turn: Turn::Unjudged,
+            warned: Warned::none(),
+            rings_warned: Warned::none(),
         }
     }
 }

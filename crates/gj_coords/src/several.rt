@@ -4,9 +4,11 @@ ghost use Rattle.gj_coords.specs.Several.{line_closed};
 
 use crate::array::Array;
 use crate::fault::{Fault, Rule, join_fault, lesser_fault};
+use crate::findings::Findings;
 use crate::part::{Gather, Judged, Part};
-use crate::position::{PositionReader, misshapen};
+use crate::position::PositionReader;
 use crate::tally::Tally;
+use crate::warned::Warned;
 use gj_json::Event;
 
 /// A list may be empty.
@@ -27,51 +29,61 @@ pub fn line_fault(tally: &Tally, positions: Option<Fault>) -> Option<Fault>
 pub struct Several<const NEEDED: u8> {
     pub tally: Tally,
     pub fault: Option<Fault>,
+    pub warned: Warned,
+}
+
+impl<const NEEDED: u8> Several<NEEDED> {
+    ghost use Rattle.std.specs.Prelude.{◌≡◌};
+    ghost use Rattle.gj_coords.specs.Several.{several_gathering};
+
+    /// Adds an element that was answered for so.
+    fn add_answer<A: Judged>(&mut self, answer: &A)
+        ensures { self.new ≡ (several_gathering A.judgement NEEDED).added self.old answer.now }
+    {
+        answer.warn(self.tally.count, &mut self.warned);
+        join_fault(&mut self.fault, answer.fault());
+        self.tally.add();
+    }
 }
 
 impl<W: Part<Answer: Judged>, const NEEDED: u8> Gather<W> for Several<NEEDED> {
     ghost use Rattle.gj_coords.specs.Several.{several_gathering};
 
-    type Answer = Option<Fault>;
+    type Answer = Findings;
 
-    ghost gathering = { several_gathering W.Answer.fault_of NEEDED };
+    ghost gathering = { several_gathering W.Answer.judgement NEEDED };
 
     fn new() -> Self {
         Several {
             tally: Tally::open(0),
             fault: None,
+            warned: Warned::none(),
         }
     }
 
     fn open(&mut self, place: u64) {
         self.tally = Tally::open(place);
         self.fault = None;
+        self.warned.clear();
     }
 
     fn add(&mut self, item: &W) {
-        join_fault(&mut self.fault, item.answer().fault());
-        self.tally.add();
+        self.add_answer(&item.answer());
     }
 
     fn add_single(&mut self, event: &Event) {
-        join_fault(&mut self.fault, W::single(event).fault());
-        self.tally.add();
+        self.add_answer(&W::single(event));
     }
 
-    fn close(&self) -> Option<Fault> {
-        lesser_fault(self.tally.few(NEEDED, Rule::G13), self.fault)
+    fn close(&self) -> Findings {
+        Findings {
+            fault: lesser_fault(self.tally.few(NEEDED, Rule::G13), self.fault),
+            warned: self.warned,
+        }
     }
 
-    fn other(head: &Event) -> Option<Fault> {
-        misshapen(head.place)
-    }
-}
-
-impl Judged for Option<Fault> {
-    ghost fault_of = { λ fault. fault };
-
-    fn fault(&self) -> Option<Fault> {
-        *self
+    fn other(head: &Event) -> Findings {
+        Findings::misshapen(head.place)
     }
 }
 

@@ -4,13 +4,19 @@ use crate::fault::Fault;
 use crate::part::Gather;
 use crate::position::{Numbers, Position, PositionReader, misshapen};
 use crate::ring::Positions;
+use crate::warned::Warned;
+use crate::winding::Turn;
 use gj_json::Event;
 
-/// The least faults of a value as a position and as a linear ring.
+/// What is known of a value as a position and as a linear ring.
 #[derive(Clone, Copy)]
 pub struct ThirdSummary {
     pub position: Position,
     pub ring: Option<Fault>,
+    /// How its positions run.
+    pub turn: Turn,
+    /// What is worth a warning in its positions.
+    pub warned: Warned,
 }
 
 /// What a value two arrays deep gathers of its elements: as numbers, and as positions.
@@ -34,7 +40,7 @@ impl ThirdLevel {
         ensures { self.new ≡ third_gathering.added self.old (position_closed element.now) }
     {
         self.numbers.add_array(element.tally.place);
-        self.positions.add(&element.values, element.least_fault());
+        self.positions.add(element);
     }
 
     /// Adds an element that is no array, by its first event.
@@ -88,6 +94,8 @@ impl Gather<PositionReader> for ThirdLevel {
         ThirdSummary {
             position: self.numbers.position(),
             ring: self.ring_fault(),
+            turn: self.positions.winding.turn(),
+            warned: self.positions.warned,
         }
     }
 
@@ -95,6 +103,8 @@ impl Gather<PositionReader> for ThirdLevel {
         ThirdSummary {
             position: Position::none(head),
             ring: misshapen(head.place),
+            turn: Turn::Unjudged,
+            warned: Warned::none(),
         }
     }
 }

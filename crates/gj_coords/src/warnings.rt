@@ -65,7 +65,7 @@ const _: () = prove!(size_of::<Warnings>() == 112);
 impl Warnings {
     ghost use Rattle.std.specs.Prelude.{◌≡◌, ◌↔◌, ◌++◌, ◌∷◌, [], List, IsTrue};
     ghost use Rattle.gj_coords.specs.Warnings.{Warning, warning_at, count_of, first_of};
-    ghost use Rattle.gj_coords.specs.Noted.{StandsFor, warnings_of, no_warnings, joined, added, replaced, kept, joined_noted};
+    ghost use Rattle.gj_coords.specs.Noted.{StandsFor, warnings_of, no_warnings, joined, added, replaced, kept, joined_noted, with_noted, count_in, first_in, none_in};
 
     /// No warning.
     #[tactic(auto, unfolding(crate::specs::Noted::no_warnings, crate::specs::Noted::warnings_of))]
@@ -115,6 +115,14 @@ impl Warnings {
         ensures { self.new ≡ added self.old kind place }
     {
         let noted = self.kept(kind).join(Noted::one(place));
+        self.replace(kind, noted);
+    }
+
+    /// Takes some warnings of a kind.
+    pub(crate) fn note_all(&mut self, kind: Kind, noted: Noted)
+        ensures { self.new ≡ with_noted self.old kind noted }
+    {
+        let noted = self.kept(kind).join(noted);
         self.replace(kind, noted);
     }
 
@@ -169,14 +177,16 @@ impl Warnings {
 
     /// How many warnings there are of a kind.
     pub fn count(&self, kind: Kind) -> u32
-        ensures { (warnings : List Warning) → StandsFor self.now warnings → result ≡ count_of kind warnings }
+        ensures kept { result ≡ count_in kind self.now }
+        ensures count { (warnings : List Warning) → StandsFor self.now warnings → result ≡ count_of kind warnings }
     {
         self.kept(kind).count
     }
 
     /// The least place of a warning of a kind.
     pub fn first(&self, kind: Kind) -> Option<u64>
-        ensures { (warnings : List Warning) → StandsFor self.now warnings → result ≡ first_of kind warnings }
+        ensures kept { result ≡ first_in kind self.now }
+        ensures first { (warnings : List Warning) → StandsFor self.now warnings → result ≡ first_of kind warnings }
     {
         let noted = self.kept(kind);
         if noted.count == 0 {
@@ -188,7 +198,8 @@ impl Warnings {
 
     /// Whether there is no warning of any kind.
     pub fn is_empty(&self) -> bool
-        ensures { (warnings : List Warning) → StandsFor self.now warnings → IsTrue result ↔ (warnings ≡ []) }
+        ensures kept { result ≡ none_in self.now }
+        ensures empty { (warnings : List Warning) → StandsFor self.now warnings → IsTrue result ↔ (warnings ≡ []) }
     {
         self.counts.all_zero()
     }

@@ -1,26 +1,31 @@
 //! A watcher for each of the six types: each of them alone, composed of its parts.
 //!
 //! `Coordinates` answers for all six at once in one walk, and is several times faster than they are side by side.
-ghost use Rattle.std.specs.Prelude.{◌≡◌, ◌↔◌, ◌<◌, ◌^◌, ◌++◌, ◌∷◌, List as EventList, [], IsTrue};
+ghost use Rattle.std.specs.Prelude.{◌≡◌, ◌↔◌, ◌<◌, ◌^◌, ◌++◌, ◌∷◌, List as EventList, [], length, IsTrue};
 ghost use Rattle.gj_json.specs.declared.event.Event.{Event};
 ghost use Rattle.gj_json.specs.Tree.{Tree, depth};
 ghost use Rattle.gj_json.specs.Events.{value_events};
 ghost use Rattle.gj_coords.specs.declared.simple.Simple.{Simple};
 ghost use Rattle.gj_coords.specs.Fault.{least};
 ghost use Rattle.gj_coords.specs.Shape.{coordinates_faults};
+ghost use Rattle.gj_coords.specs.Noted.{StandsFor as WarningsStandFor};
+ghost use Rattle.gj_coords.specs.CoordinateWarnings.{coordinates_warnings};
 ghost use Rattle.gj_coords.specs.Reading.{Answers};
+ghost use Rattle.gj_coords.specs.SixLaws.{type_answer};
 
 use crate::array::Array;
 use crate::element::Element;
 use crate::fault::Fault;
+use crate::findings::Findings;
 use crate::part::Part;
 use crate::position::{Numbers, PositionReader};
 use crate::ring::Ring;
 use crate::several::{LINE_NEEDS, LIST_NEEDS, Line, List, Several};
+use crate::warnings::Warnings;
 use crate::whole::Whole;
 use gj_json::Event;
 
-/// Takes the events of one value of `coordinates`, and tells its least fault under one type.
+/// Takes the events of one value of `coordinates`, and tells its least fault and its warnings under one type.
 pub trait Watcher: Copy {
     /// The type.
     ghost simple: { Simple };
@@ -45,13 +50,18 @@ pub trait Watcher: Copy {
     fn fault(&self) -> Option<Fault>
         ensures least { (value : Tree) → stands self.now (value_events value) → depth value < 2 ^ 64 →
             result ≡ least (coordinates_faults simple value) };
+
+    /// The warnings of the value under the type (RFC 7946, sections 3.1, 3.1.1, 3.1.6, 4 and 11.2).
+    fn warnings(&self) -> Warnings
+        ensures stands { (value : Tree) → stands self.now (value_events value) → length (value_events value) < 2 ^ 64 →
+            WarningsStandFor result (coordinates_warnings simple value) };
 }
 
-/// Reads a value under one type, and answers its least fault.
-pub trait TypeReader: Part<Answer = Option<Fault>> {
+/// Reads a value under one type, and answers what is found in it.
+pub trait TypeReader: Part<Answer = Findings> {
     ghost simple: { Simple };
 
-    ghost answers: { Answers Self.machine (λ value. least (coordinates_faults simple value)) };
+    ghost answers: { Answers Self.machine (type_answer simple) };
 }
 
 /// A watcher that reads by the parts of its type.
@@ -80,7 +90,11 @@ impl<R: TypeReader> Watcher for Watch<R> {
     }
 
     fn fault(&self) -> Option<Fault> {
-        self.reader.answer()
+        self.reader.answer().fault
+    }
+
+    fn warnings(&self) -> Warnings {
+        self.reader.answer().warned.all()
     }
 }
 

@@ -1,5 +1,5 @@
 //! The value of `coordinates` may be an empty array.
-use crate::fault::Fault;
+use crate::findings::Findings;
 use crate::part::{Gather, Judged, Part};
 use gj_json::Event;
 
@@ -7,25 +7,28 @@ use gj_json::Event;
 #[derive(Clone, Copy)]
 pub struct Whole<G> {
     pub inner: G,
+    pub place: u64,
     pub empty: bool,
 }
 
 impl<W: Part, G: Gather<W, Answer: Judged>> Gather<W> for Whole<G> {
     ghost use Rattle.gj_coords.specs.Whole.{whole_gathering};
 
-    type Answer = Option<Fault>;
+    type Answer = Findings;
 
-    ghost gathering = { whole_gathering G.gathering G.Answer.fault_of };
+    ghost gathering = { whole_gathering G.gathering G.Answer.judgement };
 
     fn new() -> Self {
         Whole {
             inner: G::new(),
+            place: 0,
             empty: true,
         }
     }
 
     fn open(&mut self, place: u64) {
         self.inner.open(place);
+        self.place = place;
         self.empty = true;
     }
 
@@ -39,15 +42,15 @@ impl<W: Part, G: Gather<W, Answer: Judged>> Gather<W> for Whole<G> {
         self.empty = false;
     }
 
-    fn close(&self) -> Option<Fault> {
+    fn close(&self) -> Findings {
         if self.empty {
-            None
+            Findings::empty(self.place)
         } else {
-            self.inner.close().fault()
+            Findings::of(&self.inner.close())
         }
     }
 
-    fn other(head: &Event) -> Option<Fault> {
-        G::other(head).fault()
+    fn other(head: &Event) -> Findings {
+        Findings::of(&G::other(head))
     }
 }

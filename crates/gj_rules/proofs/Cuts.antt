@@ -17,24 +17,29 @@ use Rattle.gj_coords.specs.declared.fault.Fault.{Fault}
 use Rattle.gj_coords.specs.declared.fault.Rule.TheVariants.{G1}
 use Rattle.gj_coords.specs.Fault.{least, fault_at}
 use Rattle.gj_coords.specs.LeastLaws.{least-append}
+use Rattle.gj_coords.specs.declared.warnings.Warnings.{Warnings}
+use Rattle.gj_rules.specs.declared.found.Found.{Found}
 use Rattle.gj_rules.specs.declared.frame.Frame.{Frame}
-use Rattle.gj_rules.specs.declared.frame.Slot.{Slot}
+use Rattle.gj_rules.specs.declared.shown.Slot.{Slot}
 use Rattle.gj_rules.specs.declared.role.Role.{Role}
 use Rattle.gj_rules.specs.declared.mode.Mode.{Mode}
 use Rattle.gj_rules.specs.declared.mode.Mode.TheVariants.{Names, Elements, Done}
 use Rattle.gj_rules.specs.Faults.{faults, all_faults}
-use Rattle.gj_rules.specs.Frame.{blank, slot_of, named, due_after, due_known, joined, settled, filled, member_taken, members_taken}
+use Rattle.gj_rules.specs.Frame.{blank, named, due_after, joined, taken_in, taken_any, settled, filled, member_taken, members_taken}
+use Rattle.gj_rules.specs.Shown.{slot_of, due_known}
+use Rattle.gj_rules.specs.TextKept.{marked_kept, kept, all_kept}
 use Rattle.gj_rules.specs.Judged.{gives, counted, judged_in, list_judged, elements_judged, members_judged, judged_at}
 use Rattle.gj_rules.specs.Members.{is_known, mentions, same}
 use Rattle.gj_rules.specs.Kept.{frames_by}
 use Rattle.gj_rules.specs.Step.{State, step, run, start, member_of, mode_behind}
 use Rattle.gj_rules.specs.Told.{Told, plain, event_of, at_of, told, elements_told, members_told, mark_told, text_told}
-use Rattle.gj_rules.proofs.Leads.{st, feeding, due_st, behind, behind_idle, mode_listed, IsListed, IsFed, some_told, up, down}
-use Rattle.gj_rules.proofs.Members.{Mentions, mentions_step, member_object, members_object}
+use Rattle.gj_rules.proofs.Leads.{st, feeding, due_st, behind, behind_idle, mode_listed, IsListed, IsFed, some_told, up, down, frame_role, had_found, due_root}
+use Rattle.gj_rules.proofs.Members.{Mentions, mentions_step, member_object}
 use Rattle.gj_rules.proofs.Order.{Late, After, InOrder, order_behind, late_after, late_behind, late_front, late_back, by_late, by_in_time, in_order}
-use Rattle.gj_rules.proofs.Settle.{closed, none_set}
+use Rattle.gj_rules.proofs.Closed.{all_closed}
+use Rattle.gj_rules.proofs.Settle.{none_set}
 use Rattle.gj_rules.proofs.Timed.{timed_of, told-events}
-use Rattle.gj_rules.proofs.Slots.{joined-none, joined-twice}
+use Rattle.gj_rules.proofs.Taken.{taken_none, taken_twice}
 use Rattle.gj_rules.proofs.Leads.{known_list}
 
 abbrev pub frames_of : State → ℕ
@@ -107,7 +112,7 @@ regroup : (xs ys zs : List Told) → InOrder ((xs ++ ys) ++ zs) → InOrder (xs 
 regroup xs ys zs h = subst (λ ts. InOrder ts) (append_assoc xs ys zs) h
 
 mutual
-  cut_skipped : (v : Tree) (rest : List Told) (k : ℕ) (m : Mode) (f : Frame) (o : List Frame) (a : Option Fault) (n c : ℕ) → InOrder (told v ++ rest)
+  cut_skipped : (v : Tree) (rest : List Told) (k : ℕ) (m : Mode) (f : Frame) (o : List Frame) (a : Found) (n c : ℕ) → InOrder (told v ++ rest)
       → Cut n rest (st (suc k) m f o a) c → Cut n (told v ++ rest) (st (suc k) m f o a) c
   cut_skipped (constant Null place) rest k m f o a n c i h = (λ _. h, λ l. cut_behind n _ [] rest (st (suc k) m f o a) c i.0 h l)
   cut_skipped (constant True place) rest k m f o a n c i h = (λ _. h, λ l. cut_behind n _ [] rest (st (suc k) m f o a) c i.0 h l)
@@ -135,7 +140,7 @@ mutual
         λ l. cut_behind n _ (members_told ms ++ last ∷ []) rest (st (suc k) m f o a) c i.0 h l,
       )
 
-  cut_skipped_elements : (es : Tree.Elements) (rest : List Told) (k : ℕ) (m : Mode) (f : Frame) (o : List Frame) (a : Option Fault) (n c : ℕ) → InOrder (elements_told es ++ rest)
+  cut_skipped_elements : (es : Tree.Elements) (rest : List Told) (k : ℕ) (m : Mode) (f : Frame) (o : List Frame) (a : Found) (n c : ℕ) → InOrder (elements_told es ++ rest)
       → Cut n rest (st (suc k) m f o a) c → Cut n (elements_told es ++ rest) (st (suc k) m f o a) c
   cut_skipped_elements end_of_array rest k m f o a n c i h = h
   cut_skipped_elements (element v more) rest k m f o a n c i h =
@@ -143,7 +148,7 @@ mutual
       rw (append_assoc (told v) (elements_told more) rest)
       (cut_skipped v (elements_told more ++ rest) k m f o a n c j (cut_skipped_elements more rest k m f o a n c (order_behind (told v) (elements_told more ++ rest) j) h))
 
-  cut_skipped_members : (ms : Members) (rest : List Told) (k : ℕ) (m : Mode) (f : Frame) (o : List Frame) (a : Option Fault) (n c : ℕ) → InOrder (members_told ms ++ rest)
+  cut_skipped_members : (ms : Members) (rest : List Told) (k : ℕ) (m : Mode) (f : Frame) (o : List Frame) (a : Found) (n c : ℕ) → InOrder (members_told ms ++ rest)
       → Cut n rest (st (suc k) m f o a) c → Cut n (members_told ms ++ rest) (st (suc k) m f o a) c
   cut_skipped_members end_of_object rest k m f o a n c i h = h
   cut_skipped_members (member place name end v more) rest k m f o a n c i h =
@@ -154,7 +159,7 @@ mutual
       )
 
 -- the rest of an array or an object that is not looked into
-array_cut : (es : Tree.Elements) (close : ℕ) (rest : List Told) (m : Mode) (f : Frame) (o : List Frame) (a : Option Fault) (n c : ℕ) → InOrder ((elements_told es ++ plain (close + 1) close What.CloseArray ∷ []) ++ rest)
+array_cut : (es : Tree.Elements) (close : ℕ) (rest : List Told) (m : Mode) (f : Frame) (o : List Frame) (a : Found) (n c : ℕ) → InOrder ((elements_told es ++ plain (close + 1) close What.CloseArray ∷ []) ++ rest)
     → Cut n rest (st 0 m f o a) c → Cut n ((elements_told es ++ plain (close + 1) close What.CloseArray ∷ []) ++ rest) (st 1 m f o a) c
 array_cut es close rest m f o a n c i h =
     let last : Told = plain (close + 1) close What.CloseArray in
@@ -163,7 +168,7 @@ array_cut es close rest m f o a n c i h =
     rw (append_assoc (elements_told es) (last ∷ []) rest)
     (cut_skipped_elements es (last ∷ rest) 0 m f o a n c j (λ _. h, λ l. cut_behind n _ [] rest (st 0 m f o a) c b.0 h l))
 
-object_cut : (ms : Members) (close : ℕ) (rest : List Told) (m : Mode) (f : Frame) (o : List Frame) (a : Option Fault) (n c : ℕ) → InOrder ((members_told ms ++ plain (close + 1) close What.CloseObject ∷ []) ++ rest)
+object_cut : (ms : Members) (close : ℕ) (rest : List Told) (m : Mode) (f : Frame) (o : List Frame) (a : Found) (n c : ℕ) → InOrder ((members_told ms ++ plain (close + 1) close What.CloseObject ∷ []) ++ rest)
     → Cut n rest (st 0 m f o a) c → Cut n ((members_told ms ++ plain (close + 1) close What.CloseObject ∷ []) ++ rest) (st 1 m f o a) c
 object_cut ms close rest m f o a n c i h =
     let last : Told = plain (close + 1) close What.CloseObject in
@@ -174,7 +179,7 @@ object_cut ms close rest m f o a n c i h =
 
 -- ---- what a summary takes
 
-cut_feed : (name : Known) → IsFed name → (v : Tree) (taken : List Event) (x : Told) (xs rest : List Told) (f : Frame) (o : List Frame) (a : Option Fault) (n c : ℕ) → InOrder ((x ∷ xs) ++ rest)
+cut_feed : (name : Known) → IsFed name → (v : Tree) (taken : List Event) (x : Told) (xs rest : List Told) (f : Frame) (o : List Frame) (a : Found) (n c : ℕ) → InOrder ((x ∷ xs) ++ rest)
     → Cut n rest (st 0 Names (filled name v f) o a) c → Cut n ((x ∷ xs) ++ rest) (feeding name v taken (map event_of (x ∷ xs)) f o a) c
 cut_feed Coordinates q v taken x [] rest f o a n c i h = (λ _. h, λ l. cut_behind n (at_of x) [] rest (st 0 Names (filled Coordinates v f) o a) c i.0 h l)
 cut_feed Coordinates q v taken x (y ∷ ys) rest f o a n c i h =
@@ -184,14 +189,14 @@ cut_feed Bbox q v taken x (y ∷ ys) rest f o a n c i h =
     (λ _. cut_feed Bbox q v (taken ++ event_of x ∷ []) y ys rest f o a n c i.1 h, λ l. cut_behind n (at_of x) (y ∷ ys) rest (st 0 Names (filled Bbox v f) o a) c i.0 h l)
 cut_feed _ q v taken x xs rest f o a n c i h = absurd q
 
-cut_fed : (name : Known) → IsFed name → (v : Tree) (x : Told) (xs rest : List Told) (f : Frame) (o : List Frame) (a : Option Fault) (n c : ℕ) → told v ≡ x ∷ xs → InOrder (told v ++ rest)
+cut_fed : (name : Known) → IsFed name → (v : Tree) (x : Told) (xs rest : List Told) (f : Frame) (o : List Frame) (a : Found) (n c : ℕ) → told v ≡ x ∷ xs → InOrder (told v ++ rest)
     → Cut n rest (st 0 Names (filled name v f) o a) c → Cut n (told v ++ rest) (feeding name v [] (value_events v) f o a) c
 cut_fed name q v x xs rest f o a n c e i h =
     subst (λ (es : List Event). Cut n (told v ++ rest) (feeding name v [] es f o a) c) (told-events v)
     (subst (λ (ts : List Told). Cut n (ts ++ rest) (feeding name v [] (map event_of ts) f o a) c) (sym e)
     (cut_feed name q v [] x xs rest f o a n c (subst (λ (ts : List Told). InOrder (ts ++ rest)) e i) h))
 
-cut_value : (name : Known) → IsFed name → (v : Tree) (rest : List Told) (f : Frame) (o : List Frame) (a : Option Fault) (n c : ℕ) → InOrder (told v ++ rest)
+cut_value : (name : Known) → IsFed name → (v : Tree) (rest : List Told) (f : Frame) (o : List Frame) (a : Found) (n c : ℕ) → InOrder (told v ++ rest)
     → Cut n rest (st 0 Names (filled name v f) o a) c → Cut n (told v ++ rest) (feeding name v [] (value_events v) f o a) c
 cut_value name q v rest f o a n c i h = let s = some_told v in cut_fed name q v s.0 s.1 rest f o a n c s.2 i h
 
@@ -228,7 +233,7 @@ due_counted _ r (Some s) b g gs fs h = refl
 due_counted _ Role.Root None b g gs fs h = refl
 due_counted _ _ None b g gs fs h = refl
 
-blank_mentions : (r : Role) (place : ℕ) → Mentions [] (blank r place)
+blank_mentions : (r : Role) (place : ℕ) → Mentions [] (blank r place).shown
 blank_mentions r place = record { each = λ n k. ap is_some (none_set r place n) }
 
 pub opened : (n place close : ℕ) → place + 1 ≤ n → n < close + 1 → is_open n place close ≡ 1
@@ -260,18 +265,18 @@ listed_inner Role.Feature q = tt
 listed_inner _ q = absurd q
 
 -- the end of an object that has a role, below another
-cut_close : (r : Role) → IsInner r → (place close : ℕ) (ms : Members) (rest : List Told) (f : Frame) (o : List Frame) (a : Option Fault) (n c : ℕ) → place + 1 ≤ n → InOrder (plain (close + 1) close What.CloseObject ∷ rest)
-    → Cut n rest (st 0 (mode_behind r) (joined (member_of r) (least (faults r (object place ms close))) f) o a) c
+cut_close : (r : Role) → IsInner r → (place close : ℕ) (ms : Members) (rest : List Told) (f : Frame) (o : List Frame) (a : Found) (n c : ℕ) → place + 1 ≤ n → InOrder (plain (close + 1) close What.CloseObject ∷ rest)
+    → Cut n rest (st 0 (mode_behind r) (taken_any (member_of r) (least (faults r (object place ms close))) (kept r (object place ms close)) f) o a) c
     → Cut n (plain (close + 1) close What.CloseObject ∷ rest) (st 0 Names (members_taken ms (blank r place)) (f ∷ o) a) (is_open n place close + c)
 cut_close r q place close ms rest f o a n c p i h =
     let inner : Frame = members_taken ms (blank r place) in
-    let e : inner.role ≡ r = (members_object ms (blank r place)).role in (
+    let e : inner.shown.role ≡ r = frame_role ms (blank r place) in (
       λ l. let d : c ≡ is_open n place close + c = omega (arith, shut n place close p l) in
-          subst (λ x. Cut n rest (behind close inner.role (settled inner) f o a) x) d
+          subst (λ x. Cut n rest (behind close inner.shown.role (settled inner) f o a) x) d
           (subst (λ (x : Role). Cut n rest (behind close x (settled inner) f o a) c) (sym e)
           (subst (λ (s : State). Cut n rest s c) (sym (behind_idle close r (settled inner) f o a))
-          (subst (λ (x : Option Fault). Cut n rest (st 0 (mode_behind r) (joined (member_of r) x f) o a) c) (sym (closed r place close ms)) h))),
-      λ l. let k = cut_behind n _ [] rest (st 0 (mode_behind r) (joined (member_of r) (least (faults r (object place ms close))) f) o a) c i.0 h l in
+          (subst (λ (x : Found). Cut n rest (st 0 (mode_behind r) (taken_in (member_of r) x f) o a) c) (sym (all_closed r place close ms)) h))),
+      λ l. let k = cut_behind n _ [] rest (st 0 (mode_behind r) (taken_any (member_of r) (least (faults r (object place ms close))) (kept r (object place ms close)) f) o a) c i.0 h l in
           omega (arith, opened n place close p l, k, inner_frames r q o),
     )
 
@@ -288,10 +293,10 @@ late_list_of : (n m : ℕ) (xs ys rest : List Told) → n < m → After m ((xs +
 late_list_of n m xs ys rest l h = late_front n xs ys (late_front n (xs ++ ys) rest (late_after n m ((xs ++ ys) ++ rest) l h))
 
 -- an array of values with a role
-cut_list : (es : Tree.Elements) (place close : ℕ) (r : Role) (rest : List Told) (f : Frame) (o : List Frame) (a : Option Fault) (n c : ℕ)
-    → InOrder (told (array place es close) ++ rest) → Cut n rest (st 0 Names (joined (member_of r) (least (all_faults r es)) f) o a) c
+cut_list : (es : Tree.Elements) (place close : ℕ) (r : Role) (rest : List Told) (f : Frame) (o : List Frame) (a : Found) (n c : ℕ)
+    → InOrder (told (array place es close) ++ rest) → Cut n rest (st 0 Names (taken_any (member_of r) (least (all_faults r es)) (all_kept r es) f) o a) c
     → (InOrder (elements_told es ++ plain (close + 1) close What.CloseArray ∷ rest)
-    → Cut n (plain (close + 1) close What.CloseArray ∷ rest) (st 0 (Elements r) (joined (member_of r) (least (all_faults r es)) f) o a) c
+    → Cut n (plain (close + 1) close What.CloseArray ∷ rest) (st 0 (Elements r) (taken_any (member_of r) (least (all_faults r es)) (all_kept r es) f) o a) c
     → Cut n (elements_told es ++ plain (close + 1) close What.CloseArray ∷ rest) (st 0 (Elements r) f o a) (elements_judged n r es + c))
     → (place + 1 ≤ n → Cut n ((elements_told es ++ plain (close + 1) close What.CloseArray ∷ []) ++ rest) (st 0 (Elements r) f o a) (elements_judged n r es + c))
     × (n < place + 1 → length o + 1 ≡ elements_judged n r es + c)
@@ -300,15 +305,15 @@ cut_list es place close r rest f o a n c i h g =
     let j = regroup (elements_told es) (last ∷ []) rest i.1 in
     let b = order_behind (elements_told es) (last ∷ rest) j in (
       λ _. rw (append_assoc (elements_told es) (last ∷ []) rest)
-          (g j (λ _. h, λ l. cut_behind n _ [] rest (st 0 Names (joined (member_of r) (least (all_faults r es)) f) o a) c b.0 h l)),
+          (g j (λ _. h, λ l. cut_behind n _ [] rest (st 0 Names (taken_any (member_of r) (least (all_faults r es)) (all_kept r es) f) o a) c b.0 h l)),
       λ l. none_before (elements_judged n r es) c (length o + 1)
           (late_elements es n r (late_list_of n (place + 1) (elements_told es) (last ∷ []) rest l i.0))
-          (cut_behind n _ (elements_told es ++ last ∷ []) rest (st 0 Names (joined (member_of r) (least (all_faults r es)) f) o a) c i.0 h l),
+          (cut_behind n _ (elements_told es ++ last ∷ []) rest (st 0 Names (taken_any (member_of r) (least (all_faults r es)) (all_kept r es) f) o a) c i.0 h l),
     )
 
 mutual
   -- the value of a first member
-  cut_due : (v : Tree) (name : Known) (rest : List Told) (f : Frame) (o : List Frame) (a : Option Fault) (n c : ℕ) → InOrder (told v ++ rest) → Cut n rest (st 0 Names (filled name v f) o a) c
+  cut_due : (v : Tree) (name : Known) (rest : List Told) (f : Frame) (o : List Frame) (a : Found) (n c : ℕ) → InOrder (told v ++ rest) → Cut n rest (st 0 Names (filled name v f) o a) c
       → Cut n (told v ++ rest) (due_st name v f o a) (due_judged name (judged_in n Role.Geometry v) (list_judged n Role.Part v) (list_judged n Role.Feature v) + c)
   cut_due v Coordinates rest f o a n c i h = cut_zero n (told v ++ rest) (due_st Coordinates v f o a) c (cut_value Coordinates tt v rest f o a n c i h)
   cut_due v Bbox rest f o a n c i h = cut_zero n (told v ++ rest) (due_st Bbox v f o a) c (cut_value Bbox tt v rest f o a n c i h)
@@ -344,8 +349,8 @@ mutual
       )
 
   -- an element of an array of values with a role
-  cut_element : (v : Tree) (r : Role) → IsListed r → (rest : List Told) (f : Frame) (o : List Frame) (a : Option Fault) (n c : ℕ) → InOrder (told v ++ rest)
-      → Cut n rest (st 0 (Elements r) (joined (member_of r) (least (faults r v)) f) o a) c → Cut n (told v ++ rest) (st 0 (Elements r) f o a) (judged_in n r v + c)
+  cut_element : (v : Tree) (r : Role) → IsListed r → (rest : List Told) (f : Frame) (o : List Frame) (a : Found) (n c : ℕ) → InOrder (told v ++ rest)
+      → Cut n rest (st 0 (Elements r) (taken_any (member_of r) (least (faults r v)) (kept r v) f) o a) c → Cut n (told v ++ rest) (st 0 (Elements r) f o a) (judged_in n r v + c)
   cut_element (constant Null place) Role.Part q rest f o a n c i h = cut_zero n (told (constant Null place) ++ rest) (st 0 (Elements Role.Part) f o a) c (λ _. h, λ l. cut_behind n _ [] rest (st 0 (Elements Role.Part) (joined (member_of Role.Part) (Some (fault_at place G1)) f) o a) c i.0 h l)
   cut_element (constant Null place) Role.Feature q rest f o a n c i h = cut_zero n (told (constant Null place) ++ rest) (st 0 (Elements Role.Feature) f o a) c (λ _. h, λ l. cut_behind n _ [] rest (st 0 (Elements Role.Feature) (joined (member_of Role.Feature) (Some (fault_at place G1)) f) o a) c i.0 h l)
   cut_element (constant Null place) _ q rest f o a n c i h = absurd q
@@ -365,27 +370,27 @@ mutual
             (subst (λ d. Cut n (members_told ms ++ last ∷ rest) (st 0 Names (blank r place) (f ∷ o) a) d) (before_rest (is_open n place close) (members_judged n r [] ms) c)
             (cut_members ms (last ∷ rest) (blank r place) (f ∷ o) a n (is_open n place close + c) r [] (blank_mentions r place) refl j
             (cut_close r (listed_inner r q) place close ms rest f o a n c l (order_behind (members_told ms) (last ∷ rest) j)
-            (subst (λ (m : Mode). Cut n rest (st 0 m (joined (member_of r) (least (faults r (object place ms close))) f) o a) c) (sym (mode_listed r q)) h)))),
+            (subst (λ (m : Mode). Cut n rest (st 0 m (taken_any (member_of r) (least (faults r (object place ms close))) (kept r (object place ms close)) f) o a) c) (sym (mode_listed r q)) h)))),
         λ l. none_before (judged_in n r (object place ms close)) c (length o + 1)
             (late_value (object place ms close) n r (late_front n (told (object place ms close)) rest (l, late_after n _ ((members_told ms ++ last ∷ []) ++ rest) l i.0)))
-            (cut_behind n _ (members_told ms ++ last ∷ []) rest (st 0 (Elements r) (joined (member_of r) (least (faults r (object place ms close))) f) o a) c i.0 h l),
+            (cut_behind n _ (members_told ms ++ last ∷ []) rest (st 0 (Elements r) (taken_any (member_of r) (least (faults r (object place ms close))) (kept r (object place ms close)) f) o a) c i.0 h l),
       )
 
-  cut_elements : (es : Tree.Elements) (r : Role) → IsListed r → (rest : List Told) (f : Frame) (o : List Frame) (a : Option Fault) (n c : ℕ) → InOrder (elements_told es ++ rest)
-      → Cut n rest (st 0 (Elements r) (joined (member_of r) (least (all_faults r es)) f) o a) c → Cut n (elements_told es ++ rest) (st 0 (Elements r) f o a) (elements_judged n r es + c)
-  cut_elements end_of_array r q rest f o a n c i h = cut_zero n rest (st 0 (Elements r) f o a) c (subst (λ (g : Frame). Cut n rest (st 0 (Elements r) g o a) c) (joined-none (member_of r) f) h)
+  cut_elements : (es : Tree.Elements) (r : Role) → IsListed r → (rest : List Told) (f : Frame) (o : List Frame) (a : Found) (n c : ℕ) → InOrder (elements_told es ++ rest)
+      → Cut n rest (st 0 (Elements r) (taken_any (member_of r) (least (all_faults r es)) (all_kept r es) f) o a) c → Cut n (elements_told es ++ rest) (st 0 (Elements r) f o a) (elements_judged n r es + c)
+  cut_elements end_of_array r q rest f o a n c i h = cut_zero n rest (st 0 (Elements r) f o a) c (subst (λ (g : Frame). Cut n rest (st 0 (Elements r) g o a) c) (taken_none (member_of r) f) h)
   cut_elements (element v more) r q rest f o a n c i h =
       let j = regroup (told v) (elements_told more) rest i in
       rw (append_assoc (told v) (elements_told more) rest)
       (subst (λ d. Cut n (told v ++ (elements_told more ++ rest)) (st 0 (Elements r) f o a) d) (both_before (judged_in n r v) (judged_in n r v) (elements_judged n r more) c refl)
       (cut_element v r q (elements_told more ++ rest) f o a n (elements_judged n r more + c) j
-      (cut_elements more r q rest (joined (member_of r) (least (faults r v)) f) o a n c (order_behind (told v) (elements_told more ++ rest) j)
+      (cut_elements more r q rest (taken_any (member_of r) (least (faults r v)) (kept r v) f) o a n c (order_behind (told v) (elements_told more ++ rest) j)
       (subst (λ (g : Frame). Cut n rest (st 0 (Elements r) g o a) c)
-      (ap (λ (x : Option Fault). joined (member_of r) x f) (least-append (faults r v) (all_faults r more))
-      ∙ sym (joined-twice (member_of r) f (least (faults r v)) (least (all_faults r more)) (known_list r q))) h))))
+      (ap (λ (x : Option Fault). taken_any (member_of r) x (all_kept r (element v more)) f) (least-append (faults r v) (all_faults r more))
+      ∙ sym (taken_twice (member_of r) f (least (faults r v)) (least (all_faults r more)) (kept r v) (all_kept r more) (known_list r q))) h))))
 
   -- the members behind those of the names `before`
-  cut_members : (ms : Members) (rest : List Told) (f : Frame) (o : List Frame) (a : Option Fault) (n c : ℕ) (r : Role) (before : List Known) → Mentions before f → f.role ≡ r → InOrder (members_told ms ++ rest)
+  cut_members : (ms : Members) (rest : List Told) (f : Frame) (o : List Frame) (a : Found) (n c : ℕ) (r : Role) (before : List Known) → Mentions before f.shown → f.shown.role ≡ r → InOrder (members_told ms ++ rest)
       → Cut n rest (st 0 Names (members_taken ms f) o a) c → Cut n (members_told ms ++ rest) (st 0 Names f o a) (members_judged n r before ms + c)
   cut_members end_of_object rest f o a n c r before m e i h = cut_zero n rest (st 0 Names f o a) c h
   cut_members (member place name end v more) rest f o a n c r before m e i h =
@@ -396,13 +401,13 @@ mutual
       let fs : ℕ = list_judged n Role.Feature v in
       let more_count : ℕ = members_judged n r (known ∷ before) more in
       let next = cut_members more rest (member_taken place known v f) o a n c r (known ∷ before)
-      (record { each = λ q k. mentions_step before q known place v f (same q known) m k refl })
-      ((member_object known place v f).role ∙ e) (order_behind (told v) (members_told more ++ rest) j) h in (
+      (record { each = λ q k. mentions_step before q known place v f.shown (same q known) m k refl })
+      ((member_object known place v f.shown).role ∙ e) (order_behind (told v) (members_told more ++ rest) j) h in (
         λ _. rw (append_assoc (told v) (members_told more) rest)
             (subst (λ d. Cut n (told v ++ (members_told more ++ rest)) (due_st (due_after known f) v (named known place f) o a) d)
             (both_before (due_judged (due_after known f) g gs fs) (counted known (not (mentions before known) && gives r known) g gs fs) more_count c
-            (ap (λ (q : Role). due_judged (if is_known known then due_known known (slot_of known f) q else Other) g gs fs) e
-            ∙ due_counted known r (slot_of known f) (mentions before known) g gs fs (m.each known)))
+            (ap (λ (q : Role). due_judged (if is_known known then due_known known (slot_of known f.shown) q else Other) g gs fs) e
+            ∙ due_counted known r (slot_of known f.shown) (mentions before known) g gs fs (m.each known)))
             (cut_due v (due_after known f) (members_told more ++ rest) (named known place f) o a n (more_count + c) j next)),
         λ l. none_before (members_judged n r before (member place name end v more)) c (length o + 1)
             (late_members (member place name end v more) n r before (l, late_front n (told v ++ members_told more) rest (late_after n end ((told v ++ members_told more) ++ rest) l i.0)))
@@ -411,18 +416,18 @@ mutual
 
 -- ---- the text
 
-cut_root : (v : Tree) (n : ℕ) → InOrder (told v) → Cut n (told v) start (judged_in n Role.Root v)
-cut_root (constant Null place) n i = (λ _. refl, λ l. refl)
-cut_root (constant True place) n i = (λ _. refl, λ l. refl)
-cut_root (constant False place) n i = (λ _. refl, λ l. refl)
-cut_root (number place literal end) n i = (λ _. refl, λ l. refl)
-cut_root (string place content end) n i = (λ _. refl, λ l. refl)
-cut_root (array place es close) n i =
-    (λ _. cut_skipped_elements es (plain (close + 1) close What.CloseArray ∷ []) 0 Done (blank Role.Root 0) [] (Some (fault_at place G1)) n 0 i.1 (λ _. refl, λ l. refl), λ l. refl)
-cut_root (object place ms close) n i =
+cut_root : (v : Tree) (had : Warnings) (n : ℕ) → InOrder (told v) → Cut n (told v) (due_root had) (judged_in n Role.Root v)
+cut_root (constant Null place) had n i = (λ _. refl, λ l. refl)
+cut_root (constant True place) had n i = (λ _. refl, λ l. refl)
+cut_root (constant False place) had n i = (λ _. refl, λ l. refl)
+cut_root (number place literal end) had n i = (λ _. refl, λ l. refl)
+cut_root (string place content end) had n i = (λ _. refl, λ l. refl)
+cut_root (array place es close) had n i =
+    (λ _. cut_skipped_elements es (plain (close + 1) close What.CloseArray ∷ []) 0 Done (blank Role.Root 0) [] (record { fault = Some (fault_at place G1); warned = had }) n 0 i.1 (λ _. refl, λ l. refl), λ l. refl)
+cut_root (object place ms close) had n i =
     let last : Told = plain (close + 1) close What.CloseObject in (
-      λ l. subst (λ d. Cut n (members_told ms ++ last ∷ []) (st 0 Names (blank Role.Root place) [] None) d) (before_none (is_open n place close) (members_judged n Role.Root [] ms))
-          (cut_members ms (last ∷ []) (blank Role.Root place) [] None n (is_open n place close) Role.Root [] (blank_mentions Role.Root place) refl i.1
+      λ l. subst (λ d. Cut n (members_told ms ++ last ∷ []) (st 0 Names (blank Role.Root place) [] (had_found had)) d) (before_none (is_open n place close) (members_judged n Role.Root [] ms))
+          (cut_members ms (last ∷ []) (blank Role.Root place) [] (had_found had) n (is_open n place close) Role.Root [] (blank_mentions Role.Root place) refl i.1
           (λ k. sym (shut n place close l k), λ k. sym (opened n place close l k))),
       λ l. sym (late_value (object place ms close) n Role.Root (l, late_after n (place + 1) (members_told ms ++ last ∷ []) l i.0)),
     )
@@ -431,8 +436,8 @@ cut_root (object place ms close) n i =
     before_none a b = omega arith
 
 cut_marked : (marked : Bool) (v : Tree) (n : ℕ) → InOrder (mark_told marked ++ told v) → Cut n (mark_told marked ++ told v) start (judged_in n Role.Root v)
-cut_marked true v n i = (λ _. cut_root v n i.1, λ l. sym (late_value v n Role.Root (late_after n _ (told v) l i.0)))
-cut_marked false v n i = cut_root v n i
+cut_marked true v n i = (λ _. cut_root v (marked_kept true) n i.1, λ l. sym (late_value v n Role.Root (late_after n _ (told v) l i.0)))
+cut_marked false v n i = cut_root v (marked_kept false) n i
 
 cut_text : (text : Text) (n : ℕ) → InOrder (text_told text) → Cut n (text_told text) start (judged_at n text)
 cut_text text n i = cut_marked text.marked text.value n i

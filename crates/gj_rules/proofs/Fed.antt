@@ -1,24 +1,32 @@
 -- What the rules of a linter were told, from call to call.
-use Rattle.std.proofs.Common.{◌≡◌, ℕ, ◌+◌, ◌-◌, ◌≤◌, Bool, true, false, if◌then◌else◌, List, [], ◌∷◌, ◌++◌, length, take, Option, Some, None, Result, Ok, Err, refl, sym, ap, subst, ◌∙◌, arith, append_assoc, append-nil}
+use Rattle.std.proofs.Common.{◌≡◌, ℕ, ◌+◌, ◌-◌, ◌^◌, ◌<◌, ◌≤◌, Bool, true, false, if◌then◌else◌, List, [], ◌∷◌, ◌++◌, length, take, Option, Some, None, Result, Ok, Err, refl, sym, ap, subst, ◌∙◌, arith, append_assoc, append-nil}
 use Rattle.std.specs.Option.{option_to_list}
 use Rattle.std.proofs.lemmas.List.{take-append-le}
 use Rattle.std.proofs.Math.Seq.{take-length, take-append-add}
 use Rattle.gj_json.specs.declared.event.Event.{Event}
 use Rattle.gj_json.specs.declared.fault.JsonFault.{JsonFault}
 use Rattle.gj_json.specs.declared.reader.Reader.{Reader}
-use Rattle.gj_json.specs.Events.{events_by, all_events}
+use Rattle.gj_json.specs.Events.{events_by, all_events, value_events}
 use Rattle.gj_json.specs.Limits.{Allowed}
 use Rattle.gj_json.specs.Reader.{StandsFor as ReaderStandsFor, refusal_of, offset_of, Hears}
 use Rattle.gj_json.specs.Refusal.{IsAdmitted}
 use Rattle.gj_json.specs.Text.{IsText}
-use Rattle.gj_json.specs.Tree.{Text, depth}
+use Rattle.gj_json.specs.Tree.{Tree, Text, depth}
 use Rattle.gj_coords.specs.declared.fault.Fault.{Fault}
 use Rattle.gj_coords.specs.Fault.{least, lesser, comes_first}
+use Rattle.gj_coords.specs.declared.simple.Simple.{Simple}
+use Rattle.gj_coords.specs.declared.warnings.Warnings.{Warnings}
+use Rattle.gj_coords.specs.CoordinateWarnings.{coordinates_warnings}
+use Rattle.gj_coords.specs.CoordinatesKept.{coordinates_kept}
+use Rattle.gj_coords.specs.Noted.{warnings_of}
 use Rattle.gj_rules.specs.declared.rules.Rules.{Rules}
 use Rattle.gj_rules.specs.Faults.{text_faults}
 use Rattle.gj_rules.specs.Linter.{AreToldOf}
 use Rattle.gj_rules.specs.Rules.{StandsFor as RulesStandFor}
+use Rattle.gj_rules.specs.TextKept.{text_kept}
+use Rattle.gj_rules.specs.TextWarnings.{text_warnings}
 use Rattle.gj_rules.specs.Verdict.{IsVerdict, verdict_of}
+use Rattle.gj_rules.proofs.KeptWarnings.{text_is}
 
 -- ---- a piece
 
@@ -91,21 +99,29 @@ none_least : (faults : List Fault) → least faults ≡ None → faults ≡ []
 none_least [] e = refl
 none_least (fault ∷ faults) e = absurd (some_least fault (least faults) e)
 
-pub text_verdict : (limits : Allowed) (bytes : List ℕ) (text : Text) → IsAdmitted limits text bytes → (o : Option Fault) → o ≡ least (text_faults text) → IsVerdict limits bytes (verdict_of o)
-text_verdict limits bytes text a None e = (text, a, none_least (text_faults text) (sym e))
-text_verdict limits bytes text a (Some fault) e = (text, a, sym e)
+pub text_verdict : (limits : Allowed) (bytes : List ℕ) (text : Text) → IsAdmitted limits text bytes → (o : Option Fault) (w : Warnings) → o ≡ least (text_faults text) → w ≡ warnings_of (text_warnings text)
+    → IsVerdict limits bytes (verdict_of o w)
+text_verdict limits bytes text a None w e f = (text, a, none_least (text_faults text) (sym e), f)
+text_verdict limits bytes text a (Some fault) w e f = (text, a, sym e)
 
 -- the verdict of an admitted text whose events were told
-pub end_verdict : (limits : Allowed) (bytes : List ℕ) (rules after : Rules) (last : Option Event) (o : Option Fault) → limits.depth ≤ 64 → AreToldOf rules bytes (length bytes)
+pub end_verdict : (limits : Allowed) (bytes : List ℕ) (rules after : Rules) (last : Option Event) (o : Option Fault) (w : Warnings) → limits.depth ≤ 64 → limits.bytes ≤ 2 ^ 60 → AreToldOf rules bytes (length bytes)
     → (f : (text : Text) × IsAdmitted limits text bytes × (all_events text ≡ events_by (length bytes) text ++ option_to_list last))
     → ((events : List Event) → RulesStandFor rules events → RulesStandFor after (events ++ option_to_list last))
-    → ((text : Text) → depth text.value ≤ 64 → RulesStandFor after (all_events text) → o ≡ least (text_faults text)) → IsVerdict limits bytes (verdict_of o)
-end_verdict limits bytes rules after last o shallow k f told fault =
+    → ((text : Text) → depth text.value ≤ 64 → RulesStandFor after (all_events text) → o ≡ least (text_faults text))
+    → ((text : Text) → depth text.value ≤ 64 → RulesStandFor after (all_events text) → w ≡ text_kept text)
+    → ((text : Text) (bytes : List ℕ) → IsText text bytes → length (value_events text.value) ≤ length bytes)
+    → ((simple : Simple) (value : Tree) → length (value_events value) < 2 ^ 64 → coordinates_kept simple value ≡ warnings_of (coordinates_warnings simple value))
+    → IsVerdict limits bytes (verdict_of o w)
+end_verdict limits bytes rules after last o w shallow short k f told fault warned few law =
     let text = f.0 in
     let t : IsText text (bytes ++ []) = (let x = f.1.0.0 in rw (append-nil bytes) x) in
     let e : all_events text ≡ k.events ++ option_to_list last = f.2 ∙ ap (λ xs. xs ++ option_to_list last) (k.complete text [] t) in
     let P : List Event → Type 0 = λ xs. RulesStandFor after xs in
-    text_verdict limits bytes text f.1 o (fault text (omega (arith, f.1.0.1)) (subst P (sym e) (told k.events k.told)))
+    let heard = subst P (sym e) (told k.events k.told) in
+    let deep : depth text.value ≤ 64 = omega (arith, f.1.0.1) in
+    let small : length (value_events text.value) < 2 ^ 64 = omega (arith, few text bytes f.1.0.0, f.1.1) in
+    text_verdict limits bytes text f.1 o w (fault text deep heard) (warned text deep heard ∙ text_is (2 ^ 64) law text small)
 
 pub taken_all : (rules : Rules) (bytes : List ℕ) (n : ℕ) → n ≡ length bytes → AreToldOf rules (take n bytes) n → AreToldOf rules bytes (length bytes)
 taken_all rules bytes n e k = all_told rules bytes n e k

@@ -2,6 +2,10 @@ pub mod Slots
 pub mod Member
 pub mod Members
 pub mod Settle
+pub mod Taken
+pub mod Gathers
+pub mod Closed
+pub mod KeptWarnings
 pub mod Timed
 pub mod Leads
 pub mod Feeding
@@ -10,4 +14,5 @@ pub mod Cuts
 pub mod Halves
 pub mod Telling
 pub mod Examples
+pub mod WarningExamples
 pub mod Fed

@@ -1,4 +1,4 @@
--- At its close a frame has the least fault of its object.
+-- At its close an object has shown its least fault.
 use Rattle.std.proofs.Common.{◌≡◌, ℕ, Bool, true, false, if◌then◌else◌, List, [], ◌++◌, Option, Some, None, is_some, refl, sym, ap, ◌∙◌}
 use Rattle.gj_json.specs.declared.names.Known.{Known}
 use Rattle.gj_json.specs.declared.names.Known.TheVariants.{TypeName, Coordinates, Geometries, Geometry, Properties, Features, Bbox, Id}
@@ -7,18 +7,18 @@ use Rattle.gj_coords.specs.declared.fault.Fault.{Fault}
 use Rattle.gj_coords.specs.declared.fault.Rule.{Rule}
 use Rattle.gj_coords.specs.declared.fault.Rule.TheVariants.{G3, G5, G6, G7, G8}
 use Rattle.gj_rules.specs.declared.role.Role.{Role}
-use Rattle.gj_rules.specs.declared.frame.Slot.{Slot}
-use Rattle.gj_rules.specs.declared.frame.TypeValue.{TypeValue}
-use Rattle.gj_rules.specs.declared.frame.Frame.{Frame}
+use Rattle.gj_rules.specs.declared.shown.Slot.{Slot}
+use Rattle.gj_rules.specs.declared.shown.TypeValue.{TypeValue}
+use Rattle.gj_rules.specs.declared.shown.Shown.{Shown}
 use Rattle.gj_coords.specs.Fault.{lesser, least, fault_at}
-use Rattle.gj_rules.specs.Frame as F
+use Rattle.gj_rules.specs.Shown as F
 use Rattle.gj_json.specs.Tree.{Tree, Members, object}
 use Rattle.gj_rules.specs.Faults as R
 use Rattle.gj_rules.specs.Members.{one, first_type, repeated}
 use Rattle.gj_rules.specs.Role.{is_allowed}
 use Rattle.gj_coords.specs.declared.simple.Simple.{Simple}
 use Rattle.gj_rules.specs.Faults.{First, FirstMembers, faults}
-use Rattle.gj_rules.specs.Frame.{members_taken}
+use Rattle.gj_rules.specs.Shown.{members_taken}
 use Rattle.gj_coords.specs.LeastLaws.{least-append}
 use Rattle.gj_rules.proofs.Member.{slot_from}
 use Rattle.gj_rules.proofs.Members.{members_object, slots_after, type_from, type_after, shapes_from, shapes_after, repeated_after}
@@ -27,9 +27,9 @@ use Rattle.gj_rules.specs.Summaries.{no_shapes, shape_for}
 use Rattle.gj_coords.specs.Shape.{coordinates_faults}
 use Rattle.gj_rules.specs.Summaries.{shapes_of}
 
--- the frame that an object leaves
-abbrev pub frame_for : Role → ℕ → Option Slot → FirstMembers → Frame
-frame_for role place type_name p = record {
+-- what an object has shown at its end
+abbrev pub shown_for : Role → ℕ → Option Slot → FirstMembers → Shown
+shown_for role place type_name p = record {
   place = place;
   role = role;
   repeated = least p.repeated;
@@ -133,7 +133,7 @@ features_is u v w x place p =
 
 -- at each role, for each type that is allowed there
 typed_is : (role : Role) (word : Word) (at : ℕ) (place : ℕ) (t : Option Slot) (p : FirstMembers)
-    → (if is_allowed role word then F.as_type word (frame_for role place t p) else Some (fault_at at G3))
+    → (if is_allowed role word then F.as_type word (shown_for role place t p) else Some (fault_at at G3))
     ≡ least (if is_allowed role word then R.as_type word place p else one at G3)
 typed_is role Word.Other at place t p = refl
 typed_is Role.Root Word.Feature at place t p = feature_is true true true place p
@@ -159,7 +159,7 @@ typed_is Role.Root Word.MultiPolygon at place t p = simple_is Simple.MultiPolygo
 typed_is role Word.MultiPolygon at place t p = simple_is Simple.MultiPolygon false false false place p
 
 rest_is : (role : Role) (place : ℕ) (t : Option Slot) (p : FirstMembers) (o : Option TypeValue)
-    → F.rest_by o (frame_for role place t p) ≡ least (R.by_type o role place p)
+    → F.rest_by o (shown_for role place t p) ≡ least (R.by_type o role place p)
 rest_is role place t p None = refl
 rest_is role place t p (Some value) = typed_is role value.word value.place place t p
 
@@ -167,7 +167,7 @@ uses_bbox : (role : Role) → F.uses role Bbox ≡ true
 uses_bbox Role.Root = refl
 uses_bbox _ = refl
 
-pub settled_is : (role : Role) (place : ℕ) (t : Option Slot) (p : FirstMembers) → F.settled (frame_for role place t p) ≡ least (R.object_faults role place p)
+pub settled_is : (role : Role) (place : ℕ) (t : Option Slot) (p : FirstMembers) → F.settled (shown_for role place t p) ≡ least (R.object_faults role place p)
 settled_is role place t p =
     also _ p.repeated _ _ refl
     (also _ (R.optional p.bbox) _ _ (ap (λ u. F.slot_fault (slot_from u p.bbox)) (uses_bbox role) ∙ optional_is p.bbox) (rest_is role place t p p.type_value))
@@ -189,8 +189,8 @@ pub none_set : (role : Role) (place : ℕ) (n : Known) → F.slot_of n (F.blank 
 none_set role place TypeName = refl
 none_set role place _ = refl
 
--- a frame is its fields
-fields_are : (f : Frame) (place : ℕ) (role : Role) (repeated : Option Fault) (type_value : Option TypeValue) (shapes : Shapes) (type_name coordinates geometries geometry properties features bbox id : Option Slot)
+-- what is shown is its fields
+fields_are : (f : Shown) (place : ℕ) (role : Role) (repeated : Option Fault) (type_value : Option TypeValue) (shapes : Shapes) (type_name coordinates geometries geometry properties features bbox id : Option Slot)
     → f.place ≡ place → f.role ≡ role → f.repeated ≡ repeated → f.type_value ≡ type_value → f.shapes ≡ shapes → f.type_name ≡ type_name → f.coordinates ≡ coordinates
     → f.geometries ≡ geometries → f.geometry ≡ geometry → f.properties ≡ properties → f.features ≡ features → f.bbox ≡ bbox → f.id ≡ id
     → f ≡ record {
@@ -215,11 +215,11 @@ kind_is : (o : Option TypeValue) → type_from None None o ≡ o
 kind_is None = refl
 kind_is (Some value) = refl
 
--- the frame after all members, from its fields
-pub frame_after : (role : Role) (place : ℕ) (members : Members)
-    → members_taken members (F.blank role place) ≡ frame_for role place (members_taken members (F.blank role place)).type_name (parts_of members)
-frame_after role place members =
-    let f : Frame = F.blank role place in
+-- what is shown after all members, from its fields
+pub shown_after : (role : Role) (place : ℕ) (members : Members)
+    → members_taken members (F.blank role place) ≡ shown_for role place (members_taken members (F.blank role place)).type_name (parts_of members)
+shown_after role place members =
+    let f : Shown = F.blank role place in
     let same = members_object members f in
     fields_are (members_taken members f) _ _ _ _ _ _ _ _ _ _ _ _ _
     same.place same.role
@@ -236,4 +236,4 @@ frame_after role place members =
     (slots_after Id members f refl)
 
 pub closed : (role : Role) (place close : ℕ) (members : Members) → F.settled (members_taken members (F.blank role place)) ≡ least (faults role (object place members close))
-closed role place close members = ap F.settled (frame_after role place members) ∙ settled_is role place (members_taken members (F.blank role place)).type_name (parts_of members)
+closed role place close members = ap F.settled (shown_after role place members) ∙ settled_is role place (members_taken members (F.blank role place)).type_name (parts_of members)

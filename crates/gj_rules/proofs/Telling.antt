@@ -1,32 +1,30 @@
 -- What a call leaves stands for one event more.
-use Rattle.std.proofs.Common.{◌≡◌, ℕ, zero, suc, ◌+◌, ◌<◌, ◌≤◌, true, false, List, [], ◌∷◌, ◌++◌, map, reverse, Option, refl, sym, ap, subst, ◌∙◌, arith, append_assoc}
+use Rattle.std.proofs.Common.{◌≡◌, ℕ, zero, suc, ◌+◌, ◌<◌, ◌≤◌, true, false, List, [], ◌∷◌, ◌++◌, map, reverse, refl, sym, ap, subst, ◌∙◌, arith, append_assoc}
 use Rattle.std.proofs.lemmas.List.{length-reverse, append-nil}
 use Rattle.gj_json.specs.declared.event.Event.{Event}
 use Rattle.gj_json.specs.declared.names.Known.{Known}
 use Rattle.gj_json.specs.declared.names.Known.TheVariants.{Coordinates, Bbox}
 use Rattle.gj_json.specs.declared.event.What.{What}
-use Rattle.gj_json.specs.Events.{value_events, all_events, mark_events, events_by, by}
+use Rattle.gj_json.specs.Events.{value_events, all_events, events_by, by}
 use Rattle.gj_json.specs.Text.{IsText}
 use Rattle.gj_json.specs.Events as E
 use Rattle.gj_json.specs.Tree.{Tree, Text, depth}
 use Rattle.gj_coords.specs.declared.coordinates.Coordinates as C
 use Rattle.gj_coords.specs.declared.bbox.Bbox as B
-use Rattle.gj_coords.specs.declared.fault.Fault.{Fault}
-use Rattle.gj_coords.specs.Fault.{least}
+use Rattle.gj_rules.specs.declared.found.Found.{Found}
 use Rattle.gj_rules.specs.declared.frame.Frame.{Frame}
 use Rattle.gj_rules.specs.declared.mode.Mode.{Mode}
 use Rattle.gj_rules.specs.declared.mode.Mode.TheVariants.{RootDue, Names, Due, Elements, Done}
 use Rattle.gj_rules.specs.declared.rules.Rules.{Rules}
-use Rattle.gj_rules.specs.Faults.{text_faults}
 use Rattle.gj_rules.specs.Judged.{judged_at}
 use Rattle.gj_rules.specs.Kept.{core_of, frames_by, Holds, HoldsIn, Stands, HasRoom, Fed}
 use Rattle.gj_rules.specs.Rules.{StandsFor}
 use Rattle.gj_rules.specs.Step.{Core, Feed, State, is_feeding, feed_behind, ended, fed, core_step, step, run, start}
 use Rattle.gj_rules.specs.Told as T
-use Rattle.gj_rules.specs.Told.{Told, event_of, told, mark_told, text_told}
+use Rattle.gj_rules.specs.Told.{Told, event_of, text_told}
 use Rattle.gj_rules.proofs.Cuts.{front_text}
 use Rattle.gj_rules.proofs.Timed.{text-timed, text-events}
-use Rattle.gj_rules.proofs.Leads.{Good, Fits, Leads, leads_at, lead_text}
+use Rattle.gj_rules.proofs.Leads.{Good, Fits, Leads, leads_at, text_found, lead_text}
 
 -- ---- the events that were told
 
@@ -54,13 +52,13 @@ run-last (y ∷ ys) x s = run-last ys x (step y s)
 
 -- ---- an event that goes to no summary
 
-abbrev pub core : ℕ → Mode → Frame → List Frame → Option Fault → Core
+abbrev pub core : ℕ → Mode → Frame → List Frame → Found → Core
 core k m f o a = record { skipped = k; mode = m; top = f; outer = o; answer = a }
 
 abbrev pub with_feed : Core → Feed → State
 with_feed c feed = record { core = c; feed = feed }
 
-step_core : (x : Told) (feed : Feed) (k : ℕ) (m : Mode) (f : Frame) (o : List Frame) (a : Option Fault) → is_feeding k m ≡ false
+step_core : (x : Told) (feed : Feed) (k : ℕ) (m : Mode) (f : Frame) (o : List Frame) (a : Found) → is_feeding k m ≡ false
     → (step x (with_feed (core k m f o a) feed)).core ≡ core_step (event_of x) (core k m f o a)
 step_core x feed zero m f o a e = rw e refl
 step_core x feed (suc k) m f o a e = refl
@@ -78,17 +76,17 @@ behind_taken x Names = refl
 behind_taken x (Elements r) = refl
 behind_taken x Done = refl
 
-step_taken : (x : Told) (feed : Feed) (k : ℕ) (m : Mode) (f : Frame) (o : List Frame) (a : Option Fault) → is_feeding k m ≡ false
+step_taken : (x : Told) (feed : Feed) (k : ℕ) (m : Mode) (f : Frame) (o : List Frame) (a : Found) → is_feeding k m ≡ false
     → (step x (with_feed (core k m f o a) feed)).feed.taken ≡ []
 step_taken x feed zero m f o a e = rw e (behind_taken x (core_step (event_of x) (core zero m f o a)).mode)
 step_taken x feed (suc k) m f o a e = refl
 
-few_skipped : (x : Told) (rest : List Told) (feed : Feed) (k : ℕ) (m : Mode) (f : Frame) (o : List Frame) (a : Option Fault)
+few_skipped : (x : Told) (rest : List Told) (feed : Feed) (k : ℕ) (m : Mode) (f : Frame) (o : List Frame) (a : Found)
     → is_feeding k m ≡ false → Good x rest (with_feed (core k m f o a) feed) → k < 255
 few_skipped x rest feed zero m f o a e g = omega arith
 few_skipped x rest feed (suc k) m f o a e g = g
 
-has_room : (x : Told) (rest : List Told) (feed : Feed) (k : ℕ) (m : Mode) (f : Frame) (o : List Frame) (a : Option Fault)
+has_room : (x : Told) (rest : List Told) (feed : Feed) (k : ℕ) (m : Mode) (f : Frame) (o : List Frame) (a : Found)
     → is_feeding k m ≡ false → Good x rest (with_feed (core k m f o a) feed) → k ≡ 0 → HasRoom (event_of x).what o
 has_room x rest feed (suc k) m f o a e g z = cc
 has_room x rest feed zero (Due Coordinates) f o a e g z = cc
@@ -115,12 +113,12 @@ taken_core old new x rest feed e g t h = (
 
 -- ---- an event that goes to a summary
 
-step_fed : (x : Told) (feed : Feed) (k : ℕ) (m : Mode) (f : Frame) (o : List Frame) (a : Option Fault) → is_feeding k m ≡ true
+step_fed : (x : Told) (feed : Feed) (k : ℕ) (m : Mode) (f : Frame) (o : List Frame) (a : Found) → is_feeding k m ≡ true
     → step x (with_feed (core k m f o a) feed) ≡ fed feed.left (event_of x) feed.value feed.taken (core k m f o a)
 step_fed x feed zero m f o a e = rw e refl
 step_fed x feed (suc k) m f o a e = cc
 
-ended_names : (v : Tree) (k : ℕ) (m : Mode) (f : Frame) (o : List Frame) (a : Option Fault) → is_feeding k m ≡ true → (ended v (core k m f o a)).mode ≡ Names
+ended_names : (v : Tree) (k : ℕ) (m : Mode) (f : Frame) (o : List Frame) (a : Found) → is_feeding k m ≡ true → (ended v (core k m f o a)).mode ≡ Names
 ended_names v zero (Due name) f o a e = refl
 ended_names v zero RootDue f o a e = cc
 ended_names v zero Names f o a e = cc
@@ -142,7 +140,7 @@ fed_core old new x v taken [] next e h =
     (h, holds_names new.skipped new.mode new.coordinates new.bbox [] (ap (λ (c : Core). c.mode) h ∙ ended_names v old.skipped old.mode old.top (reverse old.outer.items) old.answer e))
 fed_core old new x v taken (y ∷ ys) next e h = h
 
-fits_of : (x : Told) (rest : List Told) (feed : Feed) (k : ℕ) (m : Mode) (f : Frame) (o : List Frame) (a : Option Fault)
+fits_of : (x : Told) (rest : List Told) (feed : Feed) (k : ℕ) (m : Mode) (f : Frame) (o : List Frame) (a : Found)
     → is_feeding k m ≡ true → Good x rest (with_feed (core k m f o a) feed) → Fits feed (x ∷ rest)
 fits_of x rest feed zero (Due Coordinates) f o a e g = g
 fits_of x rest feed zero (Due Bbox) f o a e g = g
@@ -179,7 +177,7 @@ front_stands : (rules : Rules) (events : List Event) (text : Text) (front rest :
     → Stands rules (run front start) × Good x rest (run front start)
 front_stands rules events text front rest x h e f d = (
   h text front (x ∷ rest) e f d,
-  (leads_at front (x ∷ rest) start (least (text_faults text)) (subst (λ (ts : List Told). Leads ts start (least (text_faults text))) e (lead_text text d))).0,
+  (leads_at front (x ∷ rest) start (text_found text) (subst (λ (ts : List Told). Leads ts start (text_found text)) e (lead_text text d))).0,
 )
 
 -- from each state for which the rules may stand, and an event that may come there
@@ -223,12 +221,12 @@ pub started : (rules : Rules) → core_of rules ≡ start.core → Holds rules [
 started rules e h = λ text done rest f g d.
     subst (λ (ts : List Told). Stands rules (run ts start)) (sym (none_told done g)) (e, h)
 
-pub answered : (rules : Rules) (text : Text) → depth text.value ≤ 64 → StandsFor rules (all_events text) → rules.answer ≡ least (text_faults text)
+pub answered : (rules : Rules) (text : Text) → depth text.value ≤ 64 → StandsFor rules (all_events text) → rules.answer ≡ text_found text
 answered rules text d h =
     let whole : text_told text ≡ text_told text ++ [] = sym (append-nil (text_told text)) in
     let k = h text (text_told text) [] whole (text-events text) d in
     ap (λ (c : Core). c.answer) k.0
-    ∙ leads_at (text_told text) [] start (least (text_faults text)) (subst (λ (ts : List Told). Leads ts start (least (text_faults text))) whole (lead_text text d))
+    ∙ leads_at (text_told text) [] start (text_found text) (subst (λ (ts : List Told). Leads ts start (text_found text)) whole (lead_text text d))
 
 -- ---- the frames in use
 

@@ -1,134 +1,60 @@
--- Internal: what the calls of a frame do to its fields.
-use Rattle.std.specs.Prelude.{ℕ, Bool, true, false, if◌then◌else◌, Option, Some, None}
+-- Internal: what the calls of a frame do to it.
+use Rattle.std.specs.Prelude.{ℕ, if◌then◌else◌, Option, Some, None}
 use Rattle.gj_json.specs.declared.names.Known.{Known}
-use Rattle.gj_json.specs.declared.names.Known.TheVariants.{TypeName, Coordinates, Geometries, Geometry, Properties, Features, Bbox, Id, Crs, Other}
 use Rattle.gj_json.specs.declared.names.Word.{Word}
-use Rattle.gj_json.specs.Tree.{Tree, Members, end_of_object, member}
 use Rattle.gj_json.specs.Names.{known_of}
+use Rattle.gj_json.specs.Tree.{Tree, Members, end_of_object, member}
 use Rattle.gj_coords.specs.declared.fault.Fault.{Fault}
-use Rattle.gj_coords.specs.declared.fault.Rule.{Rule}
-use Rattle.gj_coords.specs.declared.fault.Rule.TheVariants.{G2, G3, G4, G5, G6, G7, G8, G9, G10}
+use Rattle.gj_coords.specs.declared.kind.Kind.TheVariants.{W7}
 use Rattle.gj_coords.specs.declared.simple.Simple.{Simple}
-use Rattle.gj_coords.specs.Fault.{fault_at, lesser, least}
-use Rattle.gj_rules.specs.declared.role.Role.{Role}
-use Rattle.gj_rules.specs.declared.frame.Slot.{Slot}
-use Rattle.gj_rules.specs.declared.frame.TypeValue.{TypeValue}
+use Rattle.gj_coords.specs.declared.warnings.Warnings.{Warnings}
+use Rattle.gj_coords.specs.Noted as Noted
+use Rattle.gj_coords.specs.Noted.{no_warnings, added}
+use Rattle.gj_rules.specs.declared.found.Found.{Found}
 use Rattle.gj_rules.specs.declared.frame.Frame.{Frame}
+use Rattle.gj_rules.specs.declared.role.Role.{Role}
 use Rattle.gj_rules.specs.declared.shapes.Shapes.{Shapes}
-use Rattle.gj_coords.specs.Items.{place_of}
-use Rattle.gj_rules.specs.Members.{is_known, type_of}
+use Rattle.gj_rules.specs.declared.shown.TypeValue.{TypeValue}
+use Rattle.gj_rules.specs.Gathered.{none_gathered, gathered, gathered_any, gathered_at}
 use Rattle.gj_rules.specs.Role.{is_allowed}
-use Rattle.gj_rules.specs.Faults.{judge}
-use Rattle.gj_rules.specs.Summaries.{no_shapes, shape_for, shapes_of}
+use Rattle.gj_rules.specs.Shown as Shown
+use Rattle.gj_rules.specs.Summaries.{warned_for}
+use Rattle.gj_rules.specs.TextKept.{judged_kept}
 
 abbrev pub blank : Role → ℕ → Frame
-blank role place = record {
-  place = place;
-  role = role;
-  repeated = None;
-  type_value = None;
-  shapes = no_shapes;
-  type_name = None;
-  coordinates = None;
-  geometries = None;
-  geometry = None;
-  properties = None;
-  features = None;
-  bbox = None;
-  id = None;
-}
-
--- ---- slots
-
-abbrev pub slot_of : Known → Frame → Option Slot
-slot_of TypeName frame = frame.type_name
-slot_of Coordinates frame = frame.coordinates
-slot_of Geometries frame = frame.geometries
-slot_of Geometry frame = frame.geometry
-slot_of Properties frame = frame.properties
-slot_of Features frame = frame.features
-slot_of Bbox frame = frame.bbox
-slot_of Id frame = frame.id
-slot_of Other frame = None
-slot_of Crs frame = None
-
-abbrev pub with_slot : Known → Slot → Frame → Frame
-with_slot TypeName slot frame = record frame { type_name = Some slot }
-with_slot Coordinates slot frame = record frame { coordinates = Some slot }
-with_slot Geometries slot frame = record frame { geometries = Some slot }
-with_slot Geometry slot frame = record frame { geometry = Some slot }
-with_slot Properties slot frame = record frame { properties = Some slot }
-with_slot Features slot frame = record frame { features = Some slot }
-with_slot Bbox slot frame = record frame { bbox = Some slot }
-with_slot Id slot frame = record frame { id = Some slot }
-with_slot Other slot frame = frame
-with_slot Crs slot frame = frame
-
-abbrev pub joined_to : Known → Option Fault → Option Slot → Frame → Frame
-joined_to name fault None frame = frame
-joined_to name fault (Some slot) frame = with_slot name (record { name_at = slot.name_at; fault = lesser slot.fault fault }) frame
+blank role place = record { shown = Shown.blank role place; gathered = none_gathered }
 
 abbrev pub joined : Known → Option Fault → Frame → Frame
-joined name fault frame = joined_to name fault (slot_of name frame) frame
+joined name fault frame = record frame { shown = Shown.joined name fault frame.shown }
 
--- ---- which values are looked at
+abbrev pub warned : Known → Warnings → Frame → Frame
+warned name warnings frame = record frame { gathered = gathered name warnings frame.gathered }
 
-abbrev pub geometry_uses : Known → Bool
-geometry_uses TypeName = true
-geometry_uses Coordinates = true
-geometry_uses Geometries = true
-geometry_uses Bbox = true
-geometry_uses _ = false
+abbrev pub taken_in : Known → Found → Frame → Frame
+taken_in name found frame = record { shown = Shown.joined name found.fault frame.shown; gathered = gathered name found.warned frame.gathered }
 
-abbrev pub feature_uses : Known → Bool
-feature_uses TypeName = true
-feature_uses Geometry = true
-feature_uses Properties = true
-feature_uses Id = true
-feature_uses Bbox = true
-feature_uses _ = false
-
--- the values that some type uses which an object with the role may have
-abbrev pub uses : Role → Known → Bool
-uses Role.Root name = true
-uses Role.Geometry name = geometry_uses name
-uses Role.Part name = geometry_uses name
-uses Role.Feature name = feature_uses name
-
-abbrev pub repeated_at : ℕ → Frame → Frame
-repeated_at place frame = record frame { repeated = lesser frame.repeated (Some (fault_at place G10)) }
-
-abbrev pub named_known : Known → ℕ → Option Slot → Frame → Frame
-named_known name place (Some slot) frame = repeated_at place frame
-named_known name place None frame = with_slot name (record { name_at = place; fault = None }) frame
+-- what values of a first member come to: a fault, and warnings where one of them is an object with a role
+abbrev pub taken_any : Known → Option Fault → Option Warnings → Frame → Frame
+taken_any name fault warnings frame = record { shown = Shown.joined name fault frame.shown; gathered = gathered_any name warnings frame.gathered }
 
 abbrev pub named : Known → ℕ → Frame → Frame
-named name place frame = if is_known name then named_known name place (slot_of name frame) frame else frame
-
-abbrev pub used : Role → Known → Known
-used role name = if uses role name then name else Other
-
-abbrev pub due_known : Known → Option Slot → Role → Known
-due_known name (Some slot) role = Other
-due_known name None role = used role name
+named name place frame = record { shown = Shown.named name place frame.shown; gathered = gathered_at name place frame.gathered }
 
 -- as the first member of which name the value behind a name is judged, `Other` where it is not
 abbrev pub due_after : Known → Frame → Known
-due_after name frame = if is_known name then due_known name (slot_of name frame) frame.role else Other
+due_after name frame = Shown.due_after name frame.shown
 
 abbrev pub type_set : ℕ → Word → Frame → Frame
-type_set place word frame = record frame { type_value = Some (record { place = place; word = word }) }
+type_set place word frame = record frame { shown = Shown.type_set place word frame.shown }
 
 abbrev pub shapes_set : Shapes → Frame → Frame
-shapes_set shapes frame = record frame { shapes = shapes }
+shapes_set shapes frame = record frame { shown = Shown.shapes_set shapes frame.shown }
 
 -- ---- whole members
 
 -- the value of the first member of a name
 abbrev pub filled : Known → Tree → Frame → Frame
-filled TypeName value frame = type_set (place_of value) (type_of value) frame
-filled Coordinates value frame = shapes_set (shapes_of value) frame
-filled name value frame = joined name (least (judge name value)) frame
+filled name value frame = record { shown = Shown.filled name value frame.shown; gathered = gathered_any name (judged_kept name value) frame.gathered }
 
 abbrev pub member_taken : ℕ → Known → Tree → Frame → Frame
 member_taken place name value frame = filled (due_after name frame) value (named name place frame)
@@ -139,65 +65,26 @@ members_taken (member place name end value more) frame = members_taken more (mem
 
 -- ---- at the close
 
-abbrev pub due_slot : ℕ → Rule → Option Slot → Option Fault
-due_slot place rule (Some slot) = slot.fault
-due_slot place rule None = Some (fault_at place rule)
+-- as a GeometryCollection
+abbrev pub collected : Role → ℕ → Warnings → Warnings
+collected Role.Part place geometries = added geometries W7 place
+collected _ place geometries = geometries
 
-abbrev pub forbidden_slot : Option Slot → Option Fault
-forbidden_slot (Some slot) = Some (fault_at slot.name_at G9)
-forbidden_slot None = None
+abbrev pub warned_as : Word → Frame → Warnings
+warned_as Word.Point f = warned_for Simple.Point f.shown.shapes
+warned_as Word.MultiPoint f = warned_for Simple.MultiPoint f.shown.shapes
+warned_as Word.LineString f = warned_for Simple.LineString f.shown.shapes
+warned_as Word.MultiLineString f = warned_for Simple.MultiLineString f.shown.shapes
+warned_as Word.Polygon f = warned_for Simple.Polygon f.shown.shapes
+warned_as Word.MultiPolygon f = warned_for Simple.MultiPolygon f.shown.shapes
+warned_as Word.GeometryCollection f = collected f.shown.role f.shown.place f.gathered.geometries
+warned_as Word.Feature f = f.gathered.geometry
+warned_as Word.FeatureCollection f = f.gathered.features
+warned_as Word.Other f = no_warnings
 
-abbrev pub slot_fault : Option Slot → Option Fault
-slot_fault (Some slot) = slot.fault
-slot_fault None = None
+abbrev pub warned_by : Option TypeValue → Frame → Warnings
+warned_by None f = no_warnings
+warned_by (Some value) f = if is_allowed f.shown.role value.word then warned_as value.word f else no_warnings
 
-abbrev pub due_shape : Simple → ℕ → Shapes → Option Slot → Option Fault
-due_shape simple place shapes (Some slot) = shape_for simple shapes
-due_shape simple place shapes None = Some (fault_at place G4)
-
-abbrev pub geometry_forbids : Frame → Option Fault
-geometry_forbids f = lesser (forbidden_slot f.geometry) (lesser (forbidden_slot f.properties) (forbidden_slot f.features))
-
-abbrev pub as_simple : Simple → Frame → Option Fault
-as_simple simple f = lesser (geometry_forbids f) (due_shape simple f.place f.shapes f.coordinates)
-
-abbrev pub as_collection : Frame → Option Fault
-as_collection f = lesser (geometry_forbids f) (due_slot f.place G5 f.geometries)
-
-abbrev pub feature_forbids : Frame → Option Fault
-feature_forbids f = lesser (forbidden_slot f.coordinates) (lesser (forbidden_slot f.geometries) (forbidden_slot f.features))
-
-abbrev pub feature_dues : Frame → Option Fault
-feature_dues f = lesser (due_slot f.place G6 f.geometry) (lesser (due_slot f.place G7 f.properties) (slot_fault f.id))
-
-abbrev pub as_feature : Frame → Option Fault
-as_feature f = lesser (feature_forbids f) (feature_dues f)
-
-abbrev pub features_forbid : Frame → Option Fault
-features_forbid f =
-    lesser (lesser (forbidden_slot f.coordinates) (forbidden_slot f.geometries)) (lesser (forbidden_slot f.geometry) (forbidden_slot f.properties))
-
-abbrev pub as_features : Frame → Option Fault
-as_features f = lesser (features_forbid f) (due_slot f.place G8 f.features)
-
-abbrev pub as_type : Word → Frame → Option Fault
-as_type Word.Point f = as_simple Simple.Point f
-as_type Word.MultiPoint f = as_simple Simple.MultiPoint f
-as_type Word.LineString f = as_simple Simple.LineString f
-as_type Word.MultiLineString f = as_simple Simple.MultiLineString f
-as_type Word.Polygon f = as_simple Simple.Polygon f
-as_type Word.MultiPolygon f = as_simple Simple.MultiPolygon f
-as_type Word.GeometryCollection f = as_collection f
-as_type Word.Feature f = as_feature f
-as_type Word.FeatureCollection f = as_features f
-as_type Word.Other f = None
-
-abbrev pub rest_by : Option TypeValue → Frame → Option Fault
-rest_by None f = Some (fault_at f.place G2)
-rest_by (Some value) f = if is_allowed f.role value.word then as_type value.word f else Some (fault_at value.place G3)
-
-abbrev pub rest_of : Frame → Option Fault
-rest_of f = rest_by f.type_value f
-
-abbrev pub settled : Frame → Option Fault
-settled f = lesser f.repeated (lesser (slot_fault f.bbox) (rest_of f))
+abbrev pub settled : Frame → Found
+settled f = record { fault = Shown.settled f.shown; warned = Noted.joined f.gathered.own (warned_by f.shown.type_value f) }

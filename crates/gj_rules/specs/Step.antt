@@ -11,11 +11,16 @@ use Rattle.gj_json.specs.Tree.{Tree, constant}
 use Rattle.gj_coords.specs.declared.fault.Fault.{Fault}
 use Rattle.gj_coords.specs.declared.fault.Rule.TheVariants.{G1, G17, G18, G19}
 use Rattle.gj_coords.specs.Fault.{fault_at}
+use Rattle.gj_coords.specs.declared.kind.Kind.TheVariants.{W1}
+use Rattle.gj_coords.specs.Noted as Noted
+use Rattle.gj_coords.specs.Noted.{added}
+use Rattle.gj_rules.specs.declared.found.Found.{Found}
 use Rattle.gj_rules.specs.declared.frame.Frame.{Frame}
 use Rattle.gj_rules.specs.declared.role.Role.{Role}
 use Rattle.gj_rules.specs.declared.mode.Mode.{Mode}
 use Rattle.gj_rules.specs.declared.mode.Mode.TheVariants.{RootDue, Names, Due, Elements, Done}
-use Rattle.gj_rules.specs.Frame.{blank, named, due_after, joined, type_set, settled, filled}
+use Rattle.gj_rules.specs.Frame.{blank, named, due_after, joined, taken_in, type_set, settled, filled}
+use Rattle.gj_rules.specs.Summaries.{none_found}
 use Rattle.gj_rules.specs.Told.{Told, event_of}
 
 -- ---- without the values that a summary takes
@@ -26,7 +31,7 @@ pub record Core : Type 0 where
   pub mode : Mode
   pub top : Frame
   pub outer : List Frame
-  pub answer : Option Fault
+  pub answer : Found
 
 abbrev pub skip : What → ℕ → ℕ
 skip What.OpenObject levels = levels + 1
@@ -57,18 +62,19 @@ mode_behind Role.Feature = Elements Role.Feature
 abbrev pub pushed : Role → ℕ → Core → Core
 pushed role place s = record s { mode = Names; top = blank role place; outer = s.top ∷ s.outer }
 
-abbrev pub popped : List Frame → Role → Option Fault → Core → Core
-popped [] role fault s = record s { mode = Done; answer = fault }
-popped (parent ∷ outer) role fault s = record s { mode = mode_behind role; top = joined (member_of role) fault parent; outer = outer }
+-- at the end of an object in which this is found
+abbrev pub popped : List Frame → Role → Found → Core → Core
+popped [] role found s = record s { mode = Done; answer = record { fault = found.fault; warned = Noted.joined s.answer.warned found.warned } }
+popped (parent ∷ outer) role found s = record s { mode = mode_behind role; top = taken_in (member_of role) found parent; outer = outer }
 
 abbrev pub root_step : What → ℕ → Core → Core
-root_step What.Mark place s = s
+root_step What.Mark place s = record s { answer = record { fault = s.answer.fault; warned = added s.answer.warned W1 place } }
 root_step What.OpenObject place s = record s { mode = Names; top = blank Role.Root place }
-root_step what place s = record s { mode = Done; skipped = levels_in what; answer = Some (fault_at place G1) }
+root_step what place s = record s { mode = Done; skipped = levels_in what; answer = record { fault = Some (fault_at place G1); warned = s.answer.warned } }
 
 abbrev pub names_step : What → ℕ → Core → Core
 names_step (What.Name name) place s = record s { mode = Due (due_after name s.top); top = named name place s.top }
-names_step _ place s = popped s.outer s.top.role (settled s.top) s
+names_step _ place s = popped s.outer s.top.shown.role (settled s.top) s
 
 abbrev pub word_in : What → Word
 word_in (What.Text word) = word
@@ -155,8 +161,12 @@ pub record State : Type 0 where
   pub core : Core
   pub feed : Feed
 
+-- the value of the first member of a name has ended
+abbrev pub ended_as : Known → Tree → Core → Core
+ended_as name value s = record s { mode = Names; top = filled name value s.top }
+
 abbrev pub ended_in : Mode → Tree → Core → Core
-ended_in (Due name) value s = record s { mode = Names; top = filled name value s.top }
+ended_in (Due name) value s = ended_as name value s
 ended_in _ value s = s
 
 -- the value that a summary took has ended
@@ -187,4 +197,4 @@ run [] s = s
 run (x ∷ xs) s = run xs (step x s)
 
 abbrev pub start : State
-start = record { core = record { skipped = 0; mode = RootDue; top = blank Role.Root 0; outer = []; answer = None }; feed = idle }
+start = record { core = record { skipped = 0; mode = RootDue; top = blank Role.Root 0; outer = []; answer = none_found }; feed = idle }

@@ -2,12 +2,15 @@
 //!
 //! A [`Linter`] takes an input in pieces of any size and answers its [`Verdict`]. It is a
 //! [`Reader`](gj_json::Reader) that tells its events to [`Rules`]. These find the least fault of a
-//! text: that of the least place, and at one place of the lowest number. They keep one frame of a
-//! fixed size for each open object that has a role by its position, whatever the length of the text
-//! and wherever an object's `type` stands.
+//! text: that of the least place, and at one place of the lowest number. Of a text without a fault they
+//! tell what is likely wrong in use: of each kind of warning how many there are, and the least place.
+//! They keep one frame of a fixed size for each open object that has a role by its position, whatever
+//! the length of the text and wherever an object's `type` stands.
 #![tactic(auto)]
 
+mod found;
 mod frame;
+mod gathered;
 pub mod laws;
 mod linter;
 mod mode;
@@ -15,6 +18,7 @@ mod opening;
 mod role;
 mod rules;
 mod shapes;
+mod shown;
 mod verdict;
 
 pub use linter::{Linter, Progress};

@@ -3,7 +3,7 @@
 #[cfg(test)]
 mod tests;
 
-ghost use Rattle.std.specs.Prelude.{◌≡◌, ℕ, ◌≤◌, ◌++◌, [], List, length, take, None, Some};
+ghost use Rattle.std.specs.Prelude.{◌≡◌, ℕ, ◌≤◌, ◌^◌, ◌++◌, [], List, length, take, None, Some};
 ghost use Rattle.gj_json.specs.declared.fault.JsonFault.{JsonFault};
 ghost use Rattle.gj_json.specs.Reader.{limits_of as reader_limits};
 ghost use Rattle.gj_json.specs.Tree.{Text};
@@ -18,8 +18,9 @@ ghost use Rattle.gj_rules.specs.Verdict.{verdict_of};
 use crate::frame::Frame;
 use crate::rules::Rules;
 use crate::verdict::Verdict;
-use gj_coords::Fault;
-use gj_json::{Event, EventSink, JsonFault, Limits, Reader, bytes_taken};
+use gj_coords::laws::kept_warnings;
+use gj_coords::{Fault, Warnings};
+use gj_json::{Event, EventSink, JsonFault, Limits, Reader, bytes_taken, few_events};
 use std::mem::size_of;
 
 /// What a piece of an input shows.
@@ -40,13 +41,13 @@ fn tell_last(rules: &mut Rules, last: Option<Event>)
     }
 }
 
-/// The verdict of a JSON text with this least fault.
-fn verdict_of(fault: Option<Fault>) -> Verdict
-    ensures { result ≡ verdict_of fault }
+/// The verdict of a JSON text with this least fault and these warnings.
+fn verdict_of(fault: Option<Fault>, warnings: Warnings) -> Verdict
+    ensures { result ≡ verdict_of fault warnings }
 {
     match fault {
         Some(fault) => Verdict::Broken(fault),
-        None => Verdict::Valid,
+        None => Verdict::Valid(warnings),
     }
 }
 
@@ -58,6 +59,7 @@ pub struct Linter {
     rules: Rules,
     reader: Reader,
     ghost shallow: { (reader_limits reader).depth ≤ 64 },
+    ghost short: { (reader_limits reader).bytes ≤ 2 ^ 60 },
 }
 
 // At most 33 frames and 8,192 bytes.
@@ -100,12 +102,14 @@ impl Linter {
         ensures again { (fault : JsonFault) → refusal_of self ≡ Some fault → result ≡ Verdict.NotJson fault }
     {
         bytes_taken();
+        few_events();
+        kept_warnings();
         let Linter { mut rules, reader } = self;
         match reader.finish() {
             Err(fault) => Verdict::NotJson(fault),
             Ok(last) => {
                 tell_last(&mut rules, last);
-                verdict_of(rules.fault())
+                verdict_of(rules.fault(), rules.warnings())
             }
         }
     }

@@ -18,7 +18,7 @@ pub enum Role {
 
 impl Role {
     ghost use Rattle.gj_rules.specs.Role.{is_allowed};
-    ghost use Rattle.gj_rules.specs.Frame.{geometry_uses, feature_uses, uses};
+    ghost use Rattle.gj_rules.specs.Shown.{geometry_uses, feature_uses, uses};
     ghost use Rattle.gj_rules.specs.Step.{member_of};
 
     /// Whether an object with this role may be of the type `word`.

@@ -4,19 +4,21 @@ mod steps;
 #[cfg(test)]
 mod tests;
 
+use crate::found::Found;
 use crate::frame::Frame;
 use crate::mode::Mode;
 use crate::role::Role;
 use crate::shapes::Shapes;
 use arrayvec::ArrayVec;
-use gj_coords::{Bbox, Coordinates, Fault};
+use gj_coords::{Bbox, Coordinates, Fault, Warnings};
 use gj_json::{Event, EventSink, Known};
 use std::mem::size_of;
 
 /// How many objects with a role can be open around the innermost one, at 64 levels.
 const MOST_AROUND: usize = 32;
 
-/// Finds the least fault of a text from its events, in whatever order the members stand.
+/// Finds the least fault and the warnings of a text from its events, in whatever order the members
+/// stand.
 ///
 /// Only an object with a role has a frame, whatever its type and those of the objects around it. A
 /// value without a role is skipped by a count of its levels.
@@ -27,7 +29,8 @@ pub struct Rules {
     outer: ArrayVec<Frame, MOST_AROUND>,
     coordinates: Coordinates,
     bbox: Bbox,
-    answer: Option<Fault>,
+    /// What is found in the text, once it has ended, and until then the warning of a byte order mark.
+    answer: Found,
     mode: Mode,
     /// How many levels of a value are open that is not looked into.
     skipped: u8,
@@ -37,13 +40,15 @@ pub struct Rules {
 const _: () = prove!(size_of::<Rules>() <= (MOST_AROUND + 1) * size_of::<Frame>() + 4096);
 
 impl Rules {
-    ghost use Rattle.gj_json.specs.Tree.{Text, depth};
-    ghost use Rattle.gj_json.specs.Events.{all_events, events_by};
+    ghost use Rattle.gj_json.specs.Tree.{Tree, Text, depth};
+    ghost use Rattle.gj_json.specs.Events.{all_events, events_by, value_events};
     ghost use Rattle.gj_json.specs.Text.{IsText};
     ghost use Rattle.gj_coords.specs.Fault.{least};
     ghost use Rattle.gj_rules.specs.Faults.{text_faults};
+    ghost use Rattle.gj_rules.specs.TextKept.{text_kept};
     ghost use Rattle.gj_rules.specs.Judged.{judged_at};
-    ghost use Rattle.gj_rules.specs.Step.{core_step, is_feeding};
+    ghost use Rattle.gj_rules.specs.Step.{core_step, is_feeding, ended_as};
+    ghost use Rattle.gj_rules.specs.Summaries.{StandsForCoordinates, StandsForBbox};
     ghost use Rattle.gj_rules.specs.Kept.{core_of, frames_by, Holds, HasRoom, Feeds};
     ghost use Rattle.gj_rules.specs.Levels.{most_levels};
     ghost use Rattle.gj_rules.specs.Rules.{StandsFor};
@@ -57,7 +62,7 @@ impl Rules {
             outer: ArrayVec::new(),
             coordinates: Coordinates::new(),
             bbox: Bbox::new(),
-            answer: None,
+            answer: Found::none(),
             mode: Mode::RootDue,
             skipped: 0,
         }
@@ -67,7 +72,14 @@ impl Rules {
     pub fn fault(&self) -> Option<Fault>
         ensures { (text : Text) → depth text.value ≤ most_levels → StandsFor self.now (all_events text) → result ≡ least (text_faults text) }
     {
-        self.answer
+        self.answer.fault
+    }
+
+    /// The warnings of the text whose events were told.
+    pub fn warnings(&self) -> Warnings
+        ensures { (text : Text) → depth text.value ≤ most_levels → StandsFor self.now (all_events text) → result ≡ text_kept text }
+    {
+        self.answer.warned
     }
 
     /// In a front of a text the number of open objects with a role, which is that of the frames in use.
@@ -110,11 +122,19 @@ impl Rules {
     {
         if self.skipped == 0 {
             match self.mode {
-                Mode::Due(Known::Coordinates) => self.coordinates = Coordinates::new(),
+                Mode::Due(Known::Coordinates) => self.new_coordinates(),
                 Mode::Due(Known::Bbox) => self.bbox = Bbox::new(),
                 _ => {}
             }
         }
+    }
+
+    #[inline(never)]
+    fn new_coordinates(&mut self)
+        ensures core { core_of self.new ≡ core_of self.old }
+        ensures holds { StandsForCoordinates self.new.coordinates [] }
+    {
+        self.coordinates = Coordinates::new();
     }
 
     /// Whether the next event goes to a summary.
@@ -138,9 +158,17 @@ impl Rules {
     {
         self.coordinates.event(event);
         if self.coordinates.done() {
-            self.top.set_shapes(Shapes::of(&self.coordinates));
-            self.mode = Mode::Names;
+            self.end_coordinates();
         }
+    }
+
+    /// The value of `coordinates` has ended.
+    #[inline(never)]
+    fn end_coordinates(&mut self)
+        ensures { (value : Tree) → depth value ≤ most_levels → StandsForCoordinates self.old.coordinates (value_events value) → core_of self.new ≡ ended_as Known.Coordinates value (core_of self.old) }
+    {
+        self.top.set_shapes(Shapes::of(&self.coordinates));
+        self.mode = Mode::Names;
     }
 
     /// An event of the value of `bbox`.
@@ -151,9 +179,18 @@ impl Rules {
     {
         self.bbox.event(event);
         if self.bbox.done() {
-            self.top.join(Known::Bbox, self.bbox.fault());
-            self.mode = Mode::Names;
+            self.end_bbox();
         }
+    }
+
+    /// The value of `bbox` has ended.
+    #[inline(never)]
+    fn end_bbox(&mut self)
+        ensures { (value : Tree) → depth value ≤ most_levels → StandsForBbox self.old.bbox (value_events value) → core_of self.new ≡ ended_as Known.Bbox value (core_of self.old) }
+    {
+        self.top.join(Known::Bbox, self.bbox.fault());
+        self.top.warn(Known::Bbox, self.bbox.warnings());
+        self.mode = Mode::Names;
     }
 
     /// An event of the value that a summary takes.

@@ -1,35 +1,39 @@
-ghost use Rattle.std.specs.Prelude.{◌≡◌, ◌≤◌, List};
+ghost use Rattle.std.specs.Prelude.{◌≡◌, ◌≤◌};
 
-use gj_coords::{Coordinates, Fault, Simple};
+use crate::found::Found;
+use gj_coords::{Coordinates, Fault, Simple, Warnings};
 
-/// The least fault of a `coordinates` value for each of the six simple types.
-#[derive(Clone, Copy, Default, PartialEq, Eq)]
+/// What is found in a `coordinates` value for each of the six simple types.
+///
+/// A LineString has the warnings of a MultiPoint: those of each position.
+#[derive(Clone, Copy)]
 pub struct Shapes {
-    pub point: Option<Fault>,
-    pub multi_point: Option<Fault>,
+    pub point: Found,
+    pub multi_point: Found,
     pub line_string: Option<Fault>,
-    pub multi_line_string: Option<Fault>,
-    pub polygon: Option<Fault>,
-    pub multi_polygon: Option<Fault>,
+    pub multi_line_string: Found,
+    pub polygon: Found,
+    pub multi_polygon: Found,
 }
 
 impl Shapes {
     ghost use Rattle.gj_json.specs.Tree.{Tree, depth};
     ghost use Rattle.gj_json.specs.Events.{value_events};
     ghost use Rattle.gj_rules.specs.Levels.{most_levels};
-    ghost use Rattle.gj_rules.specs.Summaries.{StandsForCoordinates, no_shapes, shape_for, shapes_of};
+    ghost use Rattle.gj_rules.specs.Summaries.{StandsForCoordinates, no_shapes, shape_for, warned_for, shapes_of};
 
     /// Of no value.
     pub fn none() -> Self
         ensures { result ≡ no_shapes }
     {
+        let none = Found::none();
         Shapes {
-            point: None,
-            multi_point: None,
+            point: none,
+            multi_point: none,
             line_string: None,
-            multi_line_string: None,
-            polygon: None,
-            multi_polygon: None,
+            multi_line_string: none,
+            polygon: none,
+            multi_polygon: none,
         }
     }
 
@@ -38,12 +42,12 @@ impl Shapes {
         ensures { (value : Tree) → depth value ≤ most_levels → StandsForCoordinates summary.now (value_events value) → result ≡ shapes_of value }
     {
         Shapes {
-            point: summary.fault(Simple::Point),
-            multi_point: summary.fault(Simple::MultiPoint),
+            point: Found::of(summary, Simple::Point),
+            multi_point: Found::of(summary, Simple::MultiPoint),
             line_string: summary.fault(Simple::LineString),
-            multi_line_string: summary.fault(Simple::MultiLineString),
-            polygon: summary.fault(Simple::Polygon),
-            multi_polygon: summary.fault(Simple::MultiPolygon),
+            multi_line_string: Found::of(summary, Simple::MultiLineString),
+            polygon: Found::of(summary, Simple::Polygon),
+            multi_polygon: Found::of(summary, Simple::MultiPolygon),
         }
     }
 
@@ -52,12 +56,25 @@ impl Shapes {
         ensures { result ≡ shape_for simple self.now }
     {
         match simple {
-            Simple::Point => self.point,
-            Simple::MultiPoint => self.multi_point,
+            Simple::Point => self.point.fault,
+            Simple::MultiPoint => self.multi_point.fault,
             Simple::LineString => self.line_string,
-            Simple::MultiLineString => self.multi_line_string,
-            Simple::Polygon => self.polygon,
-            Simple::MultiPolygon => self.multi_polygon,
+            Simple::MultiLineString => self.multi_line_string.fault,
+            Simple::Polygon => self.polygon.fault,
+            Simple::MultiPolygon => self.multi_polygon.fault,
+        }
+    }
+
+    /// The warnings for one type.
+    pub fn warned(&self, simple: Simple) -> Warnings
+        ensures { result ≡ warned_for simple self.now }
+    {
+        match simple {
+            Simple::Point => self.point.warned,
+            Simple::MultiPoint | Simple::LineString => self.multi_point.warned,
+            Simple::MultiLineString => self.multi_line_string.warned,
+            Simple::Polygon => self.polygon.warned,
+            Simple::MultiPolygon => self.multi_polygon.warned,
         }
     }
 }

@@ -1,14 +1,14 @@
 ghost use Rattle.std.specs.Prelude.{◌≡◌, ℕ, List};
 ghost use Rattle.gj_json.specs.Limits.{Allowed};
 
-use gj_coords::Fault;
+use gj_coords::{Fault, Warnings};
 use gj_json::{JsonFault, one_refusal, one_text};
 
 /// What an input is, as a whole.
 #[derive(Clone, Copy, Debug, PartialEq, Eq)]
 pub enum Verdict {
-    /// A GeoJSON text (RFC 7946).
-    Valid,
+    /// A GeoJSON text (RFC 7946), and what in it is likely wrong in use.
+    Valid(Warnings),
     /// A JSON text that breaks a rule: the broken rule of the least place in the whole text.
     Broken(Fault),
     /// No JSON text within the limits: where and why it is refused. It comes before every rule.

@@ -1,5 +1,6 @@
 use super::*;
 use crate::testing::{ArraySink, Ending};
+use gj_coords::{Kind, Warnings};
 
 fn refused(place: u64, cause: Cause) -> Verdict {
     Verdict::NotJson(JsonFault { place, cause })
@@ -9,9 +10,76 @@ fn broken(place: u64, rule: Rule) -> Verdict {
     Verdict::Broken(Fault { place, rule })
 }
 
-fn reports() -> [(Verdict, &'static str); 28] {
+fn one_warning(kind: Kind, place: u64) -> Verdict {
+    Verdict::Valid(Warnings::none().add(kind, place))
+}
+
+/// Joins warnings to themselves so many times.
+fn doubled(warnings: Warnings, times: usize) -> Warnings {
+    let mut all = warnings;
+    for _ in 0..times {
+        all = all.join(all);
+    }
+    all
+}
+
+fn reports() -> [(Verdict, &'static str); 40] {
     [
-        (Verdict::Valid, "valid\n"),
+        (Verdict::Valid(Warnings::none()), "valid\n"),
+        (
+            one_warning(Kind::W1, 0),
+            "valid\nwarning W1 count 1 first 0: byte order mark\n",
+        ),
+        (
+            one_warning(Kind::W2, 110000),
+            "valid\nwarning W2 count 1 first 110000: ring runs the wrong way\n",
+        ),
+        (
+            one_warning(Kind::W3, 11000000),
+            "valid\nwarning W3 count 1 first 11000000: more than three numbers in a position\n",
+        ),
+        (
+            one_warning(Kind::W4, 1100000000),
+            "valid\nwarning W4 count 1 first 1100000000: more than seven decimal places\n",
+        ),
+        (
+            one_warning(Kind::W5, 110000000000),
+            "valid\nwarning W5 count 1 first 110000000000: position out of range\n",
+        ),
+        (
+            one_warning(Kind::W6, 11000000000000),
+            "valid\nwarning W6 count 1 first 11000000000000: empty coordinates\n",
+        ),
+        (
+            one_warning(Kind::W7, 1100000000000000),
+            "valid\nwarning W7 count 1 first 1100000000000000: collection in a collection\n",
+        ),
+        (
+            one_warning(Kind::W8, 110000000000000000),
+            "valid\nwarning W8 count 1 first 110000000000000000: bbox south above north\n",
+        ),
+        (
+            one_warning(Kind::W9, 11000000000000000000),
+            "valid\nwarning W9 count 1 first 11000000000000000000: crs is no longer used\n",
+        ),
+        (
+            Verdict::Valid(
+                Warnings::none()
+                    .add(Kind::W9, 39)
+                    .add(Kind::W2, 500)
+                    .add(Kind::W9, 7)
+                    .add(Kind::W2, 1000),
+            ),
+            "valid\nwarning W2 count 2 first 500: ring runs the wrong way\nwarning W9 count 2 first 7: crs is no longer used\n",
+        ),
+        (
+            Verdict::Valid(doubled(Warnings::none().add(Kind::W3, 36), 32)),
+            "valid\nwarning W3 count 4294967295 first 36: more than three numbers in a position\n",
+        ),
+        (
+            Verdict::Valid(Warnings::none().add(Kind::W5, u64::MAX)),
+            "valid\nwarning W5 count 1 first 18446744073709551615: position out of range\n",
+        ),
         (broken(10, Rule::G1), "broken G1 at 10: not an object\n"),
         (broken(200, Rule::G2), "broken G2 at 200: type missing\n"),
         (
@@ -100,11 +168,11 @@ fn reports() -> [(Verdict, &'static str); 28] {
 }
 
 #[test]
-fn writes_the_line_of_each_verdict(rt: HostRuntime) {
+fn writes_the_report_of_each_verdict(rt: HostRuntime) {
     for (verdict, line) in reports() {
         for most in [1, 3, usize::MAX] {
             let mut sink = ArraySink::new(most, usize::MAX, Ending::Fails);
-            assert_eq!(rt; write_report(verdict, &mut sink), Ok(()), "{line}");
+            assert_eq!(rt; write_report(verdict, None, &mut sink), Ok(()), "{line}");
             assert_eq!(rt; sink.bytes(), line.as_bytes(), "{line}");
         }
     }
@@ -118,7 +186,7 @@ fn says_how_much_went_out_where_a_write_fails(rt: HostRuntime) {
                 let mut sink = ArraySink::new(1, room, ending);
                 let written = room as u64;
                 assert_eq!(rt;
-                    write_report(verdict, &mut sink),
+                    write_report(verdict, None, &mut sink),
                     Err(WriteFault { written }),
                     "{line}"
                 );

@@ -20,12 +20,37 @@ fn writer() -> ArraySink {
     ArraySink::new(usize::MAX, usize::MAX, Ending::Fails)
 }
 
-fn outcome_of(line: &str) -> Outcome {
-    if line == "valid\n" {
+fn outcome_of(report: &str) -> Outcome {
+    if report.starts_with("valid\n") {
         Outcome::Pass
     } else {
         Outcome::Fail
     }
+}
+
+/// Where no warning may be.
+fn strict_outcome_of(report: &str) -> Outcome {
+    if report == "valid\n" {
+        Outcome::Pass
+    } else {
+        Outcome::Fail
+    }
+}
+
+/// A strict run writes the same report.
+fn gives_strictly(rt: &impl Abort, input: &[u8], limits: Limits, report: &str) {
+    let mut sink = writer();
+    let strict = Options {
+        limits,
+        strict: true,
+        quick: false,
+    };
+    assert_eq!(rt;
+        run(&mut SliceSource::whole(input), &mut sink, strict),
+        Ok(strict_outcome_of(report)),
+        "{report}"
+    );
+    assert_eq!(rt; sink.bytes(), report.as_bytes(), "{report}");
 }
 
 /// One run over a reader, which has to give this line.
@@ -45,8 +70,9 @@ fn in_pieces(rt: &impl Abort, input: &[u8], most: (usize, usize), limits: Limits
     gives(rt, &mut reader, limits, line);
 }
 
-/// The input in one piece, byte by byte and at each cut into two.
+/// The input in one piece, byte by byte and at each cut into two; and under `strict`.
 fn expect(rt: &impl Abort, input: &[u8], limits: Limits, line: &str) {
+    gives_strictly(rt, input, limits, line);
     in_pieces(rt, input, (usize::MAX, usize::MAX), limits, line);
     in_pieces(rt, input, (1, 1), limits, line);
     for cut in 1..input.len() {
@@ -62,10 +88,13 @@ fn texts_are_judged_by_the_rules(rt: HostRuntime) {
             b"{\"coordinates\":[1,2],\"type\":\"LineString\"}",
             "broken G11 at 16: coordinates of the wrong shape\n",
         ),
-        (b"{\"type\":\"Point\",\"coordinates\":[]}", "valid\n"),
+        (
+            b"{\"type\":\"Point\",\"coordinates\":[]}",
+            "valid\nwarning W6 count 1 first 30: empty coordinates\n",
+        ),
         (
             b"{\"type\":\"Polygon\",\"coordinates\":[[[0,0],[0,1],[1,1],[0,0]]]}",
-            "valid\n",
+            "valid\nwarning W2 count 1 first 33: ring runs the wrong way\n",
         ),
         (
             b"{\"type\":\"Polygon\",\"coordinates\":[[[0,0],[1,0],[1,1],[0,0,0]]]}",
@@ -97,7 +126,7 @@ fn texts_are_judged_by_the_rules(rt: HostRuntime) {
         ),
         (
             b"{\"type\":\"Point\",\"coordinates\":[1.4210854715202004e-14,1]}",
-            "valid\n",
+            "valid\nwarning W4 count 1 first 31: more than seven decimal places\n",
         ),
         (
             b"{\"type\":\"Point\",\"coordinates\":[1234567890123456789012345678901,1]}",
@@ -109,7 +138,7 @@ fn texts_are_judged_by_the_rules(rt: HostRuntime) {
         ),
         (
             b"{\"type\":\"FeatureCollection\",\"name\":\"a\",\"crs\":{\"type\":\"name\",\"properties\":{\"name\":\"urn:ogc:def:crs:OGC:1.3:CRS84\"}},\"features\":[]}",
-            "valid\n",
+            "valid\nwarning W9 count 1 first 39: crs is no longer used\n",
         ),
         (
             b"{\"type\":\"Feature\"}",
@@ -125,15 +154,15 @@ fn texts_are_judged_by_the_rules(rt: HostRuntime) {
         ),
         (
             b"{\"type\":\"Point\",\"coordinates\":[180.0000001,90]}",
-            "valid\n",
+            "valid\nwarning W5 count 1 first 30: position out of range\n",
         ),
         (
             b"{\"type\":\"Point\",\"coordinates\":[180.00000009,90]}",
-            "valid\n",
+            "valid\nwarning W4 count 1 first 31: more than seven decimal places\n",
         ),
         (
             b"{\"type\":\"Point\",\"coordinates\":[1,2,3,4,5]}",
-            "valid\n",
+            "valid\nwarning W3 count 1 first 30: more than three numbers in a position\n",
         ),
         (
             b"{\"type\":\"Point\",\"coordinates\":[1,2,3,\"x\"]}",
@@ -145,7 +174,7 @@ fn texts_are_judged_by_the_rules(rt: HostRuntime) {
         ),
         (
             b"{\"type\":\"GeometryCollection\",\"geometries\":[{\"type\":\"GeometryCollection\",\"geometries\":[]}]}",
-            "valid\n",
+            "valid\nwarning W7 count 1 first 43: collection in a collection\n",
         ),
         (
             b"{\"type\":\"Point\",\"coordinates\":[1,2],\"bbox\":[1,2,3]}",
@@ -153,7 +182,7 @@ fn texts_are_judged_by_the_rules(rt: HostRuntime) {
         ),
         (
             b"{\"type\":\"Point\",\"coordinates\":[1,2],\"bbox\":[0,20,1,10]}",
-            "valid\n",
+            "valid\nwarning W8 count 1 first 43: bbox south above north\n",
         ),
         (
             b"{\"type\":\"Point\",\"coordinates\":[1,2],\"bbox\":[170,10,-170,20]}",
@@ -165,7 +194,7 @@ fn texts_are_judged_by_the_rules(rt: HostRuntime) {
         ),
         (
             b"\xEF\xBB\xBF{\"type\":\"Point\",\"coordinates\":[1,2]}",
-            "valid\n",
+            "valid\nwarning W1 count 1 first 0: byte order mark\n",
         ),
         (
             b"{\"type\":\"Feature\",\"id\":null,\"geometry\":null,\"properties\":null}",
@@ -181,7 +210,7 @@ fn texts_are_judged_by_the_rules(rt: HostRuntime) {
         ),
         (
             b"{\"type\":\"Polygon\",\"coordinates\":[[[0,0],[4,0],[4,4],[0,0]],[[1,1],[2,1],[2,2],[1,1]]]}",
-            "valid\n",
+            "valid\nwarning W2 count 1 first 59: ring runs the wrong way\n",
         ),
         (b"[]", "broken G1 at 0: not an object\n"),
         (b"{}", "broken G2 at 0: type missing\n"),
@@ -257,20 +286,23 @@ fn texts_are_judged_by_the_rules(rt: HostRuntime) {
         ),
         (
             b"{\"type\":\"LineString\",\"coordinates\":[[1,2,3,4],[1,2,3,4,5]]}",
-            "valid\n",
+            "valid\nwarning W3 count 2 first 36: more than three numbers in a position\n",
         ),
         (
             b"{\"crs\":1,\"crs\":2,\"type\":\"Point\",\"coordinates\":[1,2]}",
-            "valid\n",
+            "valid\nwarning W9 count 2 first 1: crs is no longer used\n",
         ),
         (
             b"{\"geometries\":[{\"crs\":1}],\"type\":\"Point\",\"coordinates\":[1,2]}",
             "valid\n",
         ),
-        (b"{\"type\":\"Point\",\"coordinates\":[1e10,1]}", "valid\n"),
+        (
+            b"{\"type\":\"Point\",\"coordinates\":[1e10,1]}",
+            "valid\nwarning W5 count 1 first 30: position out of range\n",
+        ),
         (
             b"{\"type\":\"Polygon\",\"coordinates\":[[[0,0],[0,91],[1,1],[0,0]]]}",
-            "valid\n",
+            "valid\nwarning W5 count 1 first 40: position out of range\n",
         ),
         (
             b"{\"type\":\"Polygon\",\"coordinates\":[[[0,0],[1,0],[2,0],[0,0]]]}",
@@ -375,4 +407,110 @@ fn a_failed_write_leaves_a_front_of_the_report(rt: HostRuntime) {
         );
         assert_eq!(rt; sink.bytes(), &line.as_bytes()[..room], "room for {room}");
     }
+}
+
+/// A run over two equal readers, which has to write this report.
+fn gives_with_path(rt: &impl Abort, input: &[u8], report: &str) {
+    for most in [1, usize::MAX] {
+        let mut first = SliceSource::new(input, most, most);
+        let mut second = SliceSource::new(input, most, most);
+        let mut sink = writer();
+        assert_eq!(rt;
+            run_with_path(&mut first, &mut second, &mut sink, options(Limits::usual())),
+            Ok(outcome_of(report)),
+            "{report}"
+        );
+        assert_eq!(rt; sink.bytes(), report.as_bytes(), "{report}");
+    }
+}
+
+const OPEN_RING: &[u8] = b"{\"type\":\"Polygon\",\"coordinates\":[[[0,0],[1,0],[1,1],[0,0,0]]]}";
+
+#[test]
+fn a_broken_rule_has_the_path_of_its_value(rt: HostRuntime) {
+    let rows: [(&[u8], &str); 12] = [
+        (
+            OPEN_RING,
+            "broken G15 at 33: ring not closed\npath $.coordinates[0]\n",
+        ),
+        (
+            b"{\"coordinates\":[1,2],\"type\":\"Point\",\"type\":\"Polygon\"}",
+            "broken G10 at 36: name repeated\npath $\n",
+        ),
+        (
+            b"{\"features\":[{\"type\":\"Feature\",\"geometry\":null,\"properties\":null},7],\"type\":\"FeatureCollection\"}",
+            "broken G1 at 66: not an object\npath $.features[1]\n",
+        ),
+        (
+            b"{\"type\":\"Point\",\"coordinates\":[1,2,3,\"x\"]}",
+            "broken G11 at 37: coordinates of the wrong shape\npath $.coordinates[3]\n",
+        ),
+        (
+            b"{\"type\":\"Point\",\"coordinates\":[1,2],\"bbox\":[1,2,3]}",
+            "broken G21 at 43: bbox length odd or below 4\npath $.bbox\n",
+        ),
+        (
+            b"{\"type\":\"Feature\",\"id\":null,\"geometry\":null,\"properties\":null}",
+            "broken G19 at 23: id neither string nor number\npath $.id\n",
+        ),
+        (
+            b"{\"type\":\"point\"}",
+            "broken G3 at 8: type not allowed here\npath $.type\n",
+        ),
+        (
+            b"{\"geometry\":{\"type\":\"Nope\"},\"type\":\"Point\",\"coordinates\":[1,2]}",
+            "broken G9 at 1: member forbidden by section 7.1\npath $\n",
+        ),
+        (b"[]", "broken G1 at 0: not an object\npath $\n"),
+        (b" \n7", "broken G1 at 2: not an object\npath $\n"),
+        (b"{\"type\":\"Point\",\"coordinates\":[1,2]}", "valid\n"),
+        (b"{} x", "not JSON at 3: syntax\n"),
+    ];
+    for (input, report) in rows {
+        gives_with_path(&rt, input, report);
+    }
+}
+
+#[test]
+fn without_a_second_reading_there_is_no_path(rt: HostRuntime) {
+    let line = "broken G15 at 33: ring not closed\n";
+    let seconds = [
+        (SliceSource::whole(b""), "an empty one"),
+        (
+            SliceSource::whole(&OPEN_RING[..33]),
+            "one that ends at the place",
+        ),
+        (SliceSource::whole(b"{]"), "one that is refused"),
+        (
+            SliceSource::failing_after(OPEN_RING, 0),
+            "one that fails at once",
+        ),
+        (
+            SliceSource::failing_after(OPEN_RING, 33),
+            "one that fails at the place",
+        ),
+    ];
+    for (second, which) in seconds {
+        let mut reader = second;
+        let mut sink = writer();
+        let mut first = SliceSource::whole(OPEN_RING);
+        assert_eq!(rt;
+            run_with_path(&mut first, &mut reader, &mut sink, options(Limits::usual())),
+            Ok(Outcome::Fail),
+            "{which}"
+        );
+        assert_eq!(rt; sink.bytes(), line.as_bytes(), "{which}");
+    }
+}
+
+#[test]
+fn a_failed_first_reading_ends_a_run_with_a_path(rt: HostRuntime) {
+    let mut first = SliceSource::failing_after(OPEN_RING, 5);
+    let mut second = SliceSource::whole(OPEN_RING);
+    let mut sink = writer();
+    assert_eq!(rt;
+        run_with_path(&mut first, &mut second, &mut sink, options(Limits::usual())),
+        Err(RunFault::Read(ReadFault { offset: 5 }))
+    );
+    assert!(rt; sink.bytes().is_empty());
 }

@@ -1,7 +1,9 @@
-//! Rows of bounding boxes and their least faults.
+//! Rows of bounding boxes, their least faults and their warnings.
 use super::Bbox;
 use crate::fault::{Fault, Rule};
+use crate::kind::Kind;
 use crate::sample::tell;
+use crate::warnings::Warnings;
 use gj_json::{Event, EventSink};
 
 /// A reader, and whether it was done before the last event.
@@ -48,5 +50,50 @@ fn bounding_boxes(rt: HostRuntime) {
         tell(text.as_bytes(), &mut told);
         assert!(rt; told.bbox.done() && !told.early, "{text}: done at the end");
         assert!(rt; told.bbox.fault() == expected, "{text}");
+    }
+}
+
+fn warned(text: &str) -> Warnings {
+    let mut told = Told {
+        bbox: Bbox::new(),
+        early: false,
+    };
+    tell(text.as_bytes(), &mut told);
+    told.bbox.warnings()
+}
+
+#[test]
+fn south_above_north(rt: HostRuntime) {
+    let rows = [
+        ("[0,20,1,10]", true),
+        ("[0,10,1,20]", false),
+        ("[0,10,1,10]", false),
+        ("[170,10,-170,20]", false),
+        ("[0,20,5,1,10,6]", true),
+        ("[0,10,5,1,20,6]", false),
+        // the fourth of six numbers is the east
+        ("[0,20,5,1,30,6]", false),
+        // neither four numbers nor six
+        ("[]", false),
+        ("[0,20,1]", false),
+        ("[0,20,1,10,0]", false),
+        ("[0,20,1,10,0,0,0]", false),
+        ("[0,20,1,10,0,0,0,0]", false),
+        // cut numbers: equal up to the seventh place
+        ("[0,10.00000001,1,10]", false),
+        ("[0,10.0000001,1,10]", true),
+        // a number that is not held, and one that has no cut
+        ("[0,1e401,1,10]", false),
+        ("[0,20,1,-1e401]", false),
+        ("[0,1e10,1,10]", false),
+        ("[1e401,20,1e401,10]", true),
+        ("{\"a\":[0,20,1,10]}", false),
+    ];
+    for (text, expected) in rows {
+        let warnings = warned(text);
+        let found = (warnings.count(Kind::W8), warnings.first(Kind::W8));
+        let wanted = if expected { (1, Some(0)) } else { (0, None) };
+        assert!(rt; found == wanted, "{text}");
+        assert!(rt; warnings.is_empty() != expected, "{text}: nothing else");
     }
 }

@@ -1,7 +1,7 @@
 //! A linter over pieces.
 
 use super::*;
-use gj_coords::Rule;
+use gj_coords::{Kind, Rule};
 use gj_json::Cause;
 use std::process::Abort;
 
@@ -60,7 +60,7 @@ fn the_verdict_is_that_of_all_pieces(rt: HostRuntime) {
     let rows: [(&[u8], Verdict); 4] = [
         (
             b"{\"coordinates\":[1,2],\"type\":\"Point\"}",
-            Verdict::Valid,
+            Verdict::Valid(Warnings::none()),
         ),
         (
             b"{\"coordinates\":[1],\"type\":\"Point\"}",
@@ -125,4 +125,217 @@ fn a_refusal_stays(rt: HostRuntime) {
     );
     assert_eq!(rt; linter.offset(), 1);
     assert!(rt; linter.finish() == Verdict::NotJson(fault), "the verdict");
+}
+
+const KINDS: [Kind; 9] = [
+    Kind::W1,
+    Kind::W2,
+    Kind::W3,
+    Kind::W4,
+    Kind::W5,
+    Kind::W6,
+    Kind::W7,
+    Kind::W8,
+    Kind::W9,
+];
+
+/// A kind of warning with its count and its first place.
+#[derive(Clone, Copy)]
+struct Tally {
+    kind: Kind,
+    count: u32,
+    first: u64,
+}
+
+const fn counted(kind: Kind, count: u32, first: u64) -> Tally {
+    Tally { kind, count, first }
+}
+
+/// What a row says of a kind.
+fn wanted(rows: &[Tally], kind: Kind) -> (u32, Option<u64>) {
+    for row in rows {
+        if row.kind == kind {
+            return (row.count, Some(row.first));
+        }
+    }
+    (0, None)
+}
+
+/// The input is valid, with these warnings and no other.
+fn expect(rt: &impl Abort, input: &[u8], want: &[Tally], row: &str) {
+    match by_bytes(input) {
+        Verdict::Valid(warnings) => for kind in KINDS {
+            assert!(rt;
+                (warnings.count(kind), warnings.first(kind)) == wanted(want, kind),
+                "{row}: {kind:?}"
+            );
+        },
+        verdict => assert!(rt; false, "{row}: {verdict:?}"),
+    }
+}
+
+#[test]
+fn warnings_of_objects(rt: HostRuntime) {
+    let rows: [(&[u8], &[Tally], &str); 16] = [
+        (
+            b"{\"crs\":1,\"crs\":2,\"type\":\"Point\",\"coordinates\":[1,2]}",
+            &[counted(Kind::W9, 2, 1)],
+            "crs twice",
+        ),
+        (
+            b"{\"geometries\":[{\"crs\":1}],\"type\":\"Point\",\"coordinates\":[1,2]}",
+            &[],
+            "geometries of a point",
+        ),
+        (
+            b"{\"type\":\"GeometryCollection\",\"geometries\":[{\"type\":\"GeometryCollection\",\"geometries\":[]}]}",
+            &[counted(Kind::W7, 1, 43)],
+            "collection in collection",
+        ),
+        (
+            b"{\"geometries\":[{\"geometries\":[],\"type\":\"GeometryCollection\"}],\"type\":\"GeometryCollection\"}",
+            &[counted(Kind::W7, 1, 15)],
+            "types behind their geometries",
+        ),
+        (
+            b"\xEF\xBB\xBF{\"type\":\"Point\",\"coordinates\":[1,2]}",
+            &[counted(Kind::W1, 1, 0)],
+            "byte order mark",
+        ),
+        (
+            b"{\"type\":\"FeatureCollection\",\"name\":\"a\",\"crs\":{\"type\":\"name\",\"properties\":{\"name\":\"urn:ogc:def:crs:OGC:1.3:CRS84\"}},\"features\":[]}",
+            &[counted(Kind::W9, 1, 39)],
+            "crs of a collection",
+        ),
+        (
+            b"{\"type\":\"Feature\",\"geometry\":{\"type\":\"GeometryCollection\",\"geometries\":[]},\"properties\":null}",
+            &[],
+            "collection as the geometry of a feature",
+        ),
+        (
+            b"{\"type\":\"GeometryCollection\",\"geometries\":[{\"type\":\"GeometryCollection\",\"geometries\":[{\"type\":\"GeometryCollection\",\"geometries\":[]}]},{\"type\":\"GeometryCollection\",\"geometries\":[]}]}",
+            &[counted(Kind::W7, 3, 43)],
+            "collections two deep, and side by side",
+        ),
+        (
+            b"{\"type\":\"FeatureCollection\",\"features\":[{\"type\":\"Feature\",\"geometry\":{\"crs\":0,\"type\":\"Point\",\"coordinates\":[1,2]},\"properties\":{\"crs\":1}},{\"type\":\"Feature\",\"crs\":2,\"geometry\":null,\"properties\":null}]}",
+            &[counted(Kind::W9, 2, 70)],
+            "crs of a geometry and of a feature, none in properties",
+        ),
+        (
+            b"{\"type\":\"Point\",\"coordinates\":[1,2],\"a\":{\"crs\":1},\"geometries\":[{\"crs\":1}]}",
+            &[],
+            "crs in foreign members",
+        ),
+        (
+            b"{\"features\":[{\"crs\":1,\"type\":\"Feature\",\"geometry\":{\"geometries\":[{\"crs\":2,\"type\":\"GeometryCollection\",\"geometries\":[]}],\"type\":\"GeometryCollection\"},\"properties\":null}],\"type\":\"FeatureCollection\"}",
+            &[counted(Kind::W7, 1, 65), counted(Kind::W9, 2, 14)],
+            "all types last",
+        ),
+        (
+            b"{\"type\":\"GeometryCollection\",\"geometries\":[{\"type\":\"Point\",\"coordinates\":[1,2],\"geometries\":[{\"type\":\"GeometryCollection\",\"geometries\":[],\"crs\":1}]}]}",
+            &[],
+            "geometries of a point in a collection",
+        ),
+        (
+            b"\xEF\xBB\xBF {\"crs\":null,\"type\":\"GeometryCollection\",\"geometries\":[]}",
+            &[counted(Kind::W1, 1, 0), counted(Kind::W9, 1, 5)],
+            "mark and crs",
+        ),
+        (
+            b"{\"type\":\"Feature\",\"geometry\":null,\"properties\":null,\"cr\\u0073\":{\"crs\":[]}}",
+            &[counted(Kind::W9, 1, 52)],
+            "crs spelled otherwise, and one in it",
+        ),
+        (
+            b"{\"type\":\"LineString\",\"coordinates\":[[1,2],[3,4]],\"bbox\":[1,2,3,4]}",
+            &[],
+            "nothing to warn of",
+        ),
+        (
+            b"{\"coordinates\":[1,2],\"type\":\"Point\",\"id\":{\"crs\":1},\"CRS\":1}",
+            &[],
+            "another name",
+        ),
+    ];
+    for (input, want, row) in rows {
+        expect(&rt, input, want, row);
+    }
+}
+
+#[test]
+fn warnings_of_coordinates_and_boxes(rt: HostRuntime) {
+    let rows: [(&[u8], &[Tally], &str); 12] = [
+        (
+            b"{\"type\":\"Point\",\"coordinates\":[1,2],\"bbox\":[0,20,1,10]}",
+            &[counted(Kind::W8, 1, 43)],
+            "south above north",
+        ),
+        (
+            b"{\"bbox\":[0,20,1,10],\"coordinates\":[1,2],\"type\":\"Point\"}",
+            &[counted(Kind::W8, 1, 8)],
+            "bbox before the type",
+        ),
+        (
+            b"{\"type\":\"FeatureCollection\",\"features\":[{\"type\":\"Feature\",\"bbox\":[0,20,1,10],\"crs\":1,\"geometry\":null,\"properties\":null}]}",
+            &[counted(Kind::W8, 1, 65), counted(Kind::W9, 1, 77)],
+            "bbox and crs of a feature",
+        ),
+        (
+            b"{\"type\":\"Point\",\"coordinates\":[]}",
+            &[counted(Kind::W6, 1, 30)],
+            "empty coordinates",
+        ),
+        (
+            b"{\"type\":\"Polygon\",\"coordinates\":[[[0,0],[0,1],[1,1],[0,0]]]}",
+            &[counted(Kind::W2, 1, 33)],
+            "exterior ring the wrong way",
+        ),
+        (
+            b"{\"coordinates\":[[[0,0],[0,1],[1,1],[0,0]]],\"type\":\"MultiLineString\"}",
+            &[],
+            "no ring",
+        ),
+        (
+            b"{\"coordinates\":[[[0,0],[0,1],[1,1],[0,0]]],\"type\":\"Polygon\"}",
+            &[counted(Kind::W2, 1, 16)],
+            "polygon before its type",
+        ),
+        (
+            b"{\"type\":\"MultiPolygon\",\"coordinates\":[[[[0,0],[0,1],[1,1],[0,0]]]]}",
+            &[counted(Kind::W2, 1, 39)],
+            "ring of many polygons",
+        ),
+        (
+            b"{\"type\":\"LineString\",\"coordinates\":[[181,0,0,0],[0,1.12345678]]}",
+            &[
+                counted(Kind::W3, 1, 36),
+                counted(Kind::W4, 1, 51),
+                counted(Kind::W5, 1, 36),
+            ],
+            "positions of a line",
+        ),
+        (
+            b"{\"type\":\"MultiPoint\",\"coordinates\":[[181,0,0,0],[0,1.12345678]]}",
+            &[
+                counted(Kind::W3, 1, 36),
+                counted(Kind::W4, 1, 51),
+                counted(Kind::W5, 1, 36),
+            ],
+            "positions of many points",
+        ),
+        (
+            b"{\"type\":\"GeometryCollection\",\"coordinates\":[],\"geometries\":[{\"type\":\"Point\",\"coordinates\":[]},{\"type\":\"Point\",\"coordinates\":[]}]}",
+            &[counted(Kind::W6, 2, 90)],
+            "coordinates of a collection, and of two points in it",
+        ),
+        (
+            b"{\"type\":\"Feature\",\"properties\":{\"coordinates\":[],\"bbox\":[0,2,1,1]},\"geometry\":{\"type\":\"Point\",\"coordinates\":[1,2]}}",
+            &[],
+            "names in properties",
+        ),
+    ];
+    for (input, want, row) in rows {
+        expect(&rt, input, want, row);
+    }
 }

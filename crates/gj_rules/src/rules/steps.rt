@@ -6,7 +6,7 @@ use crate::frame::Frame;
 use crate::mode::Mode;
 use crate::opening::{levels_in, opening_fault, word_in};
 use crate::role::Role;
-use gj_coords::{Fault, Rule};
+use gj_coords::{Fault, Kind, Rule};
 use gj_json::{Known, What};
 
 impl Rules {
@@ -15,6 +15,7 @@ impl Rules {
     ghost use Rattle.gj_rules.specs.Kept.{core_of, HasRoom};
 
     /// An object with a role opens. A text of at most 64 levels has at most 33 of them open at once.
+    #[inline(never)]
     fn push(&mut self, role: Role, place: u64)
         ensures { length self.old.outer.items < MOST_AROUND → core_of self.new ≡ pushed role place (core_of self.old) }
     {
@@ -26,30 +27,33 @@ impl Rules {
     }
 
     /// The innermost object with a role closes.
+    #[inline(never)]
     fn pop(&mut self)
-        ensures { core_of self.new ≡ popped (core_of self.old).outer self.old.top.role (settled self.old.top) (core_of self.old) }
+        ensures { core_of self.new ≡ popped (core_of self.old).outer self.old.top.shown.role (settled self.old.top) (core_of self.old) }
     {
-        let role = self.top.role;
-        let fault = self.top.settle();
+        let role = self.top.role();
+        let found = self.top.settle();
         match self.outer.pop() {
             Some(parent) => {
                 self.top = parent;
-                self.top.join(role.member(), fault);
+                self.top.take(role.member(), found);
                 self.mode = Mode::behind(role);
             }
             None => {
                 self.mode = Mode::Done;
-                self.answer = fault;
+                self.answer.fault = found.fault;
+                self.answer.warned = self.answer.warned.join(found.warned);
             }
         }
     }
 
     /// The value of the text begins, or a byte order mark stands before it.
+    #[inline(never)]
     pub(super) fn root(&mut self, what: What, place: u64)
         ensures { core_of self.new ≡ root_step what place (core_of self.old) }
     {
         match what {
-            What::Mark => {}
+            What::Mark => self.answer.warned = self.answer.warned.add(Kind::W1, place),
             What::OpenObject => {
                 self.mode = Mode::Names;
                 self.top = Frame::new(Role::Root, place);
@@ -57,7 +61,7 @@ impl Rules {
             _ => {
                 self.mode = Mode::Done;
                 self.skipped = levels_in(&what);
-                self.answer = Some(Fault {
+                self.answer.fault = Some(Fault {
                     place,
                     rule: Rule::G1,
                 });

@@ -1,15 +1,9 @@
--- A front of the line went out.
-use Rattle.std.proofs.Common.{rules, ◌≡◌}
-use Rattle.std.specs.Fmt.{decimal}
-use Rattle.gj_coords.specs.Fault.{number_of}
-use Rattle.geolint.specs.Report.{rule_text}
-use Rattle.geolint.proofs.Out.{front_from_none}
+use Rattle.geolint.specs.Report.{broken_line, path_line_if}
+use Rattle.geolint.proofs.Out.{front_then, front_from_none, from_zero}
 use Rattle.geolint.proofs.report.write_broken.Goals as goal
 
 pub returns-clause-front : goal.returns-clause-front
 returns-clause-front g c =
-    let n : c.as_bytes-number.result.now ≡ decimal (number_of c.args.fault.rule) = search rules in
-    let p : c.as_bytes-place.result.now ≡ decimal c.args.fault.place = search rules in
-    let t : c.text_of_rule-text.result.now ≡ rule_text c.args.fault.rule = c.text_of_rule-text.ensures in
-    let front = rw (n, p, t) at c.write_pieces.ensures.front in
-    front_from_none c.write_pieces.result _ _ _ front
+    front_from_none c.write_path.result _ _ _
+    (front_then c.write_path.result _ _ _ (broken_line c.args.fault) (path_line_if c.args.path) 0 _
+    c.in_ok-before.ensures.whole (from_zero c.in_ok-before.before _ c.in_ok-before.ensures.count) c.write_path.ensures.behind c.write_path.ensures.front)

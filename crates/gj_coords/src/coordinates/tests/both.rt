@@ -2,13 +2,14 @@
 use crate::coordinates::Coordinates;
 use crate::fault::Fault;
 use crate::simple::Simple;
+use crate::warnings::Warnings;
 use crate::watcher::{
     LineStringWatcher, MultiLineStringWatcher, MultiPointWatcher, MultiPolygonWatcher,
     PointWatcher, PolygonWatcher, Watcher,
 };
 use gj_json::{Event, EventSink};
 
-const SIX: [Simple; 6] = [
+pub const SIX: [Simple; 6] = [
     Simple::Point,
     Simple::MultiPoint,
     Simple::LineString,
@@ -19,6 +20,9 @@ const SIX: [Simple; 6] = [
 
 /// The least faults in the order of `SIX`.
 pub type Row = [Option<Fault>; 6];
+
+/// The warnings in the order of `SIX`.
+pub type WarnedRow = [Warnings; 6];
 
 /// The walk and the six watchers side by side.
 #[derive(Drop)]
@@ -89,6 +93,25 @@ impl Both {
             self.multi_line_string.fault(),
             self.polygon.fault(),
             self.multi_polygon.fault(),
+        ]
+    }
+
+    pub fn warned_by_walk(&self) -> WarnedRow {
+        let mut row = [Warnings::none(); 6];
+        for (found, simple) in row.iter_mut().zip(SIX) {
+            *found = self.walk.warnings(simple);
+        }
+        row
+    }
+
+    pub fn warned_by_watchers(&self) -> WarnedRow {
+        [
+            self.point.warnings(),
+            self.multi_point.warnings(),
+            self.line_string.warnings(),
+            self.multi_line_string.warnings(),
+            self.polygon.warnings(),
+            self.multi_polygon.warnings(),
         ]
     }
 

@@ -7,6 +7,9 @@ use Rattle.gj_json.specs.Text.{IsText}
 use Rattle.gj_json.specs.Refusal.{IsRefusal, IsAdmitted}
 use Rattle.gj_coords.specs.declared.fault.Fault.{Fault}
 use Rattle.gj_coords.specs.Fault.{least}
+use Rattle.gj_coords.specs.declared.warnings.Warnings.{Warnings}
+use Rattle.gj_coords.specs.Noted.{warnings_of}
+use Rattle.gj_rules.specs.TextWarnings.{text_warnings}
 use Rattle.gj_rules.specs.declared.verdict.Verdict.{Verdict}
 use Rattle.gj_rules.specs.declared.verdict.Verdict.TheVariants.{Valid, Broken, NotJson}
 use Rattle.gj_rules.specs.Faults.{text_faults}
@@ -21,6 +24,10 @@ module _ (one_text : (first second : Text) (bytes : List ℕ) → IsText first b
   least_is : (limits : Allowed) (bytes : List ℕ) (first second : Text) → IsAdmitted limits first bytes → IsAdmitted limits second bytes → least (text_faults first) ≡ least (text_faults second)
   least_is limits bytes first second a b = ap (λ (text : Text). least (text_faults text)) (one_text first second bytes a.0.0 b.0.0)
 
+  warned_is : (limits : Allowed) (bytes : List ℕ) (first second : Text) (a b : Warnings) → IsAdmitted limits first bytes → IsAdmitted limits second bytes
+      → a ≡ warnings_of (text_warnings first) → b ≡ warnings_of (text_warnings second) → a ≡ b
+  warned_is limits bytes first second a b e f g h = g ∙ (ap (λ (text : Text). warnings_of (text_warnings text)) (one_text first second bytes e.0.0 f.0.0) ∙ sym h)
+
   none_is : (limits : Allowed) (bytes : List ℕ) (first second : Text) (fault : Fault) → IsAdmitted limits first bytes → IsAdmitted limits second bytes → text_faults first ≡ [] → least (text_faults second) ≡ Some fault → ⊥
   none_is limits bytes first second fault a b none some =
       let e : least (text_faults first) ≡ None = ap (λ xs. least xs) none in
@@ -28,23 +35,26 @@ module _ (one_text : (first second : Text) (bytes : List ℕ) → IsText first b
       cc
 
   same : (limits : Allowed) (bytes : List ℕ) (first second : Verdict) → IsVerdict limits bytes first → IsVerdict limits bytes second → first ≡ second
-  same limits bytes Valid Valid a b = refl
-  same limits bytes Valid (Broken fault) a b = absurd (none_is limits bytes a.0 b.0 fault a.1 b.1 a.2 b.2)
-  same limits bytes Valid (NotJson fault) a b = absurd (never_both limits bytes fault a.0 b a.1)
-  same limits bytes (Broken fault) Valid a b = absurd (none_is limits bytes b.0 a.0 fault b.1 a.1 b.2 a.2)
+  same limits bytes (Valid w) (Valid x) a b = ap (λ (y : Warnings). Valid y) (warned_is limits bytes a.0 b.0 w x a.1 b.1 a.3 b.3)
+  same limits bytes (Valid w) (Broken fault) a b = absurd (none_is limits bytes a.0 b.0 fault a.1 b.1 a.2 b.2)
+  same limits bytes (Valid w) (NotJson fault) a b = absurd (never_both limits bytes fault a.0 b a.1)
+  same limits bytes (Broken fault) (Valid w) a b = absurd (none_is limits bytes b.0 a.0 fault b.1 a.1 b.2 a.2)
   same limits bytes (Broken fault) (Broken other) a b = (
       let e = sym a.2 ∙ least_is limits bytes a.0 b.0 a.1 b.1 ∙ b.2 in
       let f : fault ≡ other = cc in
       ap (λ (x : Fault). Broken x) f)
   same limits bytes (Broken fault) (NotJson other) a b = absurd (never_both limits bytes other a.0 b a.1)
-  same limits bytes (NotJson fault) Valid a b = absurd (never_both limits bytes fault b.0 a b.1)
+  same limits bytes (NotJson fault) (Valid w) a b = absurd (never_both limits bytes fault b.0 a b.1)
   same limits bytes (NotJson fault) (Broken other) a b = absurd (never_both limits bytes fault b.0 a b.1)
   same limits bytes (NotJson fault) (NotJson other) a b = ap (λ (x : JsonFault). NotJson x) (at_most_one limits bytes fault other a b)
 
 pub returns-clause-some : goal.returns-clause-some
 returns-clause-some c = λ limits bytes. elim (c.one_refusal.ensures.either limits bytes) [
   | inl refused ↦ (NotJson refused.0, refused.1)
-  | inr admitted ↦ (verdict_of (least (text_faults admitted.0)), text_verdict limits bytes admitted.0 admitted.1 (least (text_faults admitted.0)) refl)
+  | inr admitted ↦ (
+    verdict_of (least (text_faults admitted.0)) (warnings_of (text_warnings admitted.0)),
+    text_verdict limits bytes admitted.0 admitted.1 (least (text_faults admitted.0)) (warnings_of (text_warnings admitted.0)) refl refl,
+  )
 ]
 
 pub returns-clause-one : goal.returns-clause-one

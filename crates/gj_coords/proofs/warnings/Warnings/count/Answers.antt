@@ -2,5 +2,5 @@ use Rattle.std.proofs.Common.{◌∙◌, ap}
 use Rattle.gj_coords.proofs.WarningsStand.{kept_of}
 use Rattle.gj_coords.proofs.warnings.Warnings.count.Goals as goal
 
-pub returns : goal.returns
-returns c warnings h = ap (λ noted. noted.count) (c.kept.ensures ∙ kept_of c.args.self.now c.args.kind warnings h)
+pub returns-clause-count : goal.returns-clause-count
+returns-clause-count c warnings h = ap (λ noted. noted.count) (c.kept.ensures ∙ kept_of c.args.self.now c.args.kind warnings h)

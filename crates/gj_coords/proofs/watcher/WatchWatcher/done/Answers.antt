@@ -1,5 +1,4 @@
-use Rattle.gj_coords.specs.Fault.{least}
-use Rattle.gj_coords.specs.Shape.{coordinates_faults}
+use Rattle.gj_coords.specs.SixLaws.{type_answer}
 use Rattle.gj_coords.proofs.ReadingLaws.{ended_at_end}
 use Rattle.gj_coords.proofs.watcher.WatchWatcher.done.Goals as goal
 
@@ -7,6 +6,6 @@ pub returns : goal.returns
 returns g c = record {
   at_the_end = λ value events rest stands joined room.
       rw c.done.ensures
-      (ended_at_end g.R.Part.machine (λ v. least (coordinates_faults g.R.TypeReader.simple v)) g.met.R.TypeReader.answers
+      (ended_at_end g.R.Part.machine (type_answer g.R.TypeReader.simple) g.met.R.TypeReader.answers
       c.args.self.now.reader value events rest stands joined room);
 }

@@ -1,0 +1,87 @@
+ghost use Rattle.std.specs.Prelude.{◌≡◌, ℕ, List, ◌+◌, ◌<◌, ◌≤◌, ◌++◌, length, None, IfOk, OnOk, IfErr};
+ghost use Rattle.std.specs.Io.KnownBytes.{Consumes};
+ghost use Rattle.gj_json.specs.Locator.{StandsFor, limits_of, refusal_of};
+ghost use Rattle.gj_json.specs.Reader.{Answers};
+ghost use Rattle.geolint.specs.Counts.{CountsFailure};
+ghost use Rattle.geolint.specs.Located.{Locates};
+
+use crate::fault::ReadFault;
+use crate::source::Source;
+use gj_json::{JsonFault, Limits, Locator, Path};
+
+/// The most bytes of a read.
+const PIECE: usize = 8192;
+
+/// Takes the bytes of a piece, up to one that is refused.
+fn push_all(locator: &mut Locator, piece: &[u8]) -> Result<(), JsonFault>
+    ensures stands { OnOk result ((bytes : List ℕ) → StandsFor locator.old bytes → StandsFor locator.new (bytes ++ piece.now)) }
+    ensures open { OnOk result (refusal_of locator.old ≡ None → refusal_of locator.new ≡ None) }
+    ensures limits { limits_of locator.new ≡ limits_of locator.old }
+    ensures answer { (bytes : List ℕ) → StandsFor locator.old bytes → 0 < length piece.now →
+        Answers (limits_of locator.old) (bytes ++ piece.now) result }
+{
+    for byte in piece {
+        match locator.push(*byte) {
+            Ok(()) => {}
+            Err(fault) => return Err(fault),
+        }
+    }
+    Ok(())
+}
+
+/// How many bytes of the next piece are wanted, where so many lie before the place: those up to it, and the one there.
+fn wanted(count: usize, before: u64) -> usize
+    ensures all { count ≤ before → result ≡ count }
+    ensures some { before < count → result ≡ before + 1 }
+{
+    if before < count as u64 {
+        before as usize + 1
+    } else {
+        count
+    }
+}
+
+/// Finds the path to the value at a place of an input: the one that begins there, where it is no array and no object, or
+/// the innermost array or object that is open behind the byte at the place, or the root.
+///
+/// It reads up to that byte, and answers None where the input ends before or is refused there or before. An error is
+/// answered where a read failed, with the number of bytes that had come before.
+pub fn locate_reader<S: Source>(
+    reader: &mut S,
+    limits: Limits,
+    place: u64,
+) -> Result<Option<Path>, ReadFault>
+    ensures few { S.reads reader.new ≤ S.reads reader.old + (limits.bytes + 1) }
+    ensures failed { CountsFailure (S.failed_reads reader.old) (S.failed_reads reader.new) result }
+    ensures given { IfErr result (λ fault. S.bytes_given reader.new < u64.MAX
+        → S.bytes_given reader.new ≡ S.bytes_given reader.old + fault.offset) }
+    ensures offset { IfErr result (λ fault.
+        (read : List ℕ) × Consumes (S.remaining reader.old) (S.remaining reader.new) read × (length read ≡ fault.offset)) }
+    ensures path { IfOk result (λ found. Locates limits place (S.remaining reader.old) (S.remaining reader.new) found) }
+{
+    let _most = limits.bytes();
+    let mut locator = Locator::new(limits);
+    let mut piece = [0; PIECE];
+    let mut offset = 0;
+    loop {
+        match reader.read_piece(&mut piece) {
+            Err(_) => return Err(ReadFault { offset }),
+            Ok(0) => return Ok(None),
+            Ok(count) => {
+                let wanted = wanted(count, place - offset);
+                match push_all(&mut locator, &piece[..wanted]) {
+                    Err(_) => return Ok(None),
+                    Ok(()) => {
+                        offset += count as u64;
+                        if place < offset {
+                            return Ok(Some(locator.path()));
+                        }
+                    }
+                }
+            }
+        }
+    }
+}
+
+#[cfg(test)]
+mod tests;

@@ -1,0 +1,111 @@
+//! The words of the command.
+#[cfg(test)]
+mod tests;
+
+use crate::options::Options;
+use clap::error::ErrorKind;
+use clap::{Arg, ArgAction, ArgMatches, Command, Error, value_parser};
+use gj_json::Limits;
+use std::alloc::{AllocError, Global};
+
+/// The most bytes that an input may have.
+const MOST_BYTES: i64 = 1 << 60;
+
+/// What the words ask for.
+#[derive(Drop)]
+pub struct Order {
+    pub options: Options,
+    /// The file to read, or standard input where there is none.
+    pub path: Option<String>,
+}
+
+/// Why words give no order.
+#[derive(Clone, Copy, Debug, PartialEq, Eq)]
+pub enum WordsFault {
+    /// They are not words of the command.
+    Usage,
+    /// They ask for help.
+    Help,
+    /// Memory was refused.
+    Memory,
+}
+
+impl From<Error> for WordsFault {
+    fn from(error: Error) -> WordsFault {
+        match error.kind() {
+            ErrorKind::DisplayHelp => WordsFault::Help,
+            ErrorKind::OutOfMemory => WordsFault::Memory,
+            _ => WordsFault::Usage,
+        }
+    }
+}
+
+impl From<AllocError> for WordsFault {
+    fn from(_error: AllocError) -> WordsFault {
+        WordsFault::Memory
+    }
+}
+
+/// Reads the words behind the program's name. With none, standard input is read as by the word `stdin`.
+pub fn read_words(alloc: Global, words: &[String]) -> Result<Order, WordsFault> {
+    if words.is_empty() {
+        return Ok(Order {
+            options: Options::usual(),
+            path: None,
+        });
+    }
+    let matches = command(alloc)?.try_get_matches_from(words)?;
+    order_of(alloc, &matches)
+}
+
+fn command<'a>(alloc: Global) -> Result<Command<'a>, AllocError> {
+    let path = Arg::new(alloc, "path")
+        .required(true)
+        .action(ArgAction::Set);
+    let file = with_options(alloc, Command::new(alloc, "file"))?.arg(path)?;
+    let stdin = with_options(alloc, Command::new(alloc, "stdin"))?;
+    Command::new(alloc, "geolint")
+        .no_binary_name(true)
+        .subcommand_required(true)
+        .subcommand(file)?
+        .subcommand(stdin)
+}
+
+/// The options of both commands.
+fn with_options<'a>(alloc: Global, command: Command<'a>) -> Result<Command<'a>, AllocError> {
+    let strict = Arg::new(alloc, "strict")
+        .long("strict")
+        .action(ArgAction::SetTrue);
+    let bytes = Arg::new(alloc, "max-bytes")
+        .long("max-bytes")
+        .action(ArgAction::Set)
+        .value_parser(value_parser!(u64).range(1..=MOST_BYTES));
+    command.arg(strict)?.arg(bytes)
+}
+
+fn order_of(alloc: Global, matches: &ArgMatches<'_>) -> Result<Order, WordsFault> {
+    let Some((_, given)) = matches.subcommand() else {
+        return Err(WordsFault::Usage);
+    };
+    Ok(Order {
+        options: options_of(given)?,
+        path: path_of(alloc, given)?,
+    })
+}
+
+fn options_of(given: &ArgMatches<'_>) -> Result<Options, WordsFault> {
+    let mut options = Options::usual();
+    options.strict = given.get_flag("strict");
+    if let Some(bytes) = given.get_one::<u64>("max-bytes") {
+        let depth = options.limits.depth();
+        options.limits = Limits::new(depth, bytes).ok_or(WordsFault::Usage)?;
+    }
+    Ok(options)
+}
+
+fn path_of(alloc: Global, given: &ArgMatches<'_>) -> Result<Option<String>, WordsFault> {
+    match given.get_str("path") {
+        Some(path) => Ok(Some(String::from_str(alloc, path)?)),
+        None => Ok(None),
+    }
+}

@@ -1,0 +1,111 @@
+use super::{Order, WordsFault, read_words};
+use crate::options::Options;
+use gj_json::Limits;
+use std::alloc::{AllocError, Global};
+use std::test::Fail;
+
+/// The words of a line, parted by spaces.
+fn words_of(alloc: Global, line: &str) -> Result<Vec<String>, AllocError> {
+    let mut words = Vec::new(alloc);
+    for word in line.split(' ') {
+        if !word.is_empty() {
+            words.push(String::from_str(alloc, word)?)?;
+        }
+    }
+    Ok(words)
+}
+
+/// The same as `Limits::new` gives under the usual depth.
+fn at_most(bytes: u64) -> Limits {
+    match Limits::new(64, bytes) {
+        Some(limits) => limits,
+        None => Limits::usual(),
+    }
+}
+
+fn strictly(limits: Limits) -> Options {
+    let mut options = Options::usual();
+    options.limits = limits;
+    options.strict = true;
+    options
+}
+
+fn leniently(limits: Limits) -> Options {
+    let mut options = Options::usual();
+    options.limits = limits;
+    options
+}
+
+#[test]
+fn words_give_an_order(rt: HostRuntime) -> Result<(), Fail> {
+    let rows = [
+        ("", Options::usual(), None),
+        ("stdin", Options::usual(), None),
+        ("stdin --strict", strictly(Limits::usual()), None),
+        ("file a.json", Options::usual(), Some("a.json")),
+        (
+            "file --strict --max-bytes 10 a.json",
+            strictly(at_most(10)),
+            Some("a.json"),
+        ),
+        (
+            "file a.json --max-bytes=10",
+            leniently(at_most(10)),
+            Some("a.json"),
+        ),
+        ("file -- --strict", Options::usual(), Some("--strict")),
+        ("stdin --max-bytes 1", leniently(at_most(1)), None),
+        (
+            "stdin --max-bytes 1152921504606846976",
+            leniently(at_most(1 << 60)),
+            None,
+        ),
+    ];
+    for (line, options, path) in rows {
+        let words = words_of(rt.alloc(), line)?;
+        match read_words(rt.alloc(), words.as_slice()) {
+            Ok(order) => {
+                assert!(rt; order.options == options, "{line}");
+                assert!(rt;
+                    order.path.as_ref().map(|path| path.as_str()) == path,
+                    "{line}"
+                );
+            }
+            Err(fault) => assert!(rt; false, "{line}: {fault:?}"),
+        }
+    }
+    Ok(())
+}
+
+#[test]
+fn other_words_are_refused(rt: HostRuntime) -> Result<(), Fail> {
+    let rows = [
+        ("file", WordsFault::Usage),
+        ("stdin x", WordsFault::Usage),
+        ("file a.json b.json", WordsFault::Usage),
+        ("--strict", WordsFault::Usage),
+        ("a.json", WordsFault::Usage),
+        ("stdin --max-bytes", WordsFault::Usage),
+        ("stdin --max-bytes 0", WordsFault::Usage),
+        ("stdin --max-bytes -1", WordsFault::Usage),
+        ("stdin --max-bytes ten", WordsFault::Usage),
+        ("stdin --max-bytes 1152921504606846977", WordsFault::Usage),
+        ("stdin --max-bytes 1 --max-bytes 2", WordsFault::Usage),
+        ("stdin --quick", WordsFault::Usage),
+        ("file --quick a.json", WordsFault::Usage),
+        ("--version", WordsFault::Usage),
+        ("--help", WordsFault::Help),
+        ("-h", WordsFault::Help),
+        ("help", WordsFault::Help),
+        ("file --help", WordsFault::Help),
+        ("stdin --help", WordsFault::Help),
+    ];
+    for (line, wanted) in rows {
+        let words = words_of(rt.alloc(), line)?;
+        match read_words(rt.alloc(), words.as_slice()) {
+            Ok(_) => assert!(rt; false, "{line}: taken"),
+            Err(fault) => assert!(rt; fault == wanted, "{line}: {fault:?}"),
+        }
+    }
+    Ok(())
+}

@@ -1,0 +1,17 @@
+use Rattle.std.proofs.Common.{ap, ◌∙◌}
+use Rattle.gj_coords.specs.Warned.{all_in}
+use Rattle.gj_coords.specs.SixLaws.{type_answer}
+use Rattle.gj_coords.proofs.KeptLaws.{short, countable}
+use Rattle.gj_coords.proofs.ReadingLaws.{answer_at_end}
+use Rattle.gj_coords.proofs.SixWarned.{type_warned}
+use Rattle.gj_coords.proofs.watcher.WatchWatcher.warnings.Goals as goal
+
+pub returns : goal.returns
+returns g c = record {
+  stands = λ value stands few.
+      c.all.ensures ∙
+      (ap (λ f. all_in f.warned)
+      (c.answer.ensures ∙
+      answer_at_end g.R.Part.machine (type_answer g.R.TypeReader.simple) g.met.R.TypeReader.answers c.args.self.now.reader value stands (countable value few)) ∙
+      type_warned g.R.TypeReader.simple value (short value few));
+}

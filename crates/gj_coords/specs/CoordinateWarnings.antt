@@ -1,0 +1,83 @@
+-- What is likely wrong in use with the value of `coordinates`, for each of the six types (RFC 7946, sections 3.1, 3.1.1,
+-- 3.1.6, 4 and 11.2). A position or a linear ring that breaks a rule gives no warning.
+use Rattle.std.specs.Prelude.{ℕ, List, [], ◌∷◌, ◌++◌, Bool, ◌&&◌, if◌then◌else◌, nat_lt, length, take, Option, Some, None, not}
+use Rattle.std.specs.List.{flat_map}
+use Rattle.gj_number.specs.Exact.{Exact, places_of}
+use Rattle.gj_json.specs.Tree.{Tree, array, end_of_array}
+use Rattle.gj_coords.specs.declared.kind.Kind.{Kind}
+use Rattle.gj_coords.specs.declared.kind.Kind.TheVariants.{W2, W3, W4, W5, W6}
+use Rattle.gj_coords.specs.declared.simple.Simple.{Simple}
+use Rattle.gj_coords.specs.declared.simple.Simple.TheVariants.{Point, MultiPoint, LineString, MultiLineString, Polygon, MultiPolygon}
+use Rattle.gj_coords.specs.Items.{elements_of, place_of}
+use Rattle.gj_coords.specs.Ring.{exact_value}
+use Rattle.gj_coords.specs.Shape.{Shape, is_empty, position, ring}
+use Rattle.gj_coords.specs.Warnings.{Warning, warning_at}
+use Rattle.gj_coords.specs.Winding.{in_range, exterior_runs_wrong, hole_runs_wrong}
+
+-- A concern says what to warn of in a value: all warnings, in reading order.
+abbrev pub Concern : Type 0
+Concern = Tree → List Warning
+
+abbrev pub warned_if : Bool → ℕ → Kind → List Warning
+warned_if wrong place kind = if wrong then warning_at place kind ∷ [] else []
+
+-- whether a value breaks no rule of its shape
+abbrev pub is_sound : Shape → Tree → Bool
+is_sound shape value = is_empty (shape value)
+
+-- of each element
+abbrev pub each : Concern → Concern
+each concern value = flat_map concern (elements_of value)
+
+-- ---- positions
+
+-- more than seven decimal places
+abbrev pub is_precise : Option Exact → Bool
+is_precise (Some value) = nat_lt 7 (places_of value)
+is_precise None = Bool.false
+
+abbrev pub number_warnings : Concern
+number_warnings value = warned_if (is_precise (exact_value value)) (place_of value) W4
+
+abbrev pub sound_position_warnings : Concern
+sound_position_warnings value =
+    warned_if (nat_lt 3 (length (elements_of value))) (place_of value) W3
+    ++ (warned_if (not (in_range value)) (place_of value) W5 ++ flat_map number_warnings (take 3 (elements_of value)))
+
+abbrev pub position_warnings : Concern
+position_warnings value = if is_sound position value then sound_position_warnings value else []
+
+-- ---- linear rings
+
+abbrev pub exterior_warnings : Concern
+exterior_warnings value = warned_if (is_sound ring value && exterior_runs_wrong (elements_of value)) (place_of value) W2 ++ each position_warnings value
+
+abbrev pub hole_warnings : Concern
+hole_warnings value = warned_if (is_sound ring value && hole_runs_wrong (elements_of value)) (place_of value) W2 ++ each position_warnings value
+
+-- the first ring is the exterior one, and those behind it are holes
+abbrev pub rings_warnings : List Tree → List Warning
+rings_warnings [] = []
+rings_warnings (exterior ∷ holes) = exterior_warnings exterior ++ flat_map hole_warnings holes
+
+abbrev pub polygon_warnings : Concern
+polygon_warnings value = rings_warnings (elements_of value)
+
+-- ---- the six types
+
+abbrev pub concern_of : Simple → Concern
+concern_of Point = position_warnings
+concern_of MultiPoint = each position_warnings
+concern_of LineString = each position_warnings
+concern_of MultiLineString = each (each position_warnings)
+concern_of Polygon = polygon_warnings
+concern_of MultiPolygon = each polygon_warnings
+
+-- an empty array says nothing of where the geometry lies
+abbrev pub or_empty_warning : Concern → Concern
+or_empty_warning concern (array place end_of_array close) = warning_at place W6 ∷ []
+or_empty_warning concern value = concern value
+
+-- all warnings of the value of `coordinates`, for a type
+abbrev pub coordinates_warnings : Simple → Tree → List Warning
+coordinates_warnings simple value = or_empty_warning (concern_of simple) value

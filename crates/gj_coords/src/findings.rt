@@ -1,0 +1,66 @@
+//! What is found in a value.
+use crate::fault::Fault;
+use crate::kind::Kind;
+use crate::part::Judged;
+use crate::position::misshapen;
+use crate::warned::Warned;
+
+/// What is found in a value: its least fault, and what is worth a warning in it.
+#[derive(Clone, Copy)]
+pub struct Findings {
+    pub fault: Option<Fault>,
+    pub warned: Warned,
+}
+
+impl Findings {
+    ghost use Rattle.std.specs.Prelude.{◌≡◌};
+    ghost use Rattle.gj_coords.specs.Findings.{misshapen_found, empty_found, found_in};
+
+    /// In a value that has not the shape that is due.
+    pub fn misshapen(place: u64) -> Findings
+        ensures { result ≡ misshapen_found place }
+    {
+        Findings {
+            fault: misshapen(place),
+            warned: Warned::none(),
+        }
+    }
+
+    /// In the value of `coordinates` that is an empty array (RFC 7946, section 3.1).
+    pub fn empty(place: u64) -> Findings
+        ensures { result ≡ empty_found place }
+    {
+        let mut warned = Warned::none();
+        warned.note(Kind::W6, place);
+        Findings {
+            fault: None,
+            warned,
+        }
+    }
+
+    /// In a value that was answered for so.
+    pub fn of<A: Judged>(answer: &A) -> Findings
+        ensures { result ≡ found_in A.judgement answer.now }
+    {
+        let mut warned = Warned::none();
+        answer.warn(0, &mut warned);
+        Findings {
+            fault: answer.fault(),
+            warned,
+        }
+    }
+}
+
+impl Judged for Findings {
+    ghost use Rattle.gj_coords.specs.Findings.{findings_judged};
+
+    ghost judgement = { findings_judged };
+
+    fn fault(&self) -> Option<Fault> {
+        self.fault
+    }
+
+    fn warn(&self, _others: u8, warned: &mut Warned) {
+        warned.take(&self.warned);
+    }
+}

@@ -1,0 +1,51 @@
+//! What is worth a warning in a position (RFC 7946, sections 3.1.1, 4 and 11.2).
+ghost use Rattle.std.specs.Prelude.{◌≡◌};
+ghost use Rattle.gj_coords.specs.Position.{position_noted};
+
+use crate::fault::Fault;
+use crate::kind::Kind;
+use crate::noted::Noted;
+use crate::part::Judged;
+use crate::position::{MOST_VALUES, Position};
+use crate::warned::Warned;
+use crate::winding::Corner;
+
+/// Notes what is worth a warning in a position that breaks no rule, by its place, its count, its corner and those of its
+/// numbers that are too precise.
+#[inline]
+pub fn note_position(
+    place: u64,
+    count: u8,
+    corner: &Option<Corner>,
+    precise: Noted,
+    warned: &mut Warned,
+)
+    ensures { warned.new ≡ position_noted warned.old place count corner.now precise }
+{
+    if count > MOST_VALUES {
+        warned.note(Kind::W3, place);
+    }
+    if corner.is_none() {
+        warned.note(Kind::W5, place);
+    }
+    if !precise.is_nothing() {
+        warned.note_all(Kind::W4, precise);
+    }
+}
+
+impl Judged for Position {
+    ghost use Rattle.gj_coords.specs.Findings.{position_judged};
+
+    ghost judgement = { position_judged };
+
+    fn fault(&self) -> Option<Fault> {
+        self.fault
+    }
+
+    fn warn(&self, _others: u8, warned: &mut Warned) {
+        if self.fault.is_none() {
+            let corner = self.values.corner();
+            note_position(self.head.place, self.count, &corner, self.precise, warned);
+        }
+    }
+}
