@@ -17,6 +17,7 @@ fn push_all(locator: &mut Locator, piece: &[u8]) -> Result<(), JsonFault>
     ensures stands { OnOk result ((bytes : List ℕ) → StandsFor locator.old bytes → StandsFor locator.new (bytes ++ piece.now)) }
     ensures open { OnOk result (refusal_of locator.old ≡ None → refusal_of locator.new ≡ None) }
     ensures limits { limits_of locator.new ≡ limits_of locator.old }
+    ensures some { IfErr result (λ fault. 0 < length piece.now) }
     ensures answer { (bytes : List ℕ) → StandsFor locator.old bytes → 0 < length piece.now →
         Answers (limits_of locator.old) (bytes ++ piece.now) result }
 {
