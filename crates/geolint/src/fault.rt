@@ -69,4 +69,28 @@ mod tests {
         }
         Ok(())
     }
+
+    #[test]
+    fn says_why_there_is_no_report(rt: HostRuntime) -> Result<(), Fail> {
+        for (fault, text) in [
+            (
+                ProgramFault::Usage,
+                "usage: geolint (file or stdin) [--strict] [--quick] [--max-bytes N] [PATH]",
+            ),
+            (ProgramFault::Open, "geolint: cannot open the file"),
+            (
+                ProgramFault::Read(ReadFault { offset: 10 }),
+                "geolint: read failed after 10 bytes",
+            ),
+            (
+                ProgramFault::Write(WriteFault { written: 0 }),
+                "geolint: write failed after 0 bytes",
+            ),
+            (ProgramFault::Memory, "geolint: out of memory"),
+        ] {
+            let said = format!(in rt.alloc(); "{fault}")?;
+            assert_eq!(rt; said.as_str(), text);
+        }
+        Ok(())
+    }
 }
