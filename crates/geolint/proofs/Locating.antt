@@ -1,4 +1,4 @@
--- Lemmas on a search that takes the bytes of a piece one by one.
+-- Lemmas on a search that takes a part of each piece.
 use Rattle.std.proofs.Common.{◌≡◌, ◌<◌, ◌≤◌, ◌+◌, ◌-◌, ℕ, List, [], ◌∷◌, ◌++◌, inl, inr, Some, None, length, take, drop, get_or, refl, sym, ap, ◌∙◌, subst, arith, append_assoc, append-nil, length-append, take-append-drop}
 use Rattle.std.specs.Prelude.{Option, zero, suc}
 use Rattle.std.specs.Io.KnownBytes.{Consumes, IsAtEnd}
@@ -12,29 +12,6 @@ use Rattle.gj_json.specs.Tree.{Text}
 use Rattle.gj_json.specs.declared.path.Path.{Path}
 use Rattle.gj_json.specs.Path.{steps_of, path_at}
 use Rattle.geolint.specs.Located.{up_to, Locates}
-
--- one byte more of a piece behind other bytes
-pub one_more : (bytes piece : List ℕ) (i d : ℕ) → i < length piece → (bytes ++ take i piece) ++ get_or piece i d ∷ [] ≡ bytes ++ take (i + 1) piece
-one_more bytes piece i d within = append_assoc bytes (take i piece) (get_or piece i d ∷ []) ∙ ap (λ (xs : List ℕ). bytes ++ xs) (sym (take_more piece i d within))
-
--- and what follows it
-pub and_rest : (bytes piece : List ℕ) (i d : ℕ) → i < length piece → ((bytes ++ take i piece) ++ get_or piece i d ∷ []) ++ drop (i + 1) piece ≡ bytes ++ piece
-and_rest bytes piece i d within =
-    ap (λ (xs : List ℕ). xs ++ drop (i + 1) piece) (one_more bytes piece i d within)
-    ∙ (append_assoc bytes (take (i + 1) piece) (drop (i + 1) piece) ∙ ap (λ (xs : List ℕ). bytes ++ xs) (take-append-drop (i + 1) piece))
-
--- a refusal by a byte of the piece is one of the whole piece, and of all that follows
-pub refused_by : (limits : Allowed) (bytes piece : List ℕ) (i d : ℕ) (fault : JsonFault) → i < length piece
-    → ((more : List ℕ) → IsRefusal limits (((bytes ++ take i piece) ++ get_or piece i d ∷ []) ++ more) fault)
-    → IsRefusal limits (bytes ++ piece) fault × ((more : List ℕ) → IsRefusal limits ((bytes ++ piece) ++ more) fault)
-refused_by limits bytes piece i d fault within refused =
-    let front : List ℕ = (bytes ++ take i piece) ++ get_or piece i d ∷ [] in
-    let rest : List ℕ = drop (i + 1) piece in
-    let whole : front ++ rest ≡ bytes ++ piece = and_rest bytes piece i d within in
-    let all : (more : List ℕ) → IsRefusal limits ((bytes ++ piece) ++ more) fault =
-    λ more. subst (λ (xs : List ℕ). IsRefusal limits (xs ++ more) fault) whole
-    (subst (λ (xs : List ℕ). IsRefusal limits xs fault) (sym (append_assoc front rest more)) (refused (rest ++ more))) in
-    (subst (λ (xs : List ℕ). IsRefusal limits xs fault) (append-nil (bytes ++ piece)) (all []), all)
 
 -- ---- what was found, where so many bytes of the last piece were taken
 

@@ -1,34 +1,14 @@
-ghost use Rattle.std.specs.Prelude.{◌≡◌, ℕ, List, ◌+◌, ◌<◌, ◌≤◌, ◌++◌, length, None, IfOk, OnOk, IfErr};
+ghost use Rattle.std.specs.Prelude.{◌≡◌, List, ℕ, ◌+◌, ◌<◌, ◌≤◌, length, IfOk, IfErr};
 ghost use Rattle.std.specs.Io.KnownBytes.{Consumes};
-ghost use Rattle.gj_json.specs.Locator.{StandsFor, limits_of, refusal_of};
-ghost use Rattle.gj_json.specs.Reader.{Answers};
 ghost use Rattle.geolint.specs.Counts.{CountsFailure};
 ghost use Rattle.geolint.specs.Located.{Locates};
 
 use crate::fault::ReadFault;
 use crate::source::Source;
-use gj_json::{JsonFault, Limits, Locator, Path};
+use gj_json::{Limits, Locator, Path};
 
 /// The most bytes of a read.
 const PIECE: usize = 8192;
-
-/// Takes the bytes of a piece, up to one that is refused.
-fn push_all(locator: &mut Locator, piece: &[u8]) -> Result<(), JsonFault>
-    ensures stands { OnOk result ((bytes : List ℕ) → StandsFor locator.old bytes → StandsFor locator.new (bytes ++ piece.now)) }
-    ensures open { OnOk result (refusal_of locator.old ≡ None → refusal_of locator.new ≡ None) }
-    ensures limits { limits_of locator.new ≡ limits_of locator.old }
-    ensures some { IfErr result (λ fault. 0 < length piece.now) }
-    ensures answer { (bytes : List ℕ) → StandsFor locator.old bytes → 0 < length piece.now →
-        Answers (limits_of locator.old) (bytes ++ piece.now) result }
-{
-    for byte in piece {
-        match locator.push(*byte) {
-            Ok(()) => {}
-            Err(fault) => return Err(fault),
-        }
-    }
-    Ok(())
-}
 
 /// How many bytes of the next piece are wanted, where so many lie before the place: those up to it, and the one there.
 fn wanted(count: usize, before: u64) -> usize
@@ -70,7 +50,7 @@ pub fn locate_reader<S: Source>(
             Ok(0) => return Ok(None),
             Ok(count) => {
                 let wanted = wanted(count, place - offset);
-                match push_all(&mut locator, &piece[..wanted]) {
+                match locator.feed(&piece[..wanted]) {
                     Err(_) => return Ok(None),
                     Ok(()) => {
                         offset += count as u64;

@@ -1,6 +1,6 @@
 -- What a call that takes bytes leaves, one call after another.
 use Rattle.std.proofs.Common.{inl, inr, ◌≡◌, ℕ, ◌+◌, ◌-◌, ◌≤◌, ◌<◌, List, [], ◌∷◌, ◌++◌, length, take, drop, take-add, get_or, Option, Some, None, Result, Ok, Err, refl, sym, ap, subst, ◌∙◌, arith, append_assoc, append-nil}
-use Rattle.std.specs.Result.{MatchResult}
+use Rattle.std.specs.Result.{MatchResult, IfOk}
 use Rattle.std.proofs.lemmas.List.{length-append, length-take-le, take-append-le, take-append-drop, take_more}
 use Rattle.std.proofs.Math.Seq.{take-append-add}
 use Rattle.std.proofs.lemmas.Bool.Decides.{eqb_tells}
@@ -16,7 +16,7 @@ use Rattle.gj_json.specs.Text.{IsText}
 use Rattle.gj_json.specs.Refusal.{IsRefusal}
 use Rattle.gj_json.specs.Events.{events_by}
 use Rattle.gj_json.specs.Levels.{levels_in}
-use Rattle.gj_json.specs.Feeding.{Skips, SkipsBy, leading, in_literal, in_text, Feeds, FeedsAll, FeedsTo}
+use Rattle.gj_json.specs.Feeding.{Skips, SkipsBy, leading, in_literal, in_text, Feeds, FeedsAll, FeedsTo, HearsTwo}
 use Rattle.gj_json.specs.Under.{under_of}
 use Rattle.gj_json.proofs.Comes.{mode_under, mode_state}
 use Rattle.gj_json.proofs.Literals.{keeps_none}
@@ -28,8 +28,10 @@ use Rattle.gj_json.specs.declared.mode.Move.TheVariants.{Refuse, Go, Open, Close
 use Rattle.gj_json.specs.Levels.{outer_of}
 use Rattle.gj_json.specs.Step.{Applied, PassesTo, RefusesWith, IsRefusedWith, opened, told_on, move_by, told_by, Takes}
 use Rattle.gj_json.proofs.Reading.{pushed, completed, stop, well_viable, well_of, open_of, refuses_on, lasts}
+use Rattle.gj_json.proofs.Telling.{emitted_few}
 use Rattle.gj_json.proofs.Quietly.{quiet_run, digits_run, text_run}
 use Rattle.gj_json.proofs.Slices.{take_all_of, rest_of}
+use Rattle.gj_json.proofs.TrailRuns.{Lasts}
 
 -- ---- what a reader that stands for bytes says of them
 
@@ -151,16 +153,16 @@ skip_well : (old new : Reader) (given : List ℕ) → old.fault ≡ None → Ski
 skip_well old new given live s bytes w = rw (s.fault, live, s.limits, s.levels, s.start, s.offset) w
 
 -- what bytes leave that complete nothing
-skipped : (old new : Reader) (given : List ℕ) (bytes : List ℕ) → SkipsBy old new given → old.offset + length given ≤ old.limits.bytes → StandsOpen old.limits old.mode (levels_in old.levels) old.literal old.content old.start old.offset bytes
-    → StandsOpen old.limits new.mode (levels_in old.levels) new.literal new.content old.start (old.offset + length given) (bytes ++ given) × Completed old.offset (old.offset + length given) (bytes ++ given) []
+pub skipped : (old new : Reader) (given : List ℕ) (bytes : List ℕ) → SkipsBy old new given → old.offset + length given ≤ old.limits.bytes → StandsOpen old.limits old.mode (levels_in old.levels) old.literal old.content old.start old.offset bytes
+    → StandsOpen old.limits new.mode (levels_in old.levels) new.literal new.content old.start (old.offset + length given) (bytes ++ given) × Completed old.offset (old.offset + length given) (bytes ++ given) [] × Lasts old.offset (old.offset + length given) bytes given
 skipped old new given bytes (leading leads other none) room k =
-    let q = quiet_run old.limits (levels_in old.levels) old.start given old.mode new.mode old.offset bytes k.well room leads in
-    (record { well = q.0; keeps = keeps_none (under_of q.0.state) new.literal new.content (sym (mode_under q.0.state new.mode (levels_in old.levels) q.0.kept) ∙ other) (sym (mode_state q.0.state new.mode (levels_in old.levels) q.0.kept) ∙ none) }, q.1)
+    let q = quiet_run old.limits (levels_in old.levels) old.start given old.mode new.mode old.offset bytes k.well room leads none in
+    (record { well = q.0; keeps = keeps_none (under_of q.0.state) new.literal new.content (sym (mode_under q.0.state new.mode (levels_in old.levels) q.0.kept) ∙ other) (sym (mode_state q.0.state new.mode (levels_in old.levels) q.0.kept) ∙ none) }, q.1, q.2)
 skipped old new given bytes (in_literal from to goes) room k =
     let P : Mode → Type 0 = λ m. StandsOpen old.limits m (levels_in old.levels) old.literal old.content old.start old.offset bytes in
     let Q : Mode → Type 0 = λ m. StandsOpen old.limits m (levels_in old.levels) new.literal new.content old.start (old.offset + length given) (bytes ++ given) in
     let d = digits_run old.limits (levels_in old.levels) old.start given old.literal new.literal old.content new.content old.offset bytes (subst P from k) goes room in
-    (subst Q (sym to) d.0, d.1)
+    (subst Q (sym to) d.0, d.1, d.2)
 skipped old new given bytes (in_text first last characters modes reads holds) room k =
     text_run old.limits (levels_in old.levels) old.start given characters first last old.mode new.mode old.literal new.literal old.content new.content old.offset bytes k modes reads holds room
 
@@ -180,7 +182,8 @@ skip_feeds {heard} old new given live room s = record {
   offset = s.offset;
 }
   where
-    run : (bytes : List ℕ) → StandsFor old bytes → StandsOpen old.limits new.mode (levels_in old.levels) new.literal new.content old.start (old.offset + length given) (bytes ++ given) × Completed old.offset (old.offset + length given) (bytes ++ given) []
+    run : (bytes : List ℕ) → StandsFor old bytes
+        → StandsOpen old.limits new.mode (levels_in old.levels) new.literal new.content old.start (old.offset + length given) (bytes ++ given) × Completed old.offset (old.offset + length given) (bytes ++ given) [] × Lasts old.offset (old.offset + length given) bytes given
     run bytes h = skipped old new given bytes s.by room (open_of old bytes live h)
 
 -- ---- one call after another
@@ -260,6 +263,24 @@ pub byte_to : {before after : List Event → Type 0} (old new : Reader) (b : ℕ
 byte_to old new b result fault live room nested w e =
     record { feeds = byte_feeds old new b result live room nested w; refused = err_kept old new result fault (outcome (move_by old w.turn b) old new result nested w.applied) e }
 
+pub completed_at : (m n : ℕ) (bytes : List ℕ) (es fs : List Event) → m ≡ n → fs ≡ es → Completed m (m + 1) bytes es → Completed n (n + 1) bytes fs
+completed_at m n bytes es fs e f h = rw (f, ← e) h
+
+-- what a byte tells, and whether it is refused
+pub byte_told : {before after : List Event → Type 0} (old new : Reader) (b : ℕ) (bytes : List ℕ) (events : List Event) (result : Result (Unit {0}) JsonFault) → old.fault ≡ None → StandsFor old bytes
+    → Takes before after old new b result → before events → IfOk result (λ done. HearsTwo after events bytes b)
+byte_told {before} {after} old new b bytes events (Ok done) live h w k = record {
+  found = told_by old w.turn w.value b;
+  told = w.told events k;
+  few = emitted_few _ _ _ _ _ _ _;
+  completed = completed_at old.offset (length bytes) (bytes ++ b ∷ []) _ _ (live_offset old bytes live h) refl (completed old b bytes w.turn w.value w.says live h);
+}
+byte_told old new b bytes events (Err fault) live h w k = tt
+
+pub byte_refusal : (old new : Reader) (result : Result (Unit {0}) JsonFault) → old.fault ≡ None → Outcome old new result → MatchResult result (λ done. new.fault ≡ None) (λ fault. new.fault ≡ Some fault)
+byte_refusal old new result live (took r o f l) = rw r (f ∙ live)
+byte_refusal old new result live (refused fault r o f l) = rw r f
+
 -- the byte behind the most that are allowed
 pub length_stands : {A : Type 0} (old new : Reader) (b : ℕ) (bytes : List ℕ) (fault : JsonFault) (result : Result A JsonFault) → result ≡ Err fault → old.fault ≡ None → old.offset ≡ old.limits.bytes → IsRefusedWith Length old new fault → StandsFor old bytes
     → StandsFor new (bytes ++ b ∷ []) × Answers old.limits (bytes ++ b ∷ []) result
@@ -284,9 +305,6 @@ feeds_all_on first next last xs ys f g = record { feeds = feeds_on first next la
 pub feeds_to_on : {before middle after : List Event → Type 0} (first next last : Reader) (xs ys more : List ℕ) (fault : JsonFault) → FeedsAll before middle first next xs → FeedsTo middle after next last ys fault
     → FeedsTo before after first last ((xs ++ ys) ++ more) fault
 feeds_to_on first next last xs ys more fault f g = record { feeds = feeds_more first last (xs ++ ys) more fault (feeds_on first next last xs ys f g.feeds) g.refused; refused = g.refused }
-
-pub completed_at : (m n : ℕ) (bytes : List ℕ) (es fs : List Event) → m ≡ n → fs ≡ es → Completed m (m + 1) bytes es → Completed n (n + 1) bytes fs
-completed_at m n bytes es fs e f h = rw (f, ← e) h
 
 -- ---- quiet bytes and then a byte, from the front of a piece
 

@@ -42,6 +42,7 @@ pub mod BrokenLeads
 pub mod BrokenOff
 pub mod Steps
 pub mod Trailing
+pub mod TrailRuns
 pub mod Whole
 pub mod Located
 pub mod Locating

@@ -1,7 +1,7 @@
 -- What a byte leaves of a locator, and the path that it tells.
-use Rattle.std.proofs.Common.{◌≡◌, ℕ, suc, ◌+◌, ◌^◌, ◌≤◌, ◌<◌, List, [], ◌∷◌, ◌++◌, length, take, Option, Some, None, Result, Ok, Err, refl, sym, ap, subst, ◌∙◌, arith}
+use Rattle.std.proofs.Common.{◌≡◌, ℕ, suc, ◌+◌, ◌^◌, ◌≤◌, ◌<◌, List, [], ◌∷◌, ◌++◌, length, take, drop, Option, Some, None, Result, Ok, Err, refl, sym, ap, subst, ◌∙◌, arith, append_assoc}
 use Rattle.std.proofs.Math.Seq.{take-length}
-use Rattle.std.proofs.lemmas.List.{append-nil, length-append, take-append-le}
+use Rattle.std.proofs.lemmas.List.{append-nil, length-append, length-take-le, take-append-le, take-append-drop}
 use Rattle.gj_json.specs.declared.fault.JsonFault.{JsonFault}
 use Rattle.gj_json.specs.declared.fault.Cause.{Cause}
 use Rattle.gj_json.specs.declared.fault.Cause.TheVariants.{Syntax, Truncated, Depth, Length}
@@ -13,19 +13,20 @@ use Rattle.gj_json.specs.declared.path.PathStep.{PathStep}
 use Rattle.gj_json.specs.declared.reader.Reader.{Reader}
 use Rattle.gj_json.specs.Limits.{Allowed}
 use Rattle.gj_json.specs.Tree.{Text}
-use Rattle.gj_json.specs.Text.{IsText}
-use Rattle.gj_json.specs.Refusal.{Stops, RefusedFor, IsByByte}
+use Rattle.gj_json.specs.Text.{IsText, IsViableWithin}
+use Rattle.gj_json.specs.Refusal.{IsRefusal, Stops, RefusedFor, IsByByte}
 use Rattle.gj_json.specs.Levels.{levels_in}
 use Rattle.gj_json.specs.Content.{known_in, words_in}
 use Rattle.gj_json.specs.Machine.{Frame, in_array, in_object, Leaf, value_due, value_done, array_opened, object_opened, constant_on, number_on, string_on, name_due, name_on, colon_due, Broken, text_due, mark_one, mark_two, begun, step, run}
 use Rattle.gj_json.specs.Stands.{levels_of, levels_with, StandsAs, StandsWell, StandsRefused}
 use Rattle.gj_json.specs.Under.{under_of}
 use Rattle.gj_json.specs.Reader.{StandsFor}
+use Rattle.gj_json.specs.Feeding.{Skips}
 use Rattle.gj_json.specs.Path.{steps_of, path_at}
 use Rattle.gj_json.specs.Trail.{inner_steps, turn_of, followed, IsSmall, Fits, LeafTrail, stack_steps, stack_count, TrailAt, begins, kept_steps}
 use Rattle.gj_json.specs.Locator.{StandsFor as LocatorStandsFor}
 use Rattle.gj_json.proofs.Completes.{Goes, TextFrom}
-use Rattle.gj_json.proofs.Feeding.{live_offset, refused_offset, taken_within}
+use Rattle.gj_json.proofs.Feeding.{live_offset, refused_offset, refused_within, refused_stands, taken_within, skip_feeds, skipped, answers_ok, answers_err}
 use Rattle.gj_json.proofs.LevelLemmas.{length-levels_at}
 use Rattle.gj_json.proofs.Literals.{words_by}
 use Rattle.gj_json.proofs.Located.{path_leads}
@@ -146,6 +147,49 @@ trail_kept old new b bytes fault refused on again h k same = (k, λ state r. tra
         let e : TrailAt old.reader.offset state (inner_steps old.trail) = h.1 state (ap run (sym t) ∙ r) in
         let g : TrailAt new.reader.offset state (inner_steps old.trail) = subst (λ n. TrailAt n state (inner_steps old.trail)) (sym o) e in
         subst (λ (p : Path). TrailAt new.reader.offset state (inner_steps p)) (sym same) g
+
+-- ---- a piece
+
+-- a locator that has refused a byte stands for whatever follows
+pub refused_on : (locator : Locator) (bytes more : List ℕ) (fault : JsonFault) → locator.reader.fault ≡ Some fault → LocatorStandsFor locator bytes → LocatorStandsFor locator (bytes ++ more)
+unfolding LocatorStandsFor
+refused_on locator bytes more fault e h =
+    let t : take locator.reader.offset (bytes ++ more) ≡ take locator.reader.offset bytes = take-append-le locator.reader.offset bytes more (refused_within locator.reader bytes fault e h.0) in
+    (refused_stands locator.reader bytes more fault e h.0, λ state r. h.1 state (ap run (sym t) ∙ r))
+
+-- one that has refused a byte in a front of the piece, for the whole piece
+pub refused_in : (locator : Locator) (bytes piece : List ℕ) (n : ℕ) (fault : JsonFault) → locator.reader.fault ≡ Some fault → LocatorStandsFor locator (bytes ++ take n piece) → LocatorStandsFor locator (bytes ++ piece)
+refused_in locator bytes piece n fault e h =
+    subst (λ (xs : List ℕ). LocatorStandsFor locator xs) (append_assoc bytes (take n piece) (drop n piece) ∙ ap (λ xs. bytes ++ xs) (take-append-drop n piece)) (refused_on locator (bytes ++ take n piece) (drop n piece) fault e h)
+
+-- bytes that complete nothing leave the steps as they are
+trail_over : (old new : Locator) (given bytes : List ℕ) → old.reader.fault ≡ None → Skips old.reader new.reader given → old.reader.offset + length given ≤ old.reader.limits.bytes → new.trail ≡ old.trail → LocatorStandsFor old bytes → LocatorStandsFor new (bytes ++ given)
+unfolding LocatorStandsFor
+trail_over old new given bytes live s room same h = ((skip_feeds {heard = λ es. Unit {0}} old.reader new.reader given live room s).feeds.stands bytes h.0, λ state r. trail state r)
+  where
+    trail : (state : Broken) → run (take new.reader.offset (bytes ++ given)) ≡ Some state → TrailAt new.reader.offset state (inner_steps new.trail)
+    trail state r =
+        let o = open_of old.reader bytes live h.0 in
+        let n : new.reader.offset ≡ length (bytes ++ given) = omega (arith, s.offset, live_offset old.reader bytes live h.0, length-append bytes given) in
+        let t : run (bytes ++ given) ≡ Some state = rw (all_taken (bytes ++ given) new.reader.offset n) at r in
+        let before : TrailAt old.reader.offset o.well.state (inner_steps old.trail) = h.1 o.well.state (rw (all_taken bytes old.reader.offset o.well.at) o.well.runs) in
+        let after : TrailAt (old.reader.offset + length given) state (inner_steps old.trail) = (skipped old.reader new.reader given bytes s.by room o).2 o.well.state state o.well.runs t (inner_steps old.trail) before in
+        let there : TrailAt new.reader.offset state (inner_steps old.trail) = subst (λ m. TrailAt m state (inner_steps old.trail)) (sym s.offset) after in
+        subst (λ (p : Path). TrailAt new.reader.offset state (inner_steps p)) (sym same) there
+
+pub front_passed : (old : Locator) (reader : Reader) (piece bytes : List ℕ) (n : ℕ) → old.reader.fault ≡ None → Skips old.reader reader (take n piece) → n ≤ length piece → old.reader.offset + n ≤ old.reader.limits.bytes → LocatorStandsFor old bytes
+    → LocatorStandsFor (record { trail = old.trail; reader = reader }) (bytes ++ take n piece)
+front_passed old reader piece bytes n live s w room h = trail_over old (record { trail = old.trail; reader = reader }) (take n piece) bytes live s (omega (arith, length-take-le n piece w)) refl h
+
+-- what is answered to the bytes that it stands for
+pub live_answer : (locator : Locator) (limits : Allowed) (bytes : List ℕ) → locator.reader.limits ≡ limits → locator.reader.fault ≡ None → LocatorStandsFor locator bytes → IsViableWithin limits.depth bytes × (length bytes ≤ limits.bytes)
+unfolding LocatorStandsFor
+live_answer locator limits bytes l e h = let k : Result (Unit {0}) JsonFault = Ok tt in answers_ok {A = Unit {0}} locator.reader bytes limits k tt refl l e h.0
+
+pub refused_answer : (locator : Locator) (limits : Allowed) (bytes : List ℕ) (fault : JsonFault) → locator.reader.limits ≡ limits → locator.reader.fault ≡ Some fault → LocatorStandsFor locator bytes
+    → IsRefusal limits bytes fault × ((more : List ℕ) → IsRefusal limits (bytes ++ more) fault)
+unfolding LocatorStandsFor
+refused_answer locator limits bytes fault l e h = let k : Result (Unit {0}) JsonFault = Err fault in answers_err {A = Unit {0}} locator.reader bytes limits k fault refl l e h.0
 
 -- ---- the path
 

@@ -35,6 +35,7 @@ use Rattle.gj_json.proofs.Completes.{Goes}
 use Rattle.gj_json.proofs.Simulation.{moves}
 use Rattle.gj_json.proofs.Telling.{Tells}
 use Rattle.gj_json.proofs.Reading.{passed, told_by_step, completed_from}
+use Rattle.gj_json.proofs.TrailRuns.{Lasts, nothing_lasts, byte_and_more, text_lasts, number_lasts, quiet_lasts, no_text_at}
 
 -- where nothing is under way, it does not matter where that began
 leaf_start : (leaf : Leaf) (mode next : Mode) (start n : ℕ) → is_on mode ≡ is_on next → LeafAs leaf next → BegunAs leaf (start_after mode start n) → BegunAs leaf start
@@ -141,20 +142,21 @@ module _ (limits : Allowed) (levels : List Level) (start : ℕ) where
       )
 
   -- the number under way behind the bytes
-  record AfterDigits (from to : ℕ) (bytes so_far : List ℕ) : Type 0 where
-    pub well : StandsWell limits NumberOn levels start to bytes
+  record AfterDigits (from to : ℕ) (bytes run all so_far : List ℕ) : Type 0 where
+    pub well : StandsWell limits NumberOn levels start to all
     pub state : NumberState
     pub under : under_of well.state ≡ number so_far state
     pub leads : number_state so_far ≡ Some state
-    pub nothing_more : Completed from to bytes []
+    pub nothing_more : Completed from to all []
+    pub lasts : Lasts from to bytes run
 
   -- digits that go on in a number
   digits_well : (run so_far : List ℕ) (state : NumberState) (offset : ℕ) (bytes : List ℕ) (k : StandsWell limits NumberOn levels start offset bytes) → under_of k.state ≡ number so_far state → number_state so_far ≡ Some state
-      → BeginsNumber (so_far ++ run) → offset + length run ≤ limits.bytes → AfterDigits offset (offset + length run) (bytes ++ run) (so_far ++ run)
+      → BeginsNumber (so_far ++ run) → offset + length run ≤ limits.bytes → AfterDigits offset (offset + length run) bytes run (bytes ++ run) (so_far ++ run)
   digits_well [] so_far state offset bytes k u n h room =
       let e : offset ≡ offset + 0 = omega arith in
-      let P : ℕ → Type 0 = λ to. AfterDigits offset to (bytes ++ []) (so_far ++ []) in
-      subst P e (rw (append-nil bytes, append-nil so_far) (record { well = k; state = state; under = u; leads = n; nothing_more = λ T rest t. sym (append-nil (events_by offset T)) }))
+      let P : ℕ → Type 0 = λ to. AfterDigits offset to bytes [] (bytes ++ []) (so_far ++ []) in
+      subst P e (rw (append-nil bytes, append-nil so_far) (record { well = k; state = state; under = u; leads = n; nothing_more = λ T rest t. sym (append-nil (events_by offset T)); lasts = nothing_lasts offset bytes }))
   digits_well (b ∷ run) so_far state offset bytes k u n h room =
       let more : BeginsNumber ((so_far ++ b ∷ []) ++ run) = rw (append_assoc so_far (b ∷ []) run) h in
       let goes : BeginsNumber (so_far ++ b ∷ []) = number_front (so_far ++ b ∷ []) run more in
@@ -165,43 +167,48 @@ module _ (limits : Allowed) (levels : List Level) (start : ℕ) where
       let d = byte_completes NumberOn NumberOn offset bytes b k NumberTurn.Goes t refl refl in
       let g = digits_well run (so_far ++ b ∷ []) next.0 (offset + 1) (bytes ++ b ∷ []) w.0 next.1 next.2 more (omega arith) in
       let e : offset + 1 + length run ≡ offset + length (b ∷ run) = omega arith in
-      let P : ℕ → Type 0 = λ to. AfterDigits offset to (bytes ++ (b ∷ run)) (so_far ++ (b ∷ run)) in
-      let Q : List ℕ → Type 0 = λ xs. AfterDigits (offset + 1) (offset + 1 + length run) ((bytes ++ b ∷ []) ++ run) xs in
-      let j : AfterDigits (offset + 1) (offset + 1 + length run) ((bytes ++ b ∷ []) ++ run) (so_far ++ (b ∷ run)) = subst Q (append_assoc so_far (b ∷ []) run) g in
-      subst P e (earlier offset (offset + 1 + length run) bytes b run (so_far ++ (b ∷ run)) d j)
+      let P : ℕ → Type 0 = λ to. AfterDigits offset to bytes (b ∷ run) (bytes ++ (b ∷ run)) (so_far ++ (b ∷ run)) in
+      let Q : List ℕ → Type 0 = λ xs. AfterDigits (offset + 1) (offset + 1 + length run) (bytes ++ b ∷ []) run ((bytes ++ b ∷ []) ++ run) xs in
+      let j : AfterDigits (offset + 1) (offset + 1 + length run) (bytes ++ b ∷ []) run ((bytes ++ b ∷ []) ++ run) (so_far ++ (b ∷ run)) = subst Q (append_assoc so_far (b ∷ []) run) g in
+      let D : Under → Type 0 = λ u. ComesFrom (number so_far state) b u in
+      let came : ComesFrom (number so_far state) b (number (so_far ++ b ∷ []) next.0) = subst D next.1 c in
+      let l = byte_and_more offset (offset + 1 + length run) bytes b run w.0.state w.0.runs (number_lasts limits levels start offset bytes b k state next.0 came.1) j.lasts in
+      subst P e (earlier offset (offset + 1 + length run) bytes b run (so_far ++ (b ∷ run)) d l j)
     where
-      earlier : (offset to : ℕ) (bytes : List ℕ) (b : ℕ) (run so_far : List ℕ) → Completed offset (offset + 1) (bytes ++ b ∷ []) [] → AfterDigits (offset + 1) to ((bytes ++ b ∷ []) ++ run) so_far → AfterDigits offset to (bytes ++ (b ∷ run)) so_far
-      earlier offset to bytes b run so_far d g =
-          let P : List ℕ → Type 0 = λ xs. Completed offset to xs [] → AfterDigits offset to xs so_far in
-          subst P (append_assoc bytes (b ∷ []) run) (λ n. record { well = g.well; state = g.state; under = g.under; leads = g.leads; nothing_more = n }) (no_more offset to bytes b run d g.nothing_more)
+      earlier : (offset to : ℕ) (bytes : List ℕ) (b : ℕ) (run so_far : List ℕ) → Completed offset (offset + 1) (bytes ++ b ∷ []) [] → Lasts offset to bytes (b ∷ run) → AfterDigits (offset + 1) to (bytes ++ b ∷ []) run ((bytes ++ b ∷ []) ++ run) so_far
+          → AfterDigits offset to bytes (b ∷ run) (bytes ++ (b ∷ run)) so_far
+      earlier offset to bytes b run so_far d l g =
+          let P : List ℕ → Type 0 = λ xs. Completed offset to xs [] → AfterDigits offset to bytes (b ∷ run) xs so_far in
+          subst P (append_assoc bytes (b ∷ []) run) (λ n. record { well = g.well; state = g.state; under = g.under; leads = g.leads; nothing_more = n; lasts = l }) (no_more offset to bytes b run d g.nothing_more)
 
   pub digits_run : (run : List ℕ) (old new : Literal) (before after : Content) (offset : ℕ) (bytes : List ℕ) → StandsOpen limits NumberOn levels old before start offset bytes
       → ((so_far : List ℕ) → LiteralStandsFor old so_far → LiteralStandsFor new (so_far ++ run) × BeginsNumber (so_far ++ run)) → offset + length run ≤ limits.bytes
-      → StandsOpen limits NumberOn levels new after start (offset + length run) (bytes ++ run) × Completed offset (offset + length run) (bytes ++ run) []
+      → StandsOpen limits NumberOn levels new after start (offset + length run) (bytes ++ run) × Completed offset (offset + length run) (bytes ++ run) [] × Lasts offset (offset + length run) bytes run
   digits_run run old new before after offset bytes k goes room = go (under_of k.well.state) refl k.keeps (sym (mode_under k.well.state NumberOn levels k.well.kept))
     where
-      go : (u : Under) → under_of k.well.state ≡ u → Keeps u old before → is_number u ≡ true → StandsOpen limits NumberOn levels new after start (offset + length run) (bytes ++ run) × Completed offset (offset + length run) (bytes ++ run) []
+      go : (u : Under) → under_of k.well.state ≡ u → Keeps u old before → is_number u ≡ true → StandsOpen limits NumberOn levels new after start (offset + length run) (bytes ++ run) × Completed offset (offset + length run) (bytes ++ run) [] × Lasts offset (offset + length run) bytes run
       go nothing e h n = cc
       go (text so_far state) e h n = cc
       go (number so_far state) e h n =
           let f = goes so_far h.0 in
           let d = digits_well run so_far state offset bytes k.well e h.1 f.1 room in
-          (record { well = d.well; keeps = rw (d.under) (f.0, d.leads) }, d.nothing_more)
+          (record { well = d.well; keeps = rw (d.under) (f.0, d.leads) }, d.nothing_more, d.lasts)
 
   -- the string under way behind the bytes
-  record AfterText (on : StringState → Mode) (from to : ℕ) (bytes so_far : List ℕ) (last : StringState) : Type 0 where
-    pub well : StandsWell limits (on last) levels start to bytes
+  record AfterText (on : StringState → Mode) (from to : ℕ) (bytes run all so_far : List ℕ) (last : StringState) : Type 0 where
+    pub well : StandsWell limits (on last) levels start to all
     pub under : under_of well.state ≡ text so_far last
-    pub nothing_more : Completed from to bytes []
+    pub nothing_more : Completed from to all []
+    pub lasts : Lasts from to bytes run
 
   -- bytes that go on in a string
   text_well : (on : StringState → Mode) → IsTextMode on → (run so_far characters : List ℕ) (state last : StringState) (offset : ℕ) (bytes : List ℕ) (k : StandsWell limits (on state) levels start offset bytes)
-      → under_of k.state ≡ text so_far state → Reads state run characters last → offset + length run ≤ limits.bytes → AfterText on offset (offset + length run) (bytes ++ run) (so_far ++ characters) last
+      → under_of k.state ≡ text so_far state → Reads state run characters last → offset + length run ≤ limits.bytes → AfterText on offset (offset + length run) bytes run (bytes ++ run) (so_far ++ characters) last
   text_well on i [] so_far characters state last offset bytes k u h room =
       let e : offset ≡ offset + 0 = omega arith in
-      let P : ℕ → Type 0 = λ to. AfterText on offset to (bytes ++ []) (so_far ++ characters) last in
-      let Q : StringState → Type 0 = λ s. AfterText on offset offset bytes so_far s in
-      subst P e (rw (h.1, append-nil bytes, append-nil so_far) (subst Q h.0 (record { well = k; under = u; nothing_more = λ T rest t. sym (append-nil (events_by offset T)) })))
+      let P : ℕ → Type 0 = λ to. AfterText on offset to bytes [] (bytes ++ []) (so_far ++ characters) last in
+      let Q : StringState → Type 0 = λ s. AfterText on offset offset bytes [] bytes so_far s in
+      subst P e (rw (h.1, append-nil bytes, append-nil so_far) (subst Q h.0 (record { well = k; under = u; nothing_more = λ T rest t. sym (append-nil (events_by offset T)); lasts = nothing_lasts offset bytes })))
   text_well on i (b ∷ run) so_far characters state last offset bytes k u h room =
       let turn = own_turn (under_of k.state) b in
       let t = own_turns (under_of k.state) b in
@@ -213,55 +220,63 @@ module _ (limits : Allowed) (levels : List Level) (start : ℕ) where
       let d = byte_completes (on state) (on h.0) offset bytes b k turn t m (i.nothing state h.0 (inner_of levels) (own_value (under_of k.state)) (own_words (under_of k.state)) start offset) in
       let g = text_well on i run (so_far ++ h.1) h.2 h.0 last (offset + 1) (bytes ++ b ∷ []) w.0 next h.5 (omega arith) in
       let e : offset + 1 + length run ≡ offset + length (b ∷ run) = omega arith in
-      let P : ℕ → Type 0 = λ to. AfterText on offset to (bytes ++ (b ∷ run)) (so_far ++ characters) last in
-      let Q : List ℕ → Type 0 = λ xs. AfterText on (offset + 1) (offset + 1 + length run) ((bytes ++ b ∷ []) ++ run) xs last in
-      let j : AfterText on (offset + 1) (offset + 1 + length run) ((bytes ++ b ∷ []) ++ run) (so_far ++ characters) last = subst Q (append_assoc so_far h.1 h.2 ∙ ap (λ xs. so_far ++ xs) (sym h.4)) g in
-      subst P e (earlier offset (offset + 1 + length run) bytes b run (so_far ++ characters) d j)
+      let P : ℕ → Type 0 = λ to. AfterText on offset to bytes (b ∷ run) (bytes ++ (b ∷ run)) (so_far ++ characters) last in
+      let Q : List ℕ → Type 0 = λ xs. AfterText on (offset + 1) (offset + 1 + length run) (bytes ++ b ∷ []) run ((bytes ++ b ∷ []) ++ run) xs last in
+      let j : AfterText on (offset + 1) (offset + 1 + length run) (bytes ++ b ∷ []) run ((bytes ++ b ∷ []) ++ run) (so_far ++ characters) last = subst Q (append_assoc so_far h.1 h.2 ∙ ap (λ xs. so_far ++ xs) (sym h.4)) g in
+      let l = byte_and_more offset (offset + 1 + length run) bytes b run w.0.state w.0.runs (text_lasts limits (on state) levels start offset bytes b k so_far h.1 state h.0 u h.3) j.lasts in
+      subst P e (earlier offset (offset + 1 + length run) bytes b run (so_far ++ characters) d l j)
     where
-      earlier : (offset to : ℕ) (bytes : List ℕ) (b : ℕ) (run so_far : List ℕ) → Completed offset (offset + 1) (bytes ++ b ∷ []) [] → AfterText on (offset + 1) to ((bytes ++ b ∷ []) ++ run) so_far last → AfterText on offset to (bytes ++ (b ∷ run)) so_far last
-      earlier offset to bytes b run so_far d g =
-          let P : List ℕ → Type 0 = λ xs. Completed offset to xs [] → AfterText on offset to xs so_far last in
-          subst P (append_assoc bytes (b ∷ []) run) (λ n. record { well = g.well; under = g.under; nothing_more = n }) (no_more offset to bytes b run d g.nothing_more)
+      earlier : (offset to : ℕ) (bytes : List ℕ) (b : ℕ) (run so_far : List ℕ) → Completed offset (offset + 1) (bytes ++ b ∷ []) [] → Lasts offset to bytes (b ∷ run) → AfterText on (offset + 1) to (bytes ++ b ∷ []) run ((bytes ++ b ∷ []) ++ run) so_far last
+          → AfterText on offset to bytes (b ∷ run) (bytes ++ (b ∷ run)) so_far last
+      earlier offset to bytes b run so_far d l g =
+          let P : List ℕ → Type 0 = λ xs. Completed offset to xs [] → AfterText on offset to bytes (b ∷ run) xs so_far last in
+          subst P (append_assoc bytes (b ∷ []) run) (λ n. record { well = g.well; under = g.under; nothing_more = n; lasts = l }) (no_more offset to bytes b run d g.nothing_more)
 
   text_mode_run : (on : StringState → Mode) → IsTextMode on → (run characters : List ℕ) (first last : StringState) (old new : Literal) (before after : Content) (offset : ℕ) (bytes : List ℕ) → StandsOpen limits (on first) levels old before start offset bytes
       → Reads first run characters last → ((so_far : List ℕ) → Holds before so_far → Holds after (so_far ++ characters)) → offset + length run ≤ limits.bytes
-      → StandsOpen limits (on last) levels new after start (offset + length run) (bytes ++ run) × Completed offset (offset + length run) (bytes ++ run) []
+      → StandsOpen limits (on last) levels new after start (offset + length run) (bytes ++ run) × Completed offset (offset + length run) (bytes ++ run) [] × Lasts offset (offset + length run) bytes run
   text_mode_run on i run characters first last old new before after offset bytes k h holds room = go (under_of k.well.state) refl k.keeps (sym (mode_state k.well.state (on first) levels k.well.kept) ∙ i.state first)
     where
-      go : (u : Under) → under_of k.well.state ≡ u → Keeps u old before → state_under u ≡ Some first → StandsOpen limits (on last) levels new after start (offset + length run) (bytes ++ run) × Completed offset (offset + length run) (bytes ++ run) []
+      go : (u : Under) → under_of k.well.state ≡ u → Keeps u old before → state_under u ≡ Some first → StandsOpen limits (on last) levels new after start (offset + length run) (bytes ++ run) × Completed offset (offset + length run) (bytes ++ run) [] × Lasts offset (offset + length run) bytes run
       go nothing e j n = cc
       go (number so_far state) e j n = cc
       go (text so_far state) e j n =
           let same : state ≡ first = cc in
           let P : StringState → Type 0 = λ s. under_of k.well.state ≡ text so_far s in
           let d = text_well on i run so_far characters first last offset bytes k.well (subst P same e) h room in
-          (record { well = d.well; keeps = rw (d.under) (holds so_far j) }, d.nothing_more)
+          (record { well = d.well; keeps = rw (d.under) (holds so_far j) }, d.nothing_more, d.lasts)
 
   pub text_run : (run characters : List ℕ) (first last : StringState) (mode next : Mode) (old new : Literal) (before after : Content) (offset : ℕ) (bytes : List ℕ) → StandsOpen limits mode levels old before start offset bytes
       → GoesOn mode first next last → Reads first run characters last → ((so_far : List ℕ) → Holds before so_far → Holds after (so_far ++ characters)) → offset + length run ≤ limits.bytes
-      → StandsOpen limits next levels new after start (offset + length run) (bytes ++ run) × Completed offset (offset + length run) (bytes ++ run) []
+      → StandsOpen limits next levels new after start (offset + length run) (bytes ++ run) × Completed offset (offset + length run) (bytes ++ run) [] × Lasts offset (offset + length run) bytes run
   text_run run characters first last mode next old new before after offset bytes k (inl m) h holds room =
       let P : Mode → Type 0 = λ x. StandsOpen limits x levels old before start offset bytes in
-      let Q : Mode → Type 0 = λ x. StandsOpen limits x levels new after start (offset + length run) (bytes ++ run) × Completed offset (offset + length run) (bytes ++ run) [] in
+      let Q : Mode → Type 0 = λ x. StandsOpen limits x levels new after start (offset + length run) (bytes ++ run) × Completed offset (offset + length run) (bytes ++ run) [] × Lasts offset (offset + length run) bytes run in
       subst Q (sym m.1) (text_mode_run StringOn string_mode run characters first last old new before after offset bytes (subst P m.0 k) h holds room)
   text_run run characters first last mode next old new before after offset bytes k (inr m) h holds room =
       let P : Mode → Type 0 = λ x. StandsOpen limits x levels old before start offset bytes in
-      let Q : Mode → Type 0 = λ x. StandsOpen limits x levels new after start (offset + length run) (bytes ++ run) × Completed offset (offset + length run) (bytes ++ run) [] in
+      let Q : Mode → Type 0 = λ x. StandsOpen limits x levels new after start (offset + length run) (bytes ++ run) × Completed offset (offset + length run) (bytes ++ run) [] × Lasts offset (offset + length run) bytes run in
       subst Q (sym m.1) (text_mode_run NameOn name_mode run characters first last old new before after offset bytes (subst P m.0 k) h holds room)
 
-  pub quiet_run : (run : List ℕ) (mode last : Mode) (offset : ℕ) (bytes : List ℕ) → StandsWell limits mode levels start offset bytes → offset + length run ≤ limits.bytes → Leads mode run last
-      → StandsWell limits last levels start (offset + length run) (bytes ++ run) × Completed offset (offset + length run) (bytes ++ run) []
-  quiet_run [] mode last offset bytes k room q =
+  pub quiet_run : (run : List ℕ) (mode last : Mode) (offset : ℕ) (bytes : List ℕ) → StandsWell limits mode levels start offset bytes → offset + length run ≤ limits.bytes → Leads mode run last → text_state last ≡ None
+      → StandsWell limits last levels start (offset + length run) (bytes ++ run) × Completed offset (offset + length run) (bytes ++ run) [] × Lasts offset (offset + length run) bytes run
+  quiet_run [] mode last offset bytes k room q none =
       let e : offset ≡ offset + 0 = omega arith in
       let P : ℕ → Type 0 = λ n. StandsWell limits last levels start n (bytes ++ []) in
       let Q : ℕ → Type 0 = λ n. Completed offset n (bytes ++ []) [] in
       let R : Mode → Type 0 = λ m. StandsWell limits m levels start offset bytes in
+      let L : ℕ → Type 0 = λ n. Lasts offset n bytes [] in
       let j = subst R q k in
-      (subst P e (rw (append-nil bytes) j), subst Q e (λ T rest t. sym (append-nil (events_by offset T))))
-  quiet_run (b ∷ run) mode last offset bytes k room q =
+      (subst P e (rw (append-nil bytes) j), subst Q e (λ T rest t. sym (append-nil (events_by offset T))), subst L e (nothing_lasts offset bytes))
+  quiet_run (b ∷ run) mode last offset bytes k room q none =
       let w = quiet_byte mode q.0 offset bytes b k (omega arith) q.1 in
-      let g = quiet_run run q.0 last (offset + 1) (bytes ++ b ∷ []) w.0 (omega arith) q.2 in
+      let g = quiet_run run q.0 last (offset + 1) (bytes ++ b ∷ []) w.0 (omega arith) q.2 none in
+      let f = quiet_lasts limits mode q.0 levels start offset bytes b k q.1 (no_text_at mode (b ∷ run) last q none) in
       let e : offset + 1 + length run ≡ offset + length (b ∷ run) = omega arith in
       let P : ℕ → Type 0 = λ n. StandsWell limits last levels start n (bytes ++ (b ∷ run)) in
       let Q : ℕ → Type 0 = λ n. Completed offset n (bytes ++ (b ∷ run)) [] in
-      (subst P e (rw (← append_assoc bytes (b ∷ []) run) g.0), subst Q e (no_more offset (offset + 1 + length run) bytes b run w.1 g.1))
+      let L : ℕ → Type 0 = λ n. Lasts offset n bytes (b ∷ run) in (
+        subst P e (rw (← append_assoc bytes (b ∷ []) run) g.0),
+        subst Q e (no_more offset (offset + 1 + length run) bytes b run w.1 g.1),
+        subst L e (byte_and_more offset (offset + 1 + length run) bytes b run w.0.state w.0.runs f g.2),
+      )

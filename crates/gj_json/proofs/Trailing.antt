@@ -22,7 +22,7 @@ use Rattle.gj_json.specs.NumberStates.{NumberState, after_minus, number_next, nu
 use Rattle.gj_json.specs.Tree.{Tree, constant, number}
 use Rattle.gj_json.specs.Machine.{Broken, text_due, mark_one, mark_two, begun, with_mark, step, Frame, in_array, in_object, Member, Leaf, Partial, value_due, value_done, array_opened, object_opened, constant_on, number_on, string_on, name_due, name_on, colon_due, to, step_leaf, begin_value, after_value, step_value_due, step_array_opened, step_object_opened, step_name_due, step_colon_due, step_constant, step_number, step_string, step_name, string_next, escape_step, hex_step, hex_end, tail_step, within, StringStep, string_ends, string_goes, string_refuses}
 use Rattle.gj_json.specs.Stands.{LeafAs, StandsAs}
-use Rattle.gj_json.specs.Under.{under_leaf, under_of, HasWords}
+use Rattle.gj_json.specs.Under.{under_leaf, under_of, text, HasWords}
 use Rattle.gj_json.specs.Trail.{outer_steps, with_inner, advanced, class_turn, turn_of, followed, Inside, LeafTrail, stack_steps, stack_count, TrailAt}
 use Rattle.gj_json.proofs.Spelled.{SaidPlain, said_plain}
 
@@ -30,6 +30,16 @@ use Rattle.gj_json.proofs.Spelled.{SaidPlain, said_plain}
 abbrev pub Trailed : ℕ → List PathStep → Option Partial → Type 0
 Trailed n steps None = Unit {0}
 Trailed n steps (Some s) = LeafTrail s.stack s.leaf steps × (stack_count s.stack ≤ n + 1)
+
+-- a byte that goes on in a number opens and closes nothing
+pub number_stays : (state next : NumberState) (c : Class) → number_next state c ≡ Some next → class_turn c ≡ Stays
+number_stays after_minus next OpenArray e = cc
+number_stays _ next OpenArray e = cc
+number_stays _ next OpenObject e = cc
+number_stays _ next CloseArray e = cc
+number_stays _ next CloseObject e = cc
+number_stays _ next Comma e = cc
+number_stays _ next _ e = refl
 
 module _ (n b : ℕ) where
   on_begin : (stack : List Frame) (c : Class) (steps : List PathStep) → steps ≡ stack_steps stack → stack_count stack ≤ n → Trailed n (followed (class_turn c) steps) (begin_value stack n b c)
@@ -87,15 +97,6 @@ module _ (n b : ℕ) where
   on_after _ t _ steps e l = tt
 
   -- ---- numbers
-
-  number_stays : (state next : NumberState) (c : Class) → number_next state c ≡ Some next → class_turn c ≡ Stays
-  number_stays after_minus next OpenArray e = cc
-  number_stays _ next OpenArray e = cc
-  number_stays _ next OpenObject e = cc
-  number_stays _ next CloseArray e = cc
-  number_stays _ next CloseObject e = cc
-  number_stays _ next Comma e = cc
-  number_stays _ next _ e = refl
 
   on_number : (stack : List Frame) (place : ℕ) (so_far : List ℕ) (state : NumberState) (c : Class) (o : Option NumberState) (may_end : Bool) (steps : List PathStep) → number_next state c ≡ o → steps ≡ stack_steps stack → stack_count stack ≤ n
       → Trailed n (followed (class_turn c) steps) (step_number stack place so_far n b o (if may_end then after_value stack (number place so_far n) n c else None))
@@ -200,6 +201,24 @@ module _ (n b : ℕ) where
   leaf_trailed stack (name_on place done np so_far state) mode words steps a w e l = rw a (on_name_string stack place done np so_far (string_next state b) words.known steps (ends_by state) (ap (λ (v : Words). v.known) w) e l)
   leaf_trailed stack (colon_due place done np name ne) mode words steps a w e l = rw a (on_colon_due stack place done np name ne (class_of b) steps e l)
 
+  -- ---- a byte that goes on in a string or in a name
+
+  on_text : (stack : List Frame) (leaf : Leaf) (steps : List PathStep) (so_far more : List ℕ) (here next : StringState) → under_leaf leaf ≡ text so_far here → string_next here b ≡ string_goes more next → LeafTrail stack leaf steps → stack_count stack ≤ n
+      → Trailed n steps (step_leaf stack leaf n b)
+  on_text stack (string_on place before state) steps so_far more here next u e h l = on_string stack place before (string_next state b) steps h l
+  on_text stack (name_on place done np before state) steps so_far more here next u e h l =
+      let same : state ≡ here = cc in
+      let goes : string_next state b ≡ string_goes more next = ap (λ (s : StringState). string_next s b) same ∙ e in
+      rw goes (h, omega arith)
+  on_text stack value_due steps so_far more here next u e h l = cc
+  on_text stack (value_done t) steps so_far more here next u e h l = cc
+  on_text stack (array_opened place) steps so_far more here next u e h l = cc
+  on_text stack (object_opened place) steps so_far more here next u e h l = cc
+  on_text stack (constant_on which place left) steps so_far more here next u e h l = cc
+  on_text stack (number_on place before state) steps so_far more here next u e h l = cc
+  on_text stack (name_due place done) steps so_far more here next u e h l = cc
+  on_text stack (colon_due place done np name ne) steps so_far more here next u e h l = cc
+
 -- ---- a whole text
 
 abbrev pub TrailTo : ℕ → List PathStep → Option Broken → Type 0
@@ -222,25 +241,45 @@ third_class : class_of mark_third ≡ Other
 unfolding class_of
 third_class = refl
 
+-- a byte of a mark has no class of its own
+pub record LoneClass : Type 0 where
+  pub first : (b : ℕ) → (b == mark_first) ≡ true → class_of b ≡ Other
+  pub second : (b : ℕ) → (b == mark_second) ≡ true → class_of b ≡ Other
+  pub third : (b : ℕ) → (b == mark_third) ≡ true → class_of b ≡ Other
+
+pub lone_class : LoneClass
+lone_class = record {
+  first = λ b t. let f : b ≡ mark_first = grind (arith, nat_tests) in rw f first_class;
+  second = λ b t. let f : b ≡ mark_second = grind (arith, nat_tests) in rw f second_class;
+  third = λ b t. let f : b ≡ mark_third = grind (arith, nat_tests) in rw f third_class;
+}
+
 -- a byte that stands alone has no level of its own
-stays_at : (b mark : ℕ) (steps : List PathStep) → (b == mark) ≡ true → class_of mark ≡ Other → steps ≡ [] → followed (class_turn (class_of b)) steps ≡ []
-stays_at b mark steps t c e = let f : b ≡ mark = grind (arith, nat_tests) in rw (f, c) e
+stays_at : (b : ℕ) (steps : List PathStep) → class_of b ≡ Other → steps ≡ [] → followed (class_turn (class_of b)) steps ≡ []
+stays_at b steps c e = rw c e
 
 pub step_trail : (state : Broken) (mode : Mode) (levels : List Level) (words : Words) (n b : ℕ) (steps : List PathStep) → StandsAs state mode levels → HasWords (under_of state) words → TrailAt n state steps
     → TrailTo n (followed (turn_of mode words.known b) steps) (step state n b)
 step_trail text_due mode levels words n b steps a w e = rw (a.0) (go (b == mark_first) refl)
   where
     go : (t : Bool) → (b == mark_first) ≡ t → TrailTo n (followed (class_turn (class_of b)) steps) (if t then Some mark_one else with_mark false (step_value_due [] n b (class_of b)))
-    go true t = stays_at b mark_first steps t first_class e
+    go true t = stays_at b steps (lone_class.first b t) e
     go false t = marked_trail n _ false (step_value_due [] n b (class_of b)) (on_value_due n b [] (class_of b) steps e (omega arith))
 step_trail mark_one mode levels words n b steps a w e = rw (a.0) (go (b == mark_second) refl)
   where
     go : (t : Bool) → (b == mark_second) ≡ t → TrailTo n (followed (class_turn (class_of b)) steps) (if t then Some mark_two else None)
-    go true t = stays_at b mark_second steps t second_class e
+    go true t = stays_at b steps (lone_class.second b t) e
     go false t = tt
 step_trail mark_two mode levels words n b steps a w e = rw (a.0) (go (b == mark_third) refl)
   where
     go : (t : Bool) → (b == mark_third) ≡ t → TrailTo n (followed (class_turn (class_of b)) steps) (if t then Some (begun true (record { stack = []; leaf = value_due })) else None)
-    go true t = (stays_at b mark_third steps t third_class e, omega arith)
+    go true t = (stays_at b steps (lone_class.third b t) e, omega arith)
     go false t = tt
 step_trail (begun marked s) mode levels words n b steps a w e = marked_trail n _ marked (step_leaf s.stack s.leaf n b) (leaf_trailed n b s.stack s.leaf mode words steps a.0 w e.0 e.1)
+
+-- a byte that goes on in a string or in a name
+pub text_trail : (state : Broken) (n b : ℕ) (steps : List PathStep) (so_far more : List ℕ) (here next : StringState) → under_of state ≡ text so_far here → string_next here b ≡ string_goes more next → TrailAt n state steps → TrailTo n steps (step state n b)
+text_trail text_due n b steps so_far more here next u e h = cc
+text_trail mark_one n b steps so_far more here next u e h = cc
+text_trail mark_two n b steps so_far more here next u e h = cc
+text_trail (begun marked s) n b steps so_far more here next u e h = marked_trail n steps marked (step_leaf s.stack s.leaf n b) (on_text n b s.stack s.leaf steps so_far more here next u e h.0 h.1)

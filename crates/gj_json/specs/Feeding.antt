@@ -1,5 +1,5 @@
 -- Internal: what a call that takes bytes leaves of a reader and of a sink.
-use Rattle.std.specs.Prelude.{◌≡◌, ℕ, ◌+◌, ◌≤◌, ◌⊎◌, false, List, ◌++◌, length, take, Some, None}
+use Rattle.std.specs.Prelude.{◌≡◌, ℕ, ◌+◌, ◌≤◌, ◌⊎◌, false, List, [], ◌∷◌, ◌++◌, length, take, Some, None}
 use Rattle.gj_number.specs.Grammar.{BeginsNumber}
 use Rattle.gj_number.specs.Literal.{StandsFor as LiteralStandsFor}
 use Rattle.gj_json.specs.declared.mode.Mode.TheVariants.{NumberOn, StringOn, NameOn}
@@ -11,7 +11,7 @@ use Rattle.gj_json.specs.declared.event.Event.{Event}
 use Rattle.gj_json.specs.declared.fault.JsonFault.{JsonFault}
 use Rattle.gj_json.specs.declared.reader.Reader.{Reader}
 use Rattle.gj_json.specs.Quiet.{Leads, Reads}
-use Rattle.gj_json.specs.Reader.{StandsFor, Hears}
+use Rattle.gj_json.specs.Reader.{StandsFor, Hears, Completed}
 
 -- a string goes on as a string, or a name as a name
 abbrev pub GoesOn : Mode → StringState → Mode → StringState → Type 0
@@ -62,3 +62,10 @@ pub record FeedsAll (heard_before heard_after : List Event → Type 0) (old new 
 pub record FeedsTo (heard_before heard_after : List Event → Type 0) (old new : Reader) (given : List ℕ) (fault : JsonFault) : Type 0 where
   pub feeds : Feeds heard_before heard_after old new given
   pub refused : new.fault ≡ Some fault
+
+-- A sink that had heard `events` has heard those that the byte completes, two at the most.
+pub record HearsTwo (heard : List Event → Type 0) (events : List Event) (bytes : List ℕ) (b : ℕ) : Type 0 where
+  pub found : List Event
+  pub told : heard (events ++ found)
+  pub few : length found ≤ 2
+  pub completed : Completed (length bytes) (length bytes + 1) (bytes ++ b ∷ []) found

@@ -1,23 +1,12 @@
 //! The path to the value at a place.
 
-ghost use Rattle.std.specs.Prelude.{◌≡◌, ℕ, ◌++◌, ◌∷◌, [], List, length, take, MatchResult, None, Some, Err};
+ghost use Rattle.std.specs.Prelude.{◌≡◌, ℕ, ◌<◌, ◌≤◌, ◌++◌, ◌∷◌, [], List, length, take, IfOk, MatchResult, None, Some, Err};
 
-use crate::event::Event;
 use crate::fault::JsonFault;
 use crate::limits::Limits;
 use crate::path::Path;
 use crate::reader::Reader;
-use crate::sink::EventSink;
-
-/// A sink that keeps nothing.
-#[derive(Drop)]
-struct NoEvents;
-
-impl EventSink for NoEvents {
-    ghost heard = { λ sink events. Unit {0} };
-
-    fn tell(&mut self, _event: Event) {}
-}
+use crate::sink::NoEvents;
 
 /// Reads a text (RFC 8259) up to a place, and tells the path to the value there.
 ///
@@ -52,6 +41,49 @@ impl Locator {
         }
     }
 
+    /// Takes a piece of the text, of any size: what [`Locator::push`] of each byte in turn leaves, up to one that is refused.
+    ///
+    /// The bytes before that one are taken; from then on each call answers the same fault and changes nothing.
+    pub fn feed(&mut self, piece: &[u8]) -> Result<(), JsonFault>
+        ensures stands { (bytes : List ℕ) → StandsFor self.old bytes → StandsFor self.new (bytes ++ piece.now) }
+        ensures answer { (bytes : List ℕ) → StandsFor self.old bytes → Answers (limits_of self.old) (bytes ++ piece.now) result }
+        ensures limits { limits_of self.new ≡ limits_of self.old }
+        ensures refusal { MatchResult result (λ done. refusal_of self.new ≡ None) (λ fault. refusal_of self.new ≡ Some fault) }
+        ensures again { (fault : JsonFault) → refusal_of self.old ≡ Some fault → (self.new ≡ self.old) × (result ≡ Err fault) }
+    {
+        if let Some(fault) = self.reader.refusal() {
+            return Err(fault);
+        }
+        let mut at = 0;
+        while at < piece.len() {
+            match self.take_some(&piece[at..]) {
+                Ok(count) => at += count,
+                Err(fault) => return Err(fault),
+            }
+        }
+        Ok(())
+    }
+
+    /// Takes bytes from the front of the piece, one at least: how many.
+    fn take_some(&mut self, piece: &[u8]) -> Result<usize, JsonFault>
+        requires live { refusal_of self.old ≡ None }
+        requires some { 0 < length piece.now }
+        ensures within { IfOk result (λ n. (0 < n) × (n ≤ length piece.now)) }
+        ensures limits { limits_of self.new ≡ limits_of self.old }
+        ensures refusal { MatchResult result (λ n. refusal_of self.new ≡ None) (λ fault. refusal_of self.new ≡ Some fault) }
+        ensures stands { (bytes : List ℕ) → StandsFor self.old bytes → MatchResult result (λ n. StandsFor self.new (bytes ++ take n piece.now)) (λ fault. StandsFor self.new (bytes ++ piece.now)) }
+    {
+        // Such a byte leaves the steps as they are.
+        let quiet = self.reader.pass_quiet(piece);
+        if quiet == piece.len() {
+            return Ok(quiet);
+        }
+        match self.push(piece[quiet]) {
+            Ok(()) => Ok(quiet + 1),
+            Err(fault) => Err(fault),
+        }
+    }
+
     /// Takes the next byte.
     ///
     /// A byte that is refused is not taken; from then on each call answers the same fault and changes nothing.
@@ -64,7 +96,7 @@ impl Locator {
         ensures again { (fault : JsonFault) → refusal_of self.old ≡ Some fault → (self.new ≡ self.old) × (result ≡ Err fault) }
     {
         let turn = self.reader.next_turn(byte);
-        match self.reader.feed(&[byte], &mut NoEvents) {
+        match self.reader.take_next(byte, &mut NoEvents) {
             Ok(()) => {
                 self.trail.follow(turn);
                 Ok(())

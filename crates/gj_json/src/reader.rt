@@ -42,6 +42,7 @@ impl Reader {
     ghost use Rattle.gj_json.specs.Events.{events_by};
     ghost use Rattle.gj_json.specs.Open.{open_at};
     ghost use Rattle.gj_json.specs.Reader.{StandsFor, limits_of, refusal_of, offset_of, Answers, Completed, HearsBy, FinishAnswers};
+    ghost use Rattle.gj_json.specs.Feeding.{HearsTwo};
 
     /// A reader of a text under these limits, before its first byte.
     pub fn new(limits: Limits) -> Self
@@ -101,17 +102,34 @@ impl Reader {
         ensures refusal { MatchResult result (λ found. refusal_of self.new ≡ None) (λ fault. refusal_of self.new ≡ Some fault) }
         ensures again { (fault : JsonFault) → refusal_of self.old ≡ Some fault → (self.new ≡ self.old) × (result ≡ Err fault) }
     {
+        let mut told = EventPair::new();
+        match self.take_next(byte, &mut told) {
+            Ok(()) => Ok(told.events),
+            Err(fault) => Err(fault),
+        }
+    }
+
+    /// Takes the next byte, as [`Reader::push`] does, and tells the sink the events that it completes.
+    pub(crate) fn take_next<S: EventSink>(
+        &mut self,
+        byte: u8,
+        sink: &mut S,
+    ) -> Result<(), JsonFault>
+        ensures stands { (bytes : List ℕ) → StandsFor self.old bytes → StandsFor self.new (bytes ++ byte ∷ []) }
+        ensures answer { (bytes : List ℕ) → StandsFor self.old bytes → Answers (limits_of self.old) (bytes ++ byte ∷ []) result }
+        ensures told { (bytes : List ℕ) (events : List Event) → StandsFor self.old bytes → S.heard sink.old events → IfOk result (λ done. HearsTwo (S.heard sink.new) events bytes byte) }
+        ensures limits { limits_of self.new ≡ limits_of self.old }
+        ensures on { offset_of self.old ≤ offset_of self.new }
+        ensures refusal { MatchResult result (λ done. refusal_of self.new ≡ None) (λ fault. refusal_of self.new ≡ Some fault) }
+        ensures again { (fault : JsonFault) → refusal_of self.old ≡ Some fault → (self.new ≡ self.old) × (result ≡ Err fault) }
+    {
         if let Some(fault) = self.fault {
             return Err(fault);
         }
         if self.offset == self.limits.bytes() {
             return Err(self.refuse(Cause::Length));
         }
-        let mut told = EventPair::new();
-        match self.take_byte(byte, &mut told) {
-            Ok(()) => Ok(told.events),
-            Err(fault) => Err(fault),
-        }
+        self.take_byte(byte, sink)
     }
 
     /// Ends the text. Only now has a number at its end ended, which is the event that is answered.
@@ -128,6 +146,13 @@ impl Reader {
             Some(found) => Ok(found),
             None => Err(self.fault_here(Cause::Truncated)),
         }
+    }
+
+    /// The refusal, once there was one.
+    pub(crate) fn refusal(&self) -> Option<JsonFault>
+        ensures { result ≡ refusal_of self.now }
+    {
+        self.fault
     }
 
     /// How many bytes were taken: the place of the refused one, once there was one.

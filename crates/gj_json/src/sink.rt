@@ -39,3 +39,13 @@ impl EventSink for EventPair {
         }
     }
 }
+
+/// Keeps nothing of what it is told.
+#[derive(Drop)]
+pub struct NoEvents;
+
+impl EventSink for NoEvents {
+    ghost heard = { λ sink events. Unit {0} };
+
+    fn tell(&mut self, _event: Event) {}
+}

@@ -18,6 +18,18 @@ fn located(front: &[u8]) -> Result<Path, JsonFault> {
     Ok(locator.path())
 }
 
+/// The same, where the bytes come in two pieces.
+fn located_in_pieces(first: &[u8], second: &[u8]) -> Result<Path, JsonFault> {
+    let mut locator = Locator::new(Limits::usual());
+    if let Err(fault) = locator.feed(first) {
+        return Err(fault);
+    }
+    match locator.feed(second) {
+        Ok(()) => Ok(locator.path()),
+        Err(fault) => Err(fault),
+    }
+}
+
 fn is_path(path: Path, expected: &[PathStep]) -> bool {
     if path.len() as usize != expected.len() || path.step(path.len()) != None {
         return false;
@@ -38,6 +50,12 @@ fn leads(rt: &impl Abort, front: &[u8], expected: &[PathStep], row: &str) {
     match located(front) {
         Ok(path) => assert!(rt; is_path(path, expected), "{row}"),
         Err(_) => assert!(rt; false, "{row}, refused"),
+    }
+    for cut in 0..front.len() + 1 {
+        assert!(rt;
+            located_in_pieces(&front[..cut], &front[cut..]) == located(front),
+            "{row}, cut at {cut}"
+        );
     }
 }
 
@@ -153,6 +171,31 @@ fn refused_bytes_change_nothing(rt: HostRuntime) {
     assert!(rt; locator.push(0x28) == Err(fault), "no byte of it");
     assert!(rt; locator.push(b'"') == Err(fault), "the same again");
     assert!(rt; is_path(locator.path(), &[]), "the object is open");
+}
+
+#[test]
+fn refused_pieces(rt: HostRuntime) {
+    let rows: [(&[u8], u64, Cause); 4] = [
+        (b"{\"a\":\"\xE2\x82\x28\"", 8, Cause::Syntax),
+        (b"[1, 2 3]", 6, Cause::Syntax),
+        (b"[\"long enough\", 1234567]", 20, Cause::Length),
+        (b"[[[[[1", 4, Cause::Depth),
+    ];
+    let limits = Limits::new(4, 20).unwrap_or(Limits::usual());
+    for (front, place, cause) in rows {
+        for cut in 0..front.len() + 1 {
+            let fault = JsonFault { place, cause };
+            let mut locator = Locator::new(limits);
+            let first = locator.feed(&front[..cut]);
+            let second = locator.feed(&front[cut..]);
+            let before = locator.path();
+            assert!(rt; first == Ok(()) || first == Err(fault), "the first piece");
+            assert!(rt; second == Err(fault), "both pieces");
+            assert!(rt; locator.feed(b"") == Err(fault), "the same again");
+            assert!(rt; locator.push(b']') == Err(fault), "and by a byte");
+            assert!(rt; locator.path() == before, "and nothing changes");
+        }
+    }
 }
 
 #[test]

@@ -39,7 +39,7 @@ impl Reader {
     }
 
     /// Takes the bytes at the front of the piece that complete nothing and open or close nothing: how many.
-    fn skip_quiet(&mut self, piece: &[u8]) -> usize
+    pub(super) fn skip_quiet(&mut self, piece: &[u8]) -> usize
         requires room { self.old.offset + length piece.now ≤ self.old.limits.bytes }
         requires small { self.old.limits.bytes ≤ 2 ^ 60 }
         ensures within { result ≤ length piece.now }

@@ -1,6 +1,6 @@
 //! What the path to a place needs of a reader.
 
-ghost use Rattle.std.specs.Prelude.{◌≡◌, ◌≤◌, ◌^◌};
+ghost use Rattle.std.specs.Prelude.{◌≡◌, ◌≤◌, ◌+◌, ◌^◌, length, take};
 
 use super::Reader;
 use crate::trail::{Turn, is_value, turn_in};
@@ -8,6 +8,7 @@ use crate::trail::{Turn, is_value, turn_in};
 impl Reader {
     ghost use Rattle.gj_json.specs.Content.{known_in};
     ghost use Rattle.gj_json.specs.Trail.{turn_of, begins};
+    ghost use Rattle.gj_json.specs.Feeding.{Skips};
 
     /// What the next byte does to the levels that are open, where it is taken.
     #[inline(always)]
@@ -18,6 +19,21 @@ impl Reader {
         // The bound on the limits is known once they are read.
         let _most = self.limits.bytes();
         turn_in(self.mode, &self.content, byte)
+    }
+
+    /// Takes the bytes at the front of the piece that complete nothing and open or close nothing, as far as the limit on
+    /// the bytes allows: how many.
+    pub(crate) fn pass_quiet(&mut self, piece: &[u8]) -> usize
+        ensures within { result ≤ length piece.now }
+        ensures room { self.old.offset + result ≤ self.old.limits.bytes }
+        ensures skips { Skips self.old self.new (take result piece.now) }
+    {
+        let room = self.limits.bytes() - self.offset;
+        if piece.len() as u64 <= room {
+            self.skip_quiet(piece)
+        } else {
+            self.skip_quiet(&piece[..room as usize])
+        }
     }
 
     /// Whether a value that is no array and no object begins with the last byte.

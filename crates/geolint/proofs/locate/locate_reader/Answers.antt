@@ -24,8 +24,8 @@ wanted_is count before wanted all part =
       | inr more ↦ let e : wanted ≡ count = all more in record { within = omega arith; short = omega arith; some = λ h. omega arith }
     ]
 
-pub returns-in-Err-push_all-clause-path : goal.returns-in-Err-push_all-clause-path
-returns-in-Err-push_all-clause-path g c =
+pub returns-in-Err-feed-clause-path : goal.returns-in-Err-feed-clause-path
+returns-in-Err-feed-clause-path g c =
     let (read, took, count, stands) = c.loop-count.invariant.read in
     let all : List ℕ = c.read_piece.new.piece in
     let piece : List ℕ = take c.in-Ok.count all in
@@ -35,13 +35,12 @@ returns-in-Err-push_all-clause-path g c =
     let long : length piece ≡ c.in-Ok.count = length-take-le c.in-Ok.count all c.in-Ok.ensures.bound.0 in
     let front : take wanted piece ≡ take wanted all = taken_again wanted c.in-Ok.count all w.within in
     let within_all : wanted ≤ length all = omega (arith, w.within, c.in-Ok.ensures.bound.0) in
-    let some : 0 < length (take wanted all) = (let e = length-take-le wanted all within_all in let f = w.some (omega (arith, c.in-Ok.count-test)) in omega arith) in
-    let answer = rw (c.in-Err-push_all.is) at (c.push_all.ensures.answer read stands some) in
-    path_refused c.args.limits c.args.place _ _ read piece wanted c.in-Err-push_all.field-0 fed
+    let answer = rw (c.in-Err-feed.is) at (c.feed.ensures.answer read stands) in
+    path_refused c.args.limits c.args.place _ _ read piece wanted c.in-Err-feed.field-0 fed
     (omega (arith, w.short, count, c.loop-count.invariant.before)) (omega (arith, long, w.within))
     (λ more.
-    subst (λ (xs : List ℕ). IsRefusal c.args.limits ((read ++ xs) ++ more) c.in-Err-push_all.field-0) (sym front)
-    (subst (λ (l : Allowed). IsRefusal l ((read ++ take wanted all) ++ more) c.in-Err-push_all.field-0) c.loop-count.invariant.limits (answer.1 more)))
+    subst (λ (xs : List ℕ). IsRefusal c.args.limits ((read ++ xs) ++ more) c.in-Err-feed.field-0) (sym front)
+    (subst (λ (l : Allowed). IsRefusal l ((read ++ take wanted all) ++ more) c.in-Err-feed.field-0) c.loop-count.invariant.limits (answer.1 more)))
 
 pub returns-then-place-offset-clause-path : goal.returns-then-place-offset-clause-path
 returns-then-place-offset-clause-path g c =
@@ -55,18 +54,17 @@ returns-then-place-offset-clause-path g c =
     let front : take wanted piece ≡ take wanted all = taken_again wanted c.in-Ok.count all w.within in
     let within_all : wanted ≤ length all = omega (arith, w.within, c.in-Ok.ensures.bound.0) in
     let taken : length (take wanted all) ≡ wanted = length-take-le wanted all within_all in
-    let some : 0 < length (take wanted all) = (let f = w.some (omega (arith, c.in-Ok.count-test)) in omega (arith, taken, f)) in
     let exact : wanted ≡ c.args.place - c.loop-count.offset + 1 = c.wanted-wanted.ensures.some (omega (arith, c.if-place-offset.true, c.loop-count.invariant.before)) in
     let reached : length read + wanted ≡ c.args.place + 1 = omega (arith, exact, count, c.loop-count.invariant.before) in
     let here : length (read ++ take wanted all) ≡ c.args.place + 1 = length-append read (take wanted all) ∙ (ap (λ (n : ℕ). length read + n) taken ∙ reached) in
     let answer = subst (λ (l : Allowed). IsViableWithin l.depth (read ++ take wanted all) × (length (read ++ take wanted all) ≤ l.bytes)) c.loop-count.invariant.limits
-    (rw (c.in-Ok-push_all.is) at (c.push_all.ensures.answer read stands some)) in
-    let taken_all = rw (c.in-Ok-push_all.is) at c.push_all.ensures.stands in
-    let live_all = rw (c.in-Ok-push_all.is) at c.push_all.ensures.open in
+    (rw (c.in-Ok-feed.is) at (c.feed.ensures.answer read stands)) in
+    let taken_all = c.feed.ensures.stands in
+    let live = rw (c.in-Ok-feed.is) at c.feed.ensures.refusal in
     path_found c.args.limits c.args.place _ _ read piece wanted c.path.result fed reached (omega (arith, long, w.within)) (omega (arith, here, answer.1))
     (subst (λ (xs : List ℕ). IsViableWithin c.args.limits.depth (read ++ xs)) (sym front) answer.0)
     (λ text rest h.
-    c.path.ensures.taken (read ++ take wanted all) rest text (taken_all read stands) (live_all c.loop-count.invariant.live)
+    c.path.ensures.taken (read ++ take wanted all) rest text (taken_all read stands) live
     (subst (λ (xs : List ℕ). IsText text ((read ++ xs) ++ rest)) front h)
     ∙ ap (λ (n : ℕ). path_at n text) here)
 
@@ -81,9 +79,8 @@ within g c =
     let all : List ℕ = c.read_piece.new.piece in
     let taken : length (take c.in-Ok.count all) ≡ c.in-Ok.count = length-take-le c.in-Ok.count all c.in-Ok.ensures.bound.0 in
     let long : length (take c.wanted-wanted.result all) ≡ c.in-Ok.count = ap (λ (n : ℕ). length (take n all)) (all_wanted g c) ∙ taken in
-    let some : 0 < length (take c.wanted-wanted.result all) = omega (arith, long, c.in-Ok.count-test) in
     let answer = subst (λ (l : Allowed). IsViableWithin l.depth (read ++ take c.wanted-wanted.result all) × (length (read ++ take c.wanted-wanted.result all) ≤ l.bytes)) c.loop-count.invariant.limits
-    (rw (c.in-Ok-push_all.is) at (c.push_all.ensures.answer read stands some)) in
+    (rw (c.in-Ok-feed.is) at (c.feed.ensures.answer read stands)) in
     let here : length (read ++ take c.wanted-wanted.result all) ≡ length read + length (take c.wanted-wanted.result all) = length-append read (take c.wanted-wanted.result all) in
     omega (arith, here, long, count, answer.1)
 
@@ -99,12 +96,12 @@ loop-count-preserved g c =
     let long : length piece ≡ c.in-Ok.count = length-take-le c.in-Ok.count all c.in-Ok.ensures.bound.0 in
     let total : length (read ++ piece) ≡ c.loop-count.offset + c.in-Ok.count =
     length-append read piece ∙ (ap (λ (n : ℕ). n + length piece) count ∙ ap (λ (n : ℕ). c.loop-count.offset + n) long) in
-    let taken_all = rw (c.in-Ok-push_all.is) at c.push_all.ensures.stands in
-    let live_all = rw (c.in-Ok-push_all.is) at c.push_all.ensures.open in
+    let taken_all = c.feed.ensures.stands in
+    let live = rw (c.in-Ok-feed.is) at c.feed.ensures.refusal in
     record {
-      read = (read ++ piece, fed, total, subst (λ (n : ℕ). StandsFor c.push_all.new.locator (read ++ take n all)) (all_wanted g c) (taken_all read stands));
-      live = live_all c.loop-count.invariant.live;
-      limits = c.push_all.ensures.limits ∙ c.loop-count.invariant.limits;
+      read = (read ++ piece, fed, total, subst (λ (n : ℕ). StandsFor c.feed.new.self (read ++ take n all)) (all_wanted g c) (taken_all read stands));
+      live = live;
+      limits = c.feed.ensures.limits ∙ c.loop-count.invariant.limits;
       before = omega (arith, c.if-place-offset.false);
       within = within g c;
       few = search rules;

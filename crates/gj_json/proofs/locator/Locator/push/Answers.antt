@@ -8,11 +8,11 @@ use Rattle.gj_json.proofs.locator.Locator.push.Goals as goal
 pub returns-in-Ok-clause-stands : goal.returns-in-Ok-clause-stands
 unfolding StandsFor
 returns-in-Ok-clause-stands c = λ bytes h.
-    trail_on c.args.self.now (record { trail = c.follow.new.self; reader = c.feed.new.self }) c.args.byte bytes
-    (was_live c.args.self.now.reader.fault c.feed.result tt (λ fault e. (c.feed.ensures.again fault e).2) c.in-Ok.is)
-    c.in-Ok.ensures.refusal h (c.feed.ensures.stands bytes h.0) (omega (arith, c.next_turn-turn.ensures.small, ap (λ (l : Allowed). l.bytes) c.feed.ensures.limits)) (rw (← c.next_turn-turn.ensures.turn) c.follow.ensures)
+    trail_on c.args.self.now (record { trail = c.follow.new.self; reader = c.take_next.new.self }) c.args.byte bytes
+    (was_live c.args.self.now.reader.fault c.take_next.result tt (λ fault e. (c.take_next.ensures.again fault e).1) c.in-Ok.is)
+    c.in-Ok.ensures.refusal h (c.take_next.ensures.stands bytes h.0) (omega (arith, c.next_turn-turn.ensures.small, ap (λ (l : Allowed). l.bytes) c.take_next.ensures.limits)) (rw (← c.next_turn-turn.ensures.turn) c.follow.ensures)
 
 pub returns-in-Err-clause-stands : goal.returns-in-Err-clause-stands
 unfolding StandsFor
 returns-in-Err-clause-stands c = λ bytes h.
-    trail_kept c.args.self.now (record { trail = c.args.self.now.trail; reader = c.feed.new.self }) c.args.byte bytes c.in-Err.fault c.in-Err.ensures.refusal c.feed.ensures.on (λ first e. (c.feed.ensures.again first e).0) h (c.feed.ensures.stands bytes h.0) refl
+    trail_kept c.args.self.now (record { trail = c.args.self.now.trail; reader = c.take_next.new.self }) c.args.byte bytes c.in-Err.fault c.in-Err.ensures.refusal c.take_next.ensures.on (λ first e. (c.take_next.ensures.again first e).0) h (c.take_next.ensures.stands bytes h.0) refl
