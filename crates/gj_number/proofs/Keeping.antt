@@ -11,7 +11,7 @@ use Rattle.gj_number.proofs.Far.{ends_here, thirty, zero_more, far_natural, far_
 -- ---- a digit that is no zero
 
 -- the least number of so many digits and pending
-at_least : (kept count pending : ℕ) → 10 ^ count ≤ 10 * kept → 10 ^ (count + pending) ≤ 10 * (kept * 10 ^ pending)
+pub at_least : (kept count pending : ℕ) → 10 ^ count ≤ 10 * kept → 10 ^ (count + pending) ≤ 10 * (kept * 10 ^ pending)
 at_least kept count pending h = let g = mul-le-mul_right (10 ^ pending) h in rw (pow-add 10 count pending) (omega arith)
 
 at_most : (kept count pending digit : ℕ) → kept < 10 ^ count → digit < 10 ^ pending → kept * 10 ^ pending + digit < 10 ^ (count + pending)

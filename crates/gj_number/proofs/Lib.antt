@@ -11,6 +11,7 @@ pub mod Same
 pub mod Held
 pub mod Moves
 pub mod Standing
+pub mod Fronts
 pub mod Pieces
 pub mod Far
 pub mod Keeping

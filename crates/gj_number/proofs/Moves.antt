@@ -67,3 +67,15 @@ stays_before_next _ _ = refl
 pub before_fraction_from : (s n : State) (c : Class) → next_of s c ≡ Some n → is_before_fraction n ≡ true → is_before_fraction s ≡ true
 before_fraction_from s n c e t =
     let d : (not (is_before_fraction n) || is_before_fraction s) ≡ true = rw e at (stays_before_next s c) in rw t at d
+
+-- no state follows on a byte that no number has
+pub other_ends : (s : State) → next_of s Other ≡ None
+other_ends Start = refl
+other_ends AfterMinus = refl
+other_ends AfterZero = refl
+other_ends InNatural = refl
+other_ends AfterPoint = refl
+other_ends InFraction = refl
+other_ends AfterLetter = refl
+other_ends AfterSign = refl
+other_ends InExponent = refl

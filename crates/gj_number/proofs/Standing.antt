@@ -1,5 +1,5 @@
 -- What the bytes that a literal stands for say of it.
-use Rattle.std.proofs.Common.{◌≡◌, ℕ, ◌+◌, ◌<◌, ◌^◌, true, ◌↔◌, Some, None, List, [], ◌∷◌, ◌++◌, length, refl, sym, subst}
+use Rattle.std.proofs.Common.{◌≡◌, ℕ, ◌+◌, ◌<◌, ◌^◌, true, ◌↔◌, Some, None, List, [], ◌∷◌, ◌++◌, length, refl, sym, subst, arith}
 use Rattle.gj_number.specs.Grammar.{IsNumber, BeginsNumber}
 use Rattle.gj_number.specs.Exact.{signed}
 use Rattle.gj_number.specs.Value.{Parts, Spells, with_digit, held_value, value_of}
@@ -11,8 +11,10 @@ use Rattle.gj_number.proofs.Spelled.{parts_of}
 use Rattle.gj_number.proofs.Forward.{parts_reach, Says, at, natural_run, fraction_run}
 use Rattle.std.specs.List.{All, fold}
 use Rattle.std.proofs.lemmas.List.Elements.{recursion_from_All}
-use Rattle.gj_number.specs.Bytes.{IsDigit}
-use Rattle.gj_number.specs.declared.state.State.TheVariants.{InNatural, InFraction}
+use Rattle.gj_number.specs.Bytes.{decimal_point, IsDigit}
+use Rattle.gj_number.specs.declared.state.State.TheVariants.{InNatural, AfterPoint, InFraction}
+use Rattle.gj_number.specs.declared.state.Class.TheVariants.{Point}
+use Rattle.gj_number.proofs.Classes.{class_is, digit_goes}
 use Rattle.gj_number.proofs.Splitting.{value_is, parts_digits}
 use Rattle.gj_number.proofs.Normal.{number_bounded}
 
@@ -83,3 +85,20 @@ pub fraction_on : (t : Scan) (digits : List ℕ) → t.state ≡ InFraction → 
 fraction_on t digits e h =
     let P : State → Type 0 = λ s. Reaches (at s t.negative t.whole t.fraction t.exponent_negative t.exponent) digits (at s t.negative (fold with_digit t.whole digits) (t.fraction + length digits) t.exponent_negative t.exponent) in
     subst P (sym e) (fraction_run t.negative t.whole t.fraction (t.fraction + length digits) t.exponent_negative t.exponent digits refl (recursion_from_All IsDigit digits h))
+
+-- the scan behind the first digits behind the point
+pub behind_point : (t : Scan) (digits : List ℕ) → t.state ≡ AfterPoint → 0 < length digits → All IsDigit digits
+    → Reaches t digits (record t { state = InFraction; whole = fold with_digit t.whole digits; fraction = t.fraction + length digits })
+behind_point t [] e some h = absurd (omega arith)
+behind_point t (b ∷ digits) e some h =
+    let all = recursion_from_All IsDigit (b ∷ digits) h in (
+      InFraction,
+      rw e (digit_goes AfterPoint InFraction b refl refl all.0),
+      fraction_run t.negative (with_digit t.whole b) (t.fraction + 1) (t.fraction + length (b ∷ digits)) t.exponent_negative t.exponent digits (omega arith) all.1,
+    )
+
+-- and with the point before them
+pub point_on : (t : Scan) (digits : List ℕ) → t.state ≡ InNatural → 0 < length digits → All IsDigit digits
+    → Reaches t (decimal_point ∷ digits) (record t { state = InFraction; whole = fold with_digit t.whole digits; fraction = t.fraction + length digits })
+point_on t digits e some h =
+    (AfterPoint, rw (e, class_is Point decimal_point refl (λ n. cc)) refl, behind_point (record t { state = AfterPoint }) digits refl some h)

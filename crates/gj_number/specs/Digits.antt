@@ -1,5 +1,5 @@
 -- Internal to this crate: what the kept digits say of a number.
-use Rattle.std.specs.Prelude.{ℕ, ◌+◌, ◌-◌, ◌<◌}
+use Rattle.std.specs.Prelude.{◌≡◌, ℕ, ◌+◌, ◌*◌, ◌^◌, ◌<◌, ◌≤◌}
 use Rattle.gj_number.specs.declared.digits.Digits.{Digits}
 use Rattle.gj_number.specs.declared.run.Run.{Run}
 use Rattle.gj_number.specs.Kept.{kept_number, HasDigits, IsKept, AddsOne}
@@ -15,13 +15,9 @@ Keeps d whole fraction = IsKept (kept_of d) d.count d.pending d.places whole fra
 abbrev pub AddsDigit : Digits → Digits → ℕ → Type 0
 AddsDigit old new digit = AddsOne (kept_of old) old.count old.pending digit (kept_of new) new.count new.pending
 
--- how many zeros stand behind a run's last digit that is none
-abbrev pub pending_of : Run → ℕ
-pending_of run = run.total - run.count
-
--- a run's digits are those of this number
+-- a run's digits are those of this number, and the first is no zero
 abbrev pub RunKeeps : Run → ℕ → Type 0
-RunKeeps run whole = HasDigits run.head run.count (pending_of run) 0 whole 0
+RunKeeps run whole = (whole ≡ run.all) × (10 ^ run.total ≤ 10 * run.all)
 
 -- the same of the digits alone
 abbrev pub KeepsAll : Digits → ℕ → Type 0

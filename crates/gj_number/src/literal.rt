@@ -10,7 +10,7 @@ mod tests;
 use crate::decimal::Decimal;
 use crate::digits::Digits;
 use crate::exponent::Exponent;
-use crate::state::{Class, State};
+use crate::state::{Class, State, may_stand};
 use std::mem::size_of;
 
 /// What became of a byte.
@@ -129,18 +129,62 @@ impl Literal {
         ensures begins { (bytes : List ℕ) → StandsFor self.new bytes → BeginsNumber bytes }
         ensures all { (bytes : List ℕ) → StandsFor self.old bytes → result < length piece.now → BeginsNumber (bytes ++ take (result + 1) piece.now) → ⊥ }
     {
-        let mut at = 0;
-        while at < piece.len() {
-            at += self.push_digits(&piece[at..]);
-            if at == piece.len() {
-                break;
-            }
+        let first = self.push_first(piece);
+        let mut at = first + self.push_plain(&piece[first..]);
+        while at < piece.len() && may_stand(piece[at]) {
             match self.push(piece[at]) {
                 Step::Goes => at += 1,
                 Step::Ends => return at,
             }
+            at += self.push_digits(&piece[at..]);
         }
         at
+    }
+
+    /// Takes the first digit of a number, if it stands at the front of the piece, and answers how many.
+    #[inline]
+    fn push_first(&mut self, piece: &[u8]) -> usize
+        ensures length { result ≤ length piece.now }
+        ensures stands { (bytes : List ℕ) → StandsFor self.old bytes → StandsFor self.new (bytes ++ take result piece.now) }
+    {
+        match self.state {
+            State::Start | State::AfterMinus if !piece.is_empty() => match Class::of(piece[0]) {
+                Class::Zero => {
+                    self.take(State::AfterZero, piece[0]);
+                    1
+                }
+                Class::NonZero => {
+                    self.take(State::InNatural, piece[0]);
+                    1
+                }
+                _ => 0,
+            },
+            _ => 0,
+        }
+    }
+
+    /// Takes digits at the front of the piece, and a point and the digits behind it where they follow, and
+    /// answers how many bytes.
+    #[inline]
+    fn push_plain(&mut self, piece: &[u8]) -> usize
+        ensures length { result ≤ length piece.now }
+        ensures stands { (bytes : List ℕ) → StandsFor self.old bytes → StandsFor self.new (bytes ++ take result piece.now) }
+    {
+        match self.state {
+            State::InNatural => {
+                let plain = self.digits.push_plain_run(piece);
+                if plain.behind == 0 {
+                    return plain.before;
+                }
+                self.state = State::InFraction;
+                plain.before + 1 + plain.behind
+            }
+            State::AfterZero if !piece.is_empty() && piece[0] == b'.' => {
+                self.state = State::AfterPoint;
+                1 + self.push_run(&piece[1..])
+            }
+            _ => 0,
+        }
     }
 
     /// Takes some of the digits at the front of the piece, and answers how many.
@@ -152,6 +196,14 @@ impl Literal {
     {
         match self.state {
             State::InNatural => self.digits.push_natural_run(piece),
+            State::AfterPoint => {
+                let taken = self.digits.push_fraction_run(piece);
+                if taken == 0 {
+                    return 0;
+                }
+                self.state = State::InFraction;
+                taken
+            }
             State::InFraction => self.digits.push_fraction_run(piece),
             _ => 0,
         }

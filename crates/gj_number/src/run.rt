@@ -1,6 +1,6 @@
 //! Runs of digits, for which there is room in a `u64`.
-ghost use Rattle.std.specs.Prelude.{◌≡◌, ℕ, ◌+◌, ◌-◌, ◌*◌, ◌%◌, ◌^◌, ◌<◌, ◌≤◌, length, take, All, fold};
-ghost use Rattle.gj_number.specs.Bytes.{IsDigit};
+ghost use Rattle.std.specs.Prelude.{◌≡◌, ℕ, ◌+◌, ◌*◌, ◌%◌, ◌^◌, ◌<◌, ◌≤◌, length, take, drop, slice_index, All, fold};
+ghost use Rattle.gj_number.specs.Bytes.{IsDigit, decimal_point};
 ghost use Rattle.gj_number.specs.Value.{with_digit};
 
 use crate::tens::ten_to;
@@ -8,58 +8,59 @@ use crate::tens::ten_to;
 /// How many digits a `u64` has room for.
 pub(crate) const HEAD_DIGITS: u8 = 19;
 
-/// The digits of a number, while there are at most [`HEAD_DIGITS`] of them.
+/// The digits of a number that is not zero, while there are at most [`HEAD_DIGITS`] of them.
 #[derive(Clone, Copy)]
 pub(crate) struct Run {
-    /// All digits so far.
     all: u64,
     /// How many they are.
     total: u8,
+    ghost some: { 0 < all },
+    ghost room: { total ≤ 19 },
+    ghost bounded: { all < 10 ^ total },
+}
+
+/// A run without the zeros at its end.
+#[derive(Clone, Copy)]
+pub(crate) struct Stripped {
     /// The digits up to the last that is no zero.
     pub(crate) head: u64,
     /// How many these are.
     pub(crate) count: u8,
-    ghost some: { 0 < count },
-    ghost within: { count ≤ total },
-    ghost room: { total ≤ 19 },
-    ghost all_bounded: { all < 10 ^ total },
-    ghost head_bounded: { head < 10 ^ count },
-    ghost stripped: { 0 < head % 10 },
-    ghost all_is: { all ≡ head * 10 ^ (total - count) },
+    /// How many zeros stand behind them.
+    pub(crate) zeros: u8,
+}
+
+/// How many zeros stand at the front of the piece.
+#[inline]
+pub(crate) fn zeros_in_front(piece: &[u8]) -> usize
+    ensures length { result ≤ length piece.now }
+    ensures digits { All IsDigit (take result piece.now) }
+    ensures zeros { fold with_digit 0 (take result piece.now) ≡ 0 }
+{
+    for (zeros, byte) in piece.iter().enumerate() {
+        if *byte != b'0' {
+            return zeros;
+        }
+    }
+    piece.len()
 }
 
 impl Run {
-    ghost use Rattle.gj_number.specs.Digits.{RunKeeps, pending_of};
+    ghost use Rattle.gj_number.specs.Digits.{RunKeeps};
 
     /// The run that begins with this many digits and zeros behind them.
     #[inline]
-    pub(crate) fn new(head: u64, count: u8, pending: u8) -> Run
-        requires some { 0 < count }
-        requires room { count + pending ≤ 19 }
+    pub(crate) fn new(head: u64, count: u8, zeros: u8) -> Run
+        requires some { 0 < head }
+        requires room { count + zeros ≤ 19 }
         requires bounded { head < 10 ^ count }
-        requires stripped { 0 < head % 10 }
-        ensures head { result.head ≡ head }
-        ensures count { result.count ≡ count }
-        ensures pending { pending_of result ≡ pending }
+        ensures all { result.all ≡ head * 10 ^ zeros }
+        ensures total { result.total ≡ count + zeros }
     {
         Run {
-            all: head * ten_to(pending as usize),
-            total: count + pending,
-            head,
-            count,
+            all: head * ten_to(zeros as usize),
+            total: count + zeros,
         }
-    }
-
-    /// How many zeros stand behind the last digit that is none.
-    #[inline]
-    pub(crate) fn pending(&self) -> u8
-        ensures pending { result ≡ pending_of self.now }
-        ensures room { self.now.count + result ≤ 19 }
-        ensures bounded { self.now.head < 10 ^ self.now.count }
-        ensures some { 0 < self.now.count }
-        ensures stripped { 0 < self.now.head % 10 }
-    {
-        self.total - self.count
     }
 
     /// Takes the digits at the front of the piece, as far as there is room, and answers how many.
@@ -70,16 +71,34 @@ impl Run {
         ensures few { result ≤ 19 }
         ensures keeps { (whole : ℕ) → RunKeeps self.old whole → RunKeeps self.new (fold with_digit whole (take result piece.now)) }
     {
+        let room = (HEAD_DIGITS - self.total) as usize;
+        let front = &piece[..piece.len().min(room)];
         let mut run = *self;
-        for (taken, byte) in piece.iter().enumerate() {
-            if !byte.is_ascii_digit() || run.total == HEAD_DIGITS {
+        for (taken, byte) in front.iter().enumerate() {
+            if !byte.is_ascii_digit() {
                 *self = run;
                 return taken;
             }
             run.push(*byte - b'0');
         }
         *self = run;
-        piece.len()
+        front.len()
+    }
+
+    /// Takes a point at the front of the piece and the digits behind it, as far as there is room, and
+    /// answers how many digits. With no digit the point stays too.
+    #[inline]
+    pub(crate) fn take_fraction(&mut self, piece: &[u8]) -> usize
+        ensures point { 0 < result → slice_index piece.now 0 ≡ decimal_point }
+        ensures length { 0 < result → result + 1 ≤ length piece.now }
+        ensures digits { All IsDigit (take result (drop 1 piece.now)) }
+        ensures few { result ≤ 19 }
+        ensures keeps { (whole : ℕ) → RunKeeps self.old whole → RunKeeps self.new (fold with_digit whole (take result (drop 1 piece.now))) }
+    {
+        if piece.is_empty() || piece[0] != b'.' {
+            return 0;
+        }
+        self.take(&piece[1..])
     }
 
     #[inline]
@@ -89,18 +108,30 @@ impl Run {
         ensures total { self.new.total ≡ self.old.total + 1 }
         ensures keeps { (whole : ℕ) → RunKeeps self.old whole → RunKeeps self.new (whole * 10 + digit) }
     {
-        let all = self.all * 10 + digit as u64;
-        let total = self.total + 1;
-        if digit == 0 {
-            self.all = all;
-            self.total = total;
-        } else {
-            *self = Run {
-                all,
-                total,
-                head: all,
-                count: total,
-            };
+        *self = Run {
+            all: self.all * 10 + digit as u64,
+            total: self.total + 1,
+        };
+    }
+
+    /// The same digits, the zeros at the end apart.
+    #[inline]
+    pub(crate) fn stripped(&self) -> Stripped
+        ensures all { self.now.all ≡ result.head * 10 ^ result.zeros }
+        ensures total { self.now.total ≡ result.count + result.zeros }
+        ensures last { 0 < result.head % 10 }
+        ensures bounded { result.head < 10 ^ result.count }
+    {
+        let mut head = self.all;
+        let mut zeros = 0;
+        while head % 10 == 0 {
+            head /= 10;
+            zeros += 1;
+        }
+        Stripped {
+            head,
+            count: self.total - zeros,
+            zeros,
         }
     }
 }

@@ -1,7 +1,8 @@
 //! Where in a number its next byte stands.
-ghost use Rattle.std.specs.Prelude.{◌≡◌};
+ghost use Rattle.std.specs.Prelude.{◌≡◌, IsFalse};
 ghost use Rattle.gj_number.specs.Bytes.{IsDigit};
 ghost use Rattle.gj_number.specs.Machine.{class_of, next_of, may_end_in};
+ghost use Rattle.gj_number.specs.declared.state.Class.TheVariants.{Other};
 
 /// The bytes that the grammar of a number (RFC 8259, section 6) tells apart.
 #[derive(Clone, Copy)]
@@ -45,6 +46,14 @@ impl Class {
             Class::NonZero
         }
     }
+}
+
+/// Whether some number has this byte.
+#[inline]
+pub(crate) fn may_stand(byte: u8) -> bool
+    ensures { IsFalse result → class_of byte ≡ Other }
+{
+    !matches!(Class::of(byte), Class::Other)
 }
 
 /// What has been read of a number.

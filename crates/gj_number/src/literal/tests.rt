@@ -1,5 +1,5 @@
 //! What no clause says: that the definitions mean what the tables of decimals say.
-ghost use Rattle.std.specs.Prelude.{ℕ, List};
+ghost use Rattle.std.specs.Prelude.{ℕ, ◌≤◌, List, length};
 ghost use Rattle.gj_number.specs.Literal.{StandsFor};
 
 use super::{Literal, Step};
@@ -42,6 +42,7 @@ fn push_runs(literal: &mut Literal, text: &[u8])
 enum Way {
     ByBytes,
     ByRuns,
+    ByPieces,
 }
 
 /// Gives a text so many times.
@@ -52,6 +53,9 @@ fn push_piece(literal: &mut Literal, way: Way, text: &str, times: u32)
         match way {
             Way::ByBytes => push_text(literal, text.as_bytes()),
             Way::ByRuns => push_runs(literal, text.as_bytes()),
+            Way::ByPieces => {
+                let _ = literal.push_piece(text.as_bytes());
+            }
         }
     }
 }
@@ -75,12 +79,14 @@ fn value(rt: &impl Abort, literal: Literal, name: &str) -> Option<Decimal>
     literal.value()
 }
 
-/// Tests the value of these bytes, in both ways of reading.
+/// Tests the value of these bytes, in each way of reading.
 fn expect(rt: &impl Abort, pieces: &[Piece], name: &str, want: Option<Parts>) -> Option<Decimal> {
     let found = value(rt, read(Way::ByBytes, pieces), name);
     assert_eq!(rt; found.map(|decimal| decimal.parts()), want, "{name}");
     let by_runs = value(rt, read(Way::ByRuns, pieces), name);
     assert!(rt; by_runs == found, "{name}, by runs of digits");
+    let by_pieces = value(rt, read(Way::ByPieces, pieces), name);
+    assert!(rt; by_pieces == found, "{name}, by pieces");
     found
 }
 
@@ -170,7 +176,7 @@ fn beyond_the_limits(rt: HostRuntime) {
 fn many_zeros(rt: HostRuntime) {
     let one = Some((false, 1, 0));
     let zero = Some((false, 0, 0));
-    let rows: [(&str, &[Piece], Option<Parts>); 11] = [
+    let rows: [(&str, &[Piece], Option<Parts>); 15] = [
         (
             "1 and 30 zeros",
             &[("1", 1), ("0", 30)],
@@ -195,6 +201,26 @@ fn many_zeros(rt: HostRuntime) {
             "0., 1,200 zeros, 1e1000",
             &[("0.", 1), ("0", 1200), ("1e1000", 1)],
             Some((false, 1, -201)),
+        ),
+        (
+            "0., 1,380 zeros, 1e1000",
+            &[("0.", 1), ("0", 1379), ("01e1000", 1)],
+            Some((false, 1, -381)),
+        ),
+        (
+            "0., 1,381 zeros, 1e1000",
+            &[("0.", 1), ("0", 1380), ("01e1000", 1)],
+            Some((false, 1, -382)),
+        ),
+        (
+            "0., 1,399 zeros, 1e1000",
+            &[("0.", 1), ("0", 1398), ("01e1000", 1)],
+            Some((false, 1, -400)),
+        ),
+        (
+            "0., 1,400 zeros, 1e1000",
+            &[("0.", 1), ("0", 1399), ("01e1000", 1)],
+            None,
         ),
         (
             "1. and a million zeros",
@@ -303,4 +329,126 @@ fn takes_runs_of_digits(rt: HostRuntime) {
             "{piece} behind {before}"
         );
     }
+}
+
+/// Gives a text to `push_piece` in two pieces, and answers how many bytes are taken.
+fn push_halves(literal: &mut Literal, text: &[u8], cut: usize) -> usize
+    requires { cut ≤ length text.now }
+{
+    let taken = literal.push_piece(&text[..cut]);
+    if taken < cut {
+        return taken;
+    }
+    cut + literal.push_piece(&text[cut..])
+}
+
+/// Gives a text to `push_piece` byte by byte, and answers how many are taken.
+fn push_singly(literal: &mut Literal, text: &[u8]) -> usize {
+    for (at, byte) in text.iter().enumerate() {
+        if literal.push_piece(&[*byte]) == 0 {
+            return at;
+        }
+    }
+    text.len()
+}
+
+/// Tests what a literal took of a text, and its value where that is a number.
+fn expect_taken(
+    rt: &impl Abort,
+    literal: Literal,
+    text: &str,
+    taken: usize,
+    want: (usize, Option<Parts>),
+) {
+    assert_eq!(rt; taken, want.0, "bytes taken of {text}");
+    assert_eq!(rt; literal.may_end(), want.1.is_some(), "{text} may end");
+    if literal.may_end() {
+        let found = literal.value().map(|decimal| decimal.parts());
+        assert_eq!(rt; found, want.1, "value of {text}");
+    }
+}
+
+#[test]
+fn takes_pieces_cut_anywhere(rt: HostRuntime) {
+    // A text, how many of its bytes are taken, and their value where they are a number.
+    for (text, taken, parts) in [
+        ("7,", 1, Some((false, 7, 0))),
+        ("0.5,", 3, Some((false, 5, -1))),
+        ("10.50]", 5, Some((false, 105, -1))),
+        ("17.1036482,", 10, Some((false, 171_036_482, -7))),
+        ("-122.41941550}", 13, Some((true, 1_224_194_155, -7))),
+        ("-0.1278 ", 7, Some((true, 1278, -4))),
+        ("0.000450", 8, Some((false, 45, -5))),
+        ("0.000", 5, Some((false, 0, 0))),
+        ("5.000", 5, Some((false, 5, 0))),
+        ("5.0001", 6, Some((false, 50_001, -4))),
+        ("3000,", 4, Some((false, 3, 3))),
+        ("1.5e3,", 5, Some((false, 15, 2))),
+        ("20.5E-1", 7, Some((false, 205, -2))),
+        ("1.", 2, None),
+        ("0.", 2, None),
+        ("-", 1, None),
+        ("-,", 1, None),
+        ("1.e5", 2, None),
+        ("0.e5", 2, None),
+        ("1..5", 2, None),
+        ("1.5.5", 3, Some((false, 15, -1))),
+        ("1.5-", 3, Some((false, 15, -1))),
+        ("01.5", 1, Some((false, 0, 0))),
+        (".5", 0, None),
+        (
+            "123456789.0123456789,",
+            20,
+            Some((false, 1_234_567_890_123_456_789, -10)),
+        ),
+        (
+            "123456789.01234567890,",
+            21,
+            Some((false, 1_234_567_890_123_456_789, -10)),
+        ),
+        (
+            "123456789.01234567891,",
+            21,
+            Some((false, 12_345_678_901_234_567_891, -11)),
+        ),
+        (
+            "1234567890123456789.5",
+            21,
+            Some((false, 12_345_678_901_234_567_895, -1)),
+        ),
+        (
+            "12345678901234567890.5",
+            22,
+            Some((false, 123_456_789_012_345_678_905, -1)),
+        ),
+        ("9999999999999999999.", 20, None),
+        (
+            "0.0099999999999999999999",
+            24,
+            Some((false, 99_999_999_999_999_999_999, -22)),
+        ),
+    ] {
+        let bytes = text.as_bytes();
+        for cut in 0..=bytes.len() {
+            let mut literal = Literal::new();
+            let found = push_halves(&mut literal, bytes, cut);
+            expect_taken(&rt, literal, text, found, (taken, parts));
+        }
+        let mut literal = Literal::new();
+        let found = push_singly(&mut literal, bytes);
+        expect_taken(&rt, literal, text, found, (taken, parts));
+    }
+}
+
+#[test]
+fn takes_a_piece_of_zeros(rt: HostRuntime) {
+    let mut literal = Literal::new();
+    assert_eq!(rt; literal.push_piece(b"0."), 2, "0.");
+    assert_eq!(rt; literal.push_piece(&[b'0'; 3000]), 3000, "3,000 zeros");
+    assert!(rt;
+        literal.value() == Some(Decimal::zero()),
+        "0. and 3,000 zeros are zero"
+    );
+    assert_eq!(rt; literal.push_piece(b"1,"), 1, "a last 1");
+    assert!(rt; literal.value().is_none(), "0., 3,000 zeros, 1");
 }

@@ -1,0 +1,10 @@
+use Rattle.std.proofs.Common.{ℕ, List, take, fold, subst}
+use Rattle.gj_number.specs.Digits.{RunKeeps}
+use Rattle.gj_number.specs.Value.{with_digit}
+use Rattle.gj_number.proofs.Fronts.{rest_is}
+use Rattle.gj_number.proofs.run.Run.take_fraction.Goals as goal
+
+pub returns-clause-keeps : goal.returns-clause-keeps
+returns-clause-keeps c whole old =
+    let P : List ℕ → Type 0 = λ xs. RunKeeps c.take.new.self (fold with_digit whole (take c.take.result xs)) in
+    subst P (rest_is c.args.piece.now 1) (c.take.ensures.keeps whole old)
