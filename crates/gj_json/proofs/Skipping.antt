@@ -1,5 +1,5 @@
 -- Bytes that complete nothing, from reader to reader.
-use Rattle.std.proofs.Common.{◌≡◌, ℕ, ◌+◌, ◌-◌, ◌<◌, false, List, ◌++◌, length, take, drop, get_or, None, sym, ap, subst, ◌∙◌, arith, append_assoc}
+use Rattle.std.proofs.Common.{◌≡◌, ℕ, ◌+◌, ◌-◌, ◌<◌, false, List, [], ◌++◌, length, take, drop, get_or, None, refl, sym, ap, subst, ◌∙◌, arith, append_assoc}
 use Rattle.std.specs.List.{AllByRecursion}
 use Rattle.gj_json.specs.declared.content.Content.{Content}
 use Rattle.gj_json.specs.declared.mode.Mode.{Mode}
@@ -13,6 +13,9 @@ use Rattle.gj_json.specs.Told.{in_number, text_state}
 use Rattle.gj_json.proofs.Alike.{Alike}
 use Rattle.gj_json.proofs.QuietLemmas.{reads_more, reads_byte}
 use Rattle.gj_json.proofs.Slices.{rest_of}
+
+pub nothing_skipped : (reader : Reader) → in_number reader.mode ≡ false → text_state reader.mode ≡ None → Skips reader reader []
+nothing_skipped reader e f = record { limits = refl; fault = refl; levels = refl; start = refl; offset = omega arith; by = leading refl e f }
 
 pub leads_skips : (old new : Reader) (given : List ℕ) (count : ℕ) (mode : Mode) → length given ≡ count → Passed count mode old new → Leads old.mode given mode → in_number mode ≡ false → text_state mode ≡ None → Skips old new given
 leads_skips old new given count mode n p l e f =

@@ -16,7 +16,8 @@ fn is_plain(byte: u8) -> bool
     b' ' <= byte && byte <= 0x7F && byte != b'"' && byte != b'\\'
 }
 
-fn is_white(byte: u8) -> bool
+#[inline(always)]
+pub fn is_white(byte: u8) -> bool
     ensures { result ≡ is_white byte }
 {
     byte == b' ' || byte == b'\t' || byte == b'\n' || byte == b'\r'

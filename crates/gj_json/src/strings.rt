@@ -94,6 +94,7 @@ fn tail(more: u8, value: u32) -> StringMove
     }
 }
 
+#[inline(always)]
 #[tactic(auto, unfolding(crate::specs::Machine::plain_step))]
 fn next_plain(byte: u8) -> StringMove
     ensures value { result ≡ string_move (plain_step byte) }
@@ -111,7 +112,7 @@ fn next_plain(byte: u8) -> StringMove
 }
 
 /// What a byte does to a string under way.
-#[inline]
+#[inline(always)]
 pub fn next_string(state: StringState, byte: u8) -> StringMove
     requires { IsStringState state }
     ensures value { result ≡ string_move (string_next state byte) }

@@ -55,7 +55,7 @@ impl Literal {
     }
 
     /// Takes a byte, if some number goes on so.
-    #[inline]
+    #[inline(always)]
     pub fn push(&mut self, byte: u8) -> Step
         ensures stands { (bytes : List ℕ) → StandsFor self.old bytes → result ≡ Step.Goes → StandsFor self.new (bytes ++ byte ∷ []) }
         ensures begins { (bytes : List ℕ) → StandsFor self.old bytes → result ≡ Step.Goes → BeginsNumber (bytes ++ byte ∷ []) }
@@ -84,7 +84,7 @@ impl Literal {
     }
 
     /// Takes a byte that leads to this state.
-    #[inline]
+    #[inline(always)]
     fn take(&mut self, state: State, byte: u8)
         requires { next_of self.old.state (class_of byte) ≡ Some state }
         ensures { (scan : Scan) → KeepsScan self.old scan → KeepsScan self.new (taken state byte scan) }

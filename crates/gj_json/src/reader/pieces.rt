@@ -7,7 +7,7 @@ ghost use Rattle.gj_json.specs.declared.mode.Mode.TheVariants.{NumberOn};
 use super::Reader;
 use crate::fault::JsonFault;
 use crate::mode::Mode;
-use crate::runs::{quiet_run, string_run};
+use crate::runs::{is_white, quiet_run, string_run};
 use crate::sink::EventSink;
 
 impl Reader {
@@ -59,6 +59,27 @@ impl Reader {
         }
     }
 
+    /// The same, told at once where the first byte is none of them.
+    #[inline(always)]
+    pub(super) fn skip_front(&mut self, piece: &[u8]) -> usize
+        requires some { 0 < length piece.now }
+        requires room { self.old.offset + length piece.now ≤ self.old.limits.bytes }
+        requires small { self.old.limits.bytes ≤ 2 ^ 60 }
+        ensures within { result ≤ length piece.now }
+        ensures skips { Skips self.old self.new (take result piece.now) }
+    {
+        match self.mode {
+            Mode::StringOn(_) | Mode::NameOn(_) | Mode::NumberOn => self.skip_quiet(piece),
+            _ => {
+                if is_white(piece[0]) {
+                    self.skip_quiet(piece)
+                } else {
+                    0
+                }
+            }
+        }
+    }
+
     /// Takes bytes from the front of the piece, one at least: how many.
     fn take_some<S: EventSink>(&mut self, piece: &[u8], sink: &mut S) -> Result<usize, JsonFault>
         requires live { self.old.fault ≡ None }
@@ -68,7 +89,7 @@ impl Reader {
         ensures within { IfOk result (λ n. (0 < n) × (n ≤ length piece.now)) }
         ensures feeds { MatchResult result (λ n. FeedsAll (S.heard sink.old) (S.heard sink.new) self.old self.new (take n piece.now)) (FeedsTo (S.heard sink.old) (S.heard sink.new) self.old self.new piece.now) }
     {
-        let quiet = self.skip_quiet(piece);
+        let quiet = self.skip_front(piece);
         if quiet == piece.len() {
             return Ok(quiet);
         }

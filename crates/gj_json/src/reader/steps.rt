@@ -172,6 +172,7 @@ impl Reader {
 
     /// Takes a byte while a string or a name is under way: how far its character under way has come, and the mode between
     /// two of its characters.
+    #[inline(always)]
     fn take_in_text<S: EventSink>(
         &mut self,
         state: StringState,
@@ -248,6 +249,8 @@ impl Reader {
             Mode::ValueDue => self.take_between(Mode::ValueDue, byte, sink),
             Mode::ValueDone => self.take_between(Mode::ValueDone, byte, sink),
             Mode::ArrayOpened => self.take_between(Mode::ArrayOpened, byte, sink),
+            Mode::NameDue => self.take_between(Mode::NameDue, byte, sink),
+            Mode::ColonDue => self.take_between(Mode::ColonDue, byte, sink),
             mode => self.take_between(mode, byte, sink),
         }
     }

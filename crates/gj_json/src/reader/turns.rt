@@ -1,6 +1,6 @@
 //! What the path to a place needs of a reader.
 
-ghost use Rattle.std.specs.Prelude.{◌≡◌, ◌≤◌, ◌+◌, ◌^◌, length, take};
+ghost use Rattle.std.specs.Prelude.{◌≡◌, ◌≤◌, ◌<◌, ◌+◌, ◌^◌, length, take};
 
 use super::Reader;
 use crate::trail::{Turn, is_value, turn_in};
@@ -24,13 +24,14 @@ impl Reader {
     /// Takes the bytes at the front of the piece that complete nothing and open or close nothing, as far as the limit on
     /// the bytes allows: how many.
     pub(crate) fn pass_quiet(&mut self, piece: &[u8]) -> usize
+        requires { 0 < length piece.now }
         ensures within { result ≤ length piece.now }
         ensures room { self.old.offset + result ≤ self.old.limits.bytes }
         ensures skips { Skips self.old self.new (take result piece.now) }
     {
         let room = self.limits.bytes() - self.offset;
         if piece.len() as u64 <= room {
-            self.skip_quiet(piece)
+            self.skip_front(piece)
         } else {
             self.skip_quiet(&piece[..room as usize])
         }
