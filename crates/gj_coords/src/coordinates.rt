@@ -45,7 +45,15 @@ impl Coordinates {
     pub fn event(&mut self, event: Event)
         ensures stands { (events : List Event) → StandsFor self.old events → StandsFor self.new (events ++ event ∷ []) }
     {
-        self.walk.event(&event);
+        self.take(&event);
+    }
+
+    /// The same for an event that stays where it is.
+    #[inline]
+    pub fn take(&mut self, event: &Event)
+        ensures stands { (events : List Event) → StandsFor self.old events → StandsFor self.new (events ++ event.now ∷ []) }
+    {
+        self.walk.event(event);
     }
 
     /// Whether the events are those of a whole value.

@@ -151,12 +151,12 @@ impl Rules {
     }
 
     /// An event of the value of `coordinates`.
-    fn feed_coordinates(&mut self, event: Event)
+    fn feed_coordinates(&mut self, event: &Event)
         requires skipped { self.old.skipped ≡ 0 }
         requires mode { self.old.mode ≡ Mode.Due Known.Coordinates }
-        ensures { Feeds self.old event self.new }
+        ensures { Feeds self.old event.now self.new }
     {
-        self.coordinates.event(event);
+        self.coordinates.take(event);
         if self.coordinates.done() {
             self.end_coordinates();
         }
@@ -172,12 +172,12 @@ impl Rules {
     }
 
     /// An event of the value of `bbox`.
-    fn feed_bbox(&mut self, event: Event)
+    fn feed_bbox(&mut self, event: &Event)
         requires skipped { self.old.skipped ≡ 0 }
         requires mode { self.old.mode ≡ Mode.Due Known.Bbox }
-        ensures { Feeds self.old event self.new }
+        ensures { Feeds self.old event.now self.new }
     {
-        self.bbox.event(event);
+        self.bbox.event(*event);
         if self.bbox.done() {
             self.end_bbox();
         }
@@ -194,9 +194,9 @@ impl Rules {
     }
 
     /// An event of the value that a summary takes.
-    fn feed(&mut self, event: Event)
+    fn feed(&mut self, event: &Event)
         requires { is_feeding self.old.skipped self.old.mode ≡ true }
-        ensures { Feeds self.old event self.new }
+        ensures { Feeds self.old event.now self.new }
     {
         match self.mode {
             Mode::Due(Known::Coordinates) => self.feed_coordinates(event),
@@ -212,7 +212,7 @@ impl EventSink for Rules {
 
     fn tell(&mut self, event: Event) {
         if self.is_feeding() {
-            self.feed(event);
+            self.feed(&event);
         } else {
             self.take(event);
             self.renew();

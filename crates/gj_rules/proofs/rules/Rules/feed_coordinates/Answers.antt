@@ -4,5 +4,5 @@ use Rattle.gj_rules.proofs.rules.Rules.feed_coordinates.Goals as goal
 
 pub returns-else-done : goal.returns-else-done
 returns-else-done c = λ v taken left d h e.
-    not_whole c.args.self.now c.event.new.self v taken c.args.event left c.done.result c.requires.skipped c.requires.mode (c.event.ensures.stands taken) c.if-done.false
-    (λ s. c.done.ensures.at_the_end v (taken ++ c.args.event ∷ []) left s e (omega arith)) h
+    not_whole c.args.self.now c.take.new.self v taken c.args.event.now left c.done.result c.requires.skipped c.requires.mode (c.take.ensures.stands taken) c.if-done.false
+    (λ s. c.done.ensures.at_the_end v (taken ++ c.args.event.now ∷ []) left s e (omega arith)) h
