@@ -7,10 +7,9 @@ work=$(mktemp -d)
 trap 'rm -rf "$work"' EXIT
 mkdir -p "$work/crates/gj_number"
 cp -r "$root/crates/gj_number/src" "$root/crates/gj_number/specs" "$root/crates/gj_number/proofs" "$work/crates/gj_number/"
-mkdir -p "$work/crates/bench_number/src" "$work/crates/bench_number/proofs/by_bytes" "$work/crates/bench_number/proofs/by_runs"
+mkdir -p "$work/crates/bench_number/src" "$work/crates/bench_number/proofs/by_bytes"
 cp "$here/main.rt.in" "$work/crates/bench_number/src/main.rt"
 cp "$here/by_bytes.antt.in" "$work/crates/bench_number/proofs/by_bytes/Invariants.antt"
-cp "$here/by_runs.antt.in" "$work/crates/bench_number/proofs/by_runs/Invariants.antt"
 printf 'gj_number:\nbench_number: gj_number\n' > "$work/crates.txt"
 git init -q "$work"
 (cd "$work/crates/bench_number" && rt run > "$work/log" 2>&1) || { cat "$work/log"; exit 1; }
