@@ -58,10 +58,16 @@ WriteFaultOf held holds bytes (Write fault) = IsFrontOut held holds bytes fault.
 abbrev pub Seeks : Allowed → Option (List ℕ) → Option (List ℕ) → (before after : ℕ) → Option Path → Fault → Type 0
 Seeks limits had left before after path fault = ((after ≡ before) × Locates limits fault.place had left path) ⊎ ((after ≡ one_more before) × (path ≡ None))
 
--- for another verdict none is sought
-abbrev pub SeeksFor : Verdict → Allowed → Option (List ℕ) → Option (List ℕ) → (before after : ℕ) → Option Path → Type 0
-SeeksFor (Broken fault) limits had left before after path = Seeks limits had left before after path fault
-SeeksFor _ limits had left before after path = path ≡ None
+-- For another verdict none is sought, and the second reader is not read: `read` and `now_read` are its counts of reads.
+abbrev pub SeeksFor : Verdict → Allowed → Option (List ℕ) → Option (List ℕ) → (before after : ℕ) → (read now_read : ℕ) → Option Path → Type 0
+SeeksFor (Broken fault) limits had left before after read now_read path = Seeks limits had left before after path fault
+SeeksFor _ limits had left before after read now_read path = (path ≡ None) × (now_read ≡ read)
+
+-- where the first reader failed, the second is not read
+abbrev pub SparesAtReadFault : (read now_read : ℕ) → Result Outcome RunFault → Type 0
+SparesAtReadFault read now_read (Ok outcome) = Unit {0}
+SparesAtReadFault read now_read (Err (Read fault)) = now_read ≡ read
+SparesAtReadFault read now_read (Err (Write fault)) = Unit {0}
 
 -- `had` and `left` are what the reader has to give before and after, `held` and `holds` what the writer has taken; `Found` says
 -- which path the report of a verdict has

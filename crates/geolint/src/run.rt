@@ -3,7 +3,7 @@ ghost use Rattle.std.specs.Io.KnownBytes.{Appends};
 ghost use Rattle.geolint.specs.Counts.{one_more};
 ghost use Rattle.geolint.specs.Judged.{JudgesRead};
 ghost use Rattle.geolint.specs.Report.{report as report_of};
-ghost use Rattle.geolint.specs.Run.{CountsReadFault, CountsWriteFault, CountsOffset, Runs, RunsBy, Seeks, SeeksFor, ReadFaultOf, WriteFaultOf, outcome_of};
+ghost use Rattle.geolint.specs.Run.{CountsReadFault, CountsWriteFault, CountsOffset, Runs, RunsBy, Seeks, SeeksFor, SparesAtReadFault, ReadFaultOf, WriteFaultOf, outcome_of};
 
 use crate::fault::RunFault;
 use crate::lint::lint_reader;
@@ -37,7 +37,7 @@ pub fn run<S: Source, W: Sink>(
 
 /// Judges what the first reader gives, and writes the report of the verdict. Where a rule is broken, the path of the value
 /// that breaks it is sought in the second reader, which is to give the same bytes; where it is not found there, or a read
-/// fails, the report has no path.
+/// fails, the report has no path. Where none is broken, or the first reader fails, the second is not read.
 ///
 /// After an error of the first reader nothing was written. After one of the writer a front of the report was.
 pub fn run_with_path<S: Source, T: Source, W: Sink>(
@@ -48,11 +48,12 @@ pub fn run_with_path<S: Source, T: Source, W: Sink>(
 ) -> Result<Outcome, RunFault>
     ensures few { S.reads first.new ≤ S.reads first.old + (options.limits.bytes + 1) }
     ensures few_more { T.reads second.new ≤ T.reads second.old + (options.limits.bytes + 1) }
+    ensures spared { SparesAtReadFault (T.reads second.old) (T.reads second.new) result }
     ensures reads { CountsReadFault (S.failed_reads first.old) (S.failed_reads first.new) result }
     ensures given { CountsOffset (S.bytes_given first.old) (S.bytes_given first.new) result }
     ensures writes { CountsWriteFault (W.failed_writes writer.old) (W.failed_writes writer.new) result }
     ensures runs { RunsBy (λ verdict. SeeksFor verdict options.limits (T.remaining second.old) (T.remaining second.new)
-        (T.failed_reads second.old) (T.failed_reads second.new))
+        (T.failed_reads second.old) (T.failed_reads second.new) (T.reads second.old) (T.reads second.new))
         options (S.remaining first.old) (S.remaining first.new) (W.taken writer.old) (W.taken writer.new) result }
 {
     let verdict = judge(first, options.limits)?;
@@ -98,7 +99,7 @@ fn report<W: Sink>(
 fn sought_path<T: Source>(verdict: Verdict, reader: &mut T, limits: Limits) -> Option<Path>
     ensures few { T.reads reader.new ≤ T.reads reader.old + (limits.bytes + 1) }
     ensures sought { SeeksFor verdict limits (T.remaining reader.old) (T.remaining reader.new)
-        (T.failed_reads reader.old) (T.failed_reads reader.new) result }
+        (T.failed_reads reader.old) (T.failed_reads reader.new) (T.reads reader.old) (T.reads reader.new) result }
 {
     match verdict {
         Verdict::Broken(fault) => path_to(fault, reader, limits),

@@ -29,6 +29,10 @@ refusal_of reader = reader.fault
 abbrev pub offset_of : Reader → ℕ
 offset_of reader = reader.offset
 
+-- how many arrays and objects are open
+abbrev pub levels_of : Reader → ℕ
+levels_of reader = length (levels_in reader.levels)
+
 -- To bytes that were given in all: they may still become an admitted text, or the fault is the refusal of every input
 -- that begins so.
 abbrev pub Answers : {A : Type 0} → Allowed → List ℕ → Result A JsonFault → Type 0

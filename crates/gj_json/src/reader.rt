@@ -41,7 +41,7 @@ impl Reader {
     ghost use Rattle.gj_json.specs.Text.{IsText};
     ghost use Rattle.gj_json.specs.Events.{events_by};
     ghost use Rattle.gj_json.specs.Open.{open_at};
-    ghost use Rattle.gj_json.specs.Reader.{StandsFor, limits_of, refusal_of, offset_of, Answers, Completed, HearsBy, FinishAnswers};
+    ghost use Rattle.gj_json.specs.Reader.{StandsFor, limits_of, refusal_of, offset_of, levels_of, Answers, Completed, HearsBy, FinishAnswers};
     ghost use Rattle.gj_json.specs.Feeding.{HearsTwo};
 
     /// A reader of a text under these limits, before its first byte.
@@ -50,6 +50,7 @@ impl Reader {
         ensures limits { limits_of result ≡ limits }
         ensures offset { offset_of result ≡ 0 }
         ensures open { refusal_of result ≡ None }
+        ensures levels { levels_of result ≡ 0 }
         ensures events { (text : Text) (rest : List ℕ) → IsText text rest → events_by 0 text ≡ [] }
     {
         Reader {
@@ -166,6 +167,7 @@ impl Reader {
 
     /// How many arrays and objects are open after the bytes that were taken.
     pub fn levels(&self) -> u8
+        ensures value { result ≡ levels_of self.now }
         ensures open { (bytes rest : List ℕ) (text : Text) → StandsFor self.now bytes → IsText text (take (offset_of self.now) bytes ++ rest) → result ≡ open_at (offset_of self.now) text }
         ensures small { result ≤ 64 }
     {

@@ -4,7 +4,7 @@ use Rattle.gj_json.specs.declared.event.Event.{Event}
 use Rattle.gj_json.specs.declared.fault.JsonFault.{JsonFault}
 use Rattle.gj_json.specs.Events.{events_by}
 use Rattle.gj_json.specs.Limits.{Allowed}
-use Rattle.gj_json.specs.Reader.{StandsFor as ReaderStandsFor, limits_of as reader_limits, refusal_of as reader_refusal, offset_of as reader_offset}
+use Rattle.gj_json.specs.Reader.{StandsFor as ReaderStandsFor, limits_of as reader_limits, refusal_of as reader_refusal, offset_of as reader_offset, levels_of as reader_levels}
 use Rattle.gj_json.specs.Refusal.{IsRefusal}
 use Rattle.gj_json.specs.Text.{IsText, IsViableWithin}
 use Rattle.gj_json.specs.Tree.{Text}
@@ -36,6 +36,10 @@ refusal_of linter = reader_refusal linter.reader
 -- how many bytes it took
 abbrev pub offset_of : Linter → ℕ
 offset_of linter = reader_offset linter.reader
+
+-- how many arrays and objects are open
+abbrev pub levels_of : Linter → ℕ
+levels_of linter = reader_levels linter.reader
 
 -- To bytes that were fed in all: they may still become an admitted text, or the fault is the refusal of every input that
 -- begins so.

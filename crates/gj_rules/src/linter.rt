@@ -66,13 +66,16 @@ pub struct Linter {
 const _: () = prove!(size_of::<Linter>() <= 33 * size_of::<Frame>() + 8192);
 
 impl Linter {
-    ghost use Rattle.gj_rules.specs.Linter.{StandsFor, limits_of, refusal_of, offset_of, Answers, refusal_in};
+    ghost use Rattle.gj_rules.specs.Linter.{StandsFor, limits_of, refusal_of, offset_of, levels_of, Answers, refusal_in};
     ghost use Rattle.gj_rules.specs.Verdict.{IsVerdict};
 
     /// Before the first byte of an input under these limits.
     pub fn new(limits: Limits) -> Linter
         ensures stands { StandsFor result [] }
         ensures limits { limits_of result ≡ limits }
+        ensures refusal { refusal_of result ≡ None }
+        ensures offset { offset_of result ≡ 0 }
+        ensures levels { levels_of result ≡ 0 }
     {
         Linter {
             rules: Rules::new(),
@@ -125,6 +128,7 @@ impl Linter {
 
     /// How many arrays and objects are open after the bytes that were taken.
     pub fn levels(&self) -> u8
+        ensures value { result ≡ levels_of self.now }
         ensures open { (bytes rest : List ℕ) (text : Text) → StandsFor self.now bytes → IsText text (take (offset_of self.now) bytes ++ rest) → result ≡ open_at (offset_of self.now) text }
         ensures small { result ≤ 64 }
     {
