@@ -1,6 +1,7 @@
 pub mod Counts
 pub mod Report
 pub mod Written
+pub mod Room
 pub mod Judged
 pub mod Located
 pub mod Run

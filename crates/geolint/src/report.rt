@@ -1,59 +1,40 @@
-ghost use Rattle.std.specs.Prelude.{◌≡◌, ◌+◌, ◌-◌, ◌^◌, ◌<◌, ◌≤◌, length, IfOk, OnOk, IfErr};
+//! The report of a verdict.
+ghost use Rattle.std.specs.Prelude.{◌≡◌, ◌+◌, ◌≤◌, [], length, OnOk, IfErr};
 ghost use Rattle.std.specs.Io.KnownBytes.{Appends};
 ghost use Rattle.geolint.specs.Counts.{CountsFailure};
-ghost use Rattle.geolint.specs.Report.{cause_text, rule_text, refusal_line, broken_line, broken_report, report};
-ghost use Rattle.geolint.specs.Written.{joined, IsFrontOut};
+ghost use Rattle.geolint.specs.Report.{cause_text, rule_text, refusal_line, broken_line, report};
+ghost use Rattle.geolint.specs.Room.{written_in, Adds};
+ghost use Rattle.geolint.specs.Written.{IsFrontOut};
+ghost use Rattle.geolint.specs.declared.room.TheConstants.{CAPACITY, MOST_LINE};
 
 mod path;
 mod warnings;
 
 use crate::fault::{USAGE, WriteFault};
-use crate::report::path::write_path;
-use crate::report::warnings::write_valid;
+use crate::report::path::push_path;
+use crate::report::warnings::push_valid;
+use crate::room::Room;
 use crate::sink::Sink;
 use gj_coords::{Fault, Rule};
 use gj_json::{Cause, JsonFault, Path};
 use gj_rules::Verdict;
 use itoa::Buffer;
 
-/// Writes a part of a report, of which so many bytes went out before it; answers how many went out with it.
-fn write_bytes<W: Sink>(bytes: &[u8], before: u64, writer: &mut W) -> Result<u64, WriteFault>
-    requires { before + length bytes.now < 2 ^ 64 }
-    ensures count { IfOk result (λ written. written ≡ before + length bytes.now) }
+/// Writes the bytes, in one piece where the writer takes it whole.
+fn write_bytes<W: Sink>(bytes: &[u8], writer: &mut W) -> Result<(), WriteFault>
     ensures whole { OnOk result (Appends (W.taken writer.old) (W.taken writer.new) bytes.now) }
-    ensures behind { IfErr result (λ fault. before ≤ fault.written) }
     ensures front { IfErr result (λ fault.
-        IsFrontOut (W.taken writer.old) (W.taken writer.new) bytes.now (fault.written - before)) }
+        IsFrontOut (W.taken writer.old) (W.taken writer.new) bytes.now fault.written) }
     ensures failed { CountsFailure (W.failed_writes writer.old) (W.failed_writes writer.new) result }
 {
     let mut at = 0;
     while at < bytes.len() {
         match writer.write_piece(&bytes[at..]) {
             Ok(count) if count > 0 => at += count,
-            _ => {
-                let written = before + at as u64;
-                return Err(WriteFault { written });
-            }
+            _ => return Err(WriteFault { written: at as u64 }),
         }
     }
-    Ok(before + bytes.len() as u64)
-}
-
-/// Writes slices of a report, one behind the other, as `write_bytes` does each.
-fn write_pieces<W: Sink>(pieces: &[&[u8]], before: u64, writer: &mut W) -> Result<u64, WriteFault>
-    requires { before + length (joined pieces.now) < 2 ^ 64 }
-    ensures count { IfOk result (λ written. written ≡ before + length (joined pieces.now)) }
-    ensures whole { OnOk result (Appends (W.taken writer.old) (W.taken writer.new) (joined pieces.now)) }
-    ensures behind { IfErr result (λ fault. before ≤ fault.written) }
-    ensures front { IfErr result (λ fault.
-        IsFrontOut (W.taken writer.old) (W.taken writer.new) (joined pieces.now) (fault.written - before)) }
-    ensures failed { CountsFailure (W.failed_writes writer.old) (W.failed_writes writer.new) result }
-{
-    let mut written = before;
-    for piece in pieces {
-        written = write_bytes(piece, written, writer)?;
-    }
-    Ok(written)
+    Ok(())
 }
 
 fn text_of(cause: Cause) -> &'static [u8]
@@ -67,17 +48,13 @@ fn text_of(cause: Cause) -> &'static [u8]
     }
 }
 
-fn write_refusal<W: Sink>(fault: JsonFault, writer: &mut W) -> Result<u64, WriteFault>
-    ensures count { IfOk result (λ written. written ≡ length (refusal_line fault)) }
-    ensures whole { OnOk result (Appends (W.taken writer.old) (W.taken writer.new) (refusal_line fault)) }
-    ensures front { IfErr result (λ write.
-        IsFrontOut (W.taken writer.old) (W.taken writer.new) (refusal_line fault) write.written) }
-    ensures failed { CountsFailure (W.failed_writes writer.old) (W.failed_writes writer.new) result }
+fn push_refusal(fault: JsonFault, room: &mut Room)
+    requires { length (written_in room.old) + MOST_LINE ≤ CAPACITY }
+    ensures { Adds room.old room.new (refusal_line fault) }
 {
     let mut digits = Buffer::new();
     let place = digits.format(fault.place).as_bytes();
-    let pieces: [&[u8]; 5] = [b"not JSON at ", place, b": ", text_of(fault.cause), b"\n"];
-    write_pieces(&pieces, 0, writer)
+    room.push_all(&[b"not JSON at ", place, b": ", text_of(fault.cause), b"\n"]);
 }
 
 fn text_of_rule(rule: Rule) -> &'static [u8]
@@ -108,37 +85,33 @@ fn text_of_rule(rule: Rule) -> &'static [u8]
     }
 }
 
-/// Writes the line of a broken rule.
-fn write_fault<W: Sink>(fault: Fault, writer: &mut W) -> Result<u64, WriteFault>
-    ensures count { IfOk result (λ written. written ≡ length (broken_line fault)) }
-    ensures short { IfOk result (λ written. written < 256) }
-    ensures whole { OnOk result (Appends (W.taken writer.old) (W.taken writer.new) (broken_line fault)) }
-    ensures front { IfErr result (λ write.
-        IsFrontOut (W.taken writer.old) (W.taken writer.new) (broken_line fault) write.written) }
-    ensures failed { CountsFailure (W.failed_writes writer.old) (W.failed_writes writer.new) result }
+/// The line of a broken rule.
+fn push_fault(fault: Fault, room: &mut Room)
+    requires { length (written_in room.old) + MOST_LINE ≤ CAPACITY }
+    ensures line { Adds room.old room.new (broken_line fault) }
+    ensures short { length (written_in room.new) ≤ length (written_in room.old) + MOST_LINE }
 {
     let mut number_digits = Buffer::new();
     let number = number_digits.format(fault.rule.number()).as_bytes();
     let mut place_digits = Buffer::new();
     let place = place_digits.format(fault.place).as_bytes();
     let text = text_of_rule(fault.rule);
-    let pieces: [&[u8]; 7] = [b"broken G", number, b" at ", place, b": ", text, b"\n"];
-    write_pieces(&pieces, 0, writer)
+    room.push_all(&[b"broken G", number, b" at ", place, b": ", text, b"\n"]);
 }
 
-/// Writes the report of a broken rule.
-fn write_broken<W: Sink>(
-    fault: Fault,
-    path: Option<Path>,
-    writer: &mut W,
-) -> Result<u64, WriteFault>
-    ensures whole { OnOk result (Appends (W.taken writer.old) (W.taken writer.new) (broken_report fault path)) }
-    ensures front { IfErr result (λ write.
-        IsFrontOut (W.taken writer.old) (W.taken writer.new) (broken_report fault path) write.written) }
-    ensures failed { CountsFailure (W.failed_writes writer.old) (W.failed_writes writer.new) result }
+/// The report of a verdict.
+fn push_report(verdict: Verdict, path: Option<Path>, room: &mut Room)
+    requires { written_in room.old ≡ [] }
+    ensures { written_in room.new ≡ report verdict path }
 {
-    let before = write_fault(fault, writer)?;
-    write_path(path, before, writer)
+    match verdict {
+        Verdict::Valid(warnings) => push_valid(&warnings, room),
+        Verdict::Broken(fault) => {
+            push_fault(fault, room);
+            push_path(path, room);
+        }
+        Verdict::NotJson(fault) => push_refusal(fault, room),
+    }
 }
 
 /// Writes the report of a verdict: its line, for a valid text one line more for each kind of warning that it has, and for
@@ -155,19 +128,16 @@ pub fn write_report<W: Sink>(
         IsFrontOut (W.taken writer.old) (W.taken writer.new) (report verdict path) fault.written) }
     ensures failed { CountsFailure (W.failed_writes writer.old) (W.failed_writes writer.new) result }
 {
-    match verdict {
-        Verdict::Valid(warnings) => write_valid(&warnings, writer)?,
-        Verdict::Broken(fault) => write_broken(fault, path, writer)?,
-        Verdict::NotJson(fault) => write_refusal(fault, writer)?,
-    };
-    Ok(())
+    let mut room = Room::new();
+    push_report(verdict, path, &mut room);
+    write_bytes(room.bytes(), writer)
 }
 
 /// Writes how the program is called.
 pub fn write_help<W: Sink>(writer: &mut W) -> Result<(), WriteFault> {
-    let pieces: [&[u8]; 2] = [USAGE.as_bytes(), b"\n"];
-    write_pieces(&pieces, 0, writer)?;
-    Ok(())
+    let mut room = Room::new();
+    room.push_all(&[USAGE.as_bytes(), b"\n"]);
+    write_bytes(room.bytes(), writer)
 }
 
 #[cfg(test)]

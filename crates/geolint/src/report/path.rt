@@ -1,14 +1,11 @@
 //! The line with the path of the value that breaks a rule.
-ghost use Rattle.std.specs.Prelude.{◌≡◌, ◌+◌, ◌-◌, ◌^◌, ◌<◌, ◌≤◌, length, IfOk, OnOk, IfErr};
-ghost use Rattle.std.specs.Io.KnownBytes.{Appends};
+ghost use Rattle.std.specs.Prelude.{◌≡◌, ◌+◌, ◌*◌, ◌≤◌, length};
 ghost use Rattle.gj_json.specs.Path.{steps_of};
-ghost use Rattle.geolint.specs.Counts.{CountsFailure};
-ghost use Rattle.geolint.specs.Report.{name_text, step_text, steps_text, path_rest, path_line, path_line_if};
-ghost use Rattle.geolint.specs.Written.{IsFrontOut};
+ghost use Rattle.geolint.specs.Report.{name_text, step_text, steps_text, path_line_if};
+ghost use Rattle.geolint.specs.Room.{written_in, Adds};
+ghost use Rattle.geolint.specs.declared.room.TheConstants.{CAPACITY, MOST_LINE, MOST_STEP};
 
-use crate::fault::WriteFault;
-use crate::report::{write_bytes, write_pieces};
-use crate::sink::Sink;
+use crate::room::Room;
 use gj_json::{Known, Path, PathStep};
 use itoa::Buffer;
 
@@ -29,92 +26,43 @@ fn text_of_name(name: Known) -> &'static [u8]
     }
 }
 
-/// Writes a step, behind so many bytes.
-fn write_step<W: Sink>(step: PathStep, before: u64, writer: &mut W) -> Result<u64, WriteFault>
-    requires { before < 2 ^ 32 }
-    ensures count { IfOk result (λ written. written ≡ before + length (step_text step)) }
-    ensures short { IfOk result (λ written. written ≤ before + 64) }
-    ensures whole { OnOk result (Appends (W.taken writer.old) (W.taken writer.new) (step_text step)) }
-    ensures behind { IfErr result (λ fault. before ≤ fault.written) }
-    ensures front { IfErr result (λ fault.
-        IsFrontOut (W.taken writer.old) (W.taken writer.new) (step_text step) (fault.written - before)) }
-    ensures failed { CountsFailure (W.failed_writes writer.old) (W.failed_writes writer.new) result }
+fn push_step(step: PathStep, room: &mut Room)
+    requires { length (written_in room.old) + MOST_STEP ≤ CAPACITY }
+    ensures text { Adds room.old room.new (step_text step) }
+    ensures short { length (written_in room.new) ≤ length (written_in room.old) + MOST_STEP }
 {
     match step {
         PathStep::Index(index) => {
             let mut digits = Buffer::new();
             let place = digits.format(index).as_bytes();
-            let pieces: [&[u8]; 3] = [b"[", place, b"]"];
-            write_pieces(&pieces, before, writer)
+            room.push_all(&[b"[", place, b"]"]);
         }
-        PathStep::Member(name) => {
-            let pieces: [&[u8]; 2] = [b".", text_of_name(name)];
-            write_pieces(&pieces, before, writer)
-        }
+        PathStep::Member(name) => room.push_all(&[b".", text_of_name(name)]),
     }
 }
 
-/// Writes all steps, from the root.
-fn write_steps<W: Sink>(path: &Path, before: u64, writer: &mut W) -> Result<u64, WriteFault>
-    requires { before < 2 ^ 16 }
-    ensures count { IfOk result (λ written. written ≡ before + length (steps_text (steps_of path.now))) }
-    ensures short { IfOk result (λ written. written ≤ before + 4096) }
-    ensures whole { OnOk result (Appends (W.taken writer.old) (W.taken writer.new) (steps_text (steps_of path.now))) }
-    ensures behind { IfErr result (λ fault. before ≤ fault.written) }
-    ensures front { IfErr result (λ fault.
-        IsFrontOut (W.taken writer.old) (W.taken writer.new) (steps_text (steps_of path.now)) (fault.written - before)) }
-    ensures failed { CountsFailure (W.failed_writes writer.old) (W.failed_writes writer.new) result }
+/// All steps, from the root.
+fn push_steps(path: &Path, room: &mut Room)
+    requires { length (written_in room.old) + 64 * MOST_STEP ≤ CAPACITY }
+    ensures text { Adds room.old room.new (steps_text (steps_of path.now)) }
+    ensures short { length (written_in room.new) ≤ length (written_in room.old) + 64 * MOST_STEP }
 {
-    let mut written = before;
     for i in 0..path.len() {
         if let Some(step) = path.step(i) {
-            written = write_step(step, written, writer)?;
+            push_step(step, room);
         }
     }
-    Ok(written)
 }
 
-/// Writes the steps and the end of the line.
-fn write_rest<W: Sink>(path: &Path, before: u64, writer: &mut W) -> Result<u64, WriteFault>
-    requires { before < 2 ^ 16 }
-    ensures whole { OnOk result (Appends (W.taken writer.old) (W.taken writer.new) (path_rest (steps_of path.now))) }
-    ensures behind { IfErr result (λ fault. before ≤ fault.written) }
-    ensures front { IfErr result (λ fault.
-        IsFrontOut (W.taken writer.old) (W.taken writer.new) (path_rest (steps_of path.now)) (fault.written - before)) }
-    ensures failed { CountsFailure (W.failed_writes writer.old) (W.failed_writes writer.new) result }
+/// The line of a path, where there is one.
+#[tactic(auto, unfolding(crate::specs::Report::path_line_if, crate::specs::Report::path_rest))]
+pub fn push_path(path: Option<Path>, room: &mut Room)
+    requires { length (written_in room.old) ≤ MOST_LINE }
+    ensures { Adds room.old room.new (path_line_if path) }
 {
-    let behind_steps = write_steps(path, before, writer)?;
-    write_bytes(b"\n", behind_steps, writer)
-}
-
-fn write_line<W: Sink>(path: &Path, before: u64, writer: &mut W) -> Result<u64, WriteFault>
-    requires { before < 2 ^ 10 }
-    ensures whole { OnOk result (Appends (W.taken writer.old) (W.taken writer.new) (path_line (steps_of path.now))) }
-    ensures behind { IfErr result (λ fault. before ≤ fault.written) }
-    ensures front { IfErr result (λ fault.
-        IsFrontOut (W.taken writer.old) (W.taken writer.new) (path_line (steps_of path.now)) (fault.written - before)) }
-    ensures failed { CountsFailure (W.failed_writes writer.old) (W.failed_writes writer.new) result }
-{
-    let behind_root = write_bytes(b"path $", before, writer)?;
-    write_rest(path, behind_root, writer)
-}
-
-/// Writes the line of a path, where there is one, behind so many bytes.
-#[tactic(auto, unfolding(crate::specs::Report::path_line_if))]
-pub fn write_path<W: Sink>(
-    path: Option<Path>,
-    before: u64,
-    writer: &mut W,
-) -> Result<u64, WriteFault>
-    requires { before < 2 ^ 10 }
-    ensures whole { OnOk result (Appends (W.taken writer.old) (W.taken writer.new) (path_line_if path)) }
-    ensures behind { IfErr result (λ fault. before ≤ fault.written) }
-    ensures front { IfErr result (λ fault.
-        IsFrontOut (W.taken writer.old) (W.taken writer.new) (path_line_if path) (fault.written - before)) }
-    ensures failed { CountsFailure (W.failed_writes writer.old) (W.failed_writes writer.new) result }
-{
-    match path {
-        Some(path) => write_line(&path, before, writer),
-        None => Ok(before),
+    if let Some(path) = path {
+        room.push(b"path $");
+        push_steps(&path, room);
+        room.push(b"\n");
     }
 }

@@ -195,3 +195,34 @@ fn says_how_much_went_out_where_a_write_fails(rt: HostRuntime) {
         }
     }
 }
+
+/// All nine kinds, each with the greatest count and the greatest place.
+fn longest() -> Verdict {
+    let mut all = Warnings::none();
+    for kind in [
+        Kind::W1,
+        Kind::W2,
+        Kind::W3,
+        Kind::W4,
+        Kind::W5,
+        Kind::W6,
+        Kind::W7,
+        Kind::W8,
+        Kind::W9,
+    ] {
+        all = all.add(kind, u64::MAX);
+    }
+    Verdict::Valid(doubled(all, 32))
+}
+
+#[test]
+fn a_report_goes_out_in_one_write(rt: HostRuntime) {
+    for (verdict, line) in reports() {
+        let mut sink = ArraySink::new(usize::MAX, usize::MAX, Ending::Fails);
+        assert_eq!(rt; write_report(verdict, None, &mut sink), Ok(()), "{line}");
+        assert_eq!(rt; sink.writes(), 1, "{line}");
+    }
+    let mut sink = ArraySink::new(usize::MAX, usize::MAX, Ending::Fails);
+    assert_eq!(rt; write_report(longest(), None, &mut sink), Ok(()));
+    assert_eq!(rt; (sink.bytes().len(), sink.writes()), (731, 1));
+}

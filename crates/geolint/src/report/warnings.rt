@@ -1,13 +1,10 @@
 //! The report of a valid text.
-ghost use Rattle.std.specs.Prelude.{◌≡◌, ◌+◌, ◌-◌, ◌^◌, ◌<◌, ◌≤◌, length, IfOk, OnOk, IfErr};
-ghost use Rattle.std.specs.Io.KnownBytes.{Appends};
-ghost use Rattle.geolint.specs.Counts.{CountsFailure};
+ghost use Rattle.std.specs.Prelude.{◌≡◌, ◌+◌, ◌*◌, ◌≤◌, length};
 ghost use Rattle.geolint.specs.Report.{kind_text, kind_line, warning_line, warning_lines, valid_report};
-ghost use Rattle.geolint.specs.Written.{IsFrontOut};
+ghost use Rattle.geolint.specs.Room.{written_in, Adds};
+ghost use Rattle.geolint.specs.declared.room.TheConstants.{CAPACITY, MOST_LINE};
 
-use crate::fault::WriteFault;
-use crate::report::{write_bytes, write_pieces};
-use crate::sink::Sink;
+use crate::room::Room;
 use gj_coords::{Kind, Warnings};
 use itoa::Buffer;
 
@@ -40,22 +37,11 @@ fn text_of_kind(kind: Kind) -> &'static [u8]
     }
 }
 
-/// Writes the line of a kind, of whose warnings there are so many, the first at this place.
-fn write_warning<W: Sink>(
-    kind: Kind,
-    count: u32,
-    place: u64,
-    before: u64,
-    writer: &mut W,
-) -> Result<u64, WriteFault>
-    requires { before < 2 ^ 32 }
-    ensures count { IfOk result (λ written. written ≡ before + length (warning_line kind count place)) }
-    ensures short { IfOk result (λ written. written ≤ before + 256) }
-    ensures whole { OnOk result (Appends (W.taken writer.old) (W.taken writer.new) (warning_line kind count place)) }
-    ensures behind { IfErr result (λ fault. before ≤ fault.written) }
-    ensures front { IfErr result (λ fault.
-        IsFrontOut (W.taken writer.old) (W.taken writer.new) (warning_line kind count place) (fault.written - before)) }
-    ensures failed { CountsFailure (W.failed_writes writer.old) (W.failed_writes writer.new) result }
+/// The line of a kind, of whose warnings there are so many, the first at this place.
+fn push_warning(kind: Kind, count: u32, place: u64, room: &mut Room)
+    requires { length (written_in room.old) + MOST_LINE ≤ CAPACITY }
+    ensures line { Adds room.old room.new (warning_line kind count place) }
+    ensures short { length (written_in room.new) ≤ length (written_in room.old) + MOST_LINE }
 {
     let mut number_digits = Buffer::new();
     let number = number_digits.format(kind.number()).as_bytes();
@@ -63,8 +49,7 @@ fn write_warning<W: Sink>(
     let counted = count_digits.format(count).as_bytes();
     let mut place_digits = Buffer::new();
     let first = place_digits.format(place).as_bytes();
-    let text = text_of_kind(kind);
-    let pieces: [&[u8]; 9] = [
+    room.push_all(&[
         b"warning W",
         number,
         b" count ",
@@ -72,61 +57,37 @@ fn write_warning<W: Sink>(
         b" first ",
         first,
         b": ",
-        text,
+        text_of_kind(kind),
         b"\n",
-    ];
-    write_pieces(&pieces, before, writer)
+    ]);
 }
 
-/// Writes the line of a kind, where there is a warning of it.
-fn write_kind<W: Sink>(
-    kind: Kind,
-    warnings: &Warnings,
-    before: u64,
-    writer: &mut W,
-) -> Result<u64, WriteFault>
-    requires { before < 2 ^ 32 }
-    ensures count { IfOk result (λ written. written ≡ before + length (kind_line warnings.now kind)) }
-    ensures short { IfOk result (λ written. written ≤ before + 256) }
-    ensures whole { OnOk result (Appends (W.taken writer.old) (W.taken writer.new) (kind_line warnings.now kind)) }
-    ensures behind { IfErr result (λ fault. before ≤ fault.written) }
-    ensures front { IfErr result (λ fault.
-        IsFrontOut (W.taken writer.old) (W.taken writer.new) (kind_line warnings.now kind) (fault.written - before)) }
-    ensures failed { CountsFailure (W.failed_writes writer.old) (W.failed_writes writer.new) result }
+/// The line of a kind, where there is a warning of it.
+fn push_kind(kind: Kind, warnings: &Warnings, room: &mut Room)
+    requires { length (written_in room.old) + MOST_LINE ≤ CAPACITY }
+    ensures line { Adds room.old room.new (kind_line warnings.now kind) }
+    ensures short { length (written_in room.new) ≤ length (written_in room.old) + MOST_LINE }
 {
-    match warnings.first(kind) {
-        Some(place) => write_warning(kind, warnings.count(kind), place, before, writer),
-        None => Ok(before),
+    if let Some(place) = warnings.first(kind) {
+        push_warning(kind, warnings.count(kind), place, room);
     }
 }
 
-/// Writes the lines of all kinds, behind so many bytes.
-fn write_warnings<W: Sink>(
-    warnings: &Warnings,
-    before: u64,
-    writer: &mut W,
-) -> Result<u64, WriteFault>
-    requires { before < 2 ^ 16 }
-    ensures whole { OnOk result (Appends (W.taken writer.old) (W.taken writer.new) (warning_lines warnings.now)) }
-    ensures behind { IfErr result (λ fault. before ≤ fault.written) }
-    ensures front { IfErr result (λ fault.
-        IsFrontOut (W.taken writer.old) (W.taken writer.new) (warning_lines warnings.now) (fault.written - before)) }
-    ensures failed { CountsFailure (W.failed_writes writer.old) (W.failed_writes writer.new) result }
+/// The lines of all kinds.
+fn push_warnings(warnings: &Warnings, room: &mut Room)
+    requires { length (written_in room.old) + 9 * MOST_LINE ≤ CAPACITY }
+    ensures { Adds room.old room.new (warning_lines warnings.now) }
 {
-    let mut written = before;
     for kind in &KINDS {
-        written = write_kind(*kind, warnings, written, writer)?;
+        push_kind(*kind, warnings, room);
     }
-    Ok(written)
 }
 
-/// Writes the report of a valid text with these warnings.
-pub fn write_valid<W: Sink>(warnings: &Warnings, writer: &mut W) -> Result<u64, WriteFault>
-    ensures whole { OnOk result (Appends (W.taken writer.old) (W.taken writer.new) (valid_report warnings.now)) }
-    ensures front { IfErr result (λ fault.
-        IsFrontOut (W.taken writer.old) (W.taken writer.new) (valid_report warnings.now) fault.written) }
-    ensures failed { CountsFailure (W.failed_writes writer.old) (W.failed_writes writer.new) result }
+/// The report of a valid text with these warnings.
+pub fn push_valid(warnings: &Warnings, room: &mut Room)
+    requires { length (written_in room.old) + 10 * MOST_LINE ≤ CAPACITY }
+    ensures { Adds room.old room.new (valid_report warnings.now) }
 {
-    let before = write_bytes(b"valid\n", 0, writer)?;
-    write_warnings(warnings, before, writer)
+    room.push(b"valid\n");
+    push_warnings(warnings, room);
 }

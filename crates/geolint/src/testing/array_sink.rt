@@ -4,7 +4,7 @@ ghost use Rattle.geolint.specs.declared.testing.array_sink.TheConstants.{ROOM};
 use crate::failed::Failed;
 use crate::sink::Sink;
 
-const ROOM: usize = 256;
+const ROOM: usize = 1024;
 
 /// How a writer of tests goes on once its room is full.
 #[derive(Clone, Copy, PartialEq, Eq)]
@@ -21,12 +21,13 @@ pub struct ArraySink {
     room: usize,
     most: usize,
     ending: Ending,
+    writes: u64,
     failed_writes: u64,
     ghost within: { len ≤ ROOM },
 }
 
 impl ArraySink {
-    /// Takes at most `most` bytes a write, but never less than 1, up to `room` bytes and never more than 256.
+    /// Takes at most `most` bytes a write, but never less than 1, up to `room` bytes and never more than 1,024.
     pub fn new(most: usize, room: usize, ending: Ending) -> ArraySink {
         ArraySink {
             bytes: [0; ROOM],
@@ -34,6 +35,7 @@ impl ArraySink {
             room,
             most,
             ending,
+            writes: 0,
             failed_writes: 0,
         }
     }
@@ -41,6 +43,11 @@ impl ArraySink {
     /// What was taken.
     pub fn bytes(&self) -> &[u8] {
         &self.bytes[..self.len]
+    }
+
+    /// How many writes there were.
+    pub fn writes(&self) -> u64 {
+        self.writes
     }
 }
 
@@ -50,6 +57,7 @@ impl Sink for ArraySink {
     ghost failed_writes = { λ s. s.failed_writes };
 
     fn write_piece(&mut self, piece: &[u8]) -> Result<usize, Failed> {
+        self.writes = self.writes.saturating_add(1);
         let room = self.room.min(ROOM).saturating_sub(self.len);
         let count = room.min(piece.len()).min(self.most.max(1));
         if count == 0 && !piece.is_empty() {
