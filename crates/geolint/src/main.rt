@@ -1,8 +1,8 @@
 //! `geolint` judges a GeoJSON text of any length in fixed memory: it reads the text in pieces and writes a report of
 //! its verdict.
 //!
-//! What a verdict means stands in `specs/Verdict.antt`, the bytes of its report in `specs/Report.antt`. Where the writer
-//! tells its bytes, exactly the report goes out, or a front of it where a write fails.
+//! What a verdict means stands in `specs/Verdict.antt` of `gj_rules`, the bytes of its report in `specs/Report.antt` here.
+//! Where the writer tells its bytes, exactly the report goes out, or a prefix of it where a write fails.
 #![tactic(auto)]
 
 mod failed;
@@ -11,6 +11,7 @@ mod lint;
 mod locate;
 mod options;
 mod report;
+mod room;
 mod run;
 mod sink;
 mod source;
@@ -80,9 +81,15 @@ fn obey(rt: &HostRuntime, order: &Order) -> Result<Outcome, ProgramFault> {
     let outcome = match &order.path {
         None => run(&mut FromRead::new(rt.stdin()), &mut writer, order.options)?,
         Some(path) => {
-            let mut first = FromRead::new(open(rt, path)?);
-            let mut second = FromRead::new(open(rt, path)?);
-            run_with_path(&mut first, &mut second, &mut writer, order.options)?
+            let file = open(rt, path)?;
+            let is_regular = is_regular(&file);
+            let mut first = FromRead::new(file);
+            if is_regular {
+                let mut second = FromRead::new(open(rt, path)?);
+                run_with_path(&mut first, &mut second, &mut writer, order.options)?
+            } else {
+                run(&mut first, &mut writer, order.options)?
+            }
         }
     };
     Ok(outcome)
@@ -90,6 +97,15 @@ fn obey(rt: &HostRuntime, order: &Order) -> Result<Outcome, ProgramFault> {
 
 fn open(rt: &HostRuntime, path: &String) -> Result<File, ProgramFault> {
     fs::open(rt, path.as_str()).map_err(open_fault)
+}
+
+/// Whether a second opening gives the same bytes: that of a named pipe or a device gives others, or waits for a writer
+/// that never comes.
+fn is_regular(file: &File) -> bool {
+    match file.metadata() {
+        Ok(metadata) => metadata.is_file(),
+        Err(_) => false,
+    }
 }
 
 fn open_fault(error: io::Error) -> ProgramFault {
