@@ -13,7 +13,7 @@ abbrev pub up_to : ℕ → List ℕ → List ℕ
 up_to place bytes = take (place + 1) bytes
 
 abbrev pub IsPathTo : Allowed → ℕ → List ℕ → Option Path → Type 0
--- they are there and a front of an admitted text, and lead to this value in each text that begins so
+-- they are there, a prefix of a text within the depth and no more than are allowed, and lead to this value in each text that begins so
 IsPathTo limits place bytes (Some path) =
     (place < length bytes) × (place < limits.bytes) × IsViableWithin limits.depth (up_to place bytes)
     × ((text : Text) (rest : List ℕ) → IsText text (up_to place bytes ++ rest) → steps_of path ≡ path_at (place + 1) text)

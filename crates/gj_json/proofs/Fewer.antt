@@ -1,5 +1,5 @@
 -- Each event of a text has a byte of its own.
-use Rattle.std.proofs.Common.{◌≡◌, ℕ, ◌+◌, ◌≤◌, List, [], ◌∷◌, ◌++◌, length, inl, inr, arith, ap, length-append}
+use Rattle.std.proofs.Common.{◌≡◌, ℕ, Bool, true, false, ◌+◌, ◌≤◌, List, [], ◌∷◌, ◌++◌, length, inl, inr, arith, ap, length-append}
 use Rattle.std.proofs.lemmas.List.{length-map}
 use Rattle.gj_number.specs.Grammar.{IsNumber, IsUnsigned, IsNatural}
 use Rattle.gj_json.specs.declared.constant.Constant.{Constant}
@@ -7,8 +7,8 @@ use Rattle.gj_json.specs.declared.constant.Constant.TheVariants.{Null, True, Fal
 use Rattle.gj_json.specs.declared.event.What.TheVariants as What
 use Rattle.gj_json.specs.Tree.{Tree, constant, number, string, array, object, Elements, end_of_array, element, Members, end_of_object, member, Text}
 use Rattle.gj_json.specs.Grammar.{Then, letters_of, Spells, SpellsElements, SpellsMoreElements, SpellsMembers, SpellsMoreMembers}
-use Rattle.gj_json.specs.Text.{IsText}
-use Rattle.gj_json.specs.Events.{Timed, timed, events, elements_events, members_events, value_events}
+use Rattle.gj_json.specs.Text.{IsText, SpellsMark}
+use Rattle.gj_json.specs.Events.{Timed, timed, events, elements_events, members_events, mark_events, text_events, all_events}
 
 -- what stands behind something is no longer than both
 rest_fits : {First Rest : ℕ → List ℕ → Type 0} {start : ℕ} {bytes : List ℕ} (h : Then First Rest start bytes) → length h.first + length h.rest ≤ length bytes
@@ -113,10 +113,15 @@ mutual
       (few_more_members more close _ _ h.after.after.after.after.after.after.after.after) (omega arith) in
       omega arith
 
-pub text_few : (text : Text) (bytes : List ℕ) → IsText text bytes → length (value_events text.value) ≤ length bytes
+mark_few : (marked : Bool) (n : ℕ) (bytes : List ℕ) → SpellsMark marked n bytes → length (mark_events marked) ≤ length bytes
+mark_few true n bytes h = rw h (omega arith)
+mark_few false n bytes h = omega arith
+
+pub text_few : (text : Text) (bytes : List ℕ) → IsText text bytes → length (all_events text) ≤ length bytes
 text_few text bytes h =
     let e = rest_fits h in
     let f = rest_fits h.after in
     let g = rest_fits h.after.after in
+    let m = mark_few text.marked _ _ h.before in
     let k = few text.value _ _ h.after.after.before in
-    rw (length-map (events text.value) (λ x. x.event)) (omega arith)
+    rw (length-map (text_events text) (λ x. x.event), length-append (mark_events text.marked) (events text.value)) (omega arith)

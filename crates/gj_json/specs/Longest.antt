@@ -1,4 +1,5 @@
--- The refusal of an input, by its longest front that some bytes more can still make an admitted text.
+-- The refusal of an input, by its longest front, of no more bytes than are allowed, that some bytes more, however many, make a
+-- text within the depth.
 use Rattle.std.specs.Prelude.{◌≡◌, ◌≢◌, ℕ, ◌+◌, ◌≤◌, ◌<◌, ◌↔◌, List, length, take}
 use Rattle.gj_json.specs.declared.fault.JsonFault.{JsonFault}
 use Rattle.gj_json.specs.declared.fault.Cause.TheVariants.{Syntax, Truncated, Depth, Length}

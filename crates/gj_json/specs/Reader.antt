@@ -33,8 +33,8 @@ offset_of reader = reader.offset
 abbrev pub levels_of : Reader → ℕ
 levels_of reader = length (levels_in reader.levels)
 
--- To bytes that were given in all: they may still become an admitted text, or the fault is the refusal of every input
--- that begins so.
+-- To bytes that were given in all: they are a prefix of a text within the depth and no more than are allowed (not that such a
+-- text ends within the bytes allowed), or the fault is the refusal of every input that begins so.
 abbrev pub Answers : {A : Type 0} → Allowed → List ℕ → Result A JsonFault → Type 0
 Answers limits bytes (Ok done) = IsViableWithin limits.depth bytes × (length bytes ≤ limits.bytes)
 Answers limits bytes (Err fault) = IsRefusal limits bytes fault × ((more : List ℕ) → IsRefusal limits (bytes ++ more) fault)

@@ -7,7 +7,7 @@ use Rattle.gj_json.specs.declared.fault.JsonFault.{JsonFault}
 use Rattle.gj_json.specs.declared.fault.Cause.{Cause}
 use Rattle.gj_json.specs.declared.fault.Cause.TheVariants.{Syntax, Truncated, Depth, Length}
 
--- `place` splits the input: some more bytes may still make the bytes before it an admitted text, and `byte` stands there
+-- `place` splits the input: some more bytes, however many, make the bytes before it a text within the depth, and `byte` stands there
 pub record Stops (limits : Allowed) (bytes : List ℕ) (place : ℕ) : Type 0 where
   pub good : List ℕ
   pub byte : ℕ

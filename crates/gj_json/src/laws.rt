@@ -8,7 +8,7 @@ ghost use Rattle.gj_json.specs.Text.{IsText, IsViable, IsViableWithin};
 ghost use Rattle.gj_json.specs.Refusal.{IsRefusal, IsAdmitted};
 ghost use Rattle.gj_json.specs.Longest.{IsLongest, IsToldBy};
 ghost use Rattle.gj_json.specs.Broken.{Broken, SpellsBroken, broken_depth, Extends};
-ghost use Rattle.gj_json.specs.Events.{events_by, value_events};
+ghost use Rattle.gj_json.specs.Events.{events_by, all_events};
 ghost use Rattle.gj_json.specs.Open.{open_at};
 ghost use Rattle.gj_json.specs.Path.{path_at};
 ghost use Rattle.gj_json.specs.declared.reader.Reader.{Reader};
@@ -54,7 +54,8 @@ pub fn one_refusal()
     ensures never_both { (limits : Allowed) (bytes : List ℕ) (fault : JsonFault) (text : Text) → IsRefusal limits bytes fault → IsAdmitted limits text bytes → ⊥ }
 {}
 
-/// The longest front that can still become an admitted text tells the refusal: its place and its cause.
+/// The longest front, of no more bytes than are allowed, that can still become a text within the depth tells the refusal:
+/// its place and its cause.
 pub fn longest_front()
     ensures some { (limits : Allowed) (bytes : List ℕ) → (k : ℕ) × IsLongest limits bytes k }
     ensures one { (limits : Allowed) (bytes : List ℕ) (first second : ℕ) → IsLongest limits bytes first → IsLongest limits bytes second → first ≡ second }
@@ -77,7 +78,7 @@ pub fn left_part()
     ensures { (broken : Broken) (text : Text) (bytes rest : List ℕ) → SpellsBroken broken bytes → IsText text (bytes ++ rest) → Extends broken text }
 {}
 
-/// A text has no more events than bytes.
+/// A text has no more events than bytes, that of a byte order mark among them.
 pub fn few_events()
-    ensures { (text : Text) (bytes : List ℕ) → IsText text bytes → length (value_events text.value) ≤ length bytes }
+    ensures { (text : Text) (bytes : List ℕ) → IsText text bytes → length (all_events text) ≤ length bytes }
 {}

@@ -1,4 +1,4 @@
-//! A streaming reader of JSON texts (RFC 8259), byte by byte or piece by piece, in fixed memory.
+//! A streaming reader of JSON texts (RFC 8259), a byte or a piece at a time, in fixed memory.
 //!
 //! The events that it tells are those of the text's tree, in order, each with its place; an input that is no admitted
 //! text is refused at the first byte that cannot stand where it does, with the cause. The grammar stands in

@@ -13,7 +13,7 @@ use crate::told::last_event;
 use arrayvec::ArrayVec;
 use gj_number::Literal;
 
-/// Reads a text: byte by byte or in pieces of any size.
+/// Reads a text, a byte or a piece of any size at a time.
 ///
 /// It keeps where it stands in the grammar and one bit for each level that is open, whatever the length of the text.
 #[derive(Clone, Copy)]
@@ -124,8 +124,8 @@ impl Reader {
         ensures refusal { MatchResult result (λ done. refusal_of self.new ≡ None) (λ fault. refusal_of self.new ≡ Some fault) }
         ensures again { (fault : JsonFault) → refusal_of self.old ≡ Some fault → (self.new ≡ self.old) × (result ≡ Err fault) }
     {
-        if let Some(fault) = self.fault {
-            return Err(fault);
+        if let Some(refused) = self.fault {
+            return Err(refused);
         }
         if self.offset == self.limits.bytes() {
             return Err(self.refuse(Cause::Length));
@@ -138,8 +138,8 @@ impl Reader {
         ensures answer { (bytes : List ℕ) → StandsFor self bytes → FinishAnswers (limits_of self) bytes result }
         ensures again { (fault : JsonFault) → refusal_of self ≡ Some fault → result ≡ Err fault }
     {
-        if let Some(fault) = self.fault {
-            return Err(fault);
+        if let Some(earlier) = self.fault {
+            return Err(earlier);
         }
         let may_end = self.literal.may_end();
         let value = self.literal.value();

@@ -1,4 +1,4 @@
-//! A number of JSON that is read byte by byte.
+//! A number of JSON that is read a byte or a run of digits at a time.
 ghost use Rattle.std.specs.Prelude.{◌≡◌, ◌↔◌, ℕ, ◌+◌, ◌<◌, ◌≤◌, List, [], ◌∷◌, ◌++◌, length, take, slice_index, All, IsTrue, IsFalse};
 ghost use Rattle.gj_number.specs.Bytes.{IsDigit};
 ghost use Rattle.gj_number.specs.Grammar.{IsNumber, BeginsNumber};

@@ -1,12 +1,12 @@
 -- What the rules of a linter were told, from call to call.
-use Rattle.std.proofs.Common.{◌≡◌, ℕ, ◌+◌, ◌-◌, ◌^◌, ◌<◌, ◌≤◌, Bool, true, false, if◌then◌else◌, List, [], ◌∷◌, ◌++◌, length, take, Option, Some, None, Result, Ok, Err, refl, sym, ap, subst, ◌∙◌, arith, append_assoc, append-nil}
+use Rattle.std.proofs.Common.{◌≡◌, ℕ, ◌+◌, ◌-◌, ◌^◌, ◌<◌, ◌≤◌, Bool, true, false, if◌then◌else◌, List, [], ◌∷◌, ◌++◌, length, take, Option, Some, None, Result, Ok, Err, refl, sym, ap, subst, ◌∙◌, arith, append_assoc, append-nil, length-append}
 use Rattle.std.specs.Option.{option_to_list}
-use Rattle.std.proofs.lemmas.List.{take-append-le}
+use Rattle.std.proofs.lemmas.List.{take-append-le, length-map}
 use Rattle.std.proofs.Math.Seq.{take-length, take-append-add}
 use Rattle.gj_json.specs.declared.event.Event.{Event}
 use Rattle.gj_json.specs.declared.fault.JsonFault.{JsonFault}
 use Rattle.gj_json.specs.declared.reader.Reader.{Reader}
-use Rattle.gj_json.specs.Events.{events_by, all_events, value_events}
+use Rattle.gj_json.specs.Events.{events, events_by, mark_events, text_events, all_events, value_events}
 use Rattle.gj_json.specs.Limits.{Allowed}
 use Rattle.gj_json.specs.Reader.{StandsFor as ReaderStandsFor, refusal_of, offset_of, Hears}
 use Rattle.gj_json.specs.Refusal.{IsAdmitted}
@@ -104,13 +104,18 @@ pub text_verdict : (limits : Allowed) (bytes : List ℕ) (text : Text) → IsAdm
 text_verdict limits bytes text a None w e f = (text, a, none_least (text_faults text) (sym e), f)
 text_verdict limits bytes text a (Some fault) w e f = (text, a, sym e)
 
+-- without that of a byte order mark
+fewer_of_value : (text : Text) → length (value_events text.value) ≤ length (all_events text)
+fewer_of_value text =
+    rw (length-map (text_events text) (λ x. x.event), length-map (events text.value) (λ x. x.event), length-append (mark_events text.marked) (events text.value)) (omega arith)
+
 -- the verdict of an admitted text whose events were told
 pub end_verdict : (limits : Allowed) (bytes : List ℕ) (rules after : Rules) (last : Option Event) (o : Option Fault) (w : Warnings) → limits.depth ≤ 64 → limits.bytes ≤ 2 ^ 60 → AreToldOf rules bytes (length bytes)
     → (f : (text : Text) × IsAdmitted limits text bytes × (all_events text ≡ events_by (length bytes) text ++ option_to_list last))
     → ((events : List Event) → RulesStandFor rules events → RulesStandFor after (events ++ option_to_list last))
     → ((text : Text) → depth text.value ≤ 64 → RulesStandFor after (all_events text) → o ≡ least (text_faults text))
     → ((text : Text) → depth text.value ≤ 64 → RulesStandFor after (all_events text) → w ≡ text_kept text)
-    → ((text : Text) (bytes : List ℕ) → IsText text bytes → length (value_events text.value) ≤ length bytes)
+    → ((text : Text) (bytes : List ℕ) → IsText text bytes → length (all_events text) ≤ length bytes)
     → ((simple : Simple) (value : Tree) → length (value_events value) < 2 ^ 64 → coordinates_kept simple value ≡ warnings_of (coordinates_warnings simple value))
     → IsVerdict limits bytes (verdict_of o w)
 end_verdict limits bytes rules after last o w shallow short k f told fault warned few law =
@@ -120,7 +125,7 @@ end_verdict limits bytes rules after last o w shallow short k f told fault warne
     let P : List Event → Type 0 = λ xs. RulesStandFor after xs in
     let heard = subst P (sym e) (told k.events k.told) in
     let deep : depth text.value ≤ 64 = omega (arith, f.1.0.1) in
-    let small : length (value_events text.value) < 2 ^ 64 = omega (arith, few text bytes f.1.0.0, f.1.1) in
+    let small : length (value_events text.value) < 2 ^ 64 = omega (arith, few text bytes f.1.0.0, fewer_of_value text, f.1.1) in
     text_verdict limits bytes text f.1 o w (fault text deep heard) (warned text deep heard ∙ text_is (2 ^ 64) law text small)
 
 pub taken_all : (rules : Rules) (bytes : List ℕ) (n : ℕ) → n ≡ length bytes → AreToldOf rules (take n bytes) n → AreToldOf rules bytes (length bytes)

@@ -41,8 +41,8 @@ offset_of linter = reader_offset linter.reader
 abbrev pub levels_of : Linter → ℕ
 levels_of linter = reader_levels linter.reader
 
--- To bytes that were fed in all: they may still become an admitted text, or the fault is the refusal of every input that
--- begins so.
+-- To bytes that were fed in all: they are a prefix of a text within the depth and no more than are allowed (not that such a text
+-- ends within the bytes allowed), or the fault is the refusal of every input that begins so.
 abbrev pub Answers : Allowed → List ℕ → Progress → Type 0
 Answers limits bytes Open = IsViableWithin limits.depth bytes × (length bytes ≤ limits.bytes)
 Answers limits bytes (Refused fault) = (more : List ℕ) → IsRefusal limits (bytes ++ more) fault

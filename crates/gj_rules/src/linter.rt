@@ -26,7 +26,8 @@ use std::mem::size_of;
 /// What a piece of an input shows.
 #[derive(Clone, Copy, Debug, PartialEq, Eq)]
 pub enum Progress {
-    /// The input may still become a JSON text within the limits.
+    /// The input is a prefix of a JSON text within the depth, and has no more bytes than are allowed. That some such text
+    /// ends within these bytes is not said: a later byte may be refused for the length, whatever it is.
     Open,
     /// The input is refused, and so is every input that begins so.
     Refused(JsonFault),

@@ -5,11 +5,11 @@ use Rattle.gj_json.proofs.Feeding
 use Rattle.gj_json.proofs.reader.Reader.take_next.Goals as goal
 
 pub returns-in-Some-clause-stands : goal.returns-in-Some-clause-stands
-returns-in-Some-clause-stands g c = λ bytes h. Feeding.refused_stands c.args.self.now bytes (c.args.byte ∷ []) c.in-Some.fault c.in-Some.is h
+returns-in-Some-clause-stands g c = λ bytes h. Feeding.refused_stands c.args.self.now bytes (c.args.byte ∷ []) c.in-Some.refused c.in-Some.is h
 
 pub returns-in-Some-clause-answer : goal.returns-in-Some-clause-answer
 returns-in-Some-clause-answer g c = λ bytes h.
-    Feeding.kept_answer c.args.self.now (bytes ++ c.args.byte ∷ []) c.in-Some.fault c.in-Some.is (Feeding.refused_stands c.args.self.now bytes (c.args.byte ∷ []) c.in-Some.fault c.in-Some.is h)
+    Feeding.kept_answer c.args.self.now (bytes ++ c.args.byte ∷ []) c.in-Some.refused c.in-Some.is (Feeding.refused_stands c.args.self.now bytes (c.args.byte ∷ []) c.in-Some.refused c.in-Some.is h)
 
 pub returns-then-self-bytes-clause-stands : goal.returns-then-self-bytes-clause-stands
 returns-then-self-bytes-clause-stands g c = λ bytes h.
