@@ -41,6 +41,7 @@ impl Reader {
     ghost use Rattle.gj_json.specs.Text.{IsText};
     ghost use Rattle.gj_json.specs.Events.{events_by};
     ghost use Rattle.gj_json.specs.Open.{open_at};
+    ghost use Rattle.gj_json.specs.Refusal.{IsRefusal};
     ghost use Rattle.gj_json.specs.Reader.{StandsFor, limits_of, refusal_of, offset_of, levels_of, Answers, Completed, HearsBy, FinishAnswers};
     ghost use Rattle.gj_json.specs.Feeding.{HearsTwo};
 
@@ -149,9 +150,10 @@ impl Reader {
         }
     }
 
-    /// The refusal, once there was one.
-    pub(crate) fn refusal(&self) -> Option<JsonFault>
-        ensures { result ≡ refusal_of self.now }
+    /// The refusal, once there was one: that of every input that begins with the bytes that were given.
+    pub fn refusal(&self) -> Option<JsonFault>
+        ensures value { result ≡ refusal_of self.now }
+        ensures lasting { (bytes more : List ℕ) (fault : JsonFault) → StandsFor self.now bytes → refusal_of self.now ≡ Some fault → IsRefusal (limits_of self.now) (bytes ++ more) fault }
     {
         self.fault
     }

@@ -16,3 +16,8 @@ pub mod Telling
 pub mod Examples
 pub mod WarningExamples
 pub mod Fed
+pub mod Growth
+pub mod InsideValues
+pub mod Outermost
+pub mod RootObject
+pub mod DoomedTexts

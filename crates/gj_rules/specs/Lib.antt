@@ -10,8 +10,10 @@ pub mod TextKept
 pub mod Shown
 pub mod Gathered
 pub mod Frame
+pub mod Doomed
 pub mod Told
 pub mod Step
+pub mod Lost
 pub mod Kept
 pub mod Rules
 pub mod Linter

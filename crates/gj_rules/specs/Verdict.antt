@@ -1,5 +1,5 @@
 -- What an input is, as a whole: a GeoJSON text (RFC 7946), a JSON text that breaks a rule, or no JSON text (RFC 8259).
-use Rattle.std.specs.Prelude.{◌≡◌, ℕ, List, [], Option, Some, None}
+use Rattle.std.specs.Prelude.{◌≡◌, ℕ, List, [], ◌++◌, Option, Some, None}
 use Rattle.gj_json.specs.Limits.{Allowed}
 use Rattle.gj_json.specs.Refusal.{IsRefusal, IsAdmitted}
 use Rattle.gj_json.specs.Tree.{Text}
@@ -19,6 +19,10 @@ IsVerdict limits bytes (Valid warnings) =
     (text : Text) × IsAdmitted limits text bytes × (text_faults text ≡ []) × WarningsStandFor warnings (text_warnings text)
 IsVerdict limits bytes (Broken fault) = (text : Text) × IsAdmitted limits text bytes × (least (text_faults text) ≡ Some fault)
 IsVerdict limits bytes (NotJson fault) = IsRefusal limits bytes fault
+
+-- no input that begins with these bytes is valid
+abbrev pub NeverValid : Allowed → List ℕ → Type 0
+NeverValid limits bytes = (more : List ℕ) (warnings : Warnings) → IsVerdict limits (bytes ++ more) (Valid warnings) → ⊥
 
 -- the verdict of a text with this least fault and these warnings
 abbrev pub verdict_of : Option Fault → Warnings → Verdict

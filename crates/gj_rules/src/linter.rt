@@ -3,7 +3,7 @@
 #[cfg(test)]
 mod tests;
 
-ghost use Rattle.std.specs.Prelude.{◌≡◌, ℕ, ◌≤◌, ◌^◌, ◌++◌, [], List, length, take, None, Some};
+ghost use Rattle.std.specs.Prelude.{◌≡◌, ℕ, ◌≤◌, ◌^◌, ◌++◌, [], List, length, take, None, Some, IsTrue};
 ghost use Rattle.gj_json.specs.declared.fault.JsonFault.{JsonFault};
 ghost use Rattle.gj_json.specs.Reader.{limits_of as reader_limits};
 ghost use Rattle.gj_json.specs.Tree.{Text};
@@ -20,7 +20,7 @@ use crate::rules::Rules;
 use crate::verdict::Verdict;
 use gj_coords::laws::kept_warnings;
 use gj_coords::{Fault, Warnings};
-use gj_json::{Event, EventSink, JsonFault, Limits, Reader, bytes_taken, few_events};
+use gj_json::{Event, EventSink, JsonFault, Limits, Reader, bytes_taken, few_events, one_refusal};
 use std::mem::size_of;
 
 /// What a piece of an input shows.
@@ -68,7 +68,8 @@ const _: () = prove!(size_of::<Linter>() <= 33 * size_of::<Frame>() + 8192);
 
 impl Linter {
     ghost use Rattle.gj_rules.specs.Linter.{StandsFor, limits_of, refusal_of, offset_of, levels_of, Answers, refusal_in};
-    ghost use Rattle.gj_rules.specs.Verdict.{IsVerdict};
+    ghost use Rattle.gj_rules.specs.Verdict.{IsVerdict, NeverValid};
+    ghost use Rattle.gj_rules.specs.Doomed.{BeginNoGeoJson};
 
     /// Before the first byte of an input under these limits.
     pub fn new(limits: Limits) -> Linter
@@ -115,6 +116,25 @@ impl Linter {
                 tell_last(&mut rules, last);
                 verdict_of(rules.fault(), rules.warnings())
             }
+        }
+    }
+
+    /// An early no: where it answers true, no input that begins with the bytes fed is valid, so that nothing more
+    /// need be read for a yes or no.
+    ///
+    /// It is true after a refusal, and once the value of the text has begun and is no object, or its object shows a
+    /// known name twice, a first `type` that is none of the nine, or a name that its type forbids (RFC 7946, sections
+    /// 1.4 and 7.1), whichever of the two came first.
+    pub fn doomed(&self) -> bool
+        ensures sound { (bytes : List ℕ) → StandsFor self.now bytes → IsTrue result → NeverValid (limits_of self.now) bytes }
+        ensures refused { (fault : JsonFault) → refusal_of self.now ≡ Some fault → IsTrue result }
+        ensures early { (bytes : List ℕ) → StandsFor self.now bytes → refusal_of self.now ≡ None → BeginNoGeoJson (limits_of self.now).depth bytes → IsTrue result }
+    {
+        bytes_taken();
+        one_refusal();
+        match self.reader.refusal() {
+            Some(_) => true,
+            None => self.rules.doomed(),
         }
     }
 

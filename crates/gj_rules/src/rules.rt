@@ -1,5 +1,6 @@
 ghost use Rattle.std.specs.Prelude.{◌≡◌, ℕ, ◌<◌, ◌≤◌, [], List, true};
 
+mod doomed;
 mod steps;
 #[cfg(test)]
 mod tests;

@@ -1,5 +1,6 @@
 ghost use Rattle.std.specs.Prelude.{◌≡◌};
 
+mod lost;
 mod settle;
 
 use crate::role::Role;

@@ -1,5 +1,7 @@
 //! A linter over pieces.
 
+mod doomed;
+
 use super::*;
 use gj_coords::{Kind, Rule};
 use gj_json::Cause;

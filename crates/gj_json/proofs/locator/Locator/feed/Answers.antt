@@ -7,7 +7,7 @@ use Rattle.gj_json.proofs.locator.Locator.feed.Goals as goal
 use Rattle.gj_json.proofs.locator.Locator.feed.Goals.{After-loop-at}
 
 refused_before : (c : goal.In-Some) → refusal_of c.args.self.now ≡ Some c.in-Some.fault
-refused_before c = sym c.refusal.ensures ∙ c.in-Some.is
+refused_before c = sym c.refusal.ensures.value ∙ c.in-Some.is
 
 pub returns-in-Some-clause-stands : goal.returns-in-Some-clause-stands
 returns-in-Some-clause-stands c = λ bytes h. refused_on c.args.self.now bytes c.args.piece.now c.in-Some.fault (refused_before c) h

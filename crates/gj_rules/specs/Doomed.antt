@@ -1,0 +1,100 @@
+-- Whether the first events of a text show that it is no GeoJSON (RFC 7946), whatever comes after them: its value is no
+-- object, or the members that stand directly in its object break a rule by their names and by the first `type`.
+use Rattle.std.specs.Prelude.{ℕ, zero, suc, ◌+◌, ◌-◌, Bool, true, false, ◌&&◌, ◌||◌, IsTrue, if◌then◌else◌, List, [], ◌∷◌, ◌++◌, length, Option, Some, None}
+use Rattle.gj_json.specs.declared.event.Event.{Event}
+use Rattle.gj_json.specs.declared.event.What.{What}
+use Rattle.gj_json.specs.declared.names.Known.{Known}
+use Rattle.gj_json.specs.declared.names.Known.TheVariants.{TypeName, Coordinates, Geometries, Geometry, Properties, Features}
+use Rattle.gj_json.specs.declared.names.Word.{Word}
+use Rattle.gj_json.specs.Events.{events_by}
+use Rattle.gj_json.specs.Text.{IsTextWithin}
+use Rattle.gj_json.specs.Tree.{Text}
+use Rattle.gj_rules.specs.Members.{is_known, mentions}
+
+-- ---- what stands directly in the text's object
+
+-- the arrays and objects that are open after an event
+abbrev pub levels_after : What → ℕ → ℕ
+levels_after What.OpenObject levels = levels + 1
+levels_after What.OpenArray levels = levels + 1
+levels_after What.CloseObject levels = levels - 1
+levels_after What.CloseArray levels = levels - 1
+levels_after _ levels = levels
+
+abbrev pub at_level : ℕ → What → List What → List What
+at_level (suc zero) what more = what ∷ more
+at_level _ what more = more
+
+-- of the events that come where so many levels are open, those at one level: the names of the object's members, the
+-- first event of each value, and the object's end
+abbrev pub outermost : ℕ → List Event → List What
+outermost levels [] = []
+outermost levels (event ∷ more) = at_level levels event.what (outermost (levels_after event.what levels) more)
+
+-- the names of the members
+abbrev pub names : List What → List Known
+names [] = []
+names (What.Name name ∷ more) = name ∷ names more
+names (_ ∷ more) = names more
+
+-- the type that the first event of a value names
+abbrev pub type_named : What → Word
+type_named (What.Text word) = word
+type_named _ = Word.Other
+
+-- the type that the value of the first `type` names, once that value has begun to be told
+abbrev pub first_type : List What → Option Word
+first_type (What.Name TypeName ∷ (value ∷ more)) = Some (type_named value)
+first_type (_ ∷ more) = first_type more
+first_type [] = None
+
+-- ---- the rules that they break
+
+-- a known name is repeated, among names that come after those of `before` (section 7.1 and RFC 8259, section 4)
+abbrev pub repeats : List Known → List Known → Bool
+repeats before [] = false
+repeats before (name ∷ more) = (is_known name && mentions before name) || repeats (name ∷ before) more
+
+-- the names that a type forbids (section 7.1)
+abbrev pub forbidden_by : Word → List Known
+forbidden_by Word.Feature = Coordinates ∷ Geometries ∷ Features ∷ []
+forbidden_by Word.FeatureCollection = Coordinates ∷ Geometries ∷ Geometry ∷ Properties ∷ []
+forbidden_by Word.Other = []
+forbidden_by _ = Geometry ∷ Properties ∷ Features ∷ []
+
+abbrev pub any_of : List Known → List Known → Bool
+any_of [] found = false
+any_of (name ∷ more) found = mentions found name || any_of more found
+
+-- the type is none of the nine (section 1.4), or it forbids a name that is there, whichever of the two came first
+abbrev pub type_fails : Option Word → List Known → Bool
+type_fails None found = false
+type_fails (Some Word.Other) found = true
+type_fails (Some word) found = any_of (forbidden_by word) found
+
+abbrev pub members_fail : List What → Bool
+members_fail members = repeats [] (names members) || type_fails (first_type members) (names members)
+
+-- ---- the text
+
+-- from the first event of the text's value on: it is no object, or its members fail
+abbrev pub value_fails : What → List Event → Bool
+value_fails What.OpenObject more = members_fail (outermost 1 more)
+value_fails _ more = true
+
+abbrev pub unmarked_fails : List Event → Bool
+unmarked_fails [] = false
+unmarked_fails (event ∷ more) = value_fails event.what more
+
+-- after a byte order mark, where there is one
+abbrev pub text_fails : What → List Event → Bool
+text_fails What.Mark more = unmarked_fails more
+text_fails what more = value_fails what more
+
+abbrev pub is_doomed : List Event → Bool
+is_doomed [] = false
+is_doomed (event ∷ more) = text_fails event.what more
+
+-- these bytes begin a text that nests no deeper, and the events complete in them show it
+abbrev pub BeginNoGeoJson : ℕ → List ℕ → Type 0
+BeginNoGeoJson levels bytes = (rest : List ℕ) × (text : Text) × IsTextWithin levels text (bytes ++ rest) × IsTrue (is_doomed (events_by (length bytes) text))
