@@ -8,6 +8,7 @@ pub mod LeastIs
 pub mod Agreeing
 pub mod WarningExamples
 pub mod WarningsStand
+pub mod WarningsShifted
 pub mod WindingExamples
 pub mod CoordinateWarningExamples
 pub mod Sizes

@@ -27,6 +27,10 @@ joined_noted a b =
     else (if is_nothing b then a
     else noted_as (min (a.count + b.count) greatest_count) (min a.first b.first))
 
+-- the place is so many bytes further on, where there is one
+abbrev pub shifted_noted : ℕ → Noted → Noted
+shifted_noted by a = noted_as a.count (if a.count == 0 then a.first else a.first + by)
+
 -- what is kept of each kind, side by side
 abbrev pub by_kind : (Kind → Noted) → Warnings
 by_kind noted = record {
@@ -88,6 +92,10 @@ no_warnings = by_kind (λ kind. nothing_noted)
 -- what is kept of both, kind by kind
 unfoldable pub joined : Warnings → Warnings → Warnings
 joined a b = by_kind (λ kind. joined_noted (kept a kind) (kept b kind))
+
+-- each place so many bytes further on
+unfoldable pub shifted : Warnings → ℕ → Warnings
+shifted a by = by_kind (λ kind. shifted_noted by (kept a kind))
 
 -- one kind replaced
 abbrev pub replaced : Warnings → Kind → Noted → Warnings

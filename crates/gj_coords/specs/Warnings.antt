@@ -1,5 +1,5 @@
 -- What is worth a warning in a text that breaks no rule: warnings, each with a kind and a place, and what is reported of them.
-use Rattle.std.specs.Prelude.{ℕ, min, List, [], ◌∷◌, map, length, filter, Option, Some, None, Bool, nat_eq}
+use Rattle.std.specs.Prelude.{ℕ, ◌+◌, min, List, [], ◌∷◌, map, length, filter, Option, Some, None, Bool, nat_eq}
 use Rattle.gj_coords.specs.declared.kind.Kind.{Kind}
 
 -- the number in a kind's name
@@ -21,6 +21,10 @@ pub record Warning : Type 0 where
 
 abbrev pub warning_at : ℕ → Kind → Warning
 warning_at place kind = record { place = place; kind = kind }
+
+-- the same warning, so many bytes further on
+abbrev pub shifted_by : ℕ → Warning → Warning
+shifted_by by warning = warning_at (warning.place + by) warning.kind
 
 abbrev pub same_kind : Kind → Kind → Bool
 same_kind a b = nat_eq (kind_number a) (kind_number b)

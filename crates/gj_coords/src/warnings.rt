@@ -63,9 +63,9 @@ pub struct Warnings {
 const _: () = prove!(size_of::<Warnings>() == 112);
 
 impl Warnings {
-    ghost use Rattle.std.specs.Prelude.{◌≡◌, ◌↔◌, ◌++◌, ◌∷◌, [], List, IsTrue};
-    ghost use Rattle.gj_coords.specs.Warnings.{Warning, warning_at, count_of, first_of};
-    ghost use Rattle.gj_coords.specs.Noted.{StandsFor, warnings_of, no_warnings, joined, added, replaced, kept, joined_noted, with_noted, count_in, first_in, none_in};
+    ghost use Rattle.std.specs.Prelude.{◌≡◌, ◌↔◌, ◌++◌, ◌∷◌, [], ℕ, ◌+◌, ◌≤◌, ◌^◌, List, map, IsTrue};
+    ghost use Rattle.gj_coords.specs.Warnings.{Warning, warning_at, shifted_by, count_of, first_of};
+    ghost use Rattle.gj_coords.specs.Noted.{StandsFor, warnings_of, no_warnings, joined, shifted, added, replaced, kept, joined_noted, shifted_noted, with_noted, count_in, first_in, none_in};
 
     /// No warning.
     #[tactic(auto, unfolding(crate::specs::Noted::no_warnings, crate::specs::Noted::warnings_of))]
@@ -173,6 +173,50 @@ impl Warnings {
             w8: w8.count,
             w9: w9.count,
         };
+    }
+
+    /// The same warnings, each so many bytes further on. It asks that no place goes past 2^61, which `first` tells.
+    pub fn shifted(self, by: u64) -> Warnings
+        requires { (kind : Kind) (place : ℕ) → first_in kind self ≡ Some place → place + by ≤ 2 ^ 61 }
+        ensures stands { (warnings : List Warning) → StandsFor self warnings →
+            StandsFor result (map (shifted_by by) warnings) }
+        ensures exact { result ≡ shifted self by }
+    {
+        let mut all = self;
+        all.shift(by);
+        all
+    }
+
+    /// Moves each place so many bytes further on.
+    #[tactic(auto, unfolding(crate::specs::Noted::shifted))]
+    fn shift(&mut self, by: u64)
+        requires { (kind : Kind) (place : ℕ) → first_in kind self.old ≡ Some place → place + by ≤ 2 ^ 61 }
+        ensures { self.new ≡ shifted self.old by }
+    {
+        self.firsts = Firsts {
+            w1: self.first_shifted(Kind::W1, by),
+            w2: self.first_shifted(Kind::W2, by),
+            w3: self.first_shifted(Kind::W3, by),
+            w4: self.first_shifted(Kind::W4, by),
+            w5: self.first_shifted(Kind::W5, by),
+            w6: self.first_shifted(Kind::W6, by),
+            w7: self.first_shifted(Kind::W7, by),
+            w8: self.first_shifted(Kind::W8, by),
+            w9: self.first_shifted(Kind::W9, by),
+        };
+    }
+
+    /// The least place of a kind so many bytes further on, which stays 0 where there is none.
+    fn first_shifted(&self, kind: Kind, by: u64) -> u64
+        requires { (place : ℕ) → first_in kind self.now ≡ Some place → place + by ≤ 2 ^ 61 }
+        ensures { result ≡ (shifted_noted by (kept self.now kind)).first }
+    {
+        let noted = self.kept(kind);
+        if noted.count > 0 {
+            noted.first + by
+        } else {
+            noted.first
+        }
     }
 
     /// How many warnings there are of a kind.

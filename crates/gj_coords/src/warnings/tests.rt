@@ -1,4 +1,8 @@
 //! Rows of warnings, and what is reported of them.
+ghost use Rattle.std.specs.Prelude.{◌∷◌, []};
+ghost use Rattle.gj_coords.specs.Warnings.{warning_at};
+ghost use Rattle.gj_coords.specs.Noted.{StandsFor};
+
 use super::Warnings;
 use crate::kind::Kind;
 
@@ -14,7 +18,9 @@ const KINDS: [Kind; 9] = [
     Kind::W9,
 ];
 
-fn at(kind: Kind, place: u64) -> Warnings {
+fn at(kind: Kind, place: u64) -> Warnings
+    ensures { StandsFor result (warning_at place kind ∷ []) }
+{
     Warnings::none().add(kind, place)
 }
 
@@ -192,4 +198,25 @@ fn counts_and_places(rt: HostRuntime) {
         assert!(rt; warnings.first(kind) == first, "{meaning}: first");
         assert!(rt; !warnings.is_empty(), "{meaning}: not empty");
     }
+}
+
+/// One warning, so many bytes further on.
+fn one_shifted(kind: Kind, place: u32, by: u32) -> Warnings {
+    at(kind, place as u64).shifted(by as u64)
+}
+
+#[test]
+fn shifted(rt: HostRuntime) {
+    for kind in KINDS {
+        let on = one_shifted(kind, 30, 39);
+        for other in KINDS {
+            let first = if other == kind { Some(69) } else { None };
+            assert!(rt; on.first(other) == first, "{kind:?}: place of {other:?}");
+            assert!(rt; on.count(other) == at(kind, 30).count(other));
+        }
+    }
+    assert!(rt;
+        one_shifted(Kind::W1, 0, 1).first(Kind::W1) == Some(1),
+        "a place of 0 is a place"
+    );
 }

@@ -1,0 +1,6 @@
+use Rattle.std.proofs.Common.{◌∙◌}
+use Rattle.gj_coords.proofs.WarningsShifted.{shifted_stands}
+use Rattle.gj_coords.proofs.warnings.Warnings.shifted.Goals as goal
+
+pub returns-clause-stands : goal.returns-clause-stands
+returns-clause-stands c warnings h = c.shift.ensures ∙ shifted_stands c.args.self c.args.by warnings h
