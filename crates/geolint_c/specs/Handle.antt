@@ -1,0 +1,79 @@
+-- What a handle stands for, and what each of its calls gives.
+use Rattle.std.specs.Prelude.{◌≡◌, ℕ, List, [], ◌++◌, length, Option, Some, None}
+use Rattle.gj_json.specs.Limits.{Allowed}
+use Rattle.gj_json.specs.declared.fault.JsonFault.{JsonFault}
+use Rattle.gj_rules.specs.declared.linter.Linter.{Linter}
+use Rattle.gj_rules.specs.declared.linter.Progress.{Progress}
+use Rattle.gj_rules.specs.declared.linter.Progress.TheVariants.{Open, Refused}
+use Rattle.gj_rules.specs.Linter.{StandsFor as LinterStandsFor, limits_of, refusal_of, Answers}
+use Rattle.geolint_c.specs.declared.handle.Handle.{Handle}
+use Rattle.geolint_c.specs.declared.report.Report.{Report}
+use Rattle.geolint_c.specs.Options.{AreAllowed, limits_meant}
+use Rattle.geolint_c.specs.Report.{Reports, no_report}
+
+abbrev pub IsFed : Option Linter → Allowed → List ℕ → Type 0
+IsFed None limits bytes = ⊥
+IsFed (Some linter) limits bytes = LinterStandsFor linter bytes × (limits_of linter ≡ limits)
+
+-- it was begun under these limits and fed these bytes, and has not ended
+abbrev pub StandsFor : Handle → Allowed → List ℕ → Type 0
+StandsFor handle limits bytes = IsFed handle.linter limits bytes
+
+abbrev pub HasEnded : Handle → Type 0
+HasEnded handle = handle.linter ≡ None
+
+-- ---- begin
+abbrev pub BegunLive : ℕ → ℕ → Handle → Type 0
+BegunLive max_depth max_bytes handle =
+    AreAllowed max_depth max_bytes → StandsFor handle (limits_meant max_depth max_bytes) []
+
+abbrev pub BegunEnded : ℕ → ℕ → Handle → Type 0
+BegunEnded max_depth max_bytes handle = ¬ (AreAllowed max_depth max_bytes) → HasEnded handle
+
+abbrev pub BegunStatus : ℕ → ℕ → ℕ → Type 0
+BegunStatus max_depth max_bytes status =
+    (AreAllowed max_depth max_bytes → status ≡ 0) × (¬ (AreAllowed max_depth max_bytes) → status ≡ 3)
+
+-- ---- feed
+-- the number by which a call tells what a piece shows
+abbrev pub status_of : Progress → ℕ
+status_of Open = 0
+status_of (Refused fault) = 1
+
+abbrev pub AnswersBy : Allowed → List ℕ → ℕ → Type 0
+AnswersBy limits bytes status = (progress : Progress) × Answers limits bytes progress × (status ≡ status_of progress)
+
+abbrev pub FedStands : Handle → List ℕ → Handle → Type 0
+FedStands old piece new =
+    (limits : Allowed) (bytes : List ℕ) → StandsFor old limits bytes → StandsFor new limits (bytes ++ piece)
+
+abbrev pub FedAnswer : Handle → List ℕ → ℕ → Type 0
+FedAnswer old piece status =
+    (limits : Allowed) (bytes : List ℕ) → StandsFor old limits bytes → AnswersBy limits (bytes ++ piece) status
+
+abbrev pub FedEnded : Handle → ℕ → Handle → Type 0
+FedEnded old status new = HasEnded old → (status ≡ 2) × (new ≡ old)
+
+-- ---- offset
+-- as long as the bytes may become an admitted text, how many they are
+abbrev pub OffsetTaken : Handle → ℕ → Type 0
+OffsetTaken handle offset =
+    (linter : Linter) (bytes : List ℕ) → handle.linter ≡ Some linter → LinterStandsFor linter bytes
+    → refusal_of linter ≡ None → offset ≡ length bytes
+
+-- once they are refused, the place of the refusal
+abbrev pub OffsetRefused : Handle → ℕ → Type 0
+OffsetRefused handle offset =
+    (linter : Linter) (bytes : List ℕ) (fault : JsonFault) → handle.linter ≡ Some linter → LinterStandsFor linter bytes
+    → refusal_of linter ≡ Some fault → offset ≡ fault.place
+
+abbrev pub OffsetEnded : Handle → ℕ → Type 0
+OffsetEnded handle offset = HasEnded handle → offset ≡ 0
+
+-- ---- finish
+abbrev pub FinishedVerdict : Handle → Report → Type 0
+FinishedVerdict old report =
+    (limits : Allowed) (bytes : List ℕ) → StandsFor old limits bytes → Reports limits bytes report
+
+abbrev pub FinishedEnded : Handle → Report → Type 0
+FinishedEnded old report = HasEnded old → report ≡ no_report 2

@@ -1,0 +1,154 @@
+//! A verdict in plain numbers.
+ghost use Rattle.std.specs.Prelude.{◌≡◌};
+ghost use Rattle.geolint_c.specs.Report.{cause_number, warned_of, all_warned, report_of, nothing_warned, valid_report, broken_report, refusal_report, no_report};
+
+use crate::status::DONE;
+use gj_coords::{Fault, Kind, Warnings};
+use gj_json::{Cause, JsonFault};
+use gj_rules::Verdict;
+
+/// What a text is; 0 says that it was not judged.
+const VALID: u32 = 1;
+
+const BROKEN: u32 = 2;
+
+const NOT_JSON: u32 = 3;
+
+/// The warnings of one kind: how many, and the place of the first, which is 0 where there is none.
+#[repr(C)]
+#[derive(Clone, Copy)]
+pub struct Warned {
+    pub count: u64,
+    pub first: u64,
+}
+
+/// A verdict: which of the three it is, or 0 where there is none, and then the status says why; the number of the broken
+/// rule (1 to 21) or of the cause (1 to 4), otherwise 0; the place of either as a byte offset; and of each kind of warning,
+/// in the order of their numbers, how many there are.
+#[repr(C)]
+#[derive(Clone, Copy)]
+pub struct Report {
+    pub status: u32,
+    pub verdict: u32,
+    pub rule: u32,
+    pub cause: u32,
+    pub place: u64,
+    /// 1 where there is a warning, otherwise 0.
+    pub warned: u64,
+    pub warnings: [Warned; 9],
+}
+
+/// The number in a cause's name.
+fn cause_number(cause: Cause) -> u32
+    ensures { result ≡ cause_number cause }
+{
+    match cause {
+        Cause::Syntax => 1,
+        Cause::Truncated => 2,
+        Cause::Depth => 3,
+        Cause::Length => 4,
+    }
+}
+
+fn warned_of(warnings: &Warnings, kind: Kind) -> Warned
+    ensures { result ≡ warned_of warnings.now kind }
+{
+    let first = match warnings.first(kind) {
+        Some(place) => place,
+        None => 0,
+    };
+    Warned {
+        count: warnings.count(kind) as u64,
+        first,
+    }
+}
+
+fn all_warned(warnings: &Warnings) -> [Warned; 9]
+    ensures { result ≡ all_warned warnings.now }
+{
+    [
+        warned_of(warnings, Kind::W1),
+        warned_of(warnings, Kind::W2),
+        warned_of(warnings, Kind::W3),
+        warned_of(warnings, Kind::W4),
+        warned_of(warnings, Kind::W5),
+        warned_of(warnings, Kind::W6),
+        warned_of(warnings, Kind::W7),
+        warned_of(warnings, Kind::W8),
+        warned_of(warnings, Kind::W9),
+    ]
+}
+
+fn nothing_warned() -> [Warned; 9]
+    ensures { result ≡ nothing_warned }
+{
+    [Warned { count: 0, first: 0 }; 9]
+}
+
+fn report_of_valid(warnings: &Warnings) -> Report
+    ensures { result ≡ valid_report warnings.now }
+{
+    Report {
+        status: DONE,
+        verdict: VALID,
+        rule: 0,
+        cause: 0,
+        place: 0,
+        warned: if warnings.is_empty() { 0 } else { 1 },
+        warnings: all_warned(warnings),
+    }
+}
+
+fn report_of_broken(fault: Fault) -> Report
+    ensures { result ≡ broken_report fault }
+{
+    Report {
+        status: DONE,
+        verdict: BROKEN,
+        rule: fault.rule.number() as u32,
+        cause: 0,
+        place: fault.place,
+        warned: 0,
+        warnings: nothing_warned(),
+    }
+}
+
+fn report_of_refusal(fault: JsonFault) -> Report
+    ensures { result ≡ refusal_report fault }
+{
+    Report {
+        status: DONE,
+        verdict: NOT_JSON,
+        rule: 0,
+        cause: cause_number(fault.cause),
+        place: fault.place,
+        warned: 0,
+        warnings: nothing_warned(),
+    }
+}
+
+/// The verdict in plain numbers.
+pub fn report_of(verdict: &Verdict) -> Report
+    ensures { result ≡ report_of verdict.now }
+{
+    match verdict {
+        Verdict::Valid(warnings) => report_of_valid(warnings),
+        Verdict::Broken(fault) => report_of_broken(*fault),
+        Verdict::NotJson(fault) => report_of_refusal(*fault),
+    }
+}
+
+/// What a call gives that judges nothing.
+pub fn no_report(status: u32) -> Report
+    ensures { result ≡ no_report status }
+{
+    Report {
+        status,
+        verdict: 0,
+        rule: 0,
+        cause: 0,
+        place: 0,
+        warned: 0,
+        warnings: nothing_warned(),
+    }
+}

@@ -1,0 +1,16 @@
+//! What a call answers.
+
+/// The call did what it is for; of a piece: the input may still become a JSON text within the limits.
+pub const DONE: u32 = 0;
+
+/// Of a piece: the input is refused, and so is every input that begins so.
+pub const REFUSED: u32 = 1;
+
+/// The handle has ended: nothing was changed.
+pub const ENDED: u32 = 2;
+
+/// The limits are not allowed: nothing can be judged under them.
+pub const LIMITS: u32 = 3;
+
+/// The pointer is null: nothing was changed.
+pub const NULL: u32 = 4;
