@@ -1,0 +1,101 @@
+"""Judges the texts of rows.json by the library, in one call, in one piece, byte by byte and cut at each place (longer texts:
+at some), and compares with the verdict in the row. Then what the module says of itself."""
+
+import io
+import json
+import os
+import random
+import sys
+
+import geolint
+
+failed = 0
+
+
+def wants(name, got, wanted):
+    global failed
+    if got != wanted:
+        failed += 1
+        print(f"FAILED: {name}: {got}, wanted {wanted}")
+
+
+def text_of(parts):
+    text = b""
+    for part in parts:
+        if isinstance(part, str):
+            text += part.encode()
+        elif "hex" in part:
+            text += bytes.fromhex(part["hex"])
+        else:
+            text += text_of(part["of"]) * part["times"]
+    return text
+
+
+def plain(verdict):
+    if verdict.valid:
+        return {"warnings": [[w.kind, w.count, w.first] for w in verdict.warnings]}
+    number = {"rule": verdict.rule} if verdict.rule else {"cause": verdict.cause}
+    return {**number, "place": verdict.place}
+
+
+def fed(pieces, **limits):
+    linter = geolint.Linter(**limits)
+    for piece in pieces:
+        linter.feed(piece)
+    return plain(linter.finish())
+
+
+rows = json.load(open(os.path.join(os.path.dirname(__file__), "rows.json")))
+chance = random.Random(22)
+for number, row in enumerate(rows, 1):
+    text = text_of(row["text"])
+    limits = {name: row[name] for name in ("max_depth", "max_bytes") if name in row}
+    wanted = {name: row[name] for name in ("rule", "cause", "place", "warnings") if name in row}
+    name = f"row {number} of rows.json"
+    wants(name, plain(geolint.check(text, **limits)), wanted)
+    wants(name + ", as a file", plain(geolint.check(io.BytesIO(text), **limits)), wanted)
+    if len(text) < 4096:
+        wants(name + ", byte by byte", fed([text[i : i + 1] for i in range(len(text))], **limits), wanted)
+        for at in range(1, len(text)):
+            wants(f"{name}, cut at {at}", fed([text[:at], text[at:]], **limits), wanted)
+    else:
+        for at in (chance.randrange(len(text)) for _ in range(5)):
+            wants(f"{name}, cut at {at}", fed([text[:at], b"", text[at:]], **limits), wanted)
+
+ring = b'{"type":"Polygon","coordinates":[[[0,0],[1,0],[1,1],[0,0,0]]]}'
+verdict = geolint.check(memoryview(bytearray(ring)))
+wants("the lines", str(verdict), "broken G15 at 33: ring not closed")
+wants("not valid is not true", bool(verdict), False)
+wants("equal verdicts", verdict, geolint.check(io.BytesIO(ring)))
+try:
+    verdict.place = 1
+    wants("a frozen verdict", "changed", "refused")
+except AttributeError:
+    pass
+
+with geolint.Linter() as linter:
+    stored = b"".join(linter.watch(ring[i : i + 5] for i in range(0, len(ring), 5)))
+    wants("the offset", linter.offset, len(ring))
+wants("what a block stored", stored, ring)
+wants("what a block judged", linter.verdict, verdict)
+wants("a second finish", linter.finish(), verdict)
+for name, call in {
+    "feed after the end": lambda: linter.feed(b"x"),
+    "a depth of 65": lambda: geolint.check(b"", max_depth=65),
+    "no bytes allowed": lambda: geolint.Linter(max_bytes=0),
+    "a depth below 0": lambda: geolint.Linter(max_depth=-1),
+}.items():
+    try:
+        call()
+        wants(name, "nothing", "an error")
+    except ValueError:
+        pass
+wants("a version", geolint.version().count("."), 2)
+
+# Any number of linters at once.
+many = [geolint.Linter() for _ in range(50)]
+for i in range(len(ring)):
+    for linter in many:
+        linter.feed(ring[i : i + 1])
+wants("many at once", {linter.finish() for linter in many}, {verdict})
+sys.exit(failed != 0)

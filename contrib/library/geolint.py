@@ -1,0 +1,224 @@
+"""geolint for Python: is a text GeoJSON (RFC 7946), and otherwise where and why not.
+
+    >>> import geolint
+    >>> geolint.check(b'{"type":"Point","coordinates":[17.1, 48.1]}').valid
+    True
+    >>> with open("map.geojson", "rb") as file:
+    ...     verdict = geolint.check(file)
+    >>> print(verdict)
+    broken G15 at 89: ring not closed
+
+It needs nothing but the shared object `libgeolint.so`: the one that the variable GEOLINT_LIBRARY names, otherwise one that
+lies beside this file, otherwise the system's.
+"""
+
+import ctypes
+import ctypes.util
+import os
+from dataclasses import dataclass
+
+__all__ = ["check", "Linter", "Verdict", "Warning", "Ended", "version"]
+
+_PIECE = 65536
+
+_DONE, _REFUSED, _ENDED, _LIMITS = 0, 1, 2, 3
+_NAMES = {1: "valid", 2: "broken", 3: "not JSON"}
+
+
+class _Warned(ctypes.Structure):
+    _fields_ = [("count", ctypes.c_uint64), ("first", ctypes.c_uint64)]
+
+
+class _Report(ctypes.Structure):
+    _fields_ = [
+        ("status", ctypes.c_uint32),
+        ("verdict", ctypes.c_uint32),
+        ("rule", ctypes.c_uint32),
+        ("cause", ctypes.c_uint32),
+        ("place", ctypes.c_uint64),
+        ("warned", ctypes.c_uint64),
+        ("warnings", _Warned * 9),
+    ]
+
+
+class _Text(ctypes.Structure):
+    _fields_ = [("bytes", ctypes.c_char_p), ("size", ctypes.c_size_t)]
+
+
+def _load():
+    beside = os.path.join(os.path.dirname(os.path.abspath(__file__)), "libgeolint.so")
+    named = os.environ.get("GEOLINT_LIBRARY")
+    path = named or (beside if os.path.exists(beside) else ctypes.util.find_library("geolint"))
+    if not path:
+        raise ImportError("libgeolint.so is not installed; GEOLINT_LIBRARY may name it")
+    library = ctypes.CDLL(path)
+    address, size, u32, u64 = ctypes.c_void_p, ctypes.c_size_t, ctypes.c_uint32, ctypes.c_uint64
+    text = ctypes.POINTER(_Text)
+    for name, result, words in [
+        ("check", _Report, [address, size, u32, u64]),
+        ("size", size, []),
+        ("alignment", size, []),
+        ("begin", u32, [address, u32, u64]),
+        ("feed", u32, [address, address, size]),
+        ("offset", u64, [address]),
+        ("finish", _Report, [address]),
+        ("rule_text", None, [u32, text]),
+        ("cause_text", None, [u32, text]),
+        ("warning_text", None, [u32, text]),
+        ("version_text", None, [text]),
+    ]:
+        call = getattr(library, "geolint_" + name)
+        call.restype, call.argtypes = result, words
+    return library
+
+
+_library = _load()
+
+
+def _text(call, *number):
+    text = _Text(b"", 1)
+    call(*number, ctypes.byref(text))
+    return text.bytes.decode("ascii")
+
+
+def version():
+    """The version of the library."""
+    return _text(_library.geolint_version_text)
+
+
+@dataclass(frozen=True)
+class Warning:
+    """The warnings of one kind: the number in its name, how many, the place of the first, and what it says."""
+
+    kind: int
+    count: int
+    first: int
+    text: str
+
+
+@dataclass(frozen=True)
+class Verdict:
+    """What a text is. `name` is "valid", "broken" or "not JSON"; places are byte offsets.
+
+    `rule` is the number of the broken rule, `cause` that of why it is no JSON text, `place` and `text` belong to either;
+    None where there is none. `warnings` are those of a valid text. A verdict is true where the text is valid.
+    """
+
+    name: str
+    rule: "int | None" = None
+    cause: "int | None" = None
+    place: "int | None" = None
+    text: "str | None" = None
+    warnings: "tuple[Warning, ...]" = ()
+
+    @property
+    def valid(self):
+        return self.name == "valid"
+
+    def __bool__(self):
+        return self.valid
+
+    def __str__(self):
+        """The lines of the program's report."""
+        if self.valid:
+            lines = [f"warning W{w.kind} count {w.count} first {w.first}: {w.text}" for w in self.warnings]
+            return "\n".join(["valid", *lines])
+        rule = f" G{self.rule}" if self.rule else ""
+        return f"{self.name}{rule} at {self.place}: {self.text}"
+
+
+class Ended(ValueError):
+    """A linter was used after its end."""
+
+
+def _verdict(report):
+    if report.status == _ENDED:
+        raise Ended("the linter has ended")
+    if report.status != _DONE:
+        raise ValueError("a depth is from 1 to 64, and a number of bytes from 1 to 2**60")
+    name = _NAMES[report.verdict]
+    if name == "valid":
+        noted = [(kind, w.count, w.first) for kind, w in enumerate(report.warnings, 1) if w.count]
+        return Verdict(name, warnings=tuple(Warning(*n, _text(_library.geolint_warning_text, n[0])) for n in noted))
+    if name == "broken":
+        return Verdict(name, rule=report.rule, place=report.place, text=_text(_library.geolint_rule_text, report.rule))
+    return Verdict(name, cause=report.cause, place=report.place, text=_text(_library.geolint_cause_text, report.cause))
+
+
+def _limits(max_depth, max_bytes):
+    depth, most = 0 if max_depth is None else max_depth, 0 if max_bytes is None else max_bytes
+    if max_depth == 0 or max_bytes == 0 or not (0 <= depth <= 64 and 0 <= most <= 2**60):
+        raise ValueError("a depth is from 1 to 64, and a number of bytes from 1 to 2**60")
+    return depth, most
+
+
+def _passed(data):
+    """What a call is passed for some bytes: an address (of bytes, or of a copy) and the length."""
+    if not isinstance(data, bytes):
+        data = bytes(memoryview(data))
+    return data, ctypes.cast(ctypes.c_char_p(data), ctypes.c_void_p), len(data)
+
+
+class Linter:
+    """Judges a text that comes in pieces. Give it to one thread at a time.
+
+    As a context manager it is finished at the end of the block:
+
+        with geolint.Linter() as linter:
+            for chunk in linter.watch(request.stream):
+                store.write(chunk)
+        if not linter.verdict:
+            ...
+    """
+
+    def __init__(self, max_depth=None, max_bytes=None):
+        self.verdict = None
+        limits = _limits(max_depth, max_bytes)
+        size, alignment = _library.geolint_size(), _library.geolint_alignment()
+        self._memory = ctypes.create_string_buffer(size + alignment)
+        self._at = -(-ctypes.addressof(self._memory) // alignment) * alignment
+        _library.geolint_begin(self._at, *limits)
+
+    def feed(self, data):
+        """Takes the next bytes. False says that the text is refused: the host may stop reading."""
+        kept, at, length = _passed(data)
+        status = _library.geolint_feed(self._at, at, length)
+        if status == _ENDED:
+            raise Ended("the linter has ended")
+        return status != _REFUSED
+
+    def watch(self, pieces):
+        """Hands pieces of bytes on, and feeds each before. It reads all of them, also where the text is refused."""
+        for piece in pieces:
+            self.feed(piece)
+            yield piece
+
+    @property
+    def offset(self):
+        """How many bytes were taken: the place of the refusal, once there was one."""
+        return _library.geolint_offset(self._at)
+
+    def finish(self):
+        """The verdict of all that was fed, and the end of the linter. A second call gives the same."""
+        if self.verdict is None:
+            self.verdict = _verdict(_library.geolint_finish(self._at))
+        return self.verdict
+
+    def __enter__(self):
+        return self
+
+    def __exit__(self, kind, error, trace):
+        if kind is None:
+            self.finish()
+
+
+def check(source, max_depth=None, max_bytes=None):
+    """Judges bytes, or what a file-like object gives: a file opened as "rb", an upload, a response."""
+    if not hasattr(source, "read"):
+        kept, at, length = _passed(source)
+        return _verdict(_library.geolint_check(at, length, *_limits(max_depth, max_bytes)))
+    linter = Linter(max_depth, max_bytes)
+    while True:
+        piece = source.read(_PIECE)
+        if not piece or not linter.feed(piece):
+            return linter.finish()

@@ -1,0 +1,233 @@
+//! geolint for Rust, over the library for C: put this file into a crate, and link `libgeolint.a` or `libgeolint.so`.
+//!
+//! `check` judges a text in memory. A `Linter` judges one that comes in pieces, also as an `io::Write`, so that a download
+//! can be judged while it is stored (`Judging`).
+
+use std::alloc::{Layout, alloc, dealloc};
+use std::ffi::{CStr, c_char, c_void};
+use std::io;
+use std::ptr::NonNull;
+
+/// The header `geolint.h` in Rust's words.
+mod c {
+    use super::*;
+
+    pub const DONE: u32 = 0;
+    pub const REFUSED: u32 = 1;
+    pub const VALID: u32 = 1;
+    pub const BROKEN: u32 = 2;
+    pub const NOT_JSON: u32 = 3;
+
+    #[repr(C)]
+    #[derive(Clone, Copy)]
+    pub struct Warned {
+        pub count: u64,
+        pub first: u64,
+    }
+
+    #[repr(C)]
+    #[derive(Clone, Copy)]
+    pub struct Report {
+        pub status: u32,
+        pub verdict: u32,
+        pub rule: u32,
+        pub cause: u32,
+        pub place: u64,
+        pub warned: u64,
+        pub warnings: [Warned; 9],
+    }
+
+    #[repr(C)]
+    pub struct Text {
+        pub bytes: *const c_char,
+        pub size: usize,
+    }
+
+    unsafe extern "C" {
+        pub fn geolint_check(bytes: *const u8, length: usize, max_depth: u32, max_bytes: u64) -> Report;
+        pub fn geolint_size() -> usize;
+        pub fn geolint_alignment() -> usize;
+        pub fn geolint_begin(linter: *mut c_void, max_depth: u32, max_bytes: u64) -> u32;
+        pub fn geolint_feed(linter: *mut c_void, bytes: *const u8, length: usize) -> u32;
+        pub fn geolint_offset(linter: *mut c_void) -> u64;
+        pub fn geolint_finish(linter: *mut c_void) -> Report;
+        pub fn geolint_rule_text(rule: u32, text: *mut Text);
+        pub fn geolint_cause_text(cause: u32, text: *mut Text);
+        pub fn geolint_warning_text(kind: u32, text: *mut Text);
+        pub fn geolint_version_text(text: *mut Text);
+    }
+}
+
+/// How deep a text may nest, and how many bytes it may have; 0 stands for the most that can be.
+#[derive(Clone, Copy, Debug, Default, PartialEq, Eq)]
+pub struct Limits {
+    pub max_depth: u32,
+    pub max_bytes: u64,
+}
+
+/// Why there is no linter, or no verdict.
+#[derive(Clone, Copy, Debug, PartialEq, Eq)]
+pub enum Refusal {
+    /// The depth may be from 1 to 64 and the number of bytes from 1 to 2^60.
+    Limits,
+    Memory,
+}
+
+/// The warnings of one kind.
+#[derive(Clone, Copy, Debug, PartialEq, Eq)]
+pub struct Warning {
+    /// The number in the kind's name, 1 to 9.
+    pub kind: u32,
+    pub count: u64,
+    /// The place of the first, as a byte offset.
+    pub first: u64,
+}
+
+/// What a text is. Places are byte offsets.
+#[derive(Clone, Debug, PartialEq, Eq)]
+pub enum Verdict {
+    /// A GeoJSON text, and of each kind of warning that there is how many.
+    Valid(Vec<Warning>),
+    /// A JSON text that breaks the rule of this number, 1 to 21.
+    Broken { rule: u32, place: u64 },
+    /// No JSON text within the limits, by the cause of this number, 1 to 4.
+    NotJson { cause: u32, place: u64 },
+}
+
+/// What a piece of an input shows.
+#[derive(Clone, Copy, Debug, PartialEq, Eq)]
+pub enum Progress {
+    /// The input may still become a JSON text.
+    Open,
+    /// It is refused, and so is every input that begins so.
+    Refused,
+}
+
+fn verdict_of(report: &c::Report) -> Option<Verdict> {
+    match report.verdict {
+        c::VALID => {
+            let all = (1..).zip(&report.warnings);
+            let noted = all.filter(|(_, warned)| warned.count > 0);
+            let warnings = noted.map(|(kind, warned)| Warning { kind, count: warned.count, first: warned.first });
+            Some(Verdict::Valid(warnings.collect()))
+        }
+        c::BROKEN => Some(Verdict::Broken { rule: report.rule, place: report.place }),
+        c::NOT_JSON => Some(Verdict::NotJson { cause: report.cause, place: report.place }),
+        _ => None,
+    }
+}
+
+/// Judges a text in memory.
+pub fn check(text: &[u8], limits: Limits) -> Result<Verdict, Refusal> {
+    // A slice's pointer is never null.
+    let report = unsafe { c::geolint_check(text.as_ptr(), text.len(), limits.max_depth, limits.max_bytes) };
+    verdict_of(&report).ok_or(Refusal::Limits)
+}
+
+/// Judges a text that comes in pieces.
+pub struct Linter {
+    memory: NonNull<u8>,
+    layout: Layout,
+}
+
+// It owns its memory, the library keeps nothing else, and each call takes it by `&mut`.
+unsafe impl Send for Linter {}
+
+impl Linter {
+    pub fn new(limits: Limits) -> Result<Linter, Refusal> {
+        let (size, alignment) = unsafe { (c::geolint_size(), c::geolint_alignment()) };
+        let layout = Layout::from_size_align(size, alignment).map_err(|_| Refusal::Memory)?;
+        let memory = NonNull::new(unsafe { alloc(layout) }).ok_or(Refusal::Memory)?;
+        let linter = Linter { memory, layout };
+        match unsafe { c::geolint_begin(linter.at(), limits.max_depth, limits.max_bytes) } {
+            c::DONE => Ok(linter),
+            _ => Err(Refusal::Limits),
+        }
+    }
+
+    fn at(&self) -> *mut c_void {
+        self.memory.as_ptr().cast()
+    }
+
+    /// Takes the next bytes.
+    pub fn feed(&mut self, piece: &[u8]) -> Progress {
+        match unsafe { c::geolint_feed(self.at(), piece.as_ptr(), piece.len()) } {
+            c::REFUSED => Progress::Refused,
+            _ => Progress::Open,
+        }
+    }
+
+    /// How many bytes were taken: the place of the refusal, once there was one.
+    pub fn offset(&mut self) -> u64 {
+        unsafe { c::geolint_offset(self.at()) }
+    }
+
+    /// The verdict of all that was fed.
+    pub fn finish(self) -> Verdict {
+        let report = unsafe { c::geolint_finish(self.at()) };
+        verdict_of(&report).expect("a linter is finished once")
+    }
+}
+
+impl Drop for Linter {
+    fn drop(&mut self) {
+        unsafe { dealloc(self.memory.as_ptr(), self.layout) }
+    }
+}
+
+/// A write never fails and takes all bytes, also of a text that is refused: the verdict says it at the end.
+impl io::Write for Linter {
+    fn write(&mut self, piece: &[u8]) -> io::Result<usize> {
+        self.feed(piece);
+        Ok(piece.len())
+    }
+
+    fn flush(&mut self) -> io::Result<()> {
+        Ok(())
+    }
+}
+
+/// Stores what is written, and judges what was stored.
+pub struct Judging<W> {
+    pub linter: Linter,
+    pub store: W,
+}
+
+impl<W: io::Write> io::Write for Judging<W> {
+    fn write(&mut self, piece: &[u8]) -> io::Result<usize> {
+        let stored = self.store.write(piece)?;
+        self.linter.feed(&piece[..stored]);
+        Ok(stored)
+    }
+
+    fn flush(&mut self) -> io::Result<()> {
+        self.store.flush()
+    }
+}
+
+fn text(write: impl FnOnce(&mut c::Text)) -> &'static str {
+    let mut text = c::Text { bytes: c"".as_ptr(), size: 1 };
+    write(&mut text);
+    // The library's texts lie there for good, end with a byte 0, and are ASCII.
+    unsafe { CStr::from_ptr(text.bytes) }.to_str().unwrap_or("")
+}
+
+/// What the rule of this number says; empty where there is none.
+pub fn rule_text(rule: u32) -> &'static str {
+    text(|text| unsafe { c::geolint_rule_text(rule, text) })
+}
+
+/// What the cause of this number says; empty where there is none.
+pub fn cause_text(cause: u32) -> &'static str {
+    text(|text| unsafe { c::geolint_cause_text(cause, text) })
+}
+
+/// What the kind of warning of this number says; empty where there is none.
+pub fn warning_text(kind: u32) -> &'static str {
+    text(|text| unsafe { c::geolint_warning_text(kind, text) })
+}
+
+/// The version of the library.
+pub fn version() -> &'static str {
+    text(|text| unsafe { c::geolint_version_text(text) })
+}
