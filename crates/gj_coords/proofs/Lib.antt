@@ -3,6 +3,9 @@ pub mod SentLaws
 pub mod ReadingLaws
 pub mod WalkLaws
 pub mod CoordinatesLaws
+pub mod AlikeLaws
+pub mod FlatLaws
+pub mod SteadyLaws
 pub mod BboxLaws
 pub mod LeastIs
 pub mod Agreeing

@@ -1,12 +1,12 @@
 -- A machine that stands behind some events of a value has the rest of them to read.
-use Rattle.std.proofs.Common.{◌≡◌, ◌↔◌, List, [], ◌∷◌, ◌++◌, IsTrue, refl, ◌∙◌, append-nil}
+use Rattle.std.proofs.Common.{◌≡◌, ◌↔◌, List, [], ◌∷◌, ◌++◌, IsTrue, refl, sym, ◌∙◌, append-nil, append_assoc}
 use Rattle.gj_json.specs.declared.event.Event.{Event}
 use Rattle.gj_json.specs.Tree.{Tree}
 use Rattle.gj_json.specs.Events.{value_events}
-use Rattle.gj_coords.specs.Reading.{Machine, Reads, Answers, IsCountable, run, IsAfter}
+use Rattle.gj_coords.specs.Reading.{Machine, Reads, Answers, IsCountable, run, IsAfter, IsBehind}
 use Rattle.gj_coords.proofs.SentLaws.{value_sent}
 
-left : {S A : Type 0} (m : Machine S A) (s : S) (es rest : List Event) (a : A) → Reads m s (es ++ rest) a → Reads m (run m.after s es) rest a
+pub left : {S A : Type 0} (m : Machine S A) (s : S) (es rest : List Event) (a : A) → Reads m s (es ++ rest) a → Reads m (run m.after s es) rest a
 left m s [] rest a h = h
 left m s (e ∷ es) rest a h = left m (m.after s e) es rest a h.1
 
@@ -28,3 +28,20 @@ ended_at_end m meaning law s v es rest k e room = ended_or_not m s rest (meaning
 pub answer_at_end : {S A : Type 0} (m : Machine S A) (meaning : Tree → A) → Answers m meaning → (s : S) (v : Tree) →
     IsAfter m s (value_events v) → IsCountable v → m.answered s ≡ meaning v
 answer_at_end m meaning law s v k room = (left_to_read m meaning law s v (value_events v) [] k (append-nil (value_events v)) room).1
+
+-- ---- a machine that stands behind some events of each value that begins so
+
+pub behind_none : {S A : Type 0} (m : Machine S A) (meaning : Tree → A) → Answers m meaning → (s : S) → m.Ready s → IsBehind m meaning s []
+behind_none m meaning law s ready v rest e room = rw (e ∙ value_sent v) (law.reads s ready v room)
+
+pub behind_more : {S A : Type 0} (m : Machine S A) (meaning : Tree → A) (s : S) (es : List Event) (e : Event) →
+    IsBehind m meaning s es → IsBehind m meaning (m.after s e) (es ++ e ∷ [])
+behind_more m meaning s es e k v rest p room = (k v (e ∷ rest) (sym (append_assoc es (e ∷ []) rest) ∙ p) room).1
+
+pub behind_ended : {S A : Type 0} (m : Machine S A) (meaning : Tree → A) (s : S) (v : Tree) (es rest : List Event) →
+    IsBehind m meaning s es → es ++ rest ≡ value_events v → IsCountable v → IsTrue (m.ended s) ↔ (rest ≡ [])
+behind_ended m meaning s v es rest k e room = ended_or_not m s rest (meaning v) (k v rest e room)
+
+pub behind_answers : {S A : Type 0} (m : Machine S A) (meaning : Tree → A) (s : S) (v : Tree) →
+    IsBehind m meaning s (value_events v) → IsCountable v → m.answered s ≡ meaning v
+behind_answers m meaning s v k room = (k v [] (append-nil (value_events v)) room).1

@@ -24,6 +24,9 @@ pub mod Findings
 pub mod Positions
 pub mod Several
 pub mod Walk
+pub mod FlatPosition
+pub mod Plain
+pub mod Steady
 pub mod CoordinatesKept
 pub mod LeastLaws
 pub mod TallyLaws

@@ -1,10 +1,10 @@
 -- Internal: how a machine reads a value event by event, and answers.
-use Rattle.std.specs.Prelude.{◌≡◌, ℕ, ◌^◌, ◌<◌, List, [], ◌∷◌, Bool, true, false}
+use Rattle.std.specs.Prelude.{◌≡◌, ℕ, ◌^◌, ◌<◌, List, [], ◌∷◌, ◌++◌, Bool, true, false}
 use Rattle.gj_number.specs.Value.{value_of}
 use Rattle.gj_json.specs.declared.constant.Constant.{Constant}
 use Rattle.gj_json.specs.declared.event.Event.{Event}
 use Rattle.gj_json.specs.declared.event.What.{What}
-use Rattle.gj_json.specs.Events.{what_of}
+use Rattle.gj_json.specs.Events.{what_of, value_events}
 use Rattle.gj_json.specs.Names.{word_of}
 use Rattle.gj_json.specs.Tree.{Tree, constant, number, string, depth}
 use Rattle.gj_coords.specs.Sent.{event_at, sent}
@@ -46,3 +46,7 @@ run after s (e ∷ es) = run after (after s e) es
 -- the state after these events
 abbrev pub IsAfter : {S A : Type 0} → Machine S A → S → List Event → Type 0
 IsAfter m s es = s ≡ run m.after m.start es
+
+-- it reads what is left of each value that begins with these events, and then answers for that value
+abbrev pub IsBehind : {S A : Type 0} → Machine S A → (Tree → A) → S → List Event → Type 0
+IsBehind m meaning s es = (value : Tree) (rest : List Event) → es ++ rest ≡ value_events value → IsCountable value → Reads m s rest (meaning value)

@@ -58,6 +58,12 @@ impl<W: Part, G: Gather<W>> Part for Array<W, G> {
         self.other.again();
     }
 
+    fn restart(&mut self) {
+        self.stage = Stage::Due;
+        self.item.restart();
+        self.other.restart();
+    }
+
     fn done(&self) -> bool {
         match self.stage {
             Stage::Broken => self.other.done(),

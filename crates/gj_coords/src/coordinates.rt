@@ -3,11 +3,13 @@
 mod tests;
 
 use crate::fault::Fault;
+use crate::flat;
 use crate::part::Part;
 use crate::simple::Simple;
-use crate::walk::{Walk, all_warnings, least_fault};
+use crate::steady::{Depth, depth_of, is_past};
+use crate::walk::{Walk, all_warnings, least_fault, take_flat};
 use crate::warnings::Warnings;
-use gj_json::Event;
+use gj_json::{Event, Flat};
 use std::mem::size_of;
 
 /// Takes the events of one value of `coordinates`, and tells its least fault and its warnings for each of the six types.
@@ -17,16 +19,20 @@ use std::mem::size_of;
 #[derive(Clone, Copy)]
 pub struct Coordinates {
     walk: Walk,
+    /// Behind this place the walk is steady at the depth.
+    floor: u64,
+    depth: Depth,
 }
 
 // A linter holds one, and begins another for each member `coordinates`.
-const _: () = prove!(size_of::<Coordinates>() == 2896);
+const _: () = prove!(size_of::<Coordinates>() == 2912);
 
 impl Coordinates {
     ghost use Rattle.std.specs.Prelude.{◌≡◌, ◌↔◌, ◌<◌, ◌^◌, ◌++◌, ◌∷◌, List, [], length, IsTrue};
     ghost use Rattle.gj_json.specs.declared.event.Event.{Event};
     ghost use Rattle.gj_json.specs.Tree.{Tree, depth};
     ghost use Rattle.gj_json.specs.Events.{value_events};
+    ghost use Rattle.gj_json.specs.Flat.{flat_events};
     ghost use Rattle.gj_coords.specs.Fault.{least};
     ghost use Rattle.gj_coords.specs.Shape.{coordinates_faults};
     ghost use Rattle.gj_coords.specs.Coordinates.{StandsFor};
@@ -38,7 +44,19 @@ impl Coordinates {
     pub fn new() -> Coordinates
         ensures stands { StandsFor result [] }
     {
-        Coordinates { walk: Part::new() }
+        Coordinates {
+            walk: Part::new(),
+            floor: 0,
+            depth: Depth::Unknown,
+        }
+    }
+
+    /// Begins anew, whatever has come.
+    pub fn again(&mut self)
+        ensures stands { StandsFor self.new [] }
+    {
+        self.depth = Depth::Unknown;
+        self.walk.restart();
     }
 
     /// One event more, whatever it is.
@@ -53,7 +71,37 @@ impl Coordinates {
     pub fn take(&mut self, event: &Event)
         ensures stands { (events : List Event) → StandsFor self.old events → StandsFor self.new (events ++ event.now ∷ []) }
     {
+        self.depth = Depth::Unknown;
         self.walk.event(event);
+    }
+
+    /// The events of an array of numbers that is told as one.
+    #[inline]
+    pub fn take_flat(&mut self, flat: &Flat)
+        ensures stands { (events : List Event) → StandsFor self.old events → StandsFor self.new (events ++ flat_events flat.now) }
+    {
+        if is_past(self.floor, flat) {
+            match self.depth {
+                Depth::Second => return self.walk.item.gather.positions.add_quick(flat),
+                Depth::Third => return self.walk.item.item.gather.positions.add_quick(flat),
+                Depth::First => return flat::warn_quick(
+                    flat,
+                    &mut self.walk.gather.positions_warned,
+                ),
+                _ => {}
+            }
+        }
+        self.take_anew(flat);
+    }
+
+    /// The same wherever it stands.
+    #[inline(never)]
+    fn take_anew(&mut self, flat: &Flat)
+        ensures stands { (events : List Event) → StandsFor self.old events → StandsFor self.new (events ++ flat_events flat.now) }
+    {
+        take_flat(&mut self.walk, flat);
+        self.floor = flat.close;
+        self.depth = depth_of(flat.close, &self.walk);
     }
 
     /// Whether the events are those of a whole value.

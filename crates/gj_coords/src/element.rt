@@ -61,6 +61,10 @@ impl Part for Element {
         self.levels = 0;
     }
 
+    fn restart(&mut self) {
+        self.again();
+    }
+
     fn done(&self) -> bool {
         self.started && self.levels == 0
     }

@@ -1,6 +1,7 @@
 //! The value of `coordinates` itself, as each of the six types.
 use crate::array::Stage;
 use crate::fault::{Fault, join_fault};
+use crate::flat;
 use crate::kind::Kind;
 use crate::part::Gather;
 use crate::position::{Numbers, misshapen};
@@ -9,7 +10,7 @@ use crate::second_level::{SecondLevel, SecondReader};
 use crate::several::line_fault;
 use crate::simple::Simple;
 use crate::warned::Warned;
-use gj_json::Event;
+use gj_json::{Event, Flat};
 
 /// What the whole value gathers of its elements: as numbers; and of them as positions, as lines, as linear rings and as
 /// polygons the least fault and what is worth a warning.
@@ -37,6 +38,7 @@ pub enum FirstSummary {
 
 impl FirstLevel {
     ghost use Rattle.std.specs.Prelude.{◌≡◌};
+    ghost use Rattle.gj_coords.specs.FlatPosition.{flat_second, flat_first};
     ghost use Rattle.gj_coords.specs.Walk.{second_gathering, first_gathering, fault_in, some_fault_in, warned_in, some_warned_in, point_warned_in};
 
     /// Adds an element that is an array, by what it gathered.
@@ -60,6 +62,39 @@ impl FirstLevel {
         join_fault(&mut self.lines, element.line_fault());
         join_fault(&mut self.rings, ring);
         join_fault(&mut self.polygons, element.rings);
+    }
+
+    /// Adds an element that is a position told as one.
+    #[inline]
+    pub fn add_flat(&mut self, position: &Flat)
+        ensures { self.new ≡ first_gathering.added self.old (flat_second position.now) }
+    {
+        let misshapen = flat::misshapen_numbers(position);
+        flat::warn(
+            position,
+            &flat::corner(position),
+            &mut self.positions_warned,
+        );
+        self.numbers.add_array(position.place);
+        join_fault(&mut self.lines, misshapen);
+        join_fault(&mut self.rings, flat::ring_fault(position));
+        join_fault(&mut self.polygons, misshapen);
+    }
+
+    /// Begins anew, and gathers the numbers of a position told as one.
+    pub fn set_flat(&mut self, position: &Flat)
+        ensures { self.new ≡ flat_first position.now }
+    {
+        let misshapen = flat::misshapen_numbers(position);
+        self.numbers = flat::numbers(position);
+        self.positions_warned.clear();
+        self.lines_warned.clear();
+        self.rings_warned.clear();
+        self.polygons_warned.clear();
+        self.positions = misshapen;
+        self.lines = misshapen;
+        self.rings = misshapen;
+        self.polygons = misshapen;
     }
 
     /// Adds an element that is no array, by its first event.

@@ -27,6 +27,10 @@ pub trait Part: Copy {
     fn again(&mut self)
         ensures { self.new ≡ machine.again self.old };
 
+    /// Makes it ready for another value, wherever it stands.
+    fn restart(&mut self)
+        ensures { machine.Ready self.new };
+
     /// Whether the value has ended.
     fn done(&self) -> bool
         ensures { result ≡ machine.ended self.now };

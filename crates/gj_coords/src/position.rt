@@ -1,18 +1,21 @@
 //! Positions (RFC 7946, section 3.1.1).
-ghost use Rattle.std.specs.Prelude.{◌≡◌};
+ghost use Rattle.std.specs.Prelude.{◌≡◌, true, false, Some};
+ghost use Rattle.std.specs.Option.{option_eq};
+ghost use Rattle.gj_number.specs.Exact.{same_parts};
 ghost use Rattle.gj_coords.specs.CoordinateWarnings.{is_precise};
 ghost use Rattle.gj_coords.specs.Position.{misshapen_at, position_closed};
 
 use crate::array::Array;
 use crate::element::Element;
 use crate::fault::{Fault, Rule, join_fault, lesser_fault};
+use crate::flat;
 use crate::noted::Noted;
 use crate::part::Gather;
 use crate::position_warned::note_position;
 use crate::tally::Tally;
 use crate::warned::Warned;
 use crate::winding::Corner;
-use gj_json::{Event, What};
+use gj_json::{Event, Flat, What};
 use gj_number::Decimal;
 
 /// A position needs this many elements.
@@ -22,7 +25,7 @@ const NEEDED: u8 = 2;
 pub const MOST_VALUES: u8 = 3;
 
 /// A number with more decimal places than these is too precise.
-const MOST_PLACES: u16 = 7;
+pub const MOST_PLACES: u16 = 7;
 
 /// The exact values of a position's first three numbers, and their count.
 #[derive(Clone, Copy, PartialEq, Eq)]
@@ -54,8 +57,29 @@ pub struct Position {
     pub precise: Noted,
 }
 
+/// Whether the digits are not those of the number.
+#[inline(always)]
+fn differs(number: &Option<Decimal>, other: &Decimal) -> bool
+    ensures { result ≡ true → option_eq same_parts number.now (Some other.now) ≡ false }
+{
+    match number {
+        Some(number) => digits_differ(number, other),
+        None => true,
+    }
+}
+
+#[inline(always)]
+fn digits_differ(number: &Decimal, other: &Decimal) -> bool
+    ensures { result ≡ true → same_parts number.now other.now ≡ false }
+{
+    let (_, digits, _) = number.parts();
+    let (_, others, _) = other.parts();
+    digits != others
+}
+
 impl Values {
-    ghost use Rattle.std.specs.Prelude.{◌≡◌};
+    ghost use Rattle.std.specs.Prelude.{◌≡◌, true, false};
+    ghost use Rattle.gj_coords.specs.FlatPosition.{flat_values};
     ghost use Rattle.gj_coords.specs.Position.{no_values, pushed, same_values, corner_in};
 
     pub fn none() -> Values
@@ -95,6 +119,14 @@ impl Values {
         ensures { result ≡ same_values self.now other.now }
     {
         *self == *other
+    }
+
+    /// Whether the first numbers of this and of a position that is told as one differ in their digits.
+    #[inline(always)]
+    pub fn differs(&self, other: &Flat) -> bool
+        ensures { result ≡ true → same_values self.now (flat_values other.now) ≡ false }
+    {
+        differs(&self.first, &other.first.value.decimal())
     }
 
     /// The corner of the first two, where they are in range.

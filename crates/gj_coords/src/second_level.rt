@@ -1,6 +1,7 @@
 //! The second level of the value of `coordinates`: as a position, a line, a linear ring and a polygon.
 use crate::array::{Array, Stage};
 use crate::fault::{Fault, join_fault};
+use crate::flat;
 use crate::part::Gather;
 use crate::position::{Numbers, Position, misshapen};
 use crate::ring::{Positions, RingRole};
@@ -8,7 +9,7 @@ use crate::several::line_fault;
 use crate::third_level::{ThirdLevel, ThirdReader};
 use crate::warned::Warned;
 use crate::winding::Turn;
-use gj_json::Event;
+use gj_json::{Event, Flat};
 
 /// What is known of a value as a position, a line, a linear ring and a polygon.
 #[derive(Clone, Copy)]
@@ -41,6 +42,7 @@ impl SecondLevel {
     ghost use Rattle.std.specs.Prelude.{◌≡◌};
     ghost use Rattle.gj_coords.specs.Positions.{ring_closed};
     ghost use Rattle.gj_coords.specs.Several.{line_closed};
+    ghost use Rattle.gj_coords.specs.FlatPosition.{flat_third};
     ghost use Rattle.gj_coords.specs.Walk.{third_gathering, second_gathering};
 
     /// Adds an element that is an array, by what it gathered.
@@ -56,6 +58,16 @@ impl SecondLevel {
         self.numbers.add_array(place);
         self.positions.add(&element.numbers);
         join_fault(&mut self.rings, ring);
+    }
+
+    /// Adds an element that is a position told as one.
+    #[inline]
+    pub fn add_flat(&mut self, position: &Flat)
+        ensures { self.new ≡ second_gathering.added self.old (flat_third position.now) }
+    {
+        self.numbers.add_array(position.place);
+        self.positions.add_flat(position);
+        join_fault(&mut self.rings, flat::ring_fault(position));
     }
 
     /// Adds an element that is no array, by its first event.

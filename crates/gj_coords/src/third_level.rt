@@ -6,7 +6,7 @@ use crate::position::{Numbers, Position, PositionReader, misshapen};
 use crate::ring::Positions;
 use crate::warned::Warned;
 use crate::winding::Turn;
-use gj_json::Event;
+use gj_json::{Event, Flat};
 
 /// What is known of a value as a position and as a linear ring.
 #[derive(Clone, Copy)]
@@ -33,6 +33,7 @@ impl ThirdLevel {
     ghost use Rattle.std.specs.Prelude.{◌≡◌};
     ghost use Rattle.gj_coords.specs.Position.{position_closed, no_position};
     ghost use Rattle.gj_coords.specs.Positions.{ring_closed};
+    ghost use Rattle.gj_coords.specs.FlatPosition.{flat_position};
     ghost use Rattle.gj_coords.specs.Walk.{third_gathering};
 
     /// Adds an element that is an array, by what it gathered.
@@ -41,6 +42,15 @@ impl ThirdLevel {
     {
         self.numbers.add_array(element.tally.place);
         self.positions.add(element);
+    }
+
+    /// Adds an element that is a position told as one.
+    #[inline]
+    pub fn add_flat(&mut self, position: &Flat)
+        ensures { self.new ≡ third_gathering.added self.old (flat_position position.now) }
+    {
+        self.numbers.add_array(position.place);
+        self.positions.add_flat(position);
     }
 
     /// Adds an element that is no array, by its first event.

@@ -5,14 +5,19 @@
 ghost use Rattle.std.specs.Prelude.{◌≡◌};
 ghost use Rattle.gj_coords.specs.Warned.{all_in};
 ghost use Rattle.gj_coords.specs.Walk.{walk_machine, fault_as, warned_as};
+ghost use Rattle.gj_json.specs.Flat.{number_event};
+ghost use Rattle.gj_coords.specs.Sent.{event_at};
+ghost use Rattle.gj_coords.specs.FlatPosition.{flat_taken, singly, in_second, second_due, third_due, in_third, in_fourth};
 
 use crate::array::{Array, Stage};
 use crate::fault::Fault;
 use crate::first_level::FirstLevel;
+use crate::part::Part;
 use crate::position::misshapen;
 use crate::second_level::SecondReader;
 use crate::simple::Simple;
 use crate::warnings::Warnings;
+use gj_json::{Event, Flat, Numbered, What};
 
 /// Reads a value under the six types.
 pub type Walk = Array<SecondReader, FirstLevel>;
@@ -35,4 +40,110 @@ pub fn all_warnings(walk: &Walk, simple: Simple) -> Warnings
         Stage::Broken => Warnings::none(),
         _ => walk.gather.warned(simple).all(),
     }
+}
+
+/// Takes an array of numbers that is told as one.
+pub fn take_flat(walk: &mut Walk, flat: &Flat)
+    ensures { walk.new ≡ flat_taken flat.now walk.old }
+{
+    match walk.stage {
+        Stage::Within => take_within(walk, flat),
+        Stage::Between => take_element(walk, flat),
+        Stage::Due => {
+            walk.gather.set_flat(flat);
+            walk.stage = Stage::Done;
+        }
+        _ => take_singly(walk, flat),
+    }
+}
+
+/// Takes it where an element of the value is due.
+#[inline]
+fn take_element(walk: &mut Walk, flat: &Flat)
+    ensures { walk.new ≡ second_due flat.now walk.old.item.stage walk.old }
+{
+    match walk.item.stage {
+        Stage::Due => {
+            walk.gather.add_flat(flat);
+            walk.item.again();
+        }
+        _ => take_singly(walk, flat),
+    }
+}
+
+/// Takes it within an element of the value.
+#[inline]
+fn take_within(walk: &mut Walk, flat: &Flat)
+    ensures { walk.new ≡ in_second flat.now walk.old.item.stage walk.old }
+{
+    match walk.item.stage {
+        Stage::Between => take_second(walk, flat),
+        Stage::Within => take_third(walk, flat),
+        _ => take_singly(walk, flat),
+    }
+}
+
+#[inline]
+fn take_second(walk: &mut Walk, flat: &Flat)
+    ensures { walk.new ≡ third_due flat.now walk.old.item.item.stage walk.old }
+{
+    match walk.item.item.stage {
+        Stage::Due => {
+            walk.item.gather.add_flat(flat);
+            walk.item.item.again();
+        }
+        _ => take_singly(walk, flat),
+    }
+}
+
+#[inline]
+fn take_third(walk: &mut Walk, flat: &Flat)
+    ensures { walk.new ≡ in_third flat.now walk.old.item.item.stage walk.old }
+{
+    match walk.item.item.stage {
+        Stage::Between => take_fourth(walk, flat),
+        _ => take_singly(walk, flat),
+    }
+}
+
+#[inline]
+fn take_fourth(walk: &mut Walk, flat: &Flat)
+    ensures { walk.new ≡ in_fourth flat.now walk.old.item.item.item.stage walk.old }
+{
+    match walk.item.item.item.stage {
+        Stage::Due => {
+            walk.item.item.gather.add_flat(flat);
+            walk.item.item.item.again();
+        }
+        _ => take_singly(walk, flat),
+    }
+}
+
+/// Takes its events one by one.
+#[inline(never)]
+fn take_singly(walk: &mut Walk, flat: &Flat)
+    ensures { walk.new ≡ singly flat.now walk.old }
+{
+    take_bracket(walk, flat.place, What::OpenArray);
+    take_number(walk, &flat.first);
+    take_number(walk, &flat.second);
+    if let Some(number) = &flat.third {
+        take_number(walk, number);
+    }
+    take_bracket(walk, flat.close, What::CloseArray);
+}
+
+fn take_bracket(walk: &mut Walk, place: u64, what: What)
+    ensures { walk.new ≡ walk_machine.after walk.old (event_at place what) }
+{
+    walk.event(&Event { place, what });
+}
+
+fn take_number(walk: &mut Walk, number: &Numbered)
+    ensures { walk.new ≡ walk_machine.after walk.old (number_event number.now) }
+{
+    walk.event(&Event {
+        place: number.place,
+        what: What::Number(Some(number.value.decimal())),
+    });
 }

@@ -11,6 +11,7 @@ pub struct Warned {
 
 impl Warned {
     ghost use Rattle.std.specs.Prelude.{◌≡◌};
+    ghost use Rattle.gj_coords.specs.declared.kind.Kind.TheVariants.{W4};
     ghost use Rattle.gj_coords.specs.Warned.{no_warned, all_in, noted_in, all_noted_in, taken_all, taken};
 
     pub fn none() -> Warned
@@ -44,6 +45,17 @@ impl Warned {
         match &mut self.warnings {
             Some(warnings) => warnings.note(kind, place),
             None => self.warnings = Some(Warnings::none().add(kind, place)),
+        }
+    }
+
+    /// Takes some warnings of numbers that are too precise, of which a text that has some mostly has many.
+    #[inline]
+    pub fn note_precise(&mut self, noted: Noted)
+        ensures { self.new ≡ all_noted_in self.old W4 noted }
+    {
+        match &mut self.warnings {
+            Some(warnings) => warnings.note_all(Kind::W4, noted),
+            None => self.note_all(Kind::W4, noted),
         }
     }
 

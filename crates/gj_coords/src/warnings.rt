@@ -119,6 +119,7 @@ impl Warnings {
     }
 
     /// Takes some warnings of a kind.
+    #[inline]
     pub(crate) fn note_all(&mut self, kind: Kind, noted: Noted)
         ensures { self.new ≡ with_noted self.old kind noted }
     {

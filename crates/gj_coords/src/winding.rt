@@ -2,17 +2,18 @@
 #[cfg(test)]
 mod tests;
 
-ghost use Rattle.std.specs.Prelude.{◌≡◌, ◌+ℤ◌, ◌-ℤ◌, ◌*ℤ◌};
+ghost use Rattle.std.specs.Prelude.{◌≡◌, ◌+ℤ◌, ◌-ℤ◌, ◌*ℤ◌, Some};
 ghost use Rattle.std.specs.Int.{int_wrap, w128};
+ghost use Rattle.gj_number.specs.Short.{exact_of};
 ghost use Rattle.gj_coords.specs.Winding.{bounded, bounded_cut, cut_value, both, sign_of};
 
-use gj_number::Decimal;
+use gj_number::{Decimal, Short};
 
 /// 180 degrees as a cut number.
-const MOST_LONGITUDE: i32 = 1_800_000_000;
+pub const MOST_LONGITUDE: i32 = 1_800_000_000;
 
 /// 90 degrees as a cut number.
-const MOST_LATITUDE: i32 = 900_000_000;
+pub const MOST_LATITUDE: i32 = 900_000_000;
 
 /// The longitude and the latitude of a position that is in range, as cut numbers.
 #[derive(Clone, Copy, Debug, PartialEq, Eq)]
@@ -45,7 +46,8 @@ pub struct Winding {
 }
 
 impl Corner {
-    ghost use Rattle.std.specs.Prelude.{◌≡◌};
+    ghost use Rattle.std.specs.Prelude.{◌≡◌, Some};
+    ghost use Rattle.gj_number.specs.Short.{exact_of};
     ghost use Rattle.gj_coords.specs.Winding.{corner_of, cross};
 
     /// The corner of a longitude and a latitude, where both are in range.
@@ -58,11 +60,33 @@ impl Corner {
         )
     }
 
+    /// The same of two numbers as most are written.
+    #[inline]
+    pub fn of(longitude: Short, latitude: Short) -> Option<Corner>
+        ensures { result ≡ corner_of (Some (exact_of longitude)) (Some (exact_of latitude)) }
+    {
+        join(
+            cut_within(longitude, MOST_LONGITUDE),
+            cut_within(latitude, MOST_LATITUDE),
+        )
+    }
+
     /// The term of the area for the way from this corner to the next.
     fn cross(&self, next: &Corner) -> i128
         ensures { result ≡ cross self.now next.now }
     {
         difference(product(self.x, next.y), product(next.x, self.y))
+    }
+}
+
+/// The cut number of a number as most are written, where it is at most so far from zero.
+#[inline(always)]
+pub fn cut_within(number: Short, most: i32) -> Option<i32>
+    ensures { result ≡ bounded_cut most (cut_value (Some (exact_of number))) }
+{
+    match number.cut() {
+        Some(cut) => within(cut, most),
+        None => None,
     }
 }
 
@@ -80,6 +104,7 @@ fn bounded_cut(number: &Option<Decimal>, most: i32) -> Option<i32>
 }
 
 /// The number, where it is at most so far from zero.
+#[inline(always)]
 fn within(number: i64, most: i32) -> Option<i32>
     ensures { result ≡ bounded most number }
 {
@@ -183,6 +208,28 @@ impl Winding {
     {
         self.area = wrapped_sum(self.area, self.term(corner));
         self.last = Some(*corner);
+    }
+
+    /// One corner more behind others: the sum and the last corner are written where they are.
+    #[inline(always)]
+    pub fn add_next(&mut self, corner: Corner)
+        ensures { self.new ≡ corner_added self.old corner }
+    {
+        match &mut self.last {
+            Some(last) => {
+                self.area = wrapped_sum(self.area, last.cross(&corner));
+                last.x = corner.x;
+                last.y = corner.y;
+            }
+            None => self.add_first(corner),
+        }
+    }
+
+    #[inline(never)]
+    fn add_first(&mut self, corner: Corner)
+        ensures { self.new ≡ corner_added self.old corner }
+    {
+        self.add_corner(&corner);
     }
 
     /// The term of the area for the way from the last corner to this one.

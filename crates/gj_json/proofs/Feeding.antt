@@ -311,30 +311,27 @@ feeds_to_on first next last xs ys more fault f g = record { feeds = feeds_more f
 pub front_skipped : {heard : List Event → Type 0} (old mid : Reader) (piece : List ℕ) (n : ℕ) → old.fault ≡ None → n ≤ length piece → old.offset + length piece ≤ old.limits.bytes → Skips old mid (take n piece) → FeedsAll heard heard old mid (take n piece)
 front_skipped old mid piece n live w room s = skip_feeds old mid (take n piece) live (omega (arith, length-take-le n piece w)) s
 
-mid_room : (old mid : Reader) (piece : List ℕ) (n : ℕ) → n < length piece → old.offset + length piece ≤ old.limits.bytes → Skips old mid (take n piece) → mid.offset < mid.limits.bytes
-mid_room old mid piece n w room s = let e : mid.limits.bytes ≡ old.limits.bytes = ap (λ (a : Allowed). a.bytes) s.limits in omega (arith, s.offset, length-take-le n piece (omega arith))
-
 byte_taken : (piece : List ℕ) (n : ℕ) → n < length piece → take n piece ++ get_or piece n 0 ∷ [] ≡ take (n + 1) piece
 byte_taken piece n w = sym (take_more piece n 0 w)
 
-pub some_all : {before after : List Event → Type 0} (old mid new : Reader) (piece : List ℕ) (n : ℕ) (result : Result (Unit {0}) JsonFault) (x : Unit {0}) → old.fault ≡ None → n < length piece → old.offset + length piece ≤ old.limits.bytes
-    → Skips old mid (take n piece) → Takes before after mid new (get_or piece n 0) result → result ≡ Ok x
-    → FeedsAll before after old new (take (n + 1) piece)
-some_all {before} {after} old mid new piece n result x live w room s t e =
-    let f : FeedsAll before before old mid (take n piece) = front_skipped old mid piece n live (omega arith) room s in
-    let g : FeedsAll before after mid new (get_or piece n 0 ∷ []) = byte_all mid new (get_or piece n 0) result x f.live (mid_room old mid piece n w room s) mid.nested t e in
-    let P : List ℕ → Type 0 = λ xs. FeedsAll before after old new xs in
-    subst P (byte_taken piece n w) (feeds_all_on old mid new (take n piece) (get_or piece n 0 ∷ []) f g)
+-- a front of a piece that was taken, and the byte behind it
+module _ {before middle after : List Event → Type 0} (old mid new : Reader) (piece : List ℕ) (n : ℕ) (result : Result (Unit {0}) JsonFault) (w : n < length piece) (room : old.offset + length piece ≤ old.limits.bytes) (f : FeedsAll before middle old mid (take n piece))
+    (t : Takes middle after mid new (get_or piece n 0) result) where
+  mid_room : mid.offset < mid.limits.bytes
+  mid_room = let e : mid.limits.bytes ≡ old.limits.bytes = ap (λ (a : Allowed). a.bytes) f.feeds.limits in omega (arith, f.offset, length-take-le n piece (omega arith))
 
-pub some_to : {before after : List Event → Type 0} (old mid new : Reader) (piece : List ℕ) (n : ℕ) (result : Result (Unit {0}) JsonFault) (fault : JsonFault) → old.fault ≡ None → n < length piece → old.offset + length piece ≤ old.limits.bytes
-    → Skips old mid (take n piece) → Takes before after mid new (get_or piece n 0) result → result ≡ Err fault
-    → FeedsTo before after old new piece fault
-some_to {before} {after} old mid new piece n result fault live w room s t e =
-    let f : FeedsAll before before old mid (take n piece) = front_skipped old mid piece n live (omega arith) room s in
-    let g : FeedsTo before after mid new (get_or piece n 0 ∷ []) fault = byte_to mid new (get_or piece n 0) result fault f.live (mid_room old mid piece n w room s) mid.nested t e in
-    let P : List ℕ → Type 0 = λ xs. FeedsTo before after old new xs fault in
-    let k : (take n piece ++ get_or piece n 0 ∷ []) ++ drop (n + 1) piece ≡ piece = ap (λ xs. xs ++ drop (n + 1) piece) (byte_taken piece n w) ∙ take-append-drop (n + 1) piece in
-    subst P k (feeds_to_on old mid new (take n piece) (get_or piece n 0 ∷ []) (drop (n + 1) piece) fault f g)
+  pub some_all : (x : Unit {0}) → result ≡ Ok x → FeedsAll before after old new (take (n + 1) piece)
+  some_all x e =
+      let g : FeedsAll middle after mid new (get_or piece n 0 ∷ []) = byte_all mid new (get_or piece n 0) result x f.live mid_room mid.nested t e in
+      let P : List ℕ → Type 0 = λ xs. FeedsAll before after old new xs in
+      subst P (byte_taken piece n w) (feeds_all_on old mid new (take n piece) (get_or piece n 0 ∷ []) f g)
+
+  pub some_to : (fault : JsonFault) → result ≡ Err fault → FeedsTo before after old new piece fault
+  some_to fault e =
+      let g : FeedsTo middle after mid new (get_or piece n 0 ∷ []) fault = byte_to mid new (get_or piece n 0) result fault f.live mid_room mid.nested t e in
+      let P : List ℕ → Type 0 = λ xs. FeedsTo before after old new xs fault in
+      let k : (take n piece ++ get_or piece n 0 ∷ []) ++ drop (n + 1) piece ≡ piece = ap (λ xs. xs ++ drop (n + 1) piece) (byte_taken piece n w) ∙ take-append-drop (n + 1) piece in
+      subst P k (feeds_to_on old mid new (take n piece) (get_or piece n 0 ∷ []) (drop (n + 1) piece) fault f g)
 
 -- ---- one front of a piece after another
 
@@ -353,6 +350,11 @@ rest_all {before} {after} old new piece at n f = let P : List ℕ → Type 0 = �
 
 pub rest_to : {before after : List Event → Type 0} (old new : Reader) (piece : List ℕ) (at : ℕ) (fault : JsonFault) → FeedsTo before after old new (take (length piece - at) (drop at piece)) fault → FeedsTo before after old new (drop at piece) fault
 rest_to {before} {after} old new piece at fault f = let P : List ℕ → Type 0 = λ xs. FeedsTo before after old new xs fault in subst P (rest_of piece at) f
+
+-- quiet bytes, and what was taken of the rest
+pub skipped_and : {before after : List Event → Type 0} (old mid new : Reader) (piece : List ℕ) (quiet n : ℕ) → old.fault ≡ None → quiet ≤ length piece → old.offset + length piece ≤ old.limits.bytes → Skips old mid (take quiet piece)
+    → FeedsAll before after mid new (take n (take (length piece - quiet) (drop quiet piece))) → FeedsAll before after old new (take (quiet + n) piece)
+skipped_and old mid new piece quiet n live w room s f = piece_all old mid new piece quiet n (front_skipped old mid piece quiet live w room s) (rest_all mid new piece quiet n f)
 
 -- ---- a piece that is longer than allowed
 

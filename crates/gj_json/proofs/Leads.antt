@@ -31,7 +31,7 @@ leads_byte {s} {t} {u} {n} {b} {bytes} e l = record {
   goes = λ marked. (let P : Option Partial → Type 0 = λ o. run_from (with_mark marked o) (n + 1) bytes ≡ Some (begun marked u) in subst P (sym e) (l.goes marked));
 }
 
-run_from-append : (xs ys : List ℕ) (o : Option Broken) (n : ℕ) → run_from o n (xs ++ ys) ≡ run_from (run_from o n xs) (n + length xs) ys
+pub run_from-append : (xs ys : List ℕ) (o : Option Broken) (n : ℕ) → run_from o n (xs ++ ys) ≡ run_from (run_from o n xs) (n + length xs) ys
 run_from-append [] ys o n = ap (λ m. run_from o m ys) (let e : n ≡ n + 0 = omega arith in e)
 run_from-append (x ∷ xs) ys None n = sym (run_none ys (n + length (x ∷ xs)))
 run_from-append (x ∷ xs) ys (Some s) n =

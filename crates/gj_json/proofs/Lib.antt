@@ -47,3 +47,6 @@ pub mod Whole
 pub mod Located
 pub mod Locating
 pub mod PathExamples
+pub mod Cutting
+pub mod FlatSpelled
+pub mod FlatFeeds

@@ -35,7 +35,7 @@ PassesWhite ColonDue = Unit {0}
 PassesWhite _ = ⊥
 
 -- what passes a test, up to the first byte that does not
-all_run : (p : ℕ → Bool) (P : ℕ → Type 0) → ((b : ℕ) → p b ≡ true → P b) → (xs : List ℕ) → AllByRecursion P (take (prefix_len p xs) xs)
+pub all_run : (p : ℕ → Bool) (P : ℕ → Type 0) → ((b : ℕ) → p b ≡ true → P b) → (xs : List ℕ) → AllByRecursion P (take (prefix_len p xs) xs)
 all_run p P f [] = tt
 all_run p P f (x ∷ xs) = go (p x) refl (all_run p P f xs)
   where
@@ -54,7 +54,7 @@ plain_ascii : (xs : List ℕ) → AllByRecursion IsPlain xs → AllByRecursion I
 plain_ascii [] h = tt
 plain_ascii (x ∷ xs) h = (omega (arith, h.0.1), plain_ascii xs h.1)
 
-white_is : (b : ℕ) → is_white b ≡ true → IsWhite b
+pub white_is : (b : ℕ) → is_white b ≡ true → IsWhite b
 white_is b e = grind (arith, nat_tests)
 
 class_white : (b : ℕ) → is_white b ≡ true → class_of b ≡ white

@@ -98,7 +98,7 @@ name_mode = record {
 
 module _ (limits : Allowed) (levels : List Level) (start : ℕ) where
   -- a byte that leads to another mode, by what it does to the number under way
-  byte_well : (mode next : Mode) (offset : ℕ) (bytes : List ℕ) (b : ℕ) (k : StandsWell limits mode levels start offset bytes) (turn : NumberTurn) → Turns (under_of k.state) b turn → offset < limits.bytes
+  pub byte_well : (mode next : Mode) (offset : ℕ) (bytes : List ℕ) (b : ℕ) (k : StandsWell limits mode levels start offset bytes) (turn : NumberTurn) → Turns (under_of k.state) b turn → offset < limits.bytes
       → move_of mode turn (inner_of levels) b ≡ Go next → is_on mode ≡ is_on next → (w : StandsWell limits next levels start (offset + 1) (bytes ++ b ∷ [])) × ComesFrom (under_of k.state) b (under_of w.state)
   unfolding passed
   byte_well mode next offset bytes b k turn t room m on =
@@ -125,7 +125,7 @@ module _ (limits : Allowed) (levels : List Level) (start : ℕ) where
             c,
           )
 
-  byte_completes : (mode next : Mode) (offset : ℕ) (bytes : List ℕ) (b : ℕ) (k : StandsWell limits mode levels start offset bytes) (turn : NumberTurn) → Turns (under_of k.state) b turn
+  pub byte_completes : (mode next : Mode) (offset : ℕ) (bytes : List ℕ) (b : ℕ) (k : StandsWell limits mode levels start offset bytes) (turn : NumberTurn) → Turns (under_of k.state) b turn
       → move_of mode turn (inner_of levels) b ≡ Go next → emitted mode (inner_of levels) (Go next) (own_value (under_of k.state)) (own_words (under_of k.state)) start offset ≡ [] → Completed offset (offset + 1) (bytes ++ b ∷ []) []
   byte_completes mode next offset bytes b k turn t m n =
       let e : emitted mode (inner_of levels) (move_of mode turn (inner_of levels) b) (own_value (under_of k.state)) (own_words (under_of k.state)) start offset ≡ [] = rw m n in

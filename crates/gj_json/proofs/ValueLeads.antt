@@ -203,7 +203,7 @@ mutual
         inl refl,
       )
 
-  elements_lead : (elements : Elements) (stack : List Frame) (place close n : ℕ) (bytes : List ℕ) → SpellsElements elements close n bytes → Leads (at stack (array_opened place)) n bytes (at stack (value_done (array place elements close)))
+  pub elements_lead : (elements : Elements) (stack : List Frame) (place close n : ℕ) (bytes : List ℕ) → SpellsElements elements close n bytes → Leads (at stack (array_opened place)) n bytes (at stack (value_done (array place elements close)))
   elements_lead end_of_array stack place close n bytes h = closing (at stack (array_opened place)) (λ m. at stack (value_done (array place end_of_array m))) h (rw (class_is close_array close_bracket refl (λ e. cc)) refl)
   elements_lead (element v more) stack place close n bytes h =
       let g = value_leads v (in_array place [] ∷ stack) n h.first h.before in

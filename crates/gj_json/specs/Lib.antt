@@ -27,3 +27,5 @@ pub mod Quiet
 pub mod Step
 pub mod Trail
 pub mod Feeding
+pub mod Flat
+pub mod FlatParts

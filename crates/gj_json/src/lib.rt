@@ -11,6 +11,8 @@ mod constant;
 mod content;
 mod event;
 mod fault;
+mod flat;
+mod flats;
 pub mod laws;
 mod levels;
 mod limits;
@@ -28,6 +30,7 @@ mod trail;
 
 pub use event::{Event, What};
 pub use fault::{Cause, JsonFault};
+pub use flat::{Flat, Numbered};
 pub use laws::{
     broken_off, bytes_taken, few_events, left_part, longest_front, one_broken, one_refusal,
     one_text, same_events, same_path, viable_fronts,

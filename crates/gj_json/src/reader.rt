@@ -177,6 +177,7 @@ impl Reader {
     }
 }
 
+mod flats;
 mod pieces;
 mod steps;
 #[cfg(test)]

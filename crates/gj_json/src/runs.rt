@@ -30,7 +30,7 @@ fn plain_run(piece: &[u8]) -> usize
     piece.iter().take_while(|byte| is_plain(**byte)).count()
 }
 
-fn white_run(piece: &[u8]) -> usize
+pub fn white_run(piece: &[u8]) -> usize
     ensures { result ≡ prefix_len is_white piece.now }
 {
     piece.iter().take_while(|byte| is_white(**byte)).count()

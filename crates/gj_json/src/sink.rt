@@ -1,6 +1,7 @@
 ghost use Rattle.std.specs.Prelude.{◌≡◌, ◌≤◌, ◌∷◌, ◌++◌, [], List, length};
 
-use crate::event::Event;
+use crate::event::{Event, What};
+use crate::flat::Flat;
 use arrayvec::ArrayVec;
 
 /// What a reader tells its events to, in order.
@@ -9,9 +10,38 @@ pub trait EventSink {
     ghost heard: { Self → List Event → Type 0 };
 
     ghost use Rattle.gj_json.specs.declared.event.Event.{Event};
+    ghost use Rattle.gj_json.specs.Flat.{flat_events};
 
     fn tell(&mut self, event: Event)
         ensures { (events : List Event) → heard self.old events → heard self.new (events ++ event ∷ []) };
+
+    /// Told an array of numbers at once, it has heard the same as by its events in turn.
+    fn tell_flat(&mut self, flat: &Flat)
+        ensures { (events : List Event) → heard self.old events → heard self.new (events ++ flat_events flat.now) }
+    {
+        self.tell(Event {
+            place: flat.place,
+            what: What::OpenArray,
+        });
+        self.tell(Event {
+            place: flat.first.place,
+            what: What::Number(Some(flat.first.value.decimal())),
+        });
+        self.tell(Event {
+            place: flat.second.place,
+            what: What::Number(Some(flat.second.value.decimal())),
+        });
+        if let Some(third) = flat.third {
+            self.tell(Event {
+                place: third.place,
+                what: What::Number(Some(third.value.decimal())),
+            });
+        }
+        self.tell(Event {
+            place: flat.close,
+            what: What::CloseArray,
+        });
+    }
 }
 
 /// The events of one byte, of which there are two at the most.

@@ -1,7 +1,7 @@
 -- The class of a byte.
 use Rattle.std.proofs.Common.{◌≡◌, ℕ, ◌==◌, ◌⊎◌, inl, inr, Bool, true, false, if◌then◌else◌, ◌&&◌, refl, arith, nat_le, nat_lt, Some}
 use Rattle.std.proofs.lemmas.Bool.Decides.{nat_tests, eqb_tells}
-use Rattle.gj_number.specs.Bytes.{minus_sign, plus_sign, decimal_point, lower_e, upper_e, zero_digit, nine_digit, IsDigit, IsFirstDigit}
+use Rattle.gj_number.specs.Bytes.{IsNumberByte, minus_sign, plus_sign, decimal_point, lower_e, upper_e, zero_digit, nine_digit, IsDigit, IsFirstDigit}
 use Rattle.gj_number.specs.declared.state.State.{State}
 use Rattle.gj_number.specs.declared.state.Class.{Class}
 use Rattle.gj_number.specs.declared.state.Class.TheVariants.{Minus, Plus, Point, Letter, Zero, NonZero, Other}
@@ -52,3 +52,16 @@ digit_class b h = elim (eqb_tells b zero_digit) [
 -- a digit leads where both classes of digits lead
 pub digit_goes : (s t : State) (b : ℕ) → next_of s Zero ≡ Some t → next_of s NonZero ≡ Some t → IsDigit b → next_of s (class_of b) ≡ Some t
 digit_goes s t b z f h = elim (digit_class b h) [ inl e ↦ rw e z | inr e ↦ rw e f ]
+
+named : (c : Class) (b : ℕ) → Means c b → (c ≡ Other → ⊥) → IsNumberByte b
+named Minus b h n = inr (inl h)
+named Plus b h n = inr (inr (inl h))
+named Point b h n = inr (inr (inr (inl h)))
+named Letter b h n = inr (inr (inr (inr h)))
+named Zero b h n = inl (omega arith, omega arith)
+named NonZero b h n = let low = h.0 in inl (omega arith, h.1)
+named Other b h n = absurd (n refl)
+
+-- a byte of a class that is named is one that some number has
+pub number_byte : (b : ℕ) → (class_of b ≡ Other → ⊥) → IsNumberByte b
+number_byte b n = named (class_of b) b (means b) n

@@ -21,3 +21,8 @@ pub mod Running
 pub mod Powers
 pub mod Cutting
 pub mod Examples
+pub mod Shorts
+pub mod DigitRuns
+pub mod Sixteen
+pub mod Prefix
+pub mod Ordinary

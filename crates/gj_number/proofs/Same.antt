@@ -55,7 +55,7 @@ pub same_value : (a b : Exact) → IsNormal a → IsNormal b → (a ≡ b) ↔ S
 same_value a b h k = (value_from_same a b, same_from_value a b h k)
 
 -- the test on the parts decides it
-beq_decides : (x y : Bool) → Decides (beq x y) (x ≡ y)
+pub beq_decides : (x y : Bool) → Decides (beq x y) (x ≡ y)
 beq_decides false false = ((λ _. refl), (λ _. refl))
 beq_decides false true = ((λ t. cc), (λ e. cc))
 beq_decides true false = ((λ t. cc), (λ e. cc))

@@ -6,3 +6,6 @@ pub mod Machine
 pub mod Kept
 pub mod Digits
 pub mod Literal
+pub mod Short
+pub mod DigitRuns
+pub mod Lanes

@@ -105,7 +105,7 @@ impl Decimal {
     }
 }
 
-fn with_sign(negative: bool, magnitude: u64) -> i64
+pub(crate) fn with_sign(negative: bool, magnitude: u64) -> i64
     requires { magnitude < cut_limit }
     ensures { result ≡ signed negative magnitude }
 {

@@ -4,17 +4,24 @@
 //! are, in a few words of memory. Its [`Literal::value`] is the decimal that the whole literal denotes, or `None` where
 //! that decimal is beyond the limits: thirty digits, a power of ten from -400 to 400, a written
 //! exponent of a magnitude of at most 1,000.
+//!
+//! A [`Short`] is an ordinary number, of at most eighteen digits and no exponent, which [`read_short`] reads whole from
+//! the start of a piece. What is read off it is what is read off its decimal.
 #![tactic(auto)]
 
 mod decimal;
 mod digits;
 mod exponent;
 mod join;
+mod lanes;
 pub mod laws;
 mod literal;
 mod run;
+mod short;
 mod state;
 mod tens;
 
 pub use decimal::Decimal;
 pub use literal::{Literal, Step};
+pub use short::Short;
+pub use short::prefix::read_short;

@@ -1,6 +1,6 @@
 //! Where in a number its next byte stands.
-ghost use Rattle.std.specs.Prelude.{◌≡◌, IsFalse};
-ghost use Rattle.gj_number.specs.Bytes.{IsDigit};
+ghost use Rattle.std.specs.Prelude.{◌≡◌, IsTrue, IsFalse};
+ghost use Rattle.gj_number.specs.Bytes.{IsDigit, IsNumberByte};
 ghost use Rattle.gj_number.specs.Machine.{class_of, next_of, may_end_in};
 ghost use Rattle.gj_number.specs.declared.state.Class.TheVariants.{Other};
 
@@ -51,9 +51,13 @@ impl Class {
 /// Whether some number has this byte.
 #[inline]
 pub(crate) fn may_stand(byte: u8) -> bool
-    ensures { IsFalse result → class_of byte ≡ Other }
+    ensures class { IsFalse result → class_of byte ≡ Other }
+    ensures number { IsTrue result → IsNumberByte byte }
 {
-    !matches!(Class::of(byte), Class::Other)
+    match Class::of(byte) {
+        Class::Other => false,
+        _ => true,
+    }
 }
 
 /// What has been read of a number.

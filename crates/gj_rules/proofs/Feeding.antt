@@ -1,5 +1,7 @@
 -- A summary that has not the whole value goes on with it.
-use Rattle.std.proofs.Common.{◌≡◌, ℕ, Bool, true, false, IsTrue, ◌↔◌, List, [], ◌∷◌, ◌++◌, refl}
+use Rattle.std.proofs.Common.{◌≡◌, ℕ, Bool, true, false, IsTrue, ◌↔◌, List, [], ◌∷◌, ◌++◌, refl, sym, ◌∙◌, subst, append-nil}
+use Rattle.gj_json.specs.Events.{value_events}
+use Rattle.gj_rules.specs.Step.{ended_as}
 use Rattle.gj_json.specs.declared.event.Event.{Event}
 use Rattle.gj_json.specs.declared.names.Known.TheVariants.{Coordinates}
 use Rattle.gj_json.specs.Tree.{Tree}
@@ -8,7 +10,7 @@ use Rattle.gj_coords.specs.declared.bbox.Bbox.{Bbox}
 use Rattle.gj_rules.specs.declared.mode.Mode.{Mode}
 use Rattle.gj_rules.specs.declared.mode.Mode.TheVariants.{Due}
 use Rattle.gj_rules.specs.declared.rules.Rules.{Rules}
-use Rattle.gj_rules.specs.Kept.{Holds, HoldsIn, Fed}
+use Rattle.gj_rules.specs.Kept.{core_of, Holds, HoldsIn, Fed}
 use Rattle.gj_rules.specs.Summaries.{StandsForCoordinates}
 
 held_on : (k : ℕ) (m : Mode) (old new : C.Coordinates) (bbox : Bbox) (es fs : List Event) → k ≡ 0 → m ≡ Due Coordinates
@@ -22,10 +24,24 @@ lost : (b : Bool) → b ≡ false → IsTrue b → ⊥
 lost true e i = cc
 lost false e i = cc
 
-pub not_whole : (old : Rules) (new : C.Coordinates) (v : Tree) (taken : List Event) (event : Event) (left : List Event) (done : Bool) → old.skipped ≡ 0 → old.mode ≡ Due Coordinates
-    → (StandsForCoordinates old.coordinates taken → StandsForCoordinates new (taken ++ event ∷ []))
-    → done ≡ false → (StandsForCoordinates new (taken ++ event ∷ []) → IsTrue done ↔ (left ≡ [])) → Holds old taken
-    → Fed old v (taken ++ event ∷ []) left (record old { coordinates = new })
-not_whole old new v taken event [] done a b t f d h =
+pub not_whole : (old : Rules) (new : C.Coordinates) (v : Tree) (taken : List Event) (events : List Event) (left : List Event) (done : Bool) → old.skipped ≡ 0 → old.mode ≡ Due Coordinates
+    → (StandsForCoordinates old.coordinates taken → StandsForCoordinates new (taken ++ events))
+    → done ≡ false → (StandsForCoordinates new (taken ++ events) → IsTrue done ↔ (left ≡ [])) → Holds old taken
+    → Fed old v (taken ++ events) left (record old { coordinates = new })
+not_whole old new v taken events [] done a b t f d h =
     absurd (lost done f ((d (t (held old.skipped old.mode old.coordinates old.bbox taken a b h))).1 refl))
-not_whole old new v taken event (y ∷ ys) done a b t f d h = (refl, held_on old.skipped old.mode old.coordinates new old.bbox taken (taken ++ event ∷ []) a b t h)
+not_whole old new v taken events (y ∷ ys) done a b t f d h = (refl, held_on old.skipped old.mode old.coordinates new old.bbox taken (taken ++ events) a b t h)
+
+pub whole : (old new : Rules) (c : C.Coordinates) (v : Tree) (taken events left : List Event) (done : Bool) → old.skipped ≡ 0 → old.mode ≡ Due Coordinates
+    → (StandsForCoordinates old.coordinates taken → StandsForCoordinates c (taken ++ events))
+    → done ≡ true → (StandsForCoordinates c (taken ++ events) → IsTrue done ↔ (left ≡ [])) → Holds old taken
+    → (taken ++ events) ++ left ≡ value_events v
+    → (StandsForCoordinates c (value_events v) → core_of new ≡ ended_as Coordinates v (core_of old))
+    → Fed old v (taken ++ events) left new
+whole old new c v taken events [] done a b t f d h e k =
+    let s : StandsForCoordinates c (taken ++ events) = t (held old.skipped old.mode old.coordinates old.bbox taken a b h) in
+    let p : taken ++ events ≡ value_events v = sym (append-nil (taken ++ events)) ∙ e in
+    rw b (k (subst (StandsForCoordinates c) p s))
+whole old new c v taken events (y ∷ ys) done a b t f d h e k =
+    let q : y ∷ ys ≡ [] = (d (t (held old.skipped old.mode old.coordinates old.bbox taken a b h))).0 f in
+    absurd cc

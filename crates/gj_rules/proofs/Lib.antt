@@ -21,3 +21,4 @@ pub mod InsideValues
 pub mod Outermost
 pub mod RootObject
 pub mod DoomedTexts
+pub mod FlatFed

@@ -113,12 +113,12 @@ taken_core old new x rest feed e g t h = (
 
 -- ---- an event that goes to a summary
 
-step_fed : (x : Told) (feed : Feed) (k : ℕ) (m : Mode) (f : Frame) (o : List Frame) (a : Found) → is_feeding k m ≡ true
+pub step_fed : (x : Told) (feed : Feed) (k : ℕ) (m : Mode) (f : Frame) (o : List Frame) (a : Found) → is_feeding k m ≡ true
     → step x (with_feed (core k m f o a) feed) ≡ fed feed.left (event_of x) feed.value feed.taken (core k m f o a)
 step_fed x feed zero m f o a e = rw e refl
 step_fed x feed (suc k) m f o a e = cc
 
-ended_names : (v : Tree) (k : ℕ) (m : Mode) (f : Frame) (o : List Frame) (a : Found) → is_feeding k m ≡ true → (ended v (core k m f o a)).mode ≡ Names
+pub ended_names : (v : Tree) (k : ℕ) (m : Mode) (f : Frame) (o : List Frame) (a : Found) → is_feeding k m ≡ true → (ended v (core k m f o a)).mode ≡ Names
 ended_names v zero (Due name) f o a e = refl
 ended_names v zero RootDue f o a e = cc
 ended_names v zero Names f o a e = cc
@@ -126,7 +126,7 @@ ended_names v zero (Elements r) f o a e = cc
 ended_names v zero Done f o a e = cc
 ended_names v (suc k) m f o a e = cc
 
-holds_names : (k : ℕ) (m : Mode) (c : C.Coordinates) (b : B.Bbox) (es : List Event) → m ≡ Names → HoldsIn k m c b es
+pub holds_names : (k : ℕ) (m : Mode) (c : C.Coordinates) (b : B.Bbox) (es : List Event) → m ≡ Names → HoldsIn k m c b es
 holds_names zero Names c b es e = tt
 holds_names zero RootDue c b es e = cc
 holds_names zero (Due name) c b es e = cc
@@ -140,7 +140,7 @@ fed_core old new x v taken [] next e h =
     (h, holds_names new.skipped new.mode new.coordinates new.bbox [] (ap (λ (c : Core). c.mode) h ∙ ended_names v old.skipped old.mode old.top (reverse old.outer.items) old.answer e))
 fed_core old new x v taken (y ∷ ys) next e h = h
 
-fits_of : (x : Told) (rest : List Told) (feed : Feed) (k : ℕ) (m : Mode) (f : Frame) (o : List Frame) (a : Found)
+pub fits_of : (x : Told) (rest : List Told) (feed : Feed) (k : ℕ) (m : Mode) (f : Frame) (o : List Frame) (a : Found)
     → is_feeding k m ≡ true → Good x rest (with_feed (core k m f o a) feed) → Fits feed (x ∷ rest)
 fits_of x rest feed zero (Due Coordinates) f o a e g = g
 fits_of x rest feed zero (Due Bbox) f o a e g = g
@@ -200,7 +200,7 @@ told_on old new event events t h = λ text done rest e f d.
 from_core : (old new : Rules) (x : Told) (s : State) → core_of old ≡ s.core → Stands new (step x (with_feed (core_of old) s.feed)) → Stands new (step x s)
 from_core old new x s e h = subst (λ (c : Core). Stands new (step x (with_feed c s.feed))) e h
 
-good_core : (old : Rules) (x : Told) (rest : List Told) (s : State) → core_of old ≡ s.core → Good x rest s → Good x rest (with_feed (core_of old) s.feed)
+pub good_core : (old : Rules) (x : Told) (rest : List Told) (s : State) → core_of old ≡ s.core → Good x rest s → Good x rest (with_feed (core_of old) s.feed)
 good_core old x rest s e g = subst (λ (c : Core). Good x rest (with_feed c s.feed)) (sym e) g
 
 pub steps_taken : (old new : Rules) (event : Event) → is_feeding old.skipped old.mode ≡ false

@@ -54,3 +54,7 @@ abbrev pub Feeds : Rules → Event → Rules → Type 0
 Feeds old event new =
     (value : Tree) (taken left : List Event) → depth value ≤ most_levels → Holds old taken → (taken ++ event ∷ []) ++ left ≡ value_events value
     → Fed old value (taken ++ event ∷ []) left new
+
+-- the events were more of the value that a summary takes
+abbrev pub FeedsMany : Rules → List Event → Rules → Type 0
+FeedsMany old events new = (value : Tree) (taken left : List Event) → depth value ≤ most_levels → Holds old taken → (taken ++ events) ++ left ≡ value_events value → Fed old value (taken ++ events) left new

@@ -1,6 +1,7 @@
 ghost use Rattle.std.specs.Prelude.{◌≡◌, ℕ, ◌<◌, ◌≤◌, [], List, true};
 
 mod doomed;
+mod flats;
 mod steps;
 #[cfg(test)]
 mod tests;
@@ -12,7 +13,7 @@ use crate::role::Role;
 use crate::shapes::Shapes;
 use arrayvec::ArrayVec;
 use gj_coords::{Bbox, Coordinates, Fault, Warnings};
-use gj_json::{Event, EventSink, Known};
+use gj_json::{Event, EventSink, Flat, Known};
 use std::mem::size_of;
 
 /// How many objects with a role can be open around the innermost one, at 64 levels.
@@ -135,7 +136,7 @@ impl Rules {
         ensures core { core_of self.new ≡ core_of self.old }
         ensures holds { StandsForCoordinates self.new.coordinates [] }
     {
-        self.coordinates = Coordinates::new();
+        self.coordinates.again();
     }
 
     /// Whether the next event goes to a summary.
@@ -217,6 +218,14 @@ impl EventSink for Rules {
         } else {
             self.take(event);
             self.renew();
+        }
+    }
+
+    fn tell_flat(&mut self, flat: &Flat) {
+        if self.is_in_coordinates() {
+            self.feed_flat(flat);
+        } else {
+            self.tell_each(flat);
         }
     }
 }

@@ -1,5 +1,6 @@
 //! Rows of values and their least faults, told to the six watchers and to the one walk alike.
 mod both;
+mod flat;
 mod warned;
 
 use crate::fault::{Fault, Rule};

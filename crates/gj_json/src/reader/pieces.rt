@@ -14,7 +14,7 @@ impl Reader {
     ghost use Rattle.gj_json.specs.Feeding.{Passed, Skips, FeedsAll, FeedsTo};
 
     /// Passes over so many bytes, behind which this is the mode.
-    fn skip(&mut self, count: usize, mode: Mode) -> usize
+    pub(super) fn skip(&mut self, count: usize, mode: Mode) -> usize
         requires room { self.old.offset + count ≤ self.old.limits.bytes }
         requires small { self.old.limits.bytes ≤ 2 ^ 60 }
         requires sound { IsMode mode }
@@ -92,6 +92,10 @@ impl Reader {
         let quiet = self.skip_front(piece);
         if quiet == piece.len() {
             return Ok(quiet);
+        }
+        let flat = self.take_if_array(&piece[quiet..], sink);
+        if flat > 0 {
+            return Ok(quiet + flat);
         }
         match self.take_byte(piece[quiet], sink) {
             Ok(()) => Ok(quiet + 1),

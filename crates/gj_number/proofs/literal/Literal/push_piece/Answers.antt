@@ -50,7 +50,7 @@ returns-else-may_stand-clause-all c = λ bytes h below begins.
     let piece = c.args.piece.now in
     let at = c.loop-at.at in
     let P : List ℕ → Type 0 = λ xs. BeginsNumber xs in
-    stands_last c.loop-at.self (bytes ++ take at piece) _ (c.may_stand.ensures c.if-may_stand.false) (c.loop-at.invariant.stands bytes h) (subst P (sym (one_more bytes piece at (take_more piece at 0 below))) begins)
+    stands_last c.loop-at.self (bytes ++ take at piece) _ (c.may_stand.ensures.class c.if-may_stand.false) (c.loop-at.invariant.stands bytes h) (subst P (sym (one_more bytes piece at (take_more piece at 0 below))) begins)
 
 pub returns-after-loop-at-clause-begins : goal.returns-after-loop-at-clause-begins
 returns-after-loop-at-clause-begins c = λ bytes h. stands_begin c.loop-at.self bytes h

@@ -1,0 +1,175 @@
+//! A position that is told as one.
+ghost use Rattle.std.specs.Prelude.{◌≡◌, Some};
+ghost use Rattle.gj_number.specs.Short.{exact_of};
+ghost use Rattle.gj_coords.specs.CoordinateWarnings.{is_precise};
+ghost use Rattle.gj_coords.specs.Position.{position_noted, sound_noted};
+ghost use Rattle.gj_coords.specs.Winding.{corner_of};
+ghost use Rattle.gj_coords.specs.FlatPosition.{flat_values, flat_position, flat_numbers, flat_precise, number_precise, flat_count, least_place, flat_misshapen, flat_ring, third_is_precise};
+
+use crate::fault::{Fault, Rule};
+use crate::noted::Noted;
+use crate::plain;
+use crate::position::{Numbers, Values, misshapen};
+use crate::position_warned::note_position;
+use crate::tally::Tally;
+use crate::warned::Warned;
+use crate::winding::Corner;
+use gj_json::{Flat, Numbered};
+use gj_number::Short;
+
+pub fn values(flat: &Flat) -> Values
+    ensures { result ≡ flat_values flat.now }
+{
+    let (count, third) = match &flat.third {
+        Some(number) => (3, Some(number.value.decimal())),
+        None => (2, None),
+    };
+    Values {
+        count,
+        first: Some(flat.first.value.decimal()),
+        second: Some(flat.second.value.decimal()),
+        third,
+    }
+}
+
+#[inline(always)]
+pub fn is_too_precise(value: Short) -> bool
+    ensures { result ≡ is_precise (Some (exact_of value)) }
+{
+    value.is_precise()
+}
+
+/// With this number, if it is too precise.
+fn precise_with(noted: Noted, number: &Numbered) -> Noted
+    ensures { result ≡ number_precise number.now noted }
+{
+    if is_too_precise(number.value) {
+        noted.join(Noted::one(number.place))
+    } else {
+        noted
+    }
+}
+
+/// Its numbers that are too precise.
+fn precise(flat: &Flat) -> Noted
+    ensures { result ≡ flat_precise flat.now }
+{
+    let noted = precise_with(precise_with(Noted::nothing(), &flat.first), &flat.second);
+    match &flat.third {
+        Some(number) => precise_with(noted, number),
+        None => noted,
+    }
+}
+
+#[inline(always)]
+pub fn is_third_precise(third: &Option<Numbered>) -> bool
+    ensures { result ≡ third_is_precise third.now }
+{
+    match third {
+        Some(number) => is_too_precise(number.value),
+        None => false,
+    }
+}
+
+pub fn numbers(flat: &Flat) -> Numbers
+    ensures { result ≡ flat_numbers flat.now }
+{
+    let values = values(flat);
+    let tally = Tally {
+        place: flat.place,
+        count: values.count,
+    };
+    Numbers {
+        values,
+        tally,
+        fault: None,
+        precise: precise(flat),
+    }
+}
+
+/// The corner of its first two numbers, where they are in range.
+#[inline]
+pub fn corner(flat: &Flat) -> Option<Corner>
+    ensures { result ≡ corner_of (Some (exact_of flat.now.first.value)) (Some (exact_of flat.now.second.value)) }
+{
+    Corner::of(flat.first.value, flat.second.value)
+}
+
+/// The least place of a number.
+#[inline]
+fn least_place(flat: &Flat) -> u64
+    ensures { result ≡ least_place flat.now }
+{
+    let least = flat.first.place.min(flat.second.place);
+    match &flat.third {
+        Some(number) => least.min(number.place),
+        None => least,
+    }
+}
+
+/// The least fault of its numbers as positions.
+#[inline]
+pub fn misshapen_numbers(flat: &Flat) -> Option<Fault>
+    ensures { result ≡ flat_misshapen flat.now }
+{
+    misshapen(least_place(flat))
+}
+
+/// Its least fault as a linear ring.
+#[inline]
+pub fn ring_fault(flat: &Flat) -> Option<Fault>
+    ensures { result ≡ flat_ring flat.now }
+{
+    let least = least_place(flat);
+    if flat.place < least {
+        Some(Fault {
+            place: flat.place,
+            rule: Rule::G14,
+        })
+    } else {
+        misshapen(least)
+    }
+}
+
+/// Notes what is worth a warning in it, by its corner.
+#[inline]
+pub fn warn(flat: &Flat, corner: &Option<Corner>, warned: &mut Warned)
+    ensures { warned.new ≡ position_noted warned.old flat.now.place (flat_count flat.now.third) corner.now (flat_precise flat.now) }
+{
+    if corner.is_none() {
+        note(flat, corner, warned);
+        return;
+    }
+    let precise = precise(flat);
+    if !precise.is_nothing() {
+        warned.note_precise(precise);
+    }
+}
+
+#[inline(never)]
+fn note(flat: &Flat, corner: &Option<Corner>, warned: &mut Warned)
+    ensures { warned.new ≡ position_noted warned.old flat.now.place (flat_count flat.now.third) corner.now (flat_precise flat.now) }
+{
+    let count = match &flat.third {
+        Some(_) => 3,
+        None => 2,
+    };
+    note_position(flat.place, count, corner, precise(flat), warned);
+}
+
+/// Notes what is worth a warning in it. Mostly there is nothing.
+#[inline(always)]
+pub fn warn_quick(flat: &Flat, warned: &mut Warned)
+    ensures { warned.new ≡ sound_noted warned.old (flat_position flat.now) }
+{
+    if plain::corner(flat).is_none() {
+        warn_each(flat, warned);
+    }
+}
+
+#[inline(never)]
+fn warn_each(flat: &Flat, warned: &mut Warned)
+    ensures { warned.new ≡ sound_noted warned.old (flat_position flat.now) }
+{
+    warn(flat, &corner(flat), warned);
+}

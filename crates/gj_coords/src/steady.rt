@@ -1,0 +1,142 @@
+//! Where a position that is told as one changes nothing but what is gathered of positions.
+//!
+//! An array of positions has few elements at most once, and its first element alone is the least fault of it under the
+//! types that want no position there. So from the fourth position on all this stays as it is.
+ghost use Rattle.std.specs.Prelude.{◌≡◌, true};
+ghost use Rattle.gj_coords.specs.declared.array.Stage.TheVariants.{Due, Between, Within};
+ghost use Rattle.gj_coords.specs.Steady.{IsFaultBy, IsSettled, IsIdle, IsFirst, IsSecond, IsThird, IsSteady, IsThirdPast, IsPast};
+
+use crate::array::Stage;
+use crate::element::Element;
+use crate::fault::Fault;
+use crate::position::Numbers;
+use crate::walk::Walk;
+use gj_json::{Flat, Numbered};
+
+/// Behind how many open arrays a position is due.
+#[derive(Clone, Copy)]
+pub enum Depth {
+    /// It is not known, or a position more may change something else.
+    Unknown,
+    First,
+    Second,
+    Third,
+}
+
+fn is_fault_by(floor: u64, fault: &Option<Fault>) -> bool
+    ensures { result ≡ true → IsFaultBy floor fault.now }
+{
+    match fault {
+        Some(fault) => fault.place <= floor,
+        None => false,
+    }
+}
+
+fn is_settled(floor: u64, numbers: &Numbers) -> bool
+    ensures { result ≡ true → IsSettled floor numbers.now }
+{
+    numbers.values.count == 3 && numbers.tally.count == 4 && is_fault_by(floor, &numbers.fault)
+}
+
+fn is_idle(other: &Element) -> bool
+    ensures { result ≡ true → IsIdle other.now }
+{
+    !other.started && other.levels == 0
+}
+
+fn is_due(stage: &Stage) -> bool
+    ensures { result ≡ true → stage.now ≡ Due }
+{
+    match stage {
+        Stage::Due => true,
+        _ => false,
+    }
+}
+
+fn is_between(stage: &Stage) -> bool
+    ensures { result ≡ true → stage.now ≡ Between }
+{
+    match stage {
+        Stage::Between => true,
+        _ => false,
+    }
+}
+
+fn is_within(stage: &Stage) -> bool
+    ensures { result ≡ true → stage.now ≡ Within }
+{
+    match stage {
+        Stage::Within => true,
+        _ => false,
+    }
+}
+
+fn is_first(floor: u64, walk: &Walk) -> bool
+    ensures { result ≡ true → IsFirst floor walk.now }
+{
+    is_between(&walk.stage)
+        && is_due(&walk.item.stage)
+        && is_idle(&walk.item.other)
+        && is_settled(floor, &walk.gather.numbers)
+        && is_fault_by(floor, &walk.gather.lines)
+        && is_fault_by(floor, &walk.gather.rings)
+        && is_fault_by(floor, &walk.gather.polygons)
+}
+
+fn is_second(floor: u64, walk: &Walk) -> bool
+    ensures { result ≡ true → IsSecond floor walk.now }
+{
+    is_within(&walk.stage)
+        && is_between(&walk.item.stage)
+        && is_due(&walk.item.item.stage)
+        && is_idle(&walk.item.item.other)
+        && is_settled(floor, &walk.item.gather.numbers)
+        && is_fault_by(floor, &walk.item.gather.rings)
+}
+
+fn is_third(floor: u64, walk: &Walk) -> bool
+    ensures { result ≡ true → IsThird floor walk.now }
+{
+    is_within(&walk.stage)
+        && is_within(&walk.item.stage)
+        && is_between(&walk.item.item.stage)
+        && is_due(&walk.item.item.item.stage)
+        && is_idle(&walk.item.item.item.other)
+        && is_settled(floor, &walk.item.item.gather.numbers)
+}
+
+/// At which depth the walk is steady behind the place.
+pub fn depth_of(floor: u64, walk: &Walk) -> Depth
+    ensures { IsSteady result floor walk.now }
+{
+    if is_second(floor, walk) {
+        Depth::Second
+    } else if is_third(floor, walk) {
+        Depth::Third
+    } else if is_first(floor, walk) {
+        Depth::First
+    } else {
+        Depth::Unknown
+    }
+}
+
+#[inline(always)]
+fn is_third_past(floor: u64, third: &Option<Numbered>) -> bool
+    ensures { result ≡ true → IsThirdPast floor third.now }
+{
+    match third {
+        Some(number) => floor < number.place,
+        None => true,
+    }
+}
+
+/// Whether all of the position stands behind the place.
+#[inline(always)]
+pub fn is_past(floor: u64, position: &Flat) -> bool
+    ensures { result ≡ true → IsPast floor position.now }
+{
+    floor < position.place
+        && floor < position.first.place
+        && floor < position.second.place
+        && is_third_past(floor, &position.third)
+}

@@ -1,0 +1,43 @@
+//! Arrays of a few ordinary numbers, which are told at once.
+
+use gj_number::Short;
+
+/// An ordinary number, and the place of its first byte.
+#[derive(Clone, Copy)]
+pub struct Numbered {
+    pub value: Short,
+    pub place: u64,
+}
+
+/// An array of two or three ordinary numbers, with the places of its brackets and of its numbers.
+#[derive(Clone, Copy)]
+pub struct Flat {
+    pub first: Numbered,
+    pub second: Numbered,
+    pub third: Option<Numbered>,
+    pub place: u64,
+    pub close: u64,
+}
+
+impl Numbered {
+    /// A number to read one into.
+    pub(crate) fn blank() -> Numbered {
+        Numbered {
+            value: Short::zero(),
+            place: 0,
+        }
+    }
+}
+
+impl Flat {
+    /// An array to read one into.
+    pub(crate) fn blank() -> Flat {
+        Flat {
+            first: Numbered::blank(),
+            second: Numbered::blank(),
+            third: None,
+            place: 0,
+            close: 0,
+        }
+    }
+}

@@ -1,0 +1,110 @@
+//! Reads the array of ordinary numbers that a piece starts with.
+
+ghost use Rattle.std.specs.Prelude.{◌≡◌, ◌+◌, ◌^◌, ◌<◌, ◌≤◌, length, take, get_or};
+ghost use Rattle.std.specs.List.{AllByRecursion};
+ghost use Rattle.std.specs.Option.{option_to_list};
+ghost use Rattle.gj_json.specs.Bytes.{IsWhite, open_bracket, comma};
+ghost use Rattle.gj_json.specs.Flat.{IsFlat};
+ghost use Rattle.gj_json.specs.FlatParts.{cut, IsItem, IsMore};
+
+use crate::flat::{Flat, Numbered};
+use crate::runs::white_run;
+use gj_number::read_short;
+
+/// The index after the white space at this one. Mostly there is none, or one space.
+#[inline(always)]
+fn white_end(piece: &[u8], at: usize) -> usize
+    requires { at ≤ length piece.now }
+    ensures on { at ≤ result }
+    ensures within { result ≤ length piece.now }
+    ensures white { AllByRecursion IsWhite (cut piece.now at result) }
+{
+    if at < piece.len() && piece[at] > b' ' {
+        return at;
+    }
+    at + white_run(&piece[at..])
+}
+
+/// A comma that the piece starts with, and the white space after it: how many bytes.
+#[inline(always)]
+pub fn comma_run(piece: &[u8]) -> usize
+    ensures within { result ≤ length piece.now }
+    ensures comma { 0 < result → get_or piece.now 0 0 ≡ comma }
+    ensures white { 0 < result → AllByRecursion IsWhite (cut piece.now 1 result) }
+{
+    if piece.is_empty() || piece[0] != b',' {
+        return 0;
+    }
+    white_end(piece, 1)
+}
+
+/// Reads the ordinary number that stands at an index, with white space around it, in a piece that begins at the place
+/// `start`: the index after that, or 0.
+#[inline(always)]
+fn read_item(piece: &[u8], at: usize, start: u64, number: &mut Numbered) -> usize
+    requires within { at ≤ length piece.now }
+    requires small { start + length piece.now ≤ 2 ^ 60 }
+    ensures on { 0 < result → at ≤ result }
+    ensures within { result ≤ length piece.now }
+    ensures item { 0 < result → IsItem number.new (start + at) (cut piece.now at result) }
+{
+    let first = white_end(piece, at);
+    let count = read_short(&piece[first..], &mut number.value);
+    if count == 0 {
+        return 0;
+    }
+    number.place = start + first as u64;
+    white_end(piece, first + count)
+}
+
+/// Reads the array of two or three ordinary numbers that stands whole at the start of a piece, which begins at the place
+/// `start`: how many bytes it has, or 0.
+#[inline(always)]
+pub fn read_flat(piece: &[u8], start: u64, flat: &mut Flat) -> usize
+    requires some { 0 < length piece.now }
+    requires bracket { get_or piece.now 0 0 ≡ open_bracket }
+    requires small { start + length piece.now ≤ 2 ^ 60 }
+    ensures within { result ≤ length piece.now }
+    ensures flat { 0 < result → IsFlat flat.new start (take result piece.now) }
+{
+    let first = read_item(piece, 1, start, &mut flat.first);
+    if first == 0 || first == piece.len() || piece[first] != b',' {
+        return 0;
+    }
+    let second = read_item(piece, first + 1, start, &mut flat.second);
+    if second == 0 || second == piece.len() {
+        return 0;
+    }
+    flat.place = start;
+    if piece[second] == b']' {
+        flat.third = None;
+        flat.close = start + second as u64;
+        return second + 1;
+    }
+    read_third(piece, second, start, flat)
+}
+
+/// Reads the third number, after the comma at an index, and the closing bracket: the index after that, or 0.
+#[inline(never)]
+fn read_third(piece: &[u8], at: usize, start: u64, flat: &mut Flat) -> usize
+    requires within { at < length piece.now }
+    requires small { start + length piece.now ≤ 2 ^ 60 }
+    ensures within { result ≤ length piece.now }
+    ensures first { flat.new.first ≡ flat.old.first }
+    ensures second { flat.new.second ≡ flat.old.second }
+    ensures place { flat.new.place ≡ flat.old.place }
+    ensures on { 0 < result → at < result }
+    ensures third { 0 < result → IsMore (option_to_list flat.new.third) flat.new.close (start + at) (cut piece.now at result) }
+{
+    if piece[at] != b',' {
+        return 0;
+    }
+    let mut number = Numbered::blank();
+    let third = read_item(piece, at + 1, start, &mut number);
+    if third == 0 || third == piece.len() || piece[third] != b']' {
+        return 0;
+    }
+    flat.third = Some(number);
+    flat.close = start + third as u64;
+    third + 1
+}

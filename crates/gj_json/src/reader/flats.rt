@@ -1,0 +1,114 @@
+//! Arrays of numbers, taken at once.
+
+ghost use Rattle.std.specs.Prelude.{◌≡◌, ◌+◌, ◌^◌, ◌≤◌, ◌<◌, true, length, take, get_or, None, Some, IsTrue};
+ghost use Rattle.gj_json.specs.Bytes.{open_bracket};
+ghost use Rattle.gj_json.specs.FlatParts.{awaits};
+ghost use Rattle.gj_json.specs.Levels.{levels_in, inner_of};
+ghost use Rattle.gj_json.specs.declared.levels.Level.TheVariants.{Array};
+
+use super::Reader;
+use crate::flat::Flat;
+use crate::flats::{comma_run, read_flat};
+use crate::levels::Level;
+use crate::mode::Mode;
+use crate::sink::EventSink;
+
+/// Whether an array may begin here, in a text that has begun.
+#[inline(always)]
+fn is_due(mode: Mode) -> bool
+    ensures { result ≡ awaits mode }
+{
+    match mode {
+        Mode::ValueDue | Mode::ArrayOpened => true,
+        _ => false,
+    }
+}
+
+impl Reader {
+    ghost use Rattle.gj_json.specs.Feeding.{FeedsAll};
+
+    /// Whether the innermost level is an array.
+    #[inline(always)]
+    fn is_in_array(&self) -> bool
+        ensures { IsTrue result → inner_of (levels_in self.now.levels) ≡ Some Array }
+    {
+        match self.levels.inner() {
+            Some(Level::Array) => true,
+            _ => false,
+        }
+    }
+
+    /// Whether an array may be opened here.
+    #[inline(always)]
+    fn may_open(&self) -> bool
+        ensures due { IsTrue result → awaits self.now.mode ≡ true }
+        ensures deep { IsTrue result → length (levels_in self.now.levels) < self.now.limits.depth }
+    {
+        is_due(self.mode) && self.levels.len() < self.limits.depth()
+    }
+
+    /// Takes an array of two or three ordinary numbers that stands whole at the start of the piece, with a comma after it
+    /// and the white space after that, and tells the array at once: how many bytes. Where none does, nothing is taken.
+    #[inline(always)]
+    fn take_flat<S: EventSink>(&mut self, piece: &[u8], flat: &mut Flat, sink: &mut S) -> usize
+        requires some { 0 < length piece.now }
+        requires bracket { get_or piece.now 0 0 ≡ open_bracket }
+        requires live { self.old.fault ≡ None }
+        requires due { awaits self.old.mode ≡ true }
+        requires deep { length (levels_in self.old.levels) < self.old.limits.depth }
+        requires room { self.old.offset + length piece.now ≤ self.old.limits.bytes }
+        requires small { self.old.limits.bytes ≤ 2 ^ 60 }
+        ensures within { result ≤ length piece.now }
+        ensures feeds { FeedsAll (S.heard sink.old) (S.heard sink.new) self.old self.new (take result piece.now) }
+    {
+        let count = read_flat(piece, self.offset, flat);
+        if count == 0 {
+            return 0;
+        }
+        sink.tell_flat(flat);
+        let comma = comma_run(&piece[count..]);
+        if comma > 0 && self.is_in_array() {
+            return self.skip(count + comma, Mode::ValueDue);
+        }
+        self.skip(count, Mode::ValueDone)
+    }
+
+    /// Takes the arrays of two or three ordinary numbers that stand whole at the start of the piece, one after another:
+    /// how many bytes.
+    #[inline(never)]
+    pub(super) fn take_flats<S: EventSink>(&mut self, piece: &[u8], sink: &mut S) -> usize
+        requires live { self.old.fault ≡ None }
+        requires room { self.old.offset + length piece.now ≤ self.old.limits.bytes }
+        requires small { self.old.limits.bytes ≤ 2 ^ 60 }
+        ensures within { result ≤ length piece.now }
+        ensures feeds { FeedsAll (S.heard sink.old) (S.heard sink.new) self.old self.new (take result piece.now) }
+    {
+        let mut flat = Flat::blank();
+        let mut at = 0;
+        while at < piece.len() && piece[at] == b'[' && self.may_open() {
+            let count = self.take_flat(&piece[at..], &mut flat, sink);
+            if count == 0 {
+                return at;
+            }
+            at += count;
+        }
+        at
+    }
+
+    /// The same, told at once where the first byte opens no array.
+    #[inline(always)]
+    pub(super) fn take_if_array<S: EventSink>(&mut self, piece: &[u8], sink: &mut S) -> usize
+        requires some { 0 < length piece.now }
+        requires live { self.old.fault ≡ None }
+        requires room { self.old.offset + length piece.now ≤ self.old.limits.bytes }
+        requires small { self.old.limits.bytes ≤ 2 ^ 60 }
+        ensures within { result ≤ length piece.now }
+        ensures feeds { FeedsAll (S.heard sink.old) (S.heard sink.new) self.old self.new (take result piece.now) }
+    {
+        if piece[0] == b'[' {
+            self.take_flats(piece, sink)
+        } else {
+            0
+        }
+    }
+}

@@ -1,0 +1,21 @@
+-- A run of digits is found by its end.
+use Rattle.std.proofs.Common.{◌≡◌, ℕ, ◌<◌, ◌≤◌, List, length, take, get_or, All, inl, inr, subst, arith}
+use Rattle.std.proofs.lemmas.Bool.{cases_lt}
+use Rattle.std.proofs.lemmas.List.{get_or-take, length-take-le}
+use Rattle.std.proofs.lemmas.List.Elements.{All-get_or}
+use Rattle.gj_number.specs.Bytes.{IsDigit}
+use Rattle.gj_number.specs.DigitRuns.{IsRun}
+
+pub digit_at : (xs : List ℕ) (n i : ℕ) → i < n → n ≤ length xs → All IsDigit (take n xs) → IsDigit (get_or xs i 0)
+digit_at xs n i l w h =
+    let e : get_or (take n xs) i 0 ≡ get_or xs i 0 = get_or-take n xs i 0 l in
+    let k : i < length (take n xs) = omega (arith, length-take-le n xs w) in
+    let P : ℕ → Type 0 = λ b. IsDigit b in
+    subst P e (All-get_or IsDigit (take n xs) i 0 k h)
+
+-- digits up to one that is none are the run, and so are as many as the run may have
+pub run_found : (xs : List ℕ) (n k : ℕ) → n ≤ length xs → All IsDigit (take n xs) → (n < k → IsDigit (get_or xs n 0) → ⊥) → IsRun xs k → n ≡ k
+run_found xs n k w h next r = elim (cases_lt n k) [
+  | inl l ↦ absurd (next l (digit_at xs k n l (let v = r.within in omega arith) r.digits))
+  | inr m ↦ elim (cases_lt k n) [ inl l ↦ absurd (r.ends (digit_at xs n k l w h)) | inr o ↦ omega arith ]
+]

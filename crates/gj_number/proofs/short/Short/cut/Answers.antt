@@ -1,0 +1,11 @@
+use Rattle.std.proofs.Common.{Some, ap, sym, ◌∙◌, rules, w64}
+use mir.Val.{SFits}
+use Rattle.std.proofs.lemmas.Int.{to_z-of_z}
+use Rattle.gj_number.proofs.Shorts.{cut_some}
+use Rattle.gj_number.proofs.short.Short.cut.Goals as goal
+
+pub returns-in-Some : goal.returns-in-Some
+returns-in-Some c =
+    let s = c.args.self in
+    let fits : SFits w64 c.with_sign.result = search rules in
+    rw (to_z-of_z w64 c.with_sign.result fits) (ap Some c.with_sign.ensures ∙ cut_some s.negative s.digits s.places c.in-Some.magnitude s.small (sym c.cut_magnitude.ensures.magnitude ∙ c.in-Some.is))

@@ -1,0 +1,30 @@
+use Rattle.std.proofs.Common.{◌≤◌, List, ℕ, subst, refl, arith}
+use mir.Val.{bool_byte}
+use Rattle.gj_number.specs.DigitRuns.{SpellsUnsigned}
+use Rattle.gj_number.proofs.Fronts.{rest_is}
+use Rattle.gj_number.proofs.Prefix.{sign_at, sign_length, one_of, short_small, short_found}
+use Rattle.gj_number.proofs.short.prefix.short_number.Goals as goal
+
+pub invariant_of-number : goal.invariant_of-number
+invariant_of-number c =
+    let piece = c.args.piece.now in
+    let negative = c.args.negative in
+    let first = bool_byte negative in
+    let k : first ≤ 1 = sign_length negative in
+    let found = c.in-Some.found in
+    let P : List ℕ → Type 0 = λ xs. SpellsUnsigned xs found.natural found.fraction found.length found.value in
+    let natural = c.is_natural.ensures.0 c.if-not-is_natural.false in
+    let small = short_small piece negative first found.natural found.fraction found.length found.value (sign_at piece negative c.requires.sign (omega arith)) (subst P (rest_is piece first) c.in-Some.ensures.spells) natural.0 (one_of piece first found.natural natural.1) c.in-Some.ensures.few (omega arith) in
+    record { small = small.1; few = (let l = small.0 in omega arith) }
+
+pub returns : goal.returns
+returns c = λ some.
+    let piece = c.args.piece.now in
+    let negative = c.args.negative in
+    let first = bool_byte negative in
+    let k : first ≤ 1 = sign_length negative in
+    let found = c.in-Some.found in
+    let P : List ℕ → Type 0 = λ xs. SpellsUnsigned xs found.natural found.fraction found.length found.value in
+    let natural = c.is_natural.ensures.0 c.if-not-is_natural.false in
+    short_found piece negative first found.natural found.fraction found.length found.value (sign_at piece negative c.requires.sign (omega arith)) (subst P (rest_is piece first) c.in-Some.ensures.spells) natural.0 (one_of piece first found.natural natural.1) c.in-Some.ensures.few (omega arith)
+    (c.if-may_stand.ensures.class refl)

@@ -1,0 +1,51 @@
+-- Ordinary numbers: which bytes are one, which decimal one is, and what it says of a piece that it starts with one.
+use Rattle.std.specs.Prelude.{◌≡◌, ℕ, ◌+◌, ◌<◌, ◌≤◌, Bool, ◌==◌, if◌then◌else◌, pos, ◌-ℤ◌, Some, List, ◌++◌, length, take, get_or}
+use Rattle.gj_number.specs.Bytes.{IsNumberByte}
+use Rattle.gj_number.specs.Grammar.{IsNumber, IsNatural, BeginsNumber}
+use Rattle.gj_number.specs.Exact.{Exact, zero_exact}
+use Rattle.gj_number.specs.Value.{Denotes, SpellsSign, SpellsFraction, value_of, stripped, tens_in}
+use Rattle.gj_number.specs.declared.short.Short.{Short}
+
+-- ---- the bytes
+
+-- an ordinary number has at most so many digits
+abbrev pub most_digits : ℕ
+most_digits = 18
+
+-- a number of at most `most_digits` digits, with no exponent
+pub record IsOrdinary (literal : List ℕ) : Type 0 where
+  pub negative : Bool
+  pub sign : List ℕ
+  pub natural : List ℕ
+  pub fraction : List ℕ
+  pub after_natural : List ℕ
+  pub joined : literal ≡ sign ++ (natural ++ after_natural)
+  pub spells_sign : SpellsSign negative sign
+  pub spells_natural : IsNatural natural
+  pub spells_fraction : SpellsFraction fraction after_natural
+  pub few : length natural + length fraction ≤ most_digits
+
+-- The piece starts with an ordinary number of n bytes, after which a byte stands that no number has.
+pub record StartsOrdinary (piece : List ℕ) (n : ℕ) : Type 0 where
+  pub within : n < length piece
+  pub ordinary : IsOrdinary (take n piece)
+  pub after : IsNumberByte (get_or piece n 0) → ⊥
+
+-- ---- the decimal
+
+-- the decimal of at most eighteen digits, of which so many stand after the point
+unfoldable pub short_value : Bool → ℕ → ℕ → Exact
+short_value negative digits places =
+    if digits == 0 then zero_exact else record { negative = negative; digits = stripped 18 digits; power = pos (tens_in 18 digits) -ℤ pos places }
+
+abbrev pub exact_of : Short → Exact
+exact_of short = short_value short.negative short.digits short.places
+
+-- The first n bytes of the piece are a number that denotes this decimal, and the byte after them, which the piece has,
+-- goes on in none.
+pub record StartsWithNumber (piece : List ℕ) (e : Exact) (n : ℕ) : Type 0 where
+  pub within : n < length piece
+  pub number : IsNumber (take n piece)
+  pub denotes : Denotes (take n piece) e
+  pub value : value_of (take n piece) ≡ Some e
+  pub ends : BeginsNumber (take (n + 1) piece) → ⊥

@@ -1,0 +1,163 @@
+//! Sixteen bytes at once.
+ghost use Rattle.std.specs.Prelude.{◌≡◌, ℕ, min, ◌-◌, ◌+◌, ◌*◌, ◌<◌, ◌≤◌, ◌++◌, List, [], ◌∷◌, length, map, take, drop, nat_le, replicate, IfSome};
+ghost use Rattle.std.specs.List.{fold};
+ghost use Rattle.std.specs.Simd.Lanes.{Each1, mask_l};
+ghost use Rattle.gj_number.specs.Lanes.{lane_of, with_value, by_fours, leading};
+ghost use Rattle.gj_number.specs.DigitRuns.{IsRun, SpellsOn, SpellsUnsigned};
+
+use std::simd::prelude::*;
+
+/// Where the lanes of a vector come from whose first so many are moved to its end, from the place on that is their
+/// count: 128 stands for none.
+static PLACES: [u8; 32] = [
+    128, 128, 128, 128, 128, 128, 128, 128, 128, 128, 128, 128, 128, 128, 128, 128, 0, 1, 2, 3, 4,
+    5, 6, 7, 8, 9, 10, 11, 12, 13, 14, 15,
+];
+
+/// What the lanes of the first two of four digits are worth.
+const FIRST_TWO: [u8; 16] = [10, 1, 0, 0, 10, 1, 0, 0, 10, 1, 0, 0, 10, 1, 0, 0];
+
+/// What the lanes of the last two of four digits are worth.
+const LAST_TWO: [u8; 16] = [0, 0, 10, 1, 0, 0, 10, 1, 0, 0, 10, 1, 0, 0, 10, 1];
+
+/// Sixteen rows of places: in row `at` all but the place `at`, and one that is no lane.
+static OTHERS: [u8; 256] = [
+    1, 2, 3, 4, 5, 6, 7, 8, 9, 10, 11, 12, 13, 14, 15, 128, 0, 2, 3, 4, 5, 6, 7, 8, 9, 10, 11, 12,
+    13, 14, 15, 128, 0, 1, 3, 4, 5, 6, 7, 8, 9, 10, 11, 12, 13, 14, 15, 128, 0, 1, 2, 4, 5, 6, 7,
+    8, 9, 10, 11, 12, 13, 14, 15, 128, 0, 1, 2, 3, 5, 6, 7, 8, 9, 10, 11, 12, 13, 14, 15, 128, 0,
+    1, 2, 3, 4, 6, 7, 8, 9, 10, 11, 12, 13, 14, 15, 128, 0, 1, 2, 3, 4, 5, 7, 8, 9, 10, 11, 12, 13,
+    14, 15, 128, 0, 1, 2, 3, 4, 5, 6, 8, 9, 10, 11, 12, 13, 14, 15, 128, 0, 1, 2, 3, 4, 5, 6, 7, 9,
+    10, 11, 12, 13, 14, 15, 128, 0, 1, 2, 3, 4, 5, 6, 7, 8, 10, 11, 12, 13, 14, 15, 128, 0, 1, 2,
+    3, 4, 5, 6, 7, 8, 9, 11, 12, 13, 14, 15, 128, 0, 1, 2, 3, 4, 5, 6, 7, 8, 9, 10, 12, 13, 14, 15,
+    128, 0, 1, 2, 3, 4, 5, 6, 7, 8, 9, 10, 11, 13, 14, 15, 128, 0, 1, 2, 3, 4, 5, 6, 7, 8, 9, 10,
+    11, 12, 14, 15, 128, 0, 1, 2, 3, 4, 5, 6, 7, 8, 9, 10, 11, 12, 13, 15, 128, 0, 1, 2, 3, 4, 5,
+    6, 7, 8, 9, 10, 11, 12, 13, 14, 128,
+];
+
+/// A bit for each lane that is 10 or more.
+#[inline(always)]
+fn from_ten(lanes: u8x16) -> u64
+    ensures { result ≡ mask_l (map (nat_le 10) lanes) }
+{
+    lanes.simd_ge(u8x16::splat(10)).to_bitmask()
+}
+
+/// How many lanes come before the first that is 10 or more.
+#[inline(always)]
+fn leading_digits(lanes: u8x16) -> usize
+    ensures count { result ≡ leading lanes }
+    ensures few { result ≤ 16 }
+{
+    let others = from_ten(lanes);
+    if others == 0 {
+        16
+    } else {
+        others.trailing_zeros() as usize
+    }
+}
+
+/// The first lanes moved to the end, after zeros.
+#[inline(always)]
+fn moved_to_end(lanes: u8x16, count: usize) -> u8x16
+    requires { count ≤ 16 }
+    ensures { result ≡ replicate (16 - count) 0 ++ take count lanes }
+{
+    lanes.swizzle_dyn(u8x16::from_slice(&PLACES[count..]))
+}
+
+/// The lanes without the one at a place, and a zero.
+#[inline(always)]
+fn without_lane(lanes: u8x16, at: usize) -> u8x16
+    requires { at < 16 }
+    ensures { result ≡ take at lanes ++ (drop (at + 1) lanes ++ 0 ∷ []) }
+{
+    lanes.swizzle_dyn(u8x16::from_slice(&OTHERS[16 * at..]))
+}
+
+/// Each four of sixteen digits as one number.
+#[inline(always)]
+fn fours_of(digits: u8x16) -> u32x4
+    requires { Each1 (λ digit. digit < 10) digits }
+    ensures { result ≡ by_fours digits }
+{
+    digits.dot4(u8x16::from_array(FIRST_TWO)) * u32x4::splat(100)
+        + digits.dot4(u8x16::from_array(LAST_TWO))
+}
+
+/// The number that sixteen digits spell, of which the first may be zeros.
+#[inline(always)]
+fn number_of(digits: u8x16) -> u64
+    requires { Each1 (λ digit. digit < 10) digits }
+    ensures { result ≡ fold with_value 0 digits }
+{
+    let [first, second, third, fourth] = fours_of(digits).to_array();
+    (first as u64 * 10_000 + second as u64) * 100_000_000 + (third as u64 * 10_000 + fourth as u64)
+}
+
+/// The first sixteen bytes of a piece, each less the byte of the digit 0: the lanes of digits are below 10.
+#[inline(always)]
+fn lanes_of(piece: &[u8]) -> u8x16
+    requires { 16 ≤ length piece.now }
+    ensures { result ≡ map lane_of (take 16 piece.now) }
+{
+    u8x16::from_slice(piece) - u8x16::splat(b'0')
+}
+
+/// The digits that a piece begins with, as far as its sixteenth byte: how many, and the number that they spell.
+#[inline(always)]
+pub(crate) fn first_digits(piece: &[u8]) -> (usize, u64)
+    requires { 16 ≤ length piece.now }
+    ensures few { result.0 ≤ 16 }
+    ensures spells { SpellsOn piece.now 0 result.0 result.1 }
+    ensures whole { (count : ℕ) → IsRun piece.now count → result.0 ≡ min count 16 }
+{
+    let lanes = lanes_of(piece);
+    let count = leading_digits(lanes);
+    (count, number_of(moved_to_end(lanes, count)))
+}
+
+/// A number without its sign and with no exponent: how many digits stand before its point and after it, how many bytes
+/// it has, and the number that all its digits spell.
+#[derive(Clone, Copy)]
+pub(crate) struct Unsigned {
+    pub natural: usize,
+    pub fraction: usize,
+    pub length: usize,
+    pub value: u64,
+}
+
+/// The digits that the first sixteen bytes of a piece begin with, and those after a point that follows. `None` says that
+/// they go on to the last of these bytes, or that no digit follows the point.
+#[inline(always)]
+pub(crate) fn unsigned_prefix(piece: &[u8]) -> Option<Unsigned>
+    requires { 16 ≤ length piece.now }
+    ensures few { IfSome result (λ found. found.length < 16) }
+    ensures spells { IfSome result (λ found.
+        SpellsUnsigned piece.now found.natural found.fraction found.length found.value) }
+{
+    let lanes = lanes_of(piece);
+    let others = from_ten(lanes);
+    if others == 0 {
+        return None;
+    }
+    let natural = others.trailing_zeros() as usize;
+    if piece[natural] != b'.' {
+        return Some(Unsigned {
+            natural,
+            fraction: 0,
+            length: natural,
+            value: number_of(moved_to_end(lanes, natural)),
+        });
+    }
+    let rest = others >> (natural + 1);
+    let fraction = rest.trailing_zeros() as usize;
+    if rest == 0 || fraction == 0 {
+        return None;
+    }
+    Some(Unsigned {
+        natural,
+        fraction,
+        length: natural + 1 + fraction,
+        value: number_of(moved_to_end(without_lane(lanes, natural), natural + fraction)),
+    })
+}

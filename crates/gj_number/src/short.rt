@@ -1,0 +1,159 @@
+//! Numbers as most are written: at most eighteen digits, and no exponent.
+ghost use Rattle.std.specs.Prelude.{◌≡◌, ◌≢◌, ◌↔◌, ◌*◌, ◌/◌, ◌%◌, ◌^◌, ◌<◌, ◌≤◌, IsTrue, IfSome};
+ghost use Rattle.gj_number.specs.Exact.{SameValue, cut_limit, cut_magnitude, cut_of, cut_places, places_of};
+ghost use Rattle.gj_number.specs.Kept.{limited_cut};
+
+pub(crate) mod prefix;
+
+use crate::decimal::{Decimal, with_sign};
+use crate::tens::ten_to;
+
+/// A cut number is ten to this power times the value.
+const CUT_PLACES: u8 = 7;
+
+/// A number as most are written: at most eighteen digits, and no exponent.
+#[derive(Clone, Copy)]
+pub struct Short {
+    /// The digits as one number, without the point.
+    pub digits: u64,
+    /// How many of them stand after the point, the zeros at the end with them.
+    pub places: u8,
+    /// Whether a minus is written.
+    pub negative: bool,
+    ghost small: { digits < 10 ^ 18 },
+    ghost few: { places ≤ 18 },
+}
+
+impl Short {
+    ghost use Rattle.gj_number.specs.Short.{exact_of};
+
+    /// Zero.
+    pub fn zero() -> Short
+        ensures { result.digits ≡ 0 }
+    {
+        Short {
+            digits: 0,
+            places: 0,
+            negative: false,
+        }
+    }
+
+    /// The decimal that it is.
+    pub fn decimal(self) -> Decimal
+        ensures { result ≡ exact_of self }
+    {
+        if self.digits == 0 {
+            return Decimal::zero();
+        }
+        let (digits, tens) = without_zeros(self.digits);
+        Decimal::new(
+            self.negative,
+            digits as u128,
+            tens as i16 - self.places as i16,
+        )
+    }
+
+    /// The value times 10^7, cut toward zero, or `None` where the magnitude of that is 10^17 or more.
+    #[inline(always)]
+    pub fn cut(self) -> Option<i64>
+        ensures { result ≡ cut_of (exact_of self) }
+    {
+        match self.cut_magnitude() {
+            Some(magnitude) => Some(with_sign(self.negative, magnitude)),
+            None => None,
+        }
+    }
+
+    #[inline(always)]
+    fn cut_magnitude(self) -> Option<u64>
+        ensures magnitude { result ≡ limited_cut (cut_magnitude (exact_of self)) }
+        ensures below { IfSome result (λ magnitude. magnitude < cut_limit) }
+    {
+        if self.places <= CUT_PLACES {
+            raised(self.digits, (CUT_PLACES - self.places) as usize)
+        } else {
+            Some(without_last(self.digits, self.places - CUT_PLACES))
+        }
+    }
+
+    /// Whether more than seven digits stand after the point where no zero is written at the end.
+    #[inline(always)]
+    pub fn is_precise(self) -> bool
+        ensures { IsTrue result ↔ (cut_places < places_of (exact_of self)) }
+    {
+        if self.places <= CUT_PLACES {
+            return false;
+        }
+        let down = self.places - CUT_PLACES;
+        without_last(self.digits, down) * ten_to(down as usize) != self.digits
+    }
+
+    /// Whether both are the same number.
+    #[inline]
+    pub fn same(self, other: Short) -> bool
+        ensures { IsTrue result ↔ SameValue (exact_of self) (exact_of other) }
+    {
+        if self.places != other.places {
+            return self.decimal() == other.decimal();
+        }
+        if self.digits != other.digits {
+            return false;
+        }
+        self.negative == other.negative || self.digits == 0
+    }
+}
+
+/// The digits without the zeros at their end, and how many those are.
+fn without_zeros(all: u64) -> (u64, u8)
+    requires some { 0 < all }
+    requires small { all < 10 ^ 18 }
+    ensures all { all ≡ result.0 * 10 ^ result.1 }
+    ensures last { result.0 % 10 ≢ 0 }
+    ensures few { result.1 ≤ 18 }
+{
+    let mut digits = all;
+    let mut zeros = 0;
+    while digits % 10 == 0 {
+        digits /= 10;
+        zeros += 1;
+    }
+    (digits, zeros)
+}
+
+/// The digits times ten to the power `up`, where that is below the limit of a cut number.
+#[inline(always)]
+fn raised(digits: u64, up: usize) -> Option<u64>
+    requires { up ≤ 7 }
+    ensures magnitude { result ≡ limited_cut (digits * 10 ^ up) }
+    ensures below { IfSome result (λ magnitude. magnitude < cut_limit) }
+{
+    if digits >= ten_to(17 - up) {
+        return None;
+    }
+    Some(digits * ten_to(up))
+}
+
+/// The digits without the last `down`. Each division is by a constant, which costs a multiplication.
+#[inline]
+fn without_last(digits: u64, down: u8) -> u64
+    requires digits { digits < 10 ^ 18 }
+    requires some { 0 < down }
+    requires few { down ≤ 11 }
+    ensures value { result ≡ digits / 10 ^ down }
+    ensures below { result < cut_limit }
+    ensures back { result * 10 ^ down ≤ digits }
+{
+    match down {
+        1 => digits / 10,
+        2 => digits / 100,
+        3 => digits / 1_000,
+        4 => digits / 10_000,
+        5 => digits / 100_000,
+        6 => digits / 1_000_000,
+        7 => digits / 10_000_000,
+        8 => digits / 100_000_000,
+        9 => digits / 1_000_000_000,
+        10 => digits / 10_000_000_000,
+        _ => digits / 100_000_000_000,
+    }
+}

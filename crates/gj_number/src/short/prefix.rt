@@ -1,0 +1,170 @@
+//! The ordinary number that a piece starts with, read at once.
+//!
+//! Nearly all are read as sixteen bytes in lanes ([`short_number`]). A longer one is read by its runs of digits
+//! ([`long_number`]), so that each ordinary number is taken.
+ghost use Rattle.std.specs.Prelude.{◌≡◌, ◌↔◌, ℕ, ◌+◌, ◌-◌, ◌*◌, ◌^◌, ◌<◌, ◌≤◌, length, IsTrue};
+ghost use Rattle.gj_number.specs.Bytes.{zero_digit};
+ghost use Rattle.gj_number.specs.Short.{exact_of, StartsWithNumber, StartsOrdinary};
+ghost use Rattle.gj_number.specs.DigitRuns.{IsRun, SpellsOn, StartsSigned};
+
+#[cfg(test)]
+mod tests;
+
+use super::Short;
+use crate::lanes::{first_digits, unsigned_prefix};
+use crate::state::may_stand;
+use crate::tens::ten_to;
+
+/// How many digits an ordinary number has at most.
+const MOST_DIGITS: usize = 18;
+
+/// How long a piece must be at the least, so that nothing is read past its end: a sign, the digits before the point, the
+/// point, and as many bytes as the digits after it are read with.
+const ROOM: usize = 40;
+
+/// Digits that were read: how many, and the number that they spell after those before them.
+#[derive(Clone, Copy)]
+struct Spelled {
+    value: u64,
+    count: usize,
+}
+
+/// Reads the ordinary number that the piece starts with: how many bytes it has, or 0 where none is found.
+///
+/// It is found in each piece of at least 40 bytes that starts with one, where the byte after it is of no number. Where 0
+/// is answered, the piece may start with another number, and `number` is no longer of use.
+#[inline(always)]
+pub fn read_short(piece: &[u8], number: &mut Short) -> usize
+    ensures number { 0 < result → StartsWithNumber piece.now (exact_of number.new) result }
+    ensures taken { 40 ≤ length piece.now → (n : ℕ) → StartsOrdinary piece.now n → 0 < result }
+{
+    if piece.len() < ROOM {
+        return 0;
+    }
+    let negative = piece[0] == b'-';
+    let count = short_number(piece, negative, number);
+    if count > 0 {
+        return count;
+    }
+    long_number(piece, negative, number)
+}
+
+/// Reads the number, where it and the byte after it are among the sixteen bytes after its sign.
+#[inline(always)]
+fn short_number(piece: &[u8], negative: bool, number: &mut Short) -> usize
+    requires room { 40 ≤ length piece.now }
+    requires sign { StartsSigned piece.now negative }
+    ensures { 0 < result → StartsWithNumber piece.now (exact_of number.new) result }
+{
+    let first = negative as usize;
+    let Some(found) = unsigned_prefix(&piece[first..]) else {
+        return 0;
+    };
+    if !is_natural(piece[first], found.natural) {
+        return 0;
+    }
+    let end = first + found.length;
+    if may_stand(piece[end]) {
+        return 0;
+    }
+    *number = Short {
+        digits: found.value,
+        places: found.fraction as u8,
+        negative,
+    };
+    end
+}
+
+/// Reads the number, of any length.
+#[inline(never)]
+fn long_number(piece: &[u8], negative: bool, number: &mut Short) -> usize
+    requires room { 40 ≤ length piece.now }
+    requires sign { StartsSigned piece.now negative }
+    ensures number { 0 < result → StartsWithNumber piece.now (exact_of number.new) result }
+    ensures taken { (n : ℕ) → StartsOrdinary piece.now n → 0 < result }
+{
+    let first = negative as usize;
+    let natural = first_run(&piece[first..], 0, MOST_DIGITS);
+    if !is_natural(piece[first], natural.count) {
+        return 0;
+    }
+    let end = first + natural.count;
+    if piece[end] != b'.' {
+        if may_stand(piece[end]) {
+            return 0;
+        }
+        *number = Short {
+            digits: natural.value,
+            places: 0,
+            negative,
+        };
+        return end;
+    }
+    let fraction = fraction_run(&piece[end + 1..], natural);
+    let last = end + 1 + fraction.count;
+    if fraction.count == 0 || may_stand(piece[last]) {
+        return 0;
+    }
+    *number = Short {
+        digits: fraction.value,
+        places: fraction.count as u8,
+        negative,
+    };
+    last
+}
+
+/// Whether so many digits, of which this is the first, may stand before a point: no digit follows on a first zero.
+#[inline(always)]
+fn is_natural(first: u8, count: usize) -> bool
+    ensures { IsTrue result ↔ ((0 < count) × (first ≡ zero_digit → count ≡ 1)) }
+{
+    count == 1 || count > 1 && first != b'0'
+}
+
+/// The digits after the point, up to the first byte that is none, where there are not too many with those before it.
+#[inline(always)]
+fn fraction_run(piece: &[u8], natural: Spelled) -> Spelled
+    requires within { 20 ≤ length piece.now }
+    requires count { natural.count ≤ 18 }
+    requires below { natural.value < 10 ^ natural.count }
+    ensures spells { SpellsOn piece.now natural.value result.count result.value }
+    ensures few { result.count ≤ 18 - natural.count }
+    ensures small { result.value < 10 ^ 18 }
+    ensures whole { (count : ℕ) → IsRun piece.now count → count ≤ 18 - natural.count → result.count ≡ count }
+{
+    let (count, value) = first_digits(piece);
+    if count == 16 {
+        return first_run(piece, natural.value, MOST_DIGITS - natural.count);
+    }
+    if count > MOST_DIGITS - natural.count {
+        return Spelled {
+            value: natural.value,
+            count: 0,
+        };
+    }
+    Spelled {
+        value: natural.value * ten_to(count) + value,
+        count,
+    }
+}
+
+/// The digits that the piece starts with, up to the first byte that is none and at most so many.
+#[inline(always)]
+fn first_run(piece: &[u8], before: u64, most: usize) -> Spelled
+    requires within { most ≤ length piece.now }
+    requires room { (before + 1) * 10 ^ most ≤ 10 ^ 18 }
+    ensures spells { SpellsOn piece.now before result.count result.value }
+    ensures few { result.count ≤ most }
+    ensures small { result.value < 10 ^ 18 }
+    ensures whole { (count : ℕ) → IsRun piece.now count → count ≤ most → result.count ≡ count }
+{
+    let mut value = before;
+    for count in 0..most {
+        let digit = piece[count].wrapping_sub(b'0');
+        if digit > 9 {
+            return Spelled { value, count };
+        }
+        value = value * 10 + digit as u64;
+    }
+    Spelled { value, count: most }
+}

@@ -1,0 +1,70 @@
+//! Arrays of numbers that are told at once.
+
+ghost use Rattle.std.specs.Prelude.{◌≡◌, ◌++◌, List, IsTrue};
+ghost use Rattle.gj_json.specs.declared.event.Event.{Event};
+ghost use Rattle.gj_json.specs.Flat.{flat_events};
+
+use super::Rules;
+use crate::mode::Mode;
+use gj_json::{Event, EventSink, Flat, Known, What};
+
+impl Rules {
+    ghost use Rattle.gj_rules.specs.Kept.{FeedsMany};
+    ghost use Rattle.gj_rules.specs.Rules.{StandsFor};
+
+    /// Whether the next event goes to the summary of a `coordinates`.
+    #[inline]
+    pub(super) fn is_in_coordinates(&self) -> bool
+        ensures skipped { IsTrue result → self.now.skipped ≡ 0 }
+        ensures mode { IsTrue result → self.now.mode ≡ Mode.Due Known.Coordinates }
+    {
+        if self.skipped > 0 {
+            return false;
+        }
+        match self.mode {
+            Mode::Due(Known::Coordinates) => true,
+            _ => false,
+        }
+    }
+
+    /// An array of numbers in the value of `coordinates`.
+    pub(super) fn feed_flat(&mut self, flat: &Flat)
+        requires skipped { self.old.skipped ≡ 0 }
+        requires mode { self.old.mode ≡ Mode.Due Known.Coordinates }
+        ensures { FeedsMany self.old (flat_events flat.now) self.new }
+    {
+        self.coordinates.take_flat(flat);
+        if self.coordinates.done() {
+            self.end_coordinates();
+        }
+    }
+
+    /// An array of numbers anywhere else, by its events in turn.
+    #[inline(never)]
+    pub(super) fn tell_each(&mut self, flat: &Flat)
+        ensures { (events : List Event) → StandsFor self.old events → StandsFor self.new (events ++ flat_events flat.now) }
+    {
+        self.tell(Event {
+            place: flat.place,
+            what: What::OpenArray,
+        });
+        self.tell(Event {
+            place: flat.first.place,
+            what: What::Number(Some(flat.first.value.decimal())),
+        });
+        self.tell(Event {
+            place: flat.second.place,
+            what: What::Number(Some(flat.second.value.decimal())),
+        });
+        if let Some(third) = flat.third {
+            self.tell(Event {
+                place: third.place,
+                what: What::Number(Some(third.value.decimal())),
+            });
+        }
+        self.tell(Event {
+            place: flat.close,
+            what: What::CloseArray,
+        });
+    }
+}
