@@ -42,7 +42,7 @@ element_simulates = record {
   ready = λ s t r h. subst element_machine.Ready r h;
 }
 
--- ---- arrays: what was gathered matters between the brackets and behind them
+-- ---- arrays: what was gathered matters between the brackets and after them
 
 abbrev pub SameGather : {G : Type 0} → Stage → G → G → Type 0
 SameGather Due g h = Unit {0}
@@ -70,7 +70,7 @@ same_gather Done g = refl
 alike_same : {W G A : Type 0} (m : Machine W A) (R : W → W → Type 0) → Simulates m R → (s : Array W G) → Alike R s s
 alike_same m R sim s = record { stage = refl; gather = same_gather s.stage s.gather; item = sim.same s.item; other = refl }
 
--- behind an event of an element, which ended it or did not
+-- after an event of an element, which ended it or did not
 decided : {W G A B : Type 0} (m : Machine W A) (r : Gathering G A B) (R : W → W → Type 0) → Simulates m R →
     (old : Stage) (g : G) (x y : W) (o : Element) → R x y → (b : Bool) → m.ended x ≡ b →
     Alike R (if b then state Between (r.added g (m.answered x)) (m.again x) o else state Within g x o)

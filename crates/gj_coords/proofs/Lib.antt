@@ -21,3 +21,4 @@ pub mod KeptLaws
 pub mod WholeLaws
 pub mod SixFaults
 pub mod SixWarned
+pub mod PreciseLaws

@@ -3,7 +3,7 @@ use Rattle.std.proofs.Common.{◌≡◌, ◌↔◌, List, [], ◌∷◌, ◌++�
 use Rattle.gj_json.specs.declared.event.Event.{Event}
 use Rattle.gj_json.specs.Tree.{Tree}
 use Rattle.gj_json.specs.Events.{value_events}
-use Rattle.gj_coords.specs.Reading.{Machine, Reads, Answers, IsCountable, run, IsAfter, IsBehind}
+use Rattle.gj_coords.specs.Reading.{Machine, Reads, Answers, IsCountable, run, IsAfter, ReadsOn}
 use Rattle.gj_coords.proofs.SentLaws.{value_sent}
 
 pub left : {S A : Type 0} (m : Machine S A) (s : S) (es rest : List Event) (a : A) → Reads m s (es ++ rest) a → Reads m (run m.after s es) rest a
@@ -31,17 +31,17 @@ answer_at_end m meaning law s v k room = (left_to_read m meaning law s v (value_
 
 -- ---- a machine that stands behind some events of each value that begins so
 
-pub behind_none : {S A : Type 0} (m : Machine S A) (meaning : Tree → A) → Answers m meaning → (s : S) → m.Ready s → IsBehind m meaning s []
-behind_none m meaning law s ready v rest e room = rw (e ∙ value_sent v) (law.reads s ready v room)
+pub reads_on_none : {S A : Type 0} (m : Machine S A) (meaning : Tree → A) → Answers m meaning → (s : S) → m.Ready s → ReadsOn m meaning s []
+reads_on_none m meaning law s ready v rest e room = rw (e ∙ value_sent v) (law.reads s ready v room)
 
-pub behind_more : {S A : Type 0} (m : Machine S A) (meaning : Tree → A) (s : S) (es : List Event) (e : Event) →
-    IsBehind m meaning s es → IsBehind m meaning (m.after s e) (es ++ e ∷ [])
-behind_more m meaning s es e k v rest p room = (k v (e ∷ rest) (sym (append_assoc es (e ∷ []) rest) ∙ p) room).1
+pub reads_on_more : {S A : Type 0} (m : Machine S A) (meaning : Tree → A) (s : S) (es : List Event) (e : Event) →
+    ReadsOn m meaning s es → ReadsOn m meaning (m.after s e) (es ++ e ∷ [])
+reads_on_more m meaning s es e k v rest p room = (k v (e ∷ rest) (sym (append_assoc es (e ∷ []) rest) ∙ p) room).1
 
-pub behind_ended : {S A : Type 0} (m : Machine S A) (meaning : Tree → A) (s : S) (v : Tree) (es rest : List Event) →
-    IsBehind m meaning s es → es ++ rest ≡ value_events v → IsCountable v → IsTrue (m.ended s) ↔ (rest ≡ [])
-behind_ended m meaning s v es rest k e room = ended_or_not m s rest (meaning v) (k v rest e room)
+pub reads_on_ended : {S A : Type 0} (m : Machine S A) (meaning : Tree → A) (s : S) (v : Tree) (es rest : List Event) →
+    ReadsOn m meaning s es → es ++ rest ≡ value_events v → IsCountable v → IsTrue (m.ended s) ↔ (rest ≡ [])
+reads_on_ended m meaning s v es rest k e room = ended_or_not m s rest (meaning v) (k v rest e room)
 
-pub behind_answers : {S A : Type 0} (m : Machine S A) (meaning : Tree → A) (s : S) (v : Tree) →
-    IsBehind m meaning s (value_events v) → IsCountable v → m.answered s ≡ meaning v
-behind_answers m meaning s v k room = (k v [] (append-nil (value_events v)) room).1
+pub reads_on_answers : {S A : Type 0} (m : Machine S A) (meaning : Tree → A) (s : S) (v : Tree) →
+    ReadsOn m meaning s (value_events v) → IsCountable v → m.answered s ≡ meaning v
+reads_on_answers m meaning s v k room = (k v [] (append-nil (value_events v)) room).1

@@ -28,7 +28,7 @@ use Rattle.gj_coords.specs.Walk.{position_machine, third_machine, second_machine
 use Rattle.gj_coords.specs.FlatPosition.{least_with, least_place, flat_misshapen, flat_ring, flat_position, flat_third, flat_second, PositionReader, ThirdReader, SecondReader, Walk, in_first, in_second, in_third, in_fourth, second_due, third_due, flat_taken}
 use Rattle.gj_coords.specs.Steady.{IsFaultBy, IsSettled, IsIdle, IsFirst, IsSecond, IsThird, IsPast, IsThirdPast}
 
--- ---- a fault by this place stays the least of it and one behind it
+-- ---- a fault by this place stays the least of it and one after it
 
 kept_by : (x : Fault) (place : ℕ) (rule : Rule) → x.place < place → lesser (Some x) (Some (fault_at place rule)) ≡ Some x
 kept_by x place rule h = let e : nat_lt x.place place ≡ true = grind (arith, nat_tests) in rw e refl

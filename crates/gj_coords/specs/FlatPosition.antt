@@ -54,14 +54,6 @@ third_precise (Some number) noted = number_precise number noted
 abbrev pub flat_precise : Flat → Noted
 flat_precise f = third_precise f.third (number_precise f.second (number_precise f.first nothing_noted))
 
--- whether some number of it is too precise
-abbrev pub third_is_precise : Option Numbered → Bool
-third_is_precise None = Bool.false
-third_is_precise (Some number) = is_precise (Some (exact_of number.value))
-
-abbrev pub flat_is_precise : Flat → Bool
-flat_is_precise f = is_precise (Some (exact_of f.first.value)) || (is_precise (Some (exact_of f.second.value)) || third_is_precise f.third)
-
 abbrev pub flat_numbers : Flat → Numbers
 flat_numbers f = record {
   values = flat_values f;

@@ -25,7 +25,6 @@ pub mod Positions
 pub mod Several
 pub mod Walk
 pub mod FlatPosition
-pub mod Plain
 pub mod Steady
 pub mod CoordinatesKept
 pub mod LeastLaws

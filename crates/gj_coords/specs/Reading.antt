@@ -48,5 +48,5 @@ abbrev pub IsAfter : {S A : Type 0} → Machine S A → S → List Event → Typ
 IsAfter m s es = s ≡ run m.after m.start es
 
 -- it reads what is left of each value that begins with these events, and then answers for that value
-abbrev pub IsBehind : {S A : Type 0} → Machine S A → (Tree → A) → S → List Event → Type 0
-IsBehind m meaning s es = (value : Tree) (rest : List Event) → es ++ rest ≡ value_events value → IsCountable value → Reads m s rest (meaning value)
+abbrev pub ReadsOn : {S A : Type 0} → Machine S A → (Tree → A) → S → List Event → Type 0
+ReadsOn m meaning s es = (value : Tree) (rest : List Event) → es ++ rest ≡ value_events value → IsCountable value → Reads m s rest (meaning value)

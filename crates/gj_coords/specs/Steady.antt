@@ -7,8 +7,8 @@ use Rattle.gj_coords.specs.declared.array.Stage.TheVariants.{Due, Between, Withi
 use Rattle.gj_coords.specs.declared.element.Element.{Element}
 use Rattle.gj_coords.specs.declared.fault.Fault.{Fault}
 use Rattle.gj_coords.specs.declared.position.Numbers.{Numbers}
-use Rattle.gj_coords.specs.declared.steady.Depth.{Depth}
-use Rattle.gj_coords.specs.declared.steady.Depth.TheVariants.{Unknown, First, Second, Third}
+use Rattle.gj_coords.specs.declared.depth.Depth.{Depth}
+use Rattle.gj_coords.specs.declared.depth.Depth.TheVariants.{Unknown, First, Second, Third}
 use Rattle.gj_coords.specs.FlatPosition.{Walk}
 
 -- there is a fault, which stands at this place or before it
@@ -16,7 +16,7 @@ abbrev pub IsFaultBy : ℕ → Option Fault → Type 0
 IsFaultBy floor None = ⊥
 IsFaultBy floor (Some fault) = fault.place ≤ floor
 
--- an array more behind the place changes nothing
+-- an array more after the place changes nothing
 pub record IsSettled (floor : ℕ) (numbers : Numbers) : Type 0 where
   pub values : numbers.values.count ≡ 3
   pub tally : numbers.tally.count ≡ 4
@@ -71,7 +71,7 @@ IsSteady First floor s = IsFirst floor s
 IsSteady Second floor s = IsSecond floor s
 IsSteady Third floor s = IsThird floor s
 
--- all of it stands behind the place
+-- all of it stands after the place
 abbrev pub IsThirdPast : ℕ → Option Numbered → Type 0
 IsThirdPast floor None = Unit {0}
 IsThirdPast floor (Some number) = floor < number.place

@@ -65,13 +65,13 @@ all-append : (corners : List (Option Corner)) (c : Corner) → all_corners (corn
 all-append [] c = refl
 all-append (first ∷ more) c = ap (with_corner first) (all-append more c) ∙ in_any_order first (all_corners more) c
 
-behind_none : (first : Option Corner) → with_corner first None ≡ None
-behind_none (Some first) = refl
-behind_none None = refl
+reads_on_none : (first : Option Corner) → with_corner first None ≡ None
+reads_on_none (Some first) = refl
+reads_on_none None = refl
 
 all-append_none : (corners : List (Option Corner)) → all_corners (corners ++ None ∷ []) ≡ None
 all-append_none [] = refl
-all-append_none (first ∷ more) = ap (with_corner first) (all-append_none more) ∙ behind_none first
+all-append_none (first ∷ more) = ap (with_corner first) (all-append_none more) ∙ reads_on_none first
 
 -- ---- sizes
 

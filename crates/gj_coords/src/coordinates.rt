@@ -2,24 +2,28 @@
 #[cfg(test)]
 mod tests;
 
+use crate::depth::{Depth, depth_of, is_past};
 use crate::fault::Fault;
-use crate::flat;
 use crate::part::Part;
 use crate::simple::Simple;
-use crate::steady::{Depth, depth_of, is_past};
 use crate::walk::{Walk, all_warnings, least_fault, take_flat};
+use crate::warned::Warned;
 use crate::warnings::Warnings;
+use crate::{flat, walk};
 use gj_json::{Event, Flat};
 use std::mem::size_of;
 
 /// Takes the events of one value of `coordinates`, and tells its least fault and its warnings for each of the six types.
+///
+/// Most positions come as one [`Flat`]. From the fourth of a line or a linear ring on, such a position changes nothing but
+/// what is gathered of these positions, and takes one step.
 ///
 /// It holds one fixed record, whatever the value. So it counts the levels in it in 64 bits, and promises nothing for a
 /// value of 2^64 levels or more.
 #[derive(Clone, Copy)]
 pub struct Coordinates {
     walk: Walk,
-    /// Behind this place the walk is steady at the depth.
+    /// After this place the walk is steady at the depth.
     floor: u64,
     depth: Depth,
 }
@@ -36,7 +40,8 @@ impl Coordinates {
     ghost use Rattle.gj_coords.specs.Fault.{least};
     ghost use Rattle.gj_coords.specs.Shape.{coordinates_faults};
     ghost use Rattle.gj_coords.specs.Coordinates.{StandsFor};
-    ghost use Rattle.gj_coords.specs.Noted.{StandsFor as WarningsStandFor};
+    ghost use Rattle.gj_coords.specs.Noted.{StandsFor as WarningsStandFor, joined};
+    ghost use Rattle.gj_coords.specs.Warned.{all_in};
     ghost use Rattle.gj_coords.specs.CoordinateWarnings.{coordinates_warnings};
     ghost use Rattle.gj_coords.specs.CoordinatesKept.{coordinates_kept};
 
@@ -91,12 +96,12 @@ impl Coordinates {
                 _ => {}
             }
         }
-        self.take_anew(flat);
+        self.take_anywhere(flat);
     }
 
-    /// The same wherever it stands.
+    /// The same wherever the value stands.
     #[inline(never)]
-    fn take_anew(&mut self, flat: &Flat)
+    fn take_anywhere(&mut self, flat: &Flat)
         ensures stands { (events : List Event) → StandsFor self.old events → StandsFor self.new (events ++ flat_events flat.now) }
     {
         take_flat(&mut self.walk, flat);
@@ -131,5 +136,13 @@ impl Coordinates {
             WarningsStandFor result (coordinates_warnings simple value) }
     {
         all_warnings(&self.walk, simple)
+    }
+
+    /// Adds these warnings to others. Mostly there are none, and then it does nothing.
+    pub fn warn(&self, simple: Simple, warned: &mut Warned)
+        ensures kept { (value : Tree) → StandsFor self.now (value_events value) → depth value < 2 ^ 64 →
+            all_in warned.new ≡ joined (all_in warned.old) (coordinates_kept simple value) }
+    {
+        walk::warn(&self.walk, simple, warned);
     }
 }

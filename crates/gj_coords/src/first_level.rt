@@ -40,6 +40,7 @@ impl FirstLevel {
     ghost use Rattle.std.specs.Prelude.{◌≡◌};
     ghost use Rattle.gj_coords.specs.FlatPosition.{flat_second, flat_first};
     ghost use Rattle.gj_coords.specs.Walk.{second_gathering, first_gathering, fault_in, some_fault_in, warned_in, some_warned_in, point_warned_in};
+    ghost use Rattle.gj_coords.specs.Warned.{taken};
 
     /// Adds an element that is an array, by what it gathered.
     fn add_array(&mut self, element: &SecondLevel)
@@ -70,11 +71,7 @@ impl FirstLevel {
         ensures { self.new ≡ first_gathering.added self.old (flat_second position.now) }
     {
         let misshapen = flat::misshapen_numbers(position);
-        flat::warn(
-            position,
-            &flat::corner(position),
-            &mut self.positions_warned,
-        );
+        flat::warn_quick(position, &mut self.positions_warned);
         self.numbers.add_array(position.place);
         join_fault(&mut self.lines, misshapen);
         join_fault(&mut self.rings, flat::ring_fault(position));
@@ -156,6 +153,30 @@ impl FirstLevel {
             Simple::MultiLineString => self.lines_warned,
             Simple::Polygon => self.rings_warned,
             Simple::MultiPolygon => self.polygons_warned,
+        }
+    }
+
+    /// Adds what is worth a warning for a type to others.
+    pub fn warn(&self, simple: Simple, warned: &mut Warned)
+        ensures { warned.new ≡ taken warned.old (warned_in simple self.now) }
+    {
+        if self.numbers.tally.count == 0 {
+            warned.take(&self.warned(simple));
+        } else {
+            self.warn_some(simple, warned);
+        }
+    }
+
+    /// Adds what is worth a warning in an array that is not empty.
+    fn warn_some(&self, simple: Simple, warned: &mut Warned)
+        ensures { warned.new ≡ taken warned.old (some_warned_in simple self.now) }
+    {
+        match simple {
+            Simple::Point => warned.take(&self.point_warned()),
+            Simple::MultiPoint | Simple::LineString => warned.take(&self.positions_warned),
+            Simple::MultiLineString => warned.take(&self.lines_warned),
+            Simple::Polygon => warned.take(&self.rings_warned),
+            Simple::MultiPolygon => warned.take(&self.polygons_warned),
         }
     }
 

@@ -1,15 +1,14 @@
 //! A position that is told as one.
-ghost use Rattle.std.specs.Prelude.{◌≡◌, Some};
+ghost use Rattle.std.specs.Prelude.{◌≡◌, Some, true};
 ghost use Rattle.gj_number.specs.Short.{exact_of};
 ghost use Rattle.gj_coords.specs.CoordinateWarnings.{is_precise};
 ghost use Rattle.gj_coords.specs.Position.{position_noted, sound_noted};
 ghost use Rattle.gj_coords.specs.Winding.{corner_of};
-ghost use Rattle.gj_coords.specs.FlatPosition.{flat_values, flat_position, flat_numbers, flat_precise, number_precise, flat_count, least_place, flat_misshapen, flat_ring, third_is_precise};
+ghost use Rattle.gj_coords.specs.FlatPosition.{flat_values, flat_position, flat_numbers, flat_precise, number_precise, flat_count, least_place, flat_misshapen, flat_ring};
 
 use crate::fault::{Fault, Rule};
 use crate::noted::Noted;
-use crate::plain;
-use crate::position::{Numbers, Values, misshapen};
+use crate::position::{MOST_PLACES, Numbers, Values, misshapen};
 use crate::position_warned::note_position;
 use crate::tally::Tally;
 use crate::warned::Warned;
@@ -17,6 +16,7 @@ use crate::winding::Corner;
 use gj_json::{Flat, Numbered};
 use gj_number::Short;
 
+/// Its exact values.
 pub fn values(flat: &Flat) -> Values
     ensures { result ≡ flat_values flat.now }
 {
@@ -32,14 +32,27 @@ pub fn values(flat: &Flat) -> Values
     }
 }
 
+/// Whether the last of more than seven written places is no zero.
 #[inline(always)]
-pub fn is_too_precise(value: Short) -> bool
-    ensures { result ≡ is_precise (Some (exact_of value)) }
+fn is_written_long(number: Short) -> bool
+    ensures { result ≡ true → is_precise (Some (exact_of number)) ≡ true }
 {
-    value.is_precise()
+    number.places > MOST_PLACES && number.digits % 10 != 0
+}
+
+/// Whether a number is too precise. Mostly its last digit tells.
+#[inline(always)]
+fn is_too_precise(number: Short) -> bool
+    ensures { result ≡ is_precise (Some (exact_of number)) }
+{
+    if is_written_long(number) {
+        return true;
+    }
+    number.is_precise()
 }
 
 /// With this number, if it is too precise.
+#[inline(always)]
 fn precise_with(noted: Noted, number: &Numbered) -> Noted
     ensures { result ≡ number_precise number.now noted }
 {
@@ -51,6 +64,7 @@ fn precise_with(noted: Noted, number: &Numbered) -> Noted
 }
 
 /// Its numbers that are too precise.
+#[inline(always)]
 fn precise(flat: &Flat) -> Noted
     ensures { result ≡ flat_precise flat.now }
 {
@@ -61,16 +75,7 @@ fn precise(flat: &Flat) -> Noted
     }
 }
 
-#[inline(always)]
-pub fn is_third_precise(third: &Option<Numbered>) -> bool
-    ensures { result ≡ third_is_precise third.now }
-{
-    match third {
-        Some(number) => is_too_precise(number.value),
-        None => false,
-    }
-}
-
+/// What a value gathers of them as a position.
 pub fn numbers(flat: &Flat) -> Numbers
     ensures { result ≡ flat_numbers flat.now }
 {
@@ -88,7 +93,7 @@ pub fn numbers(flat: &Flat) -> Numbers
 }
 
 /// The corner of its first two numbers, where they are in range.
-#[inline]
+#[inline(always)]
 pub fn corner(flat: &Flat) -> Option<Corner>
     ensures { result ≡ corner_of (Some (exact_of flat.now.first.value)) (Some (exact_of flat.now.second.value)) }
 {
@@ -131,13 +136,13 @@ pub fn ring_fault(flat: &Flat) -> Option<Fault>
     }
 }
 
-/// Notes what is worth a warning in it, by its corner.
-#[inline]
+/// Notes what is worth a warning in it, by its corner. Mostly there is nothing, or all numbers are too precise.
+#[inline(always)]
 pub fn warn(flat: &Flat, corner: &Option<Corner>, warned: &mut Warned)
     ensures { warned.new ≡ position_noted warned.old flat.now.place (flat_count flat.now.third) corner.now (flat_precise flat.now) }
 {
     if corner.is_none() {
-        note(flat, corner, warned);
+        warn_beyond(flat, corner, warned);
         return;
     }
     let precise = precise(flat);
@@ -146,8 +151,9 @@ pub fn warn(flat: &Flat, corner: &Option<Corner>, warned: &mut Warned)
     }
 }
 
+/// The same where it may be out of range.
 #[inline(never)]
-fn note(flat: &Flat, corner: &Option<Corner>, warned: &mut Warned)
+fn warn_beyond(flat: &Flat, corner: &Option<Corner>, warned: &mut Warned)
     ensures { warned.new ≡ position_noted warned.old flat.now.place (flat_count flat.now.third) corner.now (flat_precise flat.now) }
 {
     let count = match &flat.third {
@@ -157,18 +163,9 @@ fn note(flat: &Flat, corner: &Option<Corner>, warned: &mut Warned)
     note_position(flat.place, count, corner, precise(flat), warned);
 }
 
-/// Notes what is worth a warning in it. Mostly there is nothing.
-#[inline(always)]
+/// Notes what is worth a warning in it.
+#[inline]
 pub fn warn_quick(flat: &Flat, warned: &mut Warned)
-    ensures { warned.new ≡ sound_noted warned.old (flat_position flat.now) }
-{
-    if plain::corner(flat).is_none() {
-        warn_each(flat, warned);
-    }
-}
-
-#[inline(never)]
-fn warn_each(flat: &Flat, warned: &mut Warned)
     ensures { warned.new ≡ sound_noted warned.old (flat_position flat.now) }
 {
     warn(flat, &corner(flat), warned);

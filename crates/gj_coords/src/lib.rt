@@ -9,6 +9,7 @@
 mod array;
 mod bbox;
 mod coordinates;
+mod depth;
 mod element;
 mod fault;
 mod findings;
@@ -18,7 +19,6 @@ mod kind;
 pub mod laws;
 mod noted;
 mod part;
-mod plain;
 mod position;
 mod position_warned;
 mod ring;
@@ -27,7 +27,6 @@ mod sample;
 mod second_level;
 mod several;
 mod simple;
-mod steady;
 mod tally;
 mod third_level;
 mod walk;
@@ -42,6 +41,7 @@ pub use coordinates::Coordinates;
 pub use fault::{Fault, Rule, lesser_fault};
 pub use kind::Kind;
 pub use simple::Simple;
+pub use warned::Warned;
 pub use warnings::Warnings;
 pub use watcher::{
     LineStringWatcher, MultiLineStringWatcher, MultiPointWatcher, MultiPolygonWatcher,

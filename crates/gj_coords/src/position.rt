@@ -25,7 +25,7 @@ const NEEDED: u8 = 2;
 pub const MOST_VALUES: u8 = 3;
 
 /// A number with more decimal places than these is too precise.
-pub const MOST_PLACES: u16 = 7;
+pub const MOST_PLACES: u8 = 7;
 
 /// The exact values of a position's first three numbers, and their count.
 #[derive(Clone, Copy, PartialEq, Eq)]
@@ -141,7 +141,7 @@ fn is_precise(value: &Option<Decimal>) -> bool
     ensures { result ≡ is_precise value.now }
 {
     match value {
-        Some(decimal) => decimal.places() > MOST_PLACES,
+        Some(decimal) => decimal.places() > u16::from(MOST_PLACES),
         None => false,
     }
 }

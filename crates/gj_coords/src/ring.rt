@@ -4,13 +4,13 @@ ghost use Rattle.gj_coords.specs.Positions.{role_behind, runs_wrong};
 
 use crate::array::{Array, Stage};
 use crate::fault::{Fault, Rule, join_fault, lesser_fault};
+use crate::flat;
 use crate::kind::Kind;
 use crate::part::{Gather, Judged};
 use crate::position::{Numbers, PositionReader, Values, misshapen};
 use crate::tally::Tally;
 use crate::warned::Warned;
 use crate::winding::{Corner, Turn, Winding};
-use crate::{flat, plain};
 use gj_json::{Event, Flat};
 
 /// A linear ring needs this many positions.
@@ -73,8 +73,7 @@ impl RingRole {
 }
 
 impl Positions {
-    ghost use Rattle.std.specs.Prelude.{◌≡◌, Some};
-    ghost use Rattle.gj_coords.specs.Plain.{IsPlainCorner};
+    ghost use Rattle.std.specs.Prelude.{◌≡◌};
     ghost use Rattle.gj_coords.specs.WindingGather.{turn_in};
     ghost use Rattle.gj_coords.specs.Position.{position_closed, misshapen_at};
     ghost use Rattle.gj_coords.specs.FlatPosition.{flat_position, flat_values};
@@ -118,77 +117,41 @@ impl Positions {
         }
     }
 
-    /// Adds a position that is told as one.
-    #[inline(always)]
-    pub fn add_quick(&mut self, position: &Flat)
-        ensures { self.new ≡ position_added self.old (flat_position position.now) }
-    {
-        match plain::corner(position) {
-            Some(corner) => self.add_plain(position, corner),
-            None => self.add_flat(position),
-        }
-    }
-
-    /// Adds a position that is told as one, and has nothing that is worth a warning.
-    #[inline(always)]
-    fn add_plain(&mut self, position: &Flat, corner: Corner)
-        requires { IsPlainCorner position.now corner }
-        ensures { self.new ≡ position_added self.old (flat_position position.now) }
-    {
-        if self.fault.is_none() {
-            self.add_sound_flat(position, corner);
-        }
-    }
-
-    /// Adds a position that is told as one and in range, behind others without a fault.
-    #[inline(always)]
-    fn add_sound_flat(&mut self, position: &Flat, corner: Corner)
-        ensures { self.new ≡ sound_joined self.old (flat_values position.now) (Some corner) }
-    {
-        match &self.first {
-            Some(first) if first.differs(position) => {
-                self.closes = false;
-                self.winding.add_next(corner);
-            }
-            _ => self.add_same(position, corner),
-        }
-    }
-
-    /// The same where it is the first, or may have the values of the first.
-    #[inline(never)]
-    fn add_same(&mut self, position: &Flat, corner: Corner)
-        ensures { self.new ≡ sound_joined self.old (flat_values position.now) (Some corner) }
-    {
-        self.add_sound(&flat::values(position), Some(corner));
-    }
-
-    /// Adds a position that is told as one, whatever is in it.
+    /// Adds a position that is told as one, wherever it stands.
     #[inline(never)]
     pub fn add_flat(&mut self, position: &Flat)
+        ensures { self.new ≡ position_added self.old (flat_position position.now) }
+    {
+        self.add_quick(position);
+    }
+
+    /// The same, for the one place where most positions come.
+    #[inline(always)]
+    pub fn add_quick(&mut self, position: &Flat)
         ensures { self.new ≡ position_added self.old (flat_position position.now) }
     {
         let corner = flat::corner(position);
         flat::warn(position, &corner, &mut self.warned);
         if self.fault.is_none() {
-            self.add_sound_any(position, corner);
+            self.add_sound_flat(position, corner);
         }
     }
 
-    /// Adds a position that is told as one behind others without a fault.
-    #[inline]
-    fn add_sound_any(&mut self, position: &Flat, next: Option<Corner>)
-        ensures { self.new ≡ sound_joined self.old (flat_values position.now) next }
+    /// Adds a position that is told as one after others without a fault. Mostly it is neither the first nor the same.
+    #[inline(always)]
+    fn add_sound_flat(&mut self, position: &Flat, corner: Option<Corner>)
+        ensures { self.new ≡ sound_joined self.old (flat_values position.now) corner }
     {
         match &self.first {
             Some(first) if first.differs(position) => {
                 self.closes = false;
-                self.winding.add(next);
+                self.winding.add_quick(corner);
             }
-            _ => self.add_sound(&flat::values(position), next),
+            _ => self.add_sound(&flat::values(position), corner),
         }
     }
 
-    /// Adds a position without a fault behind others without one.
+    /// Adds a position without a fault after others without one.
     #[inline(never)]
     fn add_sound(&mut self, values: &Values, corner: Option<Corner>)
         ensures { self.new ≡ sound_joined self.old values.now corner }

@@ -3,7 +3,7 @@
 //! Each level is read once, in each role that it has under some type: the value itself as each of the six types; its
 //! elements as positions, lines, linear rings and polygons; theirs as positions and linear rings; and theirs as positions.
 ghost use Rattle.std.specs.Prelude.{◌≡◌};
-ghost use Rattle.gj_coords.specs.Warned.{all_in};
+ghost use Rattle.gj_coords.specs.Warned.{all_in, taken};
 ghost use Rattle.gj_coords.specs.Walk.{walk_machine, fault_as, warned_as};
 ghost use Rattle.gj_json.specs.Flat.{number_event};
 ghost use Rattle.gj_coords.specs.Sent.{event_at};
@@ -16,6 +16,7 @@ use crate::part::Part;
 use crate::position::misshapen;
 use crate::second_level::SecondReader;
 use crate::simple::Simple;
+use crate::warned::Warned;
 use crate::warnings::Warnings;
 use gj_json::{Event, Flat, Numbered, What};
 
@@ -39,6 +40,16 @@ pub fn all_warnings(walk: &Walk, simple: Simple) -> Warnings
     match walk.stage {
         Stage::Broken => Warnings::none(),
         _ => walk.gather.warned(simple).all(),
+    }
+}
+
+/// Adds the same to others.
+pub fn warn(walk: &Walk, simple: Simple, warned: &mut Warned)
+    ensures { warned.new ≡ taken warned.old (warned_as simple (walk_machine.answered walk.now)) }
+{
+    match walk.stage {
+        Stage::Broken => {}
+        _ => walk.gather.warn(simple, warned),
     }
 }
 

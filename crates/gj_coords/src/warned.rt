@@ -3,27 +3,54 @@ use crate::kind::Kind;
 use crate::noted::Noted;
 use crate::warnings::Warnings;
 
-/// Warnings that are gathered. Mostly there are none: then they are nothing, and begin anew in one step.
+/// Warnings that are gathered. Mostly there are none: then they are nothing, begin anew in one step, and add nothing to
+/// others.
 #[derive(Clone, Copy)]
 pub struct Warned {
-    pub warnings: Option<Warnings>,
+    warnings: Option<Warnings>,
 }
 
 impl Warned {
     ghost use Rattle.std.specs.Prelude.{◌≡◌};
     ghost use Rattle.gj_coords.specs.declared.kind.Kind.TheVariants.{W4};
+    ghost use Rattle.gj_coords.specs.Noted.{joined, added, no_warnings, none_in};
     ghost use Rattle.gj_coords.specs.Warned.{no_warned, all_in, noted_in, all_noted_in, taken_all, taken};
 
+    /// No warning.
     pub fn none() -> Warned
-        ensures { result ≡ no_warned }
+        ensures exact { result ≡ no_warned }
+        ensures none { all_in result ≡ no_warnings }
     {
         Warned { warnings: None }
     }
 
+    /// These.
+    pub fn of(warnings: Warnings) -> Warned
+        ensures { all_in result ≡ warnings }
+    {
+        Warned {
+            warnings: Some(warnings),
+        }
+    }
+
+    /// Forgets them all.
+    #[inline]
     pub fn clear(&mut self)
-        ensures { self.new ≡ no_warned }
+        ensures exact { self.new ≡ no_warned }
+        ensures none { all_in self.new ≡ no_warnings }
     {
         self.warnings = None;
+    }
+
+    /// Whether there is no warning of any kind.
+    #[inline]
+    pub fn is_empty(&self) -> bool
+        ensures { result ≡ none_in (all_in self.now) }
+    {
+        match &self.warnings {
+            Some(warnings) => warnings.is_empty(),
+            None => true,
+        }
     }
 
     /// All of them.
@@ -40,7 +67,8 @@ impl Warned {
     // It is seldom called: what it holds has no room where it is called.
     #[inline(never)]
     pub fn note(&mut self, kind: Kind, place: u64)
-        ensures { self.new ≡ noted_in self.old kind place }
+        ensures exact { self.new ≡ noted_in self.old kind place }
+        ensures one_more { all_in self.new ≡ added (all_in self.old) kind place }
     {
         match &mut self.warnings {
             Some(warnings) => warnings.note(kind, place),
@@ -50,7 +78,7 @@ impl Warned {
 
     /// Takes some warnings of numbers that are too precise, of which a text that has some mostly has many.
     #[inline]
-    pub fn note_precise(&mut self, noted: Noted)
+    pub(crate) fn note_precise(&mut self, noted: Noted)
         ensures { self.new ≡ all_noted_in self.old W4 noted }
     {
         match &mut self.warnings {
@@ -61,7 +89,7 @@ impl Warned {
 
     /// Takes some warnings of a kind.
     #[inline(never)]
-    pub fn note_all(&mut self, kind: Kind, noted: Noted)
+    pub(crate) fn note_all(&mut self, kind: Kind, noted: Noted)
         ensures { self.new ≡ all_noted_in self.old kind noted }
     {
         match &mut self.warnings {
@@ -77,10 +105,12 @@ impl Warned {
     /// Takes the warnings of another.
     #[inline]
     pub fn take(&mut self, other: &Warned)
-        ensures { self.new ≡ taken self.old other.now }
+        ensures exact { self.new ≡ taken self.old other.now }
+        ensures joined { all_in self.new ≡ joined (all_in self.old) (all_in other.now) }
     {
-        if let Some(warnings) = &other.warnings {
-            self.take_all(warnings);
+        match &other.warnings {
+            Some(warnings) => self.take_all(warnings),
+            None => {}
         }
     }
 

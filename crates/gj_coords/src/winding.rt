@@ -10,10 +10,10 @@ ghost use Rattle.gj_coords.specs.Winding.{bounded, bounded_cut, cut_value, both,
 use gj_number::{Decimal, Short};
 
 /// 180 degrees as a cut number.
-pub const MOST_LONGITUDE: i32 = 1_800_000_000;
+const MOST_LONGITUDE: i32 = 1_800_000_000;
 
 /// 90 degrees as a cut number.
-pub const MOST_LATITUDE: i32 = 900_000_000;
+const MOST_LATITUDE: i32 = 900_000_000;
 
 /// The longitude and the latitude of a position that is in range, as cut numbers.
 #[derive(Clone, Copy, Debug, PartialEq, Eq)]
@@ -61,7 +61,7 @@ impl Corner {
     }
 
     /// The same of two numbers as most are written.
-    #[inline]
+    #[inline(always)]
     pub fn of(longitude: Short, latitude: Short) -> Option<Corner>
         ensures { result ≡ corner_of (Some (exact_of longitude)) (Some (exact_of latitude)) }
     {
@@ -81,7 +81,7 @@ impl Corner {
 
 /// The cut number of a number as most are written, where it is at most so far from zero.
 #[inline(always)]
-pub fn cut_within(number: Short, most: i32) -> Option<i32>
+fn cut_within(number: Short, most: i32) -> Option<i32>
     ensures { result ≡ bounded_cut most (cut_value (Some (exact_of number))) }
 {
     match number.cut() {
@@ -116,6 +116,7 @@ fn within(number: i64, most: i32) -> Option<i32>
     }
 }
 
+#[inline(always)]
 fn join(x: Option<i32>, y: Option<i32>) -> Option<Corner>
     ensures { result ≡ both x y }
 {
@@ -203,6 +204,7 @@ impl Winding {
         }
     }
 
+    #[inline(never)]
     fn add_corner(&mut self, corner: &Corner)
         ensures { self.new ≡ corner_added self.old corner.now }
     {
@@ -210,26 +212,30 @@ impl Winding {
         self.last = Some(*corner);
     }
 
-    /// One corner more behind others: the sum and the last corner are written where they are.
+    /// The same, for the one place where most positions come: after a first corner the sum and the last corner are
+    /// written where they are.
     #[inline(always)]
-    pub fn add_next(&mut self, corner: Corner)
-        ensures { self.new ≡ corner_added self.old corner }
+    pub fn add_quick(&mut self, corner: Option<Corner>)
+        ensures { self.new ≡ winding_added self.old corner }
     {
-        match &mut self.last {
-            Some(last) => {
-                self.area = wrapped_sum(self.area, last.cross(&corner));
-                last.x = corner.x;
-                last.y = corner.y;
-            }
-            None => self.add_first(corner),
+        match corner {
+            Some(corner) => self.add_next(&corner),
+            None => self.add(None),
         }
     }
 
-    #[inline(never)]
-    fn add_first(&mut self, corner: Corner)
-        ensures { self.new ≡ corner_added self.old corner }
+    #[inline(always)]
+    fn add_next(&mut self, corner: &Corner)
+        ensures { self.new ≡ corner_added self.old corner.now }
     {
-        self.add_corner(&corner);
+        match &mut self.last {
+            Some(last) => {
+                self.area = wrapped_sum(self.area, last.cross(corner));
+                last.x = corner.x;
+                last.y = corner.y;
+            }
+            None => self.add_corner(corner),
+        }
     }
 
     /// The term of the area for the way from the last corner to this one.

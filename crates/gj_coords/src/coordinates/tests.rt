@@ -1,6 +1,7 @@
 //! Rows of values and their least faults, told to the six watchers and to the one walk alike.
 mod both;
 mod flat;
+mod mixed;
 mod warned;
 
 use crate::fault::{Fault, Rule};

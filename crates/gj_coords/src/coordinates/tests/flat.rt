@@ -8,17 +8,24 @@ use std::process::Abort;
 
 /// Takes what the reader tells as one so, and counts it.
 #[derive(Drop)]
-struct Grouped {
+pub struct Grouped {
     walk: Coordinates,
     flats: u64,
 }
 
 impl Grouped {
-    fn new() -> Grouped {
+    pub fn new() -> Grouped {
         Grouped {
             walk: Coordinates::new(),
             flats: 0,
         }
+    }
+
+    /// Sees that it answers as the walk that was told event by event.
+    pub fn expect_as(&self, rt: &impl Abort, both: &Both) {
+        assert!(rt; self.walk.done(), "done");
+        assert!(rt; self.faults() == both.by_walk(), "the faults");
+        assert!(rt; self.warnings() == both.warned_by_walk(), "the warnings");
     }
 
     fn faults(&self) -> Row {

@@ -4,6 +4,7 @@ use crate::coordinates::Coordinates;
 use crate::kind::Kind;
 use crate::sample::tell;
 use crate::simple::Simple;
+use crate::warned::Warned;
 use crate::warnings::Warnings;
 use gj_json::{Event, EventSink, Limits, Reader};
 use std::process::Abort;
@@ -26,6 +27,12 @@ type Row = (&'static str, Simple, Warnings);
 
 fn expect(rt: &impl Abort, both: &Both, simple: Simple, expected: Warnings, name: &str) {
     assert!(rt; both.walk.warnings(simple) == expected, "{name}");
+    let mut warned = Warned::of(one(Kind::W9, 1));
+    both.walk.warn(simple, &mut warned);
+    assert!(rt;
+        warned.all() == expected.add(Kind::W9, 1),
+        "{name}: added to others"
+    );
     assert!(rt;
         both.warned_by_walk() == both.warned_by_watchers(),
         "{name}: the watchers"
@@ -199,6 +206,20 @@ fn polygons(rt: HostRuntime) {
             ),
         ],
     );
+}
+
+#[test]
+fn warnings_that_are_gathered(rt: HostRuntime) {
+    let mut warned = Warned::none();
+    assert!(rt; warned.is_empty());
+    warned.take(&Warned::none());
+    assert!(rt; warned.is_empty());
+    warned.note(Kind::W9, 7);
+    warned.take(&Warned::of(one(Kind::W8, 3)));
+    assert!(rt; !warned.is_empty());
+    assert!(rt; warned.all() == one(Kind::W9, 7).add(Kind::W8, 3));
+    warned.clear();
+    assert!(rt; warned.all() == none());
 }
 
 /// The walk alone.

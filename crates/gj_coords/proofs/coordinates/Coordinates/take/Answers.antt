@@ -4,5 +4,5 @@ use Rattle.gj_coords.proofs.coordinates.Coordinates.take.Goals as goal
 pub returns : goal.returns
 returns c = record {
   stands = λ events stands.
-      record { behind = rw c.event.ensures (walk_more c.args.self.now.walk events c.args.event.now stands.behind); steady = tt };
+      record { reads_on = rw c.event.ensures (walk_more c.args.self.now.walk events c.args.event.now stands.reads_on); steady = tt };
 }

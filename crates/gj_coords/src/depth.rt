@@ -1,7 +1,7 @@
-//! Where a position that is told as one changes nothing but what is gathered of positions.
+//! At which depth a position that is told as one changes nothing but what is gathered of positions.
 //!
-//! An array of positions has few elements at most once, and its first element alone is the least fault of it under the
-//! types that want no position there. So from the fourth position on all this stays as it is.
+//! Elements are counted up to four, and an array of positions has its least fault under the types that want no position
+//! there from its first element on. So from the fourth position on all this stays as it is.
 ghost use Rattle.std.specs.Prelude.{◌≡◌, true};
 ghost use Rattle.gj_coords.specs.declared.array.Stage.TheVariants.{Due, Between, Within};
 ghost use Rattle.gj_coords.specs.Steady.{IsFaultBy, IsSettled, IsIdle, IsFirst, IsSecond, IsThird, IsSteady, IsThirdPast, IsPast};
@@ -13,7 +13,7 @@ use crate::position::Numbers;
 use crate::walk::Walk;
 use gj_json::{Flat, Numbered};
 
-/// Behind how many open arrays a position is due.
+/// In how many open arrays a position is due.
 #[derive(Clone, Copy)]
 pub enum Depth {
     /// It is not known, or a position more may change something else.
@@ -105,7 +105,7 @@ fn is_third(floor: u64, walk: &Walk) -> bool
         && is_settled(floor, &walk.item.item.gather.numbers)
 }
 
-/// At which depth the walk is steady behind the place.
+/// At which depth the walk is steady after the place.
 pub fn depth_of(floor: u64, walk: &Walk) -> Depth
     ensures { IsSteady result floor walk.now }
 {
@@ -130,7 +130,7 @@ fn is_third_past(floor: u64, third: &Option<Numbered>) -> bool
     }
 }
 
-/// Whether all of the position stands behind the place.
+/// Whether all of the position stands after the place.
 #[inline(always)]
 pub fn is_past(floor: u64, position: &Flat) -> bool
     ensures { result ≡ true → IsPast floor position.now }

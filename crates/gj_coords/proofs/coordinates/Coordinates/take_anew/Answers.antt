@@ -1,8 +1,0 @@
-use Rattle.gj_coords.proofs.CoordinatesLaws.{walk_flat}
-use Rattle.gj_coords.proofs.coordinates.Coordinates.take_anew.Goals as goal
-
-pub returns : goal.returns
-returns c = record {
-  stands = λ events stands.
-      record { behind = rw c.take_flat.ensures (walk_flat c.args.self.now.walk events c.args.flat.now stands.behind); steady = c.depth_of-self.ensures };
-}
