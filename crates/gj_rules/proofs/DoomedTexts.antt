@@ -20,13 +20,10 @@ use Rattle.gj_coords.specs.declared.fault.Rule.TheVariants.{G1, G3, G5, G6, G7, 
 use Rattle.gj_coords.specs.declared.simple.Simple.{Simple}
 use Rattle.gj_coords.specs.declared.warnings.Warnings.{Warnings}
 use Rattle.gj_coords.specs.Fault.{lesser, least, fault_at}
-use Rattle.gj_rules.specs.declared.found.Found.{Found}
-use Rattle.gj_rules.specs.declared.frame.Frame.{Frame}
+use Rattle.gj_rules.specs.Seen.{Found, Frame, Shapes, Shown}
 use Rattle.gj_rules.specs.declared.role.Role.{Role}
 use Rattle.gj_rules.specs.declared.mode.Mode.TheVariants.{Names, Done}
 use Rattle.gj_rules.specs.declared.rules.Rules.{Rules}
-use Rattle.gj_rules.specs.declared.shapes.Shapes.{Shapes}
-use Rattle.gj_rules.specs.declared.shown.Shown.{Shown}
 use Rattle.gj_rules.specs.declared.shown.Slot.{Slot}
 use Rattle.gj_rules.specs.declared.shown.TypeValue.{TypeValue}
 use Rattle.gj_rules.specs.Doomed.{outermost, names, first_type, repeats, any_of, forbidden_by, type_fails, members_fail, unmarked_fails, is_doomed}

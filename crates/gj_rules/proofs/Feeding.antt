@@ -13,10 +13,6 @@ use Rattle.gj_rules.specs.declared.rules.Rules.{Rules}
 use Rattle.gj_rules.specs.Kept.{core_of, Holds, HoldsIn, Fed}
 use Rattle.gj_rules.specs.Summaries.{StandsForCoordinates}
 
-held_on : (k : ℕ) (m : Mode) (old new : C.Coordinates) (bbox : Bbox) (es fs : List Event) → k ≡ 0 → m ≡ Due Coordinates
-    → (StandsForCoordinates old es → StandsForCoordinates new fs) → HoldsIn k m old bbox es → HoldsIn k m new bbox fs
-held_on k m old new bbox es fs a b t = rw (a, b) t
-
 held : (k : ℕ) (m : Mode) (c : C.Coordinates) (bbox : Bbox) (es : List Event) → k ≡ 0 → m ≡ Due Coordinates → HoldsIn k m c bbox es → StandsForCoordinates c es
 held k m c bbox es a b h = rw (a, b) at h
 
@@ -24,13 +20,18 @@ lost : (b : Bool) → b ≡ false → IsTrue b → ⊥
 lost true e i = cc
 lost false e i = cc
 
-pub not_whole : (old : Rules) (new : C.Coordinates) (v : Tree) (taken : List Event) (events : List Event) (left : List Event) (done : Bool) → old.skipped ≡ 0 → old.mode ≡ Due Coordinates
-    → (StandsForCoordinates old.coordinates taken → StandsForCoordinates new (taken ++ events))
-    → done ≡ false → (StandsForCoordinates new (taken ++ events) → IsTrue done ↔ (left ≡ [])) → Holds old taken
-    → Fed old v (taken ++ events) left (record old { coordinates = new })
-not_whole old new v taken events [] done a b t f d h =
+held_now : (k : ℕ) (m : Mode) (c : C.Coordinates) (bbox : Bbox) (es : List Event) → k ≡ 0 → m ≡ Due Coordinates → StandsForCoordinates c es → HoldsIn k m c bbox es
+held_now k m c bbox es a b h = rw (a, b) h
+
+pub not_whole : (old new : Rules) (v : Tree) (taken events left : List Event) (done : Bool) → old.skipped ≡ 0 → old.mode ≡ Due Coordinates
+    → new.skipped ≡ 0 → new.mode ≡ Due Coordinates → core_of new ≡ core_of old
+    → (StandsForCoordinates old.coordinates taken → StandsForCoordinates new.coordinates (taken ++ events))
+    → done ≡ false → (StandsForCoordinates new.coordinates (taken ++ events) → IsTrue done ↔ (left ≡ [])) → Holds old taken
+    → Fed old v (taken ++ events) left new
+not_whole old new v taken events [] done a b k m e t f d h =
     absurd (lost done f ((d (t (held old.skipped old.mode old.coordinates old.bbox taken a b h))).1 refl))
-not_whole old new v taken events (y ∷ ys) done a b t f d h = (refl, held_on old.skipped old.mode old.coordinates new old.bbox taken (taken ++ events) a b t h)
+not_whole old new v taken events (y ∷ ys) done a b k m e t f d h =
+    (e, held_now new.skipped new.mode new.coordinates new.bbox (taken ++ events) k m (t (held old.skipped old.mode old.coordinates old.bbox taken a b h)))
 
 pub whole : (old new : Rules) (c : C.Coordinates) (v : Tree) (taken events left : List Event) (done : Bool) → old.skipped ≡ 0 → old.mode ≡ Due Coordinates
     → (StandsForCoordinates old.coordinates taken → StandsForCoordinates c (taken ++ events))

@@ -1,5 +1,5 @@
 -- What a call leaves stands for the events of an array of numbers more.
-use Rattle.std.proofs.Common.{◌≡◌, ℕ, ◌+◌, ◌≤◌, ◌⊎◌, inl, inr, Bool, true, false, List, [], ◌∷◌, ◌++◌, map, reverse, refl, sym, ap, subst, ◌∙◌, append_assoc}
+use Rattle.std.proofs.Common.{◌≡◌, ℕ, ◌+◌, ◌⊎◌, inl, inr, Bool, true, false, List, [], ◌∷◌, ◌++◌, map, refl, sym, ap, subst, ◌∙◌, append_assoc}
 use Rattle.std.proofs.lemmas.List.{map-append}
 use Rattle.std.specs.List.{AllByRecursion}
 use Rattle.gj_json.specs.declared.constant.Constant.TheVariants.{Null, True, False}
@@ -9,12 +9,12 @@ use Rattle.gj_json.specs.declared.flat.Numbered.{Numbered}
 use Rattle.gj_json.specs.Events as E
 use Rattle.gj_json.specs.Events.{value_events, elements_events, members_events, timed}
 use Rattle.gj_json.specs.Flat.{number_event, numbers_events}
-use Rattle.gj_json.specs.Tree.{Tree, constant, number, string, array, object, Text, depth}
-use Rattle.gj_rules.specs.declared.found.Found.{Found}
-use Rattle.gj_rules.specs.declared.frame.Frame.{Frame}
+use Rattle.gj_json.specs.Tree.{Tree, constant, number, string, array, object}
+use Rattle.gj_rules.specs.Seen.{Found}
+use Rattle.gj_rules.specs.Seen.{Frame}
 use Rattle.gj_rules.specs.declared.mode.Mode.{Mode}
 use Rattle.gj_rules.specs.declared.rules.Rules.{Rules}
-use Rattle.gj_rules.specs.Kept.{core_of, Stands, Fed, FeedsMany}
+use Rattle.gj_rules.specs.Kept.{core_of, top_of, Stands, Fed, FeedsMany}
 use Rattle.gj_rules.specs.Rules.{StandsFor}
 use Rattle.gj_rules.specs.Step.{Core, Feed, State, is_feeding, ended, fed, idle, step, run, start}
 use Rattle.gj_rules.specs.Told.{Told, event_of, text_told}
@@ -59,7 +59,7 @@ run_fed x (y ∷ ys) left v taken k m f o a e =
 
 outcome_stands : (old new : Rules) (v : Tree) (taken left : List Event) → is_feeding old.skipped old.mode ≡ true → Fed old v taken left new → Stands new (outcome left v taken (core_of old))
 outcome_stands old new v taken [] e h =
-    (h, holds_names new.skipped new.mode new.coordinates new.bbox [] (ap (λ (c : Core). c.mode) h ∙ ended_names v old.skipped old.mode old.top (reverse old.outer.items) old.answer e))
+    (h, holds_names new.skipped new.mode new.coordinates new.bbox [] (ap (λ (c : Core). c.mode) h ∙ ended_names v old.skipped old.mode (top_of old) (core_of old).outer (core_of old).answer e))
 outcome_stands old new v taken (y ∷ ys) e h = h
 
 -- ---- a value does not end within an array of numbers
@@ -173,14 +173,14 @@ module _ (old new : Rules) (place : ℕ) (numbers : List Numbered) (close : ℕ)
       let l : left ≡ map event_of (x ∷ xs) ++ w.0 = w.1 ∙ ap (λ (es : List Event). es ++ w.0) (sym e) in
       let all : (taken ++ fs) ++ w.0 ≡ value_events v = append_assoc taken fs w.0 ∙ (ap (λ (es : List Event). taken ++ es) (sym w.1) ∙ f.split) in
       let done = outcome_stands old new v (taken ++ fs) w.0 feeds (t v taken w.0 f.deep h.1 all) in
-      let r = run_fed x xs w.0 v taken old.skipped old.mode old.top (reverse old.outer.items) old.answer feeds in
+      let r = run_fed x xs w.0 v taken old.skipped old.mode (top_of old) (core_of old).outer (core_of old).answer feeds in
       subst (λ (s : State). Stands new s)
       (sym (ap (λ (es : List Event). run (x ∷ xs) (with_feed (core_of old) (feeding v taken es))) l ∙ (r ∙ ap (λ (es : List Event). outcome w.0 v (taken ++ es) (core_of old)) e))) done
 
   flat_run : (xs rest : List Told) (s : State) (found : Found) → map event_of xs ≡ fs → Stands old s → Leads (xs ++ rest) s found → Stands new (run xs s)
   flat_run [] rest s found e h g = cc
   flat_run (x ∷ xs) rest s found e h g =
-      let fits = fits_of x (xs ++ rest) s.feed old.skipped old.mode old.top (reverse old.outer.items) old.answer feeds (good_core old x (xs ++ rest) s h.0 g.0) in
+      let fits = fits_of x (xs ++ rest) s.feed old.skipped old.mode (top_of old) (core_of old).outer (core_of old).answer feeds (good_core old x (xs ++ rest) s h.0 g.0) in
       subst (λ (c : Core). Stands new (run (x ∷ xs) (with_feed c s.feed))) h.0 (from_fits x xs rest s.feed.value s.feed.taken s.feed.left e (refl, h.1) fits)
 
   pub told_flat : (events : List Event) → StandsFor old events → StandsFor new (events ++ fs)

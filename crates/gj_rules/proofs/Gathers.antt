@@ -10,8 +10,8 @@ use Rattle.gj_coords.specs.CoordinateWarnings.{warned_if}
 use Rattle.gj_coords.specs.Noted.{warnings_of, no_warnings, joined}
 use Rattle.gj_coords.specs.Warnings.{warning_at}
 use Rattle.gj_coords.specs.WarningLaws.{joined_none_first, joined_none_last, joined_assoc, joined_comm, warnings_of_none, warnings_of-append, added_is}
-use Rattle.gj_rules.specs.declared.frame.Frame.{Frame}
-use Rattle.gj_rules.specs.declared.gathered.Gathered.{Gathered}
+use Rattle.gj_rules.specs.Seen.{Frame}
+use Rattle.gj_rules.specs.Seen.{Gathered}
 use Rattle.gj_rules.specs.declared.role.Role.{Role}
 use Rattle.gj_rules.specs.declared.shown.Slot.{Slot}
 use Rattle.gj_rules.specs.Faults.{First, judge}

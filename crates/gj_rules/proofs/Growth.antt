@@ -8,8 +8,7 @@ use Rattle.gj_coords.specs.declared.fault.Fault.{Fault}
 use Rattle.gj_coords.specs.declared.fault.Rule.TheVariants.{G10}
 use Rattle.gj_coords.specs.declared.simple.Simple.{Simple}
 use Rattle.gj_coords.specs.Fault.{lesser, fault_at, comes_first}
-use Rattle.gj_rules.specs.declared.shapes.Shapes.{Shapes}
-use Rattle.gj_rules.specs.declared.shown.Shown.{Shown}
+use Rattle.gj_rules.specs.Seen.{Shapes, Shown}
 use Rattle.gj_rules.specs.declared.shown.Slot.{Slot}
 use Rattle.gj_rules.specs.declared.shown.TypeValue.{TypeValue}
 use Rattle.gj_rules.specs.Lost.{slot_fails, geometry_forbids, simple_fails, feature_forbids, feature_fails, features_forbid, fails_as, all_fail, is_lost, type_lost}

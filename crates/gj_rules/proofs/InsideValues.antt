@@ -1,6 +1,6 @@
 -- While the events of a value come, the text's object shows no other names, and what fails in it goes on to fail.
-use Rattle.std.proofs.Common.{◌≡◌, ℕ, zero, suc, ◌+◌, ◌-◌, Bool, List, [], ◌∷◌, ◌++◌, map, reverse, Option, Some, None, refl, sym, ap, subst, ◌∙◌}
-use Rattle.std.specs.List.{slice_get}
+use Rattle.std.proofs.Common.{◌≡◌, ◌<◌, ℕ, zero, suc, ◌+◌, ◌-◌, Bool, List, [], ◌∷◌, ◌++◌, map, reverse, length, get_or, take, Option, Some, None, refl, sym, ap, subst, ◌∙◌, arith}
+use Rattle.std.proofs.Math.Seq.{take-suc}
 use Rattle.std.proofs.lemmas.List.{reverse-append}
 use Rattle.gj_json.specs.declared.constant.Constant.TheVariants.{Null, True, False}
 use Rattle.gj_json.specs.declared.event.Event.{Event}
@@ -16,15 +16,16 @@ use Rattle.gj_coords.specs.declared.fault.Rule.TheVariants.{G1}
 use Rattle.gj_coords.specs.declared.warnings.Warnings.{Warnings}
 use Rattle.gj_coords.specs.Fault.{least, fault_at}
 use Rattle.gj_coords.specs.LeastLaws.{least-append}
-use Rattle.gj_rules.specs.declared.found.Found.{Found}
-use Rattle.gj_rules.specs.declared.frame.Frame.{Frame}
-use Rattle.gj_rules.specs.declared.shown.Shown.{Shown}
+use Rattle.gj_rules.specs.Seen.{Found, Frame, Shown}
 use Rattle.gj_rules.specs.declared.role.Role.{Role}
 use Rattle.gj_rules.specs.declared.mode.Mode.{Mode}
 use Rattle.gj_rules.specs.declared.mode.Mode.TheVariants.{Names, Elements}
 use Rattle.gj_rules.specs.Faults.{faults, all_faults}
 use Rattle.gj_rules.specs.Frame.{blank, named, due_after, joined, taken_in, taken_any, settled, filled, member_taken, members_taken}
+use Rattle.gj_rules.specs.Kept.{no_frame}
 use Rattle.gj_rules.specs.Lost.{root_of}
+use Rattle.gj_rules.specs.Read.{frame_in}
+use Rattle.gj_rules.specs.declared.frame.Frame as D
 use Rattle.gj_rules.specs.Step.{State, step, run, member_of, mode_behind}
 use Rattle.gj_rules.specs.TextKept.{kept, all_kept}
 use Rattle.gj_rules.specs.Told.{Told, plain, event_of, told, elements_told, members_told}
@@ -228,10 +229,10 @@ mutual
 
 -- ---- the outermost frame
 
-root_last : (top : Frame) (xs : List Frame) (x : Frame) → root_of top (xs ++ x ∷ []) ≡ x.shown
-root_last top [] x = refl
-root_last top (y ∷ ys) x = root_last y ys x
-
-pub first_root : (top x : Frame) (items : List Frame) → slice_get items 0 ≡ Some x → x.shown ≡ root_of top (reverse items)
-first_root top x [] e = cc
-first_root top x (y ∷ ys) e = let f : y ≡ x = cc in ap (λ (z : Frame). z.shown) (sym f) ∙ sym (ap (λ (zs : List Frame). root_of top zs) (reverse-append (y ∷ []) ys) ∙ root_last top (reverse ys) y)
+-- those around it, the innermost first, end with the first that was opened
+pub first_root : (frames : List D.Frame) (n : ℕ) → n < length frames
+    → root_of (frame_in (get_or frames n no_frame)) (map frame_in (reverse (take n frames))) ≡ (frame_in (get_or frames 0 no_frame)).shown
+first_root frames zero h = refl
+first_root frames (suc n) h =
+    let within : n < length frames = omega arith in
+    rw (take-suc frames n no_frame) (rw (reverse-append (take n frames) (get_or frames n no_frame ∷ [])) (first_root frames n (omega arith)))

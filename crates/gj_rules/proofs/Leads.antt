@@ -16,9 +16,9 @@ use Rattle.gj_coords.specs.declared.fault.Rule.TheVariants.{G1}
 use Rattle.gj_coords.specs.Fault.{least, fault_at}
 use Rattle.gj_coords.specs.declared.warnings.Warnings.{Warnings}
 use Rattle.gj_coords.specs.Noted as Noted
-use Rattle.gj_rules.specs.declared.found.Found.{Found}
-use Rattle.gj_rules.specs.declared.frame.Frame.{Frame}
-use Rattle.gj_rules.specs.declared.shown.Shown.{Shown}
+use Rattle.gj_rules.specs.Seen.{Found}
+use Rattle.gj_rules.specs.Seen.{Frame}
+use Rattle.gj_rules.specs.Seen.{Shown}
 use Rattle.gj_rules.specs.declared.shown.Slot.{Slot}
 use Rattle.gj_rules.specs.declared.role.Role.{Role}
 use Rattle.gj_rules.specs.declared.mode.Mode.{Mode}

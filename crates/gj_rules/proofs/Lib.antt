@@ -1,3 +1,5 @@
+pub mod WarnedInTurn
+pub mod NoShapes
 pub mod Slots
 pub mod Member
 pub mod Members

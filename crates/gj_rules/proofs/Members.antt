@@ -6,10 +6,10 @@ use Rattle.gj_coords.specs.declared.fault.Fault.{Fault}
 use Rattle.gj_rules.specs.declared.role.Role.{Role}
 use Rattle.gj_rules.specs.declared.shown.Slot.{Slot}
 use Rattle.gj_rules.specs.declared.shown.TypeValue.{TypeValue}
-use Rattle.gj_rules.specs.declared.shown.Shown.{Shown}
+use Rattle.gj_rules.specs.Seen.{Shown}
 use Rattle.gj_coords.specs.Fault.{lesser, least}
 use Rattle.gj_rules.specs.Shown.{slot_of, with_slot, joined_to, uses, named, named_known, due_known, due_after}
-use Rattle.gj_rules.specs.declared.shapes.Shapes.{Shapes}
+use Rattle.gj_rules.specs.Seen.{Shapes}
 use Rattle.gj_rules.specs.Summaries.{shapes_of}
 use Rattle.gj_json.specs.Tree.{Tree, Members, end_of_object, member}
 use Rattle.gj_rules.specs.Faults.{First, first, judge}

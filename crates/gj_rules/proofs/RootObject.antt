@@ -11,12 +11,9 @@ use Rattle.gj_json.specs.Names.{known_of}
 use Rattle.gj_json.specs.Tree.{Tree, constant, number, string, array, object, Members, end_of_object, member}
 use Rattle.gj_coords.specs.declared.fault.Fault.{Fault}
 use Rattle.gj_coords.specs.Fault.{lesser, least}
-use Rattle.gj_rules.specs.declared.found.Found.{Found}
-use Rattle.gj_rules.specs.declared.frame.Frame.{Frame}
+use Rattle.gj_rules.specs.Seen.{Found, Frame, Shapes, Shown}
 use Rattle.gj_rules.specs.declared.role.Role.{Role}
 use Rattle.gj_rules.specs.declared.mode.Mode.TheVariants.{Names}
-use Rattle.gj_rules.specs.declared.shapes.Shapes.{Shapes}
-use Rattle.gj_rules.specs.declared.shown.Shown.{Shown}
 use Rattle.gj_rules.specs.declared.shown.Slot.{Slot}
 use Rattle.gj_rules.specs.declared.shown.TypeValue.{TypeValue}
 use Rattle.gj_coords.specs.Items.{place_of}

@@ -9,7 +9,7 @@ use Rattle.gj_coords.specs.declared.fault.Rule.TheVariants.{G3, G5, G6, G7, G8}
 use Rattle.gj_rules.specs.declared.role.Role.{Role}
 use Rattle.gj_rules.specs.declared.shown.Slot.{Slot}
 use Rattle.gj_rules.specs.declared.shown.TypeValue.{TypeValue}
-use Rattle.gj_rules.specs.declared.shown.Shown.{Shown}
+use Rattle.gj_rules.specs.Seen.{Shown}
 use Rattle.gj_coords.specs.Fault.{lesser, least, fault_at}
 use Rattle.gj_rules.specs.Shown as F
 use Rattle.gj_json.specs.Tree.{Tree, Members, object}
@@ -22,7 +22,7 @@ use Rattle.gj_rules.specs.Shown.{members_taken}
 use Rattle.gj_coords.specs.LeastLaws.{least-append}
 use Rattle.gj_rules.proofs.Member.{slot_from}
 use Rattle.gj_rules.proofs.Members.{members_object, slots_after, type_from, type_after, shapes_from, shapes_after, repeated_after}
-use Rattle.gj_rules.specs.declared.shapes.Shapes.{Shapes}
+use Rattle.gj_rules.specs.Seen.{Shapes}
 use Rattle.gj_rules.specs.Summaries.{no_shapes, shape_for}
 use Rattle.gj_coords.specs.Shape.{coordinates_faults}
 use Rattle.gj_rules.specs.Summaries.{shapes_of}

@@ -4,7 +4,7 @@ use Rattle.gj_json.specs.declared.names.Known.{Known}
 use Rattle.gj_json.specs.declared.names.Known.TheVariants.{TypeName, Coordinates, Geometries, Geometry, Properties, Features, Bbox, Id, Crs, Other}
 use Rattle.gj_coords.specs.declared.fault.Fault.{Fault}
 use Rattle.gj_rules.specs.declared.shown.Slot.{Slot}
-use Rattle.gj_rules.specs.declared.shown.Shown.{Shown}
+use Rattle.gj_rules.specs.Seen.{Shown}
 use Rattle.gj_coords.specs.Fault.{lesser}
 use Rattle.gj_rules.specs.Shown.{slot_of, with_slot, joined, joined_to}
 use Rattle.gj_rules.specs.Members.{is_known}

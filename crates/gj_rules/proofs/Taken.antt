@@ -8,9 +8,9 @@ use Rattle.gj_coords.specs.declared.fault.Fault.{Fault}
 use Rattle.gj_coords.specs.declared.warnings.Warnings.{Warnings}
 use Rattle.gj_coords.specs.Fault.{lesser}
 use Rattle.gj_coords.specs.WarningLaws.{joined_assoc}
-use Rattle.gj_rules.specs.declared.frame.Frame.{Frame}
-use Rattle.gj_rules.specs.declared.gathered.Gathered.{Gathered}
-use Rattle.gj_rules.specs.declared.shown.Shown.{Shown}
+use Rattle.gj_rules.specs.Seen.{Frame}
+use Rattle.gj_rules.specs.Seen.{Gathered}
+use Rattle.gj_rules.specs.Seen.{Shown}
 use Rattle.gj_rules.specs.Frame.{taken_any, member_taken, members_taken}
 use Rattle.gj_rules.specs.Gathered.{gathered, gathered_any}
 use Rattle.gj_rules.specs.Members.{is_known}

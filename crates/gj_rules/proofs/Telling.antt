@@ -1,23 +1,23 @@
 -- What a call leaves stands for one event more.
-use Rattle.std.proofs.Common.{◌≡◌, ℕ, zero, suc, ◌+◌, ◌<◌, ◌≤◌, true, false, List, [], ◌∷◌, ◌++◌, map, reverse, refl, sym, ap, subst, ◌∙◌, arith, append_assoc}
-use Rattle.std.proofs.lemmas.List.{length-reverse, append-nil}
+use Rattle.std.proofs.Common.{◌≡◌, ℕ, zero, suc, ◌<◌, ◌≤◌, true, false, List, [], ◌∷◌, ◌++◌, map, refl, sym, ap, subst, ◌∙◌, arith, append_assoc}
+use Rattle.std.proofs.lemmas.List.{append-nil}
 use Rattle.gj_json.specs.declared.event.Event.{Event}
 use Rattle.gj_json.specs.declared.names.Known.{Known}
 use Rattle.gj_json.specs.declared.names.Known.TheVariants.{Coordinates, Bbox}
-use Rattle.gj_json.specs.declared.event.What.{What}
 use Rattle.gj_json.specs.Events.{value_events, all_events, events_by, by}
 use Rattle.gj_json.specs.Text.{IsText}
 use Rattle.gj_json.specs.Events as E
 use Rattle.gj_json.specs.Tree.{Tree, Text, depth}
 use Rattle.gj_coords.specs.declared.coordinates.Coordinates as C
 use Rattle.gj_coords.specs.declared.bbox.Bbox as B
-use Rattle.gj_rules.specs.declared.found.Found.{Found}
-use Rattle.gj_rules.specs.declared.frame.Frame.{Frame}
+use Rattle.gj_rules.specs.Seen.{Found}
+use Rattle.gj_rules.specs.Read.{found_in}
+use Rattle.gj_rules.specs.Seen.{Frame}
 use Rattle.gj_rules.specs.declared.mode.Mode.{Mode}
 use Rattle.gj_rules.specs.declared.mode.Mode.TheVariants.{RootDue, Names, Due, Elements, Done}
 use Rattle.gj_rules.specs.declared.rules.Rules.{Rules}
 use Rattle.gj_rules.specs.Judged.{judged_at}
-use Rattle.gj_rules.specs.Kept.{core_of, frames_by, Holds, HoldsIn, Stands, HasRoom, Fed}
+use Rattle.gj_rules.specs.Kept.{core_of, top_of, frames_by, Holds, HoldsIn, Stands, HasRoom, Fed}
 use Rattle.gj_rules.specs.Rules.{StandsFor}
 use Rattle.gj_rules.specs.Step.{Core, Feed, State, is_feeding, feed_behind, ended, fed, core_step, step, run, start}
 use Rattle.gj_rules.specs.Told as T
@@ -97,18 +97,14 @@ has_room x rest feed zero Names f o a e g z = g
 has_room x rest feed zero (Elements r) f o a e g z = g
 has_room x rest feed zero Done f o a e g z = g
 
-room_turned : (what : What) (o : List Frame) → HasRoom what (reverse o) → HasRoom what o
-room_turned What.OpenObject o h = omega (arith, length-reverse o, h)
-room_turned _ o h = h
-
 taken_core : (old new : Rules) (x : Told) (rest : List Told) (feed : Feed) → is_feeding old.skipped old.mode ≡ false → Good x rest (with_feed (core_of old) feed)
-    → (old.skipped < 255 → (old.skipped ≡ 0 → HasRoom (event_of x).what old.outer.items) → core_of new ≡ core_step (event_of x) (core_of old)) → Holds new []
+    → (old.skipped < 255 → (old.skipped ≡ 0 → HasRoom (event_of x).what (core_of old).outer) → core_of new ≡ core_step (event_of x) (core_of old)) → Holds new []
     → Stands new (step x (with_feed (core_of old) feed))
 taken_core old new x rest feed e g t h = (
-  t (few_skipped x rest feed old.skipped old.mode old.top (reverse old.outer.items) old.answer e g)
-      (λ z. room_turned (event_of x).what old.outer.items (has_room x rest feed old.skipped old.mode old.top (reverse old.outer.items) old.answer e g z))
-      ∙ sym (step_core x feed old.skipped old.mode old.top (reverse old.outer.items) old.answer e),
-  subst (λ (es : List Event). Holds new es) (sym (step_taken x feed old.skipped old.mode old.top (reverse old.outer.items) old.answer e)) h,
+  t (few_skipped x rest feed old.skipped old.mode (top_of old) (core_of old).outer (core_of old).answer e g)
+      (has_room x rest feed old.skipped old.mode (top_of old) (core_of old).outer (core_of old).answer e g)
+      ∙ sym (step_core x feed old.skipped old.mode (top_of old) (core_of old).outer (core_of old).answer e),
+  subst (λ (es : List Event). Holds new es) (sym (step_taken x feed old.skipped old.mode (top_of old) (core_of old).outer (core_of old).answer e)) h,
 )
 
 -- ---- an event that goes to a summary
@@ -137,7 +133,7 @@ holds_names (suc k) m c b es e = tt
 fed_core : (old new : Rules) (x : Told) (v : Tree) (taken later : List Event) (next : Event) → is_feeding old.skipped old.mode ≡ true → Fed old v (taken ++ event_of x ∷ []) later new
     → Stands new (fed (next ∷ later) (event_of x) v taken (core_of old))
 fed_core old new x v taken [] next e h =
-    (h, holds_names new.skipped new.mode new.coordinates new.bbox [] (ap (λ (c : Core). c.mode) h ∙ ended_names v old.skipped old.mode old.top (reverse old.outer.items) old.answer e))
+    (h, holds_names new.skipped new.mode new.coordinates new.bbox [] (ap (λ (c : Core). c.mode) h ∙ ended_names v old.skipped old.mode (top_of old) (core_of old).outer (core_of old).answer e))
 fed_core old new x v taken (y ∷ ys) next e h = h
 
 pub fits_of : (x : Told) (rest : List Told) (feed : Feed) (k : ℕ) (m : Mode) (f : Frame) (o : List Frame) (a : Found)
@@ -162,12 +158,12 @@ feed_core : (old new : Rules) (x : Told) (rest : List Told) (feed : Feed) → is
     → ((v : Tree) (taken left : List Event) → depth v ≤ 64 → Holds old taken → (taken ++ event_of x ∷ []) ++ left ≡ value_events v → Fed old v (taken ++ event_of x ∷ []) left new)
     → Stands new (step x (with_feed (core_of old) feed))
 feed_core old new x rest feed e g h t =
-    let k = fits_of x rest feed old.skipped old.mode old.top (reverse old.outer.items) old.answer e g in
+    let k = fits_of x rest feed old.skipped old.mode (top_of old) (core_of old).outer (core_of old).answer e g in
     let n = next_is x rest feed.left k.later k.more k.next k.left k.comes in
     let f = t feed.value feed.taken k.later k.deep h (goes_on feed.value feed.taken feed.left k.later k.next (event_of x) k.left n k.split) in
     subst (λ (s : State). Stands new s)
     (ap (λ (es : List Event). fed es (event_of x) feed.value feed.taken (core_of old)) (sym k.left)
-    ∙ sym (step_fed x feed old.skipped old.mode old.top (reverse old.outer.items) old.answer e))
+    ∙ sym (step_fed x feed old.skipped old.mode (top_of old) (core_of old).outer (core_of old).answer e))
     (fed_core old new x feed.value feed.taken k.later k.next e f)
 
 -- ---- a call
@@ -204,10 +200,10 @@ pub good_core : (old : Rules) (x : Told) (rest : List Told) (s : State) → core
 good_core old x rest s e g = subst (λ (c : Core). Good x rest (with_feed c s.feed)) (sym e) g
 
 pub steps_taken : (old new : Rules) (event : Event) → is_feeding old.skipped old.mode ≡ false
-    → (old.skipped < 255 → (old.skipped ≡ 0 → HasRoom event.what old.outer.items) → core_of new ≡ core_step event (core_of old)) → Holds new [] → Steps old event new
+    → (old.skipped < 255 → (old.skipped ≡ 0 → HasRoom event.what (core_of old).outer) → core_of new ≡ core_step event (core_of old)) → Holds new [] → Steps old event new
 steps_taken old new event e t h = λ x rest s i k g.
     from_core old new x s k.0 (taken_core old new x rest s.feed e (good_core old x rest s k.0 g)
-    (subst (λ (y : Event). old.skipped < 255 → (old.skipped ≡ 0 → HasRoom y.what old.outer.items) → core_of new ≡ core_step y (core_of old)) (sym i) t) h)
+    (subst (λ (y : Event). old.skipped < 255 → (old.skipped ≡ 0 → HasRoom y.what (core_of old).outer) → core_of new ≡ core_step y (core_of old)) (sym i) t) h)
 
 pub steps_fed : (old new : Rules) (event : Event) → is_feeding old.skipped old.mode ≡ true
     → ((v : Tree) (taken left : List Event) → depth v ≤ 64 → Holds old taken → (taken ++ event ∷ []) ++ left ≡ value_events v → Fed old v (taken ++ event ∷ []) left new) → Steps old event new
@@ -221,7 +217,7 @@ pub started : (rules : Rules) → core_of rules ≡ start.core → Holds rules [
 started rules e h = λ text done rest f g d.
     subst (λ (ts : List Told). Stands rules (run ts start)) (sym (none_told done g)) (e, h)
 
-pub answered : (rules : Rules) (text : Text) → depth text.value ≤ 64 → StandsFor rules (all_events text) → rules.answer ≡ text_found text
+pub answered : (rules : Rules) (text : Text) → depth text.value ≤ 64 → StandsFor rules (all_events text) → found_in rules.answer ≡ text_found text
 answered rules text d h =
     let whole : text_told text ≡ text_told text ++ [] = sym (append-nil (text_told text)) in
     let k = h text (text_told text) [] whole (text-events text) d in
@@ -230,14 +226,9 @@ answered rules text d h =
 
 -- ---- the frames in use
 
-frames_turned : (m : Mode) (o : List Frame) → frames_by m (reverse o) ≡ frames_by m o
-frames_turned RootDue o = refl
-frames_turned Done o = refl
-frames_turned _ o = ap (λ (n : ℕ). n + 1) (length-reverse o)
-
-pub judged_is : (rules : Rules) (text : Text) (bytes : List ℕ) (n : ℕ) → IsText text bytes → depth text.value ≤ 64 → StandsFor rules (events_by n text) → frames_by rules.mode rules.outer.items ≡ judged_at n text
+pub judged_is : (rules : Rules) (text : Text) (bytes : List ℕ) (n : ℕ) → IsText text bytes → depth text.value ≤ 64 → StandsFor rules (events_by n text) → frames_by rules.mode (core_of rules).outer ≡ judged_at n text
 judged_is rules text bytes n t d h =
     let front = front_text text bytes n t in
     let e : map event_of front.done ≡ events_by n text = front.complete ∙ ap (λ (xs : List E.Timed). by n xs) (text-timed text) in
     let k = h text front.done front.rest front.split e d in
-    sym (frames_turned rules.mode rules.outer.items) ∙ (ap (λ (c : Core). frames_by c.mode c.outer) k.0 ∙ front.frames)
+    ap (λ (c : Core). frames_by c.mode c.outer) k.0 ∙ front.frames

@@ -1,8 +1,8 @@
 -- What the definitions say is likely wrong in use in some texts, by computing.
-use Rattle.std.proofs.Common.{◌≡◌, List, [], ◌∷◌, true, false, refl, codes}
+use Rattle.std.proofs.Common.{◌≡◌, [], ◌∷◌, true, false, refl, codes}
 use Rattle.gj_json.specs.declared.constant.Constant.TheVariants.{Null}
 use Rattle.gj_json.specs.Names.{known_of, word_of}
-use Rattle.gj_json.specs.Tree.{Text, constant, number, string, array, object, end_of_array, element, end_of_object, member}
+use Rattle.gj_json.specs.Tree.{constant, number, string, array, object, end_of_array, element, end_of_object, member}
 use Rattle.gj_number.specs.Value.{value_of, held_value, within_limits}
 use Rattle.gj_coords.specs.declared.kind.Kind.TheVariants.{W1, W2, W6, W7, W9}
 use Rattle.gj_coords.specs.Warnings.{warning_at}

@@ -10,10 +10,10 @@ use Rattle.gj_coords.specs.declared.simple.Simple.{Simple}
 use Rattle.gj_coords.specs.declared.warnings.Warnings.{Warnings}
 use Rattle.gj_coords.specs.Noted as Noted
 use Rattle.gj_coords.specs.Noted.{no_warnings, added}
-use Rattle.gj_rules.specs.declared.found.Found.{Found}
-use Rattle.gj_rules.specs.declared.frame.Frame.{Frame}
+use Rattle.gj_rules.specs.Seen.{Found}
+use Rattle.gj_rules.specs.Seen.{Frame}
 use Rattle.gj_rules.specs.declared.role.Role.{Role}
-use Rattle.gj_rules.specs.declared.shapes.Shapes.{Shapes}
+use Rattle.gj_rules.specs.Seen.{Shapes}
 use Rattle.gj_rules.specs.declared.shown.TypeValue.{TypeValue}
 use Rattle.gj_rules.specs.Gathered.{none_gathered, gathered, gathered_any, gathered_at}
 use Rattle.gj_rules.specs.Role.{is_allowed}

@@ -5,7 +5,7 @@ use Rattle.gj_json.specs.declared.names.Known.TheVariants.{Geometries, Geometry,
 use Rattle.gj_coords.specs.declared.kind.Kind.TheVariants.{W9}
 use Rattle.gj_coords.specs.declared.warnings.Warnings.{Warnings}
 use Rattle.gj_coords.specs.Noted.{no_warnings, joined, added}
-use Rattle.gj_rules.specs.declared.gathered.Gathered.{Gathered}
+use Rattle.gj_rules.specs.Seen.{Gathered}
 
 abbrev pub none_gathered : Gathered
 none_gathered = record { own = no_warnings; geometries = no_warnings; geometry = no_warnings; features = no_warnings }

@@ -1,5 +1,5 @@
 -- Internal: what the rules keep, and what their calls do to it.
-use Rattle.std.specs.Prelude.{ℕ, zero, ◌≡◌, ◌+◌, ◌<◌, List, [], ◌∷◌, length, reverse, ◌≤◌, ◌++◌}
+use Rattle.std.specs.Prelude.{ℕ, zero, ◌≡◌, ◌+◌, ◌<◌, List, [], ◌∷◌, length, reverse, take, slice_index_or, map, false, None, ◌≤◌, ◌++◌}
 use Rattle.gj_json.specs.declared.event.Event.{Event}
 use Rattle.gj_json.specs.declared.names.Known.TheVariants as Known
 use Rattle.gj_json.specs.declared.event.What.{What}
@@ -7,17 +7,61 @@ use Rattle.gj_json.specs.Tree.{Tree, depth}
 use Rattle.gj_json.specs.Events.{value_events}
 use Rattle.gj_coords.specs.declared.coordinates.Coordinates.{Coordinates}
 use Rattle.gj_coords.specs.declared.bbox.Bbox.{Bbox}
-use Rattle.gj_rules.specs.declared.frame.Frame.{Frame}
+use Rattle.gj_coords.specs.Warned.{no_warned}
+use Rattle.gj_rules.specs.declared.frame.Frame as D
+use Rattle.gj_rules.specs.Seen.{Frame}
+use Rattle.gj_rules.specs.Read.{frame_in, found_in, none_present}
 use Rattle.gj_rules.specs.declared.mode.Mode.{Mode}
 use Rattle.gj_rules.specs.declared.mode.Mode.TheVariants.{RootDue, Due, Done}
+use Rattle.gj_rules.specs.declared.role.Role.{Role}
 use Rattle.gj_rules.specs.declared.rules.Rules.{Rules}
 use Rattle.gj_rules.specs.declared.rules.TheConstants.{MOST_AROUND}
 use Rattle.gj_rules.specs.Levels.{most_levels}
 use Rattle.gj_rules.specs.Step.{Core, State, ended}
 use Rattle.gj_rules.specs.Summaries.{StandsForCoordinates, StandsForBbox}
 
+-- at an index where no frame lies: there is always one at that of the innermost object
+unfoldable pub no_frame : D.Frame
+no_frame = record {
+  shown = record {
+    place = 0;
+    role = Role.Root;
+    repeated = None;
+    type_value = None;
+    shapes = record {
+      point = record { fault = None; warned = no_warned };
+      multi_point = record { fault = None; warned = no_warned };
+      line_string = None;
+      multi_line_string = record { fault = None; warned = no_warned };
+      polygon = record { fault = None; warned = no_warned };
+      multi_polygon = record { fault = None; warned = no_warned };
+    };
+    shaped = false;
+    present = none_present;
+    type_name = record { name_at = 0; fault = None };
+    coordinates = record { name_at = 0; fault = None };
+    geometries = record { name_at = 0; fault = None };
+    geometry = record { name_at = 0; fault = None };
+    properties = record { name_at = 0; fault = None };
+    features = record { name_at = 0; fault = None };
+    bbox = record { name_at = 0; fault = None };
+    id = record { name_at = 0; fault = None };
+  };
+  gathered = record { own = no_warned; geometries = no_warned; geometry = no_warned; features = no_warned };
+}
+
+-- the frame of the innermost open object with a role
+abbrev pub top_of : Rules → Frame
+top_of rules = frame_in (slice_index_or rules.frames rules.around no_frame)
+
 abbrev pub core_of : Rules → Core
-core_of rules = record { skipped = rules.skipped; mode = rules.mode; top = rules.top; outer = reverse rules.outer.items; answer = rules.answer }
+core_of rules = record {
+  skipped = rules.skipped;
+  mode = rules.mode;
+  top = top_of rules;
+  outer = map frame_in (reverse (take rules.around rules.frames));
+  answer = found_in rules.answer;
+}
 
 -- the summary of the value that is under way has taken these events of it
 abbrev pub HoldsIn : ℕ → Mode → Coordinates → Bbox → List Event → Type 0

@@ -5,7 +5,9 @@ pub mod TextWarnings
 pub mod Judged
 pub mod Levels
 pub mod Verdict
+pub mod Seen
 pub mod Summaries
+pub mod Read
 pub mod TextKept
 pub mod Shown
 pub mod Gathered

@@ -2,8 +2,7 @@
 use Rattle.std.specs.Prelude.{Bool, true, false, ◌&&◌, ◌||◌, List, [], ◌∷◌, Option, Some, None, is_some}
 use Rattle.gj_json.specs.declared.names.Word.{Word}
 use Rattle.gj_coords.specs.declared.simple.Simple.{Simple}
-use Rattle.gj_rules.specs.declared.frame.Frame.{Frame}
-use Rattle.gj_rules.specs.declared.shown.Shown.{Shown}
+use Rattle.gj_rules.specs.Seen.{Frame, Shown}
 use Rattle.gj_rules.specs.declared.shown.Slot.{Slot}
 use Rattle.gj_rules.specs.declared.shown.TypeValue.{TypeValue}
 use Rattle.gj_rules.specs.Step.{Core}

@@ -13,8 +13,8 @@ use Rattle.gj_coords.specs.Fault.{fault_at, lesser, least}
 use Rattle.gj_rules.specs.declared.role.Role.{Role}
 use Rattle.gj_rules.specs.declared.shown.Slot.{Slot}
 use Rattle.gj_rules.specs.declared.shown.TypeValue.{TypeValue}
-use Rattle.gj_rules.specs.declared.shown.Shown.{Shown}
-use Rattle.gj_rules.specs.declared.shapes.Shapes.{Shapes}
+use Rattle.gj_rules.specs.Seen.{Shown}
+use Rattle.gj_rules.specs.Seen.{Shapes}
 use Rattle.gj_coords.specs.Items.{place_of}
 use Rattle.gj_rules.specs.Members.{is_known, type_of}
 use Rattle.gj_rules.specs.Role.{is_allowed}

@@ -14,8 +14,8 @@ use Rattle.gj_coords.specs.Fault.{fault_at}
 use Rattle.gj_coords.specs.declared.kind.Kind.TheVariants.{W1}
 use Rattle.gj_coords.specs.Noted as Noted
 use Rattle.gj_coords.specs.Noted.{added}
-use Rattle.gj_rules.specs.declared.found.Found.{Found}
-use Rattle.gj_rules.specs.declared.frame.Frame.{Frame}
+use Rattle.gj_rules.specs.Seen.{Found}
+use Rattle.gj_rules.specs.Seen.{Frame}
 use Rattle.gj_rules.specs.declared.role.Role.{Role}
 use Rattle.gj_rules.specs.declared.mode.Mode.{Mode}
 use Rattle.gj_rules.specs.declared.mode.Mode.TheVariants.{RootDue, Names, Due, Elements, Done}

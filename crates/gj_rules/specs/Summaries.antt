@@ -13,8 +13,8 @@ use Rattle.gj_coords.specs.Bbox as TheBbox
 use Rattle.gj_coords.specs.declared.warnings.Warnings.{Warnings}
 use Rattle.gj_coords.specs.Noted.{no_warnings}
 use Rattle.gj_coords.specs.CoordinatesKept.{coordinates_kept}
-use Rattle.gj_rules.specs.declared.found.Found.{Found}
-use Rattle.gj_rules.specs.declared.shapes.Shapes.{Shapes}
+use Rattle.gj_rules.specs.Seen.{Found}
+use Rattle.gj_rules.specs.Seen.{Shapes}
 
 abbrev pub StandsForCoordinates : Coordinates → List Event → Type 0
 StandsForCoordinates coordinates events = TheCoordinates.StandsFor coordinates events

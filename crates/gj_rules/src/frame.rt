@@ -5,9 +5,8 @@ mod settle;
 use crate::found::Found;
 use crate::gathered::Gathered;
 use crate::role::Role;
-use crate::shapes::Shapes;
 use crate::shown::Shown;
-use gj_coords::{Fault, Warnings};
+use gj_coords::{Coordinates, Fault, Warned};
 use gj_json::{Known, Word};
 use std::mem::size_of;
 
@@ -28,16 +27,32 @@ impl Default for Frame {
 }
 
 impl Frame {
+    ghost use Rattle.gj_coords.specs.Warned.{all_in};
+    ghost use Rattle.std.specs.Prelude.{◌≤◌};
+    ghost use Rattle.gj_json.specs.Tree.{Tree, depth};
+    ghost use Rattle.gj_json.specs.Events.{value_events};
+    ghost use Rattle.gj_rules.specs.Levels.{most_levels};
+    ghost use Rattle.gj_rules.specs.Read.{frame_in, found_in};
+    ghost use Rattle.gj_rules.specs.Summaries.{StandsForCoordinates, shapes_of};
     ghost use Rattle.gj_rules.specs.Frame.{blank, joined, warned, taken_in, named, due_after, type_set, shapes_set};
 
     /// Of an object that opens at this place.
     pub fn new(role: Role, place: u64) -> Self
-        ensures { result ≡ blank role place }
+        ensures { frame_in result ≡ blank role place }
     {
         Frame {
             shown: Shown::new(role, place),
             gathered: Gathered::none(),
         }
+    }
+
+    /// Of another object that opens, whatever was kept: the few fields are written that say which others count.
+    #[inline]
+    pub fn again(&mut self, role: Role, place: u64)
+        ensures { frame_in self.new ≡ blank role place }
+    {
+        self.shown.again(role, place);
+        self.gathered.clear();
     }
 
     /// The object's role.
@@ -50,8 +65,8 @@ impl Frame {
     /// Takes a name, and answers as the first member of which name its value is to be judged:
     /// `Other` where it is not.
     pub fn name(&mut self, name: Known, place: u64) -> Known
-        ensures frame { self.new ≡ named name place self.old }
-        ensures due { result ≡ due_after name self.old }
+        ensures frame { frame_in self.new ≡ named name place (frame_in self.old) }
+        ensures due { result ≡ due_after name (frame_in self.old) }
     {
         self.gathered.name(name, place);
         self.shown.name(name, place)
@@ -59,37 +74,37 @@ impl Frame {
 
     /// Adds a fault of the value of the first member `name`.
     pub fn join(&mut self, name: Known, fault: Option<Fault>)
-        ensures { self.new ≡ joined name fault self.old }
+        ensures { frame_in self.new ≡ joined name fault (frame_in self.old) }
     {
         self.shown.join(name, fault);
     }
 
     /// Adds warnings of the value of the first member `name`.
-    pub fn warn(&mut self, name: Known, warnings: Warnings)
-        ensures { self.new ≡ warned name warnings self.old }
+    pub fn warn(&mut self, name: Known, warnings: &Warned)
+        ensures { frame_in self.new ≡ warned name (all_in warnings.now) (frame_in self.old) }
     {
         self.gathered.join(name, warnings);
     }
 
     /// Adds what is found in the value of the first member `name`, or in an element of it.
-    pub fn take(&mut self, name: Known, found: Found)
-        ensures { self.new ≡ taken_in name found self.old }
+    pub fn take(&mut self, name: Known, found: &Found)
+        ensures { frame_in self.new ≡ taken_in name (found_in found.now) (frame_in self.old) }
     {
         self.join(name, found.fault);
-        self.warn(name, found.warned);
+        self.warn(name, &found.warned);
     }
 
     /// Sets the value of the first `type`.
     pub fn set_type(&mut self, place: u64, word: Word)
-        ensures { self.new ≡ type_set place word self.old }
+        ensures { frame_in self.new ≡ type_set place word (frame_in self.old) }
     {
         self.shown.set_type(place, word);
     }
 
     /// Sets what is found in the value of the first `coordinates`.
-    pub fn set_shapes(&mut self, shapes: Shapes)
-        ensures { self.new ≡ shapes_set shapes self.old }
+    pub fn set_shapes(&mut self, summary: &Coordinates)
+        ensures { (value : Tree) → depth value ≤ most_levels → StandsForCoordinates summary.now (value_events value) → frame_in self.new ≡ shapes_set (shapes_of value) (frame_in self.old) }
     {
-        self.shown.set_shapes(shapes);
+        self.shown.set_shapes(summary);
     }
 }

@@ -10,9 +10,7 @@ use crate::found::Found;
 use crate::frame::Frame;
 use crate::mode::Mode;
 use crate::role::Role;
-use crate::shapes::Shapes;
-use arrayvec::ArrayVec;
-use gj_coords::{Bbox, Coordinates, Fault, Warnings};
+use gj_coords::{Bbox, Coordinates, Fault, Warned, Warnings};
 use gj_json::{Event, EventSink, Flat, Known};
 use std::mem::size_of;
 
@@ -26,9 +24,10 @@ const MOST_AROUND: usize = 32;
 /// value without a role is skipped by a count of its levels.
 #[derive(Drop)]
 pub struct Rules {
-    top: Frame,
-    /// The frames of the objects around, the outermost first.
-    outer: ArrayVec<Frame, MOST_AROUND>,
+    /// The frames of the open objects with a role, the outermost first: up to that of the innermost one.
+    frames: [Frame; MOST_AROUND + 1],
+    /// How many are open around the innermost one. Its frame is the one at this index.
+    around: u8,
     coordinates: Coordinates,
     bbox: Bbox,
     /// What is found in the text, once it has ended, and until then the warning of a byte order mark.
@@ -36,6 +35,7 @@ pub struct Rules {
     mode: Mode,
     /// How many levels of a value are open that is not looked into.
     skipped: u8,
+    ghost fits: { around ≤ 32 },
 }
 
 // The frames lie in it from the start.
@@ -49,7 +49,9 @@ impl Rules {
     ghost use Rattle.gj_rules.specs.Faults.{text_faults};
     ghost use Rattle.gj_rules.specs.TextKept.{text_kept};
     ghost use Rattle.gj_rules.specs.Judged.{judged_at};
-    ghost use Rattle.gj_rules.specs.Step.{core_step, is_feeding, ended_as};
+    ghost use Rattle.gj_rules.specs.Read.{found_in};
+    ghost use Rattle.gj_rules.specs.Frame.{settled, taken_in};
+    ghost use Rattle.gj_rules.specs.Step.{start, core_step, is_feeding, ended_as};
     ghost use Rattle.gj_rules.specs.Summaries.{StandsForCoordinates, StandsForBbox};
     ghost use Rattle.gj_rules.specs.Kept.{core_of, frames_by, Holds, HasRoom, Feeds};
     ghost use Rattle.gj_rules.specs.Levels.{most_levels};
@@ -59,9 +61,16 @@ impl Rules {
     pub fn new() -> Self
         ensures stands { StandsFor result [] }
     {
+        Rules::at_start()
+    }
+
+    fn at_start() -> Self
+        ensures core { core_of result ≡ start.core }
+        ensures holds { Holds result [] }
+    {
         Rules {
-            top: Frame::new(Role::Root, 0),
-            outer: ArrayVec::new(),
+            frames: [Frame::new(Role::Root, 0); MOST_AROUND + 1],
+            around: 0,
             coordinates: Coordinates::new(),
             bbox: Bbox::new(),
             answer: Found::none(),
@@ -81,7 +90,7 @@ impl Rules {
     pub fn warnings(&self) -> Warnings
         ensures { (text : Text) → depth text.value ≤ most_levels → StandsFor self.now (all_events text) → result ≡ text_kept text }
     {
-        self.answer.warned
+        self.answer.warned.all()
     }
 
     /// In a front of a text the number of open objects with a role, which is that of the frames in use.
@@ -92,17 +101,31 @@ impl Rules {
     }
 
     fn frames(&self) -> u8
-        ensures { result ≡ frames_by self.now.mode self.now.outer.items }
+        ensures { result ≡ frames_by self.now.mode (core_of self.now).outer }
     {
         match self.mode {
             Mode::RootDue | Mode::Done => 0,
-            _ => self.outer.len() as u8 + 1,
+            _ => self.around + 1,
         }
+    }
+
+    /// The role of the innermost open object with one.
+    fn role(&self) -> Role
+        ensures { result ≡ (core_of self.now).top.shown.role }
+    {
+        self.frames[self.around as usize].role()
+    }
+
+    /// Sets what is found in it, at its close.
+    fn settle(&self, found: &mut Found)
+        ensures { found_in found.new ≡ settled (core_of self.now).top }
+    {
+        self.frames[self.around as usize].settle(found);
     }
 
     /// An event that goes to no summary.
     fn take(&mut self, event: Event)
-        ensures { self.old.skipped < 255 → (self.old.skipped ≡ 0 → HasRoom event.what self.old.outer.items) → core_of self.new ≡ core_step event (core_of self.old) }
+        ensures { self.old.skipped < 255 → (self.old.skipped ≡ 0 → HasRoom event.what (core_of self.old).outer) → core_of self.new ≡ core_step event (core_of self.old) }
     {
         if self.skipped > 0 {
             self.skip(event.what);
@@ -169,7 +192,7 @@ impl Rules {
     fn end_coordinates(&mut self)
         ensures { (value : Tree) → depth value ≤ most_levels → StandsForCoordinates self.old.coordinates (value_events value) → core_of self.new ≡ ended_as Known.Coordinates value (core_of self.old) }
     {
-        self.top.set_shapes(Shapes::of(&self.coordinates));
+        self.frames[self.around as usize].set_shapes(&self.coordinates);
         self.mode = Mode::Names;
     }
 
@@ -190,19 +213,31 @@ impl Rules {
     fn end_bbox(&mut self)
         ensures { (value : Tree) → depth value ≤ most_levels → StandsForBbox self.old.bbox (value_events value) → core_of self.new ≡ ended_as Known.Bbox value (core_of self.old) }
     {
-        self.top.join(Known::Bbox, self.bbox.fault());
-        self.top.warn(Known::Bbox, self.bbox.warnings());
+        let found = Found {
+            fault: self.bbox.fault(),
+            warned: Warned::of(self.bbox.warnings()),
+        };
+        self.take_in(Known::Bbox, &found);
+    }
+
+    /// The value of the first member `name` has ended, or an element of it, and this is found in it.
+    fn take_in(&mut self, name: Known, found: &Found)
+        ensures { core_of self.new ≡ record (core_of self.old) { mode = Mode.Names; top = taken_in name (found_in found.now) (core_of self.old).top } }
+    {
+        self.frames[self.around as usize].take(name, found);
         self.mode = Mode::Names;
     }
 
     /// An event of the value that a summary takes.
-    fn feed(&mut self, event: &Event)
+    // Only here it is looked at whole.
+    #[inline(never)]
+    fn feed(&mut self, event: Event)
         requires { is_feeding self.old.skipped self.old.mode ≡ true }
-        ensures { Feeds self.old event.now self.new }
+        ensures { Feeds self.old event self.new }
     {
         match self.mode {
-            Mode::Due(Known::Coordinates) => self.feed_coordinates(event),
-            _ => self.feed_bbox(event),
+            Mode::Due(Known::Coordinates) => self.feed_coordinates(&event),
+            _ => self.feed_bbox(&event),
         }
     }
 }
@@ -214,7 +249,7 @@ impl EventSink for Rules {
 
     fn tell(&mut self, event: Event) {
         if self.is_feeding() {
-            self.feed(&event);
+            self.feed(event);
         } else {
             self.take(event);
             self.renew();

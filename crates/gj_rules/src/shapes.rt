@@ -1,7 +1,7 @@
 ghost use Rattle.std.specs.Prelude.{◌≡◌, ◌≤◌};
 
 use crate::found::Found;
-use gj_coords::{Coordinates, Fault, Simple, Warnings};
+use gj_coords::{Coordinates, Fault, Simple, Warned};
 
 /// What is found in a `coordinates` value for each of the six simple types.
 ///
@@ -20,11 +20,13 @@ impl Shapes {
     ghost use Rattle.gj_json.specs.Tree.{Tree, depth};
     ghost use Rattle.gj_json.specs.Events.{value_events};
     ghost use Rattle.gj_rules.specs.Levels.{most_levels};
+    ghost use Rattle.gj_coords.specs.Warned.{all_in};
+    ghost use Rattle.gj_rules.specs.Read.{shapes_in};
     ghost use Rattle.gj_rules.specs.Summaries.{StandsForCoordinates, no_shapes, shape_for, warned_for, shapes_of};
 
     /// Of no value.
     pub fn none() -> Self
-        ensures { result ≡ no_shapes }
+        ensures { shapes_in result ≡ no_shapes }
     {
         let none = Found::none();
         Shapes {
@@ -37,23 +39,34 @@ impl Shapes {
         }
     }
 
-    /// Of the value whose events the summary took.
-    pub fn of(summary: &Coordinates) -> Self
-        ensures { (value : Tree) → depth value ≤ most_levels → StandsForCoordinates summary.now (value_events value) → result ≡ shapes_of value }
+    /// Forgets all.
+    #[inline]
+    pub fn clear(&mut self)
+        ensures { shapes_in self.new ≡ no_shapes }
     {
-        Shapes {
-            point: Found::of(summary, Simple::Point),
-            multi_point: Found::of(summary, Simple::MultiPoint),
-            line_string: summary.fault(Simple::LineString),
-            multi_line_string: Found::of(summary, Simple::MultiLineString),
-            polygon: Found::of(summary, Simple::Polygon),
-            multi_polygon: Found::of(summary, Simple::MultiPolygon),
-        }
+        self.point.clear();
+        self.multi_point.clear();
+        self.line_string = None;
+        self.multi_line_string.clear();
+        self.polygon.clear();
+        self.multi_polygon.clear();
+    }
+
+    /// Sets what is found in the value whose events the summary took.
+    pub fn set(&mut self, summary: &Coordinates)
+        ensures { (value : Tree) → depth value ≤ most_levels → StandsForCoordinates summary.now (value_events value) → shapes_in self.new ≡ shapes_of value }
+    {
+        self.point.set(summary, Simple::Point);
+        self.multi_point.set(summary, Simple::MultiPoint);
+        self.line_string = summary.fault(Simple::LineString);
+        self.multi_line_string.set(summary, Simple::MultiLineString);
+        self.polygon.set(summary, Simple::Polygon);
+        self.multi_polygon.set(summary, Simple::MultiPolygon);
     }
 
     /// The fault for one type.
     pub fn fault(&self, simple: Simple) -> Option<Fault>
-        ensures { result ≡ shape_for simple self.now }
+        ensures { result ≡ shape_for simple (shapes_in self.now) }
     {
         match simple {
             Simple::Point => self.point.fault,
@@ -66,15 +79,15 @@ impl Shapes {
     }
 
     /// The warnings for one type.
-    pub fn warned(&self, simple: Simple) -> Warnings
-        ensures { result ≡ warned_for simple self.now }
+    pub fn warned(&self, simple: Simple) -> &Warned
+        ensures { all_in result.now ≡ warned_for simple (shapes_in self.now) }
     {
         match simple {
-            Simple::Point => self.point.warned,
-            Simple::MultiPoint | Simple::LineString => self.multi_point.warned,
-            Simple::MultiLineString => self.multi_line_string.warned,
-            Simple::Polygon => self.polygon.warned,
-            Simple::MultiPolygon => self.multi_polygon.warned,
+            Simple::Point => &self.point.warned,
+            Simple::MultiPoint | Simple::LineString => &self.multi_point.warned,
+            Simple::MultiLineString => &self.multi_line_string.warned,
+            Simple::Polygon => &self.polygon.warned,
+            Simple::MultiPolygon => &self.multi_polygon.warned,
         }
     }
 }

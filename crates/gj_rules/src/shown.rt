@@ -1,11 +1,13 @@
 ghost use Rattle.std.specs.Prelude.{◌≡◌};
+ghost use Rattle.gj_rules.specs.Read.{slot_in};
 
 mod lost;
 mod settle;
+mod sound;
 
 use crate::role::Role;
 use crate::shapes::Shapes;
-use gj_coords::{Fault, Rule, lesser_fault};
+use gj_coords::{Coordinates, Fault, lesser_fault};
 use gj_json::{Known, Word};
 
 /// The first member of a name.
@@ -23,6 +25,48 @@ pub struct TypeValue {
     pub word: Word,
 }
 
+/// Of which names an object has shown a member.
+#[derive(Clone, Copy, PartialEq, Eq)]
+pub struct Present {
+    pub type_name: bool,
+    pub coordinates: bool,
+    pub geometries: bool,
+    pub geometry: bool,
+    pub properties: bool,
+    pub features: bool,
+    pub bbox: bool,
+    pub id: bool,
+}
+
+impl Present {
+    ghost use Rattle.gj_rules.specs.Read.{none_present};
+
+    /// Of none.
+    #[inline]
+    pub fn none() -> Self
+        ensures { result ≡ none_present }
+    {
+        Present {
+            type_name: false,
+            coordinates: false,
+            geometries: false,
+            geometry: false,
+            properties: false,
+            features: false,
+            bbox: false,
+            id: false,
+        }
+    }
+}
+
+/// A slot that counts only where a member of its name is present.
+#[inline]
+fn slot_if(present: bool, slot: &Slot) -> Option<Slot>
+    ensures { result ≡ slot_in present slot.now }
+{
+    if present { Some(*slot) } else { None }
+}
+
 /// What an open object with a role has shown so far.
 ///
 /// Its `type` may come last. So the first member of each known name is kept with the least fault of
@@ -31,79 +75,144 @@ pub struct TypeValue {
 pub struct Shown {
     pub place: u64,
     pub role: Role,
-    /// The least repeated name.
-    pub repeated: Option<Fault>,
+    /// The least place of a repeated name.
+    pub repeated: Option<u64>,
     pub type_value: Option<TypeValue>,
     pub shapes: Shapes,
-    pub type_name: Option<Slot>,
-    pub coordinates: Option<Slot>,
-    pub geometries: Option<Slot>,
-    pub geometry: Option<Slot>,
-    pub properties: Option<Slot>,
-    pub features: Option<Slot>,
-    pub bbox: Option<Slot>,
-    pub id: Option<Slot>,
+    /// Whether `shapes` were set: before that they do not count.
+    pub shaped: bool,
+    /// Which of the slots count.
+    pub present: Present,
+    pub type_name: Slot,
+    pub coordinates: Slot,
+    pub geometries: Slot,
+    pub geometry: Slot,
+    pub properties: Slot,
+    pub features: Slot,
+    pub bbox: Slot,
+    pub id: Slot,
 }
 
 impl Shown {
+    ghost use Rattle.std.specs.Prelude.{◌≤◌};
+    ghost use Rattle.gj_json.specs.Tree.{Tree, depth};
+    ghost use Rattle.gj_json.specs.Events.{value_events};
+    ghost use Rattle.gj_rules.specs.Levels.{most_levels};
+    ghost use Rattle.gj_rules.specs.Read.{shown_in};
+    ghost use Rattle.gj_rules.specs.Summaries.{StandsForCoordinates, shapes_of};
     ghost use Rattle.gj_rules.specs.Shown.{blank, slot_of, with_slot, joined, named, due_after, repeated_at, used, type_set, shapes_set};
 
     /// Of an object that opens at this place.
     pub fn new(role: Role, place: u64) -> Self
-        ensures { result ≡ blank role place }
+        ensures { shown_in result ≡ blank role place }
     {
+        let slot = Slot {
+            name_at: 0,
+            fault: None,
+        };
         Shown {
             place,
             role,
             repeated: None,
             type_value: None,
             shapes: Shapes::none(),
-            type_name: None,
-            coordinates: None,
-            geometries: None,
-            geometry: None,
-            properties: None,
-            features: None,
-            bbox: None,
-            id: None,
+            shaped: false,
+            present: Present::none(),
+            type_name: slot,
+            coordinates: slot,
+            geometries: slot,
+            geometry: slot,
+            properties: slot,
+            features: slot,
+            bbox: slot,
+            id: slot,
         }
     }
 
-    fn slot(&self, name: Known) -> Option<Slot>
-        ensures { result ≡ slot_of name self.now }
+    /// Of another object that opens, whatever was shown: what is written is all that is looked at.
+    #[inline]
+    pub fn again(&mut self, role: Role, place: u64)
+        ensures { shown_in self.new ≡ blank role place }
+    {
+        self.place = place;
+        self.role = role;
+        self.repeated = None;
+        self.type_value = None;
+        self.shaped = false;
+        self.present = Present::none();
+    }
+
+    /// The first member of a name, where there is one.
+    #[inline]
+    pub fn slot(&self, name: Known) -> Option<Slot>
+        ensures { result ≡ slot_of name (shown_in self.now) }
     {
         match name {
-            Known::TypeName => self.type_name,
-            Known::Coordinates => self.coordinates,
-            Known::Geometries => self.geometries,
-            Known::Geometry => self.geometry,
-            Known::Properties => self.properties,
-            Known::Features => self.features,
-            Known::Bbox => self.bbox,
-            Known::Id => self.id,
+            Known::TypeName => slot_if(self.present.type_name, &self.type_name),
+            Known::Coordinates => slot_if(self.present.coordinates, &self.coordinates),
+            Known::Geometries => slot_if(self.present.geometries, &self.geometries),
+            Known::Geometry => slot_if(self.present.geometry, &self.geometry),
+            Known::Properties => slot_if(self.present.properties, &self.properties),
+            Known::Features => slot_if(self.present.features, &self.features),
+            Known::Bbox => slot_if(self.present.bbox, &self.bbox),
+            Known::Id => slot_if(self.present.id, &self.id),
             Known::Crs | Known::Other => None,
         }
     }
 
     fn set_slot(&mut self, name: Known, slot: Slot)
-        ensures { self.new ≡ with_slot name slot self.old }
+        ensures { shown_in self.new ≡ with_slot name slot (shown_in self.old) }
     {
         match name {
-            Known::TypeName => self.type_name = Some(slot),
-            Known::Coordinates => self.coordinates = Some(slot),
-            Known::Geometries => self.geometries = Some(slot),
-            Known::Geometry => self.geometry = Some(slot),
-            Known::Properties => self.properties = Some(slot),
-            Known::Features => self.features = Some(slot),
-            Known::Bbox => self.bbox = Some(slot),
-            Known::Id => self.id = Some(slot),
+            Known::TypeName => {
+                self.present.type_name = true;
+                self.type_name = slot;
+            }
+            Known::Coordinates => {
+                self.present.coordinates = true;
+                self.coordinates = slot;
+            }
+            Known::Geometries => {
+                self.present.geometries = true;
+                self.geometries = slot;
+            }
+            Known::Geometry => {
+                self.present.geometry = true;
+                self.geometry = slot;
+            }
+            Known::Properties => {
+                self.present.properties = true;
+                self.properties = slot;
+            }
+            Known::Features => {
+                self.present.features = true;
+                self.features = slot;
+            }
+            Known::Bbox => {
+                self.present.bbox = true;
+                self.bbox = slot;
+            }
+            Known::Id => {
+                self.present.id = true;
+                self.id = slot;
+            }
             Known::Crs | Known::Other => {}
         }
     }
 
     /// Adds a fault of the value of the first member `name`.
+    #[inline]
     pub fn join(&mut self, name: Known, fault: Option<Fault>)
-        ensures { self.new ≡ joined name fault self.old }
+        ensures { shown_in self.new ≡ joined name fault (shown_in self.old) }
+    {
+        if fault.is_some() {
+            self.join_some(name, fault);
+        }
+    }
+
+    #[inline(never)]
+    fn join_some(&mut self, name: Known, fault: Option<Fault>)
+        ensures { shown_in self.new ≡ joined name fault (shown_in self.old) }
     {
         if let Some(slot) = self.slot(name) {
             let joined = Slot {
@@ -116,23 +225,24 @@ impl Shown {
 
     /// Sets the value of the first `type`.
     pub fn set_type(&mut self, place: u64, word: Word)
-        ensures { self.new ≡ type_set place word self.old }
+        ensures { shown_in self.new ≡ type_set place word (shown_in self.old) }
     {
         self.type_value = Some(TypeValue { place, word });
     }
 
     /// Sets what is found in the value of the first `coordinates`.
-    pub fn set_shapes(&mut self, shapes: Shapes)
-        ensures { self.new ≡ shapes_set shapes self.old }
+    pub fn set_shapes(&mut self, summary: &Coordinates)
+        ensures { (value : Tree) → depth value ≤ most_levels → StandsForCoordinates summary.now (value_events value) → shown_in self.new ≡ shapes_set (shapes_of value) (shown_in self.old) }
     {
-        self.shapes = shapes;
+        self.shapes.set(summary);
+        self.shaped = true;
     }
 
     /// Takes a name, and answers as the first member of which name its value is to be judged:
     /// `Other` where it is not.
     pub fn name(&mut self, name: Known, place: u64) -> Known
-        ensures shown { self.new ≡ named name place self.old }
-        ensures due { result ≡ due_after name self.old }
+        ensures shown { shown_in self.new ≡ named name place (shown_in self.old) }
+        ensures due { result ≡ due_after name (shown_in self.old) }
     {
         match name {
             Known::Crs | Known::Other => Known::Other,
@@ -143,20 +253,20 @@ impl Shown {
         }
     }
 
+    #[inline(never)]
     fn repeated_name(&mut self, place: u64) -> Known
-        ensures shown { self.new ≡ repeated_at place self.old }
+        ensures shown { shown_in self.new ≡ repeated_at place (shown_in self.old) }
         ensures due { result ≡ Known.Other }
     {
-        let fault = Fault {
-            place,
-            rule: Rule::G10,
+        self.repeated = match self.repeated {
+            Some(least) => Some(least.min(place)),
+            None => Some(place),
         };
-        self.repeated = lesser_fault(self.repeated, Some(fault));
         Known::Other
     }
 
     fn first_name(&mut self, name: Known, place: u64) -> Known
-        ensures shown { self.new ≡ with_slot name (record { name_at = place; fault = None }) self.old }
+        ensures shown { shown_in self.new ≡ with_slot name (record { name_at = place; fault = None }) (shown_in self.old) }
         ensures due { result ≡ used self.old.role name }
     {
         let slot = Slot {

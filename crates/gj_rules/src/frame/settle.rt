@@ -4,61 +4,66 @@ ghost use Rattle.std.specs.Prelude.{◌≡◌};
 use super::Frame;
 use crate::found::Found;
 use crate::role::Role;
-use gj_coords::{Kind, Simple, Warnings};
+use gj_coords::{Kind, Simple, Warned};
 use gj_json::Word;
 
 impl Frame {
+    ghost use Rattle.gj_coords.specs.Noted.{joined};
+    ghost use Rattle.gj_coords.specs.Warned.{all_in};
+    ghost use Rattle.gj_rules.specs.Read.{frame_in, found_in};
     ghost use Rattle.gj_rules.specs.Frame.{collected, warned_as, warned_by, settled};
 
-    /// As a GeometryCollection: those of its geometries, and that it is one of another's (RFC 7946, section 3.1.8).
-    fn collected(&self) -> Warnings
-        ensures { result ≡ collected self.now.shown.role self.now.shown.place self.now.gathered.geometries }
+    /// Adds those of a GeometryCollection: of its geometries, and that it is one of another's (RFC 7946, section 3.1.8).
+    #[tactic(auto, using(crate::proofs::WarnedInTurn::and_one))]
+    fn warn_collected(&self, warned: &mut Warned)
+        ensures { all_in warned.new ≡ joined (all_in warned.old) (collected self.now.shown.role self.now.shown.place (all_in self.now.gathered.geometries)) }
     {
+        warned.take(&self.gathered.geometries);
         match self.shown.role {
-            Role::Part => self.gathered.geometries.add(Kind::W7, self.shown.place),
-            _ => self.gathered.geometries,
+            Role::Part => warned.note(Kind::W7, self.shown.place),
+            _ => {}
         }
     }
 
-    /// Those that hang on its type, as one of this type.
-    fn warned_as(&self, word: Word) -> Warnings
-        ensures { result ≡ warned_as word self.now }
+    /// Adds those that hang on its type, as one of this type.
+    #[tactic(auto, using(crate::proofs::WarnedInTurn::with_none))]
+    fn warn_as(&self, word: Word, warned: &mut Warned)
+        ensures { all_in warned.new ≡ joined (all_in warned.old) (warned_as word (frame_in self.now)) }
     {
         match word {
-            Word::Point => self.shown.shapes.warned(Simple::Point),
-            Word::MultiPoint => self.shown.shapes.warned(Simple::MultiPoint),
-            Word::LineString => self.shown.shapes.warned(Simple::LineString),
-            Word::MultiLineString => self.shown.shapes.warned(Simple::MultiLineString),
-            Word::Polygon => self.shown.shapes.warned(Simple::Polygon),
-            Word::MultiPolygon => self.shown.shapes.warned(Simple::MultiPolygon),
-            Word::GeometryCollection => self.collected(),
-            Word::Feature => self.gathered.geometry,
-            Word::FeatureCollection => self.gathered.features,
-            Word::Other => Warnings::none(),
+            Word::Point => self.shown.warn_shape(Simple::Point, warned),
+            Word::MultiPoint => self.shown.warn_shape(Simple::MultiPoint, warned),
+            Word::LineString => self.shown.warn_shape(Simple::LineString, warned),
+            Word::MultiLineString => self.shown.warn_shape(Simple::MultiLineString, warned),
+            Word::Polygon => self.shown.warn_shape(Simple::Polygon, warned),
+            Word::MultiPolygon => self.shown.warn_shape(Simple::MultiPolygon, warned),
+            Word::GeometryCollection => self.warn_collected(warned),
+            Word::Feature => warned.take(&self.gathered.geometry),
+            Word::FeatureCollection => warned.take(&self.gathered.features),
+            Word::Other => {}
         }
     }
 
-    /// Those that hang on its type.
-    fn warned_by_type(&self) -> Warnings
-        ensures { result ≡ warned_by self.now.shown.type_value self.now }
+    /// Adds those that hang on its type.
+    #[tactic(auto, using(crate::proofs::WarnedInTurn::with_none))]
+    fn warn_by_type(&self, warned: &mut Warned)
+        ensures { all_in warned.new ≡ joined (all_in warned.old) (warned_by self.now.shown.type_value (frame_in self.now)) }
     {
-        match self.shown.type_value {
-            None => Warnings::none(),
-            Some(value) => if self.shown.role.allows(value.word) {
-                self.warned_as(value.word)
-            } else {
-                Warnings::none()
-            },
+        if let Some(value) = self.shown.type_value {
+            if self.shown.role.allows(value.word) {
+                self.warn_as(value.word, warned);
+            }
         }
     }
 
-    /// What is found in the object, at its close.
-    pub fn settle(&self) -> Found
-        ensures { result ≡ settled self.now }
+    /// Sets what is found in the object, at its close.
+    #[tactic(auto, using(crate::proofs::WarnedInTurn::to_none))]
+    pub fn settle(&self, found: &mut Found)
+        ensures { found_in found.new ≡ settled (frame_in self.now) }
     {
-        Found {
-            fault: self.shown.settle(),
-            warned: self.gathered.own.join(self.warned_by_type()),
-        }
+        found.fault = self.shown.settle();
+        found.warned.clear();
+        found.warned.take(&self.gathered.own);
+        self.warn_by_type(&mut found.warned);
     }
 }

@@ -59,7 +59,7 @@ fn by_bytes(input: &[u8]) -> Verdict {
 
 #[test]
 fn the_verdict_is_that_of_all_pieces(rt: HostRuntime) {
-    let rows: [(&[u8], Verdict); 4] = [
+    let rows: [(&[u8], Verdict); 5] = [
         (
             b"{\"coordinates\":[1,2],\"type\":\"Point\"}",
             Verdict::Valid(Warnings::none()),
@@ -69,6 +69,14 @@ fn the_verdict_is_that_of_all_pieces(rt: HostRuntime) {
             Verdict::Broken(Fault {
                 place: 15,
                 rule: Rule::G12,
+            }),
+        ),
+        // the frame of the first point is that of the second, and its coordinates do not count there
+        (
+            b"{\"type\":\"GeometryCollection\",\"geometries\":[{\"type\":\"Point\",\"coordinates\":[1,2]},{\"type\":\"Point\"}]}",
+            Verdict::Broken(Fault {
+                place: 80,
+                rule: Rule::G4,
             }),
         ),
         (
@@ -178,11 +186,16 @@ fn expect(rt: &impl Abort, input: &[u8], want: &[Tally], row: &str) {
 
 #[test]
 fn warnings_of_objects(rt: HostRuntime) {
-    let rows: [(&[u8], &[Tally], &str); 16] = [
+    let rows: [(&[u8], &[Tally], &str); 17] = [
         (
             b"{\"crs\":1,\"crs\":2,\"type\":\"Point\",\"coordinates\":[1,2]}",
             &[counted(Kind::W9, 2, 1)],
             "crs twice",
+        ),
+        (
+            b"{\"type\":\"GeometryCollection\",\"geometries\":[{\"type\":\"Point\",\"coordinates\":[1,2],\"crs\":1},{\"type\":\"Point\",\"coordinates\":[1,2]}]}",
+            &[counted(Kind::W9, 1, 79)],
+            "crs of the geometry before",
         ),
         (
             b"{\"geometries\":[{\"crs\":1}],\"type\":\"Point\",\"coordinates\":[1,2]}",

@@ -13,16 +13,14 @@ impl Rules {
     ghost use Rattle.gj_rules.specs.Kept.{core_of};
     ghost use Rattle.gj_rules.specs.Levels.{most_levels};
     ghost use Rattle.gj_rules.specs.Lost.{core_lost, root_of};
+    ghost use Rattle.gj_rules.specs.Read.{shown_in};
     ghost use Rattle.gj_rules.specs.Rules.{StandsFor};
 
     /// What the outermost open object has shown.
     fn outermost(&self) -> &Shown
-        ensures { result.now ≡ root_of (core_of self.now).top (core_of self.now).outer }
+        ensures { shown_in result.now ≡ root_of (core_of self.now).top (core_of self.now).outer }
     {
-        match self.outer.first() {
-            Some(frame) => &frame.shown,
-            None => &self.top.shown,
-        }
+        &self.frames[0].shown
     }
 
     fn is_lost(&self) -> bool

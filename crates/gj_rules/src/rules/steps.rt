@@ -2,7 +2,7 @@
 ghost use Rattle.std.specs.Prelude.{◌≡◌, ◌<◌, length};
 
 use super::{MOST_AROUND, Rules};
-use crate::frame::Frame;
+use crate::found::Found;
 use crate::mode::Mode;
 use crate::opening::{levels_in, opening_fault, word_in};
 use crate::role::Role;
@@ -17,33 +17,31 @@ impl Rules {
     /// An object with a role opens. A text of at most 64 levels has at most 33 of them open at once.
     #[inline(never)]
     fn push(&mut self, role: Role, place: u64)
-        ensures { length self.old.outer.items < MOST_AROUND → core_of self.new ≡ pushed role place (core_of self.old) }
+        ensures { length (core_of self.old).outer < MOST_AROUND → core_of self.new ≡ pushed role place (core_of self.old) }
     {
-        if !self.outer.is_full() {
-            self.outer.push(self.top);
+        if (self.around as usize) < MOST_AROUND {
+            self.around += 1;
         }
-        self.top = Frame::new(role, place);
+        self.frames[self.around as usize].again(role, place);
         self.mode = Mode::Names;
     }
 
     /// The innermost object with a role closes.
     #[inline(never)]
     fn pop(&mut self)
-        ensures { core_of self.new ≡ popped (core_of self.old).outer self.old.top.shown.role (settled self.old.top) (core_of self.old) }
+        ensures { core_of self.new ≡ popped (core_of self.old).outer (core_of self.old).top.shown.role (settled (core_of self.old).top) (core_of self.old) }
     {
-        let role = self.top.role();
-        let found = self.top.settle();
-        match self.outer.pop() {
-            Some(parent) => {
-                self.top = parent;
-                self.top.take(role.member(), found);
-                self.mode = Mode::behind(role);
-            }
-            None => {
-                self.mode = Mode::Done;
-                self.answer.fault = found.fault;
-                self.answer.warned = self.answer.warned.join(found.warned);
-            }
+        let role = self.role();
+        let mut found = Found::none();
+        self.settle(&mut found);
+        if self.around > 0 {
+            self.around -= 1;
+            self.frames[self.around as usize].take(role.member(), &found);
+            self.mode = Mode::behind(role);
+        } else {
+            self.mode = Mode::Done;
+            self.answer.fault = found.fault;
+            self.answer.warned.take(&found.warned);
         }
     }
 
@@ -53,10 +51,10 @@ impl Rules {
         ensures { core_of self.new ≡ root_step what place (core_of self.old) }
     {
         match what {
-            What::Mark => self.answer.warned = self.answer.warned.add(Kind::W1, place),
+            What::Mark => self.answer.warned.note(Kind::W1, place),
             What::OpenObject => {
                 self.mode = Mode::Names;
-                self.top = Frame::new(Role::Root, place);
+                self.frames[self.around as usize].again(Role::Root, place);
             }
             _ => {
                 self.mode = Mode::Done;
@@ -75,7 +73,7 @@ impl Rules {
     {
         match what {
             What::Name(name) => {
-                let due = self.top.name(name, place);
+                let due = self.frames[self.around as usize].name(name, place);
                 self.mode = Mode::Due(due);
             }
             _ => self.pop(),
@@ -91,14 +89,14 @@ impl Rules {
         let word = word_in(&what);
         let fault = opening_fault(name, &what, place);
         match name {
-            Known::TypeName => self.top.set_type(place, word),
-            _ => self.top.join(name, fault),
+            Known::TypeName => self.frames[self.around as usize].set_type(place, word),
+            _ => self.frames[self.around as usize].join(name, fault),
         }
     }
 
     /// The value of a first member begins.
     pub(super) fn value(&mut self, name: Known, what: What, place: u64)
-        ensures { HasRoom what self.old.outer.items → core_of self.new ≡ due_step name what place (core_of self.old) }
+        ensures { HasRoom what (core_of self.old).outer → core_of self.new ≡ due_step name what place (core_of self.old) }
     {
         match (name, what) {
             (Known::Geometry, What::OpenObject) => self.push(Role::Geometry, place),
@@ -110,14 +108,14 @@ impl Rules {
 
     /// An element of an array of values with this role begins, or the array ends.
     pub(super) fn element(&mut self, role: Role, what: What, place: u64)
-        ensures { HasRoom what self.old.outer.items → core_of self.new ≡ element_step role what place (core_of self.old) }
+        ensures { HasRoom what (core_of self.old).outer → core_of self.new ≡ element_step role what place (core_of self.old) }
     {
         match what {
             What::OpenObject => self.push(role, place),
             What::CloseArray => self.mode = Mode::Names,
             _ => {
                 self.skipped = levels_in(&what);
-                self.top.join(
+                self.frames[self.around as usize].join(
                     role.member(),
                     Some(Fault {
                         place,

@@ -1,17 +1,28 @@
 //! Whether the object of a text can still become valid, whatever its members to come are.
 ghost use Rattle.std.specs.Prelude.{◌≡◌};
 
-use super::{Shown, Slot};
+use super::Shown;
 use gj_coords::Simple;
-use gj_json::Word;
+use gj_json::{Known, Word};
 
 impl Shown {
+    ghost use Rattle.std.specs.Prelude.{is_some};
+    ghost use Rattle.gj_rules.specs.Read.{shown_in};
+    ghost use Rattle.gj_rules.specs.Shown.{slot_of};
     ghost use Rattle.gj_rules.specs.Lost.{slot_fails, geometry_forbids, simple_fails, collection_fails, feature_forbids, feature_fails, features_forbid, features_fails, fails_as, all_fail, is_lost};
 
-    fn value_fails(slot: Option<Slot>) -> bool
-        ensures { result ≡ slot_fails slot }
+    /// It has a member of this name.
+    fn has(&self, name: Known) -> bool
+        ensures { result ≡ is_some (slot_of name (shown_in self.now)) }
     {
-        match slot {
+        self.slot(name).is_some()
+    }
+
+    /// The value of the first member of this name has a fault.
+    fn value_fails(&self, name: Known) -> bool
+        ensures { result ≡ slot_fails (slot_of name (shown_in self.now)) }
+    {
+        match self.slot(name) {
             Some(slot) => slot.fault.is_some(),
             None => false,
         }
@@ -19,42 +30,42 @@ impl Shown {
 
     /// A member is there that a geometry may not have (RFC 7946, section 7.1).
     fn geometry_is_forbidden(&self) -> bool
-        ensures { result ≡ geometry_forbids self.now }
+        ensures { result ≡ geometry_forbids (shown_in self.now) }
     {
-        self.geometry.is_some() || (self.properties.is_some() || self.features.is_some())
+        self.has(Known::Geometry) || (self.has(Known::Properties) || self.has(Known::Features))
     }
 
     /// A member is there that a Feature may not have.
     fn feature_is_forbidden(&self) -> bool
-        ensures { result ≡ feature_forbids self.now }
+        ensures { result ≡ feature_forbids (shown_in self.now) }
     {
-        self.coordinates.is_some() || (self.geometries.is_some() || self.features.is_some())
+        self.has(Known::Coordinates) || (self.has(Known::Geometries) || self.has(Known::Features))
     }
 
     /// A member is there that a FeatureCollection may not have.
     fn features_are_forbidden(&self) -> bool
-        ensures { result ≡ features_forbid self.now }
+        ensures { result ≡ features_forbid (shown_in self.now) }
     {
-        let shapes = self.coordinates.is_some() || self.geometries.is_some();
-        shapes || (self.geometry.is_some() || self.properties.is_some())
+        let shapes = self.has(Known::Coordinates) || self.has(Known::Geometries);
+        shapes || (self.has(Known::Geometry) || self.has(Known::Properties))
     }
 
     fn simple_fails(&self, simple: Simple) -> bool
-        ensures { result ≡ simple_fails simple self.now }
+        ensures { result ≡ simple_fails simple (shown_in self.now) }
     {
-        self.geometry_is_forbidden() || self.shapes.fault(simple).is_some()
+        self.geometry_is_forbidden() || self.shape_fault(simple).is_some()
     }
 
     fn feature_fails(&self) -> bool
-        ensures { result ≡ feature_fails self.now }
+        ensures { result ≡ feature_fails (shown_in self.now) }
     {
-        let rest = Shown::value_fails(self.properties) || Shown::value_fails(self.id);
-        self.feature_is_forbidden() || (Shown::value_fails(self.geometry) || rest)
+        let rest = self.value_fails(Known::Properties) || self.value_fails(Known::Id);
+        self.feature_is_forbidden() || (self.value_fails(Known::Geometry) || rest)
     }
 
     /// It has a fault as an object of this type; a missing member may still come.
     fn fails_as(&self, word: Word) -> bool
-        ensures { result ≡ fails_as word self.now }
+        ensures { result ≡ fails_as word (shown_in self.now) }
     {
         match word {
             Word::Point => self.simple_fails(Simple::Point),
@@ -64,11 +75,11 @@ impl Shown {
             Word::Polygon => self.simple_fails(Simple::Polygon),
             Word::MultiPolygon => self.simple_fails(Simple::MultiPolygon),
             Word::GeometryCollection => {
-                self.geometry_is_forbidden() || Shown::value_fails(self.geometries)
+                self.geometry_is_forbidden() || self.value_fails(Known::Geometries)
             }
             Word::Feature => self.feature_fails(),
             Word::FeatureCollection => {
-                self.features_are_forbidden() || Shown::value_fails(self.features)
+                self.features_are_forbidden() || self.value_fails(Known::Features)
             }
             Word::Other => true,
         }
@@ -76,7 +87,7 @@ impl Shown {
 
     /// It has a fault as an object of each type.
     fn fails_as_any(&self) -> bool
-        ensures { result ≡ all_fail self.now }
+        ensures { result ≡ all_fail (shown_in self.now) }
     {
         let collections = self.fails_as(Word::GeometryCollection)
             && (self.fails_as(Word::Feature) && self.fails_as(Word::FeatureCollection));
@@ -90,12 +101,12 @@ impl Shown {
 
     /// The object of a text has a fault, whatever its members to come are.
     pub fn is_lost(&self) -> bool
-        ensures { result ≡ is_lost self.now }
+        ensures { result ≡ is_lost (shown_in self.now) }
     {
         let by_type = match self.type_value {
             Some(value) => self.fails_as(value.word),
             None => self.fails_as_any(),
         };
-        self.repeated.is_some() || (Shown::value_fails(self.bbox) || by_type)
+        self.repeated.is_some() || (self.value_fails(Known::Bbox) || by_type)
     }
 }

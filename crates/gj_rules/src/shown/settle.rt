@@ -2,10 +2,14 @@
 ghost use Rattle.std.specs.Prelude.{◌≡◌};
 
 use super::{Shown, Slot};
-use gj_coords::{Fault, Rule, Simple, lesser_fault};
-use gj_json::Word;
+use gj_coords::{Fault, Rule, Simple, Warned, lesser_fault};
+use gj_json::{Known, Word};
 
 impl Shown {
+    ghost use Rattle.gj_rules.specs.Read.{shown_in, repeated_in};
+    ghost use Rattle.gj_coords.specs.Noted.{joined};
+    ghost use Rattle.gj_coords.specs.Warned.{all_in};
+    ghost use Rattle.gj_rules.specs.Summaries.{shape_for, warned_for};
     ghost use Rattle.gj_rules.specs.Shown.{due_shape, settled, rest_of, as_type, as_simple, geometry_forbids, feature_forbids, feature_dues, features_forbid, due_slot, forbidden_slot, slot_fault};
 
     fn due(&self, slot: Option<Slot>, rule: Rule) -> Option<Fault>
@@ -20,15 +24,38 @@ impl Shown {
         }
     }
 
-    fn due_shape(&self, simple: Simple) -> Option<Fault>
-        ensures { result ≡ due_shape simple self.now.place self.now.shapes self.now.coordinates }
+    /// The fault of the first `coordinates` for one type.
+    #[tactic(auto, using(crate::proofs::NoShapes::no_fault))]
+    pub(super) fn shape_fault(&self, simple: Simple) -> Option<Fault>
+        ensures { result ≡ shape_for simple (shown_in self.now).shapes }
     {
-        match self.coordinates {
-            Some(_) => self.shapes.fault(simple),
-            None => Some(Fault {
+        if self.shaped {
+            self.shapes.fault(simple)
+        } else {
+            None
+        }
+    }
+
+    /// Adds its warnings for one type.
+    #[tactic(auto, using(crate::proofs::NoShapes::no_warnings_more))]
+    pub fn warn_shape(&self, simple: Simple, warned: &mut Warned)
+        ensures { all_in warned.new ≡ joined (all_in warned.old) (warned_for simple (shown_in self.now).shapes) }
+    {
+        if self.shaped {
+            warned.take(self.shapes.warned(simple));
+        }
+    }
+
+    fn due_shape(&self, simple: Simple) -> Option<Fault>
+        ensures { result ≡ due_shape simple self.now.place (shown_in self.now).shapes (shown_in self.now).coordinates }
+    {
+        if self.present.coordinates {
+            self.shape_fault(simple)
+        } else {
+            Some(Fault {
                 place: self.place,
                 rule: Rule::G4,
-            }),
+            })
         }
     }
 
@@ -55,57 +82,60 @@ impl Shown {
 
     /// The least of the members that a geometry may not have (RFC 7946, section 7.1).
     fn geometry_forbids(&self) -> Option<Fault>
-        ensures { result ≡ geometry_forbids self.now }
+        ensures { result ≡ geometry_forbids (shown_in self.now) }
     {
         let rest = lesser_fault(
-            Shown::forbidden(self.properties),
-            Shown::forbidden(self.features),
+            Shown::forbidden(self.slot(Known::Properties)),
+            Shown::forbidden(self.slot(Known::Features)),
         );
-        lesser_fault(Shown::forbidden(self.geometry), rest)
+        lesser_fault(Shown::forbidden(self.slot(Known::Geometry)), rest)
     }
 
     /// The least of the members that a Feature may not have.
     fn feature_forbids(&self) -> Option<Fault>
-        ensures { result ≡ feature_forbids self.now }
+        ensures { result ≡ feature_forbids (shown_in self.now) }
     {
         let rest = lesser_fault(
-            Shown::forbidden(self.geometries),
-            Shown::forbidden(self.features),
+            Shown::forbidden(self.slot(Known::Geometries)),
+            Shown::forbidden(self.slot(Known::Features)),
         );
-        lesser_fault(Shown::forbidden(self.coordinates), rest)
+        lesser_fault(Shown::forbidden(self.slot(Known::Coordinates)), rest)
     }
 
     /// The least fault of the members that a Feature uses.
     fn feature_dues(&self) -> Option<Fault>
-        ensures { result ≡ feature_dues self.now }
+        ensures { result ≡ feature_dues (shown_in self.now) }
     {
-        let rest = lesser_fault(self.due(self.properties, Rule::G7), Shown::allowed(self.id));
-        lesser_fault(self.due(self.geometry, Rule::G6), rest)
+        let rest = lesser_fault(
+            self.due(self.slot(Known::Properties), Rule::G7),
+            Shown::allowed(self.slot(Known::Id)),
+        );
+        lesser_fault(self.due(self.slot(Known::Geometry), Rule::G6), rest)
     }
 
     /// The least of the members that a FeatureCollection may not have.
     fn features_forbid(&self) -> Option<Fault>
-        ensures { result ≡ features_forbid self.now }
+        ensures { result ≡ features_forbid (shown_in self.now) }
     {
         let first = lesser_fault(
-            Shown::forbidden(self.coordinates),
-            Shown::forbidden(self.geometries),
+            Shown::forbidden(self.slot(Known::Coordinates)),
+            Shown::forbidden(self.slot(Known::Geometries)),
         );
         let rest = lesser_fault(
-            Shown::forbidden(self.geometry),
-            Shown::forbidden(self.properties),
+            Shown::forbidden(self.slot(Known::Geometry)),
+            Shown::forbidden(self.slot(Known::Properties)),
         );
         lesser_fault(first, rest)
     }
 
     fn as_simple(&self, simple: Simple) -> Option<Fault>
-        ensures { result ≡ as_simple simple self.now }
+        ensures { result ≡ as_simple simple (shown_in self.now) }
     {
         lesser_fault(self.geometry_forbids(), self.due_shape(simple))
     }
 
     fn as_type(&self, word: Word) -> Option<Fault>
-        ensures { result ≡ as_type word self.now }
+        ensures { result ≡ as_type word (shown_in self.now) }
     {
         match word {
             Word::Point => self.as_simple(Simple::Point),
@@ -116,19 +146,19 @@ impl Shown {
             Word::MultiPolygon => self.as_simple(Simple::MultiPolygon),
             Word::GeometryCollection => lesser_fault(
                 self.geometry_forbids(),
-                self.due(self.geometries, Rule::G5),
+                self.due(self.slot(Known::Geometries), Rule::G5),
             ),
             Word::Feature => lesser_fault(self.feature_forbids(), self.feature_dues()),
             Word::FeatureCollection => lesser_fault(
                 self.features_forbid(),
-                self.due(self.features, Rule::G8),
+                self.due(self.slot(Known::Features), Rule::G8),
             ),
             Word::Other => None,
         }
     }
 
     fn rest(&self) -> Option<Fault>
-        ensures { result ≡ rest_of self.now }
+        ensures { result ≡ rest_of (shown_in self.now) }
     {
         match self.type_value {
             None => Some(Fault {
@@ -146,13 +176,36 @@ impl Shown {
         }
     }
 
+    fn repeated(&self) -> Option<Fault>
+        ensures { result ≡ repeated_in self.now.repeated }
+    {
+        match self.repeated {
+            Some(place) => Some(Fault {
+                place,
+                rule: Rule::G10,
+            }),
+            None => None,
+        }
+    }
+
     /// The least fault of the object, at its close.
     pub fn settle(&self) -> Option<Fault>
-        ensures { result ≡ settled self.now }
+        ensures { result ≡ settled (shown_in self.now) }
+    {
+        if self.is_sound() {
+            None
+        } else {
+            self.least_fault()
+        }
+    }
+
+    #[inline(never)]
+    fn least_fault(&self) -> Option<Fault>
+        ensures { result ≡ settled (shown_in self.now) }
     {
         lesser_fault(
-            self.repeated,
-            lesser_fault(Shown::allowed(self.bbox), self.rest()),
+            self.repeated(),
+            lesser_fault(Shown::allowed(self.slot(Known::Bbox)), self.rest()),
         )
     }
 }

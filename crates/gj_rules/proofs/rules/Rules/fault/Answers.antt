@@ -1,5 +1,5 @@
 use Rattle.std.proofs.Common.{ap}
-use Rattle.gj_rules.specs.declared.found.Found.{Found}
+use Rattle.gj_rules.specs.Seen.{Found}
 use Rattle.gj_rules.proofs.Telling.{answered}
 use Rattle.gj_rules.proofs.rules.Rules.fault.Goals as goal
 

@@ -1,5 +1,5 @@
 -- The events, one after another.
-use Rattle.std.proofs.Common.{◌≡◌, ◌∷◌, ◌++◌, [], List, sym, subst, append_assoc}
+use Rattle.std.proofs.Common.{◌≡◌, ◌∷◌, ◌++◌, [], List, subst, append_assoc}
 use Rattle.gj_rules.specs.Rules.{StandsFor}
 use Rattle.gj_json.specs.declared.event.Event.{Event}
 use Rattle.gj_rules.proofs.rules.Rules.tell_each.Goals as goal

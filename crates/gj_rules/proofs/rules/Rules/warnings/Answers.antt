@@ -1,7 +1,7 @@
-use Rattle.std.proofs.Common.{ap}
-use Rattle.gj_rules.specs.declared.found.Found.{Found}
+use Rattle.std.proofs.Common.{ap, ◌∙◌}
+use Rattle.gj_rules.specs.Seen.{Found}
 use Rattle.gj_rules.proofs.Telling.{answered}
 use Rattle.gj_rules.proofs.rules.Rules.warnings.Goals as goal
 
 pub returns : goal.returns
-returns c = λ text d h. ap (λ (x : Found). x.warned) (answered c.args.self.now text d h)
+returns c = λ text d h. c.all.ensures ∙ ap (λ (x : Found). x.warned) (answered c.args.self.now text d h)
