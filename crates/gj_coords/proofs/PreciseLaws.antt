@@ -1,8 +1,7 @@
 -- Numbers whose last written digit is no zero have as many places as are written.
-use Rattle.std.proofs.Common.{◌≡◌, ◌≢◌, ℕ, ◌<◌, ◌%◌, ◌==◌, zero, suc, Bool, true, false, nat_lt, Some, pos, ◌-ℤ◌, if◌then◌else◌, refl, arith}
+use Rattle.std.proofs.Common.{◌≡◌, ◌≢◌, ℕ, ◌<◌, ◌%◌, ◌==◌, zero, suc, Bool, true, false, nat_lt, Some, pos, ◌-ℤ◌, arith}
 use Rattle.std.proofs.lemmas.Bool.Decides.{nat_tests}
-use Rattle.gj_number.specs.Exact.{Exact, zero_exact, below_zero, places_of}
-use Rattle.gj_number.specs.Value.{stripped, tens_in}
+use Rattle.gj_number.specs.Exact.{below_zero}
 use Rattle.gj_number.specs.Short.{short_value}
 use Rattle.gj_coords.specs.CoordinateWarnings.{is_precise}
 

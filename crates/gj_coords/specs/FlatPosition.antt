@@ -1,5 +1,5 @@
 -- Internal: what each level of a value gathers of a position that is told as one.
-use Rattle.std.specs.Prelude.{ℕ, min, Option, Some, None, Bool, ◌||◌, if◌then◌else◌, nat_lt}
+use Rattle.std.specs.Prelude.{ℕ, min, Option, Some, None, if◌then◌else◌, nat_lt}
 use Rattle.gj_number.specs.Exact.{Exact}
 use Rattle.gj_number.specs.Short.{exact_of}
 use Rattle.gj_json.specs.declared.event.What.{What}

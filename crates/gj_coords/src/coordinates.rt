@@ -74,7 +74,8 @@ impl Coordinates {
     /// The same for an event that stays where it is.
     #[inline]
     pub fn take(&mut self, event: &Event)
-        ensures stands { (events : List Event) → StandsFor self.old events → StandsFor self.new (events ++ event.now ∷ []) }
+        ensures stands { (events : List Event) → StandsFor self.old events →
+            StandsFor self.new (events ++ event.now ∷ []) }
     {
         self.depth = Depth::Unknown;
         self.walk.event(event);
@@ -83,7 +84,8 @@ impl Coordinates {
     /// The events of an array of numbers that is told as one.
     #[inline]
     pub fn take_flat(&mut self, flat: &Flat)
-        ensures stands { (events : List Event) → StandsFor self.old events → StandsFor self.new (events ++ flat_events flat.now) }
+        ensures stands { (events : List Event) → StandsFor self.old events →
+            StandsFor self.new (events ++ flat_events flat.now) }
     {
         if is_past(self.floor, flat) {
             match self.depth {
@@ -102,7 +104,8 @@ impl Coordinates {
     /// The same wherever the value stands.
     #[inline(never)]
     fn take_anywhere(&mut self, flat: &Flat)
-        ensures stands { (events : List Event) → StandsFor self.old events → StandsFor self.new (events ++ flat_events flat.now) }
+        ensures stands { (events : List Event) → StandsFor self.old events →
+            StandsFor self.new (events ++ flat_events flat.now) }
     {
         take_flat(&mut self.walk, flat);
         self.floor = flat.close;

@@ -2,6 +2,8 @@
 
 ghost use Rattle.std.specs.Prelude.{◌≤◌, length};
 
+mod flats;
+
 use super::Reader;
 use crate::event::{Event, What};
 use crate::fault::{Cause, JsonFault};

@@ -1,4 +1,4 @@
-use Rattle.std.proofs.Common.{refl, ap, sym, ◌∙◌}
+use Rattle.std.proofs.Common.{ap, sym}
 use Rattle.gj_coords.specs.Noted.{no_warnings, none_in}
 use Rattle.gj_coords.specs.Warned.{warnings_in}
 use Rattle.gj_coords.proofs.warned.Warned.is_empty.Goals as goal
