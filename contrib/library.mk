@@ -18,7 +18,8 @@ INSTALL ?= install
 library: $(LIBRARY_BUILD)/libgeolint.a $(LIBRARY_BUILD)/libgeolint.so
 
 # Proves the crate and those below it, where they are not proved yet.
-$(GEOLINT_C)/out/libgeolint_c.a: $(wildcard $(GEOLINT_C)/src/*.rt $(GEOLINT_C)/specs/*.antt $(GEOLINT_ROOT)/crates/gj_*/src/*.rt)
+sources := $(shell find $(GEOLINT_C)/src $(wildcard $(GEOLINT_ROOT)/crates/gj_*/src) -name '*.rt')
+$(GEOLINT_C)/out/libgeolint_c.a: $(sources)
 	cd $(GEOLINT_C) && rt lib
 	touch $@
 

@@ -20,6 +20,7 @@ static void at_null(void) {
     wants(geolint_begin(NULL, 0, 0) == GEOLINT_NULL, "begin at null");
     wants(geolint_feed(NULL, "x", 1) == GEOLINT_NULL, "feed at null");
     wants(geolint_offset(NULL) == 0, "offset at null");
+    wants(geolint_doomed(NULL) == 0, "doomed at null");
     wants(report.status == GEOLINT_NULL && report.verdict == GEOLINT_NO_VERDICT, "finish at null");
     geolint_free(NULL);
 }
@@ -52,7 +53,7 @@ static void after_the_end(void) {
     geolint_finish(linter);
     wants(geolint_feed(linter, "x", 1) == GEOLINT_ENDED, "feed after the end");
     wants(geolint_feed(linter, "", 0) == GEOLINT_ENDED, "no bytes after the end");
-    wants(geolint_offset(linter) == 0, "offset after the end");
+    wants(geolint_doomed(linter) == 0 && geolint_offset(linter) == 0, "doomed and offset after the end");
     report = geolint_finish(linter);
     wants(report.status == GEOLINT_ENDED && report.verdict == GEOLINT_NO_VERDICT, "finish after the end");
     wants(geolint_begin(linter, 0, 0) == GEOLINT_DONE, "begin after the end");
@@ -72,7 +73,7 @@ static void after_a_refusal(void) {
     wants(geolint_feed(linter, "[1,]", 4) == GEOLINT_REFUSED, "a refused piece");
     wants(geolint_feed(linter, "2]", 2) == GEOLINT_REFUSED, "a piece after it");
     wants(geolint_feed(linter, "", 0) == GEOLINT_REFUSED, "no bytes after it");
-    wants(geolint_offset(linter) == 3, "the place of the refusal");
+    wants(geolint_doomed(linter) == 1 && geolint_offset(linter) == 3, "doomed, and the place of the refusal");
     report = geolint_finish(linter);
     wants(report.verdict == GEOLINT_NOT_JSON && report.cause == GEOLINT_SYNTAX && report.place == 3, "its verdict");
     geolint_free(linter);

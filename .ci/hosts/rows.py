@@ -92,6 +92,24 @@ for name, call in {
         pass
 wants("a version", geolint.version().count("."), 2)
 
+# Whether a text that begins so may still be valid, as far as that is seen early.
+for text, doomed in {
+    b"": False,
+    b"[": True,
+    b'{"type":"Feature","features":': True,
+    b'{"type":"FeatureCollection","features":': False,
+    b'{"features":': False,
+    b'{"coordinates":[[1,2],[3,4]]': False,
+    b'{"geometries":[7]': False,
+    b'{"coordinates":7': False,
+    b'{"type":"x"': True,
+    b'{"id":1,"id"': True,
+    b'{"geometry":1,"type":"Point"': True,
+}.items():
+    linter = geolint.Linter()
+    linter.feed(text)
+    wants(f"doomed after {text}", linter.doomed, doomed)
+
 # Any number of linters at once.
 many = [geolint.Linter() for _ in range(50)]
 for i in range(len(ring)):

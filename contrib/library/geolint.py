@@ -60,6 +60,7 @@ def _load():
         ("alignment", size, []),
         ("begin", u32, [address, u32, u64]),
         ("feed", u32, [address, address, size]),
+        ("doomed", u32, [address]),
         ("offset", u64, [address]),
         ("finish", _Report, [address]),
         ("rule_text", None, [u32, text]),
@@ -192,6 +193,11 @@ class Linter:
         for piece in pieces:
             self.feed(piece)
             yield piece
+
+    @property
+    def doomed(self):
+        """No text that begins with the bytes fed is valid, as far as that is seen early."""
+        return _library.geolint_doomed(self._at) != 0
 
     @property
     def offset(self):

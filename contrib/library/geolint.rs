@@ -49,6 +49,7 @@ mod c {
         pub fn geolint_alignment() -> usize;
         pub fn geolint_begin(linter: *mut c_void, max_depth: u32, max_bytes: u64) -> u32;
         pub fn geolint_feed(linter: *mut c_void, bytes: *const u8, length: usize) -> u32;
+        pub fn geolint_doomed(linter: *mut c_void) -> u32;
         pub fn geolint_offset(linter: *mut c_void) -> u64;
         pub fn geolint_finish(linter: *mut c_void) -> Report;
         pub fn geolint_rule_text(rule: u32, text: *mut Text);
@@ -155,6 +156,11 @@ impl Linter {
             c::REFUSED => Progress::Refused,
             _ => Progress::Open,
         }
+    }
+
+    /// No text that begins with the bytes fed is valid, as far as that is seen early.
+    pub fn doomed(&mut self) -> bool {
+        unsafe { c::geolint_doomed(self.at()) != 0 }
     }
 
     /// How many bytes were taken: the place of the refusal, once there was one.

@@ -88,6 +88,8 @@ public:
         return feed(bytes.data(), bytes.size() * sizeof(*bytes.data()));
     }
 
+    /* No text that begins with the bytes fed is valid, as far as that is seen early. */
+    bool doomed() noexcept { return geolint_doomed(linter_) != 0; }
     std::uint64_t offset() noexcept { return geolint_offset(linter_); }
 
     /* The verdict of all that was fed, and the end of the linter. */

@@ -6,6 +6,8 @@ use Rattle.gj_rules.specs.declared.linter.Linter.{Linter}
 use Rattle.gj_rules.specs.declared.linter.Progress.{Progress}
 use Rattle.gj_rules.specs.declared.linter.Progress.TheVariants.{Open, Refused}
 use Rattle.gj_rules.specs.Linter.{StandsFor as LinterStandsFor, limits_of, refusal_of, Answers}
+use Rattle.gj_rules.specs.Verdict.{NeverValid}
+use Rattle.gj_rules.specs.Doomed.{BeginNoGeoJson}
 use Rattle.geolint_c.specs.declared.handle.Handle.{Handle}
 use Rattle.geolint_c.specs.declared.report.Report.{Report}
 use Rattle.geolint_c.specs.Options.{AreAllowed, limits_meant}
@@ -69,6 +71,26 @@ OffsetRefused handle offset =
 
 abbrev pub OffsetEnded : Handle → ℕ → Type 0
 OffsetEnded handle offset = HasEnded handle → offset ≡ 0
+
+-- ---- doomed
+-- only where no input that begins so is valid
+abbrev pub DoomedSound : Handle → ℕ → Type 0
+DoomedSound handle doomed =
+    (limits : Allowed) (bytes : List ℕ) → StandsFor handle limits bytes → doomed ≡ 1 → NeverValid limits bytes
+
+-- after a refusal always
+abbrev pub DoomedRefused : Handle → ℕ → Type 0
+DoomedRefused handle doomed =
+    (linter : Linter) (fault : JsonFault) → handle.linter ≡ Some linter → refusal_of linter ≡ Some fault → doomed ≡ 1
+
+-- and where the bytes show early that they begin no GeoJSON text
+abbrev pub DoomedEarly : Handle → ℕ → Type 0
+DoomedEarly handle doomed =
+    (linter : Linter) (bytes : List ℕ) → handle.linter ≡ Some linter → LinterStandsFor linter bytes
+    → refusal_of linter ≡ None → BeginNoGeoJson (limits_of linter).depth bytes → doomed ≡ 1
+
+abbrev pub DoomedEnded : Handle → ℕ → Type 0
+DoomedEnded handle doomed = HasEnded handle → doomed ≡ 0
 
 -- ---- finish
 abbrev pub FinishedVerdict : Handle → Report → Type 0

@@ -1,6 +1,6 @@
 //! A text that comes in pieces, judged by a handle. Here are the calls over values; `stream` takes them to C.
 ghost use Rattle.std.specs.Prelude.{◌≡◌};
-ghost use Rattle.geolint_c.specs.Handle.{HasEnded, BegunLive, BegunEnded, FedStands, FedAnswer, FedEnded, BegunStatus, FinishedVerdict, FinishedEnded, OffsetTaken, OffsetRefused, OffsetEnded};
+ghost use Rattle.geolint_c.specs.Handle.{HasEnded, BegunLive, BegunEnded, FedStands, FedAnswer, FedEnded, BegunStatus, FinishedVerdict, FinishedEnded, OffsetTaken, OffsetRefused, OffsetEnded, DoomedSound, DoomedRefused, DoomedEarly, DoomedEnded};
 
 use crate::options::limits_of;
 use crate::report::{Report, no_report, report_of};
@@ -51,6 +51,20 @@ impl Handle {
         match &self.linter {
             Some(linter) => linter.offset(),
             None => 0,
+        }
+    }
+
+    /// 1 where no input that begins with the bytes fed is valid, as far as that is seen early; otherwise 0.
+    pub fn doomed(&mut self) -> u32
+        ensures sound { DoomedSound self.old result }
+        ensures refused { DoomedRefused self.old result }
+        ensures early { DoomedEarly self.old result }
+        ensures ended { DoomedEnded self.old result }
+        ensures unchanged { self.new ≡ self.old }
+    {
+        match &self.linter {
+            Some(linter) if linter.doomed() => 1,
+            _ => 0,
         }
     }
 

@@ -6,7 +6,7 @@ ghost use Rattle.std.specs.Borrow.{full_share, sem};
 ghost use Rattle.std.specs.Ptr.{lies_at, room_at, if_non_null};
 ghost use denote.RawPtr.{Testable};
 ghost use Rattle.geolint_c.specs.contracts.handle.Handle.{the_row};
-ghost use Rattle.geolint_c.specs.Stream.{BegunAt, FedAt, OffsetAt, FinishedAt};
+ghost use Rattle.geolint_c.specs.Stream.{BegunAt, FedAt, OffsetAt, DoomedAt, FinishedAt};
 
 use crate::handle::{Handle, begun_status};
 use crate::report::{Report, no_report};
@@ -74,6 +74,21 @@ pub unsafe extern "C" fn geolint_offset(memory: *mut Memory) -> u64
         return 0;
     }
     (*handle).offset()
+}
+
+/// 1 where no input that begins with the bytes fed is valid, as far as that is seen early; otherwise 0.
+#[unsafe(no_mangle)]
+pub unsafe extern "C" fn geolint_doomed(memory: *mut Memory) -> u32
+    ghost held: { Handle }
+    requires testable { Testable memory }
+    requires* handle { sem 𝓛 (if_non_null memory (lies_at the_row full_share memory held)) }
+    ensures* told { ∃ₛ (λ (new : Handle). sem 𝓛 (if_non_null memory (lies_at the_row full_share memory new)) ∗ ⌜ DoomedAt memory held result new ⌝) }
+{
+    let handle = memory as *mut Handle;
+    if handle.is_null() {
+        return 0;
+    }
+    (*handle).doomed()
 }
 
 /// The verdict of what was fed, and the end of the handle.
