@@ -1,3 +1,4 @@
 mod Locating
 mod Judging
 mod Out
+mod Quickly

@@ -5,3 +5,4 @@ pub mod Room
 pub mod Judged
 pub mod Located
 pub mod Run
+pub mod Quick

@@ -137,3 +137,7 @@ abbrev pub report : Verdict → Option Path → List ℕ
 report (Valid warnings) path = valid_report warnings
 report (Broken fault) path = broken_report fault path
 report (NotJson fault) path = refusal_line fault
+
+-- where nothing more is asked than whether an input is valid
+abbrev pub not_valid_line : List ℕ
+not_valid_line = codes "not valid\n"

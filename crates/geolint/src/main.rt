@@ -10,6 +10,7 @@ mod fault;
 mod lint;
 mod locate;
 mod options;
+mod quick;
 mod report;
 mod room;
 mod run;

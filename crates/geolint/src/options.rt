@@ -7,7 +7,8 @@ pub struct Options {
     pub limits: Limits,
     /// A valid input with a warning does not pass.
     pub strict: bool,
-    /// The reading may stop as soon as the input cannot be valid any more. It does not yet, so this changes nothing.
+    /// Only whether the input is valid is asked: the reading stops as soon as it cannot be any more, and nothing else is
+    /// said of an input that is not.
     pub quick: bool,
 }
 

@@ -2,7 +2,7 @@
 ghost use Rattle.std.specs.Prelude.{◌≡◌, ◌+◌, ◌≤◌, [], length, OnOk, IfErr};
 ghost use Rattle.std.specs.Io.KnownBytes.{Appends};
 ghost use Rattle.geolint.specs.Counts.{CountsFailure};
-ghost use Rattle.geolint.specs.Report.{cause_text, rule_text, refusal_line, broken_line, report};
+ghost use Rattle.geolint.specs.Report.{cause_text, rule_text, refusal_line, broken_line, not_valid_line, report};
 ghost use Rattle.geolint.specs.Room.{written_in, Adds};
 ghost use Rattle.geolint.specs.Written.{IsFrontOut};
 ghost use Rattle.geolint.specs.declared.room.TheConstants.{CAPACITY, MOST_LINE};
@@ -131,6 +131,16 @@ pub fn write_report<W: Sink>(
     let mut room = Room::new();
     push_report(verdict, path, &mut room);
     write_bytes(room.bytes(), writer)
+}
+
+/// Writes the line of an input that is not valid, of which nothing more is asked, as `write_report` does a report.
+pub fn write_not_valid<W: Sink>(writer: &mut W) -> Result<(), WriteFault>
+    ensures whole { OnOk result (Appends (W.taken writer.old) (W.taken writer.new) not_valid_line) }
+    ensures front { IfErr result (λ fault.
+        IsFrontOut (W.taken writer.old) (W.taken writer.new) not_valid_line fault.written) }
+    ensures failed { CountsFailure (W.failed_writes writer.old) (W.failed_writes writer.new) result }
+{
+    write_bytes(b"not valid\n", writer)
 }
 
 /// Writes how the program is called.

@@ -1,7 +1,8 @@
-ghost use Rattle.std.specs.Prelude.{◌≡◌, ℕ, ◌+◌, ◌≤◌, MatchResult, IfOk, OnOk, IfErr};
+ghost use Rattle.std.specs.Prelude.{◌≡◌, ℕ, ◌+◌, ◌≤◌, true, false, MatchResult, IfOk, OnOk, IfErr};
 ghost use Rattle.std.specs.Io.KnownBytes.{Appends};
 ghost use Rattle.geolint.specs.Counts.{one_more};
 ghost use Rattle.geolint.specs.Judged.{JudgesRead};
+ghost use Rattle.geolint.specs.Quick.{QuickRuns};
 ghost use Rattle.geolint.specs.Report.{report as report_of};
 ghost use Rattle.geolint.specs.Run.{CountsReadFault, CountsWriteFault, CountsOffset, Runs, RunsBy, Seeks, SeeksFor, SparesAtReadFault, ReadFaultOf, WriteFaultOf, outcome_of};
 
@@ -9,6 +10,7 @@ use crate::fault::RunFault;
 use crate::lint::lint_reader;
 use crate::locate::locate_reader;
 use crate::options::{Options, Outcome};
+use crate::quick::run_quickly;
 use crate::report::write_report;
 use crate::sink::Sink;
 use crate::source::Source;
@@ -17,6 +19,9 @@ use gj_json::{Limits, Path};
 use gj_rules::Verdict;
 
 /// Judges what the reader gives, writes the report of the verdict, and answers whether the input passes.
+///
+/// Under `quick` it is only asked whether the input is valid: of one that is not, no more is read than it takes to know
+/// it, and the line `not valid` stands for its report.
 ///
 /// After an error of the reader nothing was written. After one of the writer a front of the report was.
 pub fn run<S: Source, W: Sink>(
@@ -28,16 +33,22 @@ pub fn run<S: Source, W: Sink>(
     ensures reads { CountsReadFault (S.failed_reads reader.old) (S.failed_reads reader.new) result }
     ensures given { CountsOffset (S.bytes_given reader.old) (S.bytes_given reader.new) result }
     ensures writes { CountsWriteFault (W.failed_writes writer.old) (W.failed_writes writer.new) result }
-    ensures runs { Runs options (S.remaining reader.old) (S.remaining reader.new)
+    ensures runs { options.quick ≡ false → Runs options (S.remaining reader.old) (S.remaining reader.new)
+        (W.taken writer.old) (W.taken writer.new) result }
+    ensures quick { options.quick ≡ true → QuickRuns options (S.remaining reader.old) (S.remaining reader.new)
         (W.taken writer.old) (W.taken writer.new) result }
 {
+    if options.quick {
+        return run_quickly(reader, writer, options);
+    }
     let verdict = judge(reader, options.limits)?;
     report(verdict, None, writer, options.strict)
 }
 
 /// Judges what the first reader gives, and writes the report of the verdict. Where a rule is broken, the path of the value
 /// that breaks it is sought in the second reader, which is to give the same bytes; where it is not found there, or a read
-/// fails, the report has no path. Where none is broken, or the first reader fails, the second is not read.
+/// fails, the report has no path. Where none is broken, or the first reader fails, the second is not read, and never under
+/// `quick`, which is as for `run`.
 ///
 /// After an error of the first reader nothing was written. After one of the writer a front of the report was.
 pub fn run_with_path<S: Source, T: Source, W: Sink>(
@@ -52,10 +63,16 @@ pub fn run_with_path<S: Source, T: Source, W: Sink>(
     ensures reads { CountsReadFault (S.failed_reads first.old) (S.failed_reads first.new) result }
     ensures given { CountsOffset (S.bytes_given first.old) (S.bytes_given first.new) result }
     ensures writes { CountsWriteFault (W.failed_writes writer.old) (W.failed_writes writer.new) result }
-    ensures runs { RunsBy (λ verdict. SeeksFor verdict options.limits (T.remaining second.old) (T.remaining second.new)
+    ensures runs { options.quick ≡ false → RunsBy (λ verdict. SeeksFor verdict options.limits (T.remaining second.old) (T.remaining second.new)
         (T.failed_reads second.old) (T.failed_reads second.new) (T.reads second.old) (T.reads second.new))
         options (S.remaining first.old) (S.remaining first.new) (W.taken writer.old) (W.taken writer.new) result }
+    ensures quick { options.quick ≡ true → QuickRuns options (S.remaining first.old) (S.remaining first.new)
+        (W.taken writer.old) (W.taken writer.new) result }
+    ensures unread { options.quick ≡ true → second.new ≡ second.old }
 {
+    if options.quick {
+        return run_quickly(first, writer, options);
+    }
     let verdict = judge(first, options.limits)?;
     let path = sought_path(verdict, second, options.limits);
     report(verdict, path, writer, options.strict)
@@ -119,7 +136,7 @@ fn path_to<T: Source>(fault: Fault, reader: &mut T, limits: Limits) -> Option<Pa
 }
 
 /// Whether an input with this verdict passes: where the run is strict, only without a warning.
-fn outcome_of(verdict: Verdict, strict: bool) -> Outcome
+pub fn outcome_of(verdict: Verdict, strict: bool) -> Outcome
     ensures { result ≡ outcome_of strict verdict }
 {
     match verdict {

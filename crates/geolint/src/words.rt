@@ -76,11 +76,14 @@ fn with_options<'a>(alloc: Global, command: Command<'a>) -> Result<Command<'a>, 
     let strict = Arg::new(alloc, "strict")
         .long("strict")
         .action(ArgAction::SetTrue);
+    let quick = Arg::new(alloc, "quick")
+        .long("quick")
+        .action(ArgAction::SetTrue);
     let bytes = Arg::new(alloc, "max-bytes")
         .long("max-bytes")
         .action(ArgAction::Set)
         .value_parser(value_parser!(u64).range(1..=MOST_BYTES));
-    command.arg(strict)?.arg(bytes)
+    command.arg(strict)?.arg(quick)?.arg(bytes)
 }
 
 fn order_of(alloc: Global, matches: &ArgMatches<'_>) -> Result<Order, WordsFault> {
@@ -96,6 +99,7 @@ fn order_of(alloc: Global, matches: &ArgMatches<'_>) -> Result<Order, WordsFault
 fn options_of(given: &ArgMatches<'_>) -> Result<Options, WordsFault> {
     let mut options = Options::usual();
     options.strict = given.get_flag("strict");
+    options.quick = given.get_flag("quick");
     if let Some(bytes) = given.get_one::<u64>("max-bytes") {
         let depth = options.limits.depth();
         options.limits = Limits::new(depth, bytes).ok_or(WordsFault::Usage)?;

@@ -3,7 +3,7 @@
 use super::*;
 use crate::fault::{ReadFault, WriteFault};
 use crate::testing::{ArraySink, Ending, Endless, SliceSource};
-use gj_json::Limits;
+use gj_json::{Cause, JsonFault, Limits};
 use std::process::Abort;
 
 const POINT: &[u8] = b"{\"type\":\"Point\",\"coordinates\":[1,2]}";
@@ -77,6 +77,45 @@ fn expect(rt: &impl Abort, input: &[u8], limits: Limits, line: &str) {
     in_pieces(rt, input, (1, 1), limits, line);
     for cut in 1..input.len() {
         in_pieces(rt, input, (cut, usize::MAX), limits, line);
+    }
+}
+
+/// The verdict of an input that comes in pieces of at most so many bytes.
+fn verdict_of(input: &[u8], most: usize) -> Result<Verdict, ReadFault> {
+    lint_reader(&mut SliceSource::new(input, most, most), Limits::usual())
+}
+
+/// A text that ends with the bracket of its object ends too soon wherever it is cut.
+fn fronts_are_truncated(rt: &impl Abort, input: &[u8]) {
+    if !input.ends_with(b"}") {
+        return;
+    }
+    for length in 0..input.len() {
+        let fault = JsonFault {
+            place: length as u64,
+            cause: Cause::Truncated,
+        };
+        let verdict = verdict_of(&input[..length], usize::MAX);
+        assert!(rt; verdict == Ok(Verdict::NotJson(fault)), "cut at {length}");
+    }
+}
+
+/// The most bytes of an input whose bytes are replaced.
+const ROOM: usize = 160;
+
+/// With any byte replaced, the verdict of an input in one piece is that of its bytes one by one.
+fn replaced_bytes_in_pieces(rt: &impl Abort, input: &[u8]) {
+    let mut bytes = [0; ROOM];
+    let count = input.len().min(ROOM);
+    bytes[..count].copy_from_slice(&input[..count]);
+    for at in 0..count {
+        for byte in [0x00, b'"', b',', b'[', b']', b'{', 0x80, 0xFF] {
+            bytes[at] = byte;
+            let whole = verdict_of(&bytes[..count], usize::MAX);
+            let single = verdict_of(&bytes[..count], 1);
+            assert!(rt; whole == single, "{byte} at {at}");
+        }
+        bytes[at] = input[at];
     }
 }
 
@@ -318,6 +357,8 @@ fn texts_are_judged_by_the_rules(rt: HostRuntime) {
     ];
     for (input, line) in rows {
         expect(&rt, input, Limits::usual(), line);
+        fronts_are_truncated(&rt, input);
+        replaced_bytes_in_pieces(&rt, input);
     }
 }
 
@@ -354,6 +395,7 @@ fn other_bytes_are_no_text(rt: HostRuntime) {
     ];
     for (input, line) in rows {
         expect(&rt, input, Limits::usual(), line);
+        replaced_bytes_in_pieces(&rt, input);
     }
 }
 
@@ -373,8 +415,18 @@ fn a_text_has_at_most_the_bytes_allowed(rt: HostRuntime) {
 }
 
 #[test]
+fn brackets_without_end_are_too_deep(rt: HostRuntime) {
+    let mut sink = writer();
+    assert_eq!(rt;
+        run(&mut Endless::new(b'['), &mut sink, options(Limits::usual())),
+        Ok(Outcome::Fail)
+    );
+    assert_eq!(rt; sink.bytes(), "not JSON at 64: too deep\n".as_bytes());
+}
+
+#[test]
 fn a_failed_read_ends_a_run_with_no_report(rt: HostRuntime) {
-    for reads in 0..POINT.len() {
+    for reads in 0..POINT.len() + 1 {
         let offset = reads as u64;
         let mut reader = SliceSource::failing_after(POINT, offset);
         let mut sink = writer();
@@ -395,17 +447,18 @@ fn nothing_is_read_behind_a_refusal(rt: HostRuntime) {
 
 #[test]
 fn a_failed_write_leaves_a_front_of_the_report(rt: HostRuntime) {
-    let line = "not JSON at 4: truncated\n";
-    for room in 0..line.len() {
-        let mut reader = SliceSource::whole(b"[1,2");
-        let mut sink = ArraySink::new(1, room, Ending::Fails);
-        let written = room as u64;
-        let fault = RunFault::Write(WriteFault { written });
-        assert_eq!(rt;
-            run(&mut reader, &mut sink, options(Limits::usual())),
-            Err(fault)
-        );
-        assert_eq!(rt; sink.bytes(), &line.as_bytes()[..room], "room for {room}");
+    let turned = b"{\"type\":\"Polygon\",\"coordinates\":[[[0,0],[0,1],[1,1],[0,0]]]}";
+    let report = "valid\nwarning W2 count 1 first 33: ring runs the wrong way\n";
+    for room in 0..report.len() {
+        for ending in [Ending::Fails, Ending::TakesNothing] {
+            let mut reader = SliceSource::whole(turned);
+            let mut sink = ArraySink::new(1, room, ending);
+            let written = room as u64;
+            let fault = RunFault::Write(WriteFault { written });
+            let answer = run(&mut reader, &mut sink, options(Limits::usual()));
+            assert_eq!(rt; answer, Err(fault));
+            assert_eq!(rt; sink.bytes(), &report.as_bytes()[..room], "room for {room}");
+        }
     }
 }
 
@@ -500,6 +553,23 @@ fn without_a_second_reading_there_is_no_path(rt: HostRuntime) {
             "{which}"
         );
         assert_eq!(rt; sink.bytes(), line.as_bytes(), "{which}");
+    }
+}
+
+#[test]
+fn a_second_reading_that_fails_later_leaves_the_path(rt: HostRuntime) {
+    let line = "broken G15 at 33: ring not closed\n";
+    let report = "broken G15 at 33: ring not closed\npath $.coordinates[0]\n";
+    for reads in 0..35 {
+        let mut first = SliceSource::whole(OPEN_RING);
+        let mut second = SliceSource::failing_after(OPEN_RING, reads);
+        let mut sink = writer();
+        let wanted = if reads < 34 { line } else { report };
+        assert_eq!(rt;
+            run_with_path(&mut first, &mut second, &mut sink, options(Limits::usual())),
+            Ok(Outcome::Fail)
+        );
+        assert_eq!(rt; sink.bytes(), wanted.as_bytes(), "after {reads} reads");
     }
 }
 

@@ -34,6 +34,13 @@ impl<'a> SliceSource<'a> {
         SliceSource::new(bytes, usize::MAX, usize::MAX)
     }
 
+    /// Gives all that a piece has room for, and fails at the next read.
+    pub fn failing_after_one(bytes: &'a [u8]) -> SliceSource<'a> {
+        let mut source = SliceSource::whole(bytes);
+        source.failing = Some(1);
+        source
+    }
+
     /// Gives one byte a read, and fails at the read that so many others precede.
     pub fn failing_after(bytes: &'a [u8], reads: u64) -> SliceSource<'a> {
         let mut source = SliceSource::new(bytes, 1, 1);

@@ -36,6 +36,13 @@ fn leniently(limits: Limits) -> Options {
     options
 }
 
+fn quickly(strict: bool) -> Options {
+    let mut options = Options::usual();
+    options.strict = strict;
+    options.quick = true;
+    options
+}
+
 #[test]
 fn words_give_an_order(rt: HostRuntime) -> Result<(), Fail> {
     let rows = [
@@ -54,6 +61,12 @@ fn words_give_an_order(rt: HostRuntime) -> Result<(), Fail> {
             Some("a.json"),
         ),
         ("file -- --strict", Options::usual(), Some("--strict")),
+        ("stdin --quick", quickly(false), None),
+        (
+            "file --quick --strict a.json",
+            quickly(true),
+            Some("a.json"),
+        ),
         ("stdin --max-bytes 1", leniently(at_most(1)), None),
         (
             "stdin --max-bytes 1152921504606846976",
@@ -91,8 +104,8 @@ fn other_words_are_refused(rt: HostRuntime) -> Result<(), Fail> {
         ("stdin --max-bytes ten", WordsFault::Usage),
         ("stdin --max-bytes 1152921504606846977", WordsFault::Usage),
         ("stdin --max-bytes 1 --max-bytes 2", WordsFault::Usage),
-        ("stdin --quick", WordsFault::Usage),
-        ("file --quick a.json", WordsFault::Usage),
+        ("--quick", WordsFault::Usage),
+        ("stdin --quick --quick", WordsFault::Usage),
         ("--version", WordsFault::Usage),
         ("--help", WordsFault::Help),
         ("-h", WordsFault::Help),

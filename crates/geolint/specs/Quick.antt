@@ -1,0 +1,65 @@
+-- What a run does that asks only whether an input is valid: nothing is said of an input that is not but that it is not.
+use Rattle.std.specs.Prelude.{◌≡◌, ℕ, Bool, List, [], ◌++◌, length, Option, Some, None, ⊤, Result, Ok, Err}
+use Rattle.std.specs.Io.KnownBytes.{Appends, Consumes, Keeps}
+use Rattle.gj_json.specs.Limits.{Allowed}
+use Rattle.gj_coords.specs.declared.warnings.Warnings.{Warnings}
+use Rattle.gj_rules.specs.declared.verdict.Verdict.{Verdict}
+use Rattle.gj_rules.specs.declared.verdict.Verdict.TheVariants.{Valid}
+use Rattle.gj_rules.specs.Verdict.{IsVerdict, NeverValid}
+use Rattle.geolint.specs.declared.fault.RunFault.{RunFault}
+use Rattle.geolint.specs.declared.fault.RunFault.TheVariants.{Read, Write}
+use Rattle.geolint.specs.declared.options.Options.{Options}
+use Rattle.geolint.specs.declared.options.Outcome.{Outcome}
+use Rattle.geolint.specs.declared.options.Outcome.TheVariants.{Fail}
+use Rattle.geolint.specs.Report.{valid_report, not_valid_line}
+use Rattle.geolint.specs.Run.{outcome_of}
+use Rattle.geolint.specs.Written.{IsFrontOut}
+
+-- ---- the reading
+
+-- what is kept of a verdict: of a valid text its warnings
+abbrev pub valid_in : Verdict → Option Warnings
+valid_in (Valid warnings) = Some warnings
+valid_in _ = None
+
+-- a reader had all these bytes, and when it was left it had the rest: they are no valid text
+pub record IsNotValid (limits : Allowed) (all rest : List ℕ) : Type 0 where
+  pub read : List ℕ
+  pub split : all ≡ read ++ rest
+  -- where it was left before its end, no bytes behind those that were read make them one
+  pub lasting : (rest ≡ [] → ⊥) → NeverValid limits read
+  pub of_all : (warnings : Warnings) → IsVerdict limits all (Valid warnings) → ⊥
+
+-- a valid text was read to its end
+abbrev pub IsQuick : Allowed → List ℕ → List ℕ → Option Warnings → Type 0
+IsQuick limits all rest (Some warnings) = (rest ≡ []) × IsVerdict limits all (Valid warnings)
+IsQuick limits all rest None = IsNotValid limits all rest
+
+-- the same, where the reader tells its bytes
+abbrev pub JudgesQuickly : Allowed → Option (List ℕ) → Option (List ℕ) → Option Warnings → Type 0
+JudgesQuickly limits None new valid = ⊤
+JudgesQuickly limits (Some all) None valid = ⊥
+JudgesQuickly limits (Some all) (Some rest) valid = IsQuick limits all rest valid
+
+-- ---- the report
+
+abbrev pub quick_report : Option Warnings → List ℕ
+quick_report (Some warnings) = valid_report warnings
+quick_report None = not_valid_line
+
+abbrev pub quick_outcome : Bool → Option Warnings → Outcome
+quick_outcome strict (Some warnings) = outcome_of strict (Valid warnings)
+quick_outcome strict None = Fail
+
+-- ---- the run
+
+-- `had` and `left` are what the reader has to give before and after, `held` and `holds` what the writer has taken
+abbrev pub QuickRuns : Options → Option (List ℕ) → Option (List ℕ) → Option (List ℕ) → Option (List ℕ) → Result Outcome RunFault → Type 0
+-- the whole report went out
+QuickRuns options had left held holds (Ok outcome) =
+    (valid : Option Warnings) × JudgesQuickly options.limits had left valid × Appends held holds (quick_report valid) × (outcome ≡ quick_outcome options.strict valid)
+-- a front of it did
+QuickRuns options had left held holds (Err (Write fault)) =
+    (valid : Option Warnings) × JudgesQuickly options.limits had left valid × IsFrontOut held holds (quick_report valid) fault.written
+-- so many bytes came, and nothing went out
+QuickRuns options had left held holds (Err (Read fault)) = (read : List ℕ) × Consumes had left read × (length read ≡ fault.offset) × Keeps held holds

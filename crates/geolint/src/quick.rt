@@ -1,0 +1,133 @@
+//! A run that asks only whether an input is valid: it reads no further than it must to say no.
+ghost use Rattle.std.specs.Prelude.{◌≡◌, ℕ, List, ◌+◌, ◌<◌, ◌≤◌, length, MatchResult, IfOk, OnOk, IfErr};
+ghost use Rattle.std.specs.Io.KnownBytes.{Consumes, Appends};
+ghost use Rattle.geolint.specs.Counts.{CountsFailure, one_more};
+ghost use Rattle.geolint.specs.Quick.{JudgesQuickly, QuickRuns, valid_in, quick_report, quick_outcome};
+ghost use Rattle.geolint.specs.Run.{CountsReadFault, CountsWriteFault, CountsOffset, WriteFaultOf};
+ghost use Rattle.geolint.specs.Written.{IsFrontOut};
+
+use crate::fault::{ReadFault, RunFault, WriteFault};
+use crate::options::{Options, Outcome};
+use crate::report::{write_not_valid, write_report};
+use crate::run::outcome_of;
+use crate::sink::Sink;
+use crate::source::Source;
+use gj_coords::Warnings;
+use gj_json::Limits;
+use gj_rules::{Linter, Progress, Verdict, one_verdict};
+
+/// The most bytes of a read.
+const PIECE: usize = 8192;
+
+/// Reads an input until it ends or cannot be valid any more, and answers its warnings where it is valid.
+///
+/// No read follows the piece that says no. Reads and errors are as `lint_reader` has them.
+pub fn lint_quickly<S: Source>(
+    reader: &mut S,
+    limits: Limits,
+) -> Result<Option<Warnings>, ReadFault>
+    ensures few { S.reads reader.new ≤ S.reads reader.old + (limits.bytes + 1) }
+    ensures failed { CountsFailure (S.failed_reads reader.old) (S.failed_reads reader.new) result }
+    ensures given { IfErr result (λ fault. S.bytes_given reader.new < u64.MAX
+        → S.bytes_given reader.new ≡ S.bytes_given reader.old + fault.offset) }
+    ensures offset { IfErr result (λ fault.
+        (read : List ℕ) × Consumes (S.remaining reader.old) (S.remaining reader.new) read × (length read ≡ fault.offset)) }
+    ensures valid { IfOk result (λ valid.
+        JudgesQuickly limits (S.remaining reader.old) (S.remaining reader.new) valid) }
+{
+    let _most = limits.bytes();
+    one_verdict();
+    let mut linter = Linter::new(limits);
+    let mut piece = [0; PIECE];
+    let mut offset = 0;
+    loop {
+        match reader.read_piece(&mut piece) {
+            Err(_) => return Err(ReadFault { offset }),
+            Ok(0) => return Ok(valid_in(linter.finish())),
+            Ok(count) => {
+                offset += count as u64;
+                match linter.feed(&piece[..count]) {
+                    Progress::Refused(_) => return Ok(None),
+                    Progress::Open => {
+                        if linter.doomed() {
+                            return Ok(None);
+                        }
+                    }
+                }
+            }
+        }
+    }
+}
+
+/// The warnings of a valid text.
+fn valid_in(verdict: Verdict) -> Option<Warnings>
+    ensures { result ≡ valid_in verdict }
+{
+    match verdict {
+        Verdict::Valid(warnings) => Some(warnings),
+        _ => None,
+    }
+}
+
+/// Judges what the reader gives, and writes the report where it is valid, and otherwise the line `not valid`.
+///
+/// Errors are as `run` has them.
+pub fn run_quickly<S: Source, W: Sink>(
+    reader: &mut S,
+    writer: &mut W,
+    options: Options,
+) -> Result<Outcome, RunFault>
+    ensures few { S.reads reader.new ≤ S.reads reader.old + (options.limits.bytes + 1) }
+    ensures reads { CountsReadFault (S.failed_reads reader.old) (S.failed_reads reader.new) result }
+    ensures given { CountsOffset (S.bytes_given reader.old) (S.bytes_given reader.new) result }
+    ensures writes { CountsWriteFault (W.failed_writes writer.old) (W.failed_writes writer.new) result }
+    ensures runs { QuickRuns options (S.remaining reader.old) (S.remaining reader.new)
+        (W.taken writer.old) (W.taken writer.new) result }
+{
+    match lint_quickly(reader, options.limits) {
+        Err(fault) => Err(RunFault::Read(fault)),
+        Ok(valid) => report_quickly(valid, writer, options.strict),
+    }
+}
+
+/// Writes the report, and answers whether the input passes.
+fn report_quickly<W: Sink>(
+    valid: Option<Warnings>,
+    writer: &mut W,
+    strict: bool,
+) -> Result<Outcome, RunFault>
+    ensures writes { MatchResult result (λ outcome. W.failed_writes writer.new ≡ W.failed_writes writer.old)
+        (λ fault. W.failed_writes writer.new ≡ one_more (W.failed_writes writer.old)) }
+    ensures outcome { IfOk result (λ outcome. outcome ≡ quick_outcome strict valid) }
+    ensures whole { OnOk result (Appends (W.taken writer.old) (W.taken writer.new) (quick_report valid)) }
+    ensures fault { IfErr result (λ fault. WriteFaultOf (W.taken writer.old) (W.taken writer.new) (quick_report valid) fault) }
+{
+    match write_quickly(valid, writer) {
+        Ok(()) => Ok(quick_outcome(valid, strict)),
+        Err(fault) => Err(RunFault::Write(fault)),
+    }
+}
+
+fn write_quickly<W: Sink>(valid: Option<Warnings>, writer: &mut W) -> Result<(), WriteFault>
+    ensures whole { OnOk result (Appends (W.taken writer.old) (W.taken writer.new) (quick_report valid)) }
+    ensures front { IfErr result (λ fault.
+        IsFrontOut (W.taken writer.old) (W.taken writer.new) (quick_report valid) fault.written) }
+    ensures failed { CountsFailure (W.failed_writes writer.old) (W.failed_writes writer.new) result }
+{
+    match valid {
+        Some(warnings) => write_report(Verdict::Valid(warnings), None, writer),
+        None => write_not_valid(writer),
+    }
+}
+
+fn quick_outcome(valid: Option<Warnings>, strict: bool) -> Outcome
+    ensures { result ≡ quick_outcome strict valid }
+{
+    match valid {
+        Some(warnings) => outcome_of(Verdict::Valid(warnings), strict),
+        None => Outcome::Fail,
+    }
+}
+
+#[cfg(test)]
+mod tests;
