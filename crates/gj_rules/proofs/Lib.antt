@@ -24,3 +24,11 @@ pub mod Outermost
 pub mod RootObject
 pub mod DoomedTexts
 pub mod FlatFed
+pub mod Places
+pub mod PlacesWarned
+pub mod OpenRecords
+pub mod Cutting
+pub mod Sequences
+pub mod Deciding
+pub mod SequenceSteps
+pub mod OneSequence

@@ -5,6 +5,8 @@ pub mod TextWarnings
 pub mod Judged
 pub mod Levels
 pub mod Verdict
+pub mod Places
+pub mod Sequence
 pub mod Seen
 pub mod Summaries
 pub mod Read
@@ -19,3 +21,5 @@ pub mod Lost
 pub mod Kept
 pub mod Rules
 pub mod Linter
+pub mod OpenRecord
+pub mod SequenceStands

@@ -17,10 +17,12 @@ mod mode;
 mod opening;
 mod role;
 mod rules;
+mod sequence;
 mod shapes;
 mod shown;
 mod verdict;
 
 pub use linter::{Linter, Progress};
 pub use rules::Rules;
+pub use sequence::{SeqProgress, SeqVerdict, Sequence, one_sequence_verdict};
 pub use verdict::{Verdict, one_verdict};

@@ -1,0 +1,27 @@
+-- The objects with a role are those of the open record.
+use Rattle.std.proofs.Common.{◌≡◌, ℕ, ◌++◌, List, length, refl, ap, sym, subst, ◌∙◌, arith}
+use Rattle.gj_rules.specs.Judged.{judged_at}
+use Rattle.gj_json.specs.Text.{IsTextWithin}
+use Rattle.gj_rules.proofs.SequenceSteps.{live_of, in_of, last_record, some_record, no_record}
+use Rattle.gj_rules.proofs.sequence.Sequence.judged.Goals as goal
+
+pub returns-then-self-eq0-clause-open : goal.returns-then-self-eq0-clause-open
+returns-then-self-eq0-clause-open c = λ bytes rest before last text s live e t.
+    let self = c.args.self.now in
+    absurd (no_record self bytes before last (live_of self bytes live s) c.if-self-eq0.true e)
+
+pub returns-clause-none : goal.returns-clause-none
+returns-clause-none c = λ bytes s live e.
+    let self = c.args.self.now in
+    let h = live_of self bytes live s in
+    absurd (some_record self bytes h (in_of self bytes (omega (arith, c.if-self-eq0.false)) h) e)
+
+pub returns-clause-open : goal.returns-clause-open
+returns-clause-open c = λ bytes rest before last text s live e t.
+    let self = c.args.self.now in
+    let h = live_of self bytes live s in
+    let k = in_of self bytes (omega (arith, c.if-self-eq0.false)) h in
+    let g = last_record self bytes before last h k e in
+    let T : List ℕ → Type 0 = λ bs. IsTextWithin self.limits.depth text (bs ++ rest) in
+    let D : ℕ → Type 0 = λ d. IsTextWithin d text (k.given ++ rest) in
+    c.judged.ensures k.given rest text k.stands h.refusal (subst D (sym h.depth) (subst T (sym g) t)) ∙ ap (λ bs. judged_at (length bs) text) g

@@ -1,0 +1,16 @@
+-- The linter took all bytes of the record.
+use Rattle.std.proofs.Common.{◌≡◌, ℕ, ◌++◌, List, length, take, refl, ap, sym, subst, ◌∙◌}
+use Rattle.std.proofs.Math.Seq.{take-length}
+use Rattle.gj_json.specs.Text.{IsText}
+use Rattle.gj_json.specs.Open.{open_at}
+use Rattle.gj_rules.specs.Linter.{StandsFor as LinterStandsFor, offset_of}
+use Rattle.gj_rules.proofs.OpenRecords.{all_taken}
+use Rattle.gj_rules.proofs.sequence.open_record.OpenRecord.levels.Goals as goal
+
+pub returns : goal.returns
+returns c = λ bytes rest text h live t.
+    let linter = c.args.self.now.linter in
+    let e = all_taken c.bytes_taken.ensures.«open» linter bytes h.linter live in
+    let P : ℕ → Type 0 = λ n. IsText text (take n bytes ++ rest) in
+    let Q : List ℕ → Type 0 = λ bs. IsText text (bs ++ rest) in
+    c.levels.ensures.«open» bytes rest text h.linter (subst P (sym e) (subst Q (sym (take-length bytes)) t)) ∙ ap (λ n. open_at n text) e

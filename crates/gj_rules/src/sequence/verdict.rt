@@ -1,0 +1,81 @@
+//! The verdict of a text sequence, and a record's verdict as it counts in the input.
+ghost use Rattle.std.specs.Prelude.{◌≡◌, ℕ, ◌+◌, ◌≤◌, ◌^◌, List};
+ghost use Rattle.gj_json.specs.Limits.{Allowed};
+ghost use Rattle.gj_rules.specs.Places.{IsPlaceIn};
+
+use crate::verdict::{Verdict, one_verdict};
+use gj_coords::{Fault, Warnings};
+use gj_json::{Cause, JsonFault};
+
+/// What a text sequence is, as a whole (RFC 8142).
+#[derive(Clone, Copy, Debug, PartialEq, Eq)]
+pub enum SeqVerdict {
+    /// Each record is a GeoJSON text: how many there are, and what in them is likely wrong in use.
+    Valid { records: u64, warnings: Warnings },
+    /// The first record that is not valid, counted from 1, with its verdict. It is record 0 where a
+    /// byte stands before the first record.
+    Record { number: u64, verdict: Verdict },
+}
+
+ghost use Rattle.gj_rules.specs.Sequence.{if_ended, shifted_verdict, valid_warnings, IsSequenceVerdict};
+
+/// Under any limits each input has one verdict as a sequence, and no other. It does nothing: its
+/// contract is a law of the definitions.
+pub fn one_sequence_verdict()
+    ensures some { (limits : Allowed) (bytes : List ℕ) → (verdict : SeqVerdict) × IsSequenceVerdict limits bytes verdict }
+    ensures one { (limits : Allowed) (bytes : List ℕ) (first second : SeqVerdict) → IsSequenceVerdict limits bytes first →
+        IsSequenceVerdict limits bytes second → first ≡ second }
+{
+    one_verdict();
+}
+
+/// The verdict of a record that has so many bytes, given that of its bytes: a text that is not ended
+/// by LF is truncated.
+pub fn if_ended(verdict: Verdict, ended: bool, end: u64) -> Verdict
+    ensures { result ≡ if_ended ended end verdict }
+{
+    match verdict {
+        Verdict::NotJson(fault) => Verdict::NotJson(fault),
+        _ if ended => verdict,
+        _ => Verdict::NotJson(JsonFault {
+            place: end,
+            cause: Cause::Truncated,
+        }),
+    }
+}
+
+/// The verdict with each place so many bytes further on.
+pub fn shifted(verdict: Verdict, by: u64) -> Verdict
+    requires { (place : ℕ) → IsPlaceIn place verdict → place + by ≤ 2 ^ 61 }
+    ensures { result ≡ shifted_verdict by verdict }
+{
+    match verdict {
+        Verdict::Valid(warnings) => Verdict::Valid(warnings.shifted(by)),
+        Verdict::Broken(fault) => Verdict::Broken(Fault {
+            place: fault.place + by,
+            rule: fault.rule,
+        }),
+        Verdict::NotJson(fault) => Verdict::NotJson(shifted_fault(fault, by)),
+    }
+}
+
+/// The refusal so many bytes further on.
+pub fn shifted_fault(fault: JsonFault, by: u64) -> JsonFault
+    requires { fault.place + by ≤ 2 ^ 61 }
+    ensures { result ≡ record { place = fault.place + by; cause = fault.cause } }
+{
+    JsonFault {
+        place: fault.place + by,
+        cause: fault.cause,
+    }
+}
+
+/// The warnings of a valid record.
+pub fn valid_warnings(verdict: Verdict) -> Option<Warnings>
+    ensures { result ≡ valid_warnings verdict }
+{
+    match verdict {
+        Verdict::Valid(warnings) => Some(warnings),
+        _ => None,
+    }
+}
