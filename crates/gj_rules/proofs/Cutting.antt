@@ -1,8 +1,6 @@
 -- How an input is cut into records, as it goes on.
-use Rattle.std.proofs.Common.{◌≡◌, ℕ, zero, suc, ◌+◌, ◌-◌, ◌<◌, ◌≤◌, Bool, true, false, ◌&&◌, ◌||◌, not, nat_eq, nat_lt, if◌then◌else◌, List, [], ◌∷◌, ◌++◌, length, length-append, take, append_assoc, refl, ap, sym, subst, ◌∙◌, arith, add-zero}
-use Rattle.std.proofs.lemmas.Bool.Decides.{nat_tests}
-use Rattle.gj_json.specs.Limits.{Allowed}
-use Rattle.gj_rules.specs.Sequence.{separator, is_separator, begins_with_separator, has_separator, up_to_separator, SequenceRecord, records_from, records_of, is_stray}
+use Rattle.std.proofs.Common.{◌≡◌, ℕ, suc, ◌+◌, Bool, true, false, ◌&&◌, ◌||◌, not, if◌then◌else◌, List, [], ◌∷◌, ◌++◌, length, refl, ap, sym, ◌∙◌, arith, add-zero}
+use Rattle.gj_rules.specs.Sequence.{separator, is_separator, begins_with_separator, has_separator, up_to_separator, SequenceRecord, records_from}
 use Rattle.gj_rules.specs.SequenceStands.{closed}
 
 abbrev pub record_at : ℕ → List ℕ → Bool → SequenceRecord

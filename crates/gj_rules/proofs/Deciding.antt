@@ -1,24 +1,22 @@
 -- Which byte decides a sequence, and what it decides.
-use Rattle.std.proofs.Common.{◌≡◌, ℕ, zero, suc, ◌+◌, ◌-◌, ◌<◌, ◌≤◌, Bool, true, false, ◌&&◌, not, nat_eq, nat_lt, if◌then◌else◌, List, [], ◌∷◌, ◌++◌, length, length-append, get_or, take, append_assoc, append-nil, add-one, add-zero, refl, ap, sym, subst, ◌∙◌, arith}
+use Rattle.std.proofs.Common.{◌≡◌, ℕ, zero, suc, ◌+◌, ◌-◌, ◌<◌, ◌≤◌, Bool, true, false, ◌&&◌, not, nat_lt, if◌then◌else◌, List, [], ◌∷◌, ◌++◌, length, length-append, get_or, take, append_assoc, append-nil, add-zero, refl, ap, sym, subst, ◌∙◌, arith}
 use Rattle.std.proofs.lemmas.Bool.Decides.{nat_tests}
 use Rattle.std.proofs.Math.Seq.{take-append-add}
 use Rattle.gj_json.specs.declared.fault.Cause.{Cause}
 use Rattle.gj_json.specs.declared.fault.Cause.TheVariants.{Syntax, Truncated, Depth, Length}
 use Rattle.gj_json.specs.declared.fault.JsonFault.{JsonFault}
 use Rattle.gj_json.specs.Limits.{Allowed}
-use Rattle.gj_json.specs.Refusal.{Stops, RefusedFor, IsRefusal}
-use Rattle.gj_json.specs.Text.{IsTextWithin, IsText, IsViable, IsViableWithin}
-use Rattle.gj_json.specs.Tree.{Text}
+use Rattle.gj_json.specs.Refusal.{Stops, RefusedFor}
+use Rattle.gj_json.specs.Text.{IsTextWithin, IsViable, IsViableWithin}
 use Rattle.gj_coords.specs.declared.warnings.Warnings.{Warnings}
 use Rattle.gj_rules.specs.declared.sequence.verdict.SeqVerdict.{SeqVerdict}
 use Rattle.gj_rules.specs.declared.verdict.Verdict.{Verdict}
 use Rattle.gj_rules.specs.declared.verdict.Verdict.TheVariants.{Valid, Broken, NotJson}
-use Rattle.gj_rules.specs.Sequence.{separator, is_separator, begins_with_separator, has_separator, up_to_separator, SequenceRecord, records_from, records_of, shifted_verdict, not_json, if_cut, record_end, own_limits, IsRecordVerdict, is_valid, AllValid, IsFirstFailing, is_stray, IsJudgedBy, IsSequenceVerdict, IsUndecided, IsDecidedAt}
+use Rattle.gj_rules.specs.Sequence.{separator, is_separator, begins_with_separator, has_separator, up_to_separator, SequenceRecord, records_from, records_of, shifted_verdict, not_json, if_cut, record_end, own_limits, IsRecordVerdict, is_valid, AllValid, IsFirstFailing, is_stray, IsJudgedBy, IsSequenceVerdict, IsUndecided}
 use Rattle.gj_rules.specs.SequenceStands.{closed, IsSettled}
 use Rattle.gj_rules.specs.Verdict.{IsVerdict}
-use Rattle.gj_rules.proofs.Cutting.{record_at, first_plain, rest_plain, begins_plain, up_to_plain, none_in_plain, cut_at, cut_open}
-use Rattle.gj_rules.proofs.OpenRecords.{stop_short}
-use Rattle.gj_rules.proofs.Sequences.{fitting, going_on, ByByte, by_byte, Lasting, refused_record, snoc_last, open_last, undecided, undecided_none, still_open}
+use Rattle.gj_rules.proofs.Cutting.{record_at, first_plain, rest_plain, up_to_plain, cut_at, cut_open}
+use Rattle.gj_rules.proofs.Sequences.{going_on, ByByte, by_byte, Lasting, refused_record, snoc_last, undecided, undecided_none, still_open}
 
 -- ---- lists of bytes
 

@@ -1,5 +1,5 @@
 -- What the first events of a text show of it, and what the rules keep of them.
-use Rattle.std.proofs.Common.{◌≡◌, ℕ, zero, suc, ◌+◌, ◌≤◌, Bool, true, false, ◌&&◌, ◌||◌, if◌then◌else◌, List, [], ◌∷◌, ◌++◌, map, inl, inr, Option, Some, None, is_some, refl, sym, ap, subst, ◌∙◌}
+use Rattle.std.proofs.Common.{◌≡◌, ℕ, zero, suc, ◌+◌, ◌≤◌, Bool, true, false, ◌||◌, if◌then◌else◌, List, [], ◌∷◌, ◌++◌, map, inl, inr, Option, Some, None, is_some, refl, sym, ap, subst, ◌∙◌}
 use Rattle.std.proofs.lemmas.Bool.{or_left, or_right, or_cases}
 use Rattle.gj_json.specs.declared.constant.Constant.TheVariants.{Null, True, False}
 use Rattle.gj_json.specs.declared.event.Event.{Event}
@@ -26,7 +26,7 @@ use Rattle.gj_rules.specs.declared.mode.Mode.TheVariants.{Names, Done}
 use Rattle.gj_rules.specs.declared.rules.Rules.{Rules}
 use Rattle.gj_rules.specs.declared.shown.Slot.{Slot}
 use Rattle.gj_rules.specs.declared.shown.TypeValue.{TypeValue}
-use Rattle.gj_rules.specs.Doomed.{outermost, names, first_type, repeats, any_of, forbidden_by, type_fails, members_fail, unmarked_fails, is_doomed}
+use Rattle.gj_rules.specs.Doomed.{names, first_type, repeats, any_of, type_fails, members_fail, unmarked_fails, is_doomed}
 use Rattle.gj_rules.specs.Faults.{faults, text_faults}
 use Rattle.gj_rules.specs.Frame as F
 use Rattle.gj_rules.specs.Kept.{core_of}
@@ -35,10 +35,10 @@ use Rattle.gj_rules.specs.Members.{mentions}
 use Rattle.gj_rules.specs.Role.{is_allowed}
 use Rattle.gj_rules.specs.Rules.{StandsFor}
 use Rattle.gj_rules.specs.Shown as S
-use Rattle.gj_rules.specs.Step.{Core, State, step, run, start, skip}
+use Rattle.gj_rules.specs.Step.{State, step, run, start, skip}
 use Rattle.gj_rules.specs.Summaries.{shape_for}
 use Rattle.gj_rules.specs.TextKept.{marked_kept}
-use Rattle.gj_rules.specs.Told.{Told, plain, event_of, told, elements_told, members_told, mark_told, text_told}
+use Rattle.gj_rules.specs.Told.{Told, plain, event_of, told, members_told, mark_told}
 use Rattle.gj_rules.proofs.Closed.{all_closed}
 use Rattle.gj_rules.proofs.Cuts.{front_text}
 use Rattle.gj_rules.proofs.Growth.{Keeps, lesser_first, lesser_second}

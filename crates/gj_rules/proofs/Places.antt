@@ -1,12 +1,12 @@
 -- The places that the faults and the warnings of a text tell are places of it.
-use Rattle.std.proofs.Common.{◌≡◌, ℕ, zero, suc, ◌+◌, ◌<◌, ◌≤◌, min, Bool, true, false, if◌then◌else◌, List, [], ◌∷◌, ◌++◌, length, length-append, map, filter, take, drop, Option, Some, None, unwrap_or, refl, ap, sym, ◌∙◌, subst, arith}
+use Rattle.std.proofs.Common.{◌≡◌, ℕ, zero, suc, ◌+◌, ◌≤◌, Bool, true, false, if◌then◌else◌, List, [], ◌∷◌, ◌++◌, length, length-append, take, drop, Option, Some, None, ap, ◌∙◌, subst, arith}
 use Rattle.std.specs.List.{AllByRecursion, flat_map}
 use Rattle.gj_json.specs.declared.constant.Constant.{Constant}
 use Rattle.gj_json.specs.declared.constant.Constant.TheVariants.{Null, True, False}
 use Rattle.gj_json.specs.declared.names.Known.{Known}
 use Rattle.gj_json.specs.declared.names.Known.TheVariants.{TypeName, Coordinates, Geometries, Geometry, Properties, Features, Bbox, Id, Crs, Other}
 use Rattle.gj_json.specs.declared.names.Word.{Word}
-use Rattle.gj_json.specs.Grammar.{Then, Quoted, Spells, SpellsElements, SpellsMoreElements, SpellsMembers, SpellsMoreMembers}
+use Rattle.gj_json.specs.Grammar.{Then, Spells, SpellsElements, SpellsMoreElements, SpellsMembers, SpellsMoreMembers}
 use Rattle.gj_json.specs.Names.{known_of}
 use Rattle.gj_json.specs.Text.{IsText}
 use Rattle.gj_json.specs.Tree.{Tree, constant, number, string, array, object, Elements, end_of_array, element, Members, end_of_object, member, Text}
@@ -18,7 +18,6 @@ use Rattle.gj_coords.specs.declared.simple.Simple.{Simple}
 use Rattle.gj_coords.specs.Fault.{fault_at, comes_first, lesser, least}
 use Rattle.gj_coords.specs.Items.{items, elements_of, place_of}
 use Rattle.gj_coords.specs.Box.{box_number, is_wrong_length, bbox_faults}
-use Rattle.gj_coords.specs.Ring.{agree, last_of}
 use Rattle.gj_coords.specs.Shape.{Shape, misshapen, few, unheld, held_number, any_number, position, several, list, line, unclosed, ring, or_empty, shape_of, coordinates_faults}
 use Rattle.gj_rules.specs.declared.role.Role.{Role}
 use Rattle.gj_rules.specs.declared.shown.TypeValue.{TypeValue}

@@ -1,5 +1,5 @@
 -- The places that the warnings of a text tell are places of it.
-use Rattle.std.proofs.Common.{◌≡◌, ℕ, ◌<◌, ◌≤◌, ◌==◌, min, Bool, true, false, not, ◌&&◌, if◌then◌else◌, nat_lt, List, [], ◌∷◌, ◌++◌, length, map, filter, take, Option, Some, None, unwrap_or, refl, ap, sym, ◌∙◌, subst, arith}
+use Rattle.std.proofs.Common.{◌≡◌, ℕ, ◌≤◌, ◌==◌, Bool, true, false, not, ◌&&◌, if◌then◌else◌, nat_lt, List, [], ◌∷◌, length, take, Option, Some, None, unwrap_or, refl, ap, ◌∙◌, arith}
 use Rattle.std.specs.List.{AllByRecursion, flat_map}
 use Rattle.gj_json.specs.declared.names.Known.{Known}
 use Rattle.gj_json.specs.declared.names.Known.TheVariants.{TypeName, Coordinates, Geometries, Geometry, Properties, Features, Bbox, Id, Crs, Other}
@@ -8,7 +8,7 @@ use Rattle.gj_json.specs.Names.{known_of}
 use Rattle.gj_json.specs.Text.{IsText}
 use Rattle.gj_json.specs.Tree.{Tree, constant, number, string, array, object, Elements, end_of_array, element, Members, end_of_object, member, Text}
 use Rattle.gj_coords.specs.declared.kind.Kind.{Kind}
-use Rattle.gj_coords.specs.declared.kind.Kind.TheVariants.{W1, W2, W3, W4, W5, W6, W7, W8, W9}
+use Rattle.gj_coords.specs.declared.kind.Kind.TheVariants.{W1, W2, W3, W4, W5, W8, W9}
 use Rattle.gj_coords.specs.declared.noted.Noted.{Noted}
 use Rattle.gj_coords.specs.declared.simple.Simple.{Simple}
 use Rattle.gj_coords.specs.declared.warnings.Warnings.{Warnings}
@@ -19,14 +19,14 @@ use Rattle.gj_coords.specs.Noted.{noted_of, kept, warnings_of, first_in}
 use Rattle.gj_coords.specs.Ring.{exact_value}
 use Rattle.gj_coords.specs.Shape.{position, ring}
 use Rattle.gj_coords.specs.WarningLaws.{kept_by_kind}
-use Rattle.gj_coords.specs.Warnings.{Warning, warning_at, same_kind, places_of, least_place, lesser_place, first_of}
+use Rattle.gj_coords.specs.Warnings.{Warning, same_kind, places_of, least_place, lesser_place, first_of}
 use Rattle.gj_coords.specs.Winding.{in_range, exterior_runs_wrong, hole_runs_wrong}
 use Rattle.gj_rules.specs.declared.role.Role.{Role}
 use Rattle.gj_rules.specs.declared.shown.TypeValue.{TypeValue}
 use Rattle.gj_rules.specs.Members.{same, first_type}
 use Rattle.gj_rules.specs.Role.{is_allowed}
 use Rattle.gj_rules.specs.TextWarnings
-use Rattle.gj_rules.proofs.Places.{Within, WithinElements, WithinMembers, all_append, all_flat, all_if, all_take, elements_within, items_within, place_within, text_within}
+use Rattle.gj_rules.proofs.Places.{Within, WithinElements, WithinMembers, all_append, all_flat, all_if, all_take, elements_within, place_within, text_within}
 
 abbrev WarningsIn : ℕ → List Warning → Type 0
 WarningsIn n warnings = AllByRecursion (λ warning. warning.place ≤ n) warnings

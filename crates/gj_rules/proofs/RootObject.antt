@@ -1,7 +1,5 @@
 -- What the text's object has shown after some events of its members, and what comes of it at its end.
-use Rattle.std.proofs.Common.{◌≡◌, ℕ, suc, ◌+◌, Bool, true, false, ◌&&◌, ◌||◌, if◌then◌else◌, List, [], ◌∷◌, ◌++◌, map, ◌⊎◌, inl, inr, Option, Some, None, is_some, refl, sym, ap, subst, ◌∙◌, append_assoc, append-nil}
-use Rattle.std.proofs.lemmas.Bool.{or_left, or_right, or_cases}
-use Rattle.gj_json.specs.declared.event.Event.{Event}
+use Rattle.std.proofs.Common.{◌≡◌, ℕ, ◌+◌, Bool, true, false, ◌&&◌, ◌||◌, if◌then◌else◌, List, [], ◌∷◌, ◌++◌, ◌⊎◌, inl, inr, Option, Some, None, is_some, refl, sym, ap, subst, ◌∙◌, append_assoc}
 use Rattle.gj_json.specs.declared.event.What.{What}
 use Rattle.gj_json.specs.declared.event.What.TheVariants as W
 use Rattle.gj_json.specs.declared.names.Known.{Known}
@@ -18,20 +16,20 @@ use Rattle.gj_rules.specs.declared.shown.Slot.{Slot}
 use Rattle.gj_rules.specs.declared.shown.TypeValue.{TypeValue}
 use Rattle.gj_coords.specs.Items.{place_of}
 use Rattle.gj_rules.specs.Doomed.{names, first_type, repeats}
-use Rattle.gj_rules.specs.Faults.{First, first, judge}
+use Rattle.gj_rules.specs.Faults.{First, judge}
 use Rattle.gj_rules.specs.Frame as F
 use Rattle.gj_rules.specs.Lost.{slot_fails, is_lost}
 use Rattle.gj_rules.specs.Members.{is_known, same, mentions, again, type_of}
 use Rattle.gj_rules.specs.Shown.{slot_of, uses, named, named_known, due_known, due_after, filled, member_taken, members_taken, type_set}
 use Rattle.gj_rules.specs.Step.{State, step, run}
 use Rattle.gj_rules.specs.Summaries.{no_shapes, shapes_of}
-use Rattle.gj_rules.specs.Told.{Told, plain, event_of, told, members_told}
+use Rattle.gj_rules.specs.Told.{Told, plain, told, members_told}
 use Rattle.gj_json.specs.declared.constant.Constant.TheVariants.{Null, True, False}
 use Rattle.gj_rules.proofs.Growth.{Keeps, lesser_first, Worse, worse_same, worse_twice, worse_named, lost_worse, TypeGrows, type_same, Grows, grows_same, grows_joined, grows_shapes}
 use Rattle.gj_rules.proofs.Leads.{st, due_st}
-use Rattle.gj_rules.proofs.Member.{slot_from, same_is}
+use Rattle.gj_rules.proofs.Member.{same_is}
 use Rattle.gj_rules.proofs.Members.{Mentions, mentions_step, member_object, type_from, type_after, shapes_from, shapes_after, repeated_after}
-use Rattle.gj_rules.proofs.InsideValues.{In, Thru, thru_run, thru_at, root, on_due, array_rest, object_rest}
+use Rattle.gj_rules.proofs.InsideValues.{Thru, thru_run, thru_at, root, on_due, array_rest, object_rest}
 use Rattle.gj_rules.proofs.Outermost.{own, first_what, own_value, own_part, names_value, or_word, typed_by, first_type_member, first_type_name}
 
 -- ---- after whole members

@@ -1,5 +1,5 @@
 -- What a sequence stands for, from step to step.
-use Rattle.std.proofs.Common.{◌≡◌, ◌⊎◌, inl, inr, ⊎_elim, ℕ, zero, suc, ◌+◌, ◌-◌, ◌<◌, ◌≤◌, ◌^◌, Bool, true, false, List, [], ◌∷◌, ◌++◌, length, length-append, take, drop, append_assoc, append-nil, Option, Some, None, refl, ap, sym, subst, ◌∙◌, arith, add-zero}
+use Rattle.std.proofs.Common.{◌≡◌, ◌⊎◌, inl, inr, ⊎_elim, ℕ, zero, suc, ◌+◌, ◌-◌, ◌<◌, ◌≤◌, Bool, true, false, List, [], ◌∷◌, ◌++◌, length, length-append, take, drop, append_assoc, append-nil, Option, Some, None, refl, ap, sym, subst, ◌∙◌, arith}
 use Rattle.std.proofs.lemmas.List.{take_all, length-drop}
 use Rattle.gj_json.specs.declared.fault.JsonFault.{JsonFault}
 use Rattle.gj_json.specs.Limits.{Allowed}
@@ -15,17 +15,15 @@ use Rattle.gj_rules.specs.declared.sequence.SeqProgress.TheVariants as Progress
 use Rattle.gj_rules.specs.declared.sequence.SeqProgress.{SeqProgress}
 use Rattle.gj_rules.specs.declared.sequence.Sequence.{Sequence}
 use Rattle.gj_rules.specs.declared.sequence.verdict.SeqVerdict.{SeqVerdict}
-use Rattle.gj_rules.specs.Linter.{refusal_of}
 use Rattle.gj_rules.specs.Verdict.{IsVerdict}
-use Rattle.gj_rules.specs.OpenRecord.{StandsFor as RecordStandsFor}
-use Rattle.gj_rules.specs.Sequence.{separator, has_separator, SequenceRecord, records_from, records_of, AllValid, IsSequenceVerdict, IsUndecided, IsDecidedAt, is_stray}
+use Rattle.gj_rules.specs.Sequence.{separator, has_separator, SequenceRecord, records_from, records_of, AllValid, IsSequenceVerdict, IsUndecided, is_stray}
 use Rattle.gj_rules.specs.SequenceStands.{closed, IsIn, IsBefore, IsAt, IsLive, IsSettled, StandsBy, StandsFor, has_decided, is_decided, decided_as, says_decided, Answers}
 use Rattle.gj_rules.specs.declared.verdict.Verdict.{Verdict}
 use Rattle.gj_rules.specs.declared.verdict.Verdict.TheVariants.{Valid, Broken, NotJson}
 use Rattle.gj_rules.specs.OpenRecord.{fault_shifted}
 use Rattle.gj_rules.specs.Sequence.{IsRecordVerdict, IsJudgedBy, is_separator, is_valid, valid_warnings, not_json}
 use Rattle.gj_rules.proofs.Cutting.{record_at, plain-append, cut_open}
-use Rattle.gj_rules.proofs.Deciding.{Known, known_undecided, known_length, regroup, begun_more, closed_more, closed_again, first_failing, settled_refused, settled_failing, settled_long, settled_stray}
+use Rattle.gj_rules.proofs.Deciding.{Known, known_undecided, regroup, begun_more, closed_more, closed_again, first_failing, settled_refused, settled_failing, settled_long, settled_stray}
 use Rattle.gj_rules.proofs.Sequences.{undecided_none, fitting, snoc_last, one_more, Lasting}
 
 -- no byte has decided

@@ -1,5 +1,5 @@
 -- What each byte of a sequence decides, and what its end does.
-use Rattle.std.proofs.Common.{◌≡◌, ℕ, zero, suc, ◌+◌, ◌-◌, ◌<◌, ◌≤◌, ◌^◌, Bool, true, false, not, nat_eq, nat_lt, if◌then◌else◌, List, [], ◌∷◌, ◌++◌, length, length-append, take, append_assoc, append-nil, Option, Some, None, refl, ap, sym, subst, ◌∙◌, arith, add-zero}
+use Rattle.std.proofs.Common.{◌≡◌, ℕ, ◌+◌, ◌-◌, ◌≤◌, Bool, true, false, nat_lt, List, [], ◌∷◌, ◌++◌, length, length-append, take, refl, ap, sym, subst, ◌∙◌, arith}
 use Rattle.std.proofs.lemmas.Bool.Decides.{nat_tests}
 use Rattle.std.proofs.Math.Seq.{take-append-add}
 use Rattle.std.proofs.lemmas.List.{take_all}
@@ -8,16 +8,13 @@ use Rattle.gj_json.specs.declared.fault.Cause.TheVariants.{Syntax, Truncated, De
 use Rattle.gj_json.specs.declared.fault.JsonFault.{JsonFault}
 use Rattle.gj_json.specs.Limits.{Allowed}
 use Rattle.gj_json.specs.Refusal.{Stops, RefusedFor, IsRefusal}
-use Rattle.gj_json.specs.Text.{IsViable, IsViableWithin}
+use Rattle.gj_json.specs.Text.{IsViableWithin}
 use Rattle.gj_coords.specs.declared.warnings.Warnings.{Warnings}
 use Rattle.gj_coords.specs.Noted.{no_warnings, joined}
-use Rattle.gj_rules.specs.declared.sequence.verdict.SeqVerdict.{SeqVerdict}
-use Rattle.gj_rules.specs.declared.verdict.Verdict.{Verdict}
-use Rattle.gj_rules.specs.declared.verdict.Verdict.TheVariants.{Valid, Broken, NotJson}
-use Rattle.gj_rules.specs.Sequence.{separator, is_separator, begins_with_separator, has_separator, up_to_separator, SequenceRecord, records_from, records_of, shifted_verdict, not_json, if_ended, cut_fault, if_cut, record_end, own_limits, ends_in_line_feed, IsRecordVerdict, is_valid, AllValid, IsFirstFailing, is_stray, IsJudgedBy, IsSequenceVerdict, IsOpenIn, AreOpen, IsUndecided, IsDecidedAt}
-use Rattle.gj_rules.specs.SequenceStands.{closed, IsSettled}
-use Rattle.gj_rules.specs.Verdict.{IsVerdict}
-use Rattle.gj_rules.proofs.Cutting.{record_at, first_plain, rest_plain, begins_plain, plain-append, up_to_plain, cut_at, last_one, cut_open}
+use Rattle.gj_rules.specs.declared.verdict.Verdict.TheVariants.{Valid, NotJson}
+use Rattle.gj_rules.specs.Sequence.{separator, has_separator, SequenceRecord, records_from, records_of, shifted_verdict, not_json, if_ended, cut_fault, record_end, own_limits, ends_in_line_feed, IsRecordVerdict, AllValid, is_stray, IsOpenIn, AreOpen, IsUndecided}
+use Rattle.gj_rules.specs.SequenceStands.{closed}
+use Rattle.gj_rules.proofs.Cutting.{record_at, cut_open}
 use Rattle.gj_rules.proofs.OpenRecords.{stop_short}
 
 -- ---- the input under its limit

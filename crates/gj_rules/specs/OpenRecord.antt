@@ -1,5 +1,5 @@
 -- Internal: what the open record of a sequence stands for, and what its calls answer.
-use Rattle.std.specs.Prelude.{◌≡◌, ℕ, ◌+◌, List, ◌++◌, length}
+use Rattle.std.specs.Prelude.{◌≡◌, ℕ, ◌+◌, List, length}
 use Rattle.gj_json.specs.declared.fault.JsonFault.{JsonFault}
 use Rattle.gj_json.specs.Limits.{Allowed}
 use Rattle.gj_rules.specs.declared.linter.Progress.{Progress}

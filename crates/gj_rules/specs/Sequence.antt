@@ -6,7 +6,6 @@ use Rattle.gj_json.specs.Bytes.{line_feed}
 use Rattle.gj_json.specs.Text.{IsViableWithin}
 use Rattle.gj_json.specs.declared.fault.Cause.{Cause}
 use Rattle.gj_json.specs.declared.fault.Cause.TheVariants.{Syntax, Truncated, Depth, Length}
-use Rattle.gj_json.specs.declared.fault.JsonFault.{JsonFault}
 use Rattle.gj_coords.specs.Fault.{fault_at}
 use Rattle.gj_coords.specs.Noted.{no_warnings, joined, shifted}
 use Rattle.gj_coords.specs.declared.warnings.Warnings.{Warnings}

@@ -1,5 +1,5 @@
 -- Internal: what a `Sequence` stands for; and what its calls answer, which is public.
-use Rattle.std.specs.Prelude.{◌≡◌, ℕ, zero, suc, ◌+◌, ◌^◌, ◌≤◌, ◌<◌, List, [], ◌∷◌, ◌++◌, length, Bool, true, false, ◌&&◌, not, if◌then◌else◌, Option, Some, None}
+use Rattle.std.specs.Prelude.{◌≡◌, ℕ, zero, suc, ◌+◌, ◌≤◌, List, [], ◌∷◌, ◌++◌, length, Bool, true, false, ◌&&◌, not, if◌then◌else◌, Option, Some, None}
 use Rattle.gj_json.specs.Limits.{Allowed}
 use Rattle.gj_json.specs.Text.{IsViableWithin}
 use Rattle.gj_coords.specs.Noted.{no_warnings}
@@ -10,7 +10,7 @@ use Rattle.gj_rules.specs.declared.sequence.Sequence.{Sequence}
 use Rattle.gj_rules.specs.declared.sequence.verdict.SeqVerdict.{SeqVerdict}
 use Rattle.gj_rules.specs.Linter.{refusal_of}
 use Rattle.gj_rules.specs.OpenRecord.{StandsFor as RecordStandsFor}
-use Rattle.gj_rules.specs.Sequence.{separator, is_separator, begins_with_separator, has_separator, up_to_separator, SequenceRecord, AllValid, is_stray, is_valid, IsSequenceVerdict, IsUndecided, IsDecidedAt}
+use Rattle.gj_rules.specs.Sequence.{separator, is_separator, begins_with_separator, has_separator, up_to_separator, SequenceRecord, AllValid, is_stray, IsSequenceVerdict, IsUndecided, IsDecidedAt}
 
 -- what a sequence is judged under
 abbrev pub limits_of : Sequence → Allowed

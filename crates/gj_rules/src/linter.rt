@@ -102,21 +102,41 @@ impl Linter {
     }
 
     /// The verdict of the input that was fed, however it came in pieces.
-    pub fn finish(self) -> Verdict
+    pub fn finish(mut self) -> Verdict
         ensures verdict { (bytes : List ℕ) → StandsFor self bytes → IsVerdict (limits_of self) bytes result }
         ensures again { (fault : JsonFault) → refusal_of self ≡ Some fault → result ≡ Verdict.NotJson fault }
+    {
+        self.end()
+    }
+
+    /// The verdict of the input that was fed. What the linter then stands for is not said.
+    fn end(&mut self) -> Verdict
+        ensures verdict { (bytes : List ℕ) → StandsFor self.old bytes → IsVerdict (limits_of self.old) bytes result }
+        ensures again { (fault : JsonFault) → refusal_of self.old ≡ Some fault → result ≡ Verdict.NotJson fault }
     {
         bytes_taken();
         few_events();
         kept_warnings();
-        let Linter { mut rules, reader } = self;
-        match reader.finish() {
+        match self.reader.finish() {
             Err(fault) => Verdict::NotJson(fault),
             Ok(last) => {
-                tell_last(&mut rules, last);
-                verdict_of(rules.fault(), rules.warnings())
+                tell_last(&mut self.rules, last);
+                verdict_of(self.rules.fault(), self.rules.warnings())
             }
         }
+    }
+
+    /// The verdict of the input that was fed. From then on the linter is as a new one under these limits, where it lies.
+    pub(crate) fn finish_and_begin(&mut self, limits: Limits) -> Verdict
+        ensures verdict { (bytes : List ℕ) → StandsFor self.old bytes → IsVerdict (limits_of self.old) bytes result }
+        ensures stands { StandsFor self.new [] }
+        ensures limits { limits_of self.new ≡ limits }
+        ensures refusal { refusal_of self.new ≡ None }
+    {
+        let verdict = self.end();
+        self.rules.begin_again();
+        self.reader = Reader::new(limits);
+        verdict
     }
 
     /// An early no: where it answers true, no input that begins with the bytes fed is valid, so that nothing more

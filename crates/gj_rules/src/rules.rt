@@ -79,6 +79,24 @@ impl Rules {
         }
     }
 
+    /// Before the first event of another text, whatever was told: the few fields are written that say which others count.
+    pub fn begin_again(&mut self)
+        ensures stands { StandsFor self.new [] }
+    {
+        self.start_again();
+    }
+
+    fn start_again(&mut self)
+        ensures core { core_of self.new ≡ start.core }
+        ensures holds { Holds self.new [] }
+    {
+        self.frames[0].again(Role::Root, 0);
+        self.around = 0;
+        self.answer.clear();
+        self.mode = Mode::RootDue;
+        self.skipped = 0;
+    }
+
     /// The least fault of the text whose events were told.
     pub fn fault(&self) -> Option<Fault>
         ensures { (text : Text) → depth text.value ≤ most_levels → StandsFor self.now (all_events text) → result ≡ least (text_faults text) }

@@ -8,7 +8,6 @@ use crate::sequence::SEPARATOR;
 use crate::sequence::verdict::{if_ended, shifted, shifted_fault};
 use crate::verdict::Verdict;
 use gj_json::{JsonFault, Limits, bytes_taken};
-use std::mem;
 
 const LINE_FEED: u8 = b'\n';
 
@@ -122,12 +121,8 @@ impl OpenRecord {
         ensures refusal { refusal_of self.new.linter ≡ None }
     {
         places_within();
-        let linter = mem::replace(&mut self.linter, Linter::new(self.limits));
-        let own = if_ended(
-            linter.finish(),
-            self.last == LINE_FEED,
-            self.end - self.start,
-        );
+        let ended = self.linter.finish_and_begin(self.limits);
+        let own = if_ended(ended, self.last == LINE_FEED, self.end - self.start);
         let verdict = shifted(own, self.start);
         self.start = next;
         self.end = next;

@@ -1,5 +1,5 @@
 -- No byte before the place that was found is a separator.
-use Rattle.std.proofs.Common.{◌≡◌, ℕ, zero, suc, ◌+◌, ◌<◌, ◌≤◌, Bool, true, false, List, [], ◌∷◌, length, take, slice_index, Option, Some, None, refl, ap, sym, ◌∙◌, arith, unwrap_or}
+use Rattle.std.proofs.Common.{◌≡◌, ℕ, zero, suc, ◌<◌, ◌≤◌, Bool, true, false, List, [], ◌∷◌, length, take, Option, Some, None, refl, arith, unwrap_or}
 use Rattle.memchr.specs.Find.{IsFirstByte, Passes, is_byte}
 use Rattle.gj_rules.specs.Sequence.{separator, is_separator, has_separator}
 use Rattle.gj_rules.proofs.sequence.run_length.Goals as goal

@@ -1,5 +1,5 @@
 -- The bytes up to the place were taken, and those behind a byte that decided change nothing.
-use Rattle.std.proofs.Common.{rules, ◌≡◌, ℕ, ◌+◌, ◌-◌, ◌≤◌, true, false, List, ◌++◌, length, take, refl, ap, sym, subst, ◌∙◌, arith}
+use Rattle.std.proofs.Common.{rules, ◌≡◌, ℕ, true, false, List, ◌++◌, take, ap, sym, subst, ◌∙◌}
 use Rattle.std.proofs.lemmas.List.{take_all}
 use Rattle.gj_rules.specs.SequenceStands.{StandsFor, is_decided}
 use Rattle.gj_rules.proofs.SequenceSteps.{rest_fed, fed_decided, fed_answers, taken_further}

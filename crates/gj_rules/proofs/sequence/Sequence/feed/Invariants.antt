@@ -1,5 +1,5 @@
 -- The bytes up to the place were taken.
-use Rattle.std.proofs.Common.{◌≡◌, ℕ, ◌+◌, ◌-◌, ◌≤◌, true, List, ◌++◌, length, take}
+use Rattle.std.proofs.Common.{◌≡◌, ℕ, ◌-◌, ◌≤◌, true, List, ◌++◌, length, take}
 use Rattle.gj_rules.specs.SequenceStands.{StandsFor, is_decided}
 use Rattle.gj_rules.proofs.sequence.Sequence.feed.Given as goal
 

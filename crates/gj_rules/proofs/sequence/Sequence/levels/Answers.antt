@@ -1,5 +1,5 @@
 -- The containers that are open are those of the open record.
-use Rattle.std.proofs.Common.{◌≡◌, ℕ, ◌++◌, List, length, refl, ap, sym, subst, ◌∙◌, arith}
+use Rattle.std.proofs.Common.{ℕ, ◌++◌, List, length, ap, sym, subst, ◌∙◌, arith}
 use Rattle.gj_json.specs.Open.{open_at}
 use Rattle.gj_json.specs.Text.{IsText}
 use Rattle.gj_rules.proofs.SequenceSteps.{live_of, in_of, last_record, some_record, no_record}

@@ -1,11 +1,11 @@
 -- One byte decides or begins a record, or a run goes to the open record.
-use Rattle.std.proofs.Common.{◌≡◌, ℕ, ◌+◌, ◌<◌, ◌≤◌, List, [], ◌∷◌, ◌++◌, length, get_or, take, refl, ap, sym, subst, ◌∙◌, arith}
-use Rattle.gj_json.specs.declared.fault.Cause.TheVariants.{Length, Syntax}
+use Rattle.std.proofs.Common.{ℕ, List, ◌++◌, get_or, take, ap, sym, subst, ◌∙◌}
+use Rattle.gj_json.specs.declared.fault.Cause.TheVariants.{Length}
 use Rattle.gj_rules.specs.declared.sequence.verdict.SeqVerdict.{SeqVerdict}
 use Rattle.gj_rules.specs.Sequence.{not_json}
 use Rattle.gj_rules.specs.SequenceStands.{IsSettled}
 use Rattle.gj_rules.proofs.Deciding.{take_one}
-use Rattle.gj_rules.proofs.SequenceSteps.{live_of, settled_stands, long_run, stray_run}
+use Rattle.gj_rules.proofs.SequenceSteps.{live_of, settled_stands, long_run}
 use Rattle.gj_rules.proofs.sequence.Sequence.take.Goals as goal
 
 pub returns-then-offset-bytes-clause-stands : goal.returns-then-offset-bytes-clause-stands

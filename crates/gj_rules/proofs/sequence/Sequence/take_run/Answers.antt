@@ -1,5 +1,5 @@
 -- The bytes go to the open record, which may refuse one of them.
-use Rattle.std.proofs.Common.{◌≡◌, ℕ, ◌+◌, ◌≤◌, List, ◌++◌, length, length-append, refl, ap, sym, subst, ◌∙◌, arith}
+use Rattle.std.proofs.Common.{ℕ, ◌++◌, length-append, ap, subst, ◌∙◌, arith}
 use Rattle.gj_json.specs.Text.{IsViableWithin}
 use Rattle.gj_rules.specs.declared.linter.Progress.{Progress}
 use Rattle.gj_rules.specs.declared.sequence.verdict.SeqVerdict.{SeqVerdict}

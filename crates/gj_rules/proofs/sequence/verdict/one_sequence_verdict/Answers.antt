@@ -1,5 +1,4 @@
 -- By the one verdict of each record.
-use Rattle.gj_json.specs.Limits.{Allowed}
 use Rattle.gj_rules.specs.Sequence.{is_stray, records_of}
 use Rattle.gj_rules.proofs.OneSequence.{some_sequence, one_sequence}
 use Rattle.gj_rules.proofs.sequence.verdict.one_sequence_verdict.Goals as goal

@@ -1,11 +1,9 @@
 -- The bytes of the run are behind those before it.
-use Rattle.std.proofs.Common.{◌≡◌, ℕ, ◌+◌, ◌-◌, ◌≤◌, ◌^◌, List, [], ◌++◌, length, length-append, append-nil, refl, ap, sym, subst, ◌∙◌, arith}
+use Rattle.std.proofs.Common.{[], ◌++◌, length-append, ◌∙◌, arith}
 use Rattle.std.proofs.Math.Bridge.{le_prop}
 use Rattle.std.proofs.Math.Logic.{∥∥₁_elim, ∥∥₁_map}
 use Rattle.gj_json.specs.Refusal.{IsRefusal}
-use Rattle.gj_rules.specs.declared.linter.Progress.{Progress}
-use Rattle.gj_rules.specs.Linter.{limits_of, Answers}
-use Rattle.gj_rules.specs.OpenRecord.{StandsFor}
+use Rattle.gj_rules.specs.Linter.{limits_of}
 use Rattle.gj_rules.proofs.OpenRecords.{last_of_run, refused_within}
 use Rattle.gj_rules.proofs.sequence.open_record.OpenRecord.feed.Goals as goal
 

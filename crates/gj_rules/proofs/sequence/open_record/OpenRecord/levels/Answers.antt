@@ -1,9 +1,8 @@
 -- The linter took all bytes of the record.
-use Rattle.std.proofs.Common.{◌≡◌, ℕ, ◌++◌, List, length, take, refl, ap, sym, subst, ◌∙◌}
+use Rattle.std.proofs.Common.{ℕ, ◌++◌, List, take, ap, sym, subst, ◌∙◌}
 use Rattle.std.proofs.Math.Seq.{take-length}
 use Rattle.gj_json.specs.Text.{IsText}
 use Rattle.gj_json.specs.Open.{open_at}
-use Rattle.gj_rules.specs.Linter.{StandsFor as LinterStandsFor, offset_of}
 use Rattle.gj_rules.proofs.OpenRecords.{all_taken}
 use Rattle.gj_rules.proofs.sequence.open_record.OpenRecord.levels.Goals as goal
 

@@ -1,12 +1,12 @@
 -- The verdict by the last event.
 use Rattle.gj_rules.proofs.Fed
 use Rattle.gj_rules.specs.Linter.{StandsFor}
-use Rattle.gj_rules.proofs.linter.Linter.finish.Goals as goal
+use Rattle.gj_rules.proofs.linter.Linter.end.Goals as goal
 
 pub returns-in-Ok-clause-verdict : goal.returns-in-Ok-clause-verdict
 unfolding StandsFor
 returns-in-Ok-clause-verdict c = λ bytes h.
-    let self = c.args.self in
+    let self = c.args.self.now in
     let laws = c.bytes_taken.ensures in
     let live = Fed.was_live self.reader c.finish.result c.in-Ok.last (λ fault e. c.finish.ensures.again fault e) c.in-Ok.is in
     let f = rw (c.in-Ok.is) at (c.finish.ensures.answer bytes h.0) in
