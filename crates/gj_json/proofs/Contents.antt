@@ -16,7 +16,7 @@ ascii_front : (xs ys : List ℕ) → AllByRecursion IsAscii (xs ++ ys) → AllBy
 ascii_front [] ys h = tt
 ascii_front (x ∷ xs) ys h = (h.0, ascii_front xs ys h.1)
 
-ascii_rest : (xs ys : List ℕ) → AllByRecursion IsAscii (xs ++ ys) → AllByRecursion IsAscii ys
+pub ascii_rest : (xs ys : List ℕ) → AllByRecursion IsAscii (xs ++ ys) → AllByRecursion IsAscii ys
 ascii_rest [] ys h = h
 ascii_rest (x ∷ xs) ys h = ascii_rest xs ys h.1
 

@@ -4,6 +4,7 @@ use Rattle.std.proofs.Common.{◌≡◌, ℕ, ◌+◌, ◌-◌, ◌≤◌, ◌<�
 use Rattle.std.proofs.lemmas.List.{length-append, length-take-le, map-append, take_more, get_or-drop, drop-drop}
 use Rattle.std.specs.List.{AllByRecursion}
 use Rattle.gj_json.specs.Bytes.{open_bracket, comma, IsWhite}
+use Rattle.gj_json.specs.declared.class.Class.{Class}
 use Rattle.gj_json.specs.declared.class.Class.TheVariants.{OpenArray as open_array, Comma as comma_class, White as white_class}
 use Rattle.gj_json.specs.declared.content.Content.{Content}
 use Rattle.gj_json.specs.declared.event.Event.{Event}
@@ -16,7 +17,8 @@ use Rattle.gj_json.specs.declared.mode.Mode.TheVariants.{ValueDone, ValueDue}
 use Rattle.gj_json.specs.declared.mode.Move.TheVariants.{Go}
 use Rattle.gj_json.specs.declared.reader.Reader.{Reader}
 use Rattle.gj_json.specs.Limits.{Allowed}
-use Rattle.gj_json.specs.Tree.{Text, array, Elements, elements_depth}
+use Rattle.gj_json.specs.Classes.{class_of}
+use Rattle.gj_json.specs.Tree.{Text, Tree, array, Elements, elements_depth, depth}
 use Rattle.gj_json.specs.Text.{IsText}
 use Rattle.gj_json.specs.Grammar.{Spells}
 use Rattle.gj_json.specs.Events.{Timed, timed, events, elements_events, value_events, mark_events, events_by}
@@ -24,7 +26,7 @@ use Rattle.gj_json.specs.Feeding.{Passed, Skips, FeedsAll}
 use Rattle.gj_json.specs.Flat.{flat_events, IsFlat}
 use Rattle.gj_json.specs.FlatParts.{awaits, cut}
 use Rattle.gj_json.specs.Levels.{levels_in, inner_of}
-use Rattle.gj_json.specs.Machine.{Frame, in_array, in_object, Leaf, value_due, value_done, array_opened, object_opened, constant_on, number_on, string_on, name_due, name_on, colon_due, Partial, Broken, text_due, mark_one, mark_two, begun, step_leaf, to, run_from, run}
+use Rattle.gj_json.specs.Machine.{Frame, in_array, in_object, Leaf, value_due, value_done, array_opened, object_opened, constant_on, number_on, string_on, name_due, name_on, colon_due, Partial, Broken, text_due, mark_one, mark_two, begun, begin_value, step_leaf, to, run_from, run}
 use Rattle.gj_json.specs.Moves.{IsMode, move_of}
 use Rattle.gj_json.specs.Quiet.{IsQuiet}
 use Rattle.gj_json.specs.Reader.{Completed}
@@ -36,7 +38,7 @@ use Rattle.gj_json.proofs.Classes.{class_is}
 use Rattle.gj_json.proofs.Comes.{mode_under, mode_state}
 use Rattle.gj_json.proofs.Completes.{Goes, TextFrom}
 use Rattle.gj_json.proofs.Feeding.{live_offset, feeds_all_on, skip_feeds}
-use Rattle.gj_json.proofs.Leads.{Leads, at, then_leads, byte_leads, white_leads, array_white, run_from-append}
+use Rattle.gj_json.proofs.Leads.{Leads, at, due_begins, array_begins, then_leads, byte_leads, white_leads, array_white, run_from-append}
 use Rattle.gj_json.proofs.Literals.{own_turn, own_turns, keeps_none}
 use Rattle.gj_json.proofs.Past.{events_seen}
 use Rattle.gj_json.proofs.Quietly.{byte_well, byte_completes}
@@ -57,22 +59,22 @@ array_leads s stack place elements close n bytes opens h =
     let P : ℕ → Type 0 = λ p. Leads s n bytes (at stack (value_done (array p elements close))) in
     subst P (sym h.0) (byte_leads h.1 opens (λ rest k. then_leads k (white_leads (at stack (array_opened n)) (array_white stack n) k.first (n + 1) k.before) (elements_lead elements stack n close _ k.rest k.after)))
 
--- where an array may begin: what is open around it
-record IsDue (state : Broken) (levels : List Level) (d : ℕ) : Type 0 where
+-- where a value may begin: what is open around it
+pub record IsDue (state : Broken) (levels : List Level) (d : ℕ) : Type 0 where
   pub marked : Bool
   pub partial : Partial
   pub stack : List Frame
   pub is : state ≡ begun marked partial
-  pub opens : (n : ℕ) → step_leaf partial.stack partial.leaf n open_bracket ≡ to stack (array_opened n)
+  pub begins : (n b : ℕ) (c : Class) (next : Partial) → class_of b ≡ c → begin_value stack n b c ≡ Some next → step_leaf partial.stack partial.leaf n b ≡ Some next
   pub around : levels ≡ levels_of stack
   pub fits : Fits d stack
   pub before : partial_timed partial ≡ stack_timed stack
 
 leaf_due : (marked : Bool) (stack : List Frame) (leaf : Leaf) (mode : Mode) (levels : List Level) (d : ℕ) → awaits mode ≡ true → StandsAs (begun marked (at stack leaf)) mode levels → FitsBroken d (begun marked (at stack leaf)) → IsDue (begun marked (at stack leaf)) levels d
 leaf_due marked stack value_due mode levels d w a f =
-    record { marked = marked; partial = at stack value_due; stack = stack; is = refl; opens = λ n. rw (class_is open_array open_bracket refl (λ e. cc)) refl; around = a.1; fits = f; before = append-nil (stack_timed stack) }
+    record { marked = marked; partial = at stack value_due; stack = stack; is = refl; begins = λ n b c next k e. rw k (due_begins stack n b c next e); around = a.1; fits = f; before = append-nil (stack_timed stack) }
 leaf_due marked stack (array_opened place) mode levels d w a f =
-    record { marked = marked; partial = at stack (array_opened place); stack = in_array place [] ∷ stack; is = refl; opens = λ n. rw (class_is open_array open_bracket refl (λ e. cc)) refl; around = a.1; fits = (f.0, tt, f.1); before = refl }
+    record { marked = marked; partial = at stack (array_opened place); stack = in_array place [] ∷ stack; is = refl; begins = λ n b c next k e. rw k (array_begins stack place n b c next e); around = a.1; fits = (f.0, tt, f.1); before = refl }
 leaf_due marked stack (value_done t) mode levels d w a f = let x = rw (a.0) at w in cc
 leaf_due marked stack (object_opened place) mode levels d w a f = let x = rw (a.0) at w in cc
 leaf_due marked stack (constant_on which place left) mode levels d w a f = let x = rw (a.0.1) at w in cc
@@ -82,13 +84,13 @@ leaf_due marked stack (name_due place done) mode levels d w a f = let x = rw (a.
 leaf_due marked stack (name_on place done np so_far state) mode levels d w a f = let x = rw (a.0) at w in cc
 leaf_due marked stack (colon_due place done np name ne) mode levels d w a f = let x = rw (a.0) at w in cc
 
-is_due : (state : Broken) (mode : Mode) (levels : List Level) (d : ℕ) → awaits mode ≡ true → StandsAs state mode levels → FitsBroken d state → IsDue state levels d
+pub is_due : (state : Broken) (mode : Mode) (levels : List Level) (d : ℕ) → awaits mode ≡ true → StandsAs state mode levels → FitsBroken d state → IsDue state levels d
 is_due text_due mode levels d w a f = let x = rw (a.0) at w in cc
 is_due mark_one mode levels d w a f = let x = rw (a.0) at w in cc
 is_due mark_two mode levels d w a f = let x = rw (a.0) at w in cc
 is_due (begun marked s) mode levels d w a f = leaf_due marked s.stack s.leaf mode levels d w a f
 
-levels-length : (stack : List Frame) → length (levels_of stack) ≡ length stack
+pub levels-length : (stack : List Frame) → length (levels_of stack) ≡ length stack
 levels-length [] = refl
 levels-length (in_array place done ∷ stack) = let e = levels-length stack in omega (arith, e)
 levels-length (in_object place done np name ne ∷ stack) = let e = levels-length stack in omega (arith, e)
@@ -103,34 +105,31 @@ module _ (limits : Allowed) (levels : List Level) (start : ℕ) where
       events_seen k.state T offset start rest k.timely (rw (k.at) c)
 
   -- from one state to another, by what they have seen
-  seen_between : (mode next : Mode) (from to : ℕ) (bytes given : List ℕ) (k : StandsWell limits mode levels start from bytes) (w : StandsWell limits next levels start to (bytes ++ given)) (es : List Event) → told (seen w.state) ≡ told (seen k.state) ++ es
+  pub seen_between : (mode next : Mode) (from to : ℕ) (bytes given : List ℕ) (k : StandsWell limits mode levels start from bytes) (w : StandsWell limits next levels start to (bytes ++ given)) (es : List Event) → told (seen w.state) ≡ told (seen k.state) ++ es
       → Completed from to (bytes ++ given) es
   seen_between mode next from to bytes given k w es e = λ T rest t.
       let u : IsText T (bytes ++ (given ++ rest)) = rw (append_assoc bytes given rest) at t in
       well_seen next to (bytes ++ given) w T rest t ∙ e ∙ ap (λ xs. xs ++ es) (sym (well_seen mode from bytes k T (given ++ rest) u))
 
   -- bytes behind which nothing is under way but a literal name at the most, and these events more are complete
-  record After (mode : Mode) (from to : ℕ) (bytes given : List ℕ) (es : List Event) : Type 0 where
+  pub record After (mode : Mode) (from to : ℕ) (bytes given : List ℕ) (es : List Event) : Type 0 where
     pub well : StandsWell limits mode levels start to (bytes ++ given)
     pub keeps : (literal : Literal) (content : Content) → Keeps (under_of well.state) literal content
     pub more : Completed from to (bytes ++ given) es
 
-  array_seen : (marked : Bool) (s : Partial) (stack : List Frame) (place : ℕ) (elements : Elements) (close : ℕ) → partial_timed s ≡ stack_timed stack
-      → told (seen (begun marked (at stack (value_done (array place elements close))))) ≡ told (seen (begun marked s)) ++ value_events (array place elements close)
-  array_seen marked s stack place elements close e =
-      let t = events (array place elements close) in
-      rw e (ap told (sym (append_assoc (mark_events marked) (stack_timed stack) t)) ∙ map-append (λ (x : Timed). x.event) (mark_events marked ++ stack_timed stack) t)
+  value_seen : (marked : Bool) (s : Partial) (stack : List Frame) (t : Tree) → partial_timed s ≡ stack_timed stack → told (seen (begun marked (at stack (value_done t)))) ≡ told (seen (begun marked s)) ++ value_events t
+  value_seen marked s stack t e = rw e (ap told (sym (append_assoc (mark_events marked) (stack_timed stack) (events t))) ∙ map-append (λ (x : Timed). x.event) (mark_events marked ++ stack_timed stack) (events t))
 
-  -- an array that is due and stands whole
-  array_well : (mode : Mode) (offset : ℕ) (bytes : List ℕ) (k : StandsWell limits mode levels start offset bytes) → awaits mode ≡ true → (place : ℕ) (elements : Elements) (close : ℕ) (given : List ℕ) → Spells (array place elements close) offset given
-      → elements_depth elements + 1 + length levels ≤ limits.depth → offset + length given ≤ limits.bytes → After ValueDone offset (offset + length given) bytes given (value_events (array place elements close))
-  array_well mode offset bytes k w place elements close given spelled deep room =
+  -- a value that is due and stands whole
+  pub value_well : (mode : Mode) (offset : ℕ) (bytes : List ℕ) (k : StandsWell limits mode levels start offset bytes) → awaits mode ≡ true → (t : Tree) (given : List ℕ)
+      → ((s : Partial) (stack : List Frame) → ((n b : ℕ) (c : Class) (next : Partial) → class_of b ≡ c → begin_value stack n b c ≡ Some next → step_leaf s.stack s.leaf n b ≡ Some next) → Leads s offset given (at stack (value_done t)))
+      → depth t + length levels ≤ limits.depth → offset + length given ≤ limits.bytes → After ValueDone offset (offset + length given) bytes given (value_events t)
+  value_well mode offset bytes k w t given lead deep room =
       let i = is_due k.state mode levels limits.depth w k.kept k.fits in
-      let t = array place elements close in
       let next : Broken = begun i.marked (at i.stack (value_done t)) in
       let l : offset + length given ≡ length (bytes ++ given) = omega (arith, k.at, length-append bytes given) in
       let z : 0 + length bytes ≡ offset = omega (arith, k.at) in
-      let leads = array_leads i.partial i.stack place elements close offset given (i.opens offset) spelled in
+      let leads = lead i.partial i.stack i.begins in
       let runs : run (bytes ++ given) ≡ Some next =
       run_from-append bytes given (Some text_due) 0 ∙ ap (λ o. run_from o (0 + length bytes) given) (k.runs ∙ ap (λ (s : Broken). Some s) i.is) ∙ ap (λ n. run_from (Some (begun i.marked i.partial)) n given) z ∙ leads.goes i.marked in
       let r = reached (bytes ++ given) next runs in
@@ -145,12 +144,19 @@ module _ (limits : Allowed) (levels : List Level) (start : ℕ) where
         timely = record { seen_by = rw l r.timely.seen_by; edge = (tt, tt) };
       } in
       let P : Broken → Type 0 = λ s. told (seen next) ≡ told (seen s) ++ value_events t in
-      let seen_is : P k.state = subst P (sym i.is) (array_seen i.marked i.partial i.stack place elements close i.before) in
+      let seen_is : P k.state = subst P (sym i.is) (value_seen i.marked i.partial i.stack t i.before) in
       record {
         well = well;
         keeps = λ literal content. tt;
         more = seen_between mode ValueDone offset (offset + length given) bytes given k well (value_events t) seen_is;
       }
+
+  -- an array that is due and stands whole
+  array_well : (mode : Mode) (offset : ℕ) (bytes : List ℕ) (k : StandsWell limits mode levels start offset bytes) → awaits mode ≡ true → (place : ℕ) (elements : Elements) (close : ℕ) (given : List ℕ) → Spells (array place elements close) offset given
+      → elements_depth elements + 1 + length levels ≤ limits.depth → offset + length given ≤ limits.bytes → After ValueDone offset (offset + length given) bytes given (value_events (array place elements close))
+  array_well mode offset bytes k w place elements close given spelled deep room =
+      value_well mode offset bytes k w (array place elements close) given (λ s stack begins. array_leads s stack place elements close offset given (begins offset open_bracket open_array (at stack (array_opened offset)) (class_is open_array open_bracket refl (λ e. cc)) refl) spelled)
+      deep room
 
   -- a comma behind an element of an array
   comma_well : (mode : Mode) (offset : ℕ) (bytes : List ℕ) → StandsWell limits mode levels start offset bytes → mode ≡ ValueDone → inner_of levels ≡ Some Array → offset < limits.bytes → After ValueDue offset (offset + 1) bytes (comma ∷ []) []
@@ -167,7 +173,7 @@ module _ (limits : Allowed) (levels : List Level) (start : ℕ) where
 
 -- ---- from reader to reader
 
-taken_feeds : {before after : List Event → Type 0} (old new : Reader) (given : List ℕ) (mode : Mode) (es : List Event) → old.fault ≡ None → Passed (length given) mode old new
+pub taken_feeds : {before after : List Event → Type 0} (old new : Reader) (given : List ℕ) (mode : Mode) (es : List Event) → old.fault ≡ None → Passed (length given) mode old new
     → ((bytes : List ℕ) → StandsWell old.limits old.mode (levels_in old.levels) old.start old.offset bytes → After old.limits (levels_in old.levels) old.start mode old.offset (old.offset + length given) bytes given es)
     → ((events : List Event) → before events → after (events ++ es)) → FeedsAll before after old new given
 taken_feeds {before} {after} old new given mode es live p behind heard = record {
@@ -225,7 +231,7 @@ flat_taken old new flat piece n live due deep room w f p heard =
 -- ---- with the comma after it and the white space after that, in one step
 
 -- the reader, where so many bytes more were passed over
-abbrev mid_of : (old : Reader) (n : ℕ) (mode : Mode) → IsMode mode → old.offset + n ≤ old.limits.bytes → Reader
+abbrev pub mid_of : (old : Reader) (n : ℕ) (mode : Mode) → IsMode mode → old.offset + n ≤ old.limits.bytes → Reader
 mid_of old n mode sound room = record {
   limits = old.limits;
   offset = old.offset + n;
@@ -240,10 +246,10 @@ mid_of old n mode sound room = record {
   nested = old.nested;
 }
 
-to_mid : (old : Reader) (n : ℕ) (mode : Mode) (sound : IsMode mode) (room : old.offset + n ≤ old.limits.bytes) → Passed n mode old (mid_of old n mode sound room)
+pub to_mid : (old : Reader) (n : ℕ) (mode : Mode) (sound : IsMode mode) (room : old.offset + n ≤ old.limits.bytes) → Passed n mode old (mid_of old n mode sound room)
 to_mid old n mode sound room = record { limits = refl; fault = refl; levels = refl; start = refl; literal = refl; content = refl; offset = refl; mode_is = refl }
 
-from_mid : (old new : Reader) (n k all : ℕ) (mode next : Mode) (sound : IsMode mode) (room : old.offset + n ≤ old.limits.bytes) → all ≡ n + k → Passed all next old new → Passed k next (mid_of old n mode sound room) new
+pub from_mid : (old new : Reader) (n k all : ℕ) (mode next : Mode) (sound : IsMode mode) (room : old.offset + n ≤ old.limits.bytes) → all ≡ n + k → Passed all next old new → Passed k next (mid_of old n mode sound room) new
 from_mid old new n k all mode next sound room e p = record {
   limits = p.limits;
   fault = p.fault;
@@ -255,7 +261,7 @@ from_mid old new n k all mode next sound room e p = record {
   mode_is = p.mode_is;
 }
 
-all_quiet : (xs : List ℕ) → AllByRecursion IsWhite xs → AllByRecursion (IsQuiet ValueDue) xs
+pub all_quiet : (xs : List ℕ) → AllByRecursion IsWhite xs → AllByRecursion (IsQuiet ValueDue) xs
 all_quiet [] h = tt
 all_quiet (x ∷ xs) h = ((λ turn inner. rw (class_is white_class x h.0 (λ e. cc)) refl), all_quiet xs h.1)
 

@@ -88,11 +88,11 @@ awaiting (in_array place [] ∷ stack) = at stack (array_opened place)
 awaiting (in_array place (t ∷ done) ∷ stack) = at (in_array place (t ∷ done) ∷ stack) value_due
 awaiting (in_object place done np name ne ∷ stack) = at (in_object place done np name ne ∷ stack) value_due
 
-due_begins : (stack : List Frame) (n b : ℕ) (c : Class) (s : Partial) → begin_value stack n b c ≡ Some s → step_value_due stack n b c ≡ Some s
+pub due_begins : (stack : List Frame) (n b : ℕ) (c : Class) (s : Partial) → begin_value stack n b c ≡ Some s → step_value_due stack n b c ≡ Some s
 due_begins stack n b white s e = cc
 due_begins stack n b _ s e = e
 
-array_begins : (stack : List Frame) (place n b : ℕ) (c : Class) (s : Partial) → begin_value (in_array place [] ∷ stack) n b c ≡ Some s → step_array_opened stack place n b c ≡ Some s
+pub array_begins : (stack : List Frame) (place n b : ℕ) (c : Class) (s : Partial) → begin_value (in_array place [] ∷ stack) n b c ≡ Some s → step_array_opened stack place n b c ≡ Some s
 array_begins stack place n b white s e = cc
 array_begins stack place n b close_array s e = cc
 array_begins stack place n b _ s e = e

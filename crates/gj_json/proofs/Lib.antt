@@ -10,7 +10,10 @@ pub mod End
 pub mod Texts
 pub mod Closing
 pub mod Slices
+pub mod ByLanes
 pub mod QuietLemmas
+pub mod Utf8Texts
+pub mod StringRuns
 pub mod OneCharacter
 pub mod Simulation
 pub mod Times
@@ -50,3 +53,7 @@ pub mod PathExamples
 pub mod Cutting
 pub mod FlatSpelled
 pub mod FlatFeeds
+pub mod TokenFeeds
+pub mod TokenSpelled
+pub mod Ignoring
+pub mod WholeTokens

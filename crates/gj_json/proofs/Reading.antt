@@ -59,7 +59,7 @@ well_viable d bytes s e f = fits_viable d bytes (rw e f)
 pub some_viable : (d : ℕ) (bytes : List ℕ) (s : Broken) → run bytes ≡ Some s → FitsBroken d s → IsViable bytes
 some_viable d bytes s e f = let g = well_viable d bytes s e f in (g.0, g.1, g.2.0)
 
-none_viable : (bytes : List ℕ) → run bytes ≡ None → IsViable bytes → ⊥
+pub none_viable : (bytes : List ℕ) → run bytes ≡ None → IsViable bytes → ⊥
 none_viable bytes e h = let g = text_goes_on h.1 bytes h.0 h.2 in let k : Goes (TextFrom h.1 (length bytes) h.0) None = rw e at g in k
 
 -- ---- a refusal lasts

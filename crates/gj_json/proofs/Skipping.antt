@@ -61,6 +61,15 @@ after_plain first here piece at n old mid new h r a p =
       λ so_far k. let Q : List ℕ → Type 0 = λ xs. Holds new xs in subst Q (append_assoc so_far h.0 run) (q (so_far ++ h.0) a (h.2 so_far k)),
     )
 
+-- and whole characters of which nothing is kept
+pub after_text : (first here : StringState) (piece characters : List ℕ) (at n : ℕ) (old new : Content) → HasRead first piece at here old new → Reads here (take n (take (length piece - at) (drop at piece))) characters here
+    → ((so_far : List ℕ) → Holds new so_far → Holds new (so_far ++ characters)) → HasRead first piece (at + n) here old new
+after_text first here piece characters at n old new h r p = (
+  h.0 ++ characters,
+  reads_more first here here piece h.0 characters at n h.1 r,
+  λ so_far k. let Q : List ℕ → Type 0 = λ xs. Holds new xs in subst Q (append_assoc so_far h.0 characters) (p (so_far ++ h.0) (h.2 so_far k)),
+)
+
 -- and one byte more
 pub after_byte : (first here next : StringState) (piece more : List ℕ) (at : ℕ) (old mid new : Content) → HasRead first piece at here old mid → at < length piece → string_next here (get_or piece at 0) ≡ string_goes more next
     → ((so_far : List ℕ) → Holds mid so_far → Holds new (so_far ++ more)) → HasRead first piece (at + 1) next old new

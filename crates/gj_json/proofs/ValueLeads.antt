@@ -23,7 +23,7 @@ use Rattle.gj_json.proofs.Leads.{Leads, at, leads_none, leads_byte, then_leads, 
 
 -- ---- literal names
 
-letters_lead : (stack : List Frame) (which : Constant) (place a : ℕ) (left : List ℕ) (n : ℕ) → Leads (at stack (constant_on which place (a ∷ left))) n (a ∷ left) (at stack (value_done (constant which place)))
+pub letters_lead : (stack : List Frame) (which : Constant) (place a : ℕ) (left : List ℕ) (n : ℕ) → Leads (at stack (constant_on which place (a ∷ left))) n (a ∷ left) (at stack (value_done (constant which place)))
 letters_lead stack which place a [] n = leads_byte (rw (eq-eqb a a refl) refl) (leads_none (at stack (value_done (constant which place))) (n + 1))
 letters_lead stack which place a (c ∷ left) n = leads_byte (rw (eq-eqb a a refl) refl) (letters_lead stack which place c left (n + 1))
 
@@ -34,7 +34,7 @@ constant_leads stack False n = leads_byte (begins stack n (first_letter False) (
 
 -- ---- numbers
 
-digits_lead : (stack : List Frame) (place : ℕ) (more so_far : List ℕ) (first s : NumberState) (n : ℕ) → number_from (Some first) more ≡ Some s → Leads (at stack (number_on place so_far first)) n more (at stack (number_on place (so_far ++ more) s))
+pub digits_lead : (stack : List Frame) (place : ℕ) (more so_far : List ℕ) (first s : NumberState) (n : ℕ) → number_from (Some first) more ≡ Some s → Leads (at stack (number_on place so_far first)) n more (at stack (number_on place (so_far ++ more) s))
 digits_lead stack place [] so_far first s n e =
     let f : first ≡ s = cc in
     let P : List ℕ → Type 0 = λ xs. Leads (at stack (number_on place so_far first)) n [] (at stack (number_on place xs s)) in
@@ -53,7 +53,7 @@ digits_lead stack place (b ∷ more) so_far first s n e = go (λ next f. digits_
         let P : List ℕ → Type 0 = λ xs. Leads (at stack (number_on place (so_far ++ b ∷ []) next)) (n + 1) more (at stack (number_on place xs s)) in
         leads_byte (rw f refl) (subst P (append_assoc so_far (b ∷ []) more) (ih next g))
 
-number_begins : (stack : List Frame) (n b : ℕ) (c : Class) (s : NumberState) → number_first c ≡ Some s → begin_value stack n b c ≡ to stack (number_on n (b ∷ []) s)
+pub number_begins : (stack : List Frame) (n b : ℕ) (c : Class) (s : NumberState) → number_first c ≡ Some s → begin_value stack n b c ≡ to stack (number_on n (b ∷ []) s)
 number_begins stack n b minus s e = cc
 number_begins stack n b zero_digit s e = cc
 number_begins stack n b first_digit s e = cc

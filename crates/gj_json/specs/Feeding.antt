@@ -1,5 +1,5 @@
 -- Internal: what a call that takes bytes leaves of a reader and of a sink.
-use Rattle.std.specs.Prelude.{◌≡◌, ℕ, ◌+◌, ◌≤◌, ◌⊎◌, false, List, [], ◌∷◌, ◌++◌, length, take, Some, None}
+use Rattle.std.specs.Prelude.{◌≡◌, ℕ, ◌+◌, ◌-◌, ◌≤◌, ◌⊎◌, false, List, [], ◌∷◌, ◌++◌, length, take, Some, None}
 use Rattle.gj_number.specs.Grammar.{BeginsNumber}
 use Rattle.gj_number.specs.Literal.{StandsFor as LiteralStandsFor}
 use Rattle.gj_json.specs.declared.mode.Mode.TheVariants.{NumberOn, StringOn, NameOn}
@@ -11,6 +11,8 @@ use Rattle.gj_json.specs.declared.event.Event.{Event}
 use Rattle.gj_json.specs.declared.fault.JsonFault.{JsonFault}
 use Rattle.gj_json.specs.declared.reader.Reader.{Reader}
 use Rattle.gj_json.specs.Quiet.{Leads, Reads}
+use Rattle.gj_json.specs.Levels.{levels_in}
+use Rattle.gj_json.specs.Ignored.{Leaves, Stays}
 use Rattle.gj_json.specs.Reader.{StandsFor, Hears, Completed}
 
 -- a string goes on as a string, or a name as a name
@@ -69,3 +71,19 @@ pub record HearsTwo (heard : List Event → Type 0) (events : List Event) (bytes
   pub told : heard (events ++ found)
   pub few : length found ≤ 2
   pub completed : Completed (length bytes) (length bytes + 1) (bytes ++ b ∷ []) found
+
+-- The reader was given these bytes while some levels above the floor were open, and what they complete leaves those that
+-- are.
+abbrev pub above : ℕ → Reader → ℕ
+above floor reader = length (levels_in reader.levels) - floor
+
+abbrev pub FeedsWithin : ℕ → Reader → Reader → List ℕ → Type 0
+FeedsWithin floor old new given = FeedsAll (λ events. events ≡ []) (λ events. Leaves (above floor old) events (above floor new)) old new given
+
+abbrev pub FeedsWithinTo : ℕ → Reader → Reader → List ℕ → JsonFault → Type 0
+FeedsWithinTo floor old new given fault = FeedsTo (λ events. events ≡ []) (λ events. Leaves (above floor old) events (above floor new)) old new given fault
+
+-- and it opened and closed none
+pub record FeedsLevel (old new : Reader) (given : List ℕ) : Type 0 where
+  pub feeds : FeedsAll (λ events. events ≡ []) Stays old new given
+  pub levels : new.levels ≡ old.levels

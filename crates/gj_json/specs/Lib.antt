@@ -23,9 +23,12 @@ pub mod Seen
 pub mod Content
 pub mod Under
 pub mod Stands
+pub mod Runs
 pub mod Quiet
 pub mod Step
 pub mod Trail
+pub mod Ignored
 pub mod Feeding
+pub mod Tokens
 pub mod Flat
 pub mod FlatParts

@@ -1,12 +1,14 @@
 -- Internal: the bytes that complete nothing and open or close nothing.
-use Rattle.std.specs.Prelude.{◌≡◌, ℕ, ◌==◌, ◌&&◌, ◌||◌, Bool, not, nat_le, List, [], ◌∷◌, ◌++◌, Option}
+use Rattle.std.specs.Prelude.{◌≡◌, ℕ, ◌==◌, ◌&&◌, ◌||◌, Bool, true, false, not, nat_le, List, [], ◌∷◌, ◌++◌, Option}
 use Rattle.gj_json.specs.Bytes.{space, tab, line_feed, carriage_return, quote, backslash}
 use Rattle.gj_json.specs.declared.levels.Level.{Level}
 use Rattle.gj_json.specs.declared.mode.Mode.{Mode}
+use Rattle.gj_json.specs.declared.mode.Mode.TheVariants.{StringOn, NameOn}
 use Rattle.gj_json.specs.declared.mode.NumberTurn.{NumberTurn}
 use Rattle.gj_number.specs.Exact.{Exact}
 use Rattle.gj_json.specs.declared.mode.Move.TheVariants.{Go}
 use Rattle.gj_json.specs.declared.mode.StringState.{StringState}
+use Rattle.gj_json.specs.declared.mode.StringState.TheVariants.{Plain}
 use Rattle.gj_json.specs.Machine.{string_next, string_goes}
 use Rattle.gj_json.specs.Moves.{move_of}
 use Rattle.gj_json.specs.Names.{Words}
@@ -20,6 +22,12 @@ is_plain b = nat_le space b && nat_le b 0x7F && not (b == quote) && not (b == ba
 
 abbrev pub is_white : ℕ → Bool
 is_white b = b == space || b == tab || b == line_feed || b == carriage_return
+
+-- a string or a name is open, and no character is under way in it
+abbrev pub is_between : Mode → Bool
+is_between (StringOn Plain) = true
+is_between (NameOn Plain) = true
+is_between _ = false
 
 -- the byte leads from one mode to another, completes nothing, and what is under way goes on
 pub record LeadsBy (mode : Mode) (b : ℕ) (next : Mode) : Type 0 where

@@ -19,6 +19,7 @@ pub struct Content {
 }
 
 impl Content {
+    ghost use Rattle.std.specs.Str.{IsUtf8};
     ghost use Rattle.gj_json.specs.Content.{IsAscii, Holds, known_in, word_in};
 
     pub fn new() -> Self
@@ -28,6 +29,15 @@ impl Content {
             letters: [0; 18],
             count: 0,
             other: false,
+        }
+    }
+
+    /// Of which nothing is kept any more.
+    pub fn lost() -> Self {
+        Content {
+            letters: [0; 18],
+            count: 0,
+            other: true,
         }
     }
 
@@ -69,6 +79,24 @@ impl Content {
             self.push(run[at] as u32);
             at += 1;
         }
+    }
+
+    /// Takes whole characters in UTF-8.
+    pub fn push_text(&mut self, text: &[u8])
+        ensures { (so_far : List ℕ) (utf8 : IsUtf8 text.now) → Holds self.old so_far → Holds self.new (so_far ++ utf8.0) }
+    {
+        if text.len() <= MOST_LETTERS && text.is_ascii() {
+            self.push_run(text);
+        } else {
+            self.other = true;
+        }
+    }
+
+    /// Whether it is known already that no name and no type has these characters at its start.
+    pub fn is_other(&self) -> bool
+        ensures { result ≡ self.now.other }
+    {
+        self.other
     }
 
     /// Which name it is.

@@ -13,7 +13,7 @@ use gj_number::read_short;
 
 /// The index after the white space at this one. Mostly there is none, or one space.
 #[inline(always)]
-fn white_end(piece: &[u8], at: usize) -> usize
+pub fn white_end(piece: &[u8], at: usize) -> usize
     requires { at ≤ length piece.now }
     ensures on { at ≤ result }
     ensures within { result ≤ length piece.now }

@@ -13,6 +13,7 @@ mod event;
 mod fault;
 mod flat;
 mod flats;
+mod lanes;
 pub mod laws;
 mod levels;
 mod limits;
@@ -25,12 +26,14 @@ mod reader;
 mod runs;
 mod sink;
 mod strings;
+mod tokens;
 mod told;
 mod trail;
 
 pub use event::{Event, What};
 pub use fault::{Cause, JsonFault};
 pub use flat::{Flat, Numbered};
+pub use lanes::plain_run;
 pub use laws::{
     broken_off, bytes_taken, few_events, left_part, longest_front, one_broken, one_refusal,
     one_text, same_events, same_path, viable_fronts,

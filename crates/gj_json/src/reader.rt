@@ -178,8 +178,12 @@ impl Reader {
 }
 
 mod flats;
+mod ignored;
+mod level;
 mod pieces;
+mod runs;
 mod steps;
 #[cfg(test)]
 mod tests;
+mod tokens;
 mod turns;

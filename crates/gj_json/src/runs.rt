@@ -1,40 +1,17 @@
 //! Bytes in a row that complete nothing and open or close nothing.
 
 ghost use Rattle.std.specs.Prelude.{◌≡◌, ◌≤◌, ◌++◌, ℕ, List, length, take};
-ghost use Rattle.std.specs.List.{AllByRecursion, prefix_len};
+ghost use Rattle.std.specs.List.{AllByRecursion};
 ghost use Rattle.gj_json.specs.Moves.{IsStringState};
-ghost use Rattle.gj_json.specs.Quiet.{IsQuiet, Reads, is_plain, is_white};
+ghost use Rattle.gj_json.specs.Quiet.{IsQuiet, Reads, is_between};
+ghost use Rattle.gj_json.specs.Runs.{IsLongestUtf8, plain_run_of};
 ghost use Rattle.gj_json.specs.Content.{IsAscii, Holds};
 
 use crate::content::Content;
+use crate::lanes::{ascii_run, plain_run};
+pub use crate::lanes::{is_white, white_run};
 use crate::mode::{Mode, StringMove, StringState};
 use crate::strings::next_string;
-
-fn is_plain(byte: u8) -> bool
-    ensures { result ≡ is_plain byte }
-{
-    b' ' <= byte && byte <= 0x7F && byte != b'"' && byte != b'\\'
-}
-
-#[inline(always)]
-pub fn is_white(byte: u8) -> bool
-    ensures { result ≡ is_white byte }
-{
-    byte == b' ' || byte == b'\t' || byte == b'\n' || byte == b'\r'
-}
-
-/// How many bytes at the front of the piece are characters by themselves.
-fn plain_run(piece: &[u8]) -> usize
-    ensures { result ≡ prefix_len is_plain piece.now }
-{
-    piece.iter().take_while(|byte| is_plain(**byte)).count()
-}
-
-pub fn white_run(piece: &[u8]) -> usize
-    ensures { result ≡ prefix_len is_white piece.now }
-{
-    piece.iter().take_while(|byte| is_white(**byte)).count()
-}
 
 /// How many bytes at the front of the piece leave the mode as it is, and complete no event.
 pub fn quiet_run(mode: Mode, piece: &[u8]) -> usize
@@ -66,7 +43,43 @@ fn plain_front(state: StringState, piece: &[u8]) -> usize
     ensures reads { Reads state (take result piece.now) (take result piece.now) state }
 {
     match state {
-        StringState::Plain => plain_run(piece),
+        StringState::Plain => ascii_run(piece),
+        _ => 0,
+    }
+}
+
+/// Whether a string or a name is open in which no character is under way.
+pub fn is_between(mode: Mode) -> bool
+    ensures { result ≡ is_between mode }
+{
+    match mode {
+        Mode::StringOn(StringState::Plain) | Mode::NameOn(StringState::Plain) => true,
+        _ => false,
+    }
+}
+
+/// How many bytes the whole characters have that stand at the start of the piece, each unescaped.
+pub fn whole_characters(piece: &[u8]) -> usize
+    ensures { IsLongestUtf8 (take (plain_run_of piece.now) piece.now) result }
+{
+    let run = plain_run(piece);
+    match simdutf8::compat::from_utf8(&piece[..run]) {
+        Ok(_) => run,
+        Err(fault) => fault.valid_up_to(),
+    }
+}
+
+/// How many bytes the whole characters have that stand at the start of the piece, where none is under way and nothing is
+/// kept of them. Where the first is ASCII, it is left to others.
+fn text_front(content: &Content, state: StringState, piece: &[u8]) -> usize
+    ensures within { result ≤ length piece.now }
+    ensures reads { (characters : List ℕ) × Reads state (take result piece.now) characters state × ((so_far : List ℕ) → Holds content.now so_far → Holds content.now (so_far ++ characters)) }
+{
+    if !content.is_other() || piece.is_empty() || piece[0] < 0x80 {
+        return 0;
+    }
+    match state {
+        StringState::Plain => whole_characters(piece),
         _ => 0,
     }
 }
@@ -84,6 +97,7 @@ pub fn string_run(content: &mut Content, state: StringState, piece: &[u8]) -> St
         let plain = plain_front(here, &piece[count..]);
         content.push_run(&piece[count..count + plain]);
         count += plain;
+        count += text_front(content, here, &piece[count..]);
         if count == piece.len() {
             break;
         }

@@ -1,4 +1,4 @@
-ghost use Rattle.std.specs.Prelude.{◌≡◌, ◌≤◌, ◌∷◌, ◌++◌, [], List, length};
+ghost use Rattle.std.specs.Prelude.{◌≡◌, ℕ, ◌≤◌, ◌<◌, ◌∷◌, ◌++◌, [], List, length};
 
 use crate::event::{Event, What};
 use crate::flat::Flat;
@@ -11,6 +11,10 @@ pub trait EventSink {
 
     ghost use Rattle.gj_json.specs.declared.event.Event.{Event};
     ghost use Rattle.gj_json.specs.Flat.{flat_events};
+    ghost use Rattle.gj_json.specs.Ignored.{Leaves};
+
+    /// So many levels have to close before an event matters to it again.
+    ghost ignores: { Self → ℕ } = { λ _. 0 };
 
     fn tell(&mut self, event: Event)
         ensures { (events : List Event) → heard self.old events → heard self.new (events ++ event ∷ []) };
@@ -42,6 +46,14 @@ pub trait EventSink {
             what: What::CloseArray,
         });
     }
+
+    /// How many levels have to close before an event matters to it again: 0 where each one matters.
+    fn ignored(&self) -> u8
+        ensures { result ≡ ignores self.now };
+
+    /// Events came within the levels that it ignores, whichever they are, and so many of these levels are left to close.
+    fn pass(&mut self, left: u8)
+        ensures { (events inner : List Event) → 0 < ignores self.old → heard self.old events → Leaves (ignores self.old) inner left → heard self.new (events ++ inner) };
 }
 
 /// The events of one byte, of which there are two at the most.
@@ -68,6 +80,12 @@ impl EventSink for EventPair {
             self.events.push(event);
         }
     }
+
+    fn ignored(&self) -> u8 {
+        0
+    }
+
+    fn pass(&mut self, _left: u8) {}
 }
 
 /// Keeps nothing of what it is told.
@@ -78,4 +96,10 @@ impl EventSink for NoEvents {
     ghost heard = { λ sink events. Unit {0} };
 
     fn tell(&mut self, _event: Event) {}
+
+    fn ignored(&self) -> u8 {
+        0
+    }
+
+    fn pass(&mut self, _left: u8) {}
 }

@@ -40,7 +40,7 @@ pub fn is_on(mode: Mode) -> bool
     }
 }
 
-fn what_of(which: Constant) -> What
+pub fn what_of(which: Constant) -> What
     ensures { result ≡ what_of_constant which }
 {
     match which {
@@ -87,7 +87,7 @@ fn event_of_going(mode: Mode, next: Mode, content: &Content, start: u64) -> Opti
     }
 }
 
-fn opening(level: Level) -> What
+pub fn opening(level: Level) -> What
     ensures { result ≡ opening_of level }
 {
     match level {
@@ -96,7 +96,7 @@ fn opening(level: Level) -> What
     }
 }
 
-fn closing(level: Level) -> What
+pub fn closing(level: Level) -> What
     ensures { result ≡ closing_of level }
 {
     match level {

@@ -40,7 +40,7 @@ impl Reader {
 
     /// Whether an array may be opened here.
     #[inline(always)]
-    fn may_open(&self) -> bool
+    pub(super) fn may_open(&self) -> bool
         ensures due { IsTrue result → awaits self.now.mode ≡ true }
         ensures deep { IsTrue result → length (levels_in self.now.levels) < self.now.limits.depth }
     {
@@ -93,22 +93,5 @@ impl Reader {
             at += count;
         }
         at
-    }
-
-    /// The same, told at once where the first byte opens no array.
-    #[inline(always)]
-    pub(super) fn take_if_array<S: EventSink>(&mut self, piece: &[u8], sink: &mut S) -> usize
-        requires some { 0 < length piece.now }
-        requires live { self.old.fault ≡ None }
-        requires room { self.old.offset + length piece.now ≤ self.old.limits.bytes }
-        requires small { self.old.limits.bytes ≤ 2 ^ 60 }
-        ensures within { result ≤ length piece.now }
-        ensures feeds { FeedsAll (S.heard sink.old) (S.heard sink.new) self.old self.new (take result piece.now) }
-    {
-        if piece[0] == b'[' {
-            self.take_flats(piece, sink)
-        } else {
-            0
-        }
     }
 }

@@ -93,9 +93,9 @@ impl Reader {
         if quiet == piece.len() {
             return Ok(quiet);
         }
-        let flat = self.take_if_array(&piece[quiet..], sink);
-        if flat > 0 {
-            return Ok(quiet + flat);
+        let tokens = self.take_if_token(&piece[quiet..], sink);
+        if tokens > 0 {
+            return Ok(quiet + tokens);
         }
         match self.take_byte(piece[quiet], sink) {
             Ok(()) => Ok(quiet + 1),
@@ -114,9 +114,16 @@ impl Reader {
         requires small { self.old.limits.bytes ≤ 2 ^ 60 }
         ensures feeds { MatchResult result (λ done. FeedsAll (S.heard sink.old) (S.heard sink.new) self.old self.new piece.now) (FeedsTo (S.heard sink.old) (S.heard sink.new) self.old self.new piece.now) }
     {
-        let mut at = 0;
+        let mut at = match self.take_ignored(piece, sink) {
+            Ok(count) => count,
+            Err(fault) => return Err(fault),
+        };
         while at < piece.len() {
             match self.take_some(&piece[at..], sink) {
+                Ok(count) => at += count,
+                Err(fault) => return Err(fault),
+            }
+            match self.take_if_opened(&piece[at..], sink) {
                 Ok(count) => at += count,
                 Err(fault) => return Err(fault),
             }

@@ -3,6 +3,8 @@
 ghost use Rattle.std.specs.Prelude.{◌≤◌, length};
 
 mod flats;
+mod runs;
+mod tokens;
 
 use super::Reader;
 use crate::event::{Event, What};
@@ -29,6 +31,40 @@ impl EventSink for FirstEvents {
             self.events.push(event);
         }
     }
+
+    fn ignored(&self) -> u8 {
+        0
+    }
+
+    fn pass(&mut self, _left: u8) {}
+}
+
+/// Ignores what stands in an array or an object.
+#[derive(Drop)]
+struct Ignoring {
+    levels: u8,
+}
+
+impl EventSink for Ignoring {
+    ghost heard = { λ sink events. Unit {0} };
+
+    ghost ignores = { λ sink. sink.levels };
+
+    fn tell(&mut self, event: Event) {
+        match event.what {
+            What::OpenArray | What::OpenObject => self.levels = self.levels.saturating_add(1),
+            What::CloseArray | What::CloseObject => self.levels = self.levels.saturating_sub(1),
+            _ => {}
+        }
+    }
+
+    fn ignored(&self) -> u8 {
+        self.levels
+    }
+
+    fn pass(&mut self, left: u8) {
+        self.levels = left;
+    }
 }
 
 fn no_events() -> FirstEvents {
@@ -52,6 +88,16 @@ fn in_two(limits: Limits, first: &[u8], second: &[u8]) -> Option<JsonFault> {
     end(reader)
 }
 
+/// The same where the sink ignores what it can, and whether it knows at the end how many levels are open.
+fn ignored_in_two(limits: Limits, first: &[u8], second: &[u8]) -> (Option<JsonFault>, bool) {
+    let mut reader = Reader::new(limits);
+    let mut sink = Ignoring { levels: 0 };
+    let _ = reader.feed(first, &mut sink);
+    let _ = reader.feed(second, &mut sink);
+    let levels = reader.levels();
+    (end(reader), sink.levels == levels)
+}
+
 fn by_bytes(limits: Limits, input: &[u8]) -> Option<JsonFault> {
     let mut reader = Reader::new(limits);
     for byte in input {
@@ -66,6 +112,10 @@ fn expect(rt: &impl Abort, limits: Limits, input: &[u8], expected: Option<JsonFa
         assert!(rt;
             in_two(limits, &input[..cut], &input[cut..]) == expected,
             "{row}, cut at {cut}"
+        );
+        assert!(rt;
+            ignored_in_two(limits, &input[..cut], &input[cut..]) == (expected, true),
+            "{row}, cut at {cut}, ignored"
         );
     }
     assert!(rt;
@@ -113,6 +163,114 @@ fn texts_are_admitted(rt: HostRuntime) {
     ];
     for (input, row) in rows {
         expect(&rt, Limits::usual(), input, None, row);
+    }
+}
+
+#[test]
+fn ignored_levels_are_checked(rt: HostRuntime) {
+    let rows: [(&[u8], u8, u64, Option<JsonFault>, &str); 14] = [
+        (
+            b"{\"a\":{\"b\":[true,null,{\"c\":\"x\\n\xC3\xA9\",\"d\":-1.5e3}],\"e\":{}} , \"f\" : [ false ] }",
+            64,
+            100,
+            None,
+            "values of each kind",
+        ),
+        (
+            b"{\"a\":[1,,2]}",
+            64,
+            100,
+            refused(Cause::Syntax, 8),
+            "two commas",
+        ),
+        (
+            b"{\"a\":{\"b\" \"c\"}}",
+            64,
+            100,
+            refused(Cause::Syntax, 10),
+            "a name without a colon",
+        ),
+        (
+            b"{\"a\":[true,\"\xFF\"]}",
+            64,
+            100,
+            refused(Cause::Syntax, 12),
+            "no UTF-8",
+        ),
+        (
+            b"{\"a\":[\"b\":1]}",
+            64,
+            100,
+            refused(Cause::Syntax, 9),
+            "a colon in an array",
+        ),
+        (
+            b"{\"a\":{\"b\",1}}",
+            64,
+            100,
+            refused(Cause::Syntax, 9),
+            "a comma behind a name",
+        ),
+        (
+            b"{\"a\":{true:1}}",
+            64,
+            100,
+            refused(Cause::Syntax, 6),
+            "a literal name for a name",
+        ),
+        (
+            b"{\"a\":{\"b\":1,true}}",
+            64,
+            100,
+            refused(Cause::Syntax, 12),
+            "no name behind a comma",
+        ),
+        (
+            b"{\"a\":[tru]}",
+            64,
+            100,
+            refused(Cause::Syntax, 9),
+            "a part of a literal name",
+        ),
+        (
+            b"{\"a\":[\"b\" true]}",
+            64,
+            100,
+            refused(Cause::Syntax, 10),
+            "no comma",
+        ),
+        (
+            b"{\"a\":[\"b\"}}",
+            64,
+            100,
+            refused(Cause::Syntax, 9),
+            "the other bracket",
+        ),
+        (
+            b"{\"a\":[[]]}",
+            2,
+            100,
+            refused(Cause::Depth, 6),
+            "too deep",
+        ),
+        (
+            b"{\"a\":[true,false]}",
+            64,
+            14,
+            refused(Cause::Length, 14),
+            "too long",
+        ),
+        (
+            b"{\"a\":[true,false",
+            64,
+            100,
+            refused(Cause::Truncated, 16),
+            "no end",
+        ),
+    ];
+    for (input, depth, bytes, expected, row) in rows {
+        let limits = Limits::new(depth, bytes).unwrap_or(Limits::usual());
+        expect(&rt, limits, input, expected, row);
     }
 }
 

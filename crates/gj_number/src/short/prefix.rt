@@ -31,22 +31,49 @@ struct Spelled {
 
 /// Reads the ordinary number that the piece starts with: how many bytes it has, or 0 where none is found.
 ///
-/// It is found in each piece of at least 40 bytes that starts with one, where the byte after it is of no number. Where 0
-/// is answered, the piece may start with another number, and `number` is no longer of use.
+/// It is found in each piece of at least 40 bytes that starts with one, where the byte after it is of no number; in a
+/// shorter piece it is read from a copy. Where 0 is answered, the piece may start with another number, and `number` is no
+/// longer of use.
 #[inline(always)]
 pub fn read_short(piece: &[u8], number: &mut Short) -> usize
     ensures number { 0 < result → StartsWithNumber piece.now (exact_of number.new) result }
     ensures taken { 40 ≤ length piece.now → (n : ℕ) → StartsOrdinary piece.now n → 0 < result }
 {
     if piece.len() < ROOM {
-        return 0;
+        return read_copied(piece, number);
     }
+    read_there(piece, number)
+}
+
+/// Reads the number where it stands.
+#[inline(always)]
+fn read_there(piece: &[u8], number: &mut Short) -> usize
+    requires room { 40 ≤ length piece.now }
+    ensures number { 0 < result → StartsWithNumber piece.now (exact_of number.new) result }
+    ensures taken { (n : ℕ) → StartsOrdinary piece.now n → 0 < result }
+{
     let negative = piece[0] == b'-';
     let count = short_number(piece, negative, number);
     if count > 0 {
         return count;
     }
     long_number(piece, negative, number)
+}
+
+/// Reads the number of a piece that is too short to be read where it stands, in a copy with room after it. That of a piece
+/// that ends with the number is not known, since it may go on in the next one.
+#[inline(never)]
+fn read_copied(piece: &[u8], number: &mut Short) -> usize
+    requires short { length piece.now < 40 }
+    ensures number { 0 < result → StartsWithNumber piece.now (exact_of number.new) result }
+{
+    let mut copy = [0; ROOM];
+    copy[..piece.len()].copy_from_slice(piece);
+    let count = read_there(&copy, number);
+    if count >= piece.len() {
+        return 0;
+    }
+    count
 }
 
 /// Reads the number, where it and the byte after it are among the sixteen bytes after its sign.

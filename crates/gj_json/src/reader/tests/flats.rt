@@ -8,7 +8,7 @@ use crate::sink::EventSink;
 use std::process::Abort;
 
 /// The text, and spaces after it: each of its numbers has room after it, so that none is left to the slow path.
-fn padded(text: &[u8]) -> [u8; 128] {
+pub(super) fn padded(text: &[u8]) -> [u8; 128] {
     let mut piece = [b' '; 128];
     for (to, from) in piece.iter_mut().zip(text) {
         *to = *from;
@@ -52,7 +52,14 @@ fn is_same(one: &FirstEvents, other: &FirstEvents) -> bool {
     true
 }
 
-fn expect_same(rt: &impl Abort, limits: Limits, piece: &[u8], text: &str, index: usize, byte: u8) {
+pub(super) fn expect_same(
+    rt: &impl Abort,
+    limits: Limits,
+    piece: &[u8],
+    text: &str,
+    index: usize,
+    byte: u8,
+) {
     let mut at_once = no_events();
     let mut in_turn = no_events();
     let fault = by_piece(limits, piece, &mut at_once);

@@ -52,6 +52,27 @@ fn reads_ordinary_numbers(rt: HostRuntime) {
 }
 
 #[test]
+fn reads_numbers_near_the_end_of_a_piece(rt: HostRuntime) {
+    for (text, expected) in [
+        ("7]", 1),
+        ("-47.33879]}}\n", 9),
+        ("-122.41941550000001]", 19),
+        ("1234567890123456,1234567890123456,12345", 16),
+        ("12.5", 0),
+        ("-", 0),
+        ("", 0),
+        ("1e5]", 0),
+    ] {
+        let mut number = Short::zero();
+        assert_eq!(rt;
+            read_short(text.as_bytes(), &mut number),
+            expected,
+            "{text}"
+        );
+    }
+}
+
+#[test]
 fn leaves_the_others(rt: HostRuntime) {
     for text in [
         "",

@@ -1,0 +1,104 @@
+-- Bytes that pass a test, seen a vector at a time.
+use Rattle.std.proofs.Common.{◌≡◌, ℕ, ◌+◌, ◌<◌, ◌≤◌, ◌%◌, ◌^◌, ◌*◌, ◌/◌, Bool, true, false, not, cond, eqb, ltb, w8, Fits, List, [], ◌∷◌, map, length, take, drop, get_or, zero, suc, refl, sym, ap, ap₂, ◌∙◌, drop-drop, arith}
+use Rattle.std.proofs.lemmas.Bool.{agree_below, agree_below_at, eq-eqb, ne_eqb}
+use Rattle.std.proofs.lemmas.List.{length-map}
+use Rattle.std.proofs.lemmas.List.Folds.{prefix_len-append}
+use Rattle.std.proofs.lemmas.Simd.{map-map, mask_l-mod, chunk-drop, length-chunk, leading_from_mask_l, zip2_of_maps, trailing_mask_l}
+use Rattle.std.proofs.lemmas.List.Sums.{prefix_len-le-length}
+use Rattle.std.specs.List.{prefix_len}
+use lib.Count.{count_trailing_zeros}
+use lib.Bits.{bit_or}
+use lib.Lanes.{zip2, chunk, mask_l, top, Each1}
+use Rattle.std.specs.Simd.{first_chunks}
+
+-- a mask by lanes says of each byte what the test says, if they agree on all 256
+tops : (f : ℕ → ℕ) (p : ℕ → Bool) → agree_below (λ x. top 7 (f x)) p 256 ≡ true → (v : List ℕ) → Each1 (Fits w8) v → map (λ x. top 7 (f x)) v ≡ map p v
+tops f p all [] fits = refl
+tops f p all (x ∷ v) fits = ap₂ (λ a b. a ∷ b) (agree_below_at (λ y. top 7 (f y)) p 256 x all fits.0.fits) (tops f p all v fits.1)
+
+pub mask_is : (f : ℕ → ℕ) (p : ℕ → Bool) (v z : List ℕ) → length v ≤ 64 → Each1 (Fits w8) v → z ≡ map f v → agree_below (λ x. top 7 (f x)) p 256 ≡ true → mask_l (map (top 7) z) % 2 ^ 64 ≡ mask_l (map p v)
+mask_is f p v z few fits e all =
+    ap (λ m. mask_l m % 2 ^ 64) (ap (map (top 7)) e ∙ map-map (top 7) f v ∙ tops f p all v fits) ∙ mask_l-mod (map p v) 64 (omega (arith, length-map v p))
+
+-- what two vectors that are compared, and two masks that are joined, hold at a lane
+abbrev pub equal : ℕ → ℕ → ℕ
+equal a b = cond (eqb a b) 255 0
+
+abbrev pub less : ℕ → ℕ → ℕ
+less a b = cond (ltb a b) 255 0
+
+pub either : (f g : ℕ → ℕ) (v : List ℕ) {xs ys : List ℕ} → xs ≡ map f v → ys ≡ map g v → zip2 bit_or xs ys ≡ map (λ x. bit_or (f x) (g x)) v
+either f g v e h = zip2_of_maps bit_or f g v e h
+
+module _ (q : ℕ → Bool) where
+  same_prefix : (v : List ℕ) → prefix_len (λ x. not (not (q x))) v ≡ prefix_len q v
+  same_prefix [] = refl
+  same_prefix (x ∷ v) = ap₂ (λ b n. cond b (1 + n) 0) (not_not (q x)) (same_prefix v)
+    where
+      not_not : (b : Bool) → not (not b) ≡ b
+      not_not true = refl
+      not_not false = refl
+
+  -- a vector, and what comes behind it
+  split : (piece : List ℕ) (at n : ℕ) → at + n ≤ length piece
+      → prefix_len q (drop at piece) ≡ cond (eqb (prefix_len q (chunk at n piece)) n) (n + prefix_len q (drop (at + n) piece)) (prefix_len q (chunk at n piece))
+  split piece at n room =
+      let v = chunk at n piece in
+      ap (prefix_len q) (chunk-drop at n piece) ∙ prefix_len-append q v (drop (at + n) piece)
+      ∙ ap (λ l. cond (eqb (prefix_len q v) l) (l + prefix_len q (drop (at + n) piece)) (prefix_len q v)) (length-chunk at n piece room)
+
+  -- where no lane fails the test, the run goes on behind them
+  pub lanes_on : (piece : List ℕ) (at n : ℕ) → at + n ≤ length piece → mask_l (map (λ b. not (q b)) (chunk at n piece)) ≡ 0 → prefix_len q (drop at piece) ≡ n + prefix_len q (drop (at + n) piece)
+  lanes_on piece at n room none =
+      let v = chunk at n piece in
+      let all : prefix_len q v ≡ n = sym (same_prefix v) ∙ leading_from_mask_l (λ b. not (q b)) v none ∙ length-chunk at n piece room in
+      split piece at n room ∙ ap (λ t. cond t (n + prefix_len q (drop (at + n) piece)) (prefix_len q v)) (eq-eqb _ _ all)
+
+  -- and else it ends at the first that does
+  pub lanes_stop : (piece : List ℕ) (at n : ℕ) → at + n ≤ length piece → n ≤ 64 → 0 < mask_l (map (λ b. not (q b)) (chunk at n piece))
+      → prefix_len q (drop at piece) ≡ count_trailing_zeros 64 (mask_l (map (λ b. not (q b)) (chunk at n piece)))
+  lanes_stop piece at n room few some =
+      let v = chunk at n piece in
+      let l : length v ≡ n = length-chunk at n piece room in
+      let first : count_trailing_zeros 64 (mask_l (map (λ b. not (q b)) v)) ≡ prefix_len q v = trailing_mask_l (λ b. not (q b)) 64 v (omega arith) some ∙ same_prefix v in
+      split piece at n room ∙ ap (λ t. cond t (n + prefix_len q (drop (at + n) piece)) (prefix_len q v)) (ne_eqb _ _ (λ (e : prefix_len q v ≡ n). omega (arith, no_bit v (e ∙ sym l)))) ∙ sym first
+    where
+      no_more : (b : Bool) (m k l : ℕ) → m ≤ l → cond b (1 + m) 0 ≡ 1 + l → (m ≡ l → k ≡ 0) → cond (not b) 1 0 + 2 * k ≡ 0
+      no_more true m k l w e h = let z : k ≡ 0 = h (omega arith) in omega arith
+      no_more false m k l w e h = let no : ⊥ = omega arith in absurd no
+
+      no_bit : (v : List ℕ) → prefix_len q v ≡ length v → mask_l (map (λ b. not (q b)) v) ≡ 0
+      no_bit [] e = refl
+      no_bit (x ∷ v) e = no_more (q x) (prefix_len q v) (mask_l (map (λ b. not (q b)) v)) (length v) (prefix_len-le-length q v) (omega (arith, e)) (no_bit v)
+
+-- the blocks of a piece
+pub block_at : (n k i : ℕ) (piece : List ℕ) → i < k → get_or (first_chunks n k piece) i [] ≡ chunk (i * n) n piece
+block_at n zero i piece h = absurd (omega arith)
+block_at n (suc k) zero piece h = let e : 0 * n ≡ 0 = omega arith in ap (λ m. take n (drop m piece)) (sym e)
+block_at n (suc k) (suc i) piece h =
+    let e : n + i * n ≡ suc i * n = omega arith in block_at n k i (drop n piece) (omega arith) ∙ ap (take n) (drop-drop (i * n) n piece) ∙ ap (λ m. take n (drop m piece)) e
+
+-- a run by blocks of sixteen bytes: where no lane of a block fails the test, and where one does
+module _ (q : ℕ → Bool) (piece : List ℕ) (index : ℕ) (block : List ℕ) (blocks : List (List ℕ)) (same : blocks ≡ first_chunks 16 (length piece / 16) piece) (is : block ≡ get_or blocks index []) (less : index < length piece / 16)
+    (stops : ℕ) (mask : stops ≡ mask_l (map (λ b. not (q b)) block)) (run : prefix_len q piece ≡ index * 16 + prefix_len q (drop (index * 16) piece)) where
+  block_is : block ≡ chunk (index * 16) 16 piece
+  block_is = is ∙ ap (λ bs. get_or bs index []) same ∙ block_at 16 (length piece / 16) index piece less
+
+  lanes : stops ≡ mask_l (map (λ b. not (q b)) (chunk (index * 16) 16 piece))
+  lanes = mask ∙ ap (λ v. mask_l (map (λ b. not (q b)) v)) block_is
+
+  pub block_passes : stops ≡ 0 → prefix_len q piece ≡ (index + 1) * 16 + prefix_len q (drop ((index + 1) * 16) piece)
+  block_passes none =
+      let next : index * 16 + 16 ≡ (index + 1) * 16 = omega arith in
+      let on = lanes_on q piece (index * 16) 16 (omega (arith, less)) (sym lanes ∙ none) in
+      omega (arith, run, on, ap (λ m. prefix_len q (drop m piece)) next)
+
+  pub block_stops : 0 < stops → index * 16 + count_trailing_zeros 64 stops ≡ prefix_len q piece
+  block_stops some =
+      let end = lanes_stop q piece (index * 16) 16 (omega (arith, less)) (omega arith) (omega (arith, some, lanes)) ∙ ap (count_trailing_zeros 64) (sym lanes) in
+      omega (arith, run, end)
+
+-- and the bytes behind the last block
+pub rest_stops : (q : ℕ → Bool) (piece rest : List ℕ) (index : ℕ) → rest ≡ drop (length piece / 16 * 16) piece → index ≡ length piece / 16 → prefix_len q piece ≡ index * 16 + prefix_len q (drop (index * 16) piece)
+    → index * 16 + prefix_len q rest ≡ prefix_len q piece
+rest_stops q piece rest index same e run = let k : prefix_len q rest ≡ prefix_len q (drop (index * 16) piece) = ap (prefix_len q) same ∙ ap (λ m. prefix_len q (drop (m * 16) piece)) (sym e) in omega (arith, run, k)

@@ -1,0 +1,15 @@
+-- The whole piece, or what is allowed of it.
+use Rattle.std.proofs.Common.{ℕ, ◌-◌, min, take, subst, arith}
+use Rattle.gj_json.specs.Runs.{IsLongestUtf8, plain_run_of}
+use Rattle.gj_json.proofs.Utf8Texts.{longest_all, longest_upto}
+use Rattle.gj_json.proofs.reader.Reader.allowed_characters.Goals as goal
+
+pub returns-then-piece-room-clause-longest : goal.returns-then-piece-room-clause-longest
+returns-then-piece-room-clause-longest c =
+    longest_all (c.args.self.now.limits.bytes - c.args.self.now.offset) c.whole_characters.result c.args.piece.now (omega (arith, c.if-piece-room.true, c.bytes.ensures.value)) c.whole_characters.ensures
+
+pub returns-else-piece-room-clause-longest : goal.returns-else-piece-room-clause-longest
+returns-else-piece-room-clause-longest c =
+    let k = c.whole_characters-else-piece-room.result in
+    let P : ℕ → Type 0 = λ n. IsLongestUtf8 (take (min (plain_run_of c.args.piece.now) (n - c.args.self.now.offset)) c.args.piece.now) k in
+    subst P c.bytes.ensures.value (longest_upto (c.bytes.result - c.args.self.now.offset) k c.args.piece.now c.whole_characters-else-piece-room.ensures)

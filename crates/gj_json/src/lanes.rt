@@ -1,0 +1,187 @@
+//! Runs of bytes at the start of a piece, found sixteen at a time.
+
+ghost use Rattle.std.specs.Prelude.{◌≡◌, map, not};
+ghost use Rattle.std.specs.List.{prefix_len};
+ghost use Rattle.std.specs.Simd.Lanes.{mask_l};
+ghost use Rattle.gj_json.specs.Quiet.{is_plain, is_white};
+ghost use Rattle.gj_json.specs.Runs.{is_unescaped};
+
+use std::simd::prelude::*;
+
+/// How many bytes are looked at together.
+const LANES: usize = 16;
+
+/// Whether the byte is a character by itself.
+fn is_plain(byte: u8) -> bool
+    ensures { result ≡ is_plain byte }
+{
+    b' ' <= byte && byte <= 0x7F && byte != b'"' && byte != b'\\'
+}
+
+/// Whether the byte may stand in a string unescaped.
+fn is_unescaped(byte: u8) -> bool
+    ensures { result ≡ is_unescaped byte }
+{
+    b' ' <= byte && byte != b'"' && byte != b'\\'
+}
+
+#[inline(always)]
+pub fn is_white(byte: u8) -> bool
+    ensures { result ≡ is_white byte }
+{
+    byte == b' ' || byte == b'\t' || byte == b'\n' || byte == b'\r'
+}
+
+/// One bit for each lane that is no character by itself.
+#[inline(always)]
+fn ascii_stops(lanes: u8x16) -> u64
+    ensures { result ≡ mask_l (map (λ b. not (is_plain b)) lanes) }
+{
+    let quotes = lanes.simd_eq(u8x16::splat(b'"'));
+    let backslashes = lanes.simd_eq(u8x16::splat(b'\\'));
+    let controls = lanes.simd_lt(u8x16::splat(b' '));
+    let beyond = lanes.simd_gt(u8x16::splat(0x7F));
+    (quotes | backslashes | controls | beyond).to_bitmask()
+}
+
+/// One bit for each lane that may not stand in a string unescaped.
+#[inline(always)]
+fn plain_stops(lanes: u8x16) -> u64
+    ensures { result ≡ mask_l (map (λ b. not (is_unescaped b)) lanes) }
+{
+    let quotes = lanes.simd_eq(u8x16::splat(b'"'));
+    let backslashes = lanes.simd_eq(u8x16::splat(b'\\'));
+    let controls = lanes.simd_lt(u8x16::splat(b' '));
+    (quotes | backslashes | controls).to_bitmask()
+}
+
+/// One bit for each lane that is no white space.
+#[inline(always)]
+fn white_stops(lanes: u8x16) -> u64
+    ensures { result ≡ mask_l (map (λ b. not (is_white b)) lanes) }
+{
+    let spaces = lanes.simd_eq(u8x16::splat(b' '));
+    let tabs = lanes.simd_eq(u8x16::splat(b'\t'));
+    let line_feeds = lanes.simd_eq(u8x16::splat(b'\n'));
+    let returns = lanes.simd_eq(u8x16::splat(b'\r'));
+    (!(spaces | tabs | line_feeds | returns)).to_bitmask()
+}
+
+fn few_ascii(piece: &[u8]) -> usize
+    ensures { result ≡ prefix_len is_plain piece.now }
+{
+    piece.iter().take_while(|byte| is_plain(**byte)).count()
+}
+
+fn few_plain(piece: &[u8]) -> usize
+    ensures { result ≡ prefix_len is_unescaped piece.now }
+{
+    piece.iter().take_while(|byte| is_unescaped(**byte)).count()
+}
+
+fn few_white(piece: &[u8]) -> usize
+    ensures { result ≡ prefix_len is_white piece.now }
+{
+    piece.iter().take_while(|byte| is_white(**byte)).count()
+}
+
+/// How many bytes at the start of the piece are characters by themselves.
+#[inline]
+pub fn ascii_run(piece: &[u8]) -> usize
+    ensures { result ≡ prefix_len is_plain piece.now }
+{
+    let (blocks, rest) = piece.as_chunks::<LANES>();
+    let mut index = 0;
+    while index < blocks.len() {
+        let stops = ascii_stops(u8x16::from_array(blocks[index]));
+        if stops != 0 {
+            return index * LANES + stops.trailing_zeros() as usize;
+        }
+        index += 1;
+    }
+    index * LANES + few_ascii(rest)
+}
+
+/// How many bytes at the start of the piece may stand in a string unescaped: those from 20 (hexadecimal) on but the quote
+/// and the backslash.
+#[inline]
+pub fn plain_run(piece: &[u8]) -> usize
+    ensures { result ≡ prefix_len is_unescaped piece.now }
+{
+    let (blocks, rest) = piece.as_chunks::<LANES>();
+    let mut index = 0;
+    while index < blocks.len() {
+        let stops = plain_stops(u8x16::from_array(blocks[index]));
+        if stops != 0 {
+            return index * LANES + stops.trailing_zeros() as usize;
+        }
+        index += 1;
+    }
+    index * LANES + few_plain(rest)
+}
+
+/// How many bytes at the start of the piece are white space: a look at one first, since mostly there is none.
+#[inline]
+pub fn white_run(piece: &[u8]) -> usize
+    ensures { result ≡ prefix_len is_white piece.now }
+{
+    if piece.is_empty() || !is_white(piece[0]) {
+        return 0;
+    }
+    let (blocks, rest) = piece.as_chunks::<LANES>();
+    let mut index = 0;
+    while index < blocks.len() {
+        let stops = white_stops(u8x16::from_array(blocks[index]));
+        if stops != 0 {
+            return index * LANES + stops.trailing_zeros() as usize;
+        }
+        index += 1;
+    }
+    index * LANES + few_white(rest)
+}
+
+#[cfg(test)]
+mod tests {
+    use super::{ascii_run, plain_run, white_run};
+
+    /// A stopping byte at each index of slices of 0 to 130 bytes.
+    #[test]
+    fn stops_at_each_index(rt: HostRuntime) {
+        for length in 0..=130usize {
+            let mut bytes = [b'x'; 130];
+            assert!(rt; plain_run(&bytes[..length]) == length);
+            assert!(rt; ascii_run(&bytes[..length]) == length);
+            for at in 0..length {
+                for stop in [0u8, 0x1F, b'"', b'\\'] {
+                    bytes[at] = stop;
+                    assert!(rt; plain_run(&bytes[..length]) == at);
+                    assert!(rt; ascii_run(&bytes[..length]) == at);
+                }
+                for on in [0x80u8, 0xFF] {
+                    bytes[at] = on;
+                    assert!(rt; plain_run(&bytes[..length]) == length);
+                    assert!(rt; ascii_run(&bytes[..length]) == at);
+                }
+                bytes[at] = b'x';
+            }
+        }
+    }
+
+    /// The same of white space of each kind.
+    #[test]
+    fn white_space_stops_at_each_index(rt: HostRuntime) {
+        for length in 0..=50usize {
+            for white in [b' ', b'\t', b'\n', b'\r'] {
+                let mut bytes = [white; 50];
+                assert!(rt; white_run(&bytes[..length]) == length);
+                for at in 0..length {
+                    for stop in [0u8, 0x0B, 0x1F, b'!', 0xA0] {
+                        bytes[at] = stop;
+                        assert!(rt; white_run(&bytes[..length]) == at);
+                    }
+                    bytes[at] = white;
+                }
+            }
+        }
+    }
+}

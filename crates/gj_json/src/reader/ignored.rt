@@ -1,0 +1,104 @@
+//! Bytes whose events do not matter to the sink.
+
+ghost use Rattle.std.specs.Prelude.{◌≡◌, ◌+◌, ◌^◌, ◌≤◌, ◌<◌, length, take, IfOk, MatchResult, None};
+ghost use Rattle.gj_json.specs.Levels.{levels_in};
+
+use super::Reader;
+use crate::fault::JsonFault;
+use crate::mode::Mode;
+use crate::sink::{EventSink, NoEvents};
+
+impl Reader {
+    ghost use Rattle.gj_json.specs.Feeding.{FeedsAll, FeedsTo, FeedsWithin, FeedsWithinTo};
+
+    /// Takes bytes from the front of the piece, one at least, where some levels above the floor are open: how many.
+    fn take_some_within(&mut self, piece: &[u8], floor: u8) -> Result<usize, JsonFault>
+        requires live { self.old.fault ≡ None }
+        requires some { 0 < length piece.now }
+        requires room { self.old.offset + length piece.now ≤ self.old.limits.bytes }
+        requires small { self.old.limits.bytes ≤ 2 ^ 60 }
+        requires above { floor < length (levels_in self.old.levels) }
+        ensures within { IfOk result (λ n. (0 < n) × (n ≤ length piece.now)) }
+        ensures floor { floor ≤ length (levels_in self.new.levels) }
+        ensures feeds { MatchResult result (λ n. FeedsWithin floor self.old self.new (take n piece.now)) (FeedsWithinTo floor self.old self.new piece.now) }
+    {
+        let quiet = self.skip_front(piece);
+        if quiet == piece.len() {
+            return Ok(quiet);
+        }
+        match self.take_byte(piece[quiet], &mut NoEvents) {
+            Ok(()) => Ok(quiet + 1),
+            Err(fault) => Err(fault),
+        }
+    }
+
+    /// Takes bytes from the front of the piece until the levels above the floor have closed: how many.
+    fn take_within(&mut self, piece: &[u8], floor: u8) -> Result<usize, JsonFault>
+        requires live { self.old.fault ≡ None }
+        requires room { self.old.offset + length piece.now ≤ self.old.limits.bytes }
+        requires small { self.old.limits.bytes ≤ 2 ^ 60 }
+        requires above { floor ≤ length (levels_in self.old.levels) }
+        ensures within { IfOk result (λ n. n ≤ length piece.now) }
+        ensures floor { floor ≤ length (levels_in self.new.levels) }
+        ensures feeds { MatchResult result (λ n. FeedsWithin floor self.old self.new (take n piece.now)) (FeedsWithinTo floor self.old self.new piece.now) }
+    {
+        let mut at = 0;
+        while at < piece.len() {
+            if self.levels.len() == floor {
+                break;
+            }
+            at += self.pass_tokens(&piece[at..]);
+            if at == piece.len() {
+                break;
+            }
+            match self.take_some_within(&piece[at..], floor) {
+                Ok(count) => at += count,
+                Err(fault) => return Err(fault),
+            }
+        }
+        Ok(at)
+    }
+
+    /// Takes bytes from the front of the piece whose events do not matter to the sink: how many.
+    #[inline(never)]
+    pub(super) fn take_ignored<S: EventSink>(
+        &mut self,
+        piece: &[u8],
+        sink: &mut S,
+    ) -> Result<usize, JsonFault>
+        requires live { self.old.fault ≡ None }
+        requires room { self.old.offset + length piece.now ≤ self.old.limits.bytes }
+        requires small { self.old.limits.bytes ≤ 2 ^ 60 }
+        ensures within { IfOk result (λ n. n ≤ length piece.now) }
+        ensures feeds { MatchResult result (λ n. FeedsAll (S.heard sink.old) (S.heard sink.new) self.old self.new (take n piece.now)) (FeedsTo (S.heard sink.old) (S.heard sink.new) self.old self.new piece.now) }
+    {
+        let ignored = sink.ignored();
+        let open = self.levels.len();
+        if ignored == 0 || open < ignored {
+            return Ok(0);
+        }
+        let floor = open - ignored;
+        let taken = self.take_within(piece, floor);
+        sink.pass(self.levels.len() - floor);
+        taken
+    }
+
+    /// The same, told at once where no container has just been opened.
+    #[inline(always)]
+    pub(super) fn take_if_opened<S: EventSink>(
+        &mut self,
+        piece: &[u8],
+        sink: &mut S,
+    ) -> Result<usize, JsonFault>
+        requires live { self.old.fault ≡ None }
+        requires room { self.old.offset + length piece.now ≤ self.old.limits.bytes }
+        requires small { self.old.limits.bytes ≤ 2 ^ 60 }
+        ensures within { IfOk result (λ n. n ≤ length piece.now) }
+        ensures feeds { MatchResult result (λ n. FeedsAll (S.heard sink.old) (S.heard sink.new) self.old self.new (take n piece.now)) (FeedsTo (S.heard sink.old) (S.heard sink.new) self.old self.new piece.now) }
+    {
+        match self.mode {
+            Mode::ObjectOpened | Mode::ArrayOpened => self.take_ignored(piece, sink),
+            _ => Ok(0),
+        }
+    }
+}

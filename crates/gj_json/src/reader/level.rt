@@ -1,0 +1,209 @@
+//! Whole tokens that open and close nothing, where no event matters.
+
+ghost use Rattle.std.specs.Prelude.{◌≡◌, ◌+◌, ◌^◌, ◌≤◌, ◌<◌, true, length, take, get_or, None};
+ghost use Rattle.gj_json.specs.Bytes.{quote, comma, colon};
+ghost use Rattle.gj_json.specs.FlatParts.{awaits};
+ghost use Rattle.gj_json.specs.Tokens.{names};
+ghost use Rattle.gj_json.specs.declared.mode.Mode.TheVariants.{ValueDone, ColonDue};
+
+use super::Reader;
+use crate::flat::Numbered;
+use crate::levels::Level;
+use crate::mode::Mode;
+use crate::tokens::{constant_run, quoted_run};
+use gj_number::read_short;
+
+impl Reader {
+    ghost use Rattle.gj_json.specs.Feeding.{FeedsLevel};
+
+    /// Takes the string at the front of the piece, where it stands whole: how many bytes.
+    #[inline(always)]
+    fn pass_text(&mut self, piece: &[u8]) -> usize
+        requires some { 0 < length piece.now }
+        requires quote { get_or piece.now 0 0 ≡ quote }
+        requires live { self.old.fault ≡ None }
+        requires due { awaits self.old.mode ≡ true }
+        requires room { self.old.offset + length piece.now ≤ self.old.limits.bytes }
+        requires small { self.old.limits.bytes ≤ 2 ^ 60 }
+        ensures within { result ≤ length piece.now }
+        ensures feeds { FeedsLevel self.old self.new (take result piece.now) }
+    {
+        let count = quoted_run(piece);
+        if count == 0 {
+            return 0;
+        }
+        self.skip(count, Mode::ValueDone)
+    }
+
+    /// Takes the literal name at the front of the piece, where it stands whole: how many bytes.
+    #[inline(always)]
+    fn pass_constant(&mut self, piece: &[u8]) -> usize
+        requires live { self.old.fault ≡ None }
+        requires due { awaits self.old.mode ≡ true }
+        requires room { self.old.offset + length piece.now ≤ self.old.limits.bytes }
+        requires small { self.old.limits.bytes ≤ 2 ^ 60 }
+        ensures within { result ≤ length piece.now }
+        ensures feeds { FeedsLevel self.old self.new (take result piece.now) }
+    {
+        let count = constant_run(piece);
+        if count == 0 {
+            return 0;
+        }
+        self.skip(count, Mode::ValueDone)
+    }
+
+    /// Takes the name at the front of the piece, where it stands whole: how many bytes.
+    #[inline(always)]
+    fn pass_name(&mut self, piece: &[u8]) -> usize
+        requires some { 0 < length piece.now }
+        requires quote { get_or piece.now 0 0 ≡ quote }
+        requires live { self.old.fault ≡ None }
+        requires due { names self.old.mode ≡ true }
+        requires room { self.old.offset + length piece.now ≤ self.old.limits.bytes }
+        requires small { self.old.limits.bytes ≤ 2 ^ 60 }
+        ensures within { result ≤ length piece.now }
+        ensures feeds { FeedsLevel self.old self.new (take result piece.now) }
+    {
+        let count = quoted_run(piece);
+        if count == 0 {
+            return 0;
+        }
+        self.skip(count, Mode::ColonDue)
+    }
+
+    /// Takes the colon at the front of the piece.
+    #[inline(always)]
+    fn pass_colon(&mut self, piece: &[u8]) -> usize
+        requires some { 0 < length piece.now }
+        requires colon { get_or piece.now 0 0 ≡ colon }
+        requires live { self.old.fault ≡ None }
+        requires due { self.old.mode ≡ ColonDue }
+        requires room { self.old.offset + length piece.now ≤ self.old.limits.bytes }
+        requires small { self.old.limits.bytes ≤ 2 ^ 60 }
+        ensures within { result ≤ length piece.now }
+        ensures feeds { FeedsLevel self.old self.new (take result piece.now) }
+    {
+        self.skip(1, Mode::ValueDue)
+    }
+
+    /// Takes the comma at the front of the piece: how many bytes.
+    #[inline(always)]
+    fn pass_comma(&mut self, piece: &[u8]) -> usize
+        requires some { 0 < length piece.now }
+        requires comma { get_or piece.now 0 0 ≡ comma }
+        requires live { self.old.fault ≡ None }
+        requires done { self.old.mode ≡ ValueDone }
+        requires room { self.old.offset + length piece.now ≤ self.old.limits.bytes }
+        requires small { self.old.limits.bytes ≤ 2 ^ 60 }
+        ensures within { result ≤ length piece.now }
+        ensures feeds { FeedsLevel self.old self.new (take result piece.now) }
+    {
+        match self.levels.inner() {
+            Some(Level::Array) => self.skip(1, Mode::ValueDue),
+            Some(Level::Object) => self.skip(1, Mode::NameDue),
+            None => 0,
+        }
+    }
+
+    /// Takes the ordinary number at the front of the piece, and the comma behind it: how many bytes.
+    #[inline(always)]
+    fn pass_number(&mut self, piece: &[u8]) -> usize
+        requires live { self.old.fault ≡ None }
+        requires due { awaits self.old.mode ≡ true }
+        requires room { self.old.offset + length piece.now ≤ self.old.limits.bytes }
+        requires small { self.old.limits.bytes ≤ 2 ^ 60 }
+        ensures within { result ≤ length piece.now }
+        ensures feeds { FeedsLevel self.old self.new (take result piece.now) }
+    {
+        let mut number = Numbered::blank();
+        let count = read_short(piece, &mut number.value);
+        if count == 0 || count == piece.len() || piece[count] != b',' {
+            return 0;
+        }
+        match self.levels.inner() {
+            Some(Level::Array) => self.skip(count + 1, Mode::ValueDue),
+            Some(Level::Object) => self.skip(count + 1, Mode::NameDue),
+            None => 0,
+        }
+    }
+
+    /// Takes the value at the front of the piece, where it stands whole and has no levels: how many bytes.
+    #[inline(always)]
+    fn pass_value(&mut self, piece: &[u8]) -> usize
+        requires some { 0 < length piece.now }
+        requires live { self.old.fault ≡ None }
+        requires due { awaits self.old.mode ≡ true }
+        requires room { self.old.offset + length piece.now ≤ self.old.limits.bytes }
+        requires small { self.old.limits.bytes ≤ 2 ^ 60 }
+        ensures within { result ≤ length piece.now }
+        ensures feeds { FeedsLevel self.old self.new (take result piece.now) }
+    {
+        match piece[0] {
+            b'"' => self.pass_text(piece),
+            b'n' | b't' | b'f' => self.pass_constant(piece),
+            b'-' | b'0'..=b'9' => self.pass_number(piece),
+            _ => 0,
+        }
+    }
+
+    /// Takes white space, or the token at the front of the piece, where it stands whole and opens and closes nothing: how
+    /// many bytes.
+    #[inline(always)]
+    fn pass_token(&mut self, piece: &[u8]) -> usize
+        requires some { 0 < length piece.now }
+        requires live { self.old.fault ≡ None }
+        requires room { self.old.offset + length piece.now ≤ self.old.limits.bytes }
+        requires small { self.old.limits.bytes ≤ 2 ^ 60 }
+        ensures within { result ≤ length piece.now }
+        ensures feeds { FeedsLevel self.old self.new (take result piece.now) }
+    {
+        let byte = piece[0];
+        if byte <= b' ' {
+            return self.skip_quiet(piece);
+        }
+        match self.mode {
+            Mode::ValueDue | Mode::ArrayOpened => self.pass_value(piece),
+            Mode::NameDue | Mode::ObjectOpened => {
+                if byte == b'"' {
+                    self.pass_name(piece)
+                } else {
+                    0
+                }
+            }
+            Mode::ColonDue => {
+                if byte == b':' {
+                    self.pass_colon(piece)
+                } else {
+                    0
+                }
+            }
+            Mode::ValueDone => {
+                if byte == b',' {
+                    self.pass_comma(piece)
+                } else {
+                    0
+                }
+            }
+            _ => 0,
+        }
+    }
+
+    /// Takes whole tokens from the front of the piece that open and close nothing: how many bytes.
+    pub(super) fn pass_tokens(&mut self, piece: &[u8]) -> usize
+        requires live { self.old.fault ≡ None }
+        requires room { self.old.offset + length piece.now ≤ self.old.limits.bytes }
+        requires small { self.old.limits.bytes ≤ 2 ^ 60 }
+        ensures within { result ≤ length piece.now }
+        ensures feeds { FeedsLevel self.old self.new (take result piece.now) }
+    {
+        let mut at = 0;
+        while at < piece.len() {
+            let count = self.pass_token(&piece[at..]);
+            if count == 0 {
+                return at;
+            }
+            at += count;
+        }
+        at
+    }
+}

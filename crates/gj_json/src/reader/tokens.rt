@@ -1,0 +1,440 @@
+//! Whole tokens, from what the reader keeps: one after another, as long as each stands whole in the piece and is of the
+//! usual kind.
+
+ghost use Rattle.std.specs.Prelude.{◌≡◌, ◌+◌, ◌-◌, ◌^◌, ◌≤◌, ◌<◌, ◌++◌, true, List, length, take, get_or, None};
+ghost use Rattle.gj_number.specs.Grammar.{IsNumber};
+ghost use Rattle.gj_number.specs.Value.{value_of};
+ghost use Rattle.gj_json.specs.Quiet.{Leads};
+ghost use Rattle.gj_json.specs.Bytes.{quote};
+ghost use Rattle.gj_json.specs.Classes.{class_of};
+ghost use Rattle.gj_json.specs.FlatParts.{awaits};
+ghost use Rattle.gj_json.specs.Grammar.{letters_of};
+ghost use Rattle.gj_json.specs.Levels.{levels_in, inner_of, outer_of};
+ghost use Rattle.gj_json.specs.Moves.{after_move, IsMove};
+ghost use Rattle.gj_json.specs.Step.{opened};
+ghost use Rattle.gj_json.specs.Tokens.{bracket_of, closing_event, names};
+ghost use Rattle.gj_json.specs.declared.mode.Mode.TheVariants.{ValueDone, ValueDue, ColonDue};
+
+use super::Reader;
+use crate::constant::Constant;
+use crate::event::{Event, What};
+use crate::flats::white_end;
+use crate::lanes::white_run;
+use crate::levels::Level;
+use crate::mode::{Mode, Move};
+use crate::names::{name_of, type_of};
+use crate::sink::EventSink;
+use crate::tokens::plain_quoted_run;
+use crate::told::{closing, is_on, opening, what_of};
+use gj_number::{Decimal, Literal, Short, read_short};
+
+/// A piece of fewer bytes is taken byte by byte.
+const SHORTEST: usize = 16;
+
+/// What a byte after a value does.
+#[inline(always)]
+#[tactic(auto, unfolding(crate::specs::Classes::class_of))]
+fn end_of(inner: Option<Level>, byte: u8) -> Move
+    ensures value { result ≡ after_move inner (class_of byte) }
+    ensures sound { IsMove result }
+{
+    match byte {
+        b',' => match inner {
+            Some(Level::Object) => Move::Go(Mode::NameDue),
+            Some(Level::Array) => Move::Go(Mode::ValueDue),
+            None => Move::Refuse,
+        },
+        b'}' => match inner {
+            Some(Level::Object) => Move::Close,
+            _ => Move::Refuse,
+        },
+        b']' => match inner {
+            Some(Level::Array) => Move::Close,
+            _ => Move::Refuse,
+        },
+        b' ' | b'\t' | b'\n' | b'\r' => Move::Go(Mode::ValueDone),
+        _ => Move::Refuse,
+    }
+}
+
+/// The mode after the bracket that opens a level.
+#[inline(always)]
+fn opened_mode(level: Level) -> Mode
+    ensures { result ≡ opened level }
+{
+    match level {
+        Level::Array => Mode::ArrayOpened,
+        Level::Object => Mode::ObjectOpened,
+    }
+}
+
+/// How many bytes the colon has that stands at the start of a piece, with the white space around it, or 0.
+#[inline(always)]
+fn colon_run(piece: &[u8]) -> usize
+    ensures within { result ≤ length piece.now }
+    ensures leads { 0 < result → Leads ColonDue (take result piece.now) ValueDue }
+{
+    if !piece.is_empty() && piece[0] == b':' {
+        return white_end(piece, 1);
+    }
+    let white = white_run(piece);
+    if white >= piece.len() || piece[white] != b':' {
+        return 0;
+    }
+    white_end(piece, white + 1)
+}
+
+/// How many bytes the literal name has, where the piece starts with it, or 0.
+#[inline(always)]
+fn constant_run(which: Constant, piece: &[u8]) -> usize
+    ensures within { result ≤ length piece.now }
+    ensures letters { 0 < result → take result piece.now ≡ letters_of which }
+{
+    match which {
+        Constant::Null => {
+            if piece.len() >= 4 && &piece[..4] == b"null".as_slice() {
+                4
+            } else {
+                0
+            }
+        }
+        Constant::True => {
+            if piece.len() >= 4 && &piece[..4] == b"true".as_slice() {
+                4
+            } else {
+                0
+            }
+        }
+        Constant::False => {
+            if piece.len() >= 5 && &piece[..5] == b"false".as_slice() {
+                5
+            } else {
+                0
+            }
+        }
+    }
+}
+
+impl Reader {
+    ghost use Rattle.gj_json.specs.declared.event.Event.{Event};
+    ghost use Rattle.gj_json.specs.Feeding.{Skips, FeedsAll};
+    ghost use Rattle.gj_json.specs.Tokens.{Lands};
+
+    /// Takes a string of plain characters that is a value: how many bytes, or 0.
+    #[inline(always)]
+    fn take_text<S: EventSink>(&mut self, piece: &[u8], sink: &mut S) -> usize
+        requires some { 0 < length piece.now }
+        requires begins { get_or piece.now 0 0 ≡ quote }
+        requires live { self.old.fault ≡ None }
+        requires due { awaits self.old.mode ≡ true }
+        requires room { self.old.offset + length piece.now ≤ self.old.limits.bytes }
+        requires small { self.old.limits.bytes ≤ 2 ^ 60 }
+        ensures within { result ≤ length piece.now }
+        ensures mode { 0 < result → self.new.mode ≡ ValueDone }
+        ensures feeds { FeedsAll (S.heard sink.old) (S.heard sink.new) self.old self.new (take result piece.now) }
+    {
+        let count = plain_quoted_run(piece);
+        if count == 0 {
+            return 0;
+        }
+        sink.tell(Event {
+            place: self.offset,
+            what: What::Text(type_of(&piece[1..count - 1])),
+        });
+        self.skip(count, Mode::ValueDone)
+    }
+
+    /// Takes a name of plain characters and its colon, with the white space around that: how many bytes, or 0.
+    #[inline(always)]
+    fn take_named<S: EventSink>(&mut self, piece: &[u8], sink: &mut S) -> usize
+        requires some { 0 < length piece.now }
+        requires live { self.old.fault ≡ None }
+        requires due { names self.old.mode ≡ true }
+        requires room { self.old.offset + length piece.now ≤ self.old.limits.bytes }
+        requires small { self.old.limits.bytes ≤ 2 ^ 60 }
+        ensures within { result ≤ length piece.now }
+        ensures mode { 0 < result → self.new.mode ≡ ValueDue }
+        ensures feeds { FeedsAll (S.heard sink.old) (S.heard sink.new) self.old self.new (take result piece.now) }
+    {
+        if piece[0] != b'"' {
+            return 0;
+        }
+        let name = plain_quoted_run(piece);
+        if name == 0 {
+            return 0;
+        }
+        let colon = colon_run(&piece[name..]);
+        if colon == 0 {
+            return 0;
+        }
+        sink.tell(Event {
+            place: self.offset,
+            what: What::Name(name_of(&piece[1..name - 1])),
+        });
+        self.skip(name + colon, Mode::ValueDue)
+    }
+
+    /// Takes the literal name: how many bytes, or 0.
+    #[inline(always)]
+    fn take_constant<S: EventSink>(&mut self, which: Constant, piece: &[u8], sink: &mut S) -> usize
+        requires live { self.old.fault ≡ None }
+        requires due { awaits self.old.mode ≡ true }
+        requires room { self.old.offset + length piece.now ≤ self.old.limits.bytes }
+        requires small { self.old.limits.bytes ≤ 2 ^ 60 }
+        ensures within { result ≤ length piece.now }
+        ensures feeds { FeedsAll (S.heard sink.old) (S.heard sink.new) self.old self.new (take result piece.now) }
+    {
+        let count = constant_run(which, piece);
+        if count == 0 {
+            return 0;
+        }
+        sink.tell(Event {
+            place: self.offset,
+            what: what_of(which),
+        });
+        self.skip(count, Mode::ValueDone)
+    }
+
+    /// Takes the bracket that opens a level: 1, or 0 where it opens one level too many.
+    #[inline(always)]
+    fn take_open<S: EventSink>(&mut self, level: Level, piece: &[u8], sink: &mut S) -> usize
+        requires some { 0 < length piece.now }
+        requires begins { get_or piece.now 0 0 ≡ bracket_of level }
+        requires live { self.old.fault ≡ None }
+        requires due { awaits self.old.mode ≡ true }
+        requires room { self.old.offset + length piece.now ≤ self.old.limits.bytes }
+        requires small { self.old.limits.bytes ≤ 2 ^ 60 }
+        ensures within { result ≤ length piece.now }
+        ensures feeds { FeedsAll (S.heard sink.old) (S.heard sink.new) self.old self.new (take result piece.now) }
+    {
+        if self.levels.len() >= self.limits.depth() {
+            return 0;
+        }
+        sink.tell(Event {
+            place: self.offset,
+            what: opening(level),
+        });
+        self.levels.push(level);
+        self.skip(1, opened_mode(level))
+    }
+
+    /// Takes so many bytes, of which the last closes the innermost level.
+    #[inline(always)]
+    fn take_close<S: EventSink>(&mut self, count: usize, sink: &mut S) -> usize
+        requires some { 0 < count }
+        requires room { self.old.offset + count ≤ self.old.limits.bytes }
+        requires small { self.old.limits.bytes ≤ 2 ^ 60 }
+        ensures count { result ≡ count }
+        ensures lands { Lands count ValueDone (outer_of (levels_in self.old.levels)) self.old self.new }
+        ensures heard { (events : List Event) → S.heard sink.old events → S.heard sink.new (events ++ closing_event (inner_of (levels_in self.old.levels)) (self.old.offset + count - 1)) }
+    {
+        if let Some(level) = self.levels.inner() {
+            sink.tell(Event {
+                place: self.offset + count as u64 - 1,
+                what: closing(level),
+            });
+        }
+        self.levels.pop();
+        self.skip(count, Mode::ValueDone)
+    }
+
+    /// Takes the number of so many bytes that the piece starts with, and the byte after it: how many bytes, or 0 where that
+    /// byte ends no value.
+    #[inline(always)]
+    fn end_number<S: EventSink>(
+        &mut self,
+        count: usize,
+        value: Option<Decimal>,
+        piece: &[u8],
+        sink: &mut S,
+    ) -> usize
+        requires within { count < length piece.now }
+        requires number { IsNumber (take count piece.now) }
+        requires value { value_of (take count piece.now) ≡ value }
+        requires live { self.old.fault ≡ None }
+        requires due { awaits self.old.mode ≡ true }
+        requires room { self.old.offset + length piece.now ≤ self.old.limits.bytes }
+        requires small { self.old.limits.bytes ≤ 2 ^ 60 }
+        ensures within { result ≤ length piece.now }
+        ensures feeds { FeedsAll (S.heard sink.old) (S.heard sink.new) self.old self.new (take result piece.now) }
+    {
+        let event = Event {
+            place: self.offset,
+            what: What::Number(value),
+        };
+        match end_of(self.levels.inner(), piece[count]) {
+            Move::Go(mode) => {
+                sink.tell(event);
+                self.skip(count + 1, mode)
+            }
+            Move::Close => {
+                sink.tell(event);
+                self.take_close(count + 1, sink)
+            }
+            _ => 0,
+        }
+    }
+
+    /// Takes a number of any style and the byte after it: how many bytes, or 0.
+    #[inline(never)]
+    fn take_any_number<S: EventSink>(&mut self, piece: &[u8], sink: &mut S) -> usize
+        requires live { self.old.fault ≡ None }
+        requires due { awaits self.old.mode ≡ true }
+        requires room { self.old.offset + length piece.now ≤ self.old.limits.bytes }
+        requires small { self.old.limits.bytes ≤ 2 ^ 60 }
+        ensures within { result ≤ length piece.now }
+        ensures feeds { FeedsAll (S.heard sink.old) (S.heard sink.new) self.old self.new (take result piece.now) }
+    {
+        let mut literal = Literal::new();
+        let count = literal.push_piece(piece);
+        if count == piece.len() || !literal.may_end() {
+            return 0;
+        }
+        self.end_number(count, literal.value(), piece, sink)
+    }
+
+    /// Takes a number and the byte after it, at once where it is an ordinary one: how many bytes, or 0.
+    #[inline(always)]
+    fn take_number<S: EventSink>(&mut self, piece: &[u8], sink: &mut S) -> usize
+        requires live { self.old.fault ≡ None }
+        requires due { awaits self.old.mode ≡ true }
+        requires room { self.old.offset + length piece.now ≤ self.old.limits.bytes }
+        requires small { self.old.limits.bytes ≤ 2 ^ 60 }
+        ensures within { result ≤ length piece.now }
+        ensures feeds { FeedsAll (S.heard sink.old) (S.heard sink.new) self.old self.new (take result piece.now) }
+    {
+        let mut number = Short::zero();
+        let count = read_short(piece, &mut number);
+        if count == 0 {
+            return self.take_any_number(piece, sink);
+        }
+        self.end_number(count, Some(number.decimal()), piece, sink)
+    }
+
+    /// Takes the byte after a value, where it is a comma, a closing bracket or white space: 1, or 0.
+    #[inline(always)]
+    fn take_end<S: EventSink>(&mut self, piece: &[u8], sink: &mut S) -> usize
+        requires some { 0 < length piece.now }
+        requires live { self.old.fault ≡ None }
+        requires done { self.old.mode ≡ ValueDone }
+        requires room { self.old.offset + length piece.now ≤ self.old.limits.bytes }
+        requires small { self.old.limits.bytes ≤ 2 ^ 60 }
+        ensures within { result ≤ length piece.now }
+        ensures feeds { FeedsAll (S.heard sink.old) (S.heard sink.new) self.old self.new (take result piece.now) }
+    {
+        match end_of(self.levels.inner(), piece[0]) {
+            Move::Go(mode) => self.skip(1, mode),
+            Move::Close => self.take_close(1, sink),
+            _ => 0,
+        }
+    }
+
+    /// Takes a value that stands whole, or the bracket that opens one: how many bytes, or 0.
+    #[inline(always)]
+    fn take_value<S: EventSink>(&mut self, piece: &[u8], sink: &mut S) -> usize
+        requires some { 0 < length piece.now }
+        requires live { self.old.fault ≡ None }
+        requires due { awaits self.old.mode ≡ true }
+        requires room { self.old.offset + length piece.now ≤ self.old.limits.bytes }
+        requires small { self.old.limits.bytes ≤ 2 ^ 60 }
+        ensures within { result ≤ length piece.now }
+        ensures feeds { FeedsAll (S.heard sink.old) (S.heard sink.new) self.old self.new (take result piece.now) }
+    {
+        match piece[0] {
+            b'"' => {
+                let text = self.take_text(piece, sink);
+                if text == 0 || text == piece.len() {
+                    return text;
+                }
+                text + self.take_end(&piece[text..], sink)
+            }
+            b'{' => self.take_open(Level::Object, piece, sink),
+            b'[' => {
+                let flats = self.take_flats(piece, sink);
+                if flats > 0 || !self.may_open() {
+                    return flats;
+                }
+                self.take_open(Level::Array, piece, sink)
+            }
+            b'n' => self.take_constant(Constant::Null, piece, sink),
+            b't' => self.take_constant(Constant::True, piece, sink),
+            b'f' => self.take_constant(Constant::False, piece, sink),
+            _ => self.take_number(piece, sink),
+        }
+    }
+
+    /// Takes a token that stands whole at the start of the piece, or the white space there: how many bytes, or 0.
+    #[inline(always)]
+    fn take_token<S: EventSink>(&mut self, piece: &[u8], sink: &mut S) -> usize
+        requires some { 0 < length piece.now }
+        requires live { self.old.fault ≡ None }
+        requires room { self.old.offset + length piece.now ≤ self.old.limits.bytes }
+        requires small { self.old.limits.bytes ≤ 2 ^ 60 }
+        ensures within { result ≤ length piece.now }
+        ensures feeds { FeedsAll (S.heard sink.old) (S.heard sink.new) self.old self.new (take result piece.now) }
+    {
+        if piece[0] <= b' ' {
+            return self.skip_quiet(piece);
+        }
+        match self.mode {
+            Mode::ValueDone => self.take_end(piece, sink),
+            Mode::NameDue | Mode::ObjectOpened => {
+                let named = self.take_named(piece, sink);
+                if named == 0 || named == piece.len() {
+                    return named;
+                }
+                named + self.take_value(&piece[named..], sink)
+            }
+            Mode::ValueDue | Mode::ArrayOpened => self.take_value(piece, sink),
+            _ => 0,
+        }
+    }
+
+    /// Whether a container has just been opened in which no event matters to the sink.
+    #[inline(always)]
+    fn is_ignored<S: EventSink>(&self, sink: &S) -> bool {
+        match self.mode {
+            Mode::ObjectOpened | Mode::ArrayOpened => sink.ignored() > 0,
+            _ => false,
+        }
+    }
+
+    /// Takes the tokens that stand whole at the start of the piece, one after another, up to the bracket of a container in
+    /// which no event matters to the sink: how many bytes.
+    #[inline(never)]
+    pub(super) fn take_tokens<S: EventSink>(&mut self, piece: &[u8], sink: &mut S) -> usize
+        requires live { self.old.fault ≡ None }
+        requires room { self.old.offset + length piece.now ≤ self.old.limits.bytes }
+        requires small { self.old.limits.bytes ≤ 2 ^ 60 }
+        ensures within { result ≤ length piece.now }
+        ensures feeds { FeedsAll (S.heard sink.old) (S.heard sink.new) self.old self.new (take result piece.now) }
+    {
+        let mut at = 0;
+        while at < piece.len() {
+            let count = self.take_token(&piece[at..], sink);
+            if count == 0 {
+                return at;
+            }
+            at += count;
+            if self.is_ignored(sink) {
+                return at;
+            }
+        }
+        at
+    }
+
+    /// The same, told at once where no token is due or the piece is short.
+    #[inline(always)]
+    pub(super) fn take_if_token<S: EventSink>(&mut self, piece: &[u8], sink: &mut S) -> usize
+        requires live { self.old.fault ≡ None }
+        requires room { self.old.offset + length piece.now ≤ self.old.limits.bytes }
+        requires small { self.old.limits.bytes ≤ 2 ^ 60 }
+        ensures within { result ≤ length piece.now }
+        ensures feeds { FeedsAll (S.heard sink.old) (S.heard sink.new) self.old self.new (take result piece.now) }
+    {
+        if piece.len() < SHORTEST || is_on(self.mode) {
+            return 0;
+        }
+        self.take_tokens(piece, sink)
+    }
+}

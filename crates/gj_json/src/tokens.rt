@@ -1,0 +1,78 @@
+//! Tokens that stand whole at the front of a piece: how far they go, and nothing of what they say.
+
+ghost use Rattle.std.specs.Prelude.{◌≡◌, ℕ, List, ◌-◌, ◌≤◌, ◌<◌, length, take, get_or};
+ghost use Rattle.gj_json.specs.Bytes.{quote};
+ghost use Rattle.gj_json.specs.Grammar.{letters_of};
+ghost use Rattle.gj_json.specs.FlatParts.{cut};
+ghost use Rattle.gj_json.specs.Tokens.{IsQuoted, IsString};
+ghost use Rattle.gj_json.specs.declared.constant.Constant.{Constant};
+ghost use Rattle.gj_json.specs.declared.mode.StringState.TheVariants.{Plain};
+ghost use Rattle.gj_json.specs.Quiet.{Reads};
+
+use crate::content::Content;
+use crate::lanes::ascii_run;
+use crate::mode::StringState;
+use crate::runs::string_run;
+
+/// How many bytes at the front of the piece go on in a string, if no character is under way behind them.
+fn text_run(piece: &[u8]) -> usize
+    ensures within { result ≤ length piece.now }
+    ensures reads { (characters : List ℕ) × Reads Plain (take result piece.now) characters Plain }
+{
+    let mut content = Content::lost();
+    let run = string_run(&mut content, StringState::Plain, piece);
+    match run.state {
+        StringState::Plain => run.count,
+        _ => 0,
+    }
+}
+
+/// How many bytes the string of plain characters has that stands whole at the start of a piece, or 0.
+#[inline(always)]
+pub fn plain_quoted_run(piece: &[u8]) -> usize
+    requires some { 0 < length piece.now }
+    requires begins { get_or piece.now 0 0 ≡ quote }
+    ensures within { result ≤ length piece.now }
+    ensures two { 0 < result → 2 ≤ result }
+    ensures quoted { 0 < result → IsQuoted (cut piece.now 1 (result - 1)) (take result piece.now) }
+{
+    let count = ascii_run(&piece[1..]);
+    if count < piece.len() - 1 && piece[count + 1] == b'"' {
+        count + 2
+    } else {
+        0
+    }
+}
+
+/// The string that the piece starts with, where it stands whole: how many bytes, or 0.
+pub fn quoted_run(piece: &[u8]) -> usize
+    requires some { 0 < length piece.now }
+    requires quote { get_or piece.now 0 0 ≡ quote }
+    ensures within { result ≤ length piece.now }
+    ensures quoted { 0 < result → IsString (take result piece.now) }
+{
+    let plain = plain_quoted_run(piece);
+    if plain > 0 {
+        return plain;
+    }
+    let end = 1 + text_run(&piece[1..]);
+    if end < piece.len() && piece[end] == b'"' {
+        end + 1
+    } else {
+        0
+    }
+}
+
+/// The literal name that the piece starts with: how many bytes, or 0.
+pub fn constant_run(piece: &[u8]) -> usize
+    ensures within { result ≤ length piece.now }
+    ensures constant { 0 < result → (which : Constant) × (take result piece.now ≡ letters_of which) }
+{
+    if piece.starts_with(b"null") || piece.starts_with(b"true") {
+        4
+    } else if piece.starts_with(b"false") {
+        5
+    } else {
+        0
+    }
+}
