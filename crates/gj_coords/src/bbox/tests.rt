@@ -20,6 +20,12 @@ impl EventSink for Told {
         self.early = self.early || self.bbox.done();
         self.bbox.event(event);
     }
+
+    fn ignored(&self) -> u8 {
+        0
+    }
+
+    fn pass(&mut self, _left: u8) {}
 }
 
 fn at(rule: Rule, place: u64) -> Option<Fault> {

@@ -50,6 +50,12 @@ impl EventSink for Told {
             _ => {}
         }
     }
+
+    fn ignored(&self) -> u8 {
+        0
+    }
+
+    fn pass(&mut self, _left: u8) {}
 }
 
 fn read(text: &str) -> Winding {

@@ -133,4 +133,10 @@ impl EventSink for Both {
     fn tell(&mut self, event: Event) {
         self.take(&event);
     }
+
+    fn ignored(&self) -> u8 {
+        0
+    }
+
+    fn pass(&mut self, _left: u8) {}
 }

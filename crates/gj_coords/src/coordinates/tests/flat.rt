@@ -56,6 +56,12 @@ impl EventSink for Grouped {
         self.walk.take_flat(flat);
         self.flats = self.flats.saturating_add(1);
     }
+
+    fn ignored(&self) -> u8 {
+        0
+    }
+
+    fn pass(&mut self, _left: u8) {}
 }
 
 /// Reads the text and spaces as one piece, in which the reader looks at each array of numbers as a whole.

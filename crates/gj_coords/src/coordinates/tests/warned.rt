@@ -234,6 +234,12 @@ impl EventSink for Walked {
     fn tell(&mut self, event: Event) {
         self.walk.event(event);
     }
+
+    fn ignored(&self) -> u8 {
+        0
+    }
+
+    fn pass(&mut self, _left: u8) {}
 }
 
 /// Tells the events of the text that has these parts, the middle one so many times.
