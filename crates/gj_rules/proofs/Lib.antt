@@ -11,10 +11,12 @@ pub mod KeptWarnings
 pub mod Timed
 pub mod Leads
 pub mod Feeding
+pub mod Resting
 pub mod Order
 pub mod Cuts
 pub mod Halves
 pub mod Telling
+pub mod Passing
 pub mod Examples
 pub mod WarningExamples
 pub mod Fed

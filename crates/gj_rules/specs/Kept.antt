@@ -47,7 +47,12 @@ no_frame = record {
     bbox = record { name_at = 0; fault = None };
     id = record { name_at = 0; fault = None };
   };
-  gathered = record { own = no_warned; geometries = no_warned; geometry = no_warned; features = no_warned };
+  gathered = record {
+    own = record { warned = no_warned; counts = false };
+    geometries = record { warned = no_warned; counts = false };
+    geometry = record { warned = no_warned; counts = false };
+    features = record { warned = no_warned; counts = false };
+  };
 }
 
 -- the frame of the innermost open object with a role

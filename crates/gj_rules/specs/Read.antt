@@ -4,10 +4,14 @@ use Rattle.std.specs.Prelude.{ℕ, Bool, true, false, Option, Some, None}
 use Rattle.gj_coords.specs.declared.fault.Fault.{Fault}
 use Rattle.gj_coords.specs.declared.fault.Rule.TheVariants.{G10}
 use Rattle.gj_coords.specs.Fault.{fault_at}
+use Rattle.gj_coords.specs.declared.warned.Warned.{Warned}
+use Rattle.gj_coords.specs.declared.warnings.Warnings.{Warnings}
+use Rattle.gj_coords.specs.Noted.{no_warnings}
 use Rattle.gj_coords.specs.Warned.{all_in}
 use Rattle.gj_rules.specs.declared.found.Found as D
 use Rattle.gj_rules.specs.declared.frame.Frame as DF
 use Rattle.gj_rules.specs.declared.gathered.Gathered as DG
+use Rattle.gj_rules.specs.declared.lazy_warned.LazyWarned.{LazyWarned}
 use Rattle.gj_rules.specs.declared.shapes.Shapes as DS
 use Rattle.gj_rules.specs.declared.shown.Shown as DW
 use Rattle.gj_rules.specs.declared.shown.Present.{Present}
@@ -62,8 +66,16 @@ shown_in x = record {
   id = slot_in x.present.id x.id;
 }
 
+abbrev pub warnings_if : Bool → Warned → Warnings
+warnings_if true warned = all_in warned
+warnings_if false warned = no_warnings
+
+-- those that count
+abbrev pub counted_in : LazyWarned → Warnings
+counted_in x = warnings_if x.counts x.warned
+
 abbrev pub gathered_in : DG.Gathered → Gathered
-gathered_in x = record { own = all_in x.own; geometries = all_in x.geometries; geometry = all_in x.geometry; features = all_in x.features }
+gathered_in x = record { own = counted_in x.own; geometries = counted_in x.geometries; geometry = counted_in x.geometry; features = counted_in x.features }
 
 abbrev pub frame_in : DF.Frame → Frame
 frame_in x = record { shown = shown_in x.shown; gathered = gathered_in x.gathered }

@@ -1,6 +1,7 @@
 -- Internal: what an event does to what the rules keep.
 use Rattle.std.specs.Prelude.{Bool, true, false, ℕ, suc, zero, ◌+◌, ◌-◌, List, [], ◌∷◌, ◌++◌, Option, Some, None}
 use Rattle.gj_json.specs.declared.constant.Constant.TheVariants.{Null}
+pub use Rattle.gj_json.specs.Ignored.{levels_behind as skip}
 use Rattle.gj_json.specs.declared.event.Event.{Event}
 use Rattle.gj_json.specs.declared.names.Known.{Known}
 use Rattle.gj_json.specs.declared.names.Known.TheVariants.{TypeName, Coordinates, Geometries, Geometry, Properties, Features, Bbox, Id, Other}
@@ -32,13 +33,6 @@ pub record Core : Type 0 where
   pub top : Frame
   pub outer : List Frame
   pub answer : Found
-
-abbrev pub skip : What → ℕ → ℕ
-skip What.OpenObject levels = levels + 1
-skip What.OpenArray levels = levels + 1
-skip What.CloseObject levels = levels - 1
-skip What.CloseArray levels = levels - 1
-skip _ levels = levels
 
 -- how many levels a value opens that is not looked into
 abbrev pub levels_in : What → ℕ

@@ -1,5 +1,6 @@
 ghost use Rattle.std.specs.Prelude.{◌≡◌};
 
+use crate::lazy_warned::LazyWarned;
 use gj_coords::{Kind, Warned};
 use gj_json::Known;
 
@@ -7,11 +8,11 @@ use gj_json::Known;
 #[derive(Clone, Copy)]
 pub struct Gathered {
     /// Those that hang on no type: of each member `crs` and of the first `bbox`.
-    pub own: Warned,
+    pub own: LazyWarned,
     /// Those of the first member of each name whose value holds values with a role.
-    pub geometries: Warned,
-    pub geometry: Warned,
-    pub features: Warned,
+    pub geometries: LazyWarned,
+    pub geometry: LazyWarned,
+    pub features: LazyWarned,
 }
 
 impl Gathered {
@@ -23,7 +24,7 @@ impl Gathered {
     pub fn none() -> Self
         ensures { gathered_in result ≡ none_gathered }
     {
-        let none = Warned::none();
+        let none = LazyWarned::none();
         Gathered {
             own: none,
             geometries: none,

@@ -12,6 +12,7 @@ mod found;
 mod frame;
 mod gathered;
 pub mod laws;
+mod lazy_warned;
 mod linter;
 mod mode;
 mod opening;

@@ -126,12 +126,16 @@ impl Linter {
         }
     }
 
-    /// The verdict of the input that was fed. From then on the linter is as a new one under these limits, where it lies.
-    pub(crate) fn finish_and_begin(&mut self, limits: Limits) -> Verdict
+    /// The verdict of the input that was fed. From then on the linter is as a new one under these limits, where it lies, and
+    /// little of it is written: that costs less than a new one.
+    pub fn finish_and_begin(&mut self, limits: Limits) -> Verdict
         ensures verdict { (bytes : List ℕ) → StandsFor self.old bytes → IsVerdict (limits_of self.old) bytes result }
+        ensures again { (fault : JsonFault) → refusal_of self.old ≡ Some fault → result ≡ Verdict.NotJson fault }
         ensures stands { StandsFor self.new [] }
         ensures limits { limits_of self.new ≡ limits }
         ensures refusal { refusal_of self.new ≡ None }
+        ensures offset { offset_of self.new ≡ 0 }
+        ensures levels { levels_of self.new ≡ 0 }
     {
         let verdict = self.end();
         self.rules.begin_again();

@@ -6,6 +6,7 @@ use gj_coords::{Fault, Rule};
 use gj_json::{Known, What, Word};
 
 /// How many levels the value opens.
+#[inline]
 pub fn levels_in(what: &What) -> u8
     ensures { result ≡ levels_in what.now }
 {
@@ -16,6 +17,7 @@ pub fn levels_in(what: &What) -> u8
 }
 
 /// The type that it names as the value of `type`.
+#[inline]
 pub fn word_in(what: &What) -> Word
     ensures { result ≡ word_in what.now }
 {
@@ -26,6 +28,7 @@ pub fn word_in(what: &What) -> Word
 }
 
 /// Its fault as the value of the first member `name`, where the first event tells it.
+#[inline(always)]
 pub fn opening_fault(name: Known, what: &What, place: u64) -> Option<Fault>
     ensures { result ≡ opening_fault name what.now place }
 {

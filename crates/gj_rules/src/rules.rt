@@ -1,7 +1,8 @@
-ghost use Rattle.std.specs.Prelude.{◌≡◌, ℕ, ◌<◌, ◌≤◌, [], List, true};
+ghost use Rattle.std.specs.Prelude.{◌≡◌, ℕ, ◌<◌, ◌≤◌, [], List, true, false};
 
 mod doomed;
 mod flats;
+mod kinds;
 mod steps;
 #[cfg(test)]
 mod tests;
@@ -11,7 +12,7 @@ use crate::frame::Frame;
 use crate::mode::Mode;
 use crate::role::Role;
 use gj_coords::{Bbox, Coordinates, Fault, Warned, Warnings};
-use gj_json::{Event, EventSink, Flat, Known};
+use gj_json::{Event, EventSink, Flat, Known, What};
 use std::mem::size_of;
 
 /// How many objects with a role can be open around the innermost one, at 64 levels.
@@ -142,23 +143,28 @@ impl Rules {
     }
 
     /// An event that goes to no summary.
-    fn take(&mut self, event: Event)
-        ensures { self.old.skipped < 255 → (self.old.skipped ≡ 0 → HasRoom event.what (core_of self.old).outer) → core_of self.new ≡ core_step event (core_of self.old) }
+    // Where its kind is known, it is one step of these.
+    #[inline(always)]
+    fn take(&mut self, what: What, place: u64)
+        ensures core { self.old.skipped < 255 → (self.old.skipped ≡ 0 → HasRoom what (core_of self.old).outer) → core_of self.new ≡ core_step (record { place = place; what = what }) (core_of self.old) }
+        ensures holds { is_feeding self.old.skipped self.old.mode ≡ false → Holds self.new [] }
     {
         if self.skipped > 0 {
-            self.skip(event.what);
+            self.skip(what);
+            self.renew();
         } else {
             match self.mode {
-                Mode::RootDue => self.root(event.what, event.place),
-                Mode::Names => self.names(event.what, event.place),
-                Mode::Due(name) => self.value(name, event.what, event.place),
-                Mode::Elements(role) => self.element(role, event.what, event.place),
+                Mode::RootDue => self.root(what, place),
+                Mode::Names => self.names(what, place),
+                Mode::Due(name) => self.value(name, what, place),
+                Mode::Elements(role) => self.element(role, what, place),
                 Mode::Done => {}
             }
         }
     }
 
     /// Makes the summary new that takes the value that is due, where one does.
+    #[inline(always)]
     fn renew(&mut self)
         ensures core { core_of self.new ≡ core_of self.old }
         ensures holds { Holds self.new [] }
@@ -181,6 +187,7 @@ impl Rules {
     }
 
     /// Whether the next event goes to a summary.
+    #[inline(always)]
     fn is_feeding(&self) -> bool
         ensures { result ≡ is_feeding self.now.skipped self.now.mode }
     {
@@ -249,13 +256,13 @@ impl Rules {
     /// An event of the value that a summary takes.
     // Only here it is looked at whole.
     #[inline(never)]
-    fn feed(&mut self, event: Event)
+    fn feed(&mut self, event: &Event)
         requires { is_feeding self.old.skipped self.old.mode ≡ true }
-        ensures { Feeds self.old event self.new }
+        ensures { Feeds self.old event.now self.new }
     {
         match self.mode {
-            Mode::Due(Known::Coordinates) => self.feed_coordinates(&event),
-            _ => self.feed_bbox(&event),
+            Mode::Due(Known::Coordinates) => self.feed_coordinates(event),
+            _ => self.feed_bbox(event),
         }
     }
 }
@@ -265,12 +272,17 @@ impl EventSink for Rules {
 
     ghost heard = { λ rules events. StandsFor rules events };
 
+    ghost ignores = { λ rules. rules.skipped };
+
+    // Whoever tells an event mostly knows of which kind it is. The usual kinds go on without the room of a number.
+    #[inline]
     fn tell(&mut self, event: Event) {
-        if self.is_feeding() {
-            self.feed(event);
-        } else {
-            self.take(event);
-            self.renew();
+        match event.what {
+            What::Name(name) => self.tell_name(name, event.place),
+            What::Text(word) => self.tell_text(word, event.place),
+            What::OpenObject => self.tell_open_object(event.place),
+            What::CloseObject => self.tell_close_object(event.place),
+            _ => self.tell_other(event),
         }
     }
 
@@ -280,5 +292,14 @@ impl EventSink for Rules {
         } else {
             self.tell_each(flat);
         }
+    }
+
+    fn ignored(&self) -> u8 {
+        self.skipped
+    }
+
+    fn pass(&mut self, left: u8) {
+        self.skipped = left;
+        self.renew();
     }
 }

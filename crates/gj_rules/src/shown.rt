@@ -143,7 +143,7 @@ impl Shown {
     }
 
     /// The first member of a name, where there is one.
-    #[inline]
+    #[inline(always)]
     pub fn slot(&self, name: Known) -> Option<Slot>
         ensures { result ≡ slot_of name (shown_in self.now) }
     {

@@ -10,15 +10,15 @@ use gj_json::Word;
 impl Frame {
     ghost use Rattle.gj_coords.specs.Noted.{joined};
     ghost use Rattle.gj_coords.specs.Warned.{all_in};
-    ghost use Rattle.gj_rules.specs.Read.{frame_in, found_in};
+    ghost use Rattle.gj_rules.specs.Read.{frame_in, found_in, counted_in};
     ghost use Rattle.gj_rules.specs.Frame.{collected, warned_as, warned_by, settled};
 
     /// Adds those of a GeometryCollection: of its geometries, and that it is one of another's (RFC 7946, section 3.1.8).
     #[tactic(auto, using(crate::proofs::WarnedInTurn::and_one))]
     fn warn_collected(&self, warned: &mut Warned)
-        ensures { all_in warned.new ≡ joined (all_in warned.old) (collected self.now.shown.role self.now.shown.place (all_in self.now.gathered.geometries)) }
+        ensures { all_in warned.new ≡ joined (all_in warned.old) (collected self.now.shown.role self.now.shown.place (counted_in self.now.gathered.geometries)) }
     {
-        warned.take(&self.gathered.geometries);
+        self.gathered.geometries.add_to(warned);
         match self.shown.role {
             Role::Part => warned.note(Kind::W7, self.shown.place),
             _ => {}
@@ -38,8 +38,8 @@ impl Frame {
             Word::Polygon => self.shown.warn_shape(Simple::Polygon, warned),
             Word::MultiPolygon => self.shown.warn_shape(Simple::MultiPolygon, warned),
             Word::GeometryCollection => self.warn_collected(warned),
-            Word::Feature => warned.take(&self.gathered.geometry),
-            Word::FeatureCollection => warned.take(&self.gathered.features),
+            Word::Feature => self.gathered.geometry.add_to(warned),
+            Word::FeatureCollection => self.gathered.features.add_to(warned),
             Word::Other => {}
         }
     }
@@ -63,7 +63,7 @@ impl Frame {
     {
         found.fault = self.shown.settle();
         found.warned.clear();
-        found.warned.take(&self.gathered.own);
+        self.gathered.own.add_to(&mut found.warned);
         self.warn_by_type(&mut found.warned);
     }
 }

@@ -1,6 +1,7 @@
 //! A linter over pieces.
 
 mod doomed;
+mod made;
 
 use super::*;
 use gj_coords::{Kind, Rule};
@@ -114,6 +115,45 @@ fn sixty_five_levels(rt: HostRuntime) {
     assert!(rt;
         fed(b"", 33, b"").finish() == Verdict::NotJson(fault),
         "one collection too many"
+    );
+}
+
+#[test]
+fn one_text_after_another(rt: HostRuntime) {
+    let Some(ten) = Limits::new(64, 10) else {
+        return;
+    };
+    let point = b"{\"type\":\"Point\",\"coordinates\":[1,2]}";
+    let refusal = JsonFault {
+        place: 1,
+        cause: Cause::Syntax,
+    };
+    let length = JsonFault {
+        place: 10,
+        cause: Cause::Length,
+    };
+    let mut linter = fed(b"", 20, b"");
+    assert!(rt; linter.judged() == 20, "frames of a text that is left");
+    linter.finish_and_begin(Limits::usual());
+    linter.feed(b"[}");
+    assert!(rt;
+        linter.finish_and_begin(Limits::usual()) == Verdict::NotJson(refusal),
+        "no JSON"
+    );
+    assert_eq!(rt;
+        (linter.offset(), linter.levels(), linter.judged()),
+        (0, 0, 0)
+    );
+    assert!(rt; !linter.doomed(), "nothing shown yet");
+    linter.feed(point);
+    assert!(rt;
+        linter.finish_and_begin(ten) == Verdict::Valid(Warnings::none()),
+        "a point"
+    );
+    linter.feed(point);
+    assert!(rt;
+        linter.finish() == Verdict::NotJson(length),
+        "under other limits"
     );
 }
 

@@ -1,5 +1,6 @@
 //! What an event does that goes to no summary.
-ghost use Rattle.std.specs.Prelude.{◌≡◌, ◌<◌, length};
+ghost use Rattle.std.specs.Prelude.{◌≡◌, ◌<◌, [], length, false};
+ghost use Rattle.gj_json.specs.declared.event.What.TheVariants as W;
 
 use super::{MOST_AROUND, Rules};
 use crate::found::Found;
@@ -11,13 +12,14 @@ use gj_json::{Known, What};
 
 impl Rules {
     ghost use Rattle.gj_rules.specs.Frame.{settled};
-    ghost use Rattle.gj_rules.specs.Step.{skip, pushed, popped, root_step, names_step, due_step, begun, element_step};
-    ghost use Rattle.gj_rules.specs.Kept.{core_of, HasRoom};
+    ghost use Rattle.gj_rules.specs.Step.{skip, pushed, popped, root_step, names_step, due_step, begun, element_step, is_feeding};
+    ghost use Rattle.gj_rules.specs.Kept.{core_of, HasRoom, Holds};
 
     /// An object with a role opens. A text of at most 64 levels has at most 33 of them open at once.
     #[inline(never)]
     fn push(&mut self, role: Role, place: u64)
-        ensures { length (core_of self.old).outer < MOST_AROUND → core_of self.new ≡ pushed role place (core_of self.old) }
+        ensures rests { is_feeding 0 self.new.mode ≡ false }
+        ensures core { length (core_of self.old).outer < MOST_AROUND → core_of self.new ≡ pushed role place (core_of self.old) }
     {
         if (self.around as usize) < MOST_AROUND {
             self.around += 1;
@@ -29,7 +31,8 @@ impl Rules {
     /// The innermost object with a role closes.
     #[inline(never)]
     fn pop(&mut self)
-        ensures { core_of self.new ≡ popped (core_of self.old).outer (core_of self.old).top.shown.role (settled (core_of self.old).top) (core_of self.old) }
+        ensures rests { is_feeding 0 self.new.mode ≡ false }
+        ensures core { core_of self.new ≡ popped (core_of self.old).outer (core_of self.old).top.shown.role (settled (core_of self.old).top) (core_of self.old) }
     {
         let role = self.role();
         let mut found = Found::none();
@@ -48,7 +51,8 @@ impl Rules {
     /// The value of the text begins, or a byte order mark stands before it.
     #[inline(never)]
     pub(super) fn root(&mut self, what: What, place: u64)
-        ensures { core_of self.new ≡ root_step what place (core_of self.old) }
+        ensures rests { is_feeding 0 self.old.mode ≡ false → is_feeding 0 self.new.mode ≡ false }
+        ensures core { core_of self.new ≡ root_step what place (core_of self.old) }
     {
         match what {
             What::Mark => self.answer.warned.note(Kind::W1, place),
@@ -67,22 +71,35 @@ impl Rules {
         }
     }
 
+    /// A name.
+    #[inline(always)]
+    fn name(&mut self, name: Known, place: u64)
+        ensures { core_of self.new ≡ names_step (W.Name name) place (core_of self.old) }
+    {
+        let due = self.frames[self.around as usize].name(name, place);
+        self.mode = Mode::Due(due);
+    }
+
     /// A name, or the end of the object.
+    #[inline(always)]
     pub(super) fn names(&mut self, what: What, place: u64)
-        ensures { core_of self.new ≡ names_step what place (core_of self.old) }
+        ensures core { core_of self.new ≡ names_step what place (core_of self.old) }
+        ensures holds { Holds self.new [] }
     {
         match what {
             What::Name(name) => {
-                let due = self.frames[self.around as usize].name(name, place);
-                self.mode = Mode::Due(due);
+                self.name(name, place);
+                self.renew();
             }
             _ => self.pop(),
         }
     }
 
     /// A value begins that holds no value with a role.
+    #[inline(always)]
     fn begin(&mut self, name: Known, what: What, place: u64)
-        ensures { core_of self.new ≡ begun name what place (core_of self.old) }
+        ensures rests { is_feeding 0 self.new.mode ≡ false }
+        ensures core { core_of self.new ≡ begun name what place (core_of self.old) }
     {
         self.mode = Mode::Names;
         self.skipped = levels_in(&what);
@@ -95,8 +112,10 @@ impl Rules {
     }
 
     /// The value of a first member begins.
+    #[inline(always)]
     pub(super) fn value(&mut self, name: Known, what: What, place: u64)
-        ensures { HasRoom what (core_of self.old).outer → core_of self.new ≡ due_step name what place (core_of self.old) }
+        ensures rests { is_feeding 0 self.new.mode ≡ false }
+        ensures core { HasRoom what (core_of self.old).outer → core_of self.new ≡ due_step name what place (core_of self.old) }
     {
         match (name, what) {
             (Known::Geometry, What::OpenObject) => self.push(Role::Geometry, place),
@@ -107,8 +126,10 @@ impl Rules {
     }
 
     /// An element of an array of values with this role begins, or the array ends.
+    #[inline(always)]
     pub(super) fn element(&mut self, role: Role, what: What, place: u64)
-        ensures { HasRoom what (core_of self.old).outer → core_of self.new ≡ element_step role what place (core_of self.old) }
+        ensures rests { is_feeding 0 self.old.mode ≡ false → is_feeding 0 self.new.mode ≡ false }
+        ensures core { HasRoom what (core_of self.old).outer → core_of self.new ≡ element_step role what place (core_of self.old) }
     {
         match what {
             What::OpenObject => self.push(role, place),
@@ -127,6 +148,7 @@ impl Rules {
     }
 
     /// A part of a value that is not looked into.
+    #[inline(always)]
     pub(super) fn skip(&mut self, what: What)
         ensures { self.old.skipped < 255 → core_of self.new ≡ record (core_of self.old) { skipped = skip what self.old.skipped } }
     {

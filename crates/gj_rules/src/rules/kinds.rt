@@ -1,0 +1,57 @@
+//! An event by its kind. In each of these functions the kind is known, so that only what it asks for is looked at.
+ghost use Rattle.std.specs.Prelude.{◌≡◌, ◌++◌, ◌∷◌, [], List};
+ghost use Rattle.gj_json.specs.declared.event.Event.{Event};
+ghost use Rattle.gj_json.specs.declared.event.What.TheVariants as W;
+
+use super::Rules;
+use gj_json::{Event, Known, What, Word};
+
+impl Rules {
+    ghost use Rattle.gj_rules.specs.Rules.{StandsFor};
+
+    #[inline(always)]
+    fn tell_what(&mut self, what: What, place: u64)
+        ensures { (events : List Event) → StandsFor self.old events → StandsFor self.new (events ++ record { place = place; what = what } ∷ []) }
+    {
+        if self.is_feeding() {
+            self.feed(&Event { place, what });
+        } else {
+            self.take(what, place);
+        }
+    }
+
+    #[inline(never)]
+    pub(super) fn tell_name(&mut self, name: Known, place: u64)
+        ensures { (events : List Event) → StandsFor self.old events → StandsFor self.new (events ++ record { place = place; what = W.Name name } ∷ []) }
+    {
+        self.tell_what(What::Name(name), place);
+    }
+
+    #[inline(never)]
+    pub(super) fn tell_text(&mut self, word: Word, place: u64)
+        ensures { (events : List Event) → StandsFor self.old events → StandsFor self.new (events ++ record { place = place; what = W.Text word } ∷ []) }
+    {
+        self.tell_what(What::Text(word), place);
+    }
+
+    #[inline(never)]
+    pub(super) fn tell_open_object(&mut self, place: u64)
+        ensures { (events : List Event) → StandsFor self.old events → StandsFor self.new (events ++ record { place = place; what = W.OpenObject } ∷ []) }
+    {
+        self.tell_what(What::OpenObject, place);
+    }
+
+    #[inline(never)]
+    pub(super) fn tell_close_object(&mut self, place: u64)
+        ensures { (events : List Event) → StandsFor self.old events → StandsFor self.new (events ++ record { place = place; what = W.CloseObject } ∷ []) }
+    {
+        self.tell_what(What::CloseObject, place);
+    }
+
+    #[inline(never)]
+    pub(super) fn tell_other(&mut self, event: Event)
+        ensures { (events : List Event) → StandsFor self.old events → StandsFor self.new (events ++ event ∷ []) }
+    {
+        self.tell_what(event.what, event.place);
+    }
+}
