@@ -2,3 +2,4 @@ mod Locating
 mod Judging
 mod Out
 mod Quickly
+mod Settled

@@ -1,5 +1,9 @@
 -- Lemmas on what a quick reading answers.
-use Rattle.std.proofs.Common.{◌≡◌, ℕ, List, [], ◌++◌, Option, Some, None, refl, ap, sym, ◌∙◌, subst, append-nil}
+use Rattle.std.proofs.Common.{inl, inr, arith, ◌≡◌, ◌+◌, ◌-◌, ◌^◌, ◌≤◌, ℕ, List, [], ◌++◌, Option, Some, None, refl, ap, sym, ◌∙◌, subst, append-nil, length}
+use Rattle.std.specs.Prelude.{◌⊎◌}
+use Rattle.std.specs.Io.Iter.{u64_saturate}
+use Rattle.std.proofs.Math.Nat.{min-eq_left, min-eq_right}
+use Rattle.std.proofs.lemmas.Bool.{cases_lt}
 use Rattle.std.specs.Io.KnownBytes.{Consumes, IsAtEnd}
 use Rattle.gj_json.specs.Limits.{Allowed}
 use Rattle.gj_json.specs.Refusal.{IsRefusal}
@@ -8,7 +12,7 @@ use Rattle.gj_coords.specs.declared.warnings.Warnings.{Warnings}
 use Rattle.gj_rules.specs.declared.verdict.Verdict.{Verdict}
 use Rattle.gj_rules.specs.declared.verdict.Verdict.TheVariants.{Valid, Broken, NotJson}
 use Rattle.gj_rules.specs.Verdict.{IsVerdict, NeverValid}
-use Rattle.geolint.specs.Quick.{IsQuick, JudgesQuickly, valid_in}
+use Rattle.geolint.specs.Quick.{IsQuick, JudgesQuickly, ShowNoFault, StopsAtOnce, valid_in}
 
 -- each input has one verdict
 abbrev pub HasOne : Type 0
@@ -53,3 +57,29 @@ quick-lasting limits (Some all) (Some rest) read took never = record {
 pub refused_never : HasOne → (here limits : Allowed) (bytes : List ℕ) (fault : JsonFault) → here ≡ limits → ((more : List ℕ) → IsRefusal here (bytes ++ more) fault) → NeverValid limits bytes
 refused_never one here limits bytes fault same refused more warnings valid =
     other one limits (bytes ++ more) (NotJson fault) (subst (λ (l : Allowed). IsRefusal l (bytes ++ more) fault) same (refused more)) refl warnings valid
+
+-- a count of reads, one read later
+pub one_read : (begin here there offset : ℕ) (read : List ℕ) → length read ≡ offset → there ≡ u64_saturate (here + 1) → here ≤ begin + offset → there ≤ begin + (length read + 1)
+one_read begin here there offset read count grown before =
+    elim (cases_lt (here + 1) (2 ^ 64 - 1)) [
+      | inl within ↦
+          let grown_to : there ≡ here + 1 = grown ∙ min-eq_left (omega (arith, within)) in
+          omega (arith, grown_to, before, count)
+      | inr over ↦
+          let stopped : there ≡ 2 ^ 64 - 1 = grown ∙ min-eq_right over in
+          omega (arith, stopped, over, before, count)
+    ]
+
+-- the last read gave these bytes, or none
+pub stops : (limits : Allowed) (old new : Option (List ℕ)) (before last : List ℕ) (reads now_read : ℕ) → Consumes old new (before ++ last)
+    → (before ≡ []) ⊎ ShowNoFault limits before → now_read ≤ reads + (length before + 1) → length last ≤ 8192 → StopsAtOnce limits old new reads now_read
+stops limits None new before last reads now_read took clean few short = tt
+stops limits (Some all) None before last reads now_read took clean few short = took
+stops limits (Some all) (Some rest) before last reads now_read took clean few short = record {
+  before = before;
+  last = last;
+  split = took;
+  clean = clean;
+  few = few;
+  short = short;
+}

@@ -6,3 +6,4 @@ pub mod Judged
 pub mod Located
 pub mod Run
 pub mod Quick
+pub mod Sequence

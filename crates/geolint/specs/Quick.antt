@@ -1,11 +1,13 @@
 -- What a run does that asks only whether an input is valid: nothing is said of an input that is not but that it is not.
-use Rattle.std.specs.Prelude.{◌≡◌, ℕ, Bool, List, [], ◌++◌, length, Option, Some, None, ⊤, Result, Ok, Err}
+use Rattle.std.specs.Prelude.{◌≡◌, ◌⊎◌, ℕ, ◌+◌, ◌≤◌, Bool, List, [], ◌++◌, length, Option, Some, None, ⊤, Result, Ok, Err}
 use Rattle.std.specs.Io.KnownBytes.{Appends, Consumes, Keeps}
 use Rattle.gj_json.specs.Limits.{Allowed}
+use Rattle.gj_json.specs.Text.{IsViableWithin}
 use Rattle.gj_coords.specs.declared.warnings.Warnings.{Warnings}
 use Rattle.gj_rules.specs.declared.verdict.Verdict.{Verdict}
 use Rattle.gj_rules.specs.declared.verdict.Verdict.TheVariants.{Valid}
 use Rattle.gj_rules.specs.Verdict.{IsVerdict, NeverValid}
+use Rattle.gj_rules.specs.Doomed.{BeginNoGeoJson}
 use Rattle.geolint.specs.declared.fault.RunFault.{RunFault}
 use Rattle.geolint.specs.declared.fault.RunFault.TheVariants.{Read, Write}
 use Rattle.geolint.specs.declared.options.Options.{Options}
@@ -40,6 +42,28 @@ abbrev pub JudgesQuickly : Allowed → Option (List ℕ) → Option (List ℕ) �
 JudgesQuickly limits None new valid = ⊤
 JudgesQuickly limits (Some all) None valid = ⊥
 JudgesQuickly limits (Some all) (Some rest) valid = IsQuick limits all rest valid
+
+-- ---- its end
+
+-- nothing in these bytes shows that the input is not valid: neither a refusal nor what the members of the text's object are
+abbrev pub ShowNoFault : Allowed → List ℕ → Type 0
+ShowNoFault limits bytes = IsViableWithin limits.depth bytes × (length bytes ≤ limits.bytes) × (BeginNoGeoJson limits.depth bytes → ⊥)
+
+-- No read follows one whose bytes show it: those that came `before` the last read do not. There were no more reads than these
+-- bytes are, and one, as a read gives a byte at least. So where each gives one byte, none is made too many.
+pub record IsLeft (limits : Allowed) (all rest : List ℕ) (reads now_read : ℕ) : Type 0 where
+  pub before : List ℕ
+  pub last : List ℕ
+  pub split : all ≡ (before ++ last) ++ rest
+  pub clean : (before ≡ []) ⊎ ShowNoFault limits before
+  pub few : now_read ≤ reads + (length before + 1)
+  pub short : length last ≤ 8192
+
+-- the same, where the reader tells its bytes
+abbrev pub StopsAtOnce : Allowed → Option (List ℕ) → Option (List ℕ) → (reads now_read : ℕ) → Type 0
+StopsAtOnce limits None new reads now_read = ⊤
+StopsAtOnce limits (Some all) None reads now_read = ⊥
+StopsAtOnce limits (Some all) (Some rest) reads now_read = IsLeft limits all rest reads now_read
 
 -- ---- the report
 

@@ -49,7 +49,7 @@ pub enum ProgramFault {
 
 /// How the program is called.
 pub const USAGE: &str =
-    "usage: geolint (file or stdin) [--strict] [--quick] [--max-bytes N] [PATH]";
+    "usage: geolint (file or stdin) [--strict] [--quick] [--seq] [--max-bytes N] [PATH]";
 
 #[cfg(test)]
 mod tests {
@@ -75,7 +75,7 @@ mod tests {
         for (fault, text) in [
             (
                 ProgramFault::Usage,
-                "usage: geolint (file or stdin) [--strict] [--quick] [--max-bytes N] [PATH]",
+                "usage: geolint (file or stdin) [--strict] [--quick] [--seq] [--max-bytes N] [PATH]",
             ),
             (ProgramFault::Open, "geolint: cannot open the file"),
             (

@@ -1,8 +1,8 @@
 //! `geolint` judges a GeoJSON text of any length in fixed memory: it reads the text in pieces and writes a report of
 //! its verdict.
 //!
-//! What a verdict means stands in `specs/Verdict.antt` of `gj_rules`, the bytes of its report in `specs/Report.antt` here.
-//! Where the writer tells its bytes, exactly the report goes out, or a prefix of it where a write fails.
+//! What a verdict means stands in `specs/Verdict.antt` of `gj_rules`, and for a text sequence in `specs/Sequence.antt` there; the
+//! bytes of its report stand in `specs/Report.antt` and `specs/Sequence.antt` here. Where the writer tells its bytes, exactly the report goes out, or a prefix of it where a write fails.
 #![tactic(auto)]
 
 mod failed;
@@ -14,6 +14,7 @@ mod quick;
 mod report;
 mod room;
 mod run;
+mod sequence;
 mod sink;
 mod source;
 #[cfg(test)]
@@ -24,7 +25,8 @@ use crate::fault::{ProgramFault, RunFault, USAGE, WriteFault};
 use crate::options::Outcome;
 use crate::report::write_help;
 use crate::run::{run, run_with_path};
-use crate::sink::FromWrite;
+use crate::sequence::run_sequence;
+use crate::sink::{FromWrite, Sink};
 use crate::source::FromRead;
 use crate::words::{Order, WordsFault, read_words};
 use std::env;
@@ -79,6 +81,9 @@ fn words_fault(error: io::Error) -> WordsFault {
 
 fn obey(rt: &HostRuntime, order: &Order) -> Result<Outcome, ProgramFault> {
     let mut writer = FromWrite::new(rt.stdout());
+    if order.seq {
+        return obey_sequence(rt, order, &mut writer);
+    }
     let outcome = match &order.path {
         None => run(&mut FromRead::new(rt.stdin()), &mut writer, order.options)?,
         Some(path) => {
@@ -92,6 +97,19 @@ fn obey(rt: &HostRuntime, order: &Order) -> Result<Outcome, ProgramFault> {
                 run(&mut first, &mut writer, order.options)?
             }
         }
+    };
+    Ok(outcome)
+}
+
+/// A sequence has no path, so that its file is opened once.
+fn obey_sequence<W: Sink>(
+    rt: &HostRuntime,
+    order: &Order,
+    writer: &mut W,
+) -> Result<Outcome, ProgramFault> {
+    let outcome = match &order.path {
+        None => run_sequence(&mut FromRead::new(rt.stdin()), writer, order.options)?,
+        Some(path) => run_sequence(&mut FromRead::new(open(rt, path)?), writer, order.options)?,
     };
     Ok(outcome)
 }

@@ -2,7 +2,7 @@
 ghost use Rattle.std.specs.Prelude.{◌≡◌, ℕ, List, ◌+◌, ◌<◌, ◌≤◌, length, MatchResult, IfOk, OnOk, IfErr};
 ghost use Rattle.std.specs.Io.KnownBytes.{Consumes, Appends};
 ghost use Rattle.geolint.specs.Counts.{CountsFailure, one_more};
-ghost use Rattle.geolint.specs.Quick.{JudgesQuickly, QuickRuns, valid_in, quick_report, quick_outcome};
+ghost use Rattle.geolint.specs.Quick.{JudgesQuickly, StopsAtOnce, QuickRuns, valid_in, quick_report, quick_outcome};
 ghost use Rattle.geolint.specs.Run.{CountsReadFault, CountsWriteFault, CountsOffset, WriteFaultOf};
 ghost use Rattle.geolint.specs.Written.{IsFrontOut};
 
@@ -27,6 +27,7 @@ pub fn lint_quickly<S: Source>(
     limits: Limits,
 ) -> Result<Option<Warnings>, ReadFault>
     ensures few { S.reads reader.new ≤ S.reads reader.old + (limits.bytes + 1) }
+    ensures stops { StopsAtOnce limits (S.remaining reader.old) (S.remaining reader.new) (S.reads reader.old) (S.reads reader.new) }
     ensures failed { CountsFailure (S.failed_reads reader.old) (S.failed_reads reader.new) result }
     ensures given { IfErr result (λ fault. S.bytes_given reader.new < u64.MAX
         → S.bytes_given reader.new ≡ S.bytes_given reader.old + fault.offset) }
@@ -78,6 +79,7 @@ pub fn run_quickly<S: Source, W: Sink>(
     options: Options,
 ) -> Result<Outcome, RunFault>
     ensures few { S.reads reader.new ≤ S.reads reader.old + (options.limits.bytes + 1) }
+    ensures stops { StopsAtOnce options.limits (S.remaining reader.old) (S.remaining reader.new) (S.reads reader.old) (S.reads reader.new) }
     ensures reads { CountsReadFault (S.failed_reads reader.old) (S.failed_reads reader.new) result }
     ensures given { CountsOffset (S.bytes_given reader.old) (S.bytes_given reader.new) result }
     ensures writes { CountsWriteFault (W.failed_writes writer.old) (W.failed_writes writer.new) result }

@@ -1,23 +1,26 @@
 //! The report of a verdict.
-ghost use Rattle.std.specs.Prelude.{◌≡◌, ◌+◌, ◌≤◌, [], length, OnOk, IfErr};
+ghost use Rattle.std.specs.Prelude.{◌≡◌, ◌+◌, ◌≤◌, length, OnOk, IfErr};
 ghost use Rattle.std.specs.Io.KnownBytes.{Appends};
 ghost use Rattle.geolint.specs.Counts.{CountsFailure};
 ghost use Rattle.geolint.specs.Report.{cause_text, rule_text, refusal_line, broken_line, not_valid_line, report};
 ghost use Rattle.geolint.specs.Room.{written_in, Adds};
+ghost use Rattle.geolint.specs.Sequence.{sequence_report};
 ghost use Rattle.geolint.specs.Written.{IsFrontOut};
 ghost use Rattle.geolint.specs.declared.room.TheConstants.{CAPACITY, MOST_LINE};
 
 mod path;
+mod sequence;
 mod warnings;
 
 use crate::fault::{USAGE, WriteFault};
 use crate::report::path::push_path;
+use crate::report::sequence::push_sequence_report;
 use crate::report::warnings::push_valid;
 use crate::room::Room;
 use crate::sink::Sink;
 use gj_coords::{Fault, Rule};
 use gj_json::{Cause, JsonFault, Path};
-use gj_rules::Verdict;
+use gj_rules::{SeqVerdict, Verdict};
 use itoa::Buffer;
 
 /// Writes the bytes, in one piece where the writer takes it whole.
@@ -101,8 +104,8 @@ fn push_fault(fault: Fault, room: &mut Room)
 
 /// The report of a verdict.
 fn push_report(verdict: Verdict, path: Option<Path>, room: &mut Room)
-    requires { written_in room.old ≡ [] }
-    ensures { written_in room.new ≡ report verdict path }
+    requires { length (written_in room.old) ≤ MOST_LINE }
+    ensures { Adds room.old room.new (report verdict path) }
 {
     match verdict {
         Verdict::Valid(warnings) => push_valid(&warnings, room),
@@ -130,6 +133,21 @@ pub fn write_report<W: Sink>(
 {
     let mut room = Room::new();
     push_report(verdict, path, &mut room);
+    write_bytes(room.bytes(), writer)
+}
+
+/// Writes the report of a sequence: `valid`, the count of its records and the warning lines of all of them; or the number
+/// of the first record that is not valid, and the report of its verdict without a path.
+///
+/// What went out is as `write_report` has it.
+pub fn write_seq_report<W: Sink>(verdict: SeqVerdict, writer: &mut W) -> Result<(), WriteFault>
+    ensures whole { OnOk result (Appends (W.taken writer.old) (W.taken writer.new) (sequence_report verdict)) }
+    ensures front { IfErr result (λ fault.
+        IsFrontOut (W.taken writer.old) (W.taken writer.new) (sequence_report verdict) fault.written) }
+    ensures failed { CountsFailure (W.failed_writes writer.old) (W.failed_writes writer.new) result }
+{
+    let mut room = Room::new();
+    push_sequence_report(verdict, &mut room);
     write_bytes(room.bytes(), writer)
 }
 

@@ -14,7 +14,8 @@ pub const MOST_STEP: usize = 22;
 /// The most steps of a path.
 const MOST_STEPS: usize = 64;
 
-/// No report has more bytes: `valid` and nine warnings are ten lines, and a broken rule is one line and that of its path.
+/// No report has more bytes: `valid`, the count of a sequence's records and nine warnings are eleven lines, and a broken rule is
+/// one line, that of its record and that of its path.
 pub const CAPACITY: usize = 10 * MOST_LINE + MOST_STEPS * MOST_STEP;
 
 /// What is written so far.

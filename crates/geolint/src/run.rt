@@ -2,7 +2,7 @@ ghost use Rattle.std.specs.Prelude.{◌≡◌, ℕ, ◌+◌, ◌≤◌, true, fa
 ghost use Rattle.std.specs.Io.KnownBytes.{Appends};
 ghost use Rattle.geolint.specs.Counts.{one_more};
 ghost use Rattle.geolint.specs.Judged.{JudgesRead};
-ghost use Rattle.geolint.specs.Quick.{QuickRuns};
+ghost use Rattle.geolint.specs.Quick.{QuickRuns, StopsAtOnce};
 ghost use Rattle.geolint.specs.Report.{report as report_of};
 ghost use Rattle.geolint.specs.Run.{CountsReadFault, CountsWriteFault, CountsOffset, Runs, RunsBy, Seeks, SeeksFor, SparesAtReadFault, ReadFaultOf, WriteFaultOf, outcome_of};
 
@@ -37,6 +37,8 @@ pub fn run<S: Source, W: Sink>(
         (W.taken writer.old) (W.taken writer.new) result }
     ensures quick { options.quick ≡ true → QuickRuns options (S.remaining reader.old) (S.remaining reader.new)
         (W.taken writer.old) (W.taken writer.new) result }
+    ensures stops { options.quick ≡ true → StopsAtOnce options.limits (S.remaining reader.old) (S.remaining reader.new)
+        (S.reads reader.old) (S.reads reader.new) }
 {
     if options.quick {
         return run_quickly(reader, writer, options);
@@ -68,6 +70,8 @@ pub fn run_with_path<S: Source, T: Source, W: Sink>(
         options (S.remaining first.old) (S.remaining first.new) (W.taken writer.old) (W.taken writer.new) result }
     ensures quick { options.quick ≡ true → QuickRuns options (S.remaining first.old) (S.remaining first.new)
         (W.taken writer.old) (W.taken writer.new) result }
+    ensures stops { options.quick ≡ true → StopsAtOnce options.limits (S.remaining first.old) (S.remaining first.new)
+        (S.reads first.old) (S.reads first.new) }
     ensures unread { options.quick ≡ true → second.new ≡ second.old }
 {
     if options.quick {

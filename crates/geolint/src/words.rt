@@ -15,6 +15,8 @@ const MOST_BYTES: i64 = 1 << 60;
 #[derive(Drop)]
 pub struct Order {
     pub options: Options,
+    /// The input is a text sequence.
+    pub seq: bool,
     /// The file to read, or standard input where there is none.
     pub path: Option<String>,
 }
@@ -51,6 +53,7 @@ pub fn read_words(alloc: Global, words: &[String]) -> Result<Order, WordsFault> 
     if words.is_empty() {
         return Ok(Order {
             options: Options::usual(),
+            seq: false,
             path: None,
         });
     }
@@ -79,11 +82,14 @@ fn with_options<'a>(alloc: Global, command: Command<'a>) -> Result<Command<'a>, 
     let quick = Arg::new(alloc, "quick")
         .long("quick")
         .action(ArgAction::SetTrue);
+    let seq = Arg::new(alloc, "seq")
+        .long("seq")
+        .action(ArgAction::SetTrue);
     let bytes = Arg::new(alloc, "max-bytes")
         .long("max-bytes")
         .action(ArgAction::Set)
         .value_parser(value_parser!(u64).range(1..=MOST_BYTES));
-    command.arg(strict)?.arg(quick)?.arg(bytes)
+    command.arg(strict)?.arg(quick)?.arg(seq)?.arg(bytes)
 }
 
 fn order_of(alloc: Global, matches: &ArgMatches<'_>) -> Result<Order, WordsFault> {
@@ -92,6 +98,7 @@ fn order_of(alloc: Global, matches: &ArgMatches<'_>) -> Result<Order, WordsFault
     };
     Ok(Order {
         options: options_of(given)?,
+        seq: given.get_flag("seq"),
         path: path_of(alloc, given)?,
     })
 }

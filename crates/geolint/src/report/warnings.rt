@@ -74,7 +74,7 @@ fn push_kind(kind: Kind, warnings: &Warnings, room: &mut Room)
 }
 
 /// The lines of all kinds.
-fn push_warnings(warnings: &Warnings, room: &mut Room)
+pub fn push_warnings(warnings: &Warnings, room: &mut Room)
     requires { length (written_in room.old) + 9 * MOST_LINE ≤ CAPACITY }
     ensures { Adds room.old room.new (warning_lines warnings.now) }
 {

@@ -91,6 +91,32 @@ fn words_give_an_order(rt: HostRuntime) -> Result<(), Fail> {
 }
 
 #[test]
+fn words_ask_for_a_sequence(rt: HostRuntime) -> Result<(), Fail> {
+    let rows = [
+        ("", false, None),
+        ("stdin --strict", false, None),
+        ("stdin --seq", true, None),
+        ("file --seq --strict a.geojsons", true, Some("a.geojsons")),
+        ("file a.geojsons --seq --quick", true, Some("a.geojsons")),
+        ("file -- --seq", false, Some("--seq")),
+    ];
+    for (line, seq, path) in rows {
+        let words = words_of(rt.alloc(), line)?;
+        match read_words(rt.alloc(), words.as_slice()) {
+            Ok(order) => {
+                assert!(rt; order.seq == seq, "{line}");
+                assert!(rt;
+                    order.path.as_ref().map(|path| path.as_str()) == path,
+                    "{line}"
+                );
+            }
+            Err(fault) => assert!(rt; false, "{line}: {fault:?}"),
+        }
+    }
+    Ok(())
+}
+
+#[test]
 fn other_words_are_refused(rt: HostRuntime) -> Result<(), Fail> {
     let rows = [
         ("file", WordsFault::Usage),
@@ -106,6 +132,9 @@ fn other_words_are_refused(rt: HostRuntime) -> Result<(), Fail> {
         ("stdin --max-bytes 1 --max-bytes 2", WordsFault::Usage),
         ("--quick", WordsFault::Usage),
         ("stdin --quick --quick", WordsFault::Usage),
+        ("--seq", WordsFault::Usage),
+        ("file --seq", WordsFault::Usage),
+        ("stdin --seq a.geojsons", WordsFault::Usage),
         ("--version", WordsFault::Usage),
         ("--help", WordsFault::Help),
         ("-h", WordsFault::Help),

@@ -1,11 +1,13 @@
-use Rattle.std.proofs.Common.{ℕ, List, length, ◌+◌, ◌-◌, ◌<◌, ◌≤◌, ◌≡◌, ◌^◌}
+use Rattle.std.proofs.Common.{ℕ, List, [], length, ◌+◌, ◌-◌, ◌<◌, ◌≤◌, ◌≡◌, ◌^◌}
+use Rattle.std.specs.Prelude.{◌⊎◌}
 use Rattle.std.specs.Io.KnownBytes.{Consumes}
 use Rattle.gj_rules.specs.Linter.{StandsFor, limits_of}
+use Rattle.geolint.specs.Quick.{ShowNoFault}
 use Rattle.geolint.proofs.quick.lint_quickly.Given as goal
 
 abbrev pub invariant-loop-linter : goal.invariant-loop-linter
 invariant-loop-linter g l = record {
-  read : (read : List ℕ) × Consumes (g.S.Source.remaining l.initial.reader) (g.S.Source.remaining l.reader) read × (length read ≡ l.offset) × StandsFor l.linter read;
+  read : (read : List ℕ) × Consumes (g.S.Source.remaining l.initial.reader) (g.S.Source.remaining l.reader) read × (length read ≡ l.offset) × StandsFor l.linter read × ((read ≡ []) ⊎ ShowNoFault l.fn.limits read);
   limits : limits_of l.linter ≡ l.fn.limits;
   within : l.offset ≤ l.fn.limits.bytes;
   few : g.S.Source.reads l.reader ≤ g.S.Source.reads l.initial.reader + l.offset;

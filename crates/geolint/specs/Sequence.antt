@@ -1,0 +1,55 @@
+-- What the reading of a sequence gives, its report, and what a run over it does.
+use Rattle.std.specs.Prelude.{◌≡◌, ℕ, Bool, List, ◌++◌, length, Option, None, Result, Ok, Err, codes}
+use Rattle.std.specs.Fmt.{decimal}
+use Rattle.std.specs.Io.KnownBytes.{Appends, Consumes, Keeps}
+use Rattle.gj_json.specs.Limits.{Allowed}
+use Rattle.gj_rules.specs.declared.sequence.verdict.SeqVerdict.{SeqVerdict}
+use Rattle.gj_rules.specs.declared.verdict.Verdict.TheVariants.{Valid}
+use Rattle.gj_rules.specs.Sequence.{IsSequenceVerdict}
+use Rattle.geolint.specs.declared.fault.RunFault.{RunFault}
+use Rattle.geolint.specs.declared.fault.RunFault.TheVariants.{Read, Write}
+use Rattle.geolint.specs.declared.options.Options.{Options}
+use Rattle.geolint.specs.declared.options.Outcome.{Outcome}
+use Rattle.geolint.specs.declared.options.Outcome.TheVariants.{Fail}
+use Rattle.geolint.specs.Judged.{JudgesBy}
+use Rattle.geolint.specs.Report.{report, warning_lines}
+use Rattle.geolint.specs.Run.{outcome_of}
+use Rattle.geolint.specs.Written.{IsFrontOut}
+
+-- ---- the reading
+
+-- what was read of a sequence has this verdict, as have all the bytes of the reader
+abbrev pub JudgesSequence : Allowed → Option (List ℕ) → Option (List ℕ) → SeqVerdict → Type 0
+JudgesSequence = JudgesBy IsSequenceVerdict
+
+-- ---- the report
+
+abbrev pub record_line : ℕ → List ℕ
+record_line number = codes "record " ++ (decimal number ++ codes "\n")
+
+abbrev pub count_line : ℕ → List ℕ
+count_line count = codes "records " ++ (decimal count ++ codes "\n")
+
+-- how many records there are, and the warnings of all of them; or the first record that is not valid, and what it is
+abbrev pub sequence_report : SeqVerdict → List ℕ
+sequence_report (SeqVerdict.Valid count warnings) = codes "valid\n" ++ (count_line count ++ warning_lines warnings)
+sequence_report (SeqVerdict.Record number verdict) = record_line number ++ report verdict None
+
+-- a sequence passes where its records are valid; where the run is strict, only without a warning
+abbrev pub sequence_outcome : Bool → SeqVerdict → Outcome
+sequence_outcome strict (SeqVerdict.Valid count warnings) = outcome_of strict (Valid warnings)
+sequence_outcome strict (SeqVerdict.Record number verdict) = Fail
+
+-- ---- the run
+
+-- `had` and `left` are what the reader has to give before and after, `held` and `holds` what the writer has taken
+abbrev pub SequenceRuns : Options → Option (List ℕ) → Option (List ℕ) → Option (List ℕ) → Option (List ℕ) → Result Outcome RunFault → Type 0
+-- the whole report went out
+SequenceRuns options had left held holds (Ok outcome) =
+    (verdict : SeqVerdict) × JudgesSequence options.limits had left verdict × Appends held holds (sequence_report verdict)
+    × (outcome ≡ sequence_outcome options.strict verdict)
+-- a front of it did
+SequenceRuns options had left held holds (Err (Write fault)) =
+    (verdict : SeqVerdict) × JudgesSequence options.limits had left verdict × IsFrontOut held holds (sequence_report verdict) fault.written
+-- so many bytes came, and nothing went out
+SequenceRuns options had left held holds (Err (Read fault)) = (read : List ℕ) × Consumes had left read × (length read ≡ fault.offset) × Keeps held holds

@@ -1,0 +1,103 @@
+//! A run over a text sequence (RFC 8142).
+ghost use Rattle.std.specs.Prelude.{◌≡◌, ℕ, List, ◌+◌, ◌<◌, ◌≤◌, length, MatchResult, IfOk, OnOk, IfErr};
+ghost use Rattle.std.specs.Io.KnownBytes.{Consumes, Appends};
+ghost use Rattle.geolint.specs.Counts.{CountsFailure, one_more};
+ghost use Rattle.geolint.specs.Run.{CountsReadFault, CountsWriteFault, CountsOffset, WriteFaultOf};
+ghost use Rattle.geolint.specs.Sequence.{JudgesSequence, SequenceRuns, sequence_report, sequence_outcome};
+
+use crate::fault::{ReadFault, RunFault};
+use crate::options::{Options, Outcome};
+use crate::report::write_seq_report;
+use crate::run::outcome_of;
+use crate::sink::Sink;
+use crate::source::Source;
+use gj_json::Limits;
+use gj_rules::{SeqProgress, SeqVerdict, Sequence, Verdict, one_sequence_verdict};
+
+/// The most bytes of a read.
+const PIECE: usize = 8192;
+
+/// Reads a sequence until it ends or a byte decides that a record is not valid, and answers its verdict.
+///
+/// No read follows the piece with that byte. Reads and errors are as `lint_reader` has them.
+pub fn lint_sequence<S: Source>(reader: &mut S, limits: Limits) -> Result<SeqVerdict, ReadFault>
+    ensures few { S.reads reader.new ≤ S.reads reader.old + (limits.bytes + 1) }
+    ensures failed { CountsFailure (S.failed_reads reader.old) (S.failed_reads reader.new) result }
+    ensures given { IfErr result (λ fault. S.bytes_given reader.new < u64.MAX
+        → S.bytes_given reader.new ≡ S.bytes_given reader.old + fault.offset) }
+    ensures offset { IfErr result (λ fault.
+        (read : List ℕ) × Consumes (S.remaining reader.old) (S.remaining reader.new) read × (length read ≡ fault.offset)) }
+    ensures verdict { IfOk result (λ verdict.
+        JudgesSequence limits (S.remaining reader.old) (S.remaining reader.new) verdict) }
+{
+    let _most = limits.bytes();
+    one_sequence_verdict();
+    let mut sequence = Sequence::new(limits);
+    let mut piece = [0; PIECE];
+    let mut offset = 0;
+    loop {
+        match reader.read_piece(&mut piece) {
+            Err(_) => return Err(ReadFault { offset }),
+            Ok(0) => return Ok(sequence.finish()),
+            Ok(count) => {
+                offset += count as u64;
+                match sequence.feed(&piece[..count]) {
+                    SeqProgress::Open => {}
+                    SeqProgress::Decided => return Ok(sequence.finish()),
+                }
+            }
+        }
+    }
+}
+
+/// Judges the sequence that the reader gives, writes its report, and answers whether it passes. It makes no use of `quick`.
+///
+/// Errors are as `run` has them.
+pub fn run_sequence<S: Source, W: Sink>(
+    reader: &mut S,
+    writer: &mut W,
+    options: Options,
+) -> Result<Outcome, RunFault>
+    ensures few { S.reads reader.new ≤ S.reads reader.old + (options.limits.bytes + 1) }
+    ensures reads { CountsReadFault (S.failed_reads reader.old) (S.failed_reads reader.new) result }
+    ensures given { CountsOffset (S.bytes_given reader.old) (S.bytes_given reader.new) result }
+    ensures writes { CountsWriteFault (W.failed_writes writer.old) (W.failed_writes writer.new) result }
+    ensures runs { SequenceRuns options (S.remaining reader.old) (S.remaining reader.new)
+        (W.taken writer.old) (W.taken writer.new) result }
+{
+    match lint_sequence(reader, options.limits) {
+        Err(fault) => Err(RunFault::Read(fault)),
+        Ok(verdict) => report_sequence(verdict, writer, options.strict),
+    }
+}
+
+/// Writes the report, and answers whether the sequence passes.
+fn report_sequence<W: Sink>(
+    verdict: SeqVerdict,
+    writer: &mut W,
+    strict: bool,
+) -> Result<Outcome, RunFault>
+    ensures writes { MatchResult result (λ outcome. W.failed_writes writer.new ≡ W.failed_writes writer.old)
+        (λ fault. W.failed_writes writer.new ≡ one_more (W.failed_writes writer.old)) }
+    ensures outcome { IfOk result (λ outcome. outcome ≡ sequence_outcome strict verdict) }
+    ensures whole { OnOk result (Appends (W.taken writer.old) (W.taken writer.new) (sequence_report verdict)) }
+    ensures fault { IfErr result (λ fault. WriteFaultOf (W.taken writer.old) (W.taken writer.new) (sequence_report verdict) fault) }
+{
+    match write_seq_report(verdict, writer) {
+        Ok(()) => Ok(sequence_outcome(verdict, strict)),
+        Err(fault) => Err(RunFault::Write(fault)),
+    }
+}
+
+/// Whether a sequence with this verdict passes.
+fn sequence_outcome(verdict: SeqVerdict, strict: bool) -> Outcome
+    ensures { result ≡ sequence_outcome strict verdict }
+{
+    match verdict {
+        SeqVerdict::Valid { warnings, .. } => outcome_of(Verdict::Valid(warnings), strict),
+        SeqVerdict::Record { .. } => Outcome::Fail,
+    }
+}
+
+#[cfg(test)]
+mod tests;
