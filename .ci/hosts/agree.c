@@ -77,7 +77,7 @@ static size_t print_report(const geolint_report *report, char *to) {
 
 static geolint_report judge_cut(geolint_linter *linter, const char *text, size_t size) {
     size_t from = 0;
-    geolint_begin(linter, 0, 0);
+    geolint_begin_again(linter, 0, 0);
     while (from < size) {
         size_t most = below(3) ? 16 : size - from;
         size_t length = below((uint32_t)(most < size - from ? most : size - from) + 1);

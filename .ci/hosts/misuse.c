@@ -18,6 +18,7 @@ static const char POINT[] = "{\"type\":\"Point\",\"coordinates\":[1,2]}";
 static void at_null(void) {
     geolint_report report = geolint_finish(NULL);
     wants(geolint_begin(NULL, 0, 0) == GEOLINT_NULL, "begin at null");
+    wants(geolint_begin_again(NULL, 0, 0) == GEOLINT_NULL, "begin again at null");
     wants(geolint_feed(NULL, "x", 1) == GEOLINT_NULL, "feed at null");
     wants(geolint_offset(NULL) == 0, "offset at null");
     wants(geolint_doomed(NULL) == 0, "doomed at null");
@@ -60,6 +61,29 @@ static void after_the_end(void) {
     wants(geolint_feed(linter, POINT, POINT_SIZE) == GEOLINT_DONE, "feed after a second beginning");
     wants(geolint_offset(linter) == POINT_SIZE, "offset after a second beginning");
     wants(geolint_finish(linter).verdict == GEOLINT_VALID, "finish after a second beginning");
+    geolint_free(linter);
+}
+
+static void begun_again(void) {
+    geolint_linter *linter = geolint_new(1, 0);
+    if (!linter) {
+        wants(0, "memory");
+        return;
+    }
+    wants(geolint_feed(linter, "[[", 2) == GEOLINT_REFUSED, "two levels");
+    wants(geolint_begin_again(linter, 2, 40) == GEOLINT_DONE, "begin again after a refusal");
+    wants(geolint_offset(linter) == 0 && geolint_doomed(linter) == 0, "nothing is left of it");
+    wants(geolint_feed(linter, POINT, POINT_SIZE) == GEOLINT_DONE, "a text under the new limits");
+    wants(geolint_begin_again(linter, 0, 10) == GEOLINT_DONE, "begin again in a text");
+    wants(geolint_feed(linter, POINT, POINT_SIZE) == GEOLINT_REFUSED && geolint_offset(linter) == 10, "ten bytes");
+    wants(geolint_finish(linter).cause == GEOLINT_LENGTH, "its verdict");
+    wants(geolint_begin_again(linter, 65, 0) == GEOLINT_LIMITS, "begin again beyond the limits");
+    wants(geolint_feed(linter, "x", 1) == GEOLINT_ENDED && geolint_finish(linter).status == GEOLINT_ENDED, "the end after it");
+    wants(geolint_begin_again(linter, 0, 0) == GEOLINT_DONE, "begin again after the end");
+    wants(geolint_feed(linter, POINT, POINT_SIZE) == GEOLINT_DONE && geolint_finish(linter).verdict == GEOLINT_VALID, "a point");
+    wants(geolint_begin(linter, 65, 0) == GEOLINT_LIMITS, "begin beyond the limits");
+    wants(geolint_begin_again(linter, 0, 0) == GEOLINT_DONE, "begin again after that");
+    wants(geolint_feed(linter, POINT, POINT_SIZE) == GEOLINT_DONE && geolint_finish(linter).verdict == GEOLINT_VALID, "a point then");
     geolint_free(linter);
 }
 
@@ -116,6 +140,7 @@ int main(void) {
     at_null();
     pieces_of_length_0();
     after_the_end();
+    begun_again();
     after_a_refusal();
     limits();
     texts();

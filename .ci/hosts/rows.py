@@ -38,8 +38,12 @@ def plain(verdict):
     return {**number, "place": verdict.place}
 
 
+kept = geolint.Linter()
+
+
 def fed(pieces, **limits):
-    linter = geolint.Linter(**limits)
+    linter = geolint.Linter(**limits) if len(pieces) == 2 else kept
+    linter.begin(**limits)
     for piece in pieces:
         linter.feed(piece)
     return plain(linter.finish())

@@ -23,7 +23,7 @@ static int by_call(void) {
 static geolint_linter *kept;
 
 static int by_kept_linter(void) {
-    geolint_begin(kept, 0, 0);
+    geolint_begin_again(kept, 0, 0);
     geolint_feed(kept, TEXT, SIZE);
     return geolint_finish(kept).verdict == GEOLINT_VALID;
 }

@@ -59,6 +59,7 @@ def _load():
         ("size", size, []),
         ("alignment", size, []),
         ("begin", u32, [address, u32, u64]),
+        ("begin_again", u32, [address, u32, u64]),
         ("feed", u32, [address, address, size]),
         ("doomed", u32, [address]),
         ("offset", u64, [address]),
@@ -179,6 +180,12 @@ class Linter:
         self._memory = ctypes.create_string_buffer(size + alignment)
         self._at = -(-ctypes.addressof(self._memory) // alignment) * alignment
         _library.geolint_begin(self._at, *limits)
+
+    def begin(self, max_depth=None, max_bytes=None):
+        """Begins again, in the same memory: that costs less than another linter."""
+        limits = _limits(max_depth, max_bytes)
+        self.verdict = None
+        _library.geolint_begin_again(self._at, *limits)
 
     def feed(self, data):
         """Takes the next bytes. False says that the text is refused: the host may stop reading."""

@@ -1,11 +1,13 @@
-//! geolint for Rust, over the library for C: put this file into a crate, and link `libgeolint.a` or `libgeolint.so`.
+//! geolint for Rust, over the library for C: put this file into a crate, and link `libgeolint.a` or `libgeolint.so`. It
+//! needs Rust 1.63, and an edition up to 2021.
 //!
 //! `check` judges a text in memory. A `Linter` judges one that comes in pieces, also as an `io::Write`, so that a download
 //! can be judged while it is stored (`Judging`).
 
 use std::alloc::{Layout, alloc, dealloc};
-use std::ffi::{CStr, c_char, c_void};
+use std::ffi::{CStr, c_void};
 use std::io;
+use std::os::raw::c_char;
 use std::ptr::NonNull;
 
 /// The header `geolint.h` in Rust's words.
@@ -43,11 +45,12 @@ mod c {
         pub size: usize,
     }
 
-    unsafe extern "C" {
+    extern "C" {
         pub fn geolint_check(bytes: *const u8, length: usize, max_depth: u32, max_bytes: u64) -> Report;
         pub fn geolint_size() -> usize;
         pub fn geolint_alignment() -> usize;
         pub fn geolint_begin(linter: *mut c_void, max_depth: u32, max_bytes: u64) -> u32;
+        pub fn geolint_begin_again(linter: *mut c_void, max_depth: u32, max_bytes: u64) -> u32;
         pub fn geolint_feed(linter: *mut c_void, bytes: *const u8, length: usize) -> u32;
         pub fn geolint_doomed(linter: *mut c_void) -> u32;
         pub fn geolint_offset(linter: *mut c_void) -> u64;
@@ -150,6 +153,17 @@ impl Linter {
         self.memory.as_ptr().cast()
     }
 
+    /// The verdict of all that was fed. Then the linter begins again in the same memory, which costs less than another one.
+    /// Under limits that are not allowed nothing changes.
+    pub fn finish_and_begin(&mut self, limits: Limits) -> Result<Verdict, Refusal> {
+        if limits.max_depth > 64 || limits.max_bytes > 1 << 60 {
+            return Err(Refusal::Limits);
+        }
+        let report = unsafe { c::geolint_finish(self.at()) };
+        unsafe { c::geolint_begin_again(self.at(), limits.max_depth, limits.max_bytes) };
+        Ok(verdict_of(&report).expect("a linter is finished once"))
+    }
+
     /// Takes the next bytes.
     pub fn feed(&mut self, piece: &[u8]) -> Progress {
         match unsafe { c::geolint_feed(self.at(), piece.as_ptr(), piece.len()) } {
@@ -212,7 +226,7 @@ impl<W: io::Write> io::Write for Judging<W> {
 }
 
 fn text(write: impl FnOnce(&mut c::Text)) -> &'static str {
-    let mut text = c::Text { bytes: c"".as_ptr(), size: 1 };
+    let mut text = c::Text { bytes: b"\0".as_ptr().cast(), size: 1 };
     write(&mut text);
     // The library's texts lie there for good, end with a byte 0, and are ASCII.
     unsafe { CStr::from_ptr(text.bytes) }.to_str().unwrap_or("")

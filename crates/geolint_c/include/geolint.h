@@ -8,10 +8,10 @@
  * the whole text, and a prover checks it on each build:
  *   - geolint_check gives the verdict of these bytes: whether they are a JSON text (RFC 8259), then the broken rule of the
  *     least place in the whole text, otherwise of each kind of warning how many there are and the least place;
- *   - geolint_finish gives the same of all bytes that were fed since geolint_begin, however they were cut into pieces;
+ *   - geolint_finish gives the same of all bytes that were fed since the linter was begun last, however they were cut into pieces;
  *   - geolint_feed answers GEOLINT_REFUSED exactly where every text that begins with the bytes fed so far is no JSON text
  *     within the limits;
- *   - geolint_doomed answers 1 only where no text that begins with the bytes fed so far is valid;
+ *   - geolint_doomed answers 1 only where no text that begins with the bytes fed so far is valid, and otherwise 0;
  *   - geolint_offset tells how many bytes were taken: all that were fed, or once they are refused the place of the refusal;
  *   - each call returns, reads and writes no memory but what it is passed, and leaves a linter that can be used again.
  * Tested and not proved: this header, and that the library is linked as it was built.
@@ -92,7 +92,7 @@ typedef struct geolint_linter geolint_linter;
 
 /* Judges `length` bytes. `max_depth` is how many arrays and objects may be open inside each other, from 1 to 64, and
  * `max_bytes` how many bytes a text may have, from 1 to 2^60; 0 stands for the most of either. Other limits give
- * GEOLINT_NO_VERDICT with GEOLINT_LIMITS. As measured, it needs 110 KiB of stack. */
+ * GEOLINT_NO_VERDICT with GEOLINT_LIMITS. As measured, it needs 60 KiB of stack. */
 geolint_report geolint_check(const void *bytes, size_t length, uint32_t max_depth, uint64_t max_bytes);
 
 /* ---- a text in pieces */
@@ -103,8 +103,12 @@ size_t geolint_alignment(void);
 
 /* Begins a linter in this memory, whatever is there, before the first byte of an input: GEOLINT_DONE. The limits are those
  * of geolint_check; where they are not allowed the answer is GEOLINT_LIMITS, and the linter has ended. Null: GEOLINT_NULL.
- * A linter may be begun again at any time. There is nothing to free in it: the host frees its memory, once, when it likes. */
+ * A linter may be begun again at any time, also by geolint_begin_again. There is nothing to free in it: the host frees its memory, once, when it likes. */
 uint32_t geolint_begin(geolint_linter *linter, uint32_t max_depth, uint64_t max_bytes);
+
+/* As geolint_begin, for memory that geolint_begin has got before: a host that judges many texts pays little for each, since
+ * a linter of some 54 KB lies there already and most of it need not be written. */
+uint32_t geolint_begin_again(geolint_linter *linter, uint32_t max_depth, uint64_t max_bytes);
 
 /* Takes the next bytes: GEOLINT_DONE or GEOLINT_REFUSED. After a refusal each further piece is refused and changes
  * nothing, and a host may stop reading: the verdict is settled. A broken rule does not end the reading. A piece of length
@@ -120,7 +124,7 @@ uint64_t geolint_offset(geolint_linter *linter);
 uint32_t geolint_doomed(geolint_linter *linter);
 
 /* The verdict of all that was fed, and the end of the linter. After the end there is GEOLINT_NO_VERDICT with
- * GEOLINT_ENDED, and for null with GEOLINT_NULL. As measured, it needs 165 KiB of stack. */
+ * GEOLINT_ENDED, and for null with GEOLINT_NULL. As measured, no call on a linter needs more than 8 KiB of stack. */
 geolint_report geolint_finish(geolint_linter *linter);
 
 /* ---- texts */

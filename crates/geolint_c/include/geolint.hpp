@@ -95,9 +95,9 @@ public:
     /* The verdict of all that was fed, and the end of the linter. */
     Verdict finish() noexcept { return Verdict(geolint_finish(linter_)); }
 
-    /* Begins again, in the same memory. */
+    /* Begins again, in the same memory, at little cost. */
     bool begin(Limits limits = Limits()) noexcept {
-        return geolint_begin(linter_, limits.max_depth, limits.max_bytes) == GEOLINT_DONE;
+        return geolint_begin_again(linter_, limits.max_depth, limits.max_bytes) == GEOLINT_DONE;
     }
 
 private:

@@ -1,11 +1,11 @@
 -- What a handle stands for, and what each of its calls gives.
-use Rattle.std.specs.Prelude.{◌≡◌, ℕ, List, [], ◌++◌, length, Option, Some, None}
+use Rattle.std.specs.Prelude.{◌≡◌, ◌⊎◌, ℕ, true, false, List, [], ◌++◌, length, Option, Some, None}
 use Rattle.gj_json.specs.Limits.{Allowed}
 use Rattle.gj_json.specs.declared.fault.JsonFault.{JsonFault}
 use Rattle.gj_rules.specs.declared.linter.Linter.{Linter}
 use Rattle.gj_rules.specs.declared.linter.Progress.{Progress}
 use Rattle.gj_rules.specs.declared.linter.Progress.TheVariants.{Open, Refused}
-use Rattle.gj_rules.specs.Linter.{StandsFor as LinterStandsFor, limits_of, refusal_of, Answers}
+use Rattle.gj_rules.specs.Linter.{StandsFor as LinterStandsFor, limits_of, refusal_of, refusal_in, Answers}
 use Rattle.gj_rules.specs.Verdict.{NeverValid}
 use Rattle.gj_rules.specs.Doomed.{BeginNoGeoJson}
 use Rattle.geolint_c.specs.declared.handle.Handle.{Handle}
@@ -19,15 +19,26 @@ IsFed (Some linter) limits bytes = LinterStandsFor linter bytes × (limits_of li
 
 -- it was begun under these limits and fed these bytes, and has not ended
 abbrev pub StandsFor : Handle → Allowed → List ℕ → Type 0
-StandsFor handle limits bytes = IsFed handle.linter limits bytes
+StandsFor handle limits bytes = (handle.ended ≡ false) × IsFed handle.linter limits bytes
 
 abbrev pub HasEnded : Handle → Type 0
-HasEnded handle = handle.linter ≡ None
+HasEnded handle = handle.ended ≡ true
+
+abbrev pub refused_by : Option Linter → Option JsonFault
+refused_by None = None
+refused_by (Some linter) = refusal_of linter
+
+-- the refusal of what was fed, once there was one
+abbrev pub refusal : Handle → Option JsonFault
+refusal handle = refused_by handle.linter
 
 -- ---- begin
+-- it is before the first byte
+abbrev pub Begins : Allowed → Handle → Type 0
+Begins limits handle = StandsFor handle limits [] × (refusal handle ≡ None)
+
 abbrev pub BegunLive : ℕ → ℕ → Handle → Type 0
-BegunLive max_depth max_bytes handle =
-    AreAllowed max_depth max_bytes → StandsFor handle (limits_meant max_depth max_bytes) []
+BegunLive max_depth max_bytes handle = AreAllowed max_depth max_bytes → Begins (limits_meant max_depth max_bytes) handle
 
 abbrev pub BegunEnded : ℕ → ℕ → Handle → Type 0
 BegunEnded max_depth max_bytes handle = ¬ (AreAllowed max_depth max_bytes) → HasEnded handle
@@ -42,52 +53,56 @@ abbrev pub status_of : Progress → ℕ
 status_of Open = 0
 status_of (Refused fault) = 1
 
-abbrev pub AnswersBy : Allowed → List ℕ → ℕ → Type 0
-AnswersBy limits bytes status = (progress : Progress) × Answers limits bytes progress × (status ≡ status_of progress)
+-- and the refusal that it then keeps
+abbrev pub AnswersBy : Allowed → List ℕ → ℕ → Option JsonFault → Type 0
+AnswersBy limits bytes status kept =
+    (progress : Progress) × Answers limits bytes progress × (status ≡ status_of progress) × (kept ≡ refusal_in progress)
 
 abbrev pub FedStands : Handle → List ℕ → Handle → Type 0
 FedStands old piece new =
     (limits : Allowed) (bytes : List ℕ) → StandsFor old limits bytes → StandsFor new limits (bytes ++ piece)
 
-abbrev pub FedAnswer : Handle → List ℕ → ℕ → Type 0
-FedAnswer old piece status =
-    (limits : Allowed) (bytes : List ℕ) → StandsFor old limits bytes → AnswersBy limits (bytes ++ piece) status
+abbrev pub FedAnswer : Handle → List ℕ → ℕ → Handle → Type 0
+FedAnswer old piece status new =
+    (limits : Allowed) (bytes : List ℕ) → StandsFor old limits bytes → AnswersBy limits (bytes ++ piece) status (refusal new)
 
 abbrev pub FedEnded : Handle → ℕ → Handle → Type 0
 FedEnded old status new = HasEnded old → (status ≡ 2) × (new ≡ old)
+
+-- once what was fed is refused, each piece is, and nothing changes
+abbrev pub FedAgain : Handle → ℕ → Handle → Type 0
+FedAgain old status new = (fault : JsonFault) → old.ended ≡ false → refusal old ≡ Some fault → (status ≡ 1) × (new ≡ old)
 
 -- ---- offset
 -- as long as the bytes may become an admitted text, how many they are
 abbrev pub OffsetTaken : Handle → ℕ → Type 0
 OffsetTaken handle offset =
-    (linter : Linter) (bytes : List ℕ) → handle.linter ≡ Some linter → LinterStandsFor linter bytes
-    → refusal_of linter ≡ None → offset ≡ length bytes
+    (limits : Allowed) (bytes : List ℕ) → StandsFor handle limits bytes → refusal handle ≡ None → offset ≡ length bytes
 
 -- once they are refused, the place of the refusal
 abbrev pub OffsetRefused : Handle → ℕ → Type 0
 OffsetRefused handle offset =
-    (linter : Linter) (bytes : List ℕ) (fault : JsonFault) → handle.linter ≡ Some linter → LinterStandsFor linter bytes
-    → refusal_of linter ≡ Some fault → offset ≡ fault.place
+    (limits : Allowed) (bytes : List ℕ) (fault : JsonFault) → StandsFor handle limits bytes → refusal handle ≡ Some fault
+    → offset ≡ fault.place
 
 abbrev pub OffsetEnded : Handle → ℕ → Type 0
 OffsetEnded handle offset = HasEnded handle → offset ≡ 0
 
 -- ---- doomed
--- only where no input that begins so is valid
+-- 1 only where no input that begins so is valid, otherwise 0
 abbrev pub DoomedSound : Handle → ℕ → Type 0
 DoomedSound handle doomed =
-    (limits : Allowed) (bytes : List ℕ) → StandsFor handle limits bytes → doomed ≡ 1 → NeverValid limits bytes
+    (limits : Allowed) (bytes : List ℕ) → StandsFor handle limits bytes → (doomed ≡ 0) ⊎ ((doomed ≡ 1) × NeverValid limits bytes)
 
 -- after a refusal always
 abbrev pub DoomedRefused : Handle → ℕ → Type 0
-DoomedRefused handle doomed =
-    (linter : Linter) (fault : JsonFault) → handle.linter ≡ Some linter → refusal_of linter ≡ Some fault → doomed ≡ 1
+DoomedRefused handle doomed = (fault : JsonFault) → handle.ended ≡ false → refusal handle ≡ Some fault → doomed ≡ 1
 
 -- and where the bytes show early that they begin no GeoJSON text
 abbrev pub DoomedEarly : Handle → ℕ → Type 0
 DoomedEarly handle doomed =
-    (linter : Linter) (bytes : List ℕ) → handle.linter ≡ Some linter → LinterStandsFor linter bytes
-    → refusal_of linter ≡ None → BeginNoGeoJson (limits_of linter).depth bytes → doomed ≡ 1
+    (limits : Allowed) (bytes : List ℕ) → StandsFor handle limits bytes → refusal handle ≡ None → BeginNoGeoJson limits.depth bytes
+    → doomed ≡ 1
 
 abbrev pub DoomedEnded : Handle → ℕ → Type 0
 DoomedEnded handle doomed = HasEnded handle → doomed ≡ 0

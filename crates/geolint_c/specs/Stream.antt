@@ -4,7 +4,7 @@ use Rattle.std.specs.Ptr.{Ptr, block_ptr, null_ptr}
 use Rattle.geolint_c.specs.declared.handle.Handle.{Handle}
 use Rattle.geolint_c.specs.declared.report.Report.{Report}
 use Rattle.geolint_c.specs.Report.{no_report}
-use Rattle.geolint_c.specs.Handle.{HasEnded, BegunLive, BegunEnded, BegunStatus, FedStands, FedAnswer, FedEnded, OffsetTaken, OffsetRefused, OffsetEnded, DoomedSound, DoomedRefused, DoomedEarly, DoomedEnded, FinishedVerdict, FinishedEnded}
+use Rattle.geolint_c.specs.Handle.{HasEnded, BegunLive, BegunEnded, BegunStatus, FedStands, FedAnswer, FedEnded, FedAgain, OffsetTaken, OffsetRefused, OffsetEnded, DoomedSound, DoomedRefused, DoomedEarly, DoomedEnded, FinishedVerdict, FinishedEnded}
 
 -- the first at null, the second elsewhere
 abbrev pub AtHandle : Ptr → Type 0 → Type 0 → Type 0
@@ -17,7 +17,7 @@ BegunAt handle max_depth max_bytes status new =
 
 abbrev pub FedAt : Ptr → Handle → List ℕ → ℕ → Handle → Type 0
 FedAt handle old piece status new =
-    AtHandle handle (status ≡ 4) (FedStands old piece new × FedAnswer old piece status × FedEnded old status new)
+    AtHandle handle (status ≡ 4) (FedStands old piece new × FedAnswer old piece status new × FedEnded old status new × FedAgain old status new)
 
 abbrev pub OffsetAt : Ptr → Handle → ℕ → Handle → Type 0
 OffsetAt handle old offset new =

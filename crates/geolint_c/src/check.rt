@@ -15,7 +15,7 @@ fn verdict_of(text: &[u8], limits: Limits) -> Verdict
 {
     let mut linter = Linter::new(limits);
     let _ = linter.feed(text);
-    linter.finish()
+    linter.finish_and_begin(limits)
 }
 
 /// Judges a whole text, where the limits are allowed.

@@ -1,16 +1,19 @@
 //! A text that comes in pieces, judged by a handle. Here are the calls over values; `stream` takes them to C.
 ghost use Rattle.std.specs.Prelude.{◌≡◌};
-ghost use Rattle.geolint_c.specs.Handle.{HasEnded, BegunLive, BegunEnded, FedStands, FedAnswer, FedEnded, BegunStatus, FinishedVerdict, FinishedEnded, OffsetTaken, OffsetRefused, OffsetEnded, DoomedSound, DoomedRefused, DoomedEarly, DoomedEnded};
+ghost use Rattle.geolint_c.specs.Handle.{HasEnded, Begins, BegunLive, BegunEnded, FedStands, FedAnswer, FedEnded, FedAgain, BegunStatus, FinishedVerdict, FinishedEnded, OffsetTaken, OffsetRefused, OffsetEnded, DoomedSound, DoomedRefused, DoomedEarly, DoomedEnded};
 
 use crate::options::limits_of;
 use crate::report::{Report, no_report, report_of};
 use crate::status::{DONE, ENDED, LIMITS, REFUSED};
+use gj_json::Limits;
 use gj_rules::{Linter, Progress};
 
 /// A linter until it has ended.
 #[derive(Drop)]
 pub struct Handle {
+    /// None where the limits are not allowed. It stays where it is at the end, since it is large.
     linter: Option<Linter>,
+    ended: bool,
 }
 
 impl Handle {
@@ -19,19 +22,57 @@ impl Handle {
         ensures live { BegunLive max_depth max_bytes result }
         ensures ended { BegunEnded max_depth max_bytes result }
     {
-        let linter = match limits_of(max_depth, max_bytes) {
+        let limits = limits_of(max_depth, max_bytes);
+        let linter = match limits {
             Some(limits) => Some(Linter::new(limits)),
             None => None,
         };
-        Handle { linter }
+        Handle {
+            linter,
+            ended: limits.is_none(),
+        }
+    }
+
+    /// As `begun`, whatever the handle was. Where it has a linter, little is written.
+    pub fn begin_again(&mut self, max_depth: u32, max_bytes: u64) -> u32
+        ensures live { BegunLive max_depth max_bytes self.new }
+        ensures ended { BegunEnded max_depth max_bytes self.new }
+        ensures status { BegunStatus max_depth max_bytes result }
+    {
+        match limits_of(max_depth, max_bytes) {
+            Some(limits) => {
+                self.renew(limits);
+                DONE
+            }
+            None => {
+                self.ended = true;
+                LIMITS
+            }
+        }
+    }
+
+    fn renew(&mut self, limits: Limits)
+        ensures { Begins limits self.new }
+    {
+        match &mut self.linter {
+            Some(linter) => {
+                let _ = linter.finish_and_begin(limits);
+            }
+            None => self.linter = Some(Linter::new(limits)),
+        }
+        self.ended = false;
     }
 
     /// Takes the next bytes of the input.
     pub fn feed(&mut self, piece: &[u8]) -> u32
         ensures stands { FedStands self.old piece.now self.new }
-        ensures answer { FedAnswer self.old piece.now result }
+        ensures answer { FedAnswer self.old piece.now result self.new }
         ensures ended { FedEnded self.old result self.new }
+        ensures again { FedAgain self.old result self.new }
     {
+        if self.ended {
+            return ENDED;
+        }
         match &mut self.linter {
             Some(linter) => match linter.feed(piece) {
                 Progress::Open => DONE,
@@ -49,8 +90,8 @@ impl Handle {
         ensures unchanged { self.new ≡ self.old }
     {
         match &self.linter {
-            Some(linter) => linter.offset(),
-            None => 0,
+            Some(linter) if !self.ended => linter.offset(),
+            _ => 0,
         }
     }
 
@@ -63,7 +104,7 @@ impl Handle {
         ensures unchanged { self.new ≡ self.old }
     {
         match &self.linter {
-            Some(linter) if linter.doomed() => 1,
+            Some(linter) if !self.ended && linter.doomed() => 1,
             _ => 0,
         }
     }
@@ -74,8 +115,12 @@ impl Handle {
         ensures ended { FinishedEnded self.old result }
         ensures last { HasEnded self.new }
     {
-        match self.linter.take() {
-            Some(linter) => report_of(&linter.finish()),
+        if self.ended {
+            return no_report(ENDED);
+        }
+        self.ended = true;
+        match &mut self.linter {
+            Some(linter) => report_of(&linter.finish_and_begin(Limits::usual())),
             None => no_report(ENDED),
         }
     }

@@ -5,6 +5,8 @@ ghost use Rattle.std.specs.Prelude.{◌≡◌};
 ghost use Rattle.std.specs.Borrow.{full_share, sem};
 ghost use Rattle.std.specs.Ptr.{lies_at, room_at, if_non_null};
 ghost use denote.RawPtr.{Testable};
+ghost use denote.Memory.{lone};
+ghost use prog.Memory.{size, align};
 ghost use Rattle.geolint_c.specs.contracts.handle.Handle.{the_row};
 ghost use Rattle.geolint_c.specs.Stream.{BegunAt, FedAt, OffsetAt, DoomedAt, FinishedAt};
 
@@ -21,13 +23,17 @@ pub struct Memory {
 
 /// How many bytes a handle takes.
 #[unsafe(no_mangle)]
-pub extern "C" fn geolint_size() -> usize {
+pub extern "C" fn geolint_size() -> usize
+    ensures { result ≡ size (lone the_row.mir) }
+{
     size_of::<Handle>()
 }
 
 /// At a multiple of what address a handle lies.
 #[unsafe(no_mangle)]
-pub extern "C" fn geolint_alignment() -> usize {
+pub extern "C" fn geolint_alignment() -> usize
+    ensures { result ≡ align (lone the_row.mir) }
+{
     align_of::<Handle>()
 }
 
@@ -44,6 +50,25 @@ pub unsafe extern "C" fn geolint_begin(memory: *mut Memory, max_depth: u32, max_
     }
     std::ptr::write(handle, Handle::begun(max_depth, max_bytes));
     begun_status(max_depth, max_bytes)
+}
+
+/// As `geolint_begin`, in memory that has a handle. It writes little where that one was begun well: 54 KB lie in it.
+#[unsafe(no_mangle)]
+pub unsafe extern "C" fn geolint_begin_again(
+    memory: *mut Memory,
+    max_depth: u32,
+    max_bytes: u64,
+) -> u32
+    ghost held: { Handle }
+    requires testable { Testable memory }
+    requires* handle { sem 𝓛 (if_non_null memory (lies_at the_row full_share memory held)) }
+    ensures* begun { ∃ₛ (λ (new : Handle). sem 𝓛 (if_non_null memory (lies_at the_row full_share memory new)) ∗ ⌜ BegunAt memory max_depth max_bytes result new ⌝) }
+{
+    let handle = memory as *mut Handle;
+    if handle.is_null() {
+        return NULL;
+    }
+    (*handle).begin_again(max_depth, max_bytes)
 }
 
 /// Takes the next bytes of the input.

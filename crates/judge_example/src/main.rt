@@ -35,6 +35,12 @@ impl EventSink for EventCount {
     fn tell(&mut self, _event: Event) {
         self.count = self.count.saturating_add(1);
     }
+
+    fn ignored(&self) -> u8 {
+        0
+    }
+
+    fn pass(&mut self, _left: u8) {}
 }
 
 /// How many events a JSON text has, or where and why the bytes are no such text.

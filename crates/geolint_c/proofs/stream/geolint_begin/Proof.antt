@@ -1,5 +1,5 @@
 -- `geolint_begin` meets its contract: a walk of its MIR. What `Handle::begun` gives is written where the host has room for it.
-use Rattle.geolint_c.proofs.Steps.{None, ℕ, [], ◌∷◌, refl, subst, lit<, w32, w64, proved, full_share, sep, emp, ex, ex_i, via, mono_r, id⊢, ftrue, Val, vint, WpFn, fact, fact_i, tables, sem, ‵, raw, ◌⊛◌, some, later, prop, at_ret, ◌$◌, ◌∵◌, !, qed, done, move, drop, use0, use1, use2, split, join, pick, await, regoal, suffices, group, part_in, init, enter, of_opd, lit, bin, stop, no_more, and_then, assigns, first, branches, skips, exec, returns, returns_within, alloc_all, pass_all, free_all, look_at, get, through, sets, lands_as, env, u32, u64, if_non_null, yes, shows, Is, uint_Lawful, uint_Makes, uint_vals, uint_Tells, Ptr, RawPtr, block_ptr, null_ptr, ptr_val, lies_at, room_at, rawptr_vals, rawptr_Tells, Testable, tests_null, part_at, plain, nothing, owned, heard, peeks, calls_at, lasts, on_entry, triple_of, on_exit, Stays, walk_of, stay_dropped, Goes-dropped, ends_at, framed, by_form}
+use Rattle.geolint_c.proofs.Steps.{None, true, ℕ, [], ◌∷◌, refl, subst, lit<, w32, w64, proved, full_share, sep, emp, ex, ex_i, via, mono_r, id⊢, ftrue, Val, vint, WpFn, fact, fact_i, tables, sem, ‵, raw, ◌⊛◌, some, later, prop, at_ret, ◌$◌, ◌∵◌, !, qed, done, move, drop, use0, use1, use2, split, join, pick, await, regoal, suffices, group, part_in, init, enter, of_opd, lit, bin, stop, no_more, and_then, assigns, first, branches, skips, exec, returns, returns_within, alloc_all, pass_all, free_all, look_at, get, through, sets, lands_as, env, u32, u64, if_non_null, yes, shows, Is, uint_Lawful, uint_Makes, uint_vals, uint_Tells, Ptr, RawPtr, block_ptr, null_ptr, ptr_val, lies_at, room_at, rawptr_vals, rawptr_Tells, Testable, tests_null, part_at, plain, nothing, owned, heard, peeks, calls_at, lasts, on_entry, triple_of, on_exit, Stays, walk_of, stay_dropped, Goes-dropped, ends_at, framed, by_form}
 use Rattle.geolint_c.specs.declared.handle.Handle.{Handle}
 use Rattle.geolint_c.specs.Handle.{BegunLive, BegunEnded, BegunStatus}
 use Rattle.geolint_c.specs.Stream.{BegunAt}
@@ -44,9 +44,9 @@ geolint_begin_spec 𝓤 𝓛 𝓜 𝓡 wired =
     first ! $ branches ! (get ! refl)
     (λ t. sets ! (of_opd ! (lit ! tt)) refl (tt, record { fits = lit< tt }) $
     returns_within ! (W.post (y null_ptr)) refl (look_at ! 0 refl) $ free_all ! refl $
-    suffices ! _ (ends null_ptr (vint w32 4) 4 (record { linter = None })) $
+    suffices ! _ (ends null_ptr (vint w32 4) 4 (record { linter = None; ended = true })) $
     owned ! u32 _ (uint_Makes 𝓛 w32) 4 _ (refl, lit< tt) $ nothing ! $ nothing ! $ join ! $ nothing ! $ join ! $ nothing ! $ join ! $ nothing ! $
-    use0 𝓛 (raw (fact 𝓤 (BegunAt null_ptr d m 4 (record { linter = None })))) (fact_i 𝓤 _ (emp 𝓤) refl) $ nothing ! $
+    use0 𝓛 (raw (fact 𝓤 (BegunAt null_ptr d m 4 (record { linter = None; ended = true })))) (fact_i 𝓤 _ (emp 𝓤) refl) $ nothing ! $
     move ! (2 ∷ 3 ∷ 4 ∷ 0 ∷ []) $ group ! 3 $ done !)
     (λ t. absurd t)))
     (λ b o e. regoal ! Runs e refl $ enter ! _ _ _ _ _ $

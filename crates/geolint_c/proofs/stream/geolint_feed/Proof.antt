@@ -1,7 +1,7 @@
 -- `geolint_feed` meets its contract: a walk of its MIR. The handle is lent for a lifetime that is made for the call of `Handle::feed`, and comes back once it is ended.
 use Rattle.geolint_c.proofs.Steps.{ℕ, [], ◌∷◌, refl, subst, lit<, w32, MutBor, proved, full_share, sep, emp, ex, ex_i, via, mono_r, id⊢, ftrue, flft, flent, named, Val, vint, vptr, WpFn, fact, fact_i, tables, sem, ‵, raw, ◌⊛◌, some, later, prop, at_ret, ◌$◌, ◌∵◌, !, qed, done, move, keep, drop, use0, use1, use2, use3, split, join, fsplit, pick, await, regoal, suffices, group, enter, of_opd, lit, bin, addr, stop, no_more, and_then, first, branches, skips, exec, returns, returns_within, alloc_all, pass_all, free_all, look_at, get, through, sets, lands_as, env, lft_new, lft_end, SliceRefOf, u8, u32, if_non_null, Body, yes, shows, Is, uint_Lawful, uint_Makes, Ptr, RawPtr, block_ptr, null_ptr, ptr_val, lies_at, rawptr_vals, rawptr_Tells, Testable, tests_null, MutRef, mut_vals, mem, ShrSlice, shr_slice_Lawful, shr_slice_vals, shr_slice_Tells, plain, nothing, owned, heard, peeks, calls_at, lasts, triple_of, on_exit, Stays, walk_of, stay_dropped, Goes-dropped, ends_at, framed, lends_ref, ref_back, by_form}
 use Rattle.geolint_c.specs.declared.handle.Handle.{Handle}
-use Rattle.geolint_c.specs.Handle.{FedStands, FedAnswer, FedEnded}
+use Rattle.geolint_c.specs.Handle.{FedStands, FedAnswer, FedEnded, FedAgain}
 use Rattle.geolint_c.specs.Stream.{FedAt}
 use Rattle.geolint_c.specs.contracts.handle.Handle.{the_row as R}
 use Rattle.geolint_c.specs.contracts.handle.Handle.feed as g
@@ -62,14 +62,14 @@ geolint_feed_spec 𝓤 𝓛 𝓜 𝓡 wired =
     (and_then ! (get ! refl) (and_then ! (get ! refl) (no_more !))) (λ v.
     use1 𝓛 (later (some (λ (st : ℕ). ((‵ (flft (α ∷ []) full_share) ⊛ ‵ (flft κ q) ⊛ ‵ ftrue) ⊛ ‵ (u32.own_val st (v ∷ []))) ⊛
     some (λ (ws : Handle × (Unit {0} × Unit {0})). ‵ (lasts g.ended z.0.0 z.0.3 ws)
-    ⊛ raw (fact 𝓤 (FedStands held x.now ws.0)) ⊛ raw (fact 𝓤 (FedAnswer held x.now st)) ⊛ raw (fact 𝓤 (FedEnded held st ws.0)))))) (id⊢ 𝓤 _) $
+    ⊛ raw (fact 𝓤 (FedStands held x.now ws.0)) ⊛ raw (fact 𝓤 (FedAnswer held x.now st ws.0)) ⊛ raw (fact 𝓤 (FedEnded held st ws.0)) ⊛ raw (fact 𝓤 (FedAgain held st ws.0)))))) (id⊢ 𝓤 _) $
     await ! tt $ pick ! (λ st. split ! $ split ! $ split ! $ lft_end ! tt $ move ! (3 ∷ []) $ pick ! (λ ws. split ! $ fsplit ! $ fsplit ! $
-    move ! (3 ∷ []) $ split ! $ heard ! _ (λ stands. split ! $ heard ! _ (λ answer. heard ! _ (λ ended.
+    move ! (3 ∷ []) $ split ! $ heard ! _ (λ stands. split ! $ heard ! _ (λ answer. split ! $ heard ! _ (λ ended. heard ! _ (λ again.
     -- [the loan's last value; its borrow; the rest; α is over; the token of κ; the result; what comes back]
     move ! (3 ∷ 6 ∷ 0 ∷ []) $ use3 𝓛 (later (‵ ((mem R).own_at ws.0 b o))) (ref_back 𝓛 R (α ∷ []) γ ws.0 b o) $ await ! tt $
     move ! (4 ∷ []) $ peeks ! u32 (Is u32) (shows 𝓛 u32) st (v ∷ []) (λ is. lands_as ! refl refl ((uint_Lawful 𝓛 w32).typed st _ is).0 $
     returns ! (look_at ! 0 refl) $ free_all ! refl $ keep ! (4 ∷ 0 ∷ 1 ∷ []) $
     suffices ! _ (ends (block_ptr b o) v st ws.0) $
     nothing ! $ nothing ! $ join ! $ nothing ! $ join ! $
-    use0 𝓛 (raw (fact 𝓤 (FedAt (block_ptr b o) held x.now st ws.0))) (fact_i 𝓤 _ (emp 𝓤) (stands, answer, ended)) $
-    move ! (2 ∷ 1 ∷ 3 ∷ 4 ∷ 0 ∷ []) $ group ! 3 $ done !))))))))))))))
+    use0 𝓛 (raw (fact 𝓤 (FedAt (block_ptr b o) held x.now st ws.0))) (fact_i 𝓤 _ (emp 𝓤) (stands, answer, ended, again)) $
+    move ! (2 ∷ 1 ∷ 3 ∷ 4 ∷ 0 ∷ []) $ group ! 3 $ done !)))))))))))))))
