@@ -10,7 +10,7 @@ _geolint() {
     --max-bytes) return ;;
     esac
     case $word in
-    -*) mapfile -t COMPREPLY < <(compgen -W '--strict --quick --max-bytes --help' -- "$word") ;;
+    -*) mapfile -t COMPREPLY < <(compgen -W '--strict --quick --seq --max-bytes --help' -- "$word") ;;
     *)
         if [[ ${COMP_WORDS[1]} == file ]]; then
             compopt -o filenames 2>/dev/null

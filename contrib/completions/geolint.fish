@@ -5,5 +5,6 @@ complete -c geolint -n __fish_use_subcommand -a stdin -d 'Judge standard input'
 complete -c geolint -l help -d 'Say how geolint is called'
 complete -c geolint -n '__fish_seen_subcommand_from file stdin' -l strict -d 'Let no warning pass'
 complete -c geolint -n '__fish_seen_subcommand_from file stdin' -l quick -d 'Only say whether it is valid'
+complete -c geolint -n '__fish_seen_subcommand_from file stdin' -l seq -d 'Read a text sequence'
 complete -c geolint -n '__fish_seen_subcommand_from file stdin' -l max-bytes -x -d 'Refuse what is longer'
 complete -c geolint -n '__fish_seen_subcommand_from file' -F

@@ -1,0 +1,25 @@
+# Completion of geolint-files for bash: source this file, or put it into the folder bash-completion/completions under the name
+# geolint-files.
+_geolint_files() {
+    local word=${COMP_WORDS[COMP_CWORD]} before=${COMP_WORDS[COMP_CWORD - 1]}
+    COMPREPLY=()
+    case $before in
+    --max-bytes) return ;;
+    --format)
+        mapfile -t COMPREPLY < <(compgen -W 'text lines json github sarif' -- "$word")
+        return
+        ;;
+    --allow)
+        mapfile -t COMPREPLY < <(compgen -W 'W1 W2 W3 W4 W5 W6 W7 W8 W9' -- "$word")
+        return
+        ;;
+    esac
+    case $word in
+    -*) mapfile -t COMPREPLY < <(compgen -W '--strict --allow --quick --seq --max-bytes --format --summary --files-from --help --version' -- "$word") ;;
+    *)
+        compopt -o filenames 2>/dev/null
+        mapfile -t COMPREPLY < <(compgen -f -- "$word")
+        ;;
+    esac
+}
+complete -F _geolint_files geolint-files

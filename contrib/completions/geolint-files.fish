@@ -1,0 +1,11 @@
+# Completion of geolint-files for fish: put this file into the folder fish/vendor_completions.d.
+complete -c geolint-files -l strict -d 'A valid file with a warning does not pass'
+complete -c geolint-files -l allow -x -a 'W1 W2 W3 W4 W5 W6 W7 W8 W9' -d 'Kinds of warnings that do not fail a file'
+complete -c geolint-files -l quick -d 'Ask only whether each file is valid'
+complete -c geolint-files -l seq -d 'Judge each file as a text sequence'
+complete -c geolint-files -l max-bytes -x -d 'Refuse longer files'
+complete -c geolint-files -l format -x -a 'text lines json github sarif' -d 'The form of the report'
+complete -c geolint-files -l summary -d 'Count the files and the rules at the end'
+complete -c geolint-files -l files-from -r -d 'Judge also the paths in this file'
+complete -c geolint-files -l help -d 'Say how it is called'
+complete -c geolint-files -l version -d 'Say the version'

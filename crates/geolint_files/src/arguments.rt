@@ -1,0 +1,92 @@
+//! The words of the command line, also those that are no Unicode text.
+//!
+//! The reader of words takes text alone. So a word is written as text that leads back to its bytes: each byte of what is
+//! no UTF-8 is a character of the last 256 of Unicode, which nobody uses, and so is each byte of such a character.
+
+use std::alloc::{AllocError, Global};
+use std::env::{Env, FillError};
+
+/// The character that stands for the byte 0.
+const FIRST: u32 = 0x10_FF00;
+
+/// No word of a command line is longer on Linux.
+const LONGEST_WORD: usize = 1 << 17;
+
+/// The words behind the program's name, as text.
+pub fn given_words(rt: &HostRuntime) -> Result<Vec<String>, AllocError> {
+    let mut room = Vec::new(rt.alloc());
+    room.resize(LONGEST_WORD, 0u8)?;
+    let mut words = Vec::new(rt.alloc());
+    for i in 1..usize::MAX {
+        match Env::arg(rt, i, room.as_mut_slice()) {
+            Ok(count) => words.push(to_text(rt.alloc(), &room.as_slice()[..count])?)?,
+            Err(FillError::TooLong) => words.push(String::new(rt.alloc()))?,
+            Err(FillError::NotPresent) => break,
+        }
+    }
+    Ok(words)
+}
+
+/// The text that leads back to the bytes.
+fn to_text(alloc: Global, bytes: &[u8]) -> Result<String, AllocError> {
+    let mut text = String::new(alloc);
+    for chunk in bytes.utf8_chunks() {
+        for c in chunk.valid().chars() {
+            if (c as u32) < FIRST {
+                text.push(c)?;
+            } else {
+                let mut room = [0; 4];
+                push_bytes(&mut text, c.encode_utf8(&mut room).as_bytes())?;
+            }
+        }
+        push_bytes(&mut text, chunk.invalid())?;
+    }
+    Ok(text)
+}
+
+fn push_bytes(text: &mut String, bytes: &[u8]) -> Result<(), AllocError> {
+    for byte in bytes {
+        if let Some(c) = char::from_u32(FIRST + *byte as u32) {
+            text.push(c)?;
+        }
+    }
+    Ok(())
+}
+
+/// The bytes to which a text leads back.
+pub fn to_bytes(alloc: Global, text: &str) -> Result<Vec<u8>, AllocError> {
+    let mut bytes = Vec::new(alloc);
+    for c in text.chars() {
+        match u8::try_from((c as u32).wrapping_sub(FIRST)) {
+            Ok(byte) => bytes.push(byte)?,
+            Err(_) => {
+                let mut room = [0; 4];
+                bytes.extend_from_slice(c.encode_utf8(&mut room).as_bytes())?;
+            }
+        }
+    }
+    Ok(bytes)
+}
+
+#[cfg(test)]
+mod tests {
+    use super::*;
+    use std::test::Fail;
+
+    #[test]
+    fn leads_back_to_each_word(rt: HostRuntime) -> Result<(), Fail> {
+        let rows: [&[u8]; 5] = [
+            b"",
+            b"a b.geojson",
+            "é🌍".as_bytes(),
+            b"a\xFFb\xC3",
+            "x\u{10FFFD}".as_bytes(),
+        ];
+        for bytes in rows {
+            let text = to_text(rt.alloc(), bytes)?;
+            let back = to_bytes(rt.alloc(), text.as_str())?;
+            assert_eq!(rt; back.as_slice(), bytes);
+        }
+        Ok(())
+    }
+}

@@ -1,0 +1,69 @@
+//! Files and folders by their names.
+
+use std::alloc::Global;
+use std::fs::{self, File, Files, Metadata};
+use std::io::{self, ErrorKind, Read};
+use std::str;
+
+/// The system's number for bytes that are no text (`EILSEQ`).
+const NO_TEXT: i32 = 84;
+
+/// A name as the text that the library takes.
+#[derive(Drop)]
+pub struct Spelled {
+    text: String,
+}
+
+/// The text of a name. std opens by Unicode text alone, so that a name that is none is an error.
+pub fn spell(alloc: Global, name: &[u8]) -> io::Result<Spelled> {
+    match str::from_utf8(name) {
+        Ok(text) => Ok(Spelled {
+            text: String::from_str(alloc, text)?,
+        }),
+        Err(_) => Err(io::Error::from_raw_os_error(NO_TEXT)),
+    }
+}
+
+impl Spelled {
+    pub fn metadata(&self, rt: &HostRuntime) -> io::Result<Metadata> {
+        fs::metadata(rt, self.text.as_str())
+    }
+
+    pub fn open(&self, rt: &HostRuntime) -> io::Result<File> {
+        fs::open(rt, self.text.as_str())
+    }
+
+    /// The names of a folder's entries, in the order of their bytes.
+    pub fn entries(&self, rt: &HostRuntime) -> io::Result<Vec<Vec<u8>>> {
+        let path = format!(in rt.alloc(); "{}/", self.text)?;
+        let mut folder = rt.open_dir(path.as_str())?;
+        let mut names = Vec::new(rt.alloc());
+        let mut room = [0; 8192];
+        for _ in 0..u64::MAX {
+            let count = folder.read(&mut room)?;
+            if count == 0 {
+                break;
+            }
+            for name in room[..count].split(|byte| *byte == 0) {
+                if !name.is_empty() && name != b".".as_slice() && name != b"..".as_slice() {
+                    names.push(Vec::from_slice(rt.alloc(), name)?)?;
+                }
+            }
+        }
+        names.sort_unstable();
+        Ok(names)
+    }
+}
+
+/// The system's reason, without its number.
+pub fn reason(alloc: Global, error: &io::Error) -> io::Result<String> {
+    let text = format!(in alloc; "{error}")?;
+    let end = text.as_str().find(" (os error").unwrap_or(text.len());
+    let words = text.as_str().get(..end).unwrap_or("");
+    Ok(String::from_str(alloc, words)?)
+}
+
+/// Whether memory was refused.
+pub fn is_memory(error: &io::Error) -> bool {
+    error.kind() == ErrorKind::OutOfMemory
+}

@@ -1,0 +1,76 @@
+//! How far the run is, on a terminal's standard error.
+
+use std::io::{IsTerminal, Write};
+use std::time::{Duration, Instant};
+
+/// How long a line stands at least.
+const PAUSE_MILLIS: u64 = 200;
+
+/// What the line is made of. Where standard error is no terminal it is never written.
+#[derive(Drop)]
+pub struct Progress {
+    rt: HostRuntime,
+    /// When the run began, where standard error is a terminal.
+    begun: Option<Instant>,
+    shown: Option<Instant>,
+    is_visible: bool,
+    files: u64,
+    bytes: u64,
+}
+
+impl Progress {
+    pub fn new(rt: HostRuntime) -> Progress {
+        let begun = if rt.stderr().is_terminal() {
+            Instant::now(&rt).ok()
+        } else {
+            None
+        };
+        Progress {
+            rt,
+            begun,
+            shown: None,
+            is_visible: false,
+            files: 0,
+            bytes: 0,
+        }
+    }
+
+    /// One file more is read, of so many bytes.
+    pub fn add(&mut self, size: u64) {
+        self.files = self.files.saturating_add(1);
+        self.bytes = self.bytes.saturating_add(size);
+        if let Some(begun) = self.begun {
+            let Ok(now) = Instant::now(&self.rt) else {
+                return;
+            };
+            let since = match self.shown {
+                None => begun,
+                Some(shown) => shown,
+            };
+            if now.saturating_duration_since(since) >= Duration::from_millis(PAUSE_MILLIS) {
+                self.shown = Some(now);
+                self.is_visible = true;
+                self.show(now.saturating_duration_since(begun));
+            }
+        }
+    }
+
+    fn show(&self, taken: Duration) {
+        let millis = u64::try_from(taken.as_millis()).unwrap_or(u64::MAX).max(1);
+        let rate = self.bytes / millis / 1000;
+        let files = self.files;
+        let megabytes = self.bytes / 1_000_000;
+        let _ = write!(
+            self.rt.stderr(),
+            "\rgeolint-files: {files} files, {megabytes} MB, {rate} MB/s\x1b[K"
+        );
+    }
+
+    /// Takes the line away, so that what is written next stands alone.
+    pub fn clear(&mut self) {
+        if self.is_visible {
+            self.is_visible = false;
+            let _ = self.rt.stderr().write_all(b"\r\x1b[K");
+        }
+    }
+}

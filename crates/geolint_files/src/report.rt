@@ -1,0 +1,135 @@
+//! What is told of one file.
+
+use crate::judge::Finding;
+use crate::sites::{MOST_PLACES, Site, Sites};
+use crate::texts::{Code, KINDS};
+use gj_coords::{Kind, Warnings};
+use gj_json::Path;
+use gj_rules::{SeqVerdict, Verdict};
+
+/// A file that was judged.
+#[derive(Drop)]
+pub struct Report<'a> {
+    pub name: &'a [u8],
+    pub finding: Finding,
+    pub sites: &'a Sites,
+    pub passes: bool,
+}
+
+/// A fault and its place.
+#[derive(Clone, Copy)]
+pub struct Told {
+    pub code: Code,
+    pub place: u64,
+}
+
+impl Finding {
+    /// The warnings, where the file is valid.
+    pub fn warnings(&self) -> Option<Warnings> {
+        match self {
+            Finding::Text(Verdict::Valid(warnings)) => Some(*warnings),
+            Finding::Sequence(SeqVerdict::Valid { warnings, .. }) => Some(*warnings),
+            _ => None,
+        }
+    }
+
+    /// Why the file is not valid, where it is asked.
+    pub fn fault(&self) -> Option<Told> {
+        match self {
+            Finding::Text(verdict) => told_of(*verdict),
+            Finding::Sequence(SeqVerdict::Record { verdict, .. }) => told_of(*verdict),
+            _ => None,
+        }
+    }
+
+    /// The record that is not valid, in a sequence.
+    pub fn record(&self) -> Option<u64> {
+        match self {
+            Finding::Sequence(SeqVerdict::Record { number, .. }) => Some(*number),
+            _ => None,
+        }
+    }
+
+    /// How many records there are, in a valid sequence.
+    pub fn records(&self) -> Option<u64> {
+        match self {
+            Finding::Sequence(SeqVerdict::Valid { records, .. }) => Some(*records),
+            _ => None,
+        }
+    }
+
+    /// The word for what the file is.
+    pub fn word(&self) -> &'static str {
+        match self.fault() {
+            Some(told) => match told.code {
+                Code::Cause(_) => "not JSON",
+                _ => "broken",
+            },
+            None => match self.warnings() {
+                Some(_) => "valid",
+                None => "not valid",
+            },
+        }
+    }
+
+    /// The places that are to be sought, in their order.
+    pub fn places(&self) -> Sites {
+        let mut sites = Sites::none();
+        if let Some(told) = self.fault() {
+            sites.seek(told.place);
+        }
+        if let Some(warnings) = self.warnings() {
+            let mut places = [u64::MAX; MOST_PLACES];
+            for (place, kind) in places.iter_mut().zip(KINDS.iter()) {
+                if let Some(first) = warnings.first(*kind) {
+                    *place = first;
+                }
+            }
+            places.sort_unstable();
+            for place in &places {
+                if *place != u64::MAX {
+                    sites.seek(*place);
+                }
+            }
+        }
+        sites
+    }
+}
+
+fn told_of(verdict: Verdict) -> Option<Told> {
+    match verdict {
+        Verdict::Valid(_) => None,
+        Verdict::Broken(fault) => Some(Told {
+            code: Code::Rule(fault.rule),
+            place: fault.place,
+        }),
+        Verdict::NotJson(fault) => Some(Told {
+            code: Code::Cause(fault.cause),
+            place: fault.place,
+        }),
+    }
+}
+
+impl<'a> Report<'a> {
+    /// Where a place stands, if that was found.
+    pub fn site(&self, place: u64) -> Option<&Site> {
+        self.sites.at(place)
+    }
+
+    /// The path of the value at a place: none for a text that is refused, which need not have one there.
+    pub fn path(&self, told: &Told) -> Option<Path> {
+        match told.code {
+            Code::Cause(_) => None,
+            _ => self.site(told.place).and_then(|site| site.path),
+        }
+    }
+}
+
+/// What is told of a kind of warning.
+pub fn warning(kind: Kind, warnings: &Warnings) -> Option<(Told, u32)> {
+    let told = Told {
+        code: Code::Kind(kind),
+        place: warnings.first(kind)?,
+    };
+    Some((told, warnings.count(kind)))
+}

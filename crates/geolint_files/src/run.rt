@@ -1,0 +1,429 @@
+//! Judges what the words name, file by file, and tells each.
+
+use crate::files::{is_memory, reason, spell};
+use crate::formats::lines::Style;
+use crate::formats::sarif::Log;
+use crate::formats::{github, json, lines, text, write_name};
+use crate::judge::{Finding, Reading, judge};
+use crate::names::Names;
+use crate::options::{Format, Options};
+use crate::progress::Progress;
+use crate::report::Report;
+use crate::sites::Sites;
+use crate::summary::Summary;
+use crate::texts::{Code, KINDS, has};
+use crate::walk::{Pending, Walk, is_sequence, is_taken};
+use crate::words::Order;
+use std::alloc::AllocError;
+use std::env;
+use std::fs::{File, Metadata};
+use std::io::{self, BufWriter, IsTerminal, Read, Seek, SeekFrom, Stdout, Write};
+use std::os::unix::fs::MetadataExt;
+
+/// How a run ends whose report is whole.
+#[derive(Clone, Copy, Debug, PartialEq, Eq)]
+pub enum Outcome {
+    /// Each file passes.
+    Pass,
+    /// A file does not pass.
+    Fail,
+    /// A file could not be read.
+    Unread,
+}
+
+impl Outcome {
+    /// The program's status.
+    pub fn status(self) -> u8 {
+        match self {
+            Outcome::Pass => 0,
+            Outcome::Fail => 1,
+            Outcome::Unread => 2,
+        }
+    }
+
+    /// The worse of two.
+    pub fn worse(self, other: Outcome) -> Outcome {
+        if self.status() < other.status() {
+            other
+        } else {
+            self
+        }
+    }
+}
+
+/// What ends a run before its report is whole.
+#[derive(Drop)]
+pub enum Failure {
+    Write(io::Error),
+    /// The list of names cannot be read.
+    List(String, String),
+    /// Standard input is named as a file and as the list.
+    BothFromInput,
+    Memory,
+}
+
+impl From<AllocError> for Failure {
+    fn from(_error: AllocError) -> Failure {
+        Failure::Memory
+    }
+}
+
+impl From<io::Error> for Failure {
+    fn from(error: io::Error) -> Failure {
+        if is_memory(&error) {
+            Failure::Memory
+        } else {
+            Failure::Write(error)
+        }
+    }
+}
+
+/// Judges what is named, and tells each file. The answer is the worst of all.
+pub fn judge_all(rt: &HostRuntime, order: &Order) -> Result<Outcome, Failure> {
+    if names_input(order) {
+        return Err(Failure::BothFromInput);
+    }
+    let mut run = Run::new(rt, order.options)?;
+    run.begin()?;
+    for path in &order.paths {
+        run.judge_path(path.as_slice())?;
+    }
+    if let Some(list) = &order.list {
+        run.judge_list(list.as_slice())?;
+    }
+    run.end()
+}
+
+/// Whether standard input is named as a file and as the list.
+fn names_input(order: &Order) -> bool {
+    match &order.list {
+        Some(list) if list.as_slice() == b"-".as_slice() => {
+            for path in &order.paths {
+                if path.as_slice() == b"-".as_slice() {
+                    return true;
+                }
+            }
+            false
+        }
+        _ => false,
+    }
+}
+
+#[derive(Drop)]
+struct Run {
+    rt: HostRuntime,
+    options: Options,
+    style: Style,
+    out: BufWriter<Stdout>,
+    is_terminal: bool,
+    log: Log,
+    progress: Progress,
+    summary: Summary,
+    outcome: Outcome,
+}
+
+/// Whether the report is shown in colour.
+fn style_of(rt: &HostRuntime, is_terminal: bool) -> Style {
+    let is_refused = match env::var(rt, "NO_COLOR") {
+        Ok(text) => !text.is_empty(),
+        Err(_) => false,
+    };
+    if is_terminal && !is_refused {
+        Style::Colour
+    } else {
+        Style::Plain
+    }
+}
+
+impl Run {
+    fn new(rt: &HostRuntime, options: Options) -> Result<Run, Failure> {
+        let is_terminal = rt.stdout().is_terminal();
+        Ok(Run {
+            rt: rt.clone()?,
+            options,
+            style: style_of(rt, is_terminal),
+            out: BufWriter::new(rt.alloc(), rt.stdout())?,
+            is_terminal,
+            log: Log::new(rt.alloc()),
+            progress: Progress::new(rt.clone()?),
+            summary: Summary::new(),
+            outcome: Outcome::Pass,
+        })
+    }
+
+    fn begin(&mut self) -> Result<(), Failure> {
+        if self.options.format == Format::Sarif {
+            self.log.begin(&mut self.out)?;
+        }
+        Ok(())
+    }
+
+    fn end(mut self) -> Result<Outcome, Failure> {
+        self.progress.clear();
+        if self.options.format == Format::Sarif {
+            self.log.end(&mut self.out)?;
+        }
+        if self.options.summary {
+            match self.options.format {
+                Format::Text | Format::Lines => self.summary.write(&mut self.out)?,
+                _ => self.summary.write(&mut self.rt.stderr())?,
+            }
+        }
+        self.out.flush()?;
+        Ok(self.outcome)
+    }
+
+    /// Judges each path of a list.
+    fn judge_list(&mut self, list: &[u8]) -> Result<(), Failure> {
+        if list == b"-".as_slice() {
+            let input = self.rt.stdin();
+            return self.judge_names(input, list);
+        }
+        let opened = match spell(self.rt.alloc(), list) {
+            Ok(spelled) => spelled.open(&self.rt),
+            Err(error) => Err(error),
+        };
+        match opened {
+            Ok(file) => self.judge_names(file, list),
+            Err(error) => Err(self.list_failure(list, &error)),
+        }
+    }
+
+    fn list_failure(&self, list: &[u8], error: &io::Error) -> Failure {
+        let alloc = self.rt.alloc();
+        match (String::from_utf8_lossy(alloc, list), reason(alloc, error)) {
+            (Ok(name), Ok(reason)) => Failure::List(name, reason),
+            _ => Failure::Memory,
+        }
+    }
+
+    fn judge_names<R: Read + Drop>(&mut self, reader: R, list: &[u8]) -> Result<(), Failure> {
+        let mut names = Names::new(&self.rt, reader)?;
+        let mut name = Vec::new(self.rt.alloc());
+        for _ in 0..u64::MAX {
+            match names.next_into(&mut name) {
+                Ok(true) => self.judge_path(name.as_slice())?,
+                Ok(false) => break,
+                Err(error) => return Err(self.list_failure(list, &error)),
+            }
+        }
+        Ok(())
+    }
+
+    /// Judges a file, or the files of a folder.
+    fn judge_path(&mut self, path: &[u8]) -> Result<(), Failure> {
+        if path == b"-".as_slice() {
+            let input = self.rt.stdin();
+            return self.judge_stream(path, input);
+        }
+        let mut walk = Walk::of(&self.rt, path)?;
+        for _ in 0..u64::MAX {
+            match walk.next_pending() {
+                Some(pending) => self.look_at(&pending, &mut walk)?,
+                None => break,
+            }
+        }
+        Ok(())
+    }
+
+    /// Judges what a name leads to, or puts a folder's entries on the walk.
+    fn look_at(&mut self, pending: &Pending, walk: &mut Walk) -> Result<(), Failure> {
+        let name = pending.name.as_slice();
+        let is_wanted = pending.is_given || is_taken(name);
+        let found = match spell(self.rt.alloc(), name) {
+            Ok(spelled) => match spelled.metadata(&self.rt) {
+                Ok(metadata) => Ok((spelled, metadata)),
+                Err(error) => Err(error),
+            },
+            Err(error) => Err(error),
+        };
+        match found {
+            Err(error) if is_wanted => self.tell_unread(name, &error),
+            Err(_) => Ok(()),
+            Ok((spelled, metadata)) => {
+                if metadata.is_dir() {
+                    if walk.enters(metadata.dev(), metadata.ino())? {
+                        match spelled.entries(&self.rt) {
+                            Ok(entries) => walk.push_entries(&self.rt, name, entries.as_slice())?,
+                            Err(error) => self.tell_unread(name, &error)?,
+                        }
+                    }
+                    Ok(())
+                } else if metadata.is_file() && is_wanted {
+                    match spelled.open(&self.rt) {
+                        Ok(file) => self.judge_file(name, file),
+                        Err(error) => self.tell_unread(name, &error),
+                    }
+                } else if pending.is_given {
+                    match spelled.open(&self.rt) {
+                        Ok(file) => self.judge_stream(name, file),
+                        Err(error) => self.tell_unread(name, &error),
+                    }
+                } else {
+                    Ok(())
+                }
+            }
+        }
+    }
+
+    fn reading(&self, name: &[u8]) -> Reading {
+        if self.options.sequences || is_sequence(name) {
+            Reading::Sequence
+        } else if self.options.quick {
+            Reading::Quick
+        } else {
+            Reading::Text
+        }
+    }
+
+    /// Judges what can be read once only: no line is known of its places.
+    fn judge_stream<R: Read + Drop>(&mut self, name: &[u8], mut reader: R) -> Result<(), Failure> {
+        let reading = self.reading(name);
+        self.progress.add(0);
+        match judge(&mut reader, self.options.limits, reading) {
+            Ok(finding) => self.tell(name, finding, &Sites::none()),
+            Err(error) => self.tell_unread(name, &error),
+        }
+    }
+
+    /// Judges a file, and reads it again for the lines of what is told.
+    fn judge_file(&mut self, name: &[u8], mut file: File) -> Result<(), Failure> {
+        let before = file.metadata().ok();
+        let reading = self.reading(name);
+        self.progress.add(size_of(&before));
+        match judge(&mut file, self.options.limits, reading) {
+            Ok(finding) => {
+                let sites = self.find_sites(&finding, &mut file, &before, reading);
+                self.tell(name, finding, &sites)
+            }
+            Err(error) => self.tell_unread(name, &error),
+        }
+    }
+
+    /// The lines, columns and paths of what is told, where the file is still as it was judged.
+    fn find_sites(
+        &self,
+        finding: &Finding,
+        file: &mut File,
+        before: &Option<Metadata>,
+        reading: Reading,
+    ) -> Sites {
+        let mut sites = finding.places();
+        if sites.is_empty() {
+            return sites;
+        }
+        let is_found = match file.seek(SeekFrom::Start(0)) {
+            Ok(_) => sites
+                .find(file, self.options.limits, reading == Reading::Sequence)
+                .is_ok(),
+            Err(_) => false,
+        };
+        if !is_found || !is_unchanged(before, &file.metadata().ok()) {
+            sites.forget();
+        }
+        sites
+    }
+
+    /// Tells a file that was judged.
+    fn tell(&mut self, name: &[u8], finding: Finding, sites: &Sites) -> Result<(), Failure> {
+        self.progress.clear();
+        let passes = match finding.warnings() {
+            Some(warnings) => self.options.lets_pass(&warnings),
+            None => false,
+        };
+        if !passes {
+            self.outcome = self.outcome.worse(Outcome::Fail);
+        }
+        self.count(&finding);
+        let report = Report {
+            name,
+            finding,
+            sites,
+            passes,
+        };
+        let alloc = self.rt.alloc();
+        match self.options.format {
+            Format::Text => text::write(&report, &mut self.out)?,
+            Format::Lines => lines::write(alloc, &report, self.style, &mut self.out)?,
+            Format::Json => json::write(alloc, &report, &mut self.out)?,
+            Format::Github => github::write(&report, &self.options, &mut self.out)?,
+            Format::Sarif => self
+                .log
+                .write(alloc, &report, &self.options, &mut self.out)?,
+        }
+        self.show()
+    }
+
+    fn count(&mut self, finding: &Finding) {
+        match finding.fault() {
+            Some(told) => {
+                match told.code {
+                    Code::Cause(_) => self.summary.add_refused(),
+                    _ => self.summary.add_broken(),
+                }
+                self.summary.count(told.code);
+            }
+            None => match finding.warnings() {
+                None => self.summary.add_not_valid(),
+                Some(warnings) => {
+                    self.summary.add_valid(!warnings.is_empty());
+                    for kind in &KINDS {
+                        if has(&warnings, *kind) {
+                            self.summary.count(Code::Kind(*kind));
+                        }
+                    }
+                }
+            },
+        }
+    }
+
+    /// Tells a file that could not be opened or read. On standard error each is told.
+    fn tell_unread(&mut self, name: &[u8], error: &io::Error) -> Result<(), Failure> {
+        self.progress.clear();
+        self.outcome = self.outcome.worse(Outcome::Unread);
+        self.summary.add_unread();
+        let alloc = self.rt.alloc();
+        let reason = reason(alloc, error)?;
+        let mut line = Vec::new(alloc);
+        write!(line, "geolint-files: ")?;
+        write_name(name, &mut line)?;
+        writeln!(line, ": {reason}")?;
+        self.out.flush()?;
+        // Where standard error cannot be written either, the status says it.
+        let _ = self.rt.stderr().write_all(line.as_slice());
+        match self.options.format {
+            Format::Text | Format::Lines => {}
+            Format::Json => json::write_unread(alloc, name, reason.as_str(), &mut self.out)?,
+            Format::Github => github::write_unread(name, reason.as_str(), &mut self.out)?,
+            Format::Sarif => self.log.write_unread(alloc, name, reason.as_str())?,
+        }
+        self.show()
+    }
+
+    /// On a terminal each file is shown when it is judged.
+    fn show(&mut self) -> Result<(), Failure> {
+        if self.is_terminal {
+            self.out.flush()?;
+        }
+        Ok(())
+    }
+}
+
+fn size_of(metadata: &Option<Metadata>) -> u64 {
+    match metadata {
+        Some(metadata) => metadata.len(),
+        None => 0,
+    }
+}
+
+/// Whether a file is as it was, as far as the system tells.
+fn is_unchanged(before: &Option<Metadata>, after: &Option<Metadata>) -> bool {
+    match (before, after) {
+        (Some(before), Some(after)) => {
+            before.len() == after.len()
+                && before.mtime() == after.mtime()
+                && before.mtime_nsec() == after.mtime_nsec()
+        }
+        _ => false,
+    }
+}

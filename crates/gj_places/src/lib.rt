@@ -1,0 +1,14 @@
+//! Where a byte of a text stands for a reader of the text, and how bytes are shown to one.
+//!
+//! `Lines` counts the line and the column of a place, however the text comes in pieces (`specs/Lines.antt`). `json_string`
+//! writes bytes as a JSON string that reads back as the same characters. `Excerpt` keeps the part of a line around a place
+//! in fixed memory.
+#![tactic(auto)]
+
+mod excerpt;
+mod lines;
+mod string;
+
+pub use excerpt::{Excerpt, Shown};
+pub use lines::Lines;
+pub use string::json_string;
