@@ -1,4 +1,4 @@
-# Builds and installs geolint: the program, its man page and the completions for bash, zsh and fish.
+# Builds and installs geolint and geolint-files: the programs, their man pages and the completions for bash, zsh and fish.
 #
 #     make install PREFIX=$HOME/.local
 #     make install DESTDIR=package PREFIX=/usr
@@ -14,9 +14,16 @@ bash := $(to)/share/bash-completion/completions/geolint
 zsh := $(to)/share/zsh/site-functions/_geolint
 fish := $(to)/share/fish/vendor_completions.d/geolint.fish
 
+program_files := $(to)/bin/geolint-files
+manual_files := $(to)/share/man/man1/geolint-files.1
+bash_files := $(to)/share/bash-completion/completions/geolint-files
+zsh_files := $(to)/share/zsh/site-functions/_geolint-files
+fish_files := $(to)/share/fish/vendor_completions.d/geolint-files.fish
+
 .PHONY: build install uninstall
 build:
 	@bin/geolint --help >/dev/null
+	@bin/geolint-files --version >/dev/null
 
 install: build
 	install -D -m 755 crates/geolint/out/geolint "$(program)"
@@ -24,6 +31,12 @@ install: build
 	install -D -m 644 contrib/completions/geolint.bash "$(bash)"
 	install -D -m 644 contrib/completions/_geolint "$(zsh)"
 	install -D -m 644 contrib/completions/geolint.fish "$(fish)"
+	install -D -m 755 crates/geolint_files/out/geolint_files "$(program_files)"
+	install -D -m 644 docs/geolint-files.1 "$(manual_files)"
+	install -D -m 644 contrib/completions/geolint-files.bash "$(bash_files)"
+	install -D -m 644 contrib/completions/_geolint-files "$(zsh_files)"
+	install -D -m 644 contrib/completions/geolint-files.fish "$(fish_files)"
 
 uninstall:
 	rm -f "$(program)" "$(manual)" "$(bash)" "$(zsh)" "$(fish)"
+	rm -f "$(program_files)" "$(manual_files)" "$(bash_files)" "$(zsh_files)" "$(fish_files)"
