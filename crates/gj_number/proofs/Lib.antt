@@ -26,3 +26,4 @@ pub mod DigitRuns
 pub mod Sixteen
 pub mod Prefix
 pub mod Ordinary
+pub mod Exponents

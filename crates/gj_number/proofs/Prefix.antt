@@ -9,21 +9,13 @@ use Rattle.std.proofs.lemmas.List.{take_more, length-take, length-take-le, get_o
 use Rattle.std.proofs.lemmas.List.Elements.{recursion_from_All, All-append}
 use Rattle.std.proofs.lemmas.List.Sums.{fold-append}
 use Rattle.gj_number.specs.Bytes.{decimal_point, minus_sign, zero_digit, IsDigit}
-use Rattle.gj_number.specs.Grammar.{IsNatural, IsDigits, BeginsNumber}
-use Rattle.gj_number.specs.Value.{with_digit, number_of, Parts, Spells, SpellsSign, whole_of}
-use Rattle.gj_number.specs.Machine.{class_of}
-use Rattle.gj_number.specs.declared.state.Class.TheVariants.{Other}
-use Rattle.gj_number.specs.Short.{short_value, StartsWithNumber}
+use Rattle.gj_number.specs.Grammar.{IsNatural, IsDigits}
+use Rattle.gj_number.specs.Value.{with_digit, number_of, SpellsSign}
+use Rattle.gj_number.specs.Moved.{SpellsPlain}
 use Rattle.gj_number.specs.DigitRuns.{SpellsOn, SpellsUnsigned}
 use Rattle.gj_number.proofs.Bounds.{scaled_below}
-use Rattle.gj_number.proofs.Forward.{parts_reach}
 use Rattle.gj_number.proofs.Fronts.{rest_is}
-use Rattle.gj_number.proofs.Moves.{other_ends}
 use Rattle.gj_number.proofs.Normal.{ten_above_zero, number_bounded}
-use Rattle.gj_number.proofs.Shorts.{held_short, denoted_short}
-use Rattle.gj_number.proofs.Spelled.{number_from}
-use Rattle.gj_number.proofs.Splitting.{value_is, parts_digits}
-use Rattle.gj_number.proofs.Standing.{begins_none}
 
 -- ---- a digit more
 
@@ -63,7 +55,7 @@ natural_is (b ∷ rest) (suc n) some few h one =
       | inr e ↦ inr ((let l = all.0 in (omega arith, omega arith)), all.1)
     ]
 
-fraction_is : (digits : List ℕ) → 0 < length digits → All IsDigit digits → IsDigits digits
+pub fraction_is : (digits : List ℕ) → 0 < length digits → All IsDigit digits → IsDigits digits
 fraction_is [] some h = absurd (omega arith)
 fraction_is (b ∷ digits) some h = recursion_from_All IsDigit (b ∷ digits) h
 
@@ -73,60 +65,43 @@ sign_is (x ∷ piece) some e = ap (λ y. y ∷ []) e
 
 -- ---- the front
 
--- what is made of parts with no exponent, behind which a byte stands that no number has
-front_is : (piece : List ℕ) (n digits places : ℕ) (parts : Parts) → Spells parts (take n piece) → parts.exponent ≡ pos 0 → whole_of parts ≡ digits → length parts.fraction ≡ places
-    → digits < 10 ^ 18 → places ≤ 18 → n < length piece → class_of (get_or piece n 0) ≡ Other → StartsWithNumber piece (short_value parts.negative digits places) n
-front_is piece n digits places parts s x w f small few within other =
-    let reach = parts_reach parts (take n piece) s in
-    let bounded : digits < 10 ^ length (parts.natural ++ parts.fraction) = rw (← w) (number_bounded (parts.natural ++ parts.fraction) (parts_digits parts (take n piece) s)) in
-    record {
-      within = within;
-      number = number_from parts (take n piece) s;
-      denotes = (parts, s, denoted_short parts digits places x w f small);
-      value = value_is parts (take n piece) s ∙ rw (w, f, x) (held_short parts.negative _ digits places bounded small few);
-      ends = (λ b. let P : List ℕ → Type 0 = λ xs. BeginsNumber xs in
-          begins_none (take n piece) (get_or piece n 0) reach.0 reach.1 (rw other (other_ends reach.0.state)) (subst P (take_more piece n 0 within) b));
-    }
-
 -- ---- a number with no point, and one with a point
 
 module _ (piece : List ℕ) (negative : Bool) (first n value : ℕ) (sign : SpellsSign negative (take first piece)) (spells : SpellsOn (drop first piece) 0 n value) (some : 0 < n) (one : get_or (drop first piece) 0 0 ≡ zero_digit → n ≡ 1) where
   natural : IsNatural (take n (drop first piece))
   natural = natural_is (drop first piece) n some spells.within spells.digits one
 
-  pub whole_front : value < 10 ^ 18 → first + n < length piece → class_of (get_or piece (first + n) 0) ≡ Other → StartsWithNumber piece (short_value negative value 0) (first + n)
-  whole_front small within other =
-      let parts : Parts = record { negative = negative; natural = take n (drop first piece); fraction = []; exponent = pos 0 } in
-      let s : Spells parts (take (first + n) piece) = record {
-        sign = take first piece;
-        behind_point = [];
-        behind_digits = [];
-        joined = take-add first n piece ∙ simp append-nil;
-        spells_sign = sign;
-        spells_natural = natural;
-        spells_fraction = inl (refl, refl);
-        spells_exponent = inl (refl, refl);
-      } in
-      front_is piece (first + n) value 0 parts s refl (ap number_of (append-nil (take n (drop first piece))) ∙ sym spells.value_is) refl small (omega arith) within other
+  pub whole_plain : SpellsPlain piece negative value 0 (first + n)
+  whole_plain = record {
+    sign = take first piece;
+    natural = take n (drop first piece);
+    fraction = [];
+    after_natural = [];
+    joined = take-add first n piece ∙ simp append-nil;
+    spells_sign = sign;
+    spells_natural = natural;
+    spells_fraction = inl (refl, refl);
+    digits_is = spells.value_is ∙ ap number_of (sym (append-nil (take n (drop first piece))));
+    places_is = refl;
+  }
 
-  pub point_front : (m all : ℕ) → get_or piece (first + n) 0 ≡ decimal_point → SpellsOn (drop (first + n + 1) piece) value m all → 0 < m → m ≤ 18 → all < 10 ^ 18 → first + n + 1 + m < length piece
-      → class_of (get_or piece (first + n + 1 + m) 0) ≡ Other → StartsWithNumber piece (short_value negative all m) (first + n + 1 + m)
-  point_front m all point more few most small within other =
+  pub point_plain : (m all : ℕ) → get_or piece (first + n) 0 ≡ decimal_point → SpellsOn (drop (first + n + 1) piece) value m all → 0 < m → first + n < length piece → SpellsPlain piece negative all m (first + n + 1 + m)
+  point_plain m all point more few within =
       let digits = take n (drop first piece) in
       let fraction = take m (drop (first + n + 1) piece) in
       let long : length fraction ≡ m = length-take-le m (drop (first + n + 1) piece) more.within in
-      let parts : Parts = record { negative = negative; natural = digits; fraction = fraction; exponent = pos 0 } in
-      let s : Spells parts (take (first + n + 1 + m) piece) = record {
+      record {
         sign = take first piece;
-        behind_point = decimal_point ∷ fraction;
-        behind_digits = [];
-        joined = rw (take-add (first + n + 1) m piece, take_more piece (first + n) 0 (omega arith), point, take-add first n piece, append-nil) (simp append_assoc);
+        natural = digits;
+        fraction = fraction;
+        after_natural = decimal_point ∷ fraction;
+        joined = rw (take-add (first + n + 1) m piece, take_more piece (first + n) 0 within, point, take-add first n piece) (simp append_assoc);
         spells_sign = sign;
         spells_natural = natural;
         spells_fraction = inr (refl, fraction_is fraction (omega arith) more.digits);
-        spells_exponent = inl (refl, refl);
-      } in
-      front_is piece (first + n + 1 + m) all m parts s refl (fold-append with_digit 0 digits fraction ∙ rw (← spells.value_is) (sym more.value_is)) long small most within other
+        digits_is = sym (fold-append with_digit 0 digits fraction ∙ rw (← spells.value_is) (sym more.value_is));
+        places_is = sym long;
+      }
 
 -- ---- what the code finds
 
@@ -211,25 +186,22 @@ module _ (piece : List ℕ) (negative : Bool) (first n m bytes value : ℕ) (sig
       let v = k.value_is in
       (few', omega arith)
 
-  pub short_found : class_of (get_or piece (first + bytes) 0) ≡ Other → StartsWithNumber piece (short_value negative value m) (first + bytes)
-  short_found other =
-      let small = short_small in
+  pub short_plain : SpellsPlain piece negative value m (first + bytes)
+  short_plain =
       let l = n_few in
       let v = k.value_is in
       elim k.shape [
         | inl s ↦
             let e = s.1 in
-            let P : ℕ → Type 0 = λ i. class_of (get_or piece (first + i) 0) ≡ Other in
-            let Q : ℕ → Type 0 = λ i. StartsWithNumber piece (short_value negative value i) (first + bytes) in
-            let R : ℕ → Type 0 = λ i. StartsWithNumber piece (short_value negative value 0) (first + i) in
+            let Q : ℕ → Type 0 = λ i. SpellsPlain piece negative value i (first + bytes) in
+            let R : ℕ → Type 0 = λ i. SpellsPlain piece negative value 0 (first + i) in
             let none : take m (drop (n + 1) (drop first piece)) ≡ [] = ap (λ i. take i (drop (n + 1) (drop first piece))) s.0 in
             let same : value ≡ number_of (take n (drop first piece)) = v ∙ ap (λ xs. number_of (take n (drop first piece) ++ xs)) none ∙ ap number_of (append-nil (take n (drop first piece))) in
             let spells : SpellsOn (drop first piece) 0 n value = record { within = spelled.within; digits = k.natural_digits; value_is = same } in
-            subst Q (sym s.0) (subst R (sym e) (whole_front piece negative first n value sign spells some one small.1 (omega arith) (subst P e other)))
+            subst Q (sym s.0) (subst R (sym e) (whole_plain piece negative first n value sign spells some one))
         | inr s ↦
             let e = s.2 in
-            let P : ℕ → Type 0 = λ i. class_of (get_or piece i 0) ≡ Other in
-            let R : ℕ → Type 0 = λ i. StartsWithNumber piece (short_value negative value m) i in
+            let R : ℕ → Type 0 = λ i. SpellsPlain piece negative value m i in
             let at : first + bytes ≡ first + n + 1 + m = omega arith in
             let d : drop (n + 1) (drop first piece) ≡ drop (first + n + 1) piece = drop-drop (n + 1) first piece ∙ ap (λ i. drop i piece) {y = first + n + 1} (omega arith) in
             let point : get_or piece (first + n) 0 ≡ decimal_point = sym (get_or-drop first piece n 0) ∙ s.1 in
@@ -237,5 +209,5 @@ module _ (piece : List ℕ) (negative : Bool) (first n m bytes value : ℕ) (sig
             let fits : m ≤ length (drop (n + 1) (drop first piece)) = let w = long in omega (arith, length-drop (n + 1) (drop first piece)) in
             let more : SpellsOn (drop (n + 1) (drop first piece)) (number_of (take n (drop first piece))) m value =
             record { within = fits; digits = k.fraction_digits; value_is = v ∙ fold-append with_digit 0 (take n (drop first piece)) (take m (drop (n + 1) (drop first piece))) } in
-            subst R (sym at) (point_front piece negative first n (number_of (take n (drop first piece))) sign spelled some one m value point (subst Q d more) s.0 (let q = small.0 in omega arith) small.1 (omega arith) (subst P at other))
+            subst R (sym at) (point_plain piece negative first n (number_of (take n (drop first piece))) sign spelled some one m value point (subst Q d more) s.0 (omega arith))
       ]

@@ -1,5 +1,5 @@
 -- The decimal of a short number, and what is read off it.
-use Rattle.std.proofs.Common.{zero, suc, ◌≡◌, ◌≢◌, ℕ, ◌+◌, ◌-◌, ◌*◌, ◌/◌, ◌%◌, ◌^◌, ◌<◌, ◌≤◌, ◌↔◌, Bool, true, false, not, ltb, nat_eq, IsTrue, inl, inr, length, refl, sym, ◌∙◌, ap, subst, arith, ℤ, pos, negsuc, ◌+ℤ◌, ◌-ℤ◌, Some, None}
+use Rattle.std.proofs.Common.{zero, suc, ◌≡◌, ◌≢◌, ℕ, ◌+◌, ◌-◌, ◌*◌, ◌/◌, ◌%◌, ◌^◌, ◌<◌, ◌≤◌, ◌↔◌, Bool, true, false, not, ltb, nat_eq, IsTrue, inl, inr, length, refl, sym, ◌∙◌, ap, subst, arith, ℤ, pos, negsuc, ◌+ℤ◌, ◌-ℤ◌, unsigned_abs, Some, None}
 use Rattle.std.proofs.Math.Nat.{le-mul_of_pos_right, eq_of_mul-eq-mul_right, pow-suc, div-one, zero-div, mul_assoc, mul-div_cancel, mul-div-mul_right}
 use Rattle.std.proofs.lemmas.Nat.{pow-add}
 use Rattle.std.proofs.lemmas.Bool.{cases_lt}
@@ -8,7 +8,7 @@ use Rattle.std.proofs.lemmas.Int.{ints}
 use Rattle.std.specs.Bool.{beq}
 use Rattle.gj_number.specs.Exact.{Exact, zero_exact, cut_magnitude, places_of, IsNormal, SameValue, signed, cut_limit, cut_of}
 use Rattle.gj_number.specs.Kept.{limited_cut}
-use Rattle.gj_number.specs.Value.{Parts, whole_of, IsDecimalOf, held_value, within_limits, tens_in}
+use Rattle.gj_number.specs.Value.{Parts, whole_of, scale_of, IsDecimalOf, held_value, within_limits, stripped, tens_in}
 use Rattle.gj_number.specs.Short.{short_value}
 use Rattle.gj_number.proofs.Denoting.{same_exact}
 use Rattle.gj_number.proofs.Normal.{ten_above_zero, ten_divides, one_normal, stripped_is, held_value-normal, held_value-zero}
@@ -46,31 +46,54 @@ short_is negative all places some small =
 pub short_digits_le : (negative : Bool) (all places : ℕ) (e : Exact) → IsShort negative all places e → e.digits ≤ all
 short_digits_le negative all places e k = let p = ten_above_zero k.tens in let l : e.digits ≤ e.digits * 10 ^ k.tens = le-mul_of_pos_right e.digits p in let f = k.all_is in omega arith
 
--- it is what parts with no exponent denote
-pub denoted_short : (parts : Parts) (digits places : ℕ) → parts.exponent ≡ pos 0 → whole_of parts ≡ digits → length parts.fraction ≡ places → digits < 10 ^ 18 → IsDecimalOf (short_value parts.negative digits places) parts
-denoted_short parts digits places x w f small = elim (eqb_tells digits 0) [
-  | inl e ↦ inl (w ∙ e.1, rw (e.1) (short_zero parts.negative places))
+-- the digits of a number that is read with another power of ten, which needs so many zeros more
+pub moved_digits : (negative : Bool) (digits up all places : ℕ) (e : Exact) → 0 < digits → all ≡ digits * 10 ^ up → all < 10 ^ 18 → (k : IsShort negative all places e) → (tens : ℕ) × (digits ≡ e.digits * 10 ^ tens) × (k.tens ≡ tens + up)
+moved_digits negative digits up all places e some is small k =
+    let l : digits ≤ digits * 10 ^ up = le-mul_of_pos_right digits (ten_above_zero up) in
+    let s = stripped_is 18 digits some (omega arith) in
+    let tens = tens_in 18 digits in
+    let p = pow-add 10 tens up in
+    let a : all ≡ stripped 18 digits * 10 ^ (tens + up) = is ∙ ap (λ n. n * 10 ^ up) s.1 ∙ mul_assoc (stripped 18 digits) (10 ^ tens) (10 ^ up) ∙ ap (λ n. stripped 18 digits * n) (sym p) in
+    let n = one_normal (stripped 18 digits) e.digits (tens + up) k.tens s.0 k.last (sym a ∙ k.all_is) in
+    (tens, s.1 ∙ ap (λ m. m * 10 ^ tens) n.0, sym n.1)
+
+-- it is what parts denote with this power of ten
+pub denoted_short : (parts : Parts) (up all places : ℕ) → all ≡ whole_of parts * 10 ^ up → all < 10 ^ 18 → scale_of parts ≡ pos up -ℤ pos places → IsDecimalOf (short_value parts.negative all places) parts
+denoted_short parts up all places is small scale = elim (eqb_tells (whole_of parts) 0) [
+  | inl e ↦
+      let none : all ≡ 0 = is ∙ ap (λ n. n * 10 ^ up) e.1 ∙ omega arith in
+      inl (e.1, rw none (short_zero parts.negative places))
   | inr e ↦
-      let k = short_is parts.negative digits places (omega arith) small in
-      let p : pos k.tens -ℤ pos places ≡ pos 0 -ℤ pos places +ℤ pos k.tens = omega (arith, ints) in
-      inr (k.tens, k.sign, k.last, w ∙ k.all_is, k.power ∙ p ∙ rw (x, f) refl)
+      let l : whole_of parts ≤ whole_of parts * 10 ^ up = le-mul_of_pos_right (whole_of parts) (ten_above_zero up) in
+      let k = short_is parts.negative all places (omega arith) small in
+      let d = moved_digits parts.negative (whole_of parts) up all places (short_value parts.negative all places) (omega arith) is small k in
+      let f = d.2 in
+      let p : pos k.tens -ℤ pos places ≡ pos up -ℤ pos places +ℤ pos d.0 = omega (arith, ints) in
+      inr (d.0, k.sign, k.last, d.1, k.power ∙ p ∙ ap (λ z. z +ℤ pos d.0) (sym scale))
 ]
 
 -- and it is held
-pub held_short : (negative : Bool) (most digits places : ℕ) → digits < 10 ^ most → digits < 10 ^ 18 → places ≤ 18 → held_value negative most digits places (pos 0) ≡ Some (short_value negative digits places)
-held_short negative most digits places bounded small few = elim (eqb_tells digits 0) [
-  | inl e ↦ held_value-zero negative most digits places (pos 0) (e.1) ∙ ap Some (sym (rw (e.1) (short_zero negative places)))
+pub held_short : (negative : Bool) (most digits up all places fraction : ℕ) (exponent : ℤ) → digits < 10 ^ most → all ≡ digits * 10 ^ up → all < 10 ^ 18 → places ≤ 18 → unsigned_abs exponent ≤ 1000
+    → exponent -ℤ pos fraction ≡ pos up -ℤ pos places → held_value negative most digits fraction exponent ≡ Some (short_value negative all places)
+held_short negative most digits up all places fraction exponent bounded is small few written scale = elim (eqb_tells digits 0) [
+  | inl e ↦
+      let none : all ≡ 0 = is ∙ ap (λ n. n * 10 ^ up) e.1 ∙ omega arith in
+      held_value-zero negative most digits fraction exponent (e.1) ∙ ap Some (sym (rw none (short_zero negative places)))
   | inr e ↦
-      let v = short_value negative digits places in
-      let k = short_is negative digits places (omega arith) small in
-      let l = short_digits_le negative digits places v k in
+      let l : digits ≤ digits * 10 ^ up = le-mul_of_pos_right digits (ten_above_zero up) in
+      let v = short_value negative all places in
+      let k = short_is negative all places (omega arith) small in
+      let d = moved_digits negative digits up all places v (omega arith) is small k in
+      let m = short_digits_le negative all places v k in
       let t = k.few in
-      let p : pos 0 -ℤ pos places +ℤ pos k.tens ≡ pos k.tens -ℤ pos places = omega (arith, ints) in
-      let made : Exact = record { negative = negative; digits = v.digits; power = pos 0 -ℤ pos places +ℤ pos k.tens } in
-      let same : made ≡ v = same_exact made v (sym k.sign) refl (p ∙ sym k.power) in
-      held_value-normal negative most digits places (pos 0) v.digits k.tens bounded k.last k.all_is
-      ∙ ap (within_limits (pos 0)) same
-      ∙ within_some (pos 0) v (record { digits = omega arith; power = rw (k.power) (omega (arith, ints)); written = omega (arith, ints) })
+      let f = d.2 in
+      let p : pos up -ℤ pos places +ℤ pos d.0 ≡ pos k.tens -ℤ pos places = omega (arith, ints) in
+      let power : exponent -ℤ pos fraction +ℤ pos d.0 ≡ v.power = ap (λ z. z +ℤ pos d.0) scale ∙ p ∙ sym k.power in
+      let made : Exact = record { negative = negative; digits = v.digits; power = exponent -ℤ pos fraction +ℤ pos d.0 } in
+      let same : made ≡ v = same_exact made v (sym k.sign) refl power in
+      held_value-normal negative most digits fraction exponent v.digits d.0 bounded k.last d.1
+      ∙ ap (within_limits exponent) same
+      ∙ within_some exponent v (record { digits = omega arith; power = rw (k.power) (omega (arith, ints)); written = written })
 ]
 
 -- ---- places and cut

@@ -9,3 +9,4 @@ pub mod Literal
 pub mod Short
 pub mod DigitRuns
 pub mod Lanes
+pub mod Moved

@@ -1,6 +1,6 @@
 //! Numbers as most are written: at most eighteen digits, and no exponent.
 ghost use Rattle.std.specs.Prelude.{◌≡◌, ◌≢◌, ◌↔◌, ◌*◌, ◌/◌, ◌%◌, ◌^◌, ◌<◌, ◌≤◌, IsTrue, IfSome};
-ghost use Rattle.gj_number.specs.Exact.{SameValue, cut_limit, cut_magnitude, cut_of, cut_places, places_of};
+ghost use Rattle.gj_number.specs.Exact.{SameValue, signed, cut_limit, cut_magnitude, cut_of, cut_places, places_of};
 ghost use Rattle.gj_number.specs.Kept.{limited_cut};
 
 pub(crate) mod prefix;
@@ -10,6 +10,9 @@ use crate::tens::ten_to;
 
 /// A cut number is ten to this power times the value.
 const CUT_PLACES: u8 = 7;
+
+/// How many digits it has after the point at most.
+const MOST_PLACES: u64 = 18;
 
 /// A number as most are written: at most eighteen digits, and no exponent.
 #[derive(Clone, Copy)]
@@ -26,6 +29,7 @@ pub struct Short {
 
 impl Short {
     ghost use Rattle.gj_number.specs.Short.{exact_of};
+    ghost use Rattle.gj_number.specs.Moved.{IsMoved};
 
     /// Zero.
     pub fn zero() -> Short
@@ -51,6 +55,41 @@ impl Short {
             digits as u128,
             tens as i16 - self.places as i16,
         )
+    }
+
+    /// The number times ten to the power `by`, or to minus that power where `down` is true, if eighteen digits write it.
+    #[inline(always)]
+    fn moved(self, down: bool, by: u64) -> Option<Short>
+        requires { by < 1000 }
+        ensures { IfSome result (λ moved. IsMoved self moved (signed down by)) }
+    {
+        let places = self.places as u64;
+        if down {
+            if places + by > MOST_PLACES {
+                return None;
+            }
+            return Some(Short {
+                digits: self.digits,
+                places: (places + by) as u8,
+                negative: self.negative,
+            });
+        }
+        if by <= places {
+            return Some(Short {
+                digits: self.digits,
+                places: (places - by) as u8,
+                negative: self.negative,
+            });
+        }
+        let up = by - places;
+        if up > MOST_PLACES || self.digits >= ten_to((MOST_PLACES - up) as usize) {
+            return None;
+        }
+        Some(Short {
+            digits: self.digits * ten_to(up as usize),
+            places: 0,
+            negative: self.negative,
+        })
     }
 
     /// The value times 10^7, cut toward zero, or `None` where the magnitude of that is 10^17 or more.

@@ -5,7 +5,7 @@ ghost use Rattle.std.specs.Prelude.{◌≡◌, ◌+◌, ◌-◌, ◌^◌, ◌≤
 ghost use Rattle.gj_number.specs.Grammar.{IsNumber};
 ghost use Rattle.gj_number.specs.Value.{value_of};
 ghost use Rattle.gj_json.specs.Quiet.{Leads};
-ghost use Rattle.gj_json.specs.Bytes.{quote};
+ghost use Rattle.gj_json.specs.Bytes.{open_bracket, quote};
 ghost use Rattle.gj_json.specs.Classes.{class_of};
 ghost use Rattle.gj_json.specs.FlatParts.{awaits};
 ghost use Rattle.gj_json.specs.Grammar.{letters_of};
@@ -110,6 +110,39 @@ fn constant_run(which: Constant, piece: &[u8]) -> usize
                 5
             } else {
                 0
+            }
+        }
+    }
+}
+
+/// How many numbers an array has at the least that is not told at once.
+const MANY: u8 = 4;
+
+/// A number of more bytes with the byte after it is hardly one that is told at once.
+const LONG: usize = 20;
+
+/// Whether this byte is one of arrays of numbers that are not told at once: so many numbers were in the last of them.
+#[inline(always)]
+fn goes_on(byte: u8, numbers: u8) -> bool {
+    match byte {
+        b'0'..=b'9' | b'-' | b',' | b']' => true,
+        b'[' => numbers >= MANY,
+        _ => false,
+    }
+}
+
+/// How many numbers are in the array after a token that begins by this byte and has so many bytes. One that is not told at
+/// once counts as many.
+#[inline(always)]
+fn numbers_with(byte: u8, count: usize, numbers: u8) -> u8 {
+    match byte {
+        b'[' => 0,
+        b',' | b']' => numbers,
+        _ => {
+            if count > LONG || numbers >= MANY {
+                MANY
+            } else {
+                numbers + 1
             }
         }
     }
@@ -354,13 +387,66 @@ impl Reader {
                 if flats > 0 || !self.may_open() {
                     return flats;
                 }
-                self.take_open(Level::Array, piece, sink)
+                self.take_rows(piece, sink)
             }
             b'n' => self.take_constant(Constant::Null, piece, sink),
             b't' => self.take_constant(Constant::True, piece, sink),
             b'f' => self.take_constant(Constant::False, piece, sink),
             _ => self.take_number(piece, sink),
         }
+    }
+
+    /// Takes a number and the byte after it, the bracket that opens an array, or the byte after a value: how many bytes, or 0.
+    #[inline(always)]
+    fn take_part<S: EventSink>(&mut self, piece: &[u8], sink: &mut S) -> usize
+        requires some { 0 < length piece.now }
+        requires live { self.old.fault ≡ None }
+        requires room { self.old.offset + length piece.now ≤ self.old.limits.bytes }
+        requires small { self.old.limits.bytes ≤ 2 ^ 60 }
+        ensures within { result ≤ length piece.now }
+        ensures feeds { FeedsAll (S.heard sink.old) (S.heard sink.new) self.old self.new (take result piece.now) }
+    {
+        match self.mode {
+            Mode::ValueDone => self.take_end(piece, sink),
+            Mode::ValueDue | Mode::ArrayOpened => {
+                if piece[0] == b'[' {
+                    self.take_open(Level::Array, piece, sink)
+                } else {
+                    self.take_number(piece, sink)
+                }
+            }
+            _ => 0,
+        }
+    }
+
+    /// Takes the bracket of an array, and the numbers in it: how many bytes. Where those are not such as are told at once,
+    /// the arrays after it are taken so too, since they mostly are alike.
+    #[inline(never)]
+    fn take_rows<S: EventSink>(&mut self, piece: &[u8], sink: &mut S) -> usize
+        requires some { 0 < length piece.now }
+        requires begins { get_or piece.now 0 0 ≡ open_bracket }
+        requires live { self.old.fault ≡ None }
+        requires due { awaits self.old.mode ≡ true }
+        requires room { self.old.offset + length piece.now ≤ self.old.limits.bytes }
+        requires small { self.old.limits.bytes ≤ 2 ^ 60 }
+        ensures within { result ≤ length piece.now }
+        ensures feeds { FeedsAll (S.heard sink.old) (S.heard sink.new) self.old self.new (take result piece.now) }
+    {
+        let mut at = self.take_open(Level::Array, piece, sink);
+        if self.is_ignored(sink) {
+            return at;
+        }
+        let mut numbers = 0;
+        while at < piece.len() && goes_on(piece[at], numbers) {
+            let byte = piece[at];
+            let count = self.take_part(&piece[at..], sink);
+            if count == 0 {
+                return at;
+            }
+            numbers = numbers_with(byte, count, numbers);
+            at += count;
+        }
+        at
     }
 
     /// Takes a token that stands whole at the start of the piece, or the white space there: how many bytes, or 0.

@@ -1,11 +1,14 @@
 //! The ordinary number that a piece starts with, read at once.
 //!
 //! Nearly all are read as sixteen bytes in lanes ([`short_number`]). A longer one is read by its runs of digits
-//! ([`long_number`]), so that each ordinary number is taken.
-ghost use Rattle.std.specs.Prelude.{◌≡◌, ◌↔◌, ℕ, ◌+◌, ◌-◌, ◌*◌, ◌^◌, ◌<◌, ◌≤◌, length, IsTrue};
-ghost use Rattle.gj_number.specs.Bytes.{zero_digit};
+//! ([`long_number`]), so that each ordinary number is taken. An exponent moves the point of the digits before it, so a
+//! number with a small one is read as the ordinary number that it is equal to.
+ghost use Rattle.std.specs.Prelude.{◌≡◌, ◌↔◌, ℕ, ◌+◌, ◌-◌, ◌*◌, ◌^◌, ◌<◌, ◌≤◌, ◌∷◌, [], length, take, get_or, IsTrue};
+ghost use Rattle.gj_number.specs.Bytes.{zero_digit, IsExponentLetter, IsNumberByte};
 ghost use Rattle.gj_number.specs.Short.{exact_of, StartsWithNumber, StartsOrdinary};
 ghost use Rattle.gj_number.specs.DigitRuns.{IsRun, SpellsOn, StartsSigned};
+ghost use Rattle.gj_number.specs.Moved.{SpellsPlain};
+ghost use Rattle.gj_number.specs.Value.{SpellsExponentSign};
 
 #[cfg(test)]
 mod tests;
@@ -17,6 +20,9 @@ use crate::tens::ten_to;
 
 /// How many digits an ordinary number has at most.
 const MOST_DIGITS: usize = 18;
+
+/// How many digits of an exponent are read at most.
+const MOST_EXPONENT_DIGITS: usize = 3;
 
 /// How long a piece must be at the least, so that nothing is read past its end: a sign, the digits before the point, the
 /// point, and as many bytes as the digits after it are read with.
@@ -32,8 +38,9 @@ struct Spelled {
 /// Reads the ordinary number that the piece starts with: how many bytes it has, or 0 where none is found.
 ///
 /// It is found in each piece of at least 40 bytes that starts with one, where the byte after it is of no number; in a
-/// shorter piece it is read from a copy. Where 0 is answered, the piece may start with another number, and `number` is no
-/// longer of use.
+/// shorter piece it is read from a copy. A number with an exponent is found too where it is equal to an ordinary one, and
+/// few digits write the exponent. Where 0 is answered, the piece may start with another number, and `number` is no longer
+/// of use.
 #[inline(always)]
 pub fn read_short(piece: &[u8], number: &mut Short) -> usize
     ensures number { 0 < result → StartsWithNumber piece.now (exact_of number.new) result }
@@ -57,7 +64,7 @@ fn read_there(piece: &[u8], number: &mut Short) -> usize
     if count > 0 {
         return count;
     }
-    long_number(piece, negative, number)
+    other_number(piece, negative, number)
 }
 
 /// Reads the number of a piece that is too short to be read where it stands, in a copy with room after it. That of a piece
@@ -76,7 +83,7 @@ fn read_copied(piece: &[u8], number: &mut Short) -> usize
     count
 }
 
-/// Reads the number, where it and the byte after it are among the sixteen bytes after its sign.
+/// Reads the number, where it has no exponent and stands with the byte after it among the sixteen bytes after its sign.
 #[inline(always)]
 fn short_number(piece: &[u8], negative: bool, number: &mut Short) -> usize
     requires room { 40 ≤ length piece.now }
@@ -102,13 +109,29 @@ fn short_number(piece: &[u8], negative: bool, number: &mut Short) -> usize
     end
 }
 
-/// Reads the number, of any length.
+/// Reads the number that is longer or has an exponent.
 #[inline(never)]
-fn long_number(piece: &[u8], negative: bool, number: &mut Short) -> usize
+fn other_number(piece: &[u8], negative: bool, number: &mut Short) -> usize
     requires room { 40 ≤ length piece.now }
     requires sign { StartsSigned piece.now negative }
     ensures number { 0 < result → StartsWithNumber piece.now (exact_of number.new) result }
     ensures taken { (n : ℕ) → StartsOrdinary piece.now n → 0 < result }
+{
+    let count = long_number(piece, negative, number);
+    if count == 0 || !may_stand(piece[count]) {
+        return count;
+    }
+    with_exponent(piece, count, number)
+}
+
+/// Reads the number up to its exponent, of any length.
+#[inline(always)]
+fn long_number(piece: &[u8], negative: bool, number: &mut Short) -> usize
+    requires room { 40 ≤ length piece.now }
+    requires sign { StartsSigned piece.now negative }
+    ensures few { result ≤ 20 }
+    ensures plain { 0 < result → SpellsPlain piece.now number.new.negative number.new.digits number.new.places result }
+    ensures taken { (n : ℕ) → StartsOrdinary piece.now n → (0 < result) × (IsNumberByte (get_or piece.now result 0) → ⊥) }
 {
     let first = negative as usize;
     let natural = first_run(&piece[first..], 0, MOST_DIGITS);
@@ -117,9 +140,6 @@ fn long_number(piece: &[u8], negative: bool, number: &mut Short) -> usize
     }
     let end = first + natural.count;
     if piece[end] != b'.' {
-        if may_stand(piece[end]) {
-            return 0;
-        }
         *number = Short {
             digits: natural.value,
             places: 0,
@@ -128,8 +148,7 @@ fn long_number(piece: &[u8], negative: bool, number: &mut Short) -> usize
         return end;
     }
     let fraction = fraction_run(&piece[end + 1..], natural);
-    let last = end + 1 + fraction.count;
-    if fraction.count == 0 || may_stand(piece[last]) {
+    if fraction.count == 0 {
         return 0;
     }
     *number = Short {
@@ -137,7 +156,69 @@ fn long_number(piece: &[u8], negative: bool, number: &mut Short) -> usize
         places: fraction.count as u8,
         negative,
     };
+    end + 1 + fraction.count
+}
+
+/// Reads the exponent after a number of so many bytes that has none, and moves the number's point by it: how many bytes
+/// both have, or 0 where no exponent follows, or none that can be told by eighteen digits.
+#[inline(always)]
+fn with_exponent(piece: &[u8], end: usize, number: &mut Short) -> usize
+    requires room { end + 8 ≤ length piece.now }
+    requires plain { SpellsPlain piece.now number.old.negative number.old.digits number.old.places end }
+    ensures { 0 < result → StartsWithNumber piece.now (exact_of number.new) result }
+{
+    if !is_letter(piece[end]) {
+        return 0;
+    }
+    let sign = sign_of(piece[end + 1]);
+    let first = end + 1 + sign.count;
+    let written = first_run(&piece[first..], 0, MOST_EXPONENT_DIGITS);
+    let last = first + written.count;
+    if written.count == 0 || may_stand(piece[last]) {
+        return 0;
+    }
+    let Some(moved) = number.moved(sign.negative, written.value) else {
+        return 0;
+    };
+    *number = moved;
     last
+}
+
+/// The sign of an exponent: how many bytes it has, and whether it is a minus.
+#[derive(Clone, Copy)]
+struct Sign {
+    count: usize,
+    negative: bool,
+}
+
+/// The sign that this byte is.
+#[inline(always)]
+fn sign_of(byte: u8) -> Sign
+    ensures few { result.count ≤ 1 }
+    ensures sign { SpellsExponentSign result.negative (take result.count (byte ∷ [])) }
+{
+    match byte {
+        b'-' => Sign {
+            count: 1,
+            negative: true,
+        },
+        b'+' => Sign {
+            count: 1,
+            negative: false,
+        },
+        _ => Sign {
+            count: 0,
+            negative: false,
+        },
+    }
+}
+
+/// Whether the byte begins an exponent.
+#[inline(always)]
+fn is_letter(byte: u8) -> bool
+    ensures { IsTrue result ↔ IsExponentLetter byte }
+{
+    byte == b'e' || byte == b'E'
 }
 
 /// Whether so many digits, of which this is the first, may stand before a point: no digit follows on a first zero.

@@ -11,5 +11,5 @@ returns-else-text-piece-clause-feeds g c =
 
 pub returns-else-not-may_open-clause-feeds : goal.returns-else-not-may_open-clause-feeds
 returns-else-not-may_open-clause-feeds g c =
-    nothing_then c.args.self.now c.take_flats-flats.new.self c.take_open-in-91.new.self c.args.piece.now c.take_flats-flats.result c.take_open-in-91.result (omega (arith, c.if-flats-gt0.false)) c.take_flats-flats.ensures.feeds
-    c.take_open-in-91.ensures.feeds
+    nothing_then c.args.self.now c.take_flats-flats.new.self c.take_rows.new.self c.args.piece.now c.take_flats-flats.result c.take_rows.result (omega (arith, c.if-flats-gt0.false)) c.take_flats-flats.ensures.feeds
+    c.take_rows.ensures.feeds

@@ -1,8 +1,9 @@
-use Rattle.std.proofs.Common.{◌≤◌, List, ℕ, subst, refl, arith}
+use Rattle.std.proofs.Common.{◌+◌, ◌≤◌, List, ℕ, subst, refl, arith}
 use mir.Val.{bool_byte}
 use Rattle.gj_number.specs.DigitRuns.{SpellsUnsigned}
 use Rattle.gj_number.proofs.Fronts.{rest_is}
-use Rattle.gj_number.proofs.Prefix.{sign_at, sign_length, one_of, short_small, short_found}
+use Rattle.gj_number.proofs.Prefix.{sign_at, sign_length, one_of, short_small, short_plain}
+use Rattle.gj_number.proofs.Exponents.{plain_front}
 use Rattle.gj_number.proofs.short.prefix.short_number.Goals as goal
 
 pub invariant_of-number : goal.invariant_of-number
@@ -26,5 +27,9 @@ returns c = λ some.
     let found = c.in-Some.found in
     let P : List ℕ → Type 0 = λ xs. SpellsUnsigned xs found.natural found.fraction found.length found.value in
     let natural = c.is_natural.ensures.0 c.if-not-is_natural.false in
-    short_found piece negative first found.natural found.fraction found.length found.value (sign_at piece negative c.requires.sign (omega arith)) (subst P (rest_is piece first) c.in-Some.ensures.spells) natural.0 (one_of piece first found.natural natural.1) c.in-Some.ensures.few (omega arith)
-    (c.if-may_stand.ensures.class refl)
+    let spells = subst P (rest_is piece first) c.in-Some.ensures.spells in
+    let sign = sign_at piece negative c.requires.sign (omega arith) in
+    let one = one_of piece first found.natural natural.1 in
+    let small = short_small piece negative first found.natural found.fraction found.length found.value sign spells natural.0 one c.in-Some.ensures.few (omega arith) in
+    plain_front piece negative found.value found.fraction (first + found.length) (short_plain piece negative first found.natural found.fraction found.length found.value sign spells natural.0 one c.in-Some.ensures.few (omega arith))
+    small.1 (let l = small.0 in omega arith) (let f = c.in-Some.ensures.few in omega arith) (c.if-may_stand.ensures.class refl)
