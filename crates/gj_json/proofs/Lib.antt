@@ -13,6 +13,7 @@ pub mod Slices
 pub mod ByLanes
 pub mod QuietLemmas
 pub mod Utf8Texts
+pub mod CharacterSpelled
 pub mod StringRuns
 pub mod OneCharacter
 pub mod Simulation

@@ -40,39 +40,39 @@ lt_no a b h = grind (arith, nat_tests)
 
 -- ---- the first byte of a character
 
-lead_two : (b : ℕ) → 0xC1 < b → b ≤ 0xDF → lead_of b ≡ lead 0 Any (b - 0xC0)
+pub lead_two : (b : ℕ) → 0xC1 < b → b ≤ 0xDF → lead_of b ≡ lead 0 Any (b - 0xC0)
 unfolding lead_of
 lead_two b l u = rw (le_no b 0xC1 l, le_yes b 0xDF u) refl
 
-lead_e0 : (b : ℕ) → b ≡ 0xE0 → lead_of b ≡ lead 1 AfterE0 0
+pub lead_e0 : (b : ℕ) → b ≡ 0xE0 → lead_of b ≡ lead 1 AfterE0 0
 unfolding lead_of
 lead_e0 b e = rw e refl
 
 eq_no : (a b : ℕ) → (a ≡ b → ⊥) → (a == b) ≡ false
 eq_no a b h = grind (arith, nat_tests)
 
-lead_low : (b : ℕ) → 0xE0 < b → b ≤ 0xEC → lead_of b ≡ lead 1 Any (b - 0xE0)
+pub lead_low : (b : ℕ) → 0xE0 < b → b ≤ 0xEC → lead_of b ≡ lead 1 Any (b - 0xE0)
 unfolding lead_of
 lead_low b l u = rw (le_no b 0xC1 (omega arith), le_no b 0xDF (omega arith), eq_no b 0xE0 (λ e. omega arith), le_yes b 0xEC u) refl
 
-lead_ed : (b : ℕ) → b ≡ 0xED → lead_of b ≡ lead 1 AfterED 13
+pub lead_ed : (b : ℕ) → b ≡ 0xED → lead_of b ≡ lead 1 AfterED 13
 unfolding lead_of
 lead_ed b e = rw e refl
 
-lead_high : (b : ℕ) → 0xED < b → b ≤ 0xEF → lead_of b ≡ lead 1 Any (b - 0xE0)
+pub lead_high : (b : ℕ) → 0xED < b → b ≤ 0xEF → lead_of b ≡ lead 1 Any (b - 0xE0)
 unfolding lead_of
 lead_high b l u = rw (le_no b 0xC1 (omega arith), le_no b 0xDF (omega arith), eq_no b 0xE0 (λ e. omega arith), le_no b 0xEC (omega arith), eq_no b 0xED (λ e. omega arith), le_yes b 0xEF u) refl
 
-lead_f0 : (b : ℕ) → b ≡ 0xF0 → lead_of b ≡ lead 2 AfterF0 0
+pub lead_f0 : (b : ℕ) → b ≡ 0xF0 → lead_of b ≡ lead 2 AfterF0 0
 unfolding lead_of
 lead_f0 b e = rw e refl
 
-lead_four : (b : ℕ) → 0xF0 < b → b ≤ 0xF3 → lead_of b ≡ lead 2 Any (b - 0xF0)
+pub lead_four : (b : ℕ) → 0xF0 < b → b ≤ 0xF3 → lead_of b ≡ lead 2 Any (b - 0xF0)
 unfolding lead_of
 lead_four b l u =
     rw (le_no b 0xC1 (omega arith), le_no b 0xDF (omega arith), eq_no b 0xE0 (λ e. omega arith), le_no b 0xEC (omega arith), eq_no b 0xED (λ e. omega arith), le_no b 0xEF (omega arith), eq_no b 0xF0 (λ e. omega arith), le_yes b 0xF3 u) refl
 
-lead_f4 : (b : ℕ) → b ≡ 0xF4 → lead_of b ≡ lead 2 AfterF4 4
+pub lead_f4 : (b : ℕ) → b ≡ 0xF4 → lead_of b ≡ lead 2 AfterF4 4
 unfolding lead_of
 lead_f4 b e = rw e refl
 
@@ -144,7 +144,7 @@ content (c ∷ cs) s h =
     let k = all_front (encode c) (encodes cs) h in
     (encode c, encodes cs, refl, character c p.0 k.0, content cs p.1 k.1)
 
-as_read : (bytes content : List ℕ) (state : StringState) → StringRest state content bytes → Reads state bytes content Plain
+pub as_read : (bytes content : List ℕ) (state : StringState) → StringRest state content bytes → Reads state bytes content Plain
 as_read [] content state h = (h.1, h.0)
 as_read (b ∷ bytes) content state h = (h.1, h.0, h.2, h.3, h.4, as_read bytes h.2 h.1 h.5)
 

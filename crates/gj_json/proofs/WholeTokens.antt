@@ -12,7 +12,7 @@ use Rattle.gj_json.specs.declared.levels.Level.{Level}
 use Rattle.gj_json.specs.declared.levels.Level.TheVariants.{Array, Object}
 use Rattle.gj_json.specs.declared.mode.Mode.{Mode}
 use Rattle.gj_json.specs.declared.mode.Mode.TheVariants.{ValueDone, ValueDue, NameDue, ColonDue}
-use Rattle.gj_json.specs.declared.mode.Move.TheVariants.{Go}
+use Rattle.gj_json.specs.declared.mode.Move.TheVariants.{Go, Close}
 use Rattle.gj_json.specs.declared.mode.NumberTurn.{NumberTurn}
 use Rattle.gj_json.specs.declared.mode.StringState.{StringState}
 use Rattle.gj_json.specs.declared.mode.StringState.TheVariants.{Plain as plain}
@@ -23,17 +23,18 @@ use Rattle.gj_json.specs.Feeding.{Passed, Skips, FeedsAll, FeedsLevel, FeedsWith
 use Rattle.gj_json.specs.FlatParts.{awaits}
 use Rattle.gj_json.specs.Grammar.{letters_of}
 use Rattle.gj_json.specs.Ignored.{levels_behind, Leaves, Stays}
-use Rattle.gj_json.specs.Levels.{levels_in, inner_of}
+use Rattle.gj_json.specs.Levels.{levels_in, inner_of, outer_of}
 use Rattle.gj_json.specs.Limits.{Allowed}
 use Rattle.gj_json.specs.Machine.{Member, Frame, Leaf, value_due, value_done, array_opened, object_opened, constant_on, number_on, string_on, name_due, name_on, colon_due, Partial, Broken, text_due, mark_one, mark_two, begun, step_leaf, letters_after, to, run_from, run, after_value, number_may_end, in_array, in_object}
 use Rattle.gj_json.specs.Moves.{move_of, after_move}
 use Rattle.gj_json.specs.Names.{known_of, word_of, Words}
 use Rattle.gj_json.specs.Quiet.{Reads}
+use Rattle.gj_json.specs.Step.{opened}
 use Rattle.gj_json.specs.Seen.{seen, partial_timed, stack_timed, done_members, EdgeAt, done_elements}
 use Rattle.gj_json.specs.Stands.{StandsWell, StandsAs, FitsLeaf, FitsName, FitsBroken, levels_of, Fits}
-use Rattle.gj_json.specs.Tokens.{names, IsString}
+use Rattle.gj_json.specs.Tokens.{bracket_of, closing_event, names, IsString, Lands}
 use Rattle.gj_json.specs.Tree.{Tree, constant, string, depth, number}
-use Rattle.gj_json.specs.Told.{emitted, is_on, in_number, text_state}
+use Rattle.gj_json.specs.Told.{emitted, event_at, opening_of, closing_of, is_on, in_number, text_state}
 use Rattle.gj_json.specs.Under.{nothing, under_leaf, under_of}
 use Rattle.gj_json.proofs.CharacterFronts.{StringTo}
 use Rattle.gj_json.proofs.Classes.{class_is}
@@ -49,6 +50,7 @@ use Rattle.gj_json.proofs.Reaching.{reached}
 use Rattle.gj_json.proofs.Slices.{rest_of}
 use Rattle.gj_json.proofs.Spelled.{quote_on}
 use Rattle.gj_json.proofs.Times.{told}
+use Rattle.gj_json.proofs.TokenFeeds.{open_taken, end_closes}
 use Rattle.gj_json.proofs.ValueLeads.{InQuotes, a_string, a_name, text_leads, letters_lead, number_begins, digits_lead}
 use Rattle.gj_json.specs.NumberStates.{NumberState, number_state}
 use Rattle.gj_number.specs.Grammar.{IsNumber}
@@ -353,6 +355,62 @@ quoted_is piece r some first h w last =
 
 pub within_more : (floor : ℕ) (first next last : Reader) (piece : List ℕ) (at n : ℕ) → floor < length (levels_in next.levels) → FeedsWithin floor first next (take at piece) → FeedsLevel next last (take n (take (length piece - at) (drop at piece))) → FeedsWithin floor first last (take (at + n) piece)
 within_more floor first next last piece at n w f g = piece_all first next last piece at n f (rest_all next last piece at n (all_more floor first next last _ (level_within floor next last _ w g)))
+
+-- nothing was taken
+pub none_within : (floor : ℕ) (reader : Reader) (piece : List ℕ) → reader.fault ≡ None → FeedsWithin floor reader reader (take 0 piece)
+none_within floor reader piece live =
+    let P : List Event → Type 0 = λ events. Leaves (above floor reader) events (above floor reader) in
+    from_none reader reader [] (λ events e. (let Q : List Event → Type 0 = λ xs. P xs in subst Q (sym e) refl)) (feeds_nothing {heard = P} reader live)
+
+-- tokens that open and close nothing, and then others
+pub then_within : (floor : ℕ) (first next last : Reader) (piece : List ℕ) (at n : ℕ) → floor < length (levels_in first.levels) → FeedsLevel first next (take at piece) → FeedsWithin floor next last (take n (take (length piece - at) (drop at piece))) → FeedsWithin floor first last (take (at + n) piece)
+then_within floor first next last piece at n w f g = piece_all first next last piece at n (level_within floor first next _ w f) (rest_all next last piece at n (all_more floor first next last _ g))
+
+pub both_within : (floor : ℕ) (first next last : Reader) (piece : List ℕ) (at n : ℕ) → FeedsWithin floor first next (take at piece) → FeedsWithin floor next last (take n (take (length piece - at) (drop at piece))) → FeedsWithin floor first last (take (at + n) piece)
+both_within floor first next last piece at n f g = piece_all first next last piece at n f (rest_all next last piece at n (all_more floor first next last _ g))
+
+-- ---- brackets within levels that are open
+
+open_counts : (k : ℕ) (level : Level) (place : ℕ) → Leaves (suc k) (event_at place (opening_of level) ∷ []) (suc k + 1)
+open_counts k Array place = refl
+open_counts k Object place = refl
+
+close_counts : (k : ℕ) (level : Level) (place : ℕ) → Leaves (suc k) (event_at place (closing_of level) ∷ []) k
+close_counts k Array place = omega arith
+close_counts k Object place = omega arith
+
+opened_leaves : (m n : ℕ) (level : Level) (place : ℕ) → 0 < m → n ≡ m + 1 → Leaves m (event_at place (opening_of level) ∷ []) n
+opened_leaves zero n level place w e = absurd (omega arith)
+opened_leaves (suc k) n level place w e = rw e (open_counts k level place)
+
+closed_leaves : (m n : ℕ) (levels : List Level) (place : ℕ) → 0 < m → 0 < length levels → n + 1 ≡ m → Leaves m (closing_event (inner_of levels) place) n
+closed_leaves zero n levels place w v e = absurd (omega arith)
+closed_leaves (suc k) n [] place w v e = absurd (omega arith)
+closed_leaves (suc k) n (level ∷ levels) place w v e = let f : n ≡ k = omega arith in rw f (close_counts k level place)
+
+outer_length : (levels : List Level) → 0 < length levels → length (outer_of levels) + 1 ≡ length levels
+outer_length [] w = absurd (omega arith)
+outer_length (level ∷ levels) w = omega arith
+
+pub closed_floor : (floor : ℕ) (levels : List Level) → floor < length levels → floor ≤ length (outer_of levels)
+closed_floor floor levels w = omega (arith, outer_length levels (omega arith))
+
+pub opened_level : (floor : ℕ) (old new : Reader) (piece : List ℕ) (level : Level) → 0 < length piece → get_or piece 0 0 ≡ bracket_of level → old.fault ≡ None → awaits old.mode ≡ true → old.offset + length piece ≤ old.limits.bytes
+    → length (levels_in old.levels) < old.limits.depth → floor < length (levels_in old.levels) → Lands 1 (opened level) (level ∷ levels_in old.levels) old new → FeedsWithin floor old new (take 1 piece)
+opened_level floor old new piece level some is live due room deep w p =
+    let n : above floor new ≡ above floor old + 1 = omega (arith, ap length p.levels_are) in
+    let leaves = opened_leaves (above floor old) (above floor new) level old.offset (omega arith) n in
+    open_taken {before = λ events. events ≡ []} {after = λ events. Leaves (above floor old) events (above floor new)} old new piece level some is live due room deep p
+    (λ events e. (let P : List Event → Type 0 = λ xs. Leaves (above floor old) (xs ++ event_at old.offset (opening_of level) ∷ []) (above floor new) in subst P (sym e) leaves))
+
+pub closed_level : (floor : ℕ) (old new : Reader) (piece : List ℕ) → 0 < length piece → old.fault ≡ None → old.mode ≡ ValueDone → old.offset + length piece ≤ old.limits.bytes → after_move (inner_of (levels_in old.levels)) (class_of (get_or piece 0 0)) ≡ Close
+    → floor < length (levels_in old.levels) → Lands 1 ValueDone (outer_of (levels_in old.levels)) old new → FeedsWithin floor old new (take 1 piece)
+closed_level floor old new piece some live done room made w p =
+    let ls = levels_in old.levels in
+    let n : above floor new + 1 ≡ above floor old = omega (arith, ap length p.levels_are, outer_length ls (omega arith)) in
+    let leaves = closed_leaves (above floor old) (above floor new) ls (old.offset + 1 - 1) (omega arith) (omega arith) n in
+    end_closes {before = λ events. events ≡ []} {after = λ events. Leaves (above floor old) events (above floor new)} old new piece some live done room made p
+    (λ events e. (let P : List Event → Type 0 = λ xs. Leaves (above floor old) (xs ++ closing_event (inner_of ls) (old.offset + 1 - 1)) (above floor new) in subst P (sym e) leaves))
 
 -- ---- an ordinary number, and the comma behind it
 

@@ -1,6 +1,7 @@
 -- Internal: whole tokens, as they are read, and what one leaves of a reader.
 use Rattle.std.specs.Prelude.{◌≡◌, ℕ, ◌+◌, Bool, true, false, List, [], ◌∷◌, ◌++◌, Option, Some, None}
 use Rattle.gj_json.specs.Bytes.{quote, open_bracket, open_brace}
+use Rattle.gj_json.specs.Characters.{SpellsCharacter}
 use Rattle.gj_json.specs.declared.levels.Level.{Level}
 use Rattle.gj_json.specs.declared.levels.Level.TheVariants.{Array, Object}
 use Rattle.gj_json.specs.declared.mode.Mode.{Mode}
@@ -11,6 +12,13 @@ use Rattle.gj_json.specs.declared.event.Event.{Event}
 use Rattle.gj_json.specs.Levels.{levels_in}
 use Rattle.gj_json.specs.Told.{event_at, closing_of}
 use Rattle.gj_json.specs.Quiet.{Reads}
+
+-- one character of a string, and some of them
+abbrev pub IsCharacter : List ℕ → Type 0
+IsCharacter bytes = (c : ℕ) × SpellsCharacter c bytes
+
+abbrev pub AreCharacters : List ℕ → Type 0
+AreCharacters bytes = (characters : List ℕ) × Reads Plain bytes characters Plain
 
 -- characters that are one byte each, in quotes
 pub record IsQuoted (content bytes : List ℕ) : Type 0 where

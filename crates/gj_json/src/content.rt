@@ -32,15 +32,6 @@ impl Content {
         }
     }
 
-    /// Of which nothing is kept any more.
-    pub fn lost() -> Self {
-        Content {
-            letters: [0; 18],
-            count: 0,
-            other: true,
-        }
-    }
-
     /// Forgets all characters.
     pub fn clear(&mut self)
         ensures { Holds self.new [] }

@@ -86,8 +86,22 @@ fn few_white(piece: &[u8]) -> usize
 }
 
 /// How many bytes at the start of the piece are characters by themselves.
-#[inline]
+#[inline(always)]
 pub fn ascii_run(piece: &[u8]) -> usize
+    ensures { result ≡ prefix_len is_plain piece.now }
+{
+    if piece.len() >= LANES {
+        let stops = ascii_stops(u8x16::from_slice(piece));
+        if stops != 0 {
+            return stops.trailing_zeros() as usize;
+        }
+    }
+    long_ascii_run(piece)
+}
+
+/// The same, of a run of any length.
+#[inline(never)]
+fn long_ascii_run(piece: &[u8]) -> usize
     ensures { result ≡ prefix_len is_plain piece.now }
 {
     let (blocks, rest) = piece.as_chunks::<LANES>();

@@ -6,6 +6,7 @@
 //! path to the value at a place, as `specs/Path.antt` says it.
 #![tactic(auto)]
 
+mod characters;
 mod class;
 mod constant;
 mod content;

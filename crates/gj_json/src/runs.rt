@@ -7,6 +7,7 @@ ghost use Rattle.gj_json.specs.Quiet.{IsQuiet, Reads, is_between};
 ghost use Rattle.gj_json.specs.Runs.{IsLongestUtf8, plain_run_of};
 ghost use Rattle.gj_json.specs.Content.{IsAscii, Holds};
 
+use crate::characters::characters_run;
 use crate::content::Content;
 use crate::lanes::{ascii_run, plain_run};
 pub use crate::lanes::{is_white, white_run};
@@ -70,16 +71,16 @@ pub fn whole_characters(piece: &[u8]) -> usize
 }
 
 /// How many bytes the whole characters have that stand at the start of the piece, where none is under way and nothing is
-/// kept of them. Where the first is ASCII, it is left to others.
+/// kept of them.
 fn text_front(content: &Content, state: StringState, piece: &[u8]) -> usize
     ensures within { result ≤ length piece.now }
     ensures reads { (characters : List ℕ) × Reads state (take result piece.now) characters state × ((so_far : List ℕ) → Holds content.now so_far → Holds content.now (so_far ++ characters)) }
 {
-    if !content.is_other() || piece.is_empty() || piece[0] < 0x80 {
+    if !content.is_other() {
         return 0;
     }
     match state {
-        StringState::Plain => whole_characters(piece),
+        StringState::Plain => characters_run(piece),
         _ => 0,
     }
 }

@@ -1,29 +1,26 @@
 //! Tokens that stand whole at the front of a piece: how far they go, and nothing of what they say.
 
-ghost use Rattle.std.specs.Prelude.{◌≡◌, ℕ, List, ◌-◌, ◌≤◌, ◌<◌, length, take, get_or};
+ghost use Rattle.std.specs.Prelude.{◌≡◌, ◌-◌, ◌≤◌, ◌<◌, length, take, get_or};
 ghost use Rattle.gj_json.specs.Bytes.{quote};
 ghost use Rattle.gj_json.specs.Grammar.{letters_of};
 ghost use Rattle.gj_json.specs.FlatParts.{cut};
-ghost use Rattle.gj_json.specs.Tokens.{IsQuoted, IsString};
+ghost use Rattle.gj_json.specs.Tokens.{AreCharacters, IsQuoted, IsString};
 ghost use Rattle.gj_json.specs.declared.constant.Constant.{Constant};
-ghost use Rattle.gj_json.specs.declared.mode.StringState.TheVariants.{Plain};
-ghost use Rattle.gj_json.specs.Quiet.{Reads};
 
-use crate::content::Content;
+use crate::characters::characters_run;
 use crate::lanes::ascii_run;
-use crate::mode::StringState;
-use crate::runs::string_run;
 
-/// How many bytes at the front of the piece go on in a string, if no character is under way behind them.
+/// How many bytes the characters of a string have that stand whole at the start of the piece.
+#[inline(always)]
 fn text_run(piece: &[u8]) -> usize
     ensures within { result ≤ length piece.now }
-    ensures reads { (characters : List ℕ) × Reads Plain (take result piece.now) characters Plain }
+    ensures characters { AreCharacters (take result piece.now) }
 {
-    let mut content = Content::lost();
-    let run = string_run(&mut content, StringState::Plain, piece);
-    match run.state {
-        StringState::Plain => run.count,
-        _ => 0,
+    let plain = ascii_run(piece);
+    if plain < piece.len() && piece[plain] != b'"' {
+        plain + characters_run(&piece[plain..])
+    } else {
+        plain
     }
 }
 
@@ -45,16 +42,13 @@ pub fn plain_quoted_run(piece: &[u8]) -> usize
 }
 
 /// The string that the piece starts with, where it stands whole: how many bytes, or 0.
+#[inline(always)]
 pub fn quoted_run(piece: &[u8]) -> usize
     requires some { 0 < length piece.now }
     requires quote { get_or piece.now 0 0 ≡ quote }
     ensures within { result ≤ length piece.now }
     ensures quoted { 0 < result → IsString (take result piece.now) }
 {
-    let plain = plain_quoted_run(piece);
-    if plain > 0 {
-        return plain;
-    }
     let end = 1 + text_run(&piece[1..]);
     if end < piece.len() && piece[end] == b'"' {
         end + 1

@@ -47,8 +47,11 @@ impl Reader {
             if self.levels.len() == floor {
                 break;
             }
-            at += self.pass_tokens(&piece[at..]);
+            at += self.pass_tokens(&piece[at..], floor);
             if at == piece.len() {
+                break;
+            }
+            if self.levels.len() == floor {
                 break;
             }
             match self.take_some_within(&piece[at..], floor) {

@@ -1,20 +1,22 @@
-//! Whole tokens that open and close nothing, where no event matters.
+//! Whole tokens, where no event matters.
 
 ghost use Rattle.std.specs.Prelude.{◌≡◌, ◌+◌, ◌^◌, ◌≤◌, ◌<◌, true, length, take, get_or, None};
 ghost use Rattle.gj_json.specs.Bytes.{quote, comma, colon};
 ghost use Rattle.gj_json.specs.FlatParts.{awaits};
-ghost use Rattle.gj_json.specs.Tokens.{names};
+ghost use Rattle.gj_json.specs.Levels.{levels_in};
+ghost use Rattle.gj_json.specs.Tokens.{bracket_of, names};
 ghost use Rattle.gj_json.specs.declared.mode.Mode.TheVariants.{ValueDone, ColonDue};
 
 use super::Reader;
+use super::tokens::{end_of, opened_mode};
 use crate::flat::Numbered;
 use crate::levels::Level;
-use crate::mode::Mode;
+use crate::mode::{Mode, Move};
 use crate::tokens::{constant_run, quoted_run};
 use gj_number::read_short;
 
 impl Reader {
-    ghost use Rattle.gj_json.specs.Feeding.{FeedsLevel};
+    ghost use Rattle.gj_json.specs.Feeding.{FeedsLevel, FeedsWithin};
 
     /// Takes the string at the front of the piece, where it stands whole: how many bytes.
     #[inline(always)]
@@ -62,6 +64,7 @@ impl Reader {
         requires room { self.old.offset + length piece.now ≤ self.old.limits.bytes }
         requires small { self.old.limits.bytes ≤ 2 ^ 60 }
         ensures within { result ≤ length piece.now }
+        ensures mode { 0 < result → self.new.mode ≡ ColonDue }
         ensures feeds { FeedsLevel self.old self.new (take result piece.now) }
     {
         let count = quoted_run(piece);
@@ -127,45 +130,160 @@ impl Reader {
         }
     }
 
-    /// Takes the value at the front of the piece, where it stands whole and has no levels: how many bytes.
+    /// Takes the bracket at the front of the piece that opens a level: 1, or 0 where it opens one level too many.
     #[inline(always)]
-    fn pass_value(&mut self, piece: &[u8]) -> usize
+    fn pass_open(&mut self, level: Level, piece: &[u8], floor: u8) -> usize
+        requires some { 0 < length piece.now }
+        requires begins { get_or piece.now 0 0 ≡ bracket_of level }
+        requires live { self.old.fault ≡ None }
+        requires due { awaits self.old.mode ≡ true }
+        requires room { self.old.offset + length piece.now ≤ self.old.limits.bytes }
+        requires small { self.old.limits.bytes ≤ 2 ^ 60 }
+        requires above { floor < length (levels_in self.old.levels) }
+        ensures within { result ≤ length piece.now }
+        ensures above { floor < length (levels_in self.new.levels) }
+        ensures feeds { FeedsWithin floor self.old self.new (take result piece.now) }
+    {
+        if self.levels.len() >= self.limits.depth() {
+            return 0;
+        }
+        self.levels.push(level);
+        self.skip(1, opened_mode(level))
+    }
+
+    /// Takes the bracket at the front of the piece that closes the innermost level: 1, or 0 where there is none.
+    #[inline(always)]
+    fn pass_close(&mut self, piece: &[u8], floor: u8) -> usize
+        requires some { 0 < length piece.now }
+        requires live { self.old.fault ≡ None }
+        requires done { self.old.mode ≡ ValueDone }
+        requires room { self.old.offset + length piece.now ≤ self.old.limits.bytes }
+        requires small { self.old.limits.bytes ≤ 2 ^ 60 }
+        requires above { floor < length (levels_in self.old.levels) }
+        ensures within { result ≤ length piece.now }
+        ensures floor { floor ≤ length (levels_in self.new.levels) }
+        ensures feeds { FeedsWithin floor self.old self.new (take result piece.now) }
+    {
+        match end_of(self.levels.inner(), piece[0]) {
+            Move::Close => {
+                self.levels.pop();
+                self.skip(1, Mode::ValueDone)
+            }
+            _ => 0,
+        }
+    }
+
+    /// Takes the value at the front of the piece, where it stands whole and has no levels, or the bracket that opens it: how
+    /// many bytes.
+    #[inline(always)]
+    fn pass_value(&mut self, piece: &[u8], floor: u8) -> usize
         requires some { 0 < length piece.now }
         requires live { self.old.fault ≡ None }
         requires due { awaits self.old.mode ≡ true }
         requires room { self.old.offset + length piece.now ≤ self.old.limits.bytes }
         requires small { self.old.limits.bytes ≤ 2 ^ 60 }
+        requires above { floor < length (levels_in self.old.levels) }
         ensures within { result ≤ length piece.now }
-        ensures feeds { FeedsLevel self.old self.new (take result piece.now) }
+        ensures above { floor < length (levels_in self.new.levels) }
+        ensures feeds { FeedsWithin floor self.old self.new (take result piece.now) }
     {
         match piece[0] {
             b'"' => self.pass_text(piece),
+            b'{' => self.pass_open(Level::Object, piece, floor),
+            b'[' => self.pass_open(Level::Array, piece, floor),
             b'n' | b't' | b'f' => self.pass_constant(piece),
             b'-' | b'0'..=b'9' => self.pass_number(piece),
             _ => 0,
         }
     }
 
-    /// Takes white space, or the token at the front of the piece, where it stands whole and opens and closes nothing: how
-    /// many bytes.
+    /// The same, and the comma behind it.
     #[inline(always)]
-    fn pass_token(&mut self, piece: &[u8]) -> usize
+    fn pass_element(&mut self, piece: &[u8], floor: u8) -> usize
         requires some { 0 < length piece.now }
         requires live { self.old.fault ≡ None }
+        requires due { awaits self.old.mode ≡ true }
+        requires room { self.old.offset + length piece.now ≤ self.old.limits.bytes }
+        requires small { self.old.limits.bytes ≤ 2 ^ 60 }
+        requires above { floor < length (levels_in self.old.levels) }
+        ensures within { result ≤ length piece.now }
+        ensures above { floor < length (levels_in self.new.levels) }
+        ensures feeds { FeedsWithin floor self.old self.new (take result piece.now) }
+    {
+        let value = self.pass_value(piece, floor);
+        if value == piece.len() || piece[value] != b',' {
+            return value;
+        }
+        match self.mode {
+            Mode::ValueDone => value + self.pass_comma(&piece[value..]),
+            _ => value,
+        }
+    }
+
+    /// Takes the name at the front of the piece and its colon: how many bytes.
+    #[inline(always)]
+    fn pass_named(&mut self, piece: &[u8]) -> usize
+        requires some { 0 < length piece.now }
+        requires quote { get_or piece.now 0 0 ≡ quote }
+        requires live { self.old.fault ≡ None }
+        requires due { names self.old.mode ≡ true }
         requires room { self.old.offset + length piece.now ≤ self.old.limits.bytes }
         requires small { self.old.limits.bytes ≤ 2 ^ 60 }
         ensures within { result ≤ length piece.now }
         ensures feeds { FeedsLevel self.old self.new (take result piece.now) }
+    {
+        let name = self.pass_name(piece);
+        if name == 0 || name == piece.len() || piece[name] != b':' {
+            return name;
+        }
+        name + self.pass_colon(&piece[name..])
+    }
+
+    /// Takes the name at the front of the piece, its colon and its value, and the comma behind that: how many bytes.
+    #[inline(always)]
+    fn pass_member(&mut self, piece: &[u8], floor: u8) -> usize
+        requires some { 0 < length piece.now }
+        requires quote { get_or piece.now 0 0 ≡ quote }
+        requires live { self.old.fault ≡ None }
+        requires due { names self.old.mode ≡ true }
+        requires room { self.old.offset + length piece.now ≤ self.old.limits.bytes }
+        requires small { self.old.limits.bytes ≤ 2 ^ 60 }
+        requires above { floor < length (levels_in self.old.levels) }
+        ensures within { result ≤ length piece.now }
+        ensures above { floor < length (levels_in self.new.levels) }
+        ensures feeds { FeedsWithin floor self.old self.new (take result piece.now) }
+    {
+        let named = self.pass_named(piece);
+        if named == piece.len() {
+            return named;
+        }
+        match self.mode {
+            Mode::ValueDue => named + self.pass_element(&piece[named..], floor),
+            _ => named,
+        }
+    }
+
+    /// Takes white space, or tokens that stand whole at the front of the piece: how many bytes.
+    #[inline(always)]
+    fn pass_token(&mut self, piece: &[u8], floor: u8) -> usize
+        requires some { 0 < length piece.now }
+        requires live { self.old.fault ≡ None }
+        requires room { self.old.offset + length piece.now ≤ self.old.limits.bytes }
+        requires small { self.old.limits.bytes ≤ 2 ^ 60 }
+        requires above { floor < length (levels_in self.old.levels) }
+        ensures within { result ≤ length piece.now }
+        ensures floor { floor ≤ length (levels_in self.new.levels) }
+        ensures feeds { FeedsWithin floor self.old self.new (take result piece.now) }
     {
         let byte = piece[0];
         if byte <= b' ' {
             return self.skip_quiet(piece);
         }
         match self.mode {
-            Mode::ValueDue | Mode::ArrayOpened => self.pass_value(piece),
+            Mode::ValueDue | Mode::ArrayOpened => self.pass_element(piece, floor),
             Mode::NameDue | Mode::ObjectOpened => {
                 if byte == b'"' {
-                    self.pass_name(piece)
+                    self.pass_member(piece, floor)
                 } else {
                     0
                 }
@@ -181,24 +299,29 @@ impl Reader {
                 if byte == b',' {
                     self.pass_comma(piece)
                 } else {
-                    0
+                    self.pass_close(piece, floor)
                 }
             }
             _ => 0,
         }
     }
 
-    /// Takes whole tokens from the front of the piece that open and close nothing: how many bytes.
-    pub(super) fn pass_tokens(&mut self, piece: &[u8]) -> usize
+    /// Takes whole tokens from the front of the piece, as long as levels above the floor are open: how many bytes.
+    pub(super) fn pass_tokens(&mut self, piece: &[u8], floor: u8) -> usize
         requires live { self.old.fault ≡ None }
         requires room { self.old.offset + length piece.now ≤ self.old.limits.bytes }
         requires small { self.old.limits.bytes ≤ 2 ^ 60 }
+        requires above { floor ≤ length (levels_in self.old.levels) }
         ensures within { result ≤ length piece.now }
-        ensures feeds { FeedsLevel self.old self.new (take result piece.now) }
+        ensures floor { floor ≤ length (levels_in self.new.levels) }
+        ensures feeds { FeedsWithin floor self.old self.new (take result piece.now) }
     {
         let mut at = 0;
         while at < piece.len() {
-            let count = self.pass_token(&piece[at..]);
+            if self.levels.len() == floor {
+                return at;
+            }
+            let count = self.pass_token(&piece[at..], floor);
             if count == 0 {
                 return at;
             }

@@ -34,7 +34,7 @@ const SHORTEST: usize = 16;
 /// What a byte after a value does.
 #[inline(always)]
 #[tactic(auto, unfolding(crate::specs::Classes::class_of))]
-fn end_of(inner: Option<Level>, byte: u8) -> Move
+pub(super) fn end_of(inner: Option<Level>, byte: u8) -> Move
     ensures value { result ≡ after_move inner (class_of byte) }
     ensures sound { IsMove result }
 {
@@ -59,7 +59,7 @@ fn end_of(inner: Option<Level>, byte: u8) -> Move
 
 /// The mode after the bracket that opens a level.
 #[inline(always)]
-fn opened_mode(level: Level) -> Mode
+pub(super) fn opened_mode(level: Level) -> Mode
     ensures { result ≡ opened level }
 {
     match level {

@@ -1,11 +1,13 @@
 use Rattle.std.proofs.Common.{◌≤◌, ◌-◌, length, take}
-use Rattle.gj_json.specs.Feeding.{FeedsLevel}
+use Rattle.gj_json.specs.Feeding.{FeedsWithin}
+use Rattle.gj_json.specs.Levels.{levels_in}
 use Rattle.gj_json.proofs.reader.Reader.pass_tokens.Given as goal
 
 abbrev pub invariant-loop-at : goal.invariant-loop-at
 invariant-loop-at l = record {
   within : l.at ≤ length l.piece;
-  fed : FeedsLevel l.fn.self l.self (take l.at l.piece);
+  floor : l.floor ≤ length (levels_in l.self.levels);
+  fed : FeedsWithin l.floor l.fn.self l.self (take l.at l.piece);
 }
 
 abbrev pub decreases-loop-at : goal.decreases-loop-at

@@ -1,10 +1,9 @@
 -- The piece, front by front, within levels that are open.
-use Rattle.std.proofs.Common.{◌+◌, ◌<◌, length, arith}
-use Rattle.gj_json.specs.Levels.{levels_in}
+use Rattle.std.proofs.Common.{◌+◌}
 use Rattle.gj_json.proofs.Feeding
 use Rattle.gj_json.proofs.Ignoring.{all_more, to_more}
 use Rattle.gj_json.proofs.Slices.{more_within}
-use Rattle.gj_json.proofs.WholeTokens.{within_more}
+use Rattle.gj_json.proofs.WholeTokens.{both_within}
 use Rattle.gj_json.proofs.reader.Reader.take_within.Goals as goal
 
 pub loop-at-preserved : goal.loop-at-preserved
@@ -14,8 +13,7 @@ loop-at-preserved c =
     let last = c.take_some_within.new.self in
     let piece = c.args.piece.now in
     let at = c.loop-at.at + c.pass_tokens-at.result in
-    let room : c.args.floor < length (levels_in next.levels) = omega (arith, c.if-len-floor.false, c.len.ensures.value, c.loop-at.invariant.floor) in
-    let passed = within_more c.args.floor c.args.self.now next mid piece c.loop-at.at c.pass_tokens-at.result room c.loop-at.invariant.fed c.pass_tokens-at.ensures.feeds in
+    let passed = both_within c.args.floor c.args.self.now next mid piece c.loop-at.at c.pass_tokens-at.result c.loop-at.invariant.fed c.pass_tokens-at.ensures.feeds in
     let fed = rw (c.in-Ok.is) at c.take_some_within.ensures.feeds in
     let within = rw (c.in-Ok.is) at c.take_some_within.ensures.within in
     record {
@@ -31,13 +29,15 @@ returns-in-Err-clause-feeds c =
     let last = c.take_some_within.new.self in
     let piece = c.args.piece.now in
     let at = c.loop-at.at + c.pass_tokens-at.result in
-    let room : c.args.floor < length (levels_in next.levels) = omega (arith, c.if-len-floor.false, c.len.ensures.value, c.loop-at.invariant.floor) in
-    let passed = within_more c.args.floor c.args.self.now next mid piece c.loop-at.at c.pass_tokens-at.result room c.loop-at.invariant.fed c.pass_tokens-at.ensures.feeds in
+    let passed = both_within c.args.floor c.args.self.now next mid piece c.loop-at.at c.pass_tokens-at.result c.loop-at.invariant.fed c.pass_tokens-at.ensures.feeds in
     let fed = rw (c.in-Err.is) at c.take_some_within.ensures.feeds in
     Feeding.piece_to c.args.self.now mid last piece at c.in-Err.fault passed (Feeding.rest_to mid last piece at c.in-Err.fault (to_more c.args.floor c.args.self.now mid last _ c.in-Err.fault fed))
 
 pub returns-then-at-piece-clause-feeds : goal.returns-then-at-piece-clause-feeds
 returns-then-at-piece-clause-feeds c =
     let next = c.loop-at.self in
-    let room : c.args.floor < length (levels_in next.levels) = omega (arith, c.if-len-floor.false, c.len.ensures.value, c.loop-at.invariant.floor) in
-    within_more c.args.floor c.args.self.now next c.pass_tokens-at.new.self c.args.piece.now c.loop-at.at c.pass_tokens-at.result room c.loop-at.invariant.fed c.pass_tokens-at.ensures.feeds
+    both_within c.args.floor c.args.self.now next c.pass_tokens-at.new.self c.args.piece.now c.loop-at.at c.pass_tokens-at.result c.loop-at.invariant.fed c.pass_tokens-at.ensures.feeds
+
+pub returns-then-len-floor-2-clause-feeds : goal.returns-then-len-floor-2-clause-feeds
+returns-then-len-floor-2-clause-feeds c =
+    both_within c.args.floor c.args.self.now c.loop-at.self c.pass_tokens-at.new.self c.args.piece.now c.loop-at.at c.pass_tokens-at.result c.loop-at.invariant.fed c.pass_tokens-at.ensures.feeds

@@ -1,0 +1,13 @@
+-- A value without levels leaves the levels as they are.
+use Rattle.std.proofs.Common.{take}
+use Rattle.gj_json.proofs.WholeTokens.{level_within}
+use Rattle.gj_json.proofs.reader.Reader.pass_value.Goals as goal
+
+pub returns-in-34-clause-feeds : goal.returns-in-34-clause-feeds
+returns-in-34-clause-feeds c = level_within c.args.floor c.args.self.now c.pass_text.new.self (take c.pass_text.result c.args.piece.now) c.requires.above c.pass_text.ensures.feeds
+
+pub returns-in-110-clause-feeds : goal.returns-in-110-clause-feeds
+returns-in-110-clause-feeds c = level_within c.args.floor c.args.self.now c.pass_constant.new.self (take c.pass_constant.result c.args.piece.now) c.requires.above c.pass_constant.ensures.feeds
+
+pub returns-in-45-clause-feeds : goal.returns-in-45-clause-feeds
+returns-in-45-clause-feeds c = level_within c.args.floor c.args.self.now c.pass_number.new.self (take c.pass_number.result c.args.piece.now) c.requires.above c.pass_number.ensures.feeds
