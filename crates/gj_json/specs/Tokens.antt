@@ -4,7 +4,7 @@ use Rattle.gj_json.specs.Bytes.{quote, open_bracket, open_brace}
 use Rattle.gj_json.specs.declared.levels.Level.{Level}
 use Rattle.gj_json.specs.declared.levels.Level.TheVariants.{Array, Object}
 use Rattle.gj_json.specs.declared.mode.Mode.{Mode}
-use Rattle.gj_json.specs.declared.mode.Mode.TheVariants.{NameDue, ObjectOpened}
+use Rattle.gj_json.specs.declared.mode.Mode.TheVariants.{TextDue, ValueDue, ArrayOpened, NameDue, ObjectOpened}
 use Rattle.gj_json.specs.declared.mode.StringState.TheVariants.{Plain}
 use Rattle.gj_json.specs.declared.reader.Reader.{Reader}
 use Rattle.gj_json.specs.declared.event.Event.{Event}
@@ -29,6 +29,13 @@ abbrev pub names : Mode → Bool
 names NameDue = true
 names ObjectOpened = true
 names _ = false
+
+-- whether a bracket may open a level here, also that of the text's value
+abbrev pub may_begin : Mode → Bool
+may_begin TextDue = true
+may_begin ValueDue = true
+may_begin ArrayOpened = true
+may_begin _ = false
 
 abbrev pub bracket_of : Level → ℕ
 bracket_of Array = open_bracket
