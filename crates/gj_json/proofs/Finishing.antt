@@ -1,6 +1,6 @@
 -- What the end of a text answers, and the levels that are open.
-use Rattle.std.proofs.Common.{◌≡◌, ℕ, ◌+◌, ◌≤◌, ◌↔◌, Bool, true, false, if◌then◌else◌, List, [], ◌∷◌, ◌++◌, length, take, Option, Some, None, refl, sym, ap, ◌∙◌, arith, append_assoc}
-use Rattle.std.specs.Option.{option_to_list}
+use Rattle.std.proofs.Common.{◌≡◌, ℕ, ◌+◌, ◌≤◌, ◌↔◌, Bool, true, false, if◌then◌else◌, List, [], ◌∷◌, ◌++◌, length, take, Option, Some, None, refl, sym, ap, subst, ◌∙◌, arith, append_assoc}
+use Rattle.std.specs.Option.{option_to_list, is_some}
 use Rattle.std.proofs.lemmas.List.{append-nil, map-append}
 use Rattle.std.proofs.Math.Seq.{take-append_seam}
 use Rattle.gj_json.specs.declared.event.Event.{Event}
@@ -23,7 +23,7 @@ use Rattle.gj_json.specs.Machine.{Frame, in_array, in_object, Leaf, value_due, v
 use Rattle.gj_json.specs.Reader.{StandsFor}
 use Rattle.gj_json.specs.Seen.{seen, partial_timed, stack_timed, leaf_timed, ConstantAt, BegunAs, EdgeAt}
 use Rattle.gj_json.specs.Stands.{StandsWell, StandsRefused, StandsAs, LeafAs, FitsLeaf, FitsBroken, levels_of, levels_with}
-use Rattle.gj_json.specs.Told.{event_at, last_event}
+use Rattle.gj_json.specs.Told.{event_at, in_number, last_event}
 use Rattle.gj_json.proofs.Completes.{Goes, TextFrom}
 use Rattle.gj_json.proofs.Closing.{fits_viable}
 use Rattle.gj_json.proofs.End.{finish_iff}
@@ -35,6 +35,7 @@ use Rattle.gj_number.specs.Grammar.{IsNumber}
 use Rattle.gj_number.specs.Value.{value_of}
 use Rattle.gj_number.specs.Literal.{StandsFor as LiteralStandsFor}
 use Rattle.gj_json.specs.Under.{Under, nothing, number as number_under, text as text_under, under_leaf, under_of, Keeps}
+use Rattle.gj_json.proofs.Comes.{is_number, mode_under}
 use Rattle.gj_json.proofs.Literals.{ends_by, number_by}
 use Rattle.gj_json.proofs.Texts.{text_start, text_goes_on, Finishes, text_finishes, finishes_text}
 use Rattle.gj_json.proofs.Times.{told}
@@ -152,6 +153,28 @@ ends reader bytes may_end value l live h =
     let k = o.well in
     ends_go reader.limits reader.mode (levels_in reader.levels) reader.start reader.offset bytes k (last_event reader.mode (inner_of (levels_in reader.levels)) may_end value reader.start)
     (text_says may_end value reader.limits.depth k.state reader.mode (levels_in reader.levels) reader.start (length bytes) k.kept (ends_as (under_of k.state) reader may_end value l o.keeps) k.fits (rw (← k.at) k.timely.edge))
+
+pub none_is : {A : Type 0} (x : Option A) → is_some x ≡ false → x ≡ None
+none_is None e = refl
+none_is (Some y) e = cc
+
+none_under : (u : Under) (may_end : Bool) (value : Option Exact) → is_number u ≡ false → EndsAs u may_end value
+none_under nothing may_end value e = tt
+none_under (text_under so_far state) may_end value e = tt
+none_under (number_under so_far state) may_end value e = cc
+
+-- behind a value that nothing is around
+pub whole_ends : (reader : Reader) (bytes : List ℕ) → reader.fault ≡ None → reader.mode ≡ ValueDone → inner_of (levels_in reader.levels) ≡ None → StandsFor reader bytes → Ends reader.limits reader.offset bytes (Some None)
+whole_ends reader bytes live done outer h =
+    let o = open_of reader bytes live h in
+    let k = o.well in
+    let number_free : in_number reader.mode ≡ false = subst (λ (m : Mode). in_number m ≡ false) (sym done) refl in
+    let free : is_number (under_of k.state) ≡ false = sym (mode_under k.state reader.mode (levels_in reader.levels) k.kept) ∙ number_free in
+    let says : Option (Option Event) → Type 0 = λ o. TextSays reader.limits.depth (seen k.state) o (finish k.state (length bytes)) in
+    let e : says (last_event reader.mode (inner_of (levels_in reader.levels)) false None reader.start) =
+    text_says false None reader.limits.depth k.state reader.mode (levels_in reader.levels) reader.start (length bytes) k.kept (none_under (under_of k.state) false None free) k.fits (rw (← k.at) k.timely.edge) in
+    let f = subst (λ (m : Mode). says (last_event m (inner_of (levels_in reader.levels)) false None reader.start)) done e in
+    ends_go reader.limits reader.mode (levels_in reader.levels) reader.start reader.offset bytes k (Some None) (subst (λ (i : Option Level). says (last_event ValueDone i false None reader.start)) outer f)
 
 well_levels : (limits : Allowed) (mode : Mode) (levels : List Level) (start offset : ℕ) (bytes rest : List ℕ) (text : Text) → StandsWell limits mode levels start offset bytes → IsText text (bytes ++ rest) → length levels ≡ open_at offset text
 well_levels limits mode levels start offset bytes rest text k t =

@@ -13,7 +13,7 @@ use Rattle.gj_json.specs.declared.event.What.{What}
 use Rattle.gj_json.specs.declared.levels.Level.{Level}
 use Rattle.gj_json.specs.declared.levels.Level.TheVariants.{Array, Object}
 use Rattle.gj_json.specs.declared.mode.Mode.{Mode}
-use Rattle.gj_json.specs.declared.mode.Mode.TheVariants.{ValueDue, ValueDone, ArrayOpened, NumberOn, StringOn, NameDue, NameOn, ColonDue}
+use Rattle.gj_json.specs.declared.mode.Mode.TheVariants.{TextDue, ValueDue, ValueDone, ArrayOpened, NumberOn, StringOn, NameDue, NameOn, ColonDue}
 use Rattle.gj_json.specs.declared.mode.Move.TheVariants.{Refuse, Go, Open, Close}
 use Rattle.gj_json.specs.declared.mode.NumberTurn.{NumberTurn}
 use Rattle.gj_json.specs.declared.mode.StringState.{StringState}
@@ -37,7 +37,7 @@ use Rattle.gj_json.specs.Seen.{seen, InTime, BegunAs, EdgeAt, partial_timed, sta
 use Rattle.gj_json.specs.Stands.{StandsWell, StandsAs, LeafAs, FitsName, FitsBroken, levels_of}
 use Rattle.gj_json.specs.Step.{opened}
 use Rattle.gj_json.specs.Told.{emitted, event_at, opening_of, is_on, in_number, text_state, start_after}
-use Rattle.gj_json.specs.Tokens.{IsQuoted, Lands, names, bracket_of, closing_event}
+use Rattle.gj_json.specs.Tokens.{IsQuoted, Lands, names, may_begin, bracket_of, closing_event}
 use Rattle.gj_json.specs.Under.{Turns, HasValue, under_of, number}
 use Rattle.gj_number.specs.Exact.{Exact}
 use Rattle.gj_number.specs.Grammar.{IsNumber}
@@ -380,14 +380,17 @@ name_taken {before} {after} old new piece n live due room w p content q heard =
 
 -- ---- an opening bracket
 
-opens : (mode : Mode) → awaits mode ≡ true → (level : Level) (turn : NumberTurn) (inner : Option Level) → move_of mode turn inner (bracket_of level) ≡ Open level
+opens : (mode : Mode) → may_begin mode ≡ true → (level : Level) (turn : NumberTurn) (inner : Option Level) → move_of mode turn inner (bracket_of level) ≡ Open level
+opens TextDue w Array turn inner = rw (class_is open_array open_bracket refl (λ e. cc)) refl
+opens TextDue w Object turn inner = rw (class_is open_object open_brace refl (λ e. cc)) refl
 opens ValueDue w Array turn inner = rw (class_is open_array open_bracket refl (λ e. cc)) refl
 opens ValueDue w Object turn inner = rw (class_is open_object open_brace refl (λ e. cc)) refl
 opens ArrayOpened w Array turn inner = rw (class_is open_array open_bracket refl (λ e. cc)) refl
 opens ArrayOpened w Object turn inner = rw (class_is open_object open_brace refl (λ e. cc)) refl
 opens _ w level turn inner = cc
 
-opens_told : (mode : Mode) → awaits mode ≡ true → (level : Level) (inner : Option Level) (value : Option Exact) (words : Words) (start n : ℕ) → emitted mode inner (Open level) value words start n ≡ event_at n (opening_of level) ∷ []
+opens_told : (mode : Mode) → may_begin mode ≡ true → (level : Level) (inner : Option Level) (value : Option Exact) (words : Words) (start n : ℕ) → emitted mode inner (Open level) value words start n ≡ event_at n (opening_of level) ∷ []
+opens_told TextDue w level inner value words start n = refl
 opens_told ValueDue w level inner value words start n = refl
 opens_told ArrayOpened w level inner value words start n = refl
 opens_told _ w level inner value words start n = cc
@@ -400,7 +403,7 @@ fits_in : (d : ℕ) (mode : Mode) (levels : List Level) (o : Option Broken) {A :
 fits_in d mode levels None a g = g
 fits_in d mode levels (Some s) a g = (g.0, g.1 a)
 
-open_well : (limits : Allowed) (levels : List Level) (start : ℕ) (mode : Mode) (offset : ℕ) (bytes : List ℕ) → StandsWell limits mode levels start offset bytes → awaits mode ≡ true → (level : Level) → offset < limits.bytes → length levels + 1 ≤ limits.depth
+open_well : (limits : Allowed) (levels : List Level) (start : ℕ) (mode : Mode) (offset : ℕ) (bytes : List ℕ) → StandsWell limits mode levels start offset bytes → may_begin mode ≡ true → (level : Level) → offset < limits.bytes → length levels + 1 ≤ limits.depth
     → Moved limits (opened level) (level ∷ levels) offset (offset + 1) bytes (bracket_of level ∷ []) (event_at offset (opening_of level) ∷ [])
 open_well limits levels start mode offset bytes k w level room deep =
     let b = bracket_of level in
@@ -411,7 +414,7 @@ open_well limits levels start mode offset bytes k w level room deep =
     byte_moved limits levels start mode (opened level) (level ∷ levels) offset bytes b k turn (own_value u) (event_at offset (opening_of level) ∷ []) (own_turns u b) (own_has u turn) room (fits_in limits.depth (opened level) (level ∷ levels) (step k.state (length bytes) b) deep (rw e at f))
     (rw e (opens_told mode w level (inner_of levels) (own_value u) (own_words u) start offset))
 
-pub open_taken : {before after : List Event → Type 0} (old new : Reader) (piece : List ℕ) (level : Level) → 0 < length piece → get_or piece 0 0 ≡ bracket_of level → old.fault ≡ None → awaits old.mode ≡ true → old.offset + length piece ≤ old.limits.bytes → length (levels_in old.levels) < old.limits.depth
+pub open_taken : {before after : List Event → Type 0} (old new : Reader) (piece : List ℕ) (level : Level) → 0 < length piece → get_or piece 0 0 ≡ bracket_of level → old.fault ≡ None → may_begin old.mode ≡ true → old.offset + length piece ≤ old.limits.bytes → length (levels_in old.levels) < old.limits.depth
     → Lands 1 (opened level) (level ∷ levels_in old.levels) old new → ((events : List Event) → before events → after (events ++ event_at old.offset (opening_of level) ∷ [])) → FeedsAll before after old new (take 1 piece)
 open_taken {before} {after} old new piece level some is live due room deep p heard =
     rw (one_byte piece some, is)

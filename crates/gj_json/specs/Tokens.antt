@@ -5,7 +5,7 @@ use Rattle.gj_json.specs.Characters.{SpellsCharacter}
 use Rattle.gj_json.specs.declared.levels.Level.{Level}
 use Rattle.gj_json.specs.declared.levels.Level.TheVariants.{Array, Object}
 use Rattle.gj_json.specs.declared.mode.Mode.{Mode}
-use Rattle.gj_json.specs.declared.mode.Mode.TheVariants.{NameDue, ObjectOpened}
+use Rattle.gj_json.specs.declared.mode.Mode.TheVariants.{TextDue, ValueDue, ArrayOpened, NameDue, ObjectOpened}
 use Rattle.gj_json.specs.declared.mode.StringState.TheVariants.{Plain}
 use Rattle.gj_json.specs.declared.reader.Reader.{Reader}
 use Rattle.gj_json.specs.declared.event.Event.{Event}
@@ -37,6 +37,13 @@ abbrev pub names : Mode → Bool
 names NameDue = true
 names ObjectOpened = true
 names _ = false
+
+-- whether a bracket may open a level here, also that of the text's value
+abbrev pub may_begin : Mode → Bool
+may_begin TextDue = true
+may_begin ValueDue = true
+may_begin ArrayOpened = true
+may_begin _ = false
 
 abbrev pub bracket_of : Level → ℕ
 bracket_of Array = open_bracket

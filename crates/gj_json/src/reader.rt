@@ -1,4 +1,4 @@
-ghost use Rattle.std.specs.Prelude.{◌≡◌, ℕ, ◌+◌, ◌≤◌, ◌++◌, ◌∷◌, [], List, length, take, IfOk, MatchResult, Some, None, Err};
+ghost use Rattle.std.specs.Prelude.{◌≡◌, ℕ, ◌+◌, ◌≤◌, ◌++◌, ◌∷◌, [], List, length, take, IfOk, IsTrue, MatchResult, Some, None, Ok, Err};
 ghost use Rattle.gj_json.specs.Moves.{IsMode};
 ghost use Rattle.gj_json.specs.Levels.{levels_in};
 
@@ -147,6 +147,18 @@ impl Reader {
         match last_event(self.mode, self.levels.inner(), may_end, value, self.start) {
             Some(found) => Ok(found),
             None => Err(self.fault_here(Cause::Truncated)),
+        }
+    }
+
+    /// Whether the text may end here with no event left to its end, as [`Reader::finish`] would answer.
+    #[inline]
+    pub fn is_whole(&self) -> bool
+        ensures live { IsTrue result → refusal_of self.now ≡ None }
+        ensures answer { (bytes : List ℕ) → StandsFor self.now bytes → IsTrue result → FinishAnswers (limits_of self.now) bytes (Ok None) }
+    {
+        match self.mode {
+            Mode::ValueDone => self.fault.is_none() && self.levels.inner().is_none(),
+            _ => false,
         }
     }
 

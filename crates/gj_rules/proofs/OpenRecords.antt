@@ -5,6 +5,7 @@ use Rattle.gj_json.specs.declared.fault.Cause.TheVariants.{Syntax, Truncated, De
 use Rattle.gj_json.specs.Bytes.{line_feed}
 use Rattle.gj_json.specs.Limits.{Allowed}
 use Rattle.gj_json.specs.Refusal.{Stops, RefusedFor}
+use Rattle.gj_coords.specs.Noted.{no_warnings, shifted}
 use Rattle.gj_rules.specs.declared.verdict.Verdict.{Verdict}
 use Rattle.gj_rules.specs.declared.verdict.Verdict.TheVariants.{Valid, Broken, NotJson}
 use Rattle.gj_rules.specs.Places.{IsPlaceIn}
@@ -85,6 +86,11 @@ pub told_as : (start last end n : ℕ) (bytes : List ℕ) (verdict : Verdict) �
 told_as start last end n bytes verdict e f =
     ap (λ x. shifted_verdict start (if_ended (nat_eq x line_feed) end verdict)) e
     ∙ ap (λ x. shifted_verdict start (if_ended (nat_eq (last_byte separator bytes) line_feed) x verdict)) f
+
+-- no warning has a place
+pub none_shifted : (by : ℕ) → shifted no_warnings by ≡ no_warnings
+unfolding shifted no_warnings
+none_shifted by = refl
 
 -- ---- what a linter took
 

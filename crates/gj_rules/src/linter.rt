@@ -68,6 +68,7 @@ const _: () = prove!(size_of::<Linter>() <= 33 * size_of::<Frame>() + 8192);
 
 impl Linter {
     ghost use Rattle.gj_rules.specs.Linter.{StandsFor, limits_of, refusal_of, offset_of, levels_of, Answers, refusal_in};
+    ghost use Rattle.gj_coords.specs.Noted.{no_warnings};
     ghost use Rattle.gj_rules.specs.Verdict.{IsVerdict, NeverValid};
     ghost use Rattle.gj_rules.specs.Doomed.{BeginNoGeoJson};
 
@@ -126,6 +127,30 @@ impl Linter {
         }
     }
 
+    /// Whether the input that was fed is valid and has no warning, as far as it can be told before its end: only a number, which
+    /// no such input is, has its last event there.
+    #[inline]
+    pub(crate) fn is_clean(&self) -> bool
+        ensures { (bytes : List ℕ) → StandsFor self.now bytes → IsTrue result → IsVerdict (limits_of self.now) bytes (Verdict.Valid no_warnings) }
+    {
+        bytes_taken();
+        few_events();
+        kept_warnings();
+        self.reader.is_whole() && self.rules.is_clean()
+    }
+
+    /// As a new linter under these limits, where it lies: little of it is written.
+    pub(crate) fn begin_again(&mut self, limits: Limits)
+        ensures stands { StandsFor self.new [] }
+        ensures limits { limits_of self.new ≡ limits }
+        ensures refusal { refusal_of self.new ≡ None }
+        ensures offset { offset_of self.new ≡ 0 }
+        ensures levels { levels_of self.new ≡ 0 }
+    {
+        self.rules.begin_again();
+        self.reader = Reader::new(limits);
+    }
+
     /// The verdict of the input that was fed. From then on the linter is as a new one under these limits, where it lies, and
     /// little of it is written: that costs less than a new one.
     pub fn finish_and_begin(&mut self, limits: Limits) -> Verdict
@@ -138,8 +163,7 @@ impl Linter {
         ensures levels { levels_of self.new ≡ 0 }
     {
         let verdict = self.end();
-        self.rules.begin_again();
-        self.reader = Reader::new(limits);
+        self.begin_again(limits);
         verdict
     }
 

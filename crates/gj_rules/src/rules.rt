@@ -1,4 +1,4 @@
-ghost use Rattle.std.specs.Prelude.{◌≡◌, ℕ, ◌<◌, ◌≤◌, [], List, true, false};
+ghost use Rattle.std.specs.Prelude.{◌≡◌, ℕ, ◌<◌, ◌≤◌, [], List, true, false, None, IsTrue};
 
 mod doomed;
 mod flats;
@@ -47,6 +47,8 @@ impl Rules {
     ghost use Rattle.gj_json.specs.Events.{all_events, events_by, value_events};
     ghost use Rattle.gj_json.specs.Text.{IsText};
     ghost use Rattle.gj_coords.specs.Fault.{least};
+    ghost use Rattle.gj_coords.specs.Noted.{none_in};
+    ghost use Rattle.gj_coords.specs.Warned.{all_in};
     ghost use Rattle.gj_rules.specs.Faults.{text_faults};
     ghost use Rattle.gj_rules.specs.TextKept.{text_kept};
     ghost use Rattle.gj_rules.specs.Judged.{judged_at};
@@ -110,6 +112,18 @@ impl Rules {
         ensures { (text : Text) → depth text.value ≤ most_levels → StandsFor self.now (all_events text) → result ≡ text_kept text }
     {
         self.answer.warned.all()
+    }
+
+    /// Whether nothing is found in the text whose events were told: no fault, and no warning of any kind.
+    #[inline]
+    pub(crate) fn is_clean(&self) -> bool
+        ensures fault { IsTrue result → self.now.answer.fault ≡ None }
+        ensures warned { IsTrue result → none_in (all_in self.now.answer.warned) ≡ true }
+    {
+        match self.answer.fault {
+            None => self.answer.warned.is_empty(),
+            Some(_) => false,
+        }
     }
 
     /// In a front of a text the number of open objects with a role, which is that of the frames in use.

@@ -196,6 +196,11 @@ impl Sequence {
             return;
         }
         let place = self.record.end();
+        if self.record.is_clean() {
+            self.record.begin_again(place + 1);
+            self.records += 1;
+            return;
+        }
         let verdict = self.record.close(place + 1);
         match valid_warnings(verdict) {
             Some(warnings) => {

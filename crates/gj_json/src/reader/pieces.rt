@@ -103,6 +103,26 @@ impl Reader {
         }
     }
 
+    /// Takes bytes from the front of the piece whose events do not matter to the sink, told at once where there are none:
+    /// how many.
+    #[inline(always)]
+    fn take_if_ignored<S: EventSink>(
+        &mut self,
+        piece: &[u8],
+        sink: &mut S,
+    ) -> Result<usize, JsonFault>
+        requires live { self.old.fault ≡ None }
+        requires room { self.old.offset + length piece.now ≤ self.old.limits.bytes }
+        requires small { self.old.limits.bytes ≤ 2 ^ 60 }
+        ensures within { IfOk result (λ n. n ≤ length piece.now) }
+        ensures feeds { MatchResult result (λ n. FeedsAll (S.heard sink.old) (S.heard sink.new) self.old self.new (take n piece.now)) (FeedsTo (S.heard sink.old) (S.heard sink.new) self.old self.new piece.now) }
+    {
+        if sink.ignored() == 0 {
+            return Ok(0);
+        }
+        self.take_ignored(piece, sink)
+    }
+
     /// Takes a piece that the limit on the bytes allows.
     pub(super) fn take_piece<S: EventSink>(
         &mut self,
@@ -114,7 +134,7 @@ impl Reader {
         requires small { self.old.limits.bytes ≤ 2 ^ 60 }
         ensures feeds { MatchResult result (λ done. FeedsAll (S.heard sink.old) (S.heard sink.new) self.old self.new piece.now) (FeedsTo (S.heard sink.old) (S.heard sink.new) self.old self.new piece.now) }
     {
-        let mut at = match self.take_ignored(piece, sink) {
+        let mut at = match self.take_if_ignored(piece, sink) {
             Ok(count) => count,
             Err(fault) => return Err(fault),
         };

@@ -651,6 +651,28 @@ fn numbers_have_their_values(rt: HostRuntime) {
     }
 }
 
+#[test]
+fn texts_that_may_end(rt: HostRuntime) {
+    let rows: [(&[u8], bool); 9] = [
+        (b"{\"a\":[1]}", true),
+        (b"{}\n", true),
+        (b"[]", true),
+        (b"null", true),
+        (b"1 ", true),
+        // only the end of the text completes its event
+        (b"1", false),
+        (b"", false),
+        (b"[", false),
+        (b"{}}", false),
+    ];
+    for (input, expected) in rows {
+        let mut reader = Reader::new(Limits::usual());
+        let mut sink = no_events();
+        let _ = reader.feed(input, &mut sink);
+        assert!(rt; reader.is_whole() == expected, "{input:?}");
+    }
+}
+
 /// Whether the input in two pieces tells these events, and its end the last one.
 fn are_told(input: &[u8], cut: usize, told: &[Event], last: &Option<Event>) -> bool
     requires { cut ≤ length input.now }

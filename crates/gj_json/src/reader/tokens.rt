@@ -12,7 +12,7 @@ ghost use Rattle.gj_json.specs.Grammar.{letters_of};
 ghost use Rattle.gj_json.specs.Levels.{levels_in, inner_of, outer_of};
 ghost use Rattle.gj_json.specs.Moves.{after_move, IsMove};
 ghost use Rattle.gj_json.specs.Step.{opened};
-ghost use Rattle.gj_json.specs.Tokens.{bracket_of, closing_event, names};
+ghost use Rattle.gj_json.specs.Tokens.{bracket_of, closing_event, may_begin, names};
 ghost use Rattle.gj_json.specs.declared.mode.Mode.TheVariants.{ValueDone, ValueDue, ColonDue};
 
 use super::Reader;
@@ -234,7 +234,7 @@ impl Reader {
         requires some { 0 < length piece.now }
         requires begins { get_or piece.now 0 0 ≡ bracket_of level }
         requires live { self.old.fault ≡ None }
-        requires due { awaits self.old.mode ≡ true }
+        requires due { may_begin self.old.mode ≡ true }
         requires room { self.old.offset + length piece.now ≤ self.old.limits.bytes }
         requires small { self.old.limits.bytes ≤ 2 ^ 60 }
         ensures within { result ≤ length piece.now }
@@ -449,6 +449,26 @@ impl Reader {
         at
     }
 
+    /// Takes the white space at the start of the piece: how many bytes. One byte after a value, as at the end of a record, is
+    /// taken as any other byte there.
+    #[inline(never)]
+    fn take_white<S: EventSink>(&mut self, piece: &[u8], sink: &mut S) -> usize
+        requires some { 0 < length piece.now }
+        requires live { self.old.fault ≡ None }
+        requires room { self.old.offset + length piece.now ≤ self.old.limits.bytes }
+        requires small { self.old.limits.bytes ≤ 2 ^ 60 }
+        ensures within { result ≤ length piece.now }
+        ensures feeds { FeedsAll (S.heard sink.old) (S.heard sink.new) self.old self.new (take result piece.now) }
+    {
+        if piece.len() > 1 {
+            return self.skip_quiet(piece);
+        }
+        match self.mode {
+            Mode::ValueDone => self.take_end(piece, sink),
+            _ => 0,
+        }
+    }
+
     /// Takes a token that stands whole at the start of the piece, or the white space there: how many bytes, or 0.
     #[inline(always)]
     fn take_token<S: EventSink>(&mut self, piece: &[u8], sink: &mut S) -> usize
@@ -460,7 +480,7 @@ impl Reader {
         ensures feeds { FeedsAll (S.heard sink.old) (S.heard sink.new) self.old self.new (take result piece.now) }
     {
         if piece[0] <= b' ' {
-            return self.skip_quiet(piece);
+            return self.take_white(piece, sink);
         }
         match self.mode {
             Mode::ValueDone => self.take_end(piece, sink),
@@ -509,7 +529,30 @@ impl Reader {
         at
     }
 
-    /// The same, told at once where no token is due or the piece is short.
+    /// Takes the bracket that opens the text's object, where that is due: 1, or 0.
+    #[inline(always)]
+    fn take_beginning<S: EventSink>(&mut self, piece: &[u8], sink: &mut S) -> usize
+        requires some { 0 < length piece.now }
+        requires live { self.old.fault ≡ None }
+        requires room { self.old.offset + length piece.now ≤ self.old.limits.bytes }
+        requires small { self.old.limits.bytes ≤ 2 ^ 60 }
+        ensures within { result ≤ length piece.now }
+        ensures feeds { FeedsAll (S.heard sink.old) (S.heard sink.new) self.old self.new (take result piece.now) }
+    {
+        match self.mode {
+            Mode::TextDue => {
+                if piece[0] == b'{' {
+                    self.take_open(Level::Object, piece, sink)
+                } else {
+                    0
+                }
+            }
+            _ => 0,
+        }
+    }
+
+    /// Takes the tokens that stand whole at the start of the piece, the text's first bracket among them: how many bytes, told
+    /// at once where no token is due or the piece is short.
     #[inline(always)]
     pub(super) fn take_if_token<S: EventSink>(&mut self, piece: &[u8], sink: &mut S) -> usize
         requires live { self.old.fault ≡ None }
@@ -521,6 +564,7 @@ impl Reader {
         if piece.len() < SHORTEST || is_on(self.mode) {
             return 0;
         }
-        self.take_tokens(piece, sink)
+        let begun = self.take_beginning(piece, sink);
+        begun + self.take_tokens(&piece[begun..], sink)
     }
 }

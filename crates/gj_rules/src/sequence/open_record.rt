@@ -36,6 +36,7 @@ impl OpenRecord {
     ghost use Rattle.gj_rules.specs.Judged.{judged_at};
     ghost use Rattle.gj_rules.specs.Linter.{refusal_of, refusal_in};
     ghost use Rattle.gj_rules.specs.OpenRecord.{StandsFor, AnswersAt};
+    ghost use Rattle.gj_coords.specs.Noted.{no_warnings};
     ghost use Rattle.gj_rules.specs.Sequence.{IsRecordVerdict};
 
     /// A record without a byte, which begins at the place.
@@ -128,6 +129,30 @@ impl OpenRecord {
         self.end = next;
         self.last = SEPARATOR;
         verdict
+    }
+
+    /// Whether it is valid and has no warning, as most are.
+    #[inline]
+    pub fn is_clean(&self) -> bool
+        ensures { (bytes : List ℕ) → StandsFor self.now bytes → IsTrue result →
+            IsRecordVerdict self.now.limits.depth (record { start = self.now.start; bytes = bytes; is_cut = false }) (Verdict.Valid no_warnings) }
+    {
+        self.last == LINE_FEED && self.linter.is_clean()
+    }
+
+    /// Begins the next record at the place, without a byte yet. Little is written.
+    pub fn begin_again(&mut self, next: u64)
+        requires { next ≤ 2 ^ 60 }
+        ensures stands { StandsFor self.new [] }
+        ensures start { self.new.start ≡ next }
+        ensures end { self.new.end ≡ next }
+        ensures limits { self.new.limits ≡ self.old.limits }
+        ensures refusal { refusal_of self.new.linter ≡ None }
+    {
+        self.linter.begin_again(self.limits);
+        self.start = next;
+        self.end = next;
+        self.last = SEPARATOR; // It has no byte.
     }
 
     /// How many arrays and objects are open in it.

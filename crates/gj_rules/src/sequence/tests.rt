@@ -170,3 +170,34 @@ fn progress(rt: HostRuntime) {
     assert!(rt; sequence.offset() == 44);
     assert!(rt; sequence.finish() == broken(2, 39, Rule::G1));
 }
+
+#[test]
+fn a_million_records(rt: HostRuntime) {
+    let mut sequence = start(64, MOST);
+    for _ in 0..500_000 {
+        sequence.feed(POINT);
+        sequence.feed(b"\n\x1E{\"crs\":1,\"type\":\"Point\",\"coordinates\":[1,2]}\n");
+    }
+    match sequence.finish() {
+        SeqVerdict::Valid { records, warnings } => {
+            assert!(rt; records == 1_000_000);
+            assert!(rt; warnings.count(Kind::W9) == 500_000);
+            assert!(rt; warnings.first(Kind::W9) == Some(40));
+        }
+        SeqVerdict::Record { number, .. } => assert!(rt; number == 0, "record {number}"),
+    }
+}
+
+#[test]
+fn a_record_of_ten_million_bytes(rt: HostRuntime) {
+    let mut sequence = start(64, MOST);
+    sequence.feed(POINT);
+    sequence.feed(b"\n\x1E{\"type\":\"LineString\",\"coordinates\":[[0,0]");
+    for _ in 0..1_666_667 {
+        sequence.feed(b",[1,2]");
+    }
+    assert!(rt; sequence.feed(b"]}\n\x1E[") == SeqProgress::Open);
+    assert!(rt; sequence.levels() == 1);
+    assert!(rt; sequence.feed(b"]\n\x1E") == SeqProgress::Decided);
+    assert!(rt; sequence.finish() == broken(3, 10_000_086, Rule::G1));
+}

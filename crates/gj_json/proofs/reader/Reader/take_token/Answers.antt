@@ -1,10 +1,6 @@
--- White space; a name and its value.
-use Rattle.gj_json.proofs.Feeding.{front_skipped, piece_all, rest_all}
+-- A name and its value.
+use Rattle.gj_json.proofs.Feeding.{piece_all, rest_all}
 use Rattle.gj_json.proofs.reader.Reader.take_token.Goals as goal
-
-pub returns-then-piece-le32-clause-feeds : goal.returns-then-piece-le32-clause-feeds
-returns-then-piece-le32-clause-feeds g c =
-    front_skipped c.args.self.now c.skip_quiet.new.self c.args.piece.now c.skip_quiet.result c.requires.live c.skip_quiet.ensures.within c.requires.room c.skip_quiet.ensures.skips
 
 pub returns-else-named-piece-clause-feeds : goal.returns-else-named-piece-clause-feeds
 returns-else-named-piece-clause-feeds g c =

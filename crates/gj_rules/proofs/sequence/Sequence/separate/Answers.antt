@@ -1,6 +1,8 @@
 -- A separator begins a record, and ends the one before it.
 use Rattle.std.proofs.Common.{◌≡◌, ⊎_elim, ℕ, ◌+◌, true, false, List, [], ◌∷◌, ◌++◌, length, length-append, refl, ap, sym, subst, ◌∙◌, arith}
 use Rattle.gj_rules.specs.declared.sequence.verdict.SeqVerdict.{SeqVerdict}
+use Rattle.gj_coords.specs.Noted.{no_warnings}
+use Rattle.gj_rules.specs.declared.verdict.Verdict.{Verdict}
 use Rattle.gj_rules.specs.Linter.{refusal_of}
 use Rattle.gj_rules.specs.OpenRecord.{StandsFor as RecordStandsFor}
 use Rattle.gj_rules.specs.Sequence.{separator}
@@ -45,6 +47,35 @@ returns-then-is_empty-clause-stands c = λ bytes s.
             valid = run_valid self bytes k none;
             counted = run_counted self bytes k _ none (omega (arith, c.max-self.ensures, k.counted));
           }) (before_or_in self bytes h));
+    })
+
+pub returns-then-is_clean-clause-stands : goal.returns-then-is_clean-clause-stands
+returns-then-is_clean-clause-stands c = λ bytes s.
+    let self = c.args.self.now in
+    let h = live_of self bytes c.requires.live s in
+    let differ : self.record.start ≡ self.record.end → ⊥ = λ e. (let t : true ≡ false = sym (c.is_empty.ensures.1 e) ∙ c.if-is_empty.false in cc) in
+    let k = in_some self bytes h differ in
+    let some = some_given self bytes k differ in
+    let one : length (bytes ++ separator ∷ []) ≡ length bytes + 1 = length-append bytes (separator ∷ []) in
+    let laws = c.joined_warnings.ensures in
+    live_stands _ (bytes ++ separator ∷ []) c.requires.live (record {
+      taken = omega (arith, c.begin_again.ensures.end, c.end-place.ensures.value, h.taken, one);
+      fits = omega (arith, c.requires.room, h.taken, one);
+      depth = ap (λ l. l.depth) c.begin_again.ensures.limits ∙ h.depth;
+      refusal = c.begin_again.ensures.refusal;
+      at = at_in _ (bytes ++ separator ∷ []) (record {
+        done = bytes;
+        given = [];
+        split = refl;
+        begun = begun_more bytes k.done k.given (separator ∷ []) k.split k.begun;
+        plain = refl;
+        start = omega (arith, c.begin_again.ensures.start, c.end-place.ensures.value, h.taken);
+        stands = c.begin_again.ensures.stands;
+        viable = empty_viable c.one_refusal.ensures.either self.limits.depth;
+        valid = more_valid laws.none_first laws.none_last laws.grouping self bytes h k (Verdict.Valid no_warnings) no_warnings self.warnings some refl (sym (laws.none_last self.warnings))
+            (c.is_clean.ensures k.given k.stands c.if-is_clean.true);
+        counted = more_counted self bytes k some;
+      });
     })
 
 pub returns-in-Some-clause-stands : goal.returns-in-Some-clause-stands

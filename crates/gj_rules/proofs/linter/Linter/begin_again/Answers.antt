@@ -1,7 +1,7 @@
 -- Before the first byte no event has come.
 use Rattle.gj_rules.proofs.Fed.{new_told}
 use Rattle.gj_rules.specs.Linter.{StandsFor}
-use Rattle.gj_rules.proofs.linter.Linter.finish_and_begin.Goals as goal
+use Rattle.gj_rules.proofs.linter.Linter.begin_again.Goals as goal
 
 pub returns-clause-stands : goal.returns-clause-stands
 unfolding StandsFor

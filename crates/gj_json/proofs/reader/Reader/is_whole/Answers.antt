@@ -1,0 +1,17 @@
+-- A value that is done, and no level around it.
+use Rattle.std.proofs.Common.{◌≡◌, false, None, sym, ◌∙◌}
+use Rattle.std.specs.Option.{is_some}
+use Rattle.gj_json.proofs.Finishing.{none_is, whole_ends}
+use Rattle.gj_json.proofs.reader.Reader.is_whole.Goals as goal
+
+pub returns-then-is_none-clause-live : goal.returns-then-is_none-clause-live
+returns-then-is_none-clause-live c = λ t.
+    let e : is_some c.args.self.now.fault ≡ false = rw (c.if-is_none.true) at c.is_none.ensures in
+    none_is c.args.self.now.fault e
+
+pub returns-then-is_none-clause-answer : goal.returns-then-is_none-clause-answer
+returns-then-is_none-clause-answer c = λ bytes h t.
+    let self = c.args.self.now in
+    let e : is_some self.fault ≡ false = rw (c.if-is_none.true) at c.is_none.ensures in
+    let f : is_some c.inner.result ≡ false = rw t at c.is_none-then-is_none.ensures in
+    whole_ends self bytes (none_is self.fault e) c.in-ValueDone.is (sym c.inner.ensures ∙ none_is c.inner.result f) h
