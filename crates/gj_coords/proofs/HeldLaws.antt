@@ -16,8 +16,8 @@ use Rattle.gj_coords.specs.declared.warned.Warned.{Warned}
 use Rattle.gj_coords.specs.declared.warnings.Warnings.{Warnings}
 use Rattle.gj_coords.specs.Fault.{lesser, comes_first}
 use Rattle.gj_coords.specs.Warned.{no_warned}
-use Rattle.gj_coords.specs.Position.{judged_noted, position_closed, position_least, sound_noted}
-use Rattle.gj_coords.specs.Walk.{fault_in, some_warned_in, warned_in, warned_as, some_quiet_in, quiet_in, quiet_as}
+use Rattle.gj_coords.specs.Position.{judged_noted, position_closed, sound_noted}
+use Rattle.gj_coords.specs.Walk.{fault_in, some_warned_in, warned_in, warned_as, some_quiet_in, quiet_as}
 use Rattle.gj_coords.specs.FlatPosition.{flat_count, flat_misshapen, flat_position, flat_first, held_fault, held_warned}
 
 -- ---- a position that is the whole value

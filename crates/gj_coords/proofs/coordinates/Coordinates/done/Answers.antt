@@ -1,4 +1,3 @@
-use Rattle.std.proofs.Common.{subst}
 use Rattle.gj_coords.proofs.CoordinatesLaws.{holds_ended}
 use Rattle.gj_coords.proofs.coordinates.Coordinates.done.Goals as goal
 
