@@ -1,5 +1,5 @@
 -- An array of numbers that is told as one leads where its events lead.
-use Rattle.std.proofs.Common.{◌≡◌, ℕ, min, List, ◌++◌, Option, Some, None, Bool, true, false, ◌&&◌, ◌||◌, not, is_none, nat_lt, nat_eq, if◌then◌else◌, refl, ◌∙◌, ap, arith}
+use Rattle.std.proofs.Common.{◌≡◌, ℕ, min, List, ◌++◌, Option, Some, None, Bool, true, false, ◌&&◌, ◌||◌, not, is_none, nat_lt, nat_eq, if◌then◌else◌, refl, sym, ◌∙◌, ap, subst, arith}
 use Rattle.std.proofs.lemmas.Bool.Decides.{nat_tests}
 use Rattle.gj_json.specs.declared.event.Event.{Event}
 use Rattle.gj_json.specs.declared.flat.Flat.{Flat}
@@ -291,7 +291,7 @@ in_first_alike : (a b : Numbered) (third : Option Numbered) (place close : ℕ) 
     let f : Flat = flat_of a b third place close in
     let s : Walk = state stage g w o in
     WalkAlike (singly f s) (in_first f stage s)
-in_first_alike a b third place close Due g w o = at_value_alike a b third place close g w o
+in_first_alike a b third place close Due g w o = walk_simulates.same _
 in_first_alike a b third place close Between g w o = second_due_alike a b third place close g o w.stage w.gather w.item w.other
 in_first_alike a b third place close Within g w o = in_second_alike a b third place close g o w.stage w.gather w.item w.other
 in_first_alike a b third place close Broken g w o = walk_simulates.same _
@@ -304,3 +304,14 @@ pub flat_leads : (f : Flat) (s : Walk) (rest : List Event) (a : FirstSummary) �
     Reads walk_machine s (flat_events f ++ rest) a → Reads walk_machine (flat_taken f s) rest a
 flat_leads f s rest a h =
     reads_alike walk_machine WalkAlike walk_simulates (singly f s) (flat_taken f s) (taken_alike f s) rest a (left walk_machine s (flat_events f) rest a h)
+
+-- and where the value itself is due
+at_value_due : (f : Flat) (s : Walk) → s.stage ≡ Due → WalkAlike (singly f s) (at_value f s)
+at_value_due f s due =
+    let P : Stage → Type 0 = λ stage. WalkAlike (singly f (state stage s.gather s.item s.other)) (at_value f s) in
+    subst P (sym due) (at_value_alike f.first f.second f.third f.place f.close s.gather s.item s.other)
+
+pub value_leads : (f : Flat) (s : Walk) (rest : List Event) (a : FirstSummary) → s.stage ≡ Due →
+    Reads walk_machine s (flat_events f ++ rest) a → Reads walk_machine (at_value f s) rest a
+value_leads f s rest a due h =
+    reads_alike walk_machine WalkAlike walk_simulates (singly f s) (at_value f s) (at_value_due f s due) rest a (left walk_machine s (flat_events f) rest a h)

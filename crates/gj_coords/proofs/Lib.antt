@@ -2,6 +2,7 @@ pub mod Examples
 pub mod SentLaws
 pub mod ReadingLaws
 pub mod WalkLaws
+pub mod HeldLaws
 pub mod CoordinatesLaws
 pub mod AlikeLaws
 pub mod FlatLaws

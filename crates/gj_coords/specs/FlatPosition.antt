@@ -27,8 +27,11 @@ use Rattle.gj_coords.specs.Sent.{event_at}
 use Rattle.gj_coords.specs.Reading.{run}
 use Rattle.gj_coords.specs.Noted.{nothing_noted}
 use Rattle.gj_coords.specs.CoordinateWarnings.{is_precise}
+use Rattle.gj_coords.specs.declared.simple.Simple.{Simple}
+use Rattle.gj_coords.specs.declared.simple.Simple.TheVariants.{Point}
+use Rattle.gj_coords.specs.declared.warned.Warned.{Warned}
 use Rattle.gj_coords.specs.Warned.{no_warned}
-use Rattle.gj_coords.specs.Position.{precise_with, misshapen_at}
+use Rattle.gj_coords.specs.Position.{precise_with, misshapen_at, sound_noted}
 use Rattle.gj_coords.specs.Walk.{position_machine, third_machine, second_machine, walk_machine, third_gathering, second_gathering, first_gathering}
 
 -- ---- as a position, which breaks no rule
@@ -117,6 +120,19 @@ flat_first f = record {
   polygons = flat_misshapen f;
 }
 
+-- ---- what is held of it where it is the value itself: little, of which all that the six types ask for is read
+
+abbrev pub flat_held : Flat → FirstLevel → FirstLevel
+flat_held f s = record s { positions = flat_misshapen f; positions_warned = sound_noted no_warned (flat_position f) }
+
+abbrev pub held_fault : Simple → Option Fault → Option Fault
+held_fault Point misshapen = None
+held_fault _ misshapen = misshapen
+
+abbrev pub held_warned : Simple → Warned → Warned
+held_warned Point warned = warned
+held_warned _ warned = no_warned
+
 -- ---- the walk
 
 abbrev pub PositionReader : Type 0
@@ -135,7 +151,7 @@ Walk = Array SecondReader FirstLevel
 abbrev pub singly : Flat → Walk → Walk
 singly f s = run walk_machine.after s (flat_events f)
 
--- where the value itself is due
+-- where the value itself is due, in which it ends
 abbrev pub at_value : Flat → Walk → Walk
 at_value f s = record s { gather = flat_first f; stage = Done }
 
@@ -173,7 +189,6 @@ second_due f Due s = at_first f s
 second_due f _ s = singly f s
 
 abbrev pub in_first : Flat → Stage → Walk → Walk
-in_first f Due s = at_value f s
 in_first f Between s = second_due f s.item.stage s
 in_first f Within s = in_second f s.item.stage s
 in_first f _ s = singly f s

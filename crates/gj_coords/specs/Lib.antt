@@ -6,6 +6,7 @@ pub mod Shape
 pub mod Winding
 pub mod CoordinateWarnings
 pub mod Box
+pub mod SimpleFaults
 pub mod Coordinates
 pub mod Bbox
 pub mod Sent

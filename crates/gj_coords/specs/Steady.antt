@@ -1,5 +1,5 @@
 -- Internal: where a position that is told as one changes nothing but what is gathered of positions.
-use Rattle.std.specs.Prelude.{◌≡◌, ℕ, ◌<◌, ◌≤◌, Option, Some, None, false}
+use Rattle.std.specs.Prelude.{◌≡◌, ℕ, ◌<◌, ◌≤◌, Option, Some, None, Bool, true, false}
 use Rattle.gj_json.specs.declared.flat.Flat.{Flat}
 use Rattle.gj_json.specs.declared.flat.Numbered.{Numbered}
 use Rattle.gj_coords.specs.declared.array.Stage.{Stage}
@@ -8,7 +8,7 @@ use Rattle.gj_coords.specs.declared.element.Element.{Element}
 use Rattle.gj_coords.specs.declared.fault.Fault.{Fault}
 use Rattle.gj_coords.specs.declared.position.Numbers.{Numbers}
 use Rattle.gj_coords.specs.declared.depth.Depth.{Depth}
-use Rattle.gj_coords.specs.declared.depth.Depth.TheVariants.{Unknown, First, Second, Third}
+use Rattle.gj_coords.specs.declared.depth.Depth.TheVariants.{Unknown, First, Second, Third, Whole}
 use Rattle.gj_coords.specs.FlatPosition.{Walk}
 
 -- there is a fault, which stands at this place or before it
@@ -70,6 +70,7 @@ IsSteady Unknown floor s = Unit {0}
 IsSteady First floor s = IsFirst floor s
 IsSteady Second floor s = IsSecond floor s
 IsSteady Third floor s = IsThird floor s
+IsSteady Whole floor s = ⊥
 
 -- all of it stands after the place
 abbrev pub IsThirdPast : ℕ → Option Numbered → Type 0
@@ -81,3 +82,8 @@ pub record IsPast (floor : ℕ) (position : Flat) : Type 0 where
   pub first : floor < position.first.place
   pub second : floor < position.second.place
   pub third : IsThirdPast floor position.third
+
+-- it is a position that was told as one
+abbrev pub is_whole : Depth → Bool
+is_whole Whole = true
+is_whole _ = false

@@ -1,5 +1,5 @@
 -- Internal: what each level of a value gathers, for the six types at once.
-use Rattle.std.specs.Prelude.{Option, None, ◌==◌, if◌then◌else◌}
+use Rattle.std.specs.Prelude.{Option, None, is_some, is_none, Bool, false, ◌&&◌, ◌==◌, if◌then◌else◌}
 use Rattle.gj_coords.specs.declared.array.Array.{Array}
 use Rattle.gj_coords.specs.declared.element.Element.{Element}
 use Rattle.gj_coords.specs.declared.fault.Fault.{Fault}
@@ -136,6 +136,19 @@ warned_in simple s = if s.numbers.tally.count == 0 then noted_in no_warned W6 s.
 abbrev pub warned_as : Simple → FirstSummary → Warned
 warned_as simple (Other place) = no_warned
 warned_as simple (Level s) = warned_in simple s
+
+-- ---- a few looks that show that there is nothing worth a warning for any type
+
+abbrev pub some_quiet_in : FirstLevel → Bool
+some_quiet_in s =
+    is_some s.numbers.fault && (is_none s.positions_warned.warnings && (is_none s.lines_warned.warnings && (is_none s.rings_warned.warnings && is_none s.polygons_warned.warnings)))
+
+abbrev pub quiet_in : FirstLevel → Bool
+quiet_in s = if s.numbers.tally.count == 0 then false else some_quiet_in s
+
+abbrev pub quiet_as : FirstSummary → Bool
+quiet_as (Other place) = false
+quiet_as (Level s) = quiet_in s
 
 -- ---- the machines
 

@@ -2,11 +2,13 @@
 #[cfg(test)]
 mod tests;
 
+use crate::array::Stage;
 use crate::depth::{Depth, depth_of, is_past};
 use crate::fault::Fault;
 use crate::part::Part;
 use crate::simple::Simple;
-use crate::walk::{Walk, all_warnings, least_fault, take_flat};
+use crate::simple_faults::SimpleFaults;
+use crate::walk::{Walk, all_warnings, least_fault};
 use crate::warned::Warned;
 use crate::warnings::Warnings;
 use crate::{flat, walk};
@@ -40,7 +42,9 @@ impl Coordinates {
     ghost use Rattle.gj_coords.specs.Fault.{least};
     ghost use Rattle.gj_coords.specs.Shape.{coordinates_faults};
     ghost use Rattle.gj_coords.specs.Coordinates.{StandsFor};
-    ghost use Rattle.gj_coords.specs.Noted.{StandsFor as WarningsStandFor, joined};
+    ghost use Rattle.gj_coords.specs.Noted.{StandsFor as WarningsStandFor, joined, no_warnings};
+    ghost use Rattle.gj_coords.specs.declared.array.Stage.TheVariants.{Due};
+    ghost use Rattle.gj_coords.specs.SimpleFaults.{least_faults};
     ghost use Rattle.gj_coords.specs.Warned.{all_in};
     ghost use Rattle.gj_coords.specs.CoordinateWarnings.{coordinates_warnings};
     ghost use Rattle.gj_coords.specs.CoordinatesKept.{coordinates_kept};
@@ -107,7 +111,30 @@ impl Coordinates {
         ensures stands { (events : List Event) → StandsFor self.old events →
             StandsFor self.new (events ++ flat_events flat.now) }
     {
-        take_flat(&mut self.walk, flat);
+        match self.walk.stage {
+            Stage::Due => self.take_whole(flat),
+            _ => self.take_inside(flat),
+        }
+    }
+
+    /// The same where the value itself is due.
+    #[inline]
+    fn take_whole(&mut self, flat: &Flat)
+        ensures stands { (events : List Event) → self.old.walk.stage ≡ Due → StandsFor self.old events →
+            StandsFor self.new (events ++ flat_events flat.now) }
+    {
+        self.walk.gather.hold_flat(flat);
+        self.walk.stage = Stage::Done;
+        self.depth = Depth::Whole;
+    }
+
+    /// The same within the value.
+    #[inline]
+    fn take_inside(&mut self, flat: &Flat)
+        ensures stands { (events : List Event) → StandsFor self.old events →
+            StandsFor self.new (events ++ flat_events flat.now) }
+    {
+        walk::take_flat(&mut self.walk, flat);
         self.floor = flat.close;
         self.depth = depth_of(flat.close, &self.walk);
     }
@@ -125,7 +152,24 @@ impl Coordinates {
         ensures least { (value : Tree) → StandsFor self.now (value_events value) → depth value < 2 ^ 64 →
             result ≡ least (coordinates_faults simple value) }
     {
-        least_fault(&self.walk, simple)
+        if self.depth.is_whole() {
+            self.walk.gather.held_fault(simple)
+        } else {
+            least_fault(&self.walk, simple)
+        }
+    }
+
+    /// The least fault of the value as the coordinates of each type.
+    #[inline]
+    pub fn faults(&self, faults: &mut SimpleFaults)
+        ensures least { (value : Tree) → StandsFor self.now (value_events value) → depth value < 2 ^ 64 →
+            faults.new ≡ least_faults value }
+    {
+        if self.depth.is_whole() {
+            self.walk.gather.held_faults(faults);
+        } else {
+            walk::least_faults(&self.walk, faults);
+        }
     }
 
     /// The warnings of the value as the coordinates of this type (RFC 7946, sections 3.1, 3.1.1, 3.1.6, 4 and 11.2).
@@ -138,7 +182,24 @@ impl Coordinates {
         ensures stands { (value : Tree) → StandsFor self.now (value_events value) → length (value_events value) < 2 ^ 64 →
             WarningsStandFor result (coordinates_warnings simple value) }
     {
-        all_warnings(&self.walk, simple)
+        if self.depth.is_whole() {
+            self.walk.gather.held_warned(simple).all()
+        } else {
+            all_warnings(&self.walk, simple)
+        }
+    }
+
+    /// Whether a few looks show that there are none of any type.
+    #[inline]
+    pub fn is_quiet(&self) -> bool
+        ensures none { (value : Tree) (simple : Simple) → StandsFor self.now (value_events value) → depth value < 2 ^ 64 → IsTrue result →
+            coordinates_kept simple value ≡ no_warnings }
+    {
+        if self.depth.is_whole() {
+            self.walk.gather.positions_warned.is_nothing()
+        } else {
+            walk::is_quiet(&self.walk)
+        }
     }
 
     /// Adds these warnings to others. Mostly there are none, and then it does nothing.
@@ -146,6 +207,10 @@ impl Coordinates {
         ensures kept { (value : Tree) → StandsFor self.now (value_events value) → depth value < 2 ^ 64 →
             all_in warned.new ≡ joined (all_in warned.old) (coordinates_kept simple value) }
     {
-        walk::warn(&self.walk, simple, warned);
+        if self.depth.is_whole() {
+            warned.take(&self.walk.gather.held_warned(simple));
+        } else {
+            walk::warn(&self.walk, simple, warned);
+        }
     }
 }

@@ -21,6 +21,24 @@ pub enum Depth {
     First,
     Second,
     Third,
+    /// In none: the value is a position that was told as one. Of what the walk then gathers only the least fault as
+    /// positions is held, which is that of each type but `Point`, and as its warnings those for `Point`.
+    Whole,
+}
+
+impl Depth {
+    ghost use Rattle.gj_coords.specs.Steady.{is_whole};
+
+    /// Whether the value is a position that was told as one.
+    #[inline(always)]
+    pub fn is_whole(&self) -> bool
+        ensures { result ≡ is_whole self.now }
+    {
+        match self {
+            Depth::Whole => true,
+            _ => false,
+        }
+    }
 }
 
 fn is_fault_by(floor: u64, fault: &Option<Fault>) -> bool

@@ -9,6 +9,7 @@ use crate::ring::RingRole;
 use crate::second_level::{SecondLevel, SecondReader};
 use crate::several::line_fault;
 use crate::simple::Simple;
+use crate::simple_faults::SimpleFaults;
 use crate::warned::Warned;
 use gj_json::{Event, Flat};
 
@@ -38,8 +39,9 @@ pub enum FirstSummary {
 
 impl FirstLevel {
     ghost use Rattle.std.specs.Prelude.{◌≡◌};
-    ghost use Rattle.gj_coords.specs.FlatPosition.{flat_second, flat_first};
-    ghost use Rattle.gj_coords.specs.Walk.{second_gathering, first_gathering, fault_in, some_fault_in, warned_in, some_warned_in, point_warned_in};
+    ghost use Rattle.gj_coords.specs.FlatPosition.{flat_second, flat_held, held_fault, held_warned};
+    ghost use Rattle.gj_coords.specs.SimpleFaults.{by_simple};
+    ghost use Rattle.gj_coords.specs.Walk.{second_gathering, first_gathering, fault_in, some_fault_in, warned_in, some_warned_in, point_warned_in, some_quiet_in, quiet_in};
     ghost use Rattle.gj_coords.specs.Warned.{taken};
 
     /// Adds an element that is an array, by what it gathered.
@@ -78,20 +80,49 @@ impl FirstLevel {
         join_fault(&mut self.polygons, misshapen);
     }
 
-    /// Begins anew, and gathers the numbers of a position told as one.
-    pub fn set_flat(&mut self, position: &Flat)
-        ensures { self.new ≡ flat_first position.now }
+    /// Holds of a position told as one, which is the whole value, its least fault as positions and its own warnings.
+    #[inline]
+    pub fn hold_flat(&mut self, position: &Flat)
+        ensures { self.new ≡ flat_held position.now self.old }
     {
-        let misshapen = flat::misshapen_numbers(position);
-        self.numbers = flat::numbers(position);
+        self.positions = flat::misshapen_numbers(position);
         self.positions_warned.clear();
-        self.lines_warned.clear();
-        self.rings_warned.clear();
-        self.polygons_warned.clear();
-        self.positions = misshapen;
-        self.lines = misshapen;
-        self.rings = misshapen;
-        self.polygons = misshapen;
+        flat::warn_quick(position, &mut self.positions_warned);
+    }
+
+    /// The least fault of such a value for a type.
+    #[inline]
+    pub fn held_fault(&self, simple: Simple) -> Option<Fault>
+        ensures { result ≡ held_fault simple self.now.positions }
+    {
+        match simple {
+            Simple::Point => None,
+            _ => self.positions,
+        }
+    }
+
+    /// The least fault of such a value for each type.
+    #[inline]
+    pub fn held_faults(&self, faults: &mut SimpleFaults)
+        ensures { faults.new ≡ by_simple (λ simple. held_fault simple self.now.positions) }
+    {
+        faults.point = None;
+        faults.multi_point = self.positions;
+        faults.line_string = self.positions;
+        faults.multi_line_string = self.positions;
+        faults.polygon = self.positions;
+        faults.multi_polygon = self.positions;
+    }
+
+    /// What is worth a warning in such a value for a type.
+    #[inline]
+    pub fn held_warned(&self, simple: Simple) -> Warned
+        ensures { result ≡ held_warned simple self.now.positions_warned }
+    {
+        match simple {
+            Simple::Point => self.positions_warned,
+            _ => Warned::none(),
+        }
     }
 
     /// Adds an element that is no array, by its first event.
@@ -103,6 +134,45 @@ impl FirstLevel {
         join_fault(&mut self.lines, misshapen(head.place));
         join_fault(&mut self.rings, misshapen(head.place));
         join_fault(&mut self.polygons, misshapen(head.place));
+    }
+
+    /// The least fault for each type.
+    #[inline]
+    pub fn faults(&self, faults: &mut SimpleFaults)
+        ensures { faults.new ≡ by_simple (λ simple. fault_in simple self.now) }
+    {
+        if self.numbers.tally.count == 0 {
+            *faults = SimpleFaults::all(None);
+        } else {
+            faults.point = self.numbers.least_fault();
+            faults.multi_point = self.positions;
+            faults.line_string = line_fault(&self.numbers.tally, self.positions);
+            faults.multi_line_string = self.lines;
+            faults.polygon = self.rings;
+            faults.multi_polygon = self.polygons;
+        }
+    }
+
+    /// Whether a few looks show that there is nothing worth a warning for any type.
+    #[inline]
+    pub fn is_quiet(&self) -> bool
+        ensures { result ≡ quiet_in self.now }
+    {
+        if self.numbers.tally.count == 0 {
+            false
+        } else {
+            self.is_some_quiet()
+        }
+    }
+
+    /// The same of an array that is not empty.
+    #[inline]
+    fn is_some_quiet(&self) -> bool
+        ensures { result ≡ some_quiet_in self.now }
+    {
+        let rings = self.rings_warned.is_nothing() && self.polygons_warned.is_nothing();
+        let lines = self.positions_warned.is_nothing() && (self.lines_warned.is_nothing() && rings);
+        self.numbers.fault.is_some() && lines
     }
 
     /// The least fault for a type.

@@ -4,13 +4,12 @@ ghost use Rattle.gj_number.specs.Short.{exact_of};
 ghost use Rattle.gj_coords.specs.CoordinateWarnings.{is_precise};
 ghost use Rattle.gj_coords.specs.Position.{position_noted, sound_noted};
 ghost use Rattle.gj_coords.specs.Winding.{corner_of};
-ghost use Rattle.gj_coords.specs.FlatPosition.{flat_values, flat_position, flat_numbers, flat_precise, number_precise, flat_count, least_place, flat_misshapen, flat_ring};
+ghost use Rattle.gj_coords.specs.FlatPosition.{flat_values, flat_position, flat_precise, number_precise, flat_count, least_place, flat_misshapen, flat_ring};
 
 use crate::fault::{Fault, Rule};
 use crate::noted::Noted;
-use crate::position::{MOST_PLACES, Numbers, Values, misshapen};
+use crate::position::{MOST_PLACES, Values, misshapen};
 use crate::position_warned::note_position;
-use crate::tally::Tally;
 use crate::warned::Warned;
 use crate::winding::Corner;
 use gj_json::{Flat, Numbered};
@@ -72,23 +71,6 @@ fn precise(flat: &Flat) -> Noted
     match &flat.third {
         Some(number) => precise_with(noted, number),
         None => noted,
-    }
-}
-
-/// What a value gathers of them as a position.
-pub fn numbers(flat: &Flat) -> Numbers
-    ensures { result ≡ flat_numbers flat.now }
-{
-    let values = values(flat);
-    let tally = Tally {
-        place: flat.place,
-        count: values.count,
-    };
-    Numbers {
-        values,
-        tally,
-        fault: None,
-        precise: precise(flat),
     }
 }
 

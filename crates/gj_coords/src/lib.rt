@@ -27,6 +27,7 @@ mod sample;
 mod second_level;
 mod several;
 mod simple;
+mod simple_faults;
 mod tally;
 mod third_level;
 mod walk;
@@ -41,6 +42,7 @@ pub use coordinates::Coordinates;
 pub use fault::{Fault, Rule, lesser_fault};
 pub use kind::Kind;
 pub use simple::Simple;
+pub use simple_faults::SimpleFaults;
 pub use warned::Warned;
 pub use warnings::Warnings;
 pub use watcher::{

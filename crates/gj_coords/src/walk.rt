@@ -4,7 +4,8 @@
 //! elements as positions, lines, linear rings and polygons; theirs as positions and linear rings; and theirs as positions.
 ghost use Rattle.std.specs.Prelude.{◌≡◌};
 ghost use Rattle.gj_coords.specs.Warned.{all_in, taken};
-ghost use Rattle.gj_coords.specs.Walk.{walk_machine, fault_as, warned_as};
+ghost use Rattle.gj_coords.specs.SimpleFaults.{by_simple};
+ghost use Rattle.gj_coords.specs.Walk.{walk_machine, fault_as, warned_as, quiet_as};
 ghost use Rattle.gj_json.specs.Flat.{number_event};
 ghost use Rattle.gj_coords.specs.Sent.{event_at};
 ghost use Rattle.gj_coords.specs.FlatPosition.{flat_taken, singly, in_second, second_due, third_due, in_third, in_fourth};
@@ -16,6 +17,7 @@ use crate::part::Part;
 use crate::position::misshapen;
 use crate::second_level::SecondReader;
 use crate::simple::Simple;
+use crate::simple_faults::SimpleFaults;
 use crate::warned::Warned;
 use crate::warnings::Warnings;
 use gj_json::{Event, Flat, Numbered, What};
@@ -30,6 +32,28 @@ pub fn least_fault(walk: &Walk, simple: Simple) -> Option<Fault>
     match walk.stage {
         Stage::Broken => misshapen(walk.other.first.place),
         _ => walk.gather.fault(simple),
+    }
+}
+
+/// The same for each type.
+#[inline]
+pub fn least_faults(walk: &Walk, faults: &mut SimpleFaults)
+    ensures { faults.new ≡ by_simple (λ simple. fault_as simple (walk_machine.answered walk.now)) }
+{
+    match walk.stage {
+        Stage::Broken => *faults = SimpleFaults::all(misshapen(walk.other.first.place)),
+        _ => walk.gather.faults(faults),
+    }
+}
+
+/// Whether a few looks show that there is nothing worth a warning in the value that was read, for any type.
+#[inline]
+pub fn is_quiet(walk: &Walk) -> bool
+    ensures { result ≡ quiet_as (walk_machine.answered walk.now) }
+{
+    match walk.stage {
+        Stage::Broken => false,
+        _ => walk.gather.is_quiet(),
     }
 }
 
@@ -60,10 +84,6 @@ pub fn take_flat(walk: &mut Walk, flat: &Flat)
     match walk.stage {
         Stage::Within => take_within(walk, flat),
         Stage::Between => take_element(walk, flat),
-        Stage::Due => {
-            walk.gather.set_flat(flat);
-            walk.stage = Stage::Done;
-        }
         _ => take_singly(walk, flat),
     }
 }

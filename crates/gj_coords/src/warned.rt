@@ -11,7 +11,7 @@ pub struct Warned {
 }
 
 impl Warned {
-    ghost use Rattle.std.specs.Prelude.{◌≡◌};
+    ghost use Rattle.std.specs.Prelude.{◌≡◌, is_none, IsTrue};
     ghost use Rattle.gj_coords.specs.declared.kind.Kind.TheVariants.{W4};
     ghost use Rattle.gj_coords.specs.Noted.{joined, added, no_warnings, none_in};
     ghost use Rattle.gj_coords.specs.Warned.{no_warned, all_in, noted_in, all_noted_in, taken_all, taken};
@@ -33,13 +33,33 @@ impl Warned {
         }
     }
 
-    /// Forgets them all.
-    #[inline]
+    /// Forgets them all. Mostly there is nothing to write.
+    #[tactic(auto, using(crate::proofs::HeldLaws::is_no_warned))]
+    #[inline(always)]
     pub fn clear(&mut self)
         ensures exact { self.new ≡ no_warned }
         ensures none { all_in self.new ≡ no_warnings }
     {
+        if !self.is_nothing() {
+            self.forget();
+        }
+    }
+
+    #[inline(never)]
+    fn forget(&mut self)
+        ensures exact { self.new ≡ no_warned }
+        ensures none { all_in self.new ≡ no_warnings }
+    {
         self.warnings = None;
+    }
+
+    /// Whether it is nothing, as mostly it is. If not, it may still have no warning.
+    #[inline(always)]
+    pub fn is_nothing(&self) -> bool
+        ensures exact { result ≡ is_none self.now.warnings }
+        ensures none { IsTrue result → all_in self.now ≡ no_warnings }
+    {
+        self.warnings.is_none()
     }
 
     /// Whether there is no warning of any kind.

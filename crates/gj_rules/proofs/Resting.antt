@@ -9,7 +9,7 @@ use Rattle.gj_rules.specs.declared.mode.Mode.{Mode}
 use Rattle.gj_rules.specs.declared.mode.Mode.TheVariants.{RootDue, Names, Due, Elements, Done}
 use Rattle.gj_rules.specs.declared.rules.Rules.{Rules}
 use Rattle.gj_rules.specs.Kept.{core_of, top_of, Holds, HoldsIn}
-use Rattle.gj_rules.specs.Step.{Core, core_step, is_feeding, skip}
+use Rattle.gj_rules.specs.Step.{Core, names_step, core_step, is_feeding, skip}
 
 holds : (k : ℕ) (m : Mode) (c : C.Coordinates) (b : B.Bbox) → is_feeding 0 m ≡ false → HoldsIn k m c b []
 holds (suc k) m c b e = tt
@@ -33,3 +33,14 @@ skip_at (suc k) what place m f o a s e h = rw e refl
 pub skips : (rules : Rules) (what : What) (place : ℕ) → 0 < rules.skipped
     → record (core_of rules) { skipped = skip what rules.skipped } ≡ core_step (record { place = place; what = what }) (core_of rules)
 skips rules what place h = skip_at rules.skipped what place rules.mode (top_of rules) (core_of rules).outer (core_of rules).answer (core_of rules) refl h
+
+-- where a name or the end of an object is due
+named_at : (k : ℕ) (m : Mode) (what : What) (place : ℕ) (f : Frame) (o : List Frame) (a : Found) (s : Core)
+    → s ≡ record { skipped = k; mode = m; top = f; outer = o; answer = a } → k ≡ 0 → m ≡ Names
+    → names_step what place s ≡ core_step (record { place = place; what = what }) s
+named_at k m what place f o a s e p q = rw (e, p, q) refl
+
+pub names : (rules : Rules) (what : What) (place : ℕ) → rules.skipped ≡ 0 → rules.mode ≡ Names
+    → names_step what place (core_of rules) ≡ core_step (record { place = place; what = what }) (core_of rules)
+names rules what place p q =
+    named_at rules.skipped rules.mode what place (top_of rules) (core_of rules).outer (core_of rules).answer (core_of rules) refl p q

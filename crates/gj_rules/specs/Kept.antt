@@ -16,6 +16,7 @@ use Rattle.gj_rules.specs.declared.mode.Mode.TheVariants.{RootDue, Due, Done}
 use Rattle.gj_rules.specs.declared.role.Role.{Role}
 use Rattle.gj_rules.specs.declared.rules.Rules.{Rules}
 use Rattle.gj_rules.specs.declared.rules.TheConstants.{MOST_AROUND}
+use Rattle.gj_coords.specs.SimpleFaults.{by_simple}
 use Rattle.gj_rules.specs.Levels.{most_levels}
 use Rattle.gj_rules.specs.Step.{Core, State, ended}
 use Rattle.gj_rules.specs.Summaries.{StandsForCoordinates, StandsForBbox}
@@ -29,12 +30,12 @@ no_frame = record {
     repeated = None;
     type_value = None;
     shapes = record {
-      point = record { fault = None; warned = no_warned };
-      multi_point = record { fault = None; warned = no_warned };
-      line_string = None;
-      multi_line_string = record { fault = None; warned = no_warned };
-      polygon = record { fault = None; warned = no_warned };
-      multi_polygon = record { fault = None; warned = no_warned };
+      faults = by_simple (λ simple. None);
+      point = no_warned;
+      multi_point = no_warned;
+      multi_line_string = no_warned;
+      polygon = no_warned;
+      multi_polygon = no_warned;
     };
     shaped = false;
     present = none_present;

@@ -4,6 +4,8 @@ use Rattle.std.specs.Prelude.{ℕ, Bool, true, false, Option, Some, None}
 use Rattle.gj_coords.specs.declared.fault.Fault.{Fault}
 use Rattle.gj_coords.specs.declared.fault.Rule.TheVariants.{G10}
 use Rattle.gj_coords.specs.Fault.{fault_at}
+use Rattle.gj_coords.specs.declared.simple.Simple.{Simple}
+use Rattle.gj_coords.specs.declared.simple_faults.SimpleFaults.{SimpleFaults}
 use Rattle.gj_coords.specs.declared.warned.Warned.{Warned}
 use Rattle.gj_coords.specs.declared.warnings.Warnings.{Warnings}
 use Rattle.gj_coords.specs.Noted.{no_warnings}
@@ -22,15 +24,27 @@ use Rattle.gj_rules.specs.Summaries.{no_shapes}
 abbrev pub found_in : D.Found → Found
 found_in x = record { fault = x.fault; warned = all_in x.warned }
 
-abbrev pub shapes_in : DS.Shapes → Shapes
-shapes_in x = record {
-  point = found_in x.point;
-  multi_point = found_in x.multi_point;
-  line_string = x.line_string;
-  multi_line_string = found_in x.multi_line_string;
-  polygon = found_in x.polygon;
-  multi_polygon = found_in x.multi_polygon;
+-- by the faults and the warnings for each type
+abbrev pub shapes_by : SimpleFaults → (Simple → Warnings) → Shapes
+shapes_by faults warned = record {
+  point = record { fault = faults.point; warned = warned Simple.Point };
+  multi_point = record { fault = faults.multi_point; warned = warned Simple.MultiPoint };
+  line_string = faults.line_string;
+  multi_line_string = record { fault = faults.multi_line_string; warned = warned Simple.MultiLineString };
+  polygon = record { fault = faults.polygon; warned = warned Simple.Polygon };
+  multi_polygon = record { fault = faults.multi_polygon; warned = warned Simple.MultiPolygon };
 }
+
+abbrev pub warned_in : DS.Shapes → Simple → Warnings
+warned_in x Simple.Point = all_in x.point
+warned_in x Simple.MultiPoint = all_in x.multi_point
+warned_in x Simple.LineString = all_in x.multi_point
+warned_in x Simple.MultiLineString = all_in x.multi_line_string
+warned_in x Simple.Polygon = all_in x.polygon
+warned_in x Simple.MultiPolygon = all_in x.multi_polygon
+
+abbrev pub shapes_in : DS.Shapes → Shapes
+shapes_in x = shapes_by x.faults (warned_in x)
 
 -- those that were set
 abbrev pub shapes_if : Bool → DS.Shapes → Shapes

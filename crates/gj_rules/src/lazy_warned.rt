@@ -52,8 +52,19 @@ impl LazyWarned {
         self.warned.note(kind, place);
     }
 
-    /// Takes the warnings of another.
+    /// Takes the warnings of another. Mostly there are none.
+    #[tactic(auto, using(crate::proofs::WarnedInTurn::with_none))]
+    #[inline]
     pub fn take(&mut self, other: &Warned)
+        ensures { counted_in self.new ≡ joined (counted_in self.old) (all_in other.now) }
+    {
+        if !other.is_nothing() {
+            self.take_some(other);
+        }
+    }
+
+    #[inline(never)]
+    fn take_some(&mut self, other: &Warned)
         ensures { counted_in self.new ≡ joined (counted_in self.old) (all_in other.now) }
     {
         self.begin();

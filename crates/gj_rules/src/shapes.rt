@@ -1,67 +1,87 @@
 ghost use Rattle.std.specs.Prelude.{◌≡◌, ◌≤◌};
+ghost use Rattle.gj_json.specs.Tree.{Tree, depth};
+ghost use Rattle.gj_json.specs.Events.{value_events};
+ghost use Rattle.gj_coords.specs.CoordinatesKept.{coordinates_kept};
+ghost use Rattle.gj_coords.specs.Warned.{all_in};
+ghost use Rattle.gj_rules.specs.Levels.{most_levels};
+ghost use Rattle.gj_rules.specs.Read.{shapes_by};
+ghost use Rattle.gj_rules.specs.Summaries.{StandsForCoordinates};
 
-use crate::found::Found;
-use gj_coords::{Coordinates, Fault, Simple, Warned};
+use gj_coords::{Coordinates, Fault, Simple, SimpleFaults, Warned};
 
 /// What is found in a `coordinates` value for each of the six simple types.
 ///
 /// A LineString has the warnings of a MultiPoint: those of each position.
 #[derive(Clone, Copy)]
 pub struct Shapes {
-    pub point: Found,
-    pub multi_point: Found,
-    pub line_string: Option<Fault>,
-    pub multi_line_string: Found,
-    pub polygon: Found,
-    pub multi_polygon: Found,
+    pub faults: SimpleFaults,
+    /// The warnings. Mostly there are none.
+    pub point: Warned,
+    pub multi_point: Warned,
+    pub multi_line_string: Warned,
+    pub polygon: Warned,
+    pub multi_polygon: Warned,
+}
+
+/// Sets the warnings of the value whose events the summary took, as the coordinates of this type.
+#[tactic(auto, using(crate::proofs::WarnedInTurn::to_none))]
+fn set_warned(warned: &mut Warned, summary: &Coordinates, simple: Simple)
+    ensures { (value : Tree) → depth value ≤ most_levels → StandsForCoordinates summary.now (value_events value) → all_in warned.new ≡ coordinates_kept simple value }
+{
+    warned.clear();
+    summary.warn(simple, warned);
 }
 
 impl Shapes {
-    ghost use Rattle.gj_json.specs.Tree.{Tree, depth};
-    ghost use Rattle.gj_json.specs.Events.{value_events};
-    ghost use Rattle.gj_rules.specs.Levels.{most_levels};
-    ghost use Rattle.gj_coords.specs.Warned.{all_in};
     ghost use Rattle.gj_rules.specs.Read.{shapes_in};
-    ghost use Rattle.gj_rules.specs.Summaries.{StandsForCoordinates, no_shapes, shape_for, warned_for, shapes_of};
+    ghost use Rattle.gj_rules.specs.Summaries.{no_shapes, shape_for, warned_for, shapes_of};
 
     /// Of no value.
     pub fn none() -> Self
         ensures { shapes_in result ≡ no_shapes }
     {
-        let none = Found::none();
+        let none = Warned::none();
         Shapes {
+            faults: SimpleFaults::all(None),
             point: none,
             multi_point: none,
-            line_string: None,
             multi_line_string: none,
             polygon: none,
             multi_polygon: none,
         }
     }
 
-    /// Forgets all.
-    #[inline]
-    pub fn clear(&mut self)
-        ensures { shapes_in self.new ≡ no_shapes }
-    {
-        self.point.clear();
-        self.multi_point.clear();
-        self.line_string = None;
-        self.multi_line_string.clear();
-        self.polygon.clear();
-        self.multi_polygon.clear();
-    }
-
     /// Sets what is found in the value whose events the summary took.
+    #[inline]
     pub fn set(&mut self, summary: &Coordinates)
         ensures { (value : Tree) → depth value ≤ most_levels → StandsForCoordinates summary.now (value_events value) → shapes_in self.new ≡ shapes_of value }
     {
-        self.point.set(summary, Simple::Point);
-        self.multi_point.set(summary, Simple::MultiPoint);
-        self.line_string = summary.fault(Simple::LineString);
-        self.multi_line_string.set(summary, Simple::MultiLineString);
-        self.polygon.set(summary, Simple::Polygon);
-        self.multi_polygon.set(summary, Simple::MultiPolygon);
+        summary.faults(&mut self.faults);
+        if summary.is_quiet() {
+            self.point.clear();
+            self.multi_point.clear();
+            self.multi_line_string.clear();
+            self.polygon.clear();
+            self.multi_polygon.clear();
+        } else {
+            self.set_all_warned(summary);
+        }
+    }
+
+    /// Sets all its warnings.
+    #[inline(never)]
+    fn set_all_warned(&mut self, summary: &Coordinates)
+        ensures { (value : Tree) → depth value ≤ most_levels → StandsForCoordinates summary.now (value_events value) → shapes_in self.new ≡ shapes_by self.old.faults (λ simple. coordinates_kept simple value) }
+    {
+        set_warned(&mut self.point, summary, Simple::Point);
+        set_warned(&mut self.multi_point, summary, Simple::MultiPoint);
+        set_warned(
+            &mut self.multi_line_string,
+            summary,
+            Simple::MultiLineString,
+        );
+        set_warned(&mut self.polygon, summary, Simple::Polygon);
+        set_warned(&mut self.multi_polygon, summary, Simple::MultiPolygon);
     }
 
     /// The fault for one type.
@@ -69,12 +89,12 @@ impl Shapes {
         ensures { result ≡ shape_for simple (shapes_in self.now) }
     {
         match simple {
-            Simple::Point => self.point.fault,
-            Simple::MultiPoint => self.multi_point.fault,
-            Simple::LineString => self.line_string,
-            Simple::MultiLineString => self.multi_line_string.fault,
-            Simple::Polygon => self.polygon.fault,
-            Simple::MultiPolygon => self.multi_polygon.fault,
+            Simple::Point => self.faults.point,
+            Simple::MultiPoint => self.faults.multi_point,
+            Simple::LineString => self.faults.line_string,
+            Simple::MultiLineString => self.faults.multi_line_string,
+            Simple::Polygon => self.faults.polygon,
+            Simple::MultiPolygon => self.faults.multi_polygon,
         }
     }
 
@@ -83,11 +103,11 @@ impl Shapes {
         ensures { all_in result.now ≡ warned_for simple (shapes_in self.now) }
     {
         match simple {
-            Simple::Point => &self.point.warned,
-            Simple::MultiPoint | Simple::LineString => &self.multi_point.warned,
-            Simple::MultiLineString => &self.multi_line_string.warned,
-            Simple::Polygon => &self.polygon.warned,
-            Simple::MultiPolygon => &self.multi_polygon.warned,
+            Simple::Point => &self.point,
+            Simple::MultiPoint | Simple::LineString => &self.multi_point,
+            Simple::MultiLineString => &self.multi_line_string,
+            Simple::Polygon => &self.polygon,
+            Simple::MultiPolygon => &self.multi_polygon,
         }
     }
 }

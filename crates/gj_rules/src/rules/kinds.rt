@@ -1,9 +1,10 @@
 //! An event by its kind. In each of these functions the kind is known, so that only what it asks for is looked at.
-ghost use Rattle.std.specs.Prelude.{◌≡◌, ◌++◌, ◌∷◌, [], List};
+ghost use Rattle.std.specs.Prelude.{◌≡◌, ◌++◌, ◌∷◌, [], List, IsTrue};
 ghost use Rattle.gj_json.specs.declared.event.Event.{Event};
 ghost use Rattle.gj_json.specs.declared.event.What.TheVariants as W;
 
 use super::Rules;
+use crate::mode::Mode;
 use gj_json::{Event, Known, What, Word};
 
 impl Rules {
@@ -20,8 +21,35 @@ impl Rules {
         }
     }
 
+    /// Whether a name or the end of an object with a role is due.
+    #[inline(always)]
+    fn is_at_names(&self) -> bool
+        ensures skipped { IsTrue result → self.now.skipped ≡ 0 }
+        ensures mode { IsTrue result → self.now.mode ≡ Mode.Names }
+    {
+        if self.skipped > 0 {
+            return false;
+        }
+        match self.mode {
+            Mode::Names => true,
+            _ => false,
+        }
+    }
+
+    /// A name. Mostly it is one of an object with a role.
     #[inline(never)]
     pub(super) fn tell_name(&mut self, name: Known, place: u64)
+        ensures { (events : List Event) → StandsFor self.old events → StandsFor self.new (events ++ record { place = place; what = W.Name name } ∷ []) }
+    {
+        if self.is_at_names() {
+            self.names(What::Name(name), place);
+        } else {
+            self.tell_inner_name(name, place);
+        }
+    }
+
+    #[inline(never)]
+    fn tell_inner_name(&mut self, name: Known, place: u64)
         ensures { (events : List Event) → StandsFor self.old events → StandsFor self.new (events ++ record { place = place; what = W.Name name } ∷ []) }
     {
         self.tell_what(What::Name(name), place);
@@ -41,8 +69,20 @@ impl Rules {
         self.tell_what(What::OpenObject, place);
     }
 
+    /// The end of an object. Mostly it is one with a role.
     #[inline(never)]
     pub(super) fn tell_close_object(&mut self, place: u64)
+        ensures { (events : List Event) → StandsFor self.old events → StandsFor self.new (events ++ record { place = place; what = W.CloseObject } ∷ []) }
+    {
+        if self.is_at_names() {
+            self.names(What::CloseObject, place);
+        } else {
+            self.tell_inner_close(place);
+        }
+    }
+
+    #[inline(never)]
+    fn tell_inner_close(&mut self, place: u64)
         ensures { (events : List Event) → StandsFor self.old events → StandsFor self.new (events ++ record { place = place; what = W.CloseObject } ∷ []) }
     {
         self.tell_what(What::CloseObject, place);

@@ -2,6 +2,7 @@
 use crate::coordinates::Coordinates;
 use crate::coordinates::tests::both::{Both, Row, SIX, WarnedRow};
 use crate::sample::tell;
+use crate::simple_faults::SimpleFaults;
 use crate::warnings::Warnings;
 use gj_json::{Event, EventSink, Flat};
 use std::process::Abort;
@@ -26,6 +27,25 @@ impl Grouped {
         assert!(rt; self.walk.done(), "done");
         assert!(rt; self.faults() == both.by_walk(), "the faults");
         assert!(rt; self.warnings() == both.warned_by_walk(), "the warnings");
+    }
+
+    /// Sees that the six types' faults at once are those one by one, and that it is quiet only where there is no warning.
+    fn expect_at_once(&self, rt: &impl Abort, text: &str) {
+        let mut at_once = SimpleFaults::all(None);
+        self.walk.faults(&mut at_once);
+        let row = [
+            at_once.point,
+            at_once.multi_point,
+            at_once.line_string,
+            at_once.multi_line_string,
+            at_once.polygon,
+            at_once.multi_polygon,
+        ];
+        assert!(rt; row == self.faults(), "{text}: the faults at once");
+        assert!(rt;
+            !self.walk.is_quiet() || self.warnings() == [Warnings::none(); 6],
+            "{text}: quiet"
+        );
     }
 
     fn faults(&self) -> Row {
@@ -88,6 +108,63 @@ fn expect_same(rt: &impl Abort, text: &str, flats: u64) {
         grouped.warnings() == both.warned_by_walk(),
         "{text}: the warnings"
     );
+    grouped.expect_at_once(rt, text);
+}
+
+/// The value of the object's one member, which the reader tells as one, and the same value event by event at its place.
+fn expect_whole(rt: &impl Abort, object: &str, value: &str) {
+    let mut both = Both::new();
+    tell(value.as_bytes(), &mut both);
+    let mut only = OnlyFlats {
+        grouped: Grouped::new(),
+    };
+    let mut piece = [b' '; 512];
+    for (to, from) in piece.iter_mut().zip(object.as_bytes()) {
+        *to = *from;
+    }
+    tell(&piece, &mut only);
+    assert!(rt; only.grouped.flats == 1, "{object}: told as one");
+    only.grouped.expect_as(rt, &both);
+    only.grouped.expect_at_once(rt, object);
+}
+
+/// Takes only what the reader tells as one.
+#[derive(Drop)]
+struct OnlyFlats {
+    grouped: Grouped,
+}
+
+impl EventSink for OnlyFlats {
+    ghost heard = { λ only events. Unit {0} };
+
+    fn tell(&mut self, _event: Event) {}
+
+    fn tell_flat(&mut self, flat: &Flat) {
+        self.grouped.tell_flat(flat);
+    }
+
+    fn ignored(&self) -> u8 {
+        0
+    }
+
+    fn pass(&mut self, _left: u8) {}
+}
+
+#[test]
+fn a_position_is_the_value(rt: HostRuntime) {
+    let rows = [
+        ("{\"a\":[1,2]}", "     [1,2] "),
+        ("{\"a\":[1,2,3]}", "     [1,2,3] "),
+        ("{\"a\":[-180.0,90]}", "     [-180.0,90] "),
+        (
+            "{\"a\":[180.00000001,2,3.123456789]}",
+            "     [180.00000001,2,3.123456789] ",
+        ),
+        ("{\"a\":[1.12345678,90.5]}", "     [1.12345678,90.5] "),
+    ];
+    for (object, value) in rows {
+        expect_whole(&rt, object, value);
+    }
 }
 
 fn expect_rows(rt: &impl Abort, rows: &[(&'static str, u64)]) {

@@ -2,4 +2,4 @@ use Rattle.gj_coords.proofs.CoordinatesLaws.{walk_ready}
 use Rattle.gj_coords.proofs.coordinates.Coordinates.again.Goals as goal
 
 pub returns : goal.returns
-returns c = record { stands = record { reads_on = walk_ready _ c.restart.ensures; steady = tt } }
+returns c = record { stands = record { holds = walk_ready _ c.restart.ensures } }

@@ -1,7 +1,9 @@
-use Rattle.gj_coords.proofs.CoordinatesLaws.{walk_ends}
+use Rattle.gj_coords.proofs.CoordinatesLaws.{holds_ended}
 use Rattle.gj_coords.proofs.coordinates.Coordinates.done.Goals as goal
 
 pub returns : goal.returns
 returns c = record {
-  at_the_end = λ value events rest stands joined room. rw c.done.ensures (walk_ends c.args.self.now value events rest stands joined room);
+  at_the_end = λ value events rest stands joined room.
+      let s = c.args.self.now in
+      rw c.done.ensures (holds_ended s.depth s.floor value events rest s.walk stands.holds joined room);
 }

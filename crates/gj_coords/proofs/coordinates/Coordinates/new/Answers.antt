@@ -3,4 +3,4 @@ use Rattle.gj_coords.proofs.CoordinatesLaws.{walk_answers, walk_ready}
 use Rattle.gj_coords.proofs.coordinates.Coordinates.new.Goals as goal
 
 pub returns : goal.returns
-returns c = record { stands = record { reads_on = rw c.new.ensures (walk_ready walk_machine.start walk_answers.ready); steady = tt } }
+returns c = record { stands = record { holds = rw c.new.ensures (walk_ready walk_machine.start walk_answers.ready) } }

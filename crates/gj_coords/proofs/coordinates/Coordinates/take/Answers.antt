@@ -1,8 +1,12 @@
-use Rattle.gj_coords.proofs.CoordinatesLaws.{walk_more}
+use Rattle.std.proofs.Common.{[]}
+use Rattle.gj_coords.proofs.CoordinatesLaws.{holds_more, walk_more}
 use Rattle.gj_coords.proofs.coordinates.Coordinates.take.Goals as goal
 
 pub returns : goal.returns
 returns c = record {
   stands = λ events stands.
-      record { reads_on = rw c.event.ensures (walk_more c.args.self.now.walk events c.args.event.now stands.reads_on); steady = tt };
+      let s = c.args.self.now in
+      record {
+        holds = rw c.event.ensures (holds_more s.depth s.floor events c.args.event.now [] s.walk _ stands.holds (walk_more s.walk events c.args.event.now));
+      };
 }
