@@ -1,4 +1,5 @@
 ghost use Rattle.std.specs.Prelude.{◌≡◌, ℕ, ◌<◌, ◌≤◌, [], List, true, false};
+ghost use Rattle.gj_rules.specs.declared.rules.TheConstants.{MOST_AROUND};
 
 mod doomed;
 mod flats;
@@ -12,11 +13,11 @@ use crate::frame::Frame;
 use crate::mode::Mode;
 use crate::role::Role;
 use gj_coords::{Bbox, Coordinates, Fault, Warned, Warnings};
-use gj_json::{Event, EventSink, Flat, Known, What};
+use gj_json::{Event, EventSink, Flat, Known, MOST_LEVELS, What};
 use std::mem::size_of;
 
-/// How many objects with a role can be open around the innermost one, at 64 levels.
-const MOST_AROUND: usize = 32;
+/// How many objects with a role can be open around the innermost one: at most one for each two levels.
+const MOST_AROUND: usize = MOST_LEVELS as usize / 2;
 
 /// Finds the least fault and the warnings of a text from its events, in whatever order the members
 /// stand.
@@ -28,15 +29,15 @@ pub struct Rules {
     /// The frames of the open objects with a role, the outermost first: up to that of the innermost one.
     frames: [Frame; MOST_AROUND + 1],
     /// How many are open around the innermost one. Its frame is the one at this index.
-    around: u8,
+    around: u16,
     coordinates: Coordinates,
     bbox: Bbox,
     /// What is found in the text, once it has ended, and until then the warning of a byte order mark.
     answer: Found,
     mode: Mode,
     /// How many levels of a value are open that is not looked into.
-    skipped: u8,
-    ghost fits: { around ≤ 32 },
+    skipped: u16,
+    ghost fits: { around ≤ MOST_AROUND },
 }
 
 // The frames lie in it from the start.
@@ -113,13 +114,13 @@ impl Rules {
     }
 
     /// In a front of a text the number of open objects with a role, which is that of the frames in use.
-    pub fn judged(&self) -> u8
+    pub fn judged(&self) -> u16
         ensures { (text : Text) (bytes : List ℕ) (n : ℕ) → IsText text bytes → depth text.value ≤ most_levels → StandsFor self.now (events_by n text) → result ≡ judged_at n text }
     {
         self.frames()
     }
 
-    fn frames(&self) -> u8
+    fn frames(&self) -> u16
         ensures { result ≡ frames_by self.now.mode (core_of self.now).outer }
     {
         match self.mode {
@@ -294,11 +295,11 @@ impl EventSink for Rules {
         }
     }
 
-    fn ignored(&self) -> u8 {
+    fn ignored(&self) -> u16 {
         self.skipped
     }
 
-    fn pass(&mut self, left: u8) {
+    fn pass(&mut self, left: u16) {
         self.skipped = left;
         self.renew();
     }

@@ -15,7 +15,7 @@ impl Rules {
     ghost use Rattle.gj_rules.specs.Step.{skip, pushed, popped, root_step, names_step, due_step, begun, element_step, is_feeding};
     ghost use Rattle.gj_rules.specs.Kept.{core_of, HasRoom, Holds};
 
-    /// An object with a role opens. A text of at most 64 levels has at most 33 of them open at once.
+    /// An object with a role opens. A text within the limits has at most [`MOST_AROUND`] of them open around it.
     #[inline(never)]
     fn push(&mut self, role: Role, place: u64)
         ensures rests { is_feeding 0 self.new.mode ≡ false }

@@ -1,5 +1,5 @@
 -- A number and the byte after it.
-use Rattle.std.proofs.Common.{◌≡◌, get_or, sym, ap, ◌∙◌, append_assoc, arith}
+use Rattle.std.proofs.Common.{◌≡◌, get_or, sym, ap, ◌∙◌, append_assoc}
 use Rattle.gj_json.specs.Classes.{class_of}
 use Rattle.gj_json.specs.Levels.{levels_in, inner_of}
 use Rattle.gj_json.specs.Moves.{after_move}
