@@ -16,7 +16,7 @@ use Rattle.gj_coords.specs.declared.fault.Rule.TheVariants.{G1}
 use Rattle.gj_coords.specs.Fault.{least, fault_at}
 use Rattle.gj_coords.specs.declared.warnings.Warnings.{Warnings}
 use Rattle.gj_coords.specs.Noted as Noted
-use Rattle.gj_rules.specs.Levels.{most_levels}
+use Rattle.gj_rules.specs.Levels.{most_levels, most_skipped}
 use Rattle.gj_rules.specs.Seen.{Found}
 use Rattle.gj_rules.specs.Seen.{Frame}
 use Rattle.gj_rules.specs.Seen.{Shown}
@@ -52,7 +52,7 @@ pub record Fits (feed : Feed) (rest : List Told) : Type 0 where
 
 -- before the event x and those behind it
 abbrev pub GoodAt : ℕ → Mode → Told → List Told → State → Type 0
-GoodAt (suc k) m x xs s = suc k < 255
+GoodAt (suc k) m x xs s = suc k < most_skipped
 GoodAt zero (Due Coordinates) x xs s = Fits s.feed (x ∷ xs)
 GoodAt zero (Due Bbox) x xs s = Fits s.feed (x ∷ xs)
 GoodAt zero _ x xs s = HasRoom (event_of x).what s.core.outer

@@ -10,7 +10,7 @@ use Rattle.gj_json.specs.Events as E
 use Rattle.gj_json.specs.Tree.{Tree, Text, depth}
 use Rattle.gj_coords.specs.declared.coordinates.Coordinates as C
 use Rattle.gj_coords.specs.declared.bbox.Bbox as B
-use Rattle.gj_rules.specs.Levels.{most_levels}
+use Rattle.gj_rules.specs.Levels.{most_levels, most_skipped}
 use Rattle.gj_rules.specs.Seen.{Found}
 use Rattle.gj_rules.specs.Read.{found_in}
 use Rattle.gj_rules.specs.Seen.{Frame}
@@ -83,7 +83,7 @@ step_taken x feed zero m f o a e = rw e (behind_taken x (core_step (event_of x) 
 step_taken x feed (suc k) m f o a e = refl
 
 few_skipped : (x : Told) (rest : List Told) (feed : Feed) (k : ℕ) (m : Mode) (f : Frame) (o : List Frame) (a : Found)
-    → is_feeding k m ≡ false → Good x rest (with_feed (core k m f o a) feed) → k < 255
+    → is_feeding k m ≡ false → Good x rest (with_feed (core k m f o a) feed) → k < most_skipped
 few_skipped x rest feed zero m f o a e g = omega arith
 few_skipped x rest feed (suc k) m f o a e g = g
 
@@ -99,7 +99,7 @@ has_room x rest feed zero (Elements r) f o a e g z = g
 has_room x rest feed zero Done f o a e g z = g
 
 taken_core : (old new : Rules) (x : Told) (rest : List Told) (feed : Feed) → is_feeding old.skipped old.mode ≡ false → Good x rest (with_feed (core_of old) feed)
-    → (old.skipped < 255 → (old.skipped ≡ 0 → HasRoom (event_of x).what (core_of old).outer) → core_of new ≡ core_step (event_of x) (core_of old)) → Holds new []
+    → (old.skipped < most_skipped → (old.skipped ≡ 0 → HasRoom (event_of x).what (core_of old).outer) → core_of new ≡ core_step (event_of x) (core_of old)) → Holds new []
     → Stands new (step x (with_feed (core_of old) feed))
 taken_core old new x rest feed e g t h = (
   t (few_skipped x rest feed old.skipped old.mode (top_of old) (core_of old).outer (core_of old).answer e g)
@@ -201,10 +201,10 @@ pub good_core : (old : Rules) (x : Told) (rest : List Told) (s : State) → core
 good_core old x rest s e g = subst (λ (c : Core). Good x rest (with_feed c s.feed)) (sym e) g
 
 pub steps_taken : (old new : Rules) (event : Event) → is_feeding old.skipped old.mode ≡ false
-    → (old.skipped < 255 → (old.skipped ≡ 0 → HasRoom event.what (core_of old).outer) → core_of new ≡ core_step event (core_of old)) → Holds new [] → Steps old event new
+    → (old.skipped < most_skipped → (old.skipped ≡ 0 → HasRoom event.what (core_of old).outer) → core_of new ≡ core_step event (core_of old)) → Holds new [] → Steps old event new
 steps_taken old new event e t h = λ x rest s i k g.
     from_core old new x s k.0 (taken_core old new x rest s.feed e (good_core old x rest s k.0 g)
-    (subst (λ (y : Event). old.skipped < 255 → (old.skipped ≡ 0 → HasRoom y.what (core_of old).outer) → core_of new ≡ core_step y (core_of old)) (sym i) t) h)
+    (subst (λ (y : Event). old.skipped < most_skipped → (old.skipped ≡ 0 → HasRoom y.what (core_of old).outer) → core_of new ≡ core_step y (core_of old)) (sym i) t) h)
 
 pub steps_fed : (old new : Rules) (event : Event) → is_feeding old.skipped old.mode ≡ true
     → ((v : Tree) (taken left : List Event) → depth v ≤ most_levels → Holds old taken → (taken ++ event ∷ []) ++ left ≡ value_events v → Fed old v (taken ++ event ∷ []) left new) → Steps old event new

@@ -56,7 +56,7 @@ impl Rules {
     ghost use Rattle.gj_rules.specs.Step.{start, core_step, is_feeding, ended_as};
     ghost use Rattle.gj_rules.specs.Summaries.{StandsForCoordinates, StandsForBbox};
     ghost use Rattle.gj_rules.specs.Kept.{core_of, frames_by, Holds, HasRoom, Feeds};
-    ghost use Rattle.gj_rules.specs.Levels.{most_levels};
+    ghost use Rattle.gj_rules.specs.Levels.{most_levels, most_skipped};
     ghost use Rattle.gj_rules.specs.Rules.{StandsFor};
 
     /// Before the first event of a text.
@@ -147,7 +147,7 @@ impl Rules {
     // Where its kind is known, it is one step of these.
     #[inline(always)]
     fn take(&mut self, what: What, place: u64)
-        ensures core { self.old.skipped < 255 → (self.old.skipped ≡ 0 → HasRoom what (core_of self.old).outer) → core_of self.new ≡ core_step (record { place = place; what = what }) (core_of self.old) }
+        ensures core { self.old.skipped < most_skipped → (self.old.skipped ≡ 0 → HasRoom what (core_of self.old).outer) → core_of self.new ≡ core_step (record { place = place; what = what }) (core_of self.old) }
         ensures holds { is_feeding self.old.skipped self.old.mode ≡ false → Holds self.new [] }
     {
         if self.skipped > 0 {

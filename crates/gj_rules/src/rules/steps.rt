@@ -14,6 +14,7 @@ impl Rules {
     ghost use Rattle.gj_rules.specs.Frame.{settled};
     ghost use Rattle.gj_rules.specs.Step.{skip, pushed, popped, root_step, names_step, due_step, begun, element_step, is_feeding};
     ghost use Rattle.gj_rules.specs.Kept.{core_of, HasRoom, Holds};
+    ghost use Rattle.gj_rules.specs.Levels.{most_skipped};
 
     /// An object with a role opens. A text within the limits has at most [`MOST_AROUND`] of them open around it.
     #[inline(never)]
@@ -150,7 +151,7 @@ impl Rules {
     /// A part of a value that is not looked into.
     #[inline(always)]
     pub(super) fn skip(&mut self, what: What)
-        ensures { self.old.skipped < 255 → core_of self.new ≡ record (core_of self.old) { skipped = skip what self.old.skipped } }
+        ensures { self.old.skipped < most_skipped → core_of self.new ≡ record (core_of self.old) { skipped = skip what self.old.skipped } }
     {
         match what {
             What::OpenObject | What::OpenArray => self.skipped = self.skipped.saturating_add(1),

@@ -615,7 +615,10 @@ fn events_of_no_text(rt: HostRuntime) {
             what: What::OpenArray,
         });
     }
-    assert!(rt; rules.judged() == HALF + 1, "more objects than there is room for");
+    assert!(rt;
+        rules.judged() == HALF + 1,
+        "more objects than there is room for"
+    );
     for place in 0..300 {
         rules.tell(Event {
             place,

@@ -129,12 +129,32 @@ fn rows(rt: HostRuntime) {
 #[test]
 fn limits(rt: HostRuntime) {
     let rows: [(u8, u64, &[u8], SeqVerdict); 13] = [
-        (MOST_LEVELS, 4, b"\x1E[]\n\x1E", not_json(1, 4, Cause::Length)),
+        (
+            MOST_LEVELS,
+            4,
+            b"\x1E[]\n\x1E",
+            not_json(1, 4, Cause::Length),
+        ),
         (MOST_LEVELS, 5, b"\x1E[]\n\x1E", broken(1, 1, Rule::G1)),
         // inside a run of RS, at an RS, at the byte behind
-        (MOST_LEVELS, 1, b"\x1E\x1E\x1E[]\n", not_json(1, 1, Cause::Length)),
-        (MOST_LEVELS, 2, b"\x1E\x1E\x1E[]\n", not_json(1, 2, Cause::Length)),
-        (MOST_LEVELS, 3, b"\x1E\x1E\x1E[]\n", not_json(1, 3, Cause::Length)),
+        (
+            MOST_LEVELS,
+            1,
+            b"\x1E\x1E\x1E[]\n",
+            not_json(1, 1, Cause::Length),
+        ),
+        (
+            MOST_LEVELS,
+            2,
+            b"\x1E\x1E\x1E[]\n",
+            not_json(1, 2, Cause::Length),
+        ),
+        (
+            MOST_LEVELS,
+            3,
+            b"\x1E\x1E\x1E[]\n",
+            not_json(1, 3, Cause::Length),
+        ),
         (MOST_LEVELS, 38, TWO, not_json(1, 38, Cause::Length)),
         (MOST_LEVELS, 39, TWO, not_json(2, 39, Cause::Length)),
         (MOST_LEVELS, 40, TWO, not_json(2, 40, Cause::Length)),
