@@ -6,7 +6,7 @@ use Rattle.gj_coords.specs.declared.coordinates.Coordinates as C
 use Rattle.gj_coords.specs.declared.bbox.Bbox as B
 use Rattle.gj_rules.specs.declared.mode.Mode.{Mode}
 use Rattle.gj_rules.specs.declared.rules.Rules.{Rules}
-use Rattle.gj_rules.specs.Kept.{core_of, Holds, HoldsIn, HasRoom, Stands}
+use Rattle.gj_rules.specs.Kept.{core_of, Holds, HoldsIn}
 use Rattle.gj_rules.specs.Rules.{StandsFor}
 use Rattle.gj_rules.specs.Step.{Core, core_step}
 use Rattle.gj_rules.proofs.Telling.{told_on, steps_taken}

@@ -1,5 +1,5 @@
 -- Internal: what an event does to what the rules keep.
-use Rattle.std.specs.Prelude.{Bool, true, false, ℕ, suc, zero, ◌+◌, ◌-◌, List, [], ◌∷◌, ◌++◌, Option, Some, None}
+use Rattle.std.specs.Prelude.{Bool, true, false, ℕ, suc, zero, List, [], ◌∷◌, ◌++◌, Option, Some, None}
 use Rattle.gj_json.specs.declared.constant.Constant.TheVariants.{Null}
 pub use Rattle.gj_json.specs.Ignored.{levels_behind as skip}
 use Rattle.gj_json.specs.declared.event.Event.{Event}
