@@ -77,11 +77,11 @@ static void begun_again(void) {
     wants(geolint_begin_again(linter, 0, 10) == GEOLINT_DONE, "begin again in a text");
     wants(geolint_feed(linter, POINT, POINT_SIZE) == GEOLINT_REFUSED && geolint_offset(linter) == 10, "ten bytes");
     wants(geolint_finish(linter).cause == GEOLINT_LENGTH, "its verdict");
-    wants(geolint_begin_again(linter, 65, 0) == GEOLINT_LIMITS, "begin again beyond the limits");
+    wants(geolint_begin_again(linter, 257, 0) == GEOLINT_LIMITS, "begin again beyond the limits");
     wants(geolint_feed(linter, "x", 1) == GEOLINT_ENDED && geolint_finish(linter).status == GEOLINT_ENDED, "the end after it");
     wants(geolint_begin_again(linter, 0, 0) == GEOLINT_DONE, "begin again after the end");
     wants(geolint_feed(linter, POINT, POINT_SIZE) == GEOLINT_DONE && geolint_finish(linter).verdict == GEOLINT_VALID, "a point");
-    wants(geolint_begin(linter, 65, 0) == GEOLINT_LIMITS, "begin beyond the limits");
+    wants(geolint_begin(linter, 257, 0) == GEOLINT_LIMITS, "begin beyond the limits");
     wants(geolint_begin_again(linter, 0, 0) == GEOLINT_DONE, "begin again after that");
     wants(geolint_feed(linter, POINT, POINT_SIZE) == GEOLINT_DONE && geolint_finish(linter).verdict == GEOLINT_VALID, "a point then");
     geolint_free(linter);
@@ -106,16 +106,16 @@ static void after_a_refusal(void) {
 static void limits(void) {
     geolint_linter *linter = (geolint_linter *)malloc(geolint_size());
     uint64_t most = (uint64_t)1 << 60;
-    geolint_report report = geolint_check(POINT, POINT_SIZE, 65, 0);
-    wants(report.status == GEOLINT_LIMITS && report.verdict == GEOLINT_NO_VERDICT, "65 levels");
+    geolint_report report = geolint_check(POINT, POINT_SIZE, 257, 0);
+    wants(report.status == GEOLINT_LIMITS && report.verdict == GEOLINT_NO_VERDICT, "257 levels");
     wants(geolint_check(POINT, POINT_SIZE, 0, most + 1).status == GEOLINT_LIMITS, "2^60 and 1 bytes");
-    wants(geolint_check(POINT, POINT_SIZE, 64, most).verdict == GEOLINT_VALID, "the widest limits");
+    wants(geolint_check(POINT, POINT_SIZE, 256, most).verdict == GEOLINT_VALID, "the widest limits");
     wants(geolint_check(POINT, POINT_SIZE, UINT32_MAX, UINT64_MAX).status == GEOLINT_LIMITS, "limits beyond all");
     report = geolint_check(POINT, POINT_SIZE, 1, 0);
     wants(report.cause == GEOLINT_DEPTH && report.place == 30, "one level");
     report = geolint_check(POINT, POINT_SIZE, 0, 10);
     wants(report.cause == GEOLINT_LENGTH && report.place == 10, "ten bytes");
-    wants(geolint_new(65, 0) == NULL, "no linter of 65 levels");
+    wants(geolint_new(257, 0) == NULL, "no linter of 257 levels");
     if (linter) {
         wants(geolint_begin(linter, 0, most + 1) == GEOLINT_LIMITS, "begin beyond the limits");
         wants(geolint_feed(linter, "x", 1) == GEOLINT_ENDED, "feed after it");

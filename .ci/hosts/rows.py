@@ -85,7 +85,7 @@ wants("what a block judged", linter.verdict, verdict)
 wants("a second finish", linter.finish(), verdict)
 for name, call in {
     "feed after the end": lambda: linter.feed(b"x"),
-    "a depth of 65": lambda: geolint.check(b"", max_depth=65),
+    "a depth of 257": lambda: geolint.check(b"", max_depth=257),
     "no bytes allowed": lambda: geolint.Linter(max_bytes=0),
     "a depth below 0": lambda: geolint.Linter(max_depth=-1),
 }.items():

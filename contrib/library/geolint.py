@@ -137,7 +137,7 @@ def _verdict(report):
     if report.status == _ENDED:
         raise Ended("the linter has ended")
     if report.status != _DONE:
-        raise ValueError("a depth is from 1 to 64, and a number of bytes from 1 to 2**60")
+        raise ValueError("a depth is from 1 to 256, and a number of bytes from 1 to 2**60")
     name = _NAMES[report.verdict]
     if name == "valid":
         noted = [(kind, w.count, w.first) for kind, w in enumerate(report.warnings, 1) if w.count]
@@ -149,8 +149,8 @@ def _verdict(report):
 
 def _limits(max_depth, max_bytes):
     depth, most = 0 if max_depth is None else max_depth, 0 if max_bytes is None else max_bytes
-    if max_depth == 0 or max_bytes == 0 or not (0 <= depth <= 64 and 0 <= most <= 2**60):
-        raise ValueError("a depth is from 1 to 64, and a number of bytes from 1 to 2**60")
+    if max_depth == 0 or max_bytes == 0 or not (0 <= depth <= 256 and 0 <= most <= 2**60):
+        raise ValueError("a depth is from 1 to 256, and a number of bytes from 1 to 2**60")
     return depth, most
 
 

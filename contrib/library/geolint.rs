@@ -72,7 +72,7 @@ pub struct Limits {
 /// Why there is no linter, or no verdict.
 #[derive(Clone, Copy, Debug, PartialEq, Eq)]
 pub enum Refusal {
-    /// The depth may be from 1 to 64 and the number of bytes from 1 to 2^60.
+    /// The depth may be from 1 to 256 and the number of bytes from 1 to 2^60.
     Limits,
     Memory,
 }
@@ -156,7 +156,7 @@ impl Linter {
     /// The verdict of all that was fed. Then the linter begins again in the same memory, which costs less than another one.
     /// Under limits that are not allowed nothing changes.
     pub fn finish_and_begin(&mut self, limits: Limits) -> Result<Verdict, Refusal> {
-        if limits.max_depth > 64 || limits.max_bytes > 1 << 60 {
+        if limits.max_depth > 256 || limits.max_bytes > 1 << 60 {
             return Err(Refusal::Limits);
         }
         let report = unsafe { c::geolint_finish(self.at()) };

@@ -4,6 +4,7 @@ ghost use Rattle.geolint.specs.declared.room.TheConstants.{CAPACITY};
 ghost use Rattle.geolint.specs.Written.{joined};
 
 use arrayvec::ArrayVec;
+use gj_json::MOST_LEVELS;
 
 /// No line but that of a path has more bytes: the longest is that of the warning W3.
 pub const MOST_LINE: usize = 96;
@@ -12,7 +13,7 @@ pub const MOST_LINE: usize = 96;
 pub const MOST_STEP: usize = 22;
 
 /// The most steps of a path.
-const MOST_STEPS: usize = 64;
+pub const MOST_STEPS: usize = MOST_LEVELS as usize;
 
 /// No report has more bytes: `valid`, the count of a sequence's records and nine warnings are eleven lines, and a broken rule is
 /// one line, that of its record and that of its path.

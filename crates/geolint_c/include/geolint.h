@@ -90,7 +90,7 @@ typedef struct geolint_linter geolint_linter;
 
 /* ---- a text in memory */
 
-/* Judges `length` bytes. `max_depth` is how many arrays and objects may be open inside each other, from 1 to 64, and
+/* Judges `length` bytes. `max_depth` is how many arrays and objects may be open inside each other, from 1 to 256, and
  * `max_bytes` how many bytes a text may have, from 1 to 2^60; 0 stands for the most of either. Other limits give
  * GEOLINT_NO_VERDICT with GEOLINT_LIMITS. As measured, it needs 60 KiB of stack. */
 geolint_report geolint_check(const void *bytes, size_t length, uint32_t max_depth, uint64_t max_bytes);

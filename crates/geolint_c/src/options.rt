@@ -3,9 +3,7 @@ ghost use Rattle.std.specs.Prelude.{◌≡◌};
 ghost use Rattle.std.specs.Option.{SomeIff};
 ghost use Rattle.geolint_c.specs.Options.{AreAllowed, limits_meant, or_most};
 
-use gj_json::Limits;
-
-const MOST_LEVELS: u64 = 64;
+use gj_json::{Limits, MOST_LEVELS};
 
 const MOST_BYTES: u64 = 1 << 60;
 
@@ -19,10 +17,10 @@ fn or_most(said: u64, most: u64) -> u64
 pub fn limits_of(max_depth: u32, max_bytes: u64) -> Option<Limits>
     ensures { SomeIff result (AreAllowed max_depth max_bytes) (limits_meant max_depth max_bytes) }
 {
-    let depth = or_most(max_depth as u64, MOST_LEVELS);
+    let depth = or_most(max_depth as u64, MOST_LEVELS as u64);
     let bytes = or_most(max_bytes, MOST_BYTES);
-    if depth > MOST_LEVELS {
+    if depth > MOST_LEVELS as u64 {
         return None;
     }
-    Limits::new(depth as u8, bytes)
+    Limits::new(depth as u16, bytes)
 }

@@ -2,6 +2,7 @@
 use Rattle.std.proofs.Common.{◌≡◌, ℕ, suc, ◌+◌, ◌^◌, ◌≤◌, ◌<◌, List, [], ◌∷◌, ◌++◌, length, take, drop, Option, Some, None, Result, Ok, Err, refl, sym, ap, subst, ◌∙◌, arith, append_assoc}
 use Rattle.std.proofs.Math.Seq.{take-length}
 use Rattle.std.proofs.lemmas.List.{append-nil, length-append, length-take-le, take-append-le, take-append-drop}
+use Rattle.gj_json.specs.declared.limits.TheConstants.{MOST_LEVELS}
 use Rattle.gj_json.specs.declared.fault.JsonFault.{JsonFault}
 use Rattle.gj_json.specs.declared.fault.Cause.{Cause}
 use Rattle.gj_json.specs.declared.fault.Cause.TheVariants.{Syntax, Truncated, Depth, Length}
@@ -27,7 +28,7 @@ use Rattle.gj_json.specs.Trail.{inner_steps, turn_of, followed, IsSmall, Fits, L
 use Rattle.gj_json.specs.Locator.{StandsFor as LocatorStandsFor}
 use Rattle.gj_json.proofs.Completes.{Goes, TextFrom}
 use Rattle.gj_json.proofs.Feeding.{live_offset, refused_offset, refused_within, refused_stands, taken_within, skip_feeds, skipped, answers_ok, answers_err}
-use Rattle.gj_json.proofs.LevelLemmas.{length-levels_at}
+use Rattle.gj_json.proofs.LevelLemmas.{few_levels}
 use Rattle.gj_json.proofs.Literals.{words_by}
 use Rattle.gj_json.proofs.Located.{path_leads}
 use Rattle.gj_json.proofs.Reading.{run-push, open_of, well_of}
@@ -52,13 +53,13 @@ inside_small : (stack : List Frame) (inner : PathStep) → IsSmall (inner ∷ []
 inside_small stack (PathStep.Index i) h = h
 inside_small stack (PathStep.Member known) h = h
 
-stack_fits : (stack : List Frame) (steps : List PathStep) (n : ℕ) → steps ≡ stack_steps stack → stack_count stack ≤ n → n < 2 ^ 64 → length (levels_of stack) ≤ 64 → Fits steps
+stack_fits : (stack : List Frame) (steps : List PathStep) (n : ℕ) → steps ≡ stack_steps stack → stack_count stack ≤ n → n < 2 ^ 64 → length (levels_of stack) ≤ MOST_LEVELS → Fits steps
 stack_fits stack steps n e c m l = rw e (record { few = omega (arith, stack_long stack); small = stack_small stack n c m })
 
-inside_fits : (stack : List Frame) (steps : List PathStep) (inner : PathStep) → IsSmall (inner ∷ []) → steps ≡ inner ∷ stack_steps stack → length (levels_of stack) + 1 ≤ 64 → Fits steps
+inside_fits : (stack : List Frame) (steps : List PathStep) (inner : PathStep) → IsSmall (inner ∷ []) → steps ≡ inner ∷ stack_steps stack → length (levels_of stack) + 1 ≤ MOST_LEVELS → Fits steps
 inside_fits stack steps inner s e l = rw e (record { few = omega (arith, stack_long stack); small = inside_small stack inner s })
 
-leaf_fits : (stack : List Frame) (leaf : Leaf) (steps : List PathStep) (n : ℕ) → LeafTrail stack leaf steps → stack_count stack ≤ n → n < 2 ^ 64 → length (levels_with leaf (levels_of stack)) ≤ 64 → Fits steps
+leaf_fits : (stack : List Frame) (leaf : Leaf) (steps : List PathStep) (n : ℕ) → LeafTrail stack leaf steps → stack_count stack ≤ n → n < 2 ^ 64 → length (levels_with leaf (levels_of stack)) ≤ MOST_LEVELS → Fits steps
 leaf_fits stack value_due steps n e c m l = stack_fits stack steps n e c m l
 leaf_fits stack (value_done t) steps n e c m l = stack_fits stack steps n e c m l
 leaf_fits stack (array_opened place) steps n e c m l = inside_fits stack steps _ (omega arith) e (omega arith)
@@ -73,7 +74,7 @@ leaf_fits stack (colon_due place done np name ne) steps n e c m l = inside_fits 
 no_steps : (steps : List PathStep) → steps ≡ [] → Fits steps
 no_steps steps e = rw e (record { few = omega arith; small = tt })
 
-trail_fits : (state : Broken) (mode : Mode) (levels : List Level) (steps : List PathStep) (n : ℕ) → StandsAs state mode levels → TrailAt n state steps → n < 2 ^ 64 → length levels ≤ 64 → Fits steps
+trail_fits : (state : Broken) (mode : Mode) (levels : List Level) (steps : List PathStep) (n : ℕ) → StandsAs state mode levels → TrailAt n state steps → n < 2 ^ 64 → length levels ≤ MOST_LEVELS → Fits steps
 trail_fits text_due mode levels steps n a e m l = no_steps steps e
 trail_fits mark_one mode levels steps n a e m l = no_steps steps e
 trail_fits mark_two mode levels steps n a e m l = no_steps steps e
@@ -106,7 +107,7 @@ trail_on old new b bytes live goes h k most f = (k, λ state r. trail state r)
         let same : w.state ≡ state = (let q = sym w.runs ∙ s in cc) in
         let a : StandsAs state new.reader.mode (levels_in new.reader.levels) = subst (λ (x : Broken). StandsAs x new.reader.mode (levels_in new.reader.levels)) same w.kept in
         let small : new.reader.offset < 2 ^ 64 = omega (arith, new.reader.within) in
-        let few : length (levels_in new.reader.levels) ≤ 64 = omega (arith, new.reader.levels.some, length-levels_at new.reader.levels.count new.reader.levels.bits) in
+        let few : length (levels_in new.reader.levels) ≤ MOST_LEVELS = few_levels new.reader.levels in
         let g = f (trail_fits state new.reader.mode (levels_in new.reader.levels) steps new.reader.offset a e small few) in
         subst (λ (xs : List PathStep). TrailAt new.reader.offset state xs) (sym g) e
 

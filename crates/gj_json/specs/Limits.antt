@@ -1,5 +1,6 @@
 -- The limits that a text is read under.
 use Rattle.std.specs.Prelude.{ℕ, ◌≤◌, ◌^◌, refl}
+use Rattle.gj_json.specs.declared.limits.TheConstants.{MOST_LEVELS}
 use Rattle.std.specs.Coded.{Coded, code_by, coded×, coded_ℕ}
 
 -- the most arrays and objects that may be open at once, and the most bytes
@@ -13,10 +14,10 @@ allowed_code =
 
 pub record IsAllowed (depth bytes : ℕ) : Type 0 where
   pub some_level : 1 ≤ depth
-  pub most_levels : depth ≤ 64
+  pub most_levels : depth ≤ MOST_LEVELS
   pub some_byte : 1 ≤ bytes
   pub most_bytes : bytes ≤ 2 ^ 60
 
 -- the widest limits
 abbrev pub most : Allowed
-most = record { depth = 64; bytes = 2 ^ 60 }
+most = record { depth = MOST_LEVELS; bytes = 2 ^ 60 }

@@ -10,6 +10,7 @@ use Rattle.gj_json.specs.declared.class.Class.{Class}
 use Rattle.gj_json.specs.declared.class.Class.TheVariants.{OpenArray, CloseArray, OpenObject, CloseObject, Comma}
 use Rattle.gj_json.specs.declared.trail.Turn.{Turn}
 use Rattle.gj_json.specs.declared.trail.Turn.TheVariants.{Stays, Opens, Closes, Advances, Names}
+use Rattle.gj_json.specs.declared.limits.TheConstants.{MOST_LEVELS}
 use Rattle.gj_json.specs.Bytes.{quote}
 use Rattle.gj_json.specs.Classes.{class_of}
 use Rattle.gj_json.specs.Names.{known_of}
@@ -70,7 +71,7 @@ IsSmall (Index i ∷ steps) = i < 2 ^ 64
 IsSmall _ = Unit {0}
 
 pub record Fits (steps : List PathStep) : Type 0 where
-  pub few : length steps ≤ 64
+  pub few : length steps ≤ MOST_LEVELS
   pub small : IsSmall steps
 
 -- ---- what the steps are, by the state of the machine

@@ -1,4 +1,13 @@
-ghost use Rattle.std.specs.Prelude.{◌≡◌, ℕ, ◌^◌, ◌<◌, ◌≤◌, [], ◌∷◌, length};
+ghost use Rattle.std.specs.Prelude.{◌≡◌, ℕ, ◌*◌, ◌^◌, ◌<◌, ◌≤◌, [], ◌∷◌, length};
+ghost use Rattle.gj_json.specs.declared.levels.TheConstants.{WORD, MOST_FULL};
+
+use crate::limits::MOST_LEVELS;
+
+/// How many levels a word has bits for.
+const WORD: u16 = 64;
+
+/// How many words can be full beside the one of the innermost levels.
+const MOST_FULL: usize = (MOST_LEVELS / WORD) as usize - 1;
 
 /// What may be open.
 #[derive(Clone, Copy, PartialEq, Eq)]
@@ -7,67 +16,110 @@ pub enum Level {
     Object,
 }
 
-/// The levels that are open: one bit for each, the innermost lowest.
+impl Level {
+    ghost use Rattle.gj_json.specs.Levels.{bit_of};
+
+    /// Its bit in a word.
+    #[inline]
+    fn bit(self) -> u64
+        ensures { result ≡ bit_of self }
+    {
+        match self {
+            Level::Array => 0,
+            Level::Object => 1,
+        }
+    }
+}
+
+/// The levels that are open: one bit for each.
+///
+/// The innermost are in a word of their own, so that the others are touched where it is full, or empty.
 #[derive(Clone, Copy, PartialEq, Eq)]
 pub struct Levels {
-    bits: u64,
-    count: u8,
-    ghost some: { count ≤ 64 },
-    ghost narrow: { bits < 2 ^ count },
+    /// The innermost level lowest.
+    inner: u64,
+    /// How many levels that word has.
+    count: u16,
+    /// How many words around it are full.
+    full: u16,
+    /// The full words, the outermost first.
+    outer: [u64; MOST_FULL],
+    ghost some: { count ≤ WORD },
+    ghost narrow: { inner < 2 ^ count },
+    ghost few: { full ≤ MOST_FULL },
+    ghost dense: { full ≤ count * MOST_FULL },
+    ghost room: { MOST_FULL ≤ length outer },
 }
 
 impl Levels {
     ghost use Rattle.gj_json.specs.Levels.{levels_in, inner_of, outer_of};
 
+    #[tactic(auto, unfolding(crate::specs::Levels::levels_in))]
     pub fn new() -> Self
         ensures { levels_in result ≡ [] }
     {
-        Levels { bits: 0, count: 0 }
+        Levels {
+            inner: 0,
+            count: 0,
+            full: 0,
+            outer: [0; MOST_FULL],
+        }
     }
 
-    pub fn len(&self) -> u8
+    #[tactic(auto, unfolding(crate::specs::Levels::levels_in))]
+    pub fn len(&self) -> u16
         ensures value { result ≡ length (levels_in self.now) }
-        ensures small { result ≤ 64 }
+        ensures small { result ≤ MOST_LEVELS }
     {
-        self.count
+        self.count + self.full * WORD
     }
 
     /// The innermost level.
+    #[tactic(auto, unfolding(crate::specs::Levels::levels_in))]
     pub fn inner(&self) -> Option<Level>
         ensures { result ≡ inner_of (levels_in self.now) }
     {
         if self.count == 0 {
             None
-        } else if self.bits % 2 == 0 {
+        } else if self.inner % 2 == 0 {
             Some(Level::Array)
         } else {
             Some(Level::Object)
         }
     }
 
+    #[tactic(auto, unfolding(crate::specs::Levels::levels_in))]
     pub fn push(&mut self, level: Level)
-        requires { length (levels_in self.old) < 64 }
+        requires { length (levels_in self.old) < MOST_LEVELS }
         ensures { levels_in self.new ≡ level ∷ levels_in self.old }
     {
-        let bit = match level {
-            Level::Array => 0,
-            Level::Object => 1,
-        };
-        *self = Levels {
-            bits: self.bits * 2 + bit,
-            count: self.count + 1,
-        };
+        let bit = level.bit();
+        if self.count < WORD {
+            self.inner = self.inner * 2 + bit;
+            self.count += 1;
+        } else {
+            self.outer[self.full as usize] = self.inner;
+            self.full += 1;
+            self.inner = bit;
+            self.count = 1;
+        }
     }
 
     /// Takes the innermost level away, where there is one.
+    #[tactic(auto, unfolding(crate::specs::Levels::levels_in))]
     pub fn pop(&mut self)
         ensures { levels_in self.new ≡ outer_of (levels_in self.old) }
     {
-        if self.count > 0 {
-            *self = Levels {
-                bits: self.bits / 2,
-                count: self.count - 1,
-            };
+        if self.count > 1 {
+            self.inner /= 2;
+            self.count -= 1;
+        } else if self.full > 0 {
+            self.full -= 1;
+            self.inner = self.outer[self.full as usize];
+            self.count = WORD;
+        } else {
+            self.inner = 0;
+            self.count = 0;
         }
     }
 }

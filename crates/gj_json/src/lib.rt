@@ -39,7 +39,7 @@ pub use laws::{
     broken_off, bytes_taken, few_events, left_part, longest_front, one_broken, one_refusal,
     one_text, same_events, same_path, viable_fronts,
 };
-pub use limits::Limits;
+pub use limits::{Limits, MOST_LEVELS};
 pub use locator::Locator;
 pub use names::{Known, Word};
 pub use path::{Path, PathStep};

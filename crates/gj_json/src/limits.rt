@@ -3,7 +3,8 @@ ghost use Rattle.std.specs.Option.{SomeIff};
 
 use std::marker::Model;
 
-const MOST_LEVELS: u8 = 64;
+/// The most arrays and objects that can be open at once. All that hangs on how deep a text may nest follows from it.
+pub const MOST_LEVELS: u16 = 256;
 
 const MOST_BYTES: u64 = 1 << 60;
 
@@ -11,7 +12,7 @@ const MOST_BYTES: u64 = 1 << 60;
 #[derive(Clone, Copy, PartialEq, Eq)]
 pub struct Limits {
     bytes: u64,
-    depth: u8,
+    depth: u16,
 }
 
 impl Model for Limits {
@@ -31,8 +32,8 @@ impl Model for Limits {
 impl Limits {
     ghost use Rattle.gj_json.specs.Limits.{IsAllowed, most};
 
-    /// The limits, where the depth is from 1 to 64 and the number of bytes from 1 to 2^60.
-    pub fn new(depth: u8, bytes: u64) -> Option<Limits>
+    /// The limits, where the depth is from 1 to [`MOST_LEVELS`] and the number of bytes from 1 to 2^60.
+    pub fn new(depth: u16, bytes: u64) -> Option<Limits>
         ensures { SomeIff result (IsAllowed depth bytes) (record { depth = depth; bytes = bytes }) }
     {
         if depth < 1 || depth > MOST_LEVELS || bytes < 1 || bytes > MOST_BYTES {
@@ -41,7 +42,7 @@ impl Limits {
         Some(Limits { bytes, depth })
     }
 
-    /// The widest limits: 64 levels and 2^60 bytes.
+    /// The widest limits: [`MOST_LEVELS`] and 2^60 bytes.
     pub fn usual() -> Limits
         ensures { result ≡ most }
     {
@@ -52,7 +53,7 @@ impl Limits {
     }
 
     /// The most arrays and objects that may be open at once.
-    pub fn depth(&self) -> u8
+    pub fn depth(&self) -> u16
         ensures value { result ≡ self.now.depth }
         ensures allowed { IsAllowed self.now.depth self.now.bytes }
     {

@@ -1,12 +1,12 @@
 //! The way from the root of a text to one of its values.
 
 ghost use Rattle.std.specs.Prelude.{◌≡◌, ◌≤◌, ◌<◌, ◌^◌, [], ◌∷◌, length, slice_get};
+ghost use Rattle.gj_json.specs.declared.limits.TheConstants.{MOST_LEVELS};
 ghost use Rattle.gj_json.specs.declared.path.PathStep.TheVariants.{Index};
 
+use crate::limits::MOST_LEVELS;
 use crate::names::Known;
 use crate::trail::Turn;
-
-const MOST_STEPS: u8 = 64;
 
 /// A step from an array to one of its elements, or from an object to the value of one of its members (RFC 8259, sections 4
 /// and 5).
@@ -21,13 +21,13 @@ pub enum PathStep {
 /// The step to the first element of an array.
 const FIRST: PathStep = PathStep::Index(0);
 
-/// The steps from the root of a text (RFC 8259, section 2) to one of its values, the outermost first, 64 at the most.
+/// The steps from the root of a text (RFC 8259, section 2) to one of its values, the outermost first, one for each open level.
 #[derive(Clone, Copy, Debug, PartialEq, Eq)]
 pub struct Path {
     /// Behind the steps stand first elements, so that equal paths are equal here too.
-    steps: [PathStep; 64],
-    count: u8,
-    ghost few: { count ≤ 64 },
+    steps: [PathStep; MOST_LEVELS as usize],
+    count: u16,
+    ghost few: { count ≤ MOST_LEVELS },
     ghost room: { count ≤ length steps },
 }
 
@@ -40,7 +40,7 @@ impl Path {
         ensures { inner_steps result ≡ [] }
     {
         Path {
-            steps: [FIRST; 64],
+            steps: [FIRST; MOST_LEVELS as usize],
             count: 0,
         }
     }
@@ -48,9 +48,9 @@ impl Path {
     /// How many steps it has.
     pub fn len(&self) -> u16
         ensures value { result ≡ length (steps_of self.now) }
-        ensures small { result ≤ 64 }
+        ensures small { result ≤ MOST_LEVELS }
     {
-        self.count as u16
+        self.count
     }
 
     /// The step at `i`, counted from 0 at the root, where it has so many.
@@ -85,9 +85,9 @@ impl Path {
 
     /// Adds the first element's step, where there is room.
     fn open(&mut self)
-        ensures { length (inner_steps self.old) < 64 → inner_steps self.new ≡ Index 0 ∷ inner_steps self.old }
+        ensures { length (inner_steps self.old) < MOST_LEVELS → inner_steps self.new ≡ Index 0 ∷ inner_steps self.old }
     {
-        if self.count < MOST_STEPS {
+        if self.count < MOST_LEVELS {
             self.steps[self.count as usize] = FIRST;
             self.count += 1;
         }

@@ -6,7 +6,7 @@ use crate::content::Content;
 use crate::event::Event;
 use crate::fault::{Cause, JsonFault};
 use crate::levels::Levels;
-use crate::limits::Limits;
+use crate::limits::{Limits, MOST_LEVELS};
 use crate::mode::Mode;
 use crate::sink::{EventPair, EventSink};
 use crate::told::last_event;
@@ -180,10 +180,10 @@ impl Reader {
     }
 
     /// How many arrays and objects are open after the bytes that were taken.
-    pub fn levels(&self) -> u8
+    pub fn levels(&self) -> u16
         ensures value { result ≡ levels_of self.now }
         ensures open { (bytes rest : List ℕ) (text : Text) → StandsFor self.now bytes → IsText text (take (offset_of self.now) bytes ++ rest) → result ≡ open_at (offset_of self.now) text }
-        ensures small { result ≤ 64 }
+        ensures small { result ≤ MOST_LEVELS }
     {
         self.levels.len()
     }

@@ -48,11 +48,11 @@ pub trait EventSink {
     }
 
     /// How many levels have to close before an event matters to it again: 0 where each one matters.
-    fn ignored(&self) -> u8
+    fn ignored(&self) -> u16
         ensures { result ≡ ignores self.now };
 
     /// Events came within the levels that it ignores, whichever they are, and so many of these levels are left to close.
-    fn pass(&mut self, left: u8)
+    fn pass(&mut self, left: u16)
         ensures { (events inner : List Event) → 0 < ignores self.old → heard self.old events → Leaves (ignores self.old) inner left → heard self.new (events ++ inner) };
 }
 
@@ -81,11 +81,11 @@ impl EventSink for EventPair {
         }
     }
 
-    fn ignored(&self) -> u8 {
+    fn ignored(&self) -> u16 {
         0
     }
 
-    fn pass(&mut self, _left: u8) {}
+    fn pass(&mut self, _left: u16) {}
 }
 
 /// Keeps nothing of what it is told.
@@ -97,9 +97,9 @@ impl EventSink for NoEvents {
 
     fn tell(&mut self, _event: Event) {}
 
-    fn ignored(&self) -> u8 {
+    fn ignored(&self) -> u16 {
         0
     }
 
-    fn pass(&mut self, _left: u8) {}
+    fn pass(&mut self, _left: u16) {}
 }

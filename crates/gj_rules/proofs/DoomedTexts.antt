@@ -20,6 +20,7 @@ use Rattle.gj_coords.specs.declared.fault.Rule.TheVariants.{G1, G3, G5, G6, G7, 
 use Rattle.gj_coords.specs.declared.simple.Simple.{Simple}
 use Rattle.gj_coords.specs.declared.warnings.Warnings.{Warnings}
 use Rattle.gj_coords.specs.Fault.{lesser, least, fault_at}
+use Rattle.gj_rules.specs.Levels.{most_levels}
 use Rattle.gj_rules.specs.Seen.{Found, Frame, Shapes, Shown}
 use Rattle.gj_rules.specs.declared.role.Role.{Role}
 use Rattle.gj_rules.specs.declared.mode.Mode.TheVariants.{Names, Done}
@@ -308,7 +309,7 @@ marked_answers true v (x ∷ d) rest e =
 
 -- ---- the rules
 
-pub answers : (rules : Rules) (text : Text) (bytes : List ℕ) (n : ℕ) → IsText text bytes → depth text.value ≤ 64 → StandsFor rules (events_by n text)
+pub answers : (rules : Rules) (text : Text) (bytes : List ℕ) (n : ℕ) → IsText text bytes → depth text.value ≤ most_levels → StandsFor rules (events_by n text)
     → (core_lost (core_of rules) ≡ true → text_faults text ≡ [] → ⊥) × (is_doomed (events_by n text) ≡ true → core_lost (core_of rules) ≡ true)
 answers rules text bytes n t d h =
     let front = front_text text bytes n t in

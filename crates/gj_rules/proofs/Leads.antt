@@ -16,6 +16,7 @@ use Rattle.gj_coords.specs.declared.fault.Rule.TheVariants.{G1}
 use Rattle.gj_coords.specs.Fault.{least, fault_at}
 use Rattle.gj_coords.specs.declared.warnings.Warnings.{Warnings}
 use Rattle.gj_coords.specs.Noted as Noted
+use Rattle.gj_rules.specs.Levels.{most_levels, most_skipped}
 use Rattle.gj_rules.specs.Seen.{Found}
 use Rattle.gj_rules.specs.Seen.{Frame}
 use Rattle.gj_rules.specs.Seen.{Shown}
@@ -47,11 +48,11 @@ pub record Fits (feed : Feed) (rest : List Told) : Type 0 where
   pub left : feed.left ≡ next ∷ later
   pub split : feed.taken ++ feed.left ≡ value_events feed.value
   pub comes : map event_of rest ≡ feed.left ++ more
-  pub deep : depth feed.value ≤ 64
+  pub deep : depth feed.value ≤ most_levels
 
 -- before the event x and those behind it
 abbrev pub GoodAt : ℕ → Mode → Told → List Told → State → Type 0
-GoodAt (suc k) m x xs s = suc k < 255
+GoodAt (suc k) m x xs s = suc k < most_skipped
 GoodAt zero (Due Coordinates) x xs s = Fits s.feed (x ∷ xs)
 GoodAt zero (Due Bbox) x xs s = Fits s.feed (x ∷ xs)
 GoodAt zero _ x xs s = HasRoom (event_of x).what s.core.outer
@@ -78,7 +79,7 @@ pub down : (k : ℕ) → suc (suc k) - 1 ≡ suc k
 down k = omega arith
 
 mutual
-  skip_value : (v : Tree) (rest : List Told) (k : ℕ) (m : Mode) (f : Frame) (o : List Frame) (a z : Found) → k + depth v ≤ 64
+  skip_value : (v : Tree) (rest : List Told) (k : ℕ) (m : Mode) (f : Frame) (o : List Frame) (a z : Found) → k + depth v ≤ most_levels
       → Leads rest (st (suc k) m f o a) z → Leads (told v ++ rest) (st (suc k) m f o a) z
   skip_value (constant Null place) rest k m f o a z d h = (omega arith, h)
   skip_value (constant True place) rest k m f o a z d h = (omega arith, h)
@@ -100,14 +101,14 @@ mutual
         (omega arith, subst (λ n. Leads rest (st n m f o a) z) (sym (down k)) h))),
   )
 
-  skip_elements : (es : Tree.Elements) (rest : List Told) (k : ℕ) (m : Mode) (f : Frame) (o : List Frame) (a z : Found) → k + elements_depth es ≤ 64
+  skip_elements : (es : Tree.Elements) (rest : List Told) (k : ℕ) (m : Mode) (f : Frame) (o : List Frame) (a z : Found) → k + elements_depth es ≤ most_levels
       → Leads rest (st (suc k) m f o a) z → Leads (elements_told es ++ rest) (st (suc k) m f o a) z
   skip_elements end_of_array rest k m f o a z d h = h
   skip_elements (element v more) rest k m f o a z d h =
       rw (append_assoc (told v) (elements_told more) rest)
       (skip_value v (elements_told more ++ rest) k m f o a z (omega arith) (skip_elements more rest k m f o a z (omega arith) h))
 
-  skip_members : (ms : Members) (rest : List Told) (k : ℕ) (m : Mode) (f : Frame) (o : List Frame) (a z : Found) → k + members_depth ms ≤ 64
+  skip_members : (ms : Members) (rest : List Told) (k : ℕ) (m : Mode) (f : Frame) (o : List Frame) (a z : Found) → k + members_depth ms ≤ most_levels
       → Leads rest (st (suc k) m f o a) z → Leads (members_told ms ++ rest) (st (suc k) m f o a) z
   skip_members end_of_object rest k m f o a z d h = h
   skip_members (member place name end v more) rest k m f o a z d h = (
@@ -117,13 +118,13 @@ mutual
   )
 
 -- the rest of an array or an object that is not looked into
-array_skipped : (es : Tree.Elements) (close : ℕ) (rest : List Told) (m : Mode) (f : Frame) (o : List Frame) (a z : Found) → elements_depth es ≤ 64
+array_skipped : (es : Tree.Elements) (close : ℕ) (rest : List Told) (m : Mode) (f : Frame) (o : List Frame) (a z : Found) → elements_depth es ≤ most_levels
     → Leads rest (st 0 m f o a) z → Leads ((elements_told es ++ plain (close + 1) close What.CloseArray ∷ []) ++ rest) (st 1 m f o a) z
 array_skipped es close rest m f o a z d h =
     rw (append_assoc (elements_told es) (plain (close + 1) close What.CloseArray ∷ []) rest)
     (skip_elements es (plain (close + 1) close What.CloseArray ∷ rest) 0 m f o a z (omega arith) (omega arith, h))
 
-object_skipped : (ms : Members) (close : ℕ) (rest : List Told) (m : Mode) (f : Frame) (o : List Frame) (a z : Found) → members_depth ms ≤ 64
+object_skipped : (ms : Members) (close : ℕ) (rest : List Told) (m : Mode) (f : Frame) (o : List Frame) (a z : Found) → members_depth ms ≤ most_levels
     → Leads rest (st 0 m f o a) z → Leads ((members_told ms ++ plain (close + 1) close What.CloseObject ∷ []) ++ rest) (st 1 m f o a) z
 object_skipped ms close rest m f o a z d h =
     rw (append_assoc (members_told ms) (plain (close + 1) close What.CloseObject ∷ []) rest)
@@ -140,14 +141,14 @@ IsFed Coordinates = Unit {0}
 IsFed Bbox = Unit {0}
 IsFed _ = ⊥
 
-fits : (v : Tree) (taken : List Event) (x : Told) (xs rest : List Told) → depth v ≤ 64 → taken ++ map event_of (x ∷ xs) ≡ value_events v
+fits : (v : Tree) (taken : List Event) (x : Told) (xs rest : List Told) → depth v ≤ most_levels → taken ++ map event_of (x ∷ xs) ≡ value_events v
     → Fits (record { value = v; taken = taken; left = map event_of (x ∷ xs) }) ((x ∷ xs) ++ rest)
 fits v taken x xs rest d e = record { deep = d; next = event_of x; later = map event_of xs; more = map event_of rest; left = refl; split = e; comes = map-append event_of (x ∷ xs) rest }
 
 pub one_more : (v : Tree) (taken : List Event) (x : Told) (xs : List Told) → taken ++ map event_of (x ∷ xs) ≡ value_events v → (taken ++ event_of x ∷ []) ++ map event_of xs ≡ value_events v
 one_more v taken x xs e = append_assoc taken (event_of x ∷ []) (map event_of xs) ∙ e
 
-feed_all : (name : Known) → IsFed name → (v : Tree) (taken : List Event) (x : Told) (xs rest : List Told) (f : Frame) (o : List Frame) (a z : Found) → depth v ≤ 64 → taken ++ map event_of (x ∷ xs) ≡ value_events v
+feed_all : (name : Known) → IsFed name → (v : Tree) (taken : List Event) (x : Told) (xs rest : List Told) (f : Frame) (o : List Frame) (a z : Found) → depth v ≤ most_levels → taken ++ map event_of (x ∷ xs) ≡ value_events v
     → Leads rest (st 0 Names (filled name v f) o a) z → Leads ((x ∷ xs) ++ rest) (feeding name v taken (map event_of (x ∷ xs)) f o a) z
 feed_all Coordinates i v taken x [] rest f o a z d e h = (fits v taken x [] rest d e, h)
 feed_all Coordinates i v taken x (y ∷ ys) rest f o a z d e h =
@@ -165,14 +166,14 @@ some_told (string place content end) = (_, _, refl)
 some_told (array place es close) = (_, _, refl)
 some_told (object place ms close) = (_, _, refl)
 
-feed_told : (name : Known) → IsFed name → (v : Tree) (x : Told) (xs rest : List Told) (f : Frame) (o : List Frame) (a z : Found) → depth v ≤ 64 → told v ≡ x ∷ xs
+feed_told : (name : Known) → IsFed name → (v : Tree) (x : Told) (xs rest : List Told) (f : Frame) (o : List Frame) (a z : Found) → depth v ≤ most_levels → told v ≡ x ∷ xs
     → Leads rest (st 0 Names (filled name v f) o a) z → Leads (told v ++ rest) (feeding name v [] (value_events v) f o a) z
 feed_told name i v x xs rest f o a z d e h =
     subst (λ (es : List Event). Leads (told v ++ rest) (feeding name v [] es f o a) z) (told-events v)
     (subst (λ (ts : List Told). Leads (ts ++ rest) (feeding name v [] (map event_of ts) f o a) z) (sym e)
     (feed_all name i v [] x xs rest f o a z d (ap (λ (ts : List Told). map event_of ts) (sym e) ∙ told-events v) h))
 
-feed_value : (name : Known) → IsFed name → (v : Tree) (rest : List Told) (f : Frame) (o : List Frame) (a z : Found) → depth v ≤ 64
+feed_value : (name : Known) → IsFed name → (v : Tree) (rest : List Told) (f : Frame) (o : List Frame) (a z : Found) → depth v ≤ most_levels
     → Leads rest (st 0 Names (filled name v f) o a) z → Leads (told v ++ rest) (feeding name v [] (value_events v) f o a) z
 feed_value name i v rest f o a z d h = let s = some_told v in feed_told name i v s.0 s.1 rest f o a z d s.2 h
 
@@ -267,7 +268,7 @@ due_st name v f o a = record { core = record { skipped = 0; mode = Due name; top
 mutual
   -- the value of a first member, in an object at level n
   lead_due : (v : Tree) (name : Known) (rest : List Told) (f : Frame) (o : List Frame) (a z : Found) (n : ℕ) (r : Role)
-      → n + depth v ≤ 64 → IsWithin n o r → f.shown.role ≡ r → MayHold r name → Leads rest (st 0 Names (filled name v f) o a) z → Leads (told v ++ rest) (due_st name v f o a) z
+      → n + depth v ≤ most_levels → IsWithin n o r → f.shown.role ≡ r → MayHold r name → Leads rest (st 0 Names (filled name v f) o a) z → Leads (told v ++ rest) (due_st name v f o a) z
   lead_due v Coordinates rest f o a z n r d w e m h = feed_value Coordinates tt v rest f o a z (omega arith) h
   lead_due v Bbox rest f o a z n r d w e m h = feed_value Bbox tt v rest f o a z (omega arith) h
   lead_due (constant Null place) name rest f o a z n r d w e m h = (tt, h)
@@ -296,7 +297,7 @@ mutual
 
   -- an element of an array of values with a role, where the array is at level n
   lead_element : (v : Tree) (r : Role) → IsListed r → (rest : List Told) (f : Frame) (o : List Frame) (a z : Found) (n : ℕ)
-      → n + depth v ≤ 64 → 2 * (length o + 2) ≤ n + 1 + credit r → Leads rest (st 0 (Elements r) (taken_any (member_of r) (least (faults r v)) (kept r v) f) o a) z → Leads (told v ++ rest) (st 0 (Elements r) f o a) z
+      → n + depth v ≤ most_levels → 2 * (length o + 2) ≤ n + 1 + credit r → Leads rest (st 0 (Elements r) (taken_any (member_of r) (least (faults r v)) (kept r v) f) o a) z → Leads (told v ++ rest) (st 0 (Elements r) f o a) z
   lead_element (constant Null place) Role.Part i rest f o a z n d w h = (tt, h)
   lead_element (constant Null place) Role.Feature i rest f o a z n d w h = (tt, h)
   lead_element (constant Null place) _ i rest f o a z n d w h = absurd i
@@ -314,7 +315,7 @@ mutual
   )
 
   lead_elements : (es : Tree.Elements) (r : Role) → IsListed r → (rest : List Told) (f : Frame) (o : List Frame) (a z : Found) (n : ℕ)
-      → n + elements_depth es ≤ 64 → 2 * (length o + 2) ≤ n + 1 + credit r
+      → n + elements_depth es ≤ most_levels → 2 * (length o + 2) ≤ n + 1 + credit r
       → Leads rest (st 0 (Elements r) (taken_any (member_of r) (least (all_faults r es)) (all_kept r es) f) o a) z → Leads (elements_told es ++ rest) (st 0 (Elements r) f o a) z
   lead_elements end_of_array r i rest f o a z n d w h = subst (λ (g : Frame). Leads rest (st 0 (Elements r) g o a) z) (taken_none (member_of r) f) h
   lead_elements (element v more) r i rest f o a z n d w h =
@@ -327,7 +328,7 @@ mutual
 
   -- the members of an object at level n
   lead_members : (ms : Members) (rest : List Told) (f : Frame) (o : List Frame) (a z : Found) (n : ℕ) (r : Role)
-      → n + members_depth ms ≤ 64 → IsWithin n o r → f.shown.role ≡ r → Leads rest (st 0 Names (members_taken ms f) o a) z → Leads (members_told ms ++ rest) (st 0 Names f o a) z
+      → n + members_depth ms ≤ most_levels → IsWithin n o r → f.shown.role ≡ r → Leads rest (st 0 Names (members_taken ms f) o a) z → Leads (members_told ms ++ rest) (st 0 Names f o a) z
   lead_members end_of_object rest f o a z n r d w e h = h
   lead_members (member place name end v more) rest f o a z n r d w e h = (
     tt,
@@ -352,7 +353,7 @@ had_found had = record { fault = None; warned = had }
 abbrev pub due_root : Warnings → State
 due_root had = st 0 RootDue (blank Role.Root 0) [] (had_found had)
 
-lead_root : (v : Tree) (had : Warnings) → depth v ≤ 64 → Leads (told v) (due_root had) (found_behind had v)
+lead_root : (v : Tree) (had : Warnings) → depth v ≤ most_levels → Leads (told v) (due_root had) (found_behind had v)
 lead_root (constant Null place) had d = (tt, refl)
 lead_root (constant True place) had d = (tt, refl)
 lead_root (constant False place) had d = (tt, refl)
@@ -367,7 +368,7 @@ lead_root (object place ms close) had d = (
       (tt, ap (λ (x : Found). record { fault = x.fault; warned = Noted.joined had x.warned }) (all_closed Role.Root place close ms)),
 )
 
-lead_marked : (marked : Bool) (v : Tree) → depth v ≤ 64 → Leads (mark_told marked ++ told v) start (found_behind (marked_kept marked) v)
+lead_marked : (marked : Bool) (v : Tree) → depth v ≤ most_levels → Leads (mark_told marked ++ told v) start (found_behind (marked_kept marked) v)
 lead_marked true v d = (tt, lead_root v (marked_kept true) d)
 lead_marked false v d = lead_root v (marked_kept false) d
 
@@ -375,7 +376,7 @@ lead_marked false v d = lead_root v (marked_kept false) d
 abbrev pub text_found : Text → Found
 text_found text = record { fault = least (text_faults text); warned = text_kept text }
 
-pub lead_text : (text : Text) → depth text.value ≤ 64 → Leads (text_told text) start (text_found text)
+pub lead_text : (text : Text) → depth text.value ≤ most_levels → Leads (text_told text) start (text_found text)
 lead_text text d = lead_marked text.marked text.value d
 
 pub leads_at : (done rest : List Told) (s : State) (z : Found) → Leads (done ++ rest) s z → Leads rest (run done s) z

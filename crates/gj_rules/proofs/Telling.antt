@@ -10,6 +10,7 @@ use Rattle.gj_json.specs.Events as E
 use Rattle.gj_json.specs.Tree.{Tree, Text, depth}
 use Rattle.gj_coords.specs.declared.coordinates.Coordinates as C
 use Rattle.gj_coords.specs.declared.bbox.Bbox as B
+use Rattle.gj_rules.specs.Levels.{most_levels, most_skipped}
 use Rattle.gj_rules.specs.Seen.{Found}
 use Rattle.gj_rules.specs.Read.{found_in}
 use Rattle.gj_rules.specs.Seen.{Frame}
@@ -82,7 +83,7 @@ step_taken x feed zero m f o a e = rw e (behind_taken x (core_step (event_of x) 
 step_taken x feed (suc k) m f o a e = refl
 
 few_skipped : (x : Told) (rest : List Told) (feed : Feed) (k : ℕ) (m : Mode) (f : Frame) (o : List Frame) (a : Found)
-    → is_feeding k m ≡ false → Good x rest (with_feed (core k m f o a) feed) → k < 255
+    → is_feeding k m ≡ false → Good x rest (with_feed (core k m f o a) feed) → k < most_skipped
 few_skipped x rest feed zero m f o a e g = omega arith
 few_skipped x rest feed (suc k) m f o a e g = g
 
@@ -98,7 +99,7 @@ has_room x rest feed zero (Elements r) f o a e g z = g
 has_room x rest feed zero Done f o a e g z = g
 
 taken_core : (old new : Rules) (x : Told) (rest : List Told) (feed : Feed) → is_feeding old.skipped old.mode ≡ false → Good x rest (with_feed (core_of old) feed)
-    → (old.skipped < 255 → (old.skipped ≡ 0 → HasRoom (event_of x).what (core_of old).outer) → core_of new ≡ core_step (event_of x) (core_of old)) → Holds new []
+    → (old.skipped < most_skipped → (old.skipped ≡ 0 → HasRoom (event_of x).what (core_of old).outer) → core_of new ≡ core_step (event_of x) (core_of old)) → Holds new []
     → Stands new (step x (with_feed (core_of old) feed))
 taken_core old new x rest feed e g t h = (
   t (few_skipped x rest feed old.skipped old.mode (top_of old) (core_of old).outer (core_of old).answer e g)
@@ -155,7 +156,7 @@ goes_on v taken left later next event e f g =
     append_assoc taken (event ∷ []) later ∙ (ap (λ (y : Event). taken ++ y ∷ later) f ∙ (ap (λ (es : List Event). taken ++ es) (sym e) ∙ g))
 
 feed_core : (old new : Rules) (x : Told) (rest : List Told) (feed : Feed) → is_feeding old.skipped old.mode ≡ true → Good x rest (with_feed (core_of old) feed) → Holds old feed.taken
-    → ((v : Tree) (taken left : List Event) → depth v ≤ 64 → Holds old taken → (taken ++ event_of x ∷ []) ++ left ≡ value_events v → Fed old v (taken ++ event_of x ∷ []) left new)
+    → ((v : Tree) (taken left : List Event) → depth v ≤ most_levels → Holds old taken → (taken ++ event_of x ∷ []) ++ left ≡ value_events v → Fed old v (taken ++ event_of x ∷ []) left new)
     → Stands new (step x (with_feed (core_of old) feed))
 feed_core old new x rest feed e g h t =
     let k = fits_of x rest feed old.skipped old.mode (top_of old) (core_of old).outer (core_of old).answer e g in
@@ -169,7 +170,7 @@ feed_core old new x rest feed e g h t =
 -- ---- a call
 
 -- the state before an event of a text, and what is known of it
-front_stands : (rules : Rules) (events : List Event) (text : Text) (front rest : List Told) (x : Told) → StandsFor rules events → text_told text ≡ front ++ x ∷ rest → map event_of front ≡ events → depth text.value ≤ 64
+front_stands : (rules : Rules) (events : List Event) (text : Text) (front rest : List Told) (x : Told) → StandsFor rules events → text_told text ≡ front ++ x ∷ rest → map event_of front ≡ events → depth text.value ≤ most_levels
     → Stands rules (run front start) × Good x rest (run front start)
 front_stands rules events text front rest x h e f d = (
   h text front (x ∷ rest) e f d,
@@ -181,7 +182,7 @@ abbrev pub Steps : Rules → Event → Rules → Type 0
 Steps old event new = (x : Told) (rest : List Told) (s : State) → event_of x ≡ event → Stands old s → Good x rest s → Stands new (step x s)
 
 steps_told : (old new : Rules) (event : Event) (events : List Event) (text : Text) (done rest front : List Told) (x : Told) → Steps old event new → StandsFor old events
-    → text_told text ≡ done ++ rest → depth text.value ≤ 64 → done ≡ front ++ x ∷ [] → map event_of front ≡ events → event_of x ≡ event → Stands new (run done start)
+    → text_told text ≡ done ++ rest → depth text.value ≤ most_levels → done ≡ front ++ x ∷ [] → map event_of front ≡ events → event_of x ≡ event → Stands new (run done start)
 steps_told old new event events text done rest front x t h e d p q i =
     let split : text_told text ≡ front ++ x ∷ rest = e ∙ (ap (λ (ts : List Told). ts ++ rest) p ∙ append_assoc front (x ∷ []) rest) in
     let k = front_stands old events text front rest x h split q d in
@@ -200,16 +201,16 @@ pub good_core : (old : Rules) (x : Told) (rest : List Told) (s : State) → core
 good_core old x rest s e g = subst (λ (c : Core). Good x rest (with_feed c s.feed)) (sym e) g
 
 pub steps_taken : (old new : Rules) (event : Event) → is_feeding old.skipped old.mode ≡ false
-    → (old.skipped < 255 → (old.skipped ≡ 0 → HasRoom event.what (core_of old).outer) → core_of new ≡ core_step event (core_of old)) → Holds new [] → Steps old event new
+    → (old.skipped < most_skipped → (old.skipped ≡ 0 → HasRoom event.what (core_of old).outer) → core_of new ≡ core_step event (core_of old)) → Holds new [] → Steps old event new
 steps_taken old new event e t h = λ x rest s i k g.
     from_core old new x s k.0 (taken_core old new x rest s.feed e (good_core old x rest s k.0 g)
-    (subst (λ (y : Event). old.skipped < 255 → (old.skipped ≡ 0 → HasRoom y.what (core_of old).outer) → core_of new ≡ core_step y (core_of old)) (sym i) t) h)
+    (subst (λ (y : Event). old.skipped < most_skipped → (old.skipped ≡ 0 → HasRoom y.what (core_of old).outer) → core_of new ≡ core_step y (core_of old)) (sym i) t) h)
 
 pub steps_fed : (old new : Rules) (event : Event) → is_feeding old.skipped old.mode ≡ true
-    → ((v : Tree) (taken left : List Event) → depth v ≤ 64 → Holds old taken → (taken ++ event ∷ []) ++ left ≡ value_events v → Fed old v (taken ++ event ∷ []) left new) → Steps old event new
+    → ((v : Tree) (taken left : List Event) → depth v ≤ most_levels → Holds old taken → (taken ++ event ∷ []) ++ left ≡ value_events v → Fed old v (taken ++ event ∷ []) left new) → Steps old event new
 steps_fed old new event e t = λ x rest s i k g.
     from_core old new x s k.0 (feed_core old new x rest s.feed e (good_core old x rest s k.0 g) k.1
-    (subst (λ (y : Event). (v : Tree) (taken left : List Event) → depth v ≤ 64 → Holds old taken → (taken ++ y ∷ []) ++ left ≡ value_events v → Fed old v (taken ++ y ∷ []) left new) (sym i) t))
+    (subst (λ (y : Event). (v : Tree) (taken left : List Event) → depth v ≤ most_levels → Holds old taken → (taken ++ y ∷ []) ++ left ≡ value_events v → Fed old v (taken ++ y ∷ []) left new) (sym i) t))
 
 -- ---- the start and the end
 
@@ -217,7 +218,7 @@ pub started : (rules : Rules) → core_of rules ≡ start.core → Holds rules [
 started rules e h = λ text done rest f g d.
     subst (λ (ts : List Told). Stands rules (run ts start)) (sym (none_told done g)) (e, h)
 
-pub answered : (rules : Rules) (text : Text) → depth text.value ≤ 64 → StandsFor rules (all_events text) → found_in rules.answer ≡ text_found text
+pub answered : (rules : Rules) (text : Text) → depth text.value ≤ most_levels → StandsFor rules (all_events text) → found_in rules.answer ≡ text_found text
 answered rules text d h =
     let whole : text_told text ≡ text_told text ++ [] = sym (append-nil (text_told text)) in
     let k = h text (text_told text) [] whole (text-events text) d in
@@ -226,7 +227,7 @@ answered rules text d h =
 
 -- ---- the frames in use
 
-pub judged_is : (rules : Rules) (text : Text) (bytes : List ℕ) (n : ℕ) → IsText text bytes → depth text.value ≤ 64 → StandsFor rules (events_by n text) → frames_by rules.mode (core_of rules).outer ≡ judged_at n text
+pub judged_is : (rules : Rules) (text : Text) (bytes : List ℕ) (n : ℕ) → IsText text bytes → depth text.value ≤ most_levels → StandsFor rules (events_by n text) → frames_by rules.mode (core_of rules).outer ≡ judged_at n text
 judged_is rules text bytes n t d h =
     let front = front_text text bytes n t in
     let e : map event_of front.done ≡ events_by n text = front.complete ∙ ap (λ (xs : List E.Timed). by n xs) (text-timed text) in

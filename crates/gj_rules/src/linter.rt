@@ -5,6 +5,7 @@ mod tests;
 
 ghost use Rattle.std.specs.Prelude.{◌≡◌, ℕ, ◌≤◌, ◌^◌, ◌++◌, [], List, length, take, None, Some, IsTrue};
 ghost use Rattle.gj_json.specs.declared.fault.JsonFault.{JsonFault};
+ghost use Rattle.gj_json.specs.declared.limits.TheConstants.{MOST_LEVELS};
 ghost use Rattle.gj_json.specs.Reader.{limits_of as reader_limits};
 ghost use Rattle.gj_json.specs.Tree.{Text};
 ghost use Rattle.gj_json.specs.Text.{IsText, IsTextWithin};
@@ -16,11 +17,13 @@ ghost use Rattle.gj_rules.specs.Rules.{StandsFor as RulesStandFor};
 ghost use Rattle.gj_rules.specs.Verdict.{verdict_of};
 
 use crate::frame::Frame;
-use crate::rules::Rules;
+use crate::rules::{MOST_FRAMES, Rules};
 use crate::verdict::Verdict;
 use gj_coords::laws::kept_warnings;
 use gj_coords::{Fault, Warnings};
-use gj_json::{Event, EventSink, JsonFault, Limits, Reader, bytes_taken, few_events, one_refusal};
+use gj_json::{
+    Event, EventSink, JsonFault, Limits, MOST_LEVELS, Reader, bytes_taken, few_events, one_refusal,
+};
 use std::mem::size_of;
 
 /// What a piece of an input shows.
@@ -54,17 +57,17 @@ fn verdict_of(fault: Option<Fault>, warnings: Warnings) -> Verdict
 
 /// Judges an input that comes in pieces of any size.
 ///
-/// It holds one fixed record, with room for 33 frames: at most one for each two open levels, and one.
+/// It holds one fixed record, with room for as many frames as there can be: one for each two open levels, and one.
 #[derive(Drop)]
 pub struct Linter {
     rules: Rules,
     reader: Reader,
-    ghost shallow: { (reader_limits reader).depth ≤ 64 },
+    ghost shallow: { (reader_limits reader).depth ≤ MOST_LEVELS },
     ghost short: { (reader_limits reader).bytes ≤ 2 ^ 60 },
 }
 
-// At most 33 frames and 8,192 bytes.
-const _: () = prove!(size_of::<Linter>() <= 33 * size_of::<Frame>() + 8192);
+// The frames, and at most 8,192 bytes beside them.
+const _: () = prove!(size_of::<Linter>() <= MOST_FRAMES * size_of::<Frame>() + 8192);
 
 impl Linter {
     ghost use Rattle.gj_rules.specs.Linter.{StandsFor, limits_of, refusal_of, offset_of, levels_of, Answers, refusal_in};
@@ -196,16 +199,16 @@ impl Linter {
     }
 
     /// How many arrays and objects are open after the bytes that were taken.
-    pub fn levels(&self) -> u8
+    pub fn levels(&self) -> u16
         ensures value { result ≡ levels_of self.now }
         ensures open { (bytes rest : List ℕ) (text : Text) → StandsFor self.now bytes → IsText text (take (offset_of self.now) bytes ++ rest) → result ≡ open_at (offset_of self.now) text }
-        ensures small { result ≤ 64 }
+        ensures small { result ≤ MOST_LEVELS }
     {
         self.reader.levels()
     }
 
     /// How many of the open objects have a role by their position: the number of frames in use.
-    pub fn judged(&self) -> u8
+    pub fn judged(&self) -> u16
         ensures open { (bytes rest : List ℕ) (text : Text) → StandsFor self.now bytes → IsTextWithin (limits_of self.now).depth text (take (offset_of self.now) bytes ++ rest)
             → result ≡ judged_at (offset_of self.now) text }
     {

@@ -7,7 +7,7 @@ use gj_json::{Known, What, Word};
 
 /// How many levels the value opens.
 #[inline]
-pub fn levels_in(what: &What) -> u8
+pub fn levels_in(what: &What) -> u16
     ensures { result ≡ levels_in what.now }
 {
     match what {

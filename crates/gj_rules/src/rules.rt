@@ -1,4 +1,5 @@
-ghost use Rattle.std.specs.Prelude.{◌≡◌, ℕ, ◌<◌, ◌≤◌, [], List, true, false, None, IsTrue};
+ghost use Rattle.std.specs.Prelude.{◌≡◌, ℕ, ◌<◌, ◌≤◌, [], List, length, true, false, None, IsTrue};
+ghost use Rattle.gj_rules.specs.declared.rules.TheConstants.{MOST_AROUND, MOST_FRAMES};
 
 mod doomed;
 mod flats;
@@ -11,12 +12,16 @@ use crate::found::Found;
 use crate::frame::Frame;
 use crate::mode::Mode;
 use crate::role::Role;
+use arrayvec::ArrayVec;
 use gj_coords::{Bbox, Coordinates, Fault, Warned, Warnings};
-use gj_json::{Event, EventSink, Flat, Known, What};
+use gj_json::{Event, EventSink, Flat, Known, MOST_LEVELS, What};
 use std::mem::size_of;
 
-/// How many objects with a role can be open around the innermost one, at 64 levels.
-const MOST_AROUND: usize = 32;
+/// How many objects with a role can be open around the innermost one: at most one for each two levels.
+const MOST_AROUND: usize = MOST_LEVELS as usize / 2;
+
+/// How many frames there can be.
+pub const MOST_FRAMES: usize = MOST_AROUND + 1;
 
 /// Finds the least fault and the warnings of a text from its events, in whatever order the members
 /// stand.
@@ -25,22 +30,24 @@ const MOST_AROUND: usize = 32;
 /// value without a role is skipped by a count of its levels.
 #[derive(Drop)]
 pub struct Rules {
-    /// The frames of the open objects with a role, the outermost first: up to that of the innermost one.
-    frames: [Frame; MOST_AROUND + 1],
+    /// The frames of the objects with a role that were open at once, the outermost first: as many as there were ever, so that
+    /// no other is written.
+    frames: ArrayVec<Frame, MOST_FRAMES>,
     /// How many are open around the innermost one. Its frame is the one at this index.
-    around: u8,
+    around: u16,
     coordinates: Coordinates,
     bbox: Bbox,
     /// What is found in the text, once it has ended, and until then the warning of a byte order mark.
     answer: Found,
     mode: Mode,
     /// How many levels of a value are open that is not looked into.
-    skipped: u8,
-    ghost fits: { around ≤ 32 },
+    skipped: u16,
+    ghost fits: { around < length frames.items },
+    ghost room: { length frames.items ≤ MOST_FRAMES },
 }
 
-// The frames lie in it from the start.
-const _: () = prove!(size_of::<Rules>() <= (MOST_AROUND + 1) * size_of::<Frame>() + 4096);
+// The room for the frames lies in it.
+const _: () = prove!(size_of::<Rules>() <= MOST_FRAMES * size_of::<Frame>() + 4096);
 
 impl Rules {
     ghost use Rattle.gj_json.specs.Tree.{Tree, Text, depth};
@@ -57,7 +64,7 @@ impl Rules {
     ghost use Rattle.gj_rules.specs.Step.{start, core_step, is_feeding, ended_as};
     ghost use Rattle.gj_rules.specs.Summaries.{StandsForCoordinates, StandsForBbox};
     ghost use Rattle.gj_rules.specs.Kept.{core_of, frames_by, Holds, HasRoom, Feeds};
-    ghost use Rattle.gj_rules.specs.Levels.{most_levels};
+    ghost use Rattle.gj_rules.specs.Levels.{most_levels, most_skipped};
     ghost use Rattle.gj_rules.specs.Rules.{StandsFor};
 
     /// Before the first event of a text.
@@ -71,8 +78,10 @@ impl Rules {
         ensures core { core_of result ≡ start.core }
         ensures holds { Holds result [] }
     {
+        let mut frames = ArrayVec::new();
+        frames.push(Frame::new(Role::Root, 0));
         Rules {
-            frames: [Frame::new(Role::Root, 0); MOST_AROUND + 1],
+            frames,
             around: 0,
             coordinates: Coordinates::new(),
             bbox: Bbox::new(),
@@ -127,13 +136,13 @@ impl Rules {
     }
 
     /// In a front of a text the number of open objects with a role, which is that of the frames in use.
-    pub fn judged(&self) -> u8
+    pub fn judged(&self) -> u16
         ensures { (text : Text) (bytes : List ℕ) (n : ℕ) → IsText text bytes → depth text.value ≤ most_levels → StandsFor self.now (events_by n text) → result ≡ judged_at n text }
     {
         self.frames()
     }
 
-    fn frames(&self) -> u8
+    fn frames(&self) -> u16
         ensures { result ≡ frames_by self.now.mode (core_of self.now).outer }
     {
         match self.mode {
@@ -160,7 +169,7 @@ impl Rules {
     // Where its kind is known, it is one step of these.
     #[inline(always)]
     fn take(&mut self, what: What, place: u64)
-        ensures core { self.old.skipped < 255 → (self.old.skipped ≡ 0 → HasRoom what (core_of self.old).outer) → core_of self.new ≡ core_step (record { place = place; what = what }) (core_of self.old) }
+        ensures core { self.old.skipped < most_skipped → (self.old.skipped ≡ 0 → HasRoom what (core_of self.old).outer) → core_of self.new ≡ core_step (record { place = place; what = what }) (core_of self.old) }
         ensures holds { is_feeding self.old.skipped self.old.mode ≡ false → Holds self.new [] }
     {
         if self.skipped > 0 {
@@ -308,11 +317,11 @@ impl EventSink for Rules {
         }
     }
 
-    fn ignored(&self) -> u8 {
+    fn ignored(&self) -> u16 {
         self.skipped
     }
 
-    fn pass(&mut self, left: u8) {
+    fn pass(&mut self, left: u16) {
         self.skipped = left;
         self.renew();
     }

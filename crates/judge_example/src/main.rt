@@ -36,11 +36,11 @@ impl EventSink for EventCount {
         self.count = self.count.saturating_add(1);
     }
 
-    fn ignored(&self) -> u8 {
+    fn ignored(&self) -> u16 {
         0
     }
 
-    fn pass(&mut self, _left: u8) {}
+    fn pass(&mut self, _left: u16) {}
 }
 
 /// How many events a JSON text has, or where and why the bytes are no such text.

@@ -1,7 +1,7 @@
 use super::locate_reader;
 use crate::fault::ReadFault;
 use crate::testing::{Endless, SliceSource};
-use gj_json::{Known, Limits, Path, PathStep};
+use gj_json::{Known, Limits, MOST_LEVELS, Path, PathStep};
 
 const POINT: &[u8] = b"{\"type\":\"Point\",\"coordinates\":[1,2]}";
 
@@ -84,7 +84,7 @@ fn a_failed_read_is_told(rt: HostRuntime) {
 
 #[test]
 fn an_endless_reader_is_stopped_by_the_limit(rt: HostRuntime) {
-    let Some(limits) = Limits::new(64, 10) else {
+    let Some(limits) = Limits::new(MOST_LEVELS, 10) else {
         return;
     };
     let mut reader = Endless::new(b' ');

@@ -3,7 +3,7 @@ ghost use Rattle.std.specs.Prelude.{◌≡◌, ◌+◌, ◌*◌, ◌≤◌, leng
 ghost use Rattle.gj_json.specs.Path.{steps_of};
 ghost use Rattle.geolint.specs.Report.{name_text, step_text, steps_text, path_line_if};
 ghost use Rattle.geolint.specs.Room.{written_in, Adds};
-ghost use Rattle.geolint.specs.declared.room.TheConstants.{CAPACITY, MOST_LINE, MOST_STEP};
+ghost use Rattle.geolint.specs.declared.room.TheConstants.{CAPACITY, MOST_LINE, MOST_STEP, MOST_STEPS};
 
 use crate::room::Room;
 use gj_json::{Known, Path, PathStep};
@@ -43,9 +43,9 @@ fn push_step(step: PathStep, room: &mut Room)
 
 /// All steps, from the root.
 fn push_steps(path: &Path, room: &mut Room)
-    requires { length (written_in room.old) + 64 * MOST_STEP ≤ CAPACITY }
+    requires { length (written_in room.old) + MOST_STEPS * MOST_STEP ≤ CAPACITY }
     ensures text { Adds room.old room.new (steps_text (steps_of path.now)) }
-    ensures short { length (written_in room.new) ≤ length (written_in room.old) + 64 * MOST_STEP }
+    ensures short { length (written_in room.new) ≤ length (written_in room.old) + MOST_STEPS * MOST_STEP }
 {
     for i in 0..path.len() {
         if let Some(step) = path.step(i) {

@@ -3,7 +3,7 @@
 use super::*;
 use crate::fault::{ReadFault, WriteFault};
 use crate::testing::{ArraySink, Ending, Endless, SliceSource};
-use gj_json::{Cause, JsonFault, Limits};
+use gj_json::{Cause, JsonFault, Limits, MOST_LEVELS};
 use std::process::Abort;
 
 const POINT: &[u8] = b"{\"type\":\"Point\",\"coordinates\":[1,2]}";
@@ -364,15 +364,16 @@ fn texts_are_judged_by_the_rules(rt: HostRuntime) {
 
 #[test]
 fn other_bytes_are_no_text(rt: HostRuntime) {
-    let open = [b'['; 65];
+    let most = MOST_LEVELS as usize;
+    let open = [b'['; MOST_LEVELS as usize + 1];
     let mut closed_wrongly = open;
-    closed_wrongly[64] = b'}';
+    closed_wrongly[most] = b'}';
     let rows: [(&[u8], &str); 24] = [
         (b"", "not JSON at 0: truncated\n"),
         (b"{\"a\":\"\xE2\x82\x28", "not JSON at 8: syntax\n"),
-        (&open, "not JSON at 64: too deep\n"),
-        (&open[..64], "not JSON at 64: truncated\n"),
-        (&closed_wrongly, "not JSON at 64: syntax\n"),
+        (&open, "not JSON at 256: too deep\n"),
+        (&open[..most], "not JSON at 256: truncated\n"),
+        (&closed_wrongly, "not JSON at 256: syntax\n"),
         (b"{\"type\":\"Point\"} x", "not JSON at 17: syntax\n"),
         (b"01", "not JSON at 1: syntax\n"),
         (b"[1,2", "not JSON at 4: truncated\n"),
@@ -401,7 +402,7 @@ fn other_bytes_are_no_text(rt: HostRuntime) {
 
 #[test]
 fn a_text_has_at_most_the_bytes_allowed(rt: HostRuntime) {
-    let Some(limits) = Limits::new(64, 10) else {
+    let Some(limits) = Limits::new(MOST_LEVELS, 10) else {
         return;
     };
     expect(&rt, POINT, limits, "not JSON at 10: too long\n");
@@ -421,7 +422,7 @@ fn brackets_without_end_are_too_deep(rt: HostRuntime) {
         run(&mut Endless::new(b'['), &mut sink, options(Limits::usual())),
         Ok(Outcome::Fail)
     );
-    assert_eq!(rt; sink.bytes(), "not JSON at 64: too deep\n".as_bytes());
+    assert_eq!(rt; sink.bytes(), "not JSON at 256: too deep\n".as_bytes());
 }
 
 #[test]

@@ -3,7 +3,7 @@
 use super::*;
 use crate::fault::WriteFault;
 use crate::testing::{ArraySink, Ending, Endless, SliceSource};
-use gj_json::{Cause, JsonFault};
+use gj_json::{Cause, JsonFault, MOST_LEVELS};
 use std::process::Abort;
 
 /// A separator, a Point, LF, a run of two separators, a Point, LF.
@@ -14,7 +14,7 @@ const TWO: &[u8] =
 const WARNED: &[u8] =
     b"\x1E\xEF\xBB\xBF{\"crs\":1,\"type\":\"Point\",\"coordinates\":[1,2]}\n\x1E\xEF\xBB\xBF{\"crs\":1,\"type\":\"Point\",\"coordinates\":[1,2]}\n";
 
-fn options(depth: u8, bytes: u64, strict: bool, quick: bool) -> Options {
+fn options(depth: u16, bytes: u64, strict: bool, quick: bool) -> Options {
     Options {
         limits: Limits::new(depth, bytes).unwrap_or(Limits::usual()),
         strict,
@@ -23,7 +23,7 @@ fn options(depth: u8, bytes: u64, strict: bool, quick: bool) -> Options {
 }
 
 fn usual() -> Options {
-    options(64, 1 << 60, false, false)
+    options(MOST_LEVELS, 1 << 60, false, false)
 }
 
 fn writer() -> ArraySink {
@@ -127,7 +127,7 @@ fn sequences_are_judged_by_their_records(rt: HostRuntime) {
     ];
     for (input, report, outcome) in rows {
         expect(&rt, input, &usual(), report, outcome);
-        let quick = options(64, 1 << 60, false, true);
+        let quick = options(MOST_LEVELS, 1 << 60, false, true);
         gives(&rt, &mut SliceSource::whole(input), &quick, report, outcome);
     }
 }
@@ -137,20 +137,20 @@ fn limits_end_a_sequence(rt: HostRuntime) {
     let rows: [(&[u8], u8, u64, &str); 7] = [
         (
             b"\x1E[]\n\x1E",
-            64,
+            MOST_LEVELS,
             4,
             "record 1\nnot JSON at 4: too long\n",
         ),
         (
             b"\x1E[]\n\x1E",
-            64,
+            MOST_LEVELS,
             5,
             "record 1\nbroken G1 at 1: not an object\n",
         ),
         // inside a run of separators, at one, and at the byte behind
-        (TWO, 64, 39, "record 2\nnot JSON at 39: too long\n"),
-        (TWO, 64, 38, "record 1\nnot JSON at 38: too long\n"),
-        (TWO, 64, 40, "record 2\nnot JSON at 40: too long\n"),
+        (TWO, MOST_LEVELS, 39, "record 2\nnot JSON at 39: too long\n"),
+        (TWO, MOST_LEVELS, 38, "record 1\nnot JSON at 38: too long\n"),
+        (TWO, MOST_LEVELS, 40, "record 2\nnot JSON at 40: too long\n"),
         // two levels are allowed to each record
         (
             b"\x1E{\"type\":\"Point\",\"coordinates\":[1,2]}\n\x1E[[[",
@@ -175,14 +175,14 @@ fn a_strict_run_allows_no_warning(rt: HostRuntime) {
     let warned =
         "valid\nrecords 2\nwarning W1 count 2 first 1: byte order mark\nwarning W9 count 2 first 5: crs is no longer used\n";
     expect(&rt, WARNED, &usual(), warned, Outcome::Pass);
-    let strict = options(64, 1 << 60, true, false);
+    let strict = options(MOST_LEVELS, 1 << 60, true, false);
     expect(&rt, WARNED, &strict, warned, Outcome::Fail);
     expect(&rt, TWO, &strict, "valid\nrecords 2\n", Outcome::Pass);
 }
 
 #[test]
 fn sequences_without_end_are_too_long(rt: HostRuntime) {
-    let ten = options(64, 10, false, false);
+    let ten = options(MOST_LEVELS, 10, false, false);
     let report = "record 1\nnot JSON at 10: too long\n";
     gives(&rt, &mut Endless::new(0x1E), &ten, report, Outcome::Fail);
     let stray = "record 0\nnot JSON at 0: syntax\n";
@@ -245,7 +245,7 @@ fn a_failed_write_leaves_a_front_of_the_report(rt: HostRuntime) {
 fn a_report_goes_out_in_one_write(rt: HostRuntime) {
     for (input, strict) in [(WARNED, true), (TWO, false), (b"\x1E[]\n", false)] {
         let mut sink = writer();
-        let options = options(64, 1 << 60, strict, false);
+        let options = options(MOST_LEVELS, 1 << 60, strict, false);
         assert!(rt; run_sequence(&mut SliceSource::whole(input), &mut sink, options).is_ok());
         assert_eq!(rt; sink.writes(), 1);
     }

@@ -1,6 +1,6 @@
 use super::{Order, WordsFault, read_words};
 use crate::options::Options;
-use gj_json::Limits;
+use gj_json::{Limits, MOST_LEVELS};
 use std::alloc::{AllocError, Global};
 use std::test::Fail;
 
@@ -17,7 +17,7 @@ fn words_of(alloc: Global, line: &str) -> Result<Vec<String>, AllocError> {
 
 /// The same as `Limits::new` gives under the usual depth.
 fn at_most(bytes: u64) -> Limits {
-    match Limits::new(64, bytes) {
+    match Limits::new(MOST_LEVELS, bytes) {
         Some(limits) => limits,
         None => Limits::usual(),
     }

@@ -2,7 +2,7 @@
 
 use super::Locator;
 use crate::fault::{Cause, JsonFault};
-use crate::limits::Limits;
+use crate::limits::{Limits, MOST_LEVELS};
 use crate::names::Known;
 use crate::path::{Path, PathStep};
 use std::process::Abort;
@@ -39,7 +39,7 @@ fn is_path(path: Path, expected: &[PathStep]) -> bool {
         if path.step(at) != Some(*step) {
             return false;
         }
-        if at < 64 {
+        if at < MOST_LEVELS {
             at += 1;
         }
     }
@@ -201,19 +201,19 @@ fn refused_pieces(rt: HostRuntime) {
 #[test]
 fn most_levels(rt: HostRuntime) {
     let mut locator = Locator::new(Limits::usual());
-    for _ in 0..64 {
+    for _ in 0..MOST_LEVELS {
         assert!(rt; locator.push(b'[') == Ok(()), "a level");
     }
     assert!(rt; locator.push(b'7') == Ok(()), "the innermost element");
     let path = locator.path();
-    assert!(rt; path.len() == 64, "as many steps as levels");
-    for at in 0..64 {
+    assert!(rt; path.len() == MOST_LEVELS, "as many steps as levels");
+    for at in 0..MOST_LEVELS {
         assert!(rt;
             path.step(at) == Some(index(0)),
             "each to the first element"
         );
     }
-    assert!(rt; path.step(64) == None, "and no more");
+    assert!(rt; path.step(MOST_LEVELS) == None, "and no more");
 }
 
 #[test]

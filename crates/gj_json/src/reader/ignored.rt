@@ -12,7 +12,7 @@ impl Reader {
     ghost use Rattle.gj_json.specs.Feeding.{FeedsAll, FeedsTo, FeedsWithin, FeedsWithinTo};
 
     /// Takes bytes from the front of the piece, one at least, where some levels above the floor are open: how many.
-    fn take_some_within(&mut self, piece: &[u8], floor: u8) -> Result<usize, JsonFault>
+    fn take_some_within(&mut self, piece: &[u8], floor: u16) -> Result<usize, JsonFault>
         requires live { self.old.fault ≡ None }
         requires some { 0 < length piece.now }
         requires room { self.old.offset + length piece.now ≤ self.old.limits.bytes }
@@ -33,7 +33,7 @@ impl Reader {
     }
 
     /// Takes bytes from the front of the piece until the levels above the floor have closed: how many.
-    fn take_within(&mut self, piece: &[u8], floor: u8) -> Result<usize, JsonFault>
+    fn take_within(&mut self, piece: &[u8], floor: u16) -> Result<usize, JsonFault>
         requires live { self.old.fault ≡ None }
         requires room { self.old.offset + length piece.now ≤ self.old.limits.bytes }
         requires small { self.old.limits.bytes ≤ 2 ^ 60 }

@@ -13,6 +13,7 @@ ghost use Rattle.gj_json.specs.declared.mode.NumberTurn.TheVariants.{Ends};
 use super::Reader;
 use crate::fault::{Cause, JsonFault};
 use crate::levels::Level;
+use crate::limits::MOST_LEVELS;
 use crate::mode::{Mode, Move, StringMove, StringState};
 use crate::moves::next;
 use crate::sink::EventSink;
@@ -71,7 +72,7 @@ impl Reader {
     fn open(&mut self, level: Level)
         requires room { self.old.offset < self.old.limits.bytes }
         requires deep { length (levels_in self.old.levels) < self.old.limits.depth }
-        requires narrow { self.old.limits.depth ≤ 64 }
+        requires narrow { self.old.limits.depth ≤ MOST_LEVELS }
         ensures passes { Passes (opened level) (level ∷ levels_in self.old.levels) self.old self.new }
         ensures literal { self.new.literal ≡ self.old.literal }
         ensures content { self.new.content ≡ self.old.content }

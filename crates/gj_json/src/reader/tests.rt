@@ -9,7 +9,7 @@ mod tokens;
 use super::Reader;
 use crate::event::{Event, What};
 use crate::fault::{Cause, JsonFault};
-use crate::limits::Limits;
+use crate::limits::{Limits, MOST_LEVELS};
 use crate::names::{Known, Word};
 use crate::sink::EventSink;
 use arrayvec::ArrayVec;
@@ -32,17 +32,17 @@ impl EventSink for FirstEvents {
         }
     }
 
-    fn ignored(&self) -> u8 {
+    fn ignored(&self) -> u16 {
         0
     }
 
-    fn pass(&mut self, _left: u8) {}
+    fn pass(&mut self, _left: u16) {}
 }
 
 /// Ignores what stands in an array or an object.
 #[derive(Drop)]
 struct Ignoring {
-    levels: u8,
+    levels: u16,
 }
 
 impl EventSink for Ignoring {
@@ -58,11 +58,11 @@ impl EventSink for Ignoring {
         }
     }
 
-    fn ignored(&self) -> u8 {
+    fn ignored(&self) -> u16 {
         self.levels
     }
 
-    fn pass(&mut self, left: u8) {
+    fn pass(&mut self, left: u16) {
         self.levels = left;
     }
 }
@@ -168,80 +168,80 @@ fn texts_are_admitted(rt: HostRuntime) {
 
 #[test]
 fn ignored_levels_are_checked(rt: HostRuntime) {
-    let rows: [(&[u8], u8, u64, Option<JsonFault>, &str); 14] = [
+    let rows: [(&[u8], u16, u64, Option<JsonFault>, &str); 14] = [
         (
             b"{\"a\":{\"b\":[true,null,{\"c\":\"x\\n\xC3\xA9\",\"d\":-1.5e3}],\"e\":{}} , \"f\" : [ false ] }",
-            64,
+            MOST_LEVELS,
             100,
             None,
             "values of each kind",
         ),
         (
             b"{\"a\":[1,,2]}",
-            64,
+            MOST_LEVELS,
             100,
             refused(Cause::Syntax, 8),
             "two commas",
         ),
         (
             b"{\"a\":{\"b\" \"c\"}}",
-            64,
+            MOST_LEVELS,
             100,
             refused(Cause::Syntax, 10),
             "a name without a colon",
         ),
         (
             b"{\"a\":[true,\"\xFF\"]}",
-            64,
+            MOST_LEVELS,
             100,
             refused(Cause::Syntax, 12),
             "no UTF-8",
         ),
         (
             b"{\"a\":[\"b\":1]}",
-            64,
+            MOST_LEVELS,
             100,
             refused(Cause::Syntax, 9),
             "a colon in an array",
         ),
         (
             b"{\"a\":{\"b\",1}}",
-            64,
+            MOST_LEVELS,
             100,
             refused(Cause::Syntax, 9),
             "a comma behind a name",
         ),
         (
             b"{\"a\":{true:1}}",
-            64,
+            MOST_LEVELS,
             100,
             refused(Cause::Syntax, 6),
             "a literal name for a name",
         ),
         (
             b"{\"a\":{\"b\":1,true}}",
-            64,
+            MOST_LEVELS,
             100,
             refused(Cause::Syntax, 12),
             "no name behind a comma",
         ),
         (
             b"{\"a\":[tru]}",
-            64,
+            MOST_LEVELS,
             100,
             refused(Cause::Syntax, 9),
             "a part of a literal name",
         ),
         (
             b"{\"a\":[\"b\" true]}",
-            64,
+            MOST_LEVELS,
             100,
             refused(Cause::Syntax, 10),
             "no comma",
         ),
         (
             b"{\"a\":[\"b\"}}",
-            64,
+            MOST_LEVELS,
             100,
             refused(Cause::Syntax, 9),
             "the other bracket",
@@ -255,14 +255,14 @@ fn ignored_levels_are_checked(rt: HostRuntime) {
         ),
         (
             b"{\"a\":[true,false]}",
-            64,
+            MOST_LEVELS,
             14,
             refused(Cause::Length, 14),
             "too long",
         ),
         (
             b"{\"a\":[true,false",
-            64,
+            MOST_LEVELS,
             100,
             refused(Cause::Truncated, 16),
             "no end",
@@ -386,32 +386,33 @@ fn inputs_are_refused(rt: HostRuntime) {
 
 #[test]
 fn limits_are_kept(rt: HostRuntime) -> Result<(), AllocError> {
-    let deep = vec![in rt.alloc(); b'['; 65]?;
+    let most = MOST_LEVELS as usize;
+    let deep = vec![in rt.alloc(); b'['; most + 1]?;
     expect(
         &rt,
         Limits::usual(),
         &deep,
-        refused(Cause::Depth, 64),
-        "65 brackets",
+        refused(Cause::Depth, most as u64),
+        "one bracket more than may be open",
     );
     expect(
         &rt,
         Limits::usual(),
-        &deep[..64],
-        refused(Cause::Truncated, 64),
-        "64 brackets",
+        &deep[..most],
+        refused(Cause::Truncated, most as u64),
+        "as many brackets as may be open",
     );
-    let mut closed = vec![in rt.alloc(); b'['; 64]?;
+    let mut closed = vec![in rt.alloc(); b'['; most]?;
     closed.push(b'}')?;
     expect(
         &rt,
         Limits::usual(),
         &closed,
-        refused(Cause::Syntax, 64),
-        "64 brackets and a brace",
+        refused(Cause::Syntax, most as u64),
+        "as many, and a brace",
     );
     let point = b"{\"type\":\"Point\",\"coordinates\":[1,2]}";
-    if let Some(limits) = Limits::new(64, 10) {
+    if let Some(limits) = Limits::new(MOST_LEVELS, 10) {
         expect(
             &rt,
             limits,
@@ -420,7 +421,7 @@ fn limits_are_kept(rt: HostRuntime) -> Result<(), AllocError> {
             "ten bytes are allowed",
         );
     }
-    if let Some(limits) = Limits::new(64, 36) {
+    if let Some(limits) = Limits::new(MOST_LEVELS, 36) {
         expect(&rt, limits, point, None, "as many bytes as are allowed");
     }
     if let Some(limits) = Limits::new(1, 100) {
@@ -457,10 +458,10 @@ fn limits_are_made(rt: HostRuntime) {
     let rows = [
         (0, 1, false),
         (1, 1, true),
-        (64, 1, true),
-        (65, 1, false),
-        (64, 1 << 60, true),
-        (64, (1 << 60) + 1, false),
+        (MOST_LEVELS, 1, true),
+        (MOST_LEVELS + 1, 1, false),
+        (MOST_LEVELS, 1 << 60, true),
+        (MOST_LEVELS, (1 << 60) + 1, false),
         (1, 0, false),
     ];
     for (depth, bytes, made) in rows {
@@ -474,7 +475,7 @@ fn limits_are_made(rt: HostRuntime) {
         }
     }
     assert!(rt;
-        Limits::usual().depth() == 64 && Limits::usual().bytes() == 1 << 60,
+        Limits::usual().depth() == MOST_LEVELS && Limits::usual().bytes() == 1 << 60,
         "the usual limits"
     );
 }

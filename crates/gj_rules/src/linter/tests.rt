@@ -5,10 +5,13 @@ mod made;
 
 use super::*;
 use gj_coords::{Kind, Rule};
-use gj_json::Cause;
+use gj_json::{Cause, MOST_LEVELS};
 use std::process::Abort;
 
 /// A text that begins with an object whose `geometries` have no end yet.
+/// So many collections are as deep as a text may be.
+const HALF: u16 = MOST_LEVELS / 2;
+
 const COLLECTION: &[u8] = b"{\"type\":\"GeometryCollection\",\"geometries\":[";
 
 /// A linter that was fed this, then the start of so many collections inside each other, and then that.
@@ -24,16 +27,22 @@ fn fed(first: &[u8], collections: usize, last: &[u8]) -> Linter {
 
 #[test]
 fn levels_and_frames(rt: HostRuntime) {
-    let rows: [(&[u8], usize, &[u8], u8, u8); 9] = [
+    let rows: [(&[u8], usize, &[u8], u16, u16); 9] = [
         (b"", 0, b"", 0, 0),
         (b"{\"features\":[{\"properties\":{\"a\":[", 0, b"", 5, 2),
         (b"{\"geometry\":{\"geometry\":{", 0, b"", 3, 2),
         (b"[{", 0, b"", 2, 0),
         (b"{\"coordinates\":[[[[", 0, b"", 5, 1),
-        (b"", 32, b"", 64, 32),
-        (b"{\"geometry\":", 31, b"{", 64, 33),
+        (b"", HALF as usize, b"", MOST_LEVELS, HALF),
+        (
+            b"{\"geometry\":",
+            HALF as usize - 1,
+            b"{",
+            MOST_LEVELS,
+            HALF + 1,
+        ),
         (b"", 3, b"]}]}", 2, 1),
-        (b"", 33, b"", 64, 32),
+        (b"", HALF as usize + 1, b"", MOST_LEVELS, HALF),
     ];
     for (first, collections, last, levels, judged) in rows {
         let linter = fed(first, collections, last);
@@ -107,20 +116,32 @@ fn the_verdict_is_that_of_all_pieces(rt: HostRuntime) {
 }
 
 #[test]
-fn sixty_five_levels(rt: HostRuntime) {
-    let fault = JsonFault {
-        place: 1376,
-        cause: Cause::Depth,
-    };
-    assert!(rt;
-        fed(b"", 33, b"").finish() == Verdict::NotJson(fault),
-        "one collection too many"
-    );
+fn a_level_too_many(rt: HostRuntime) {
+    for depth in [2, MOST_LEVELS / 4, MOST_LEVELS] {
+        let Some(limits) = Limits::new(depth, 1 << 60) else {
+            continue;
+        };
+        let mut linter = Linter::new(limits);
+        for _ in 0..depth / 2 {
+            linter.feed(COLLECTION);
+        }
+        assert_eq!(rt; (linter.levels(), linter.judged()), (depth, depth / 2));
+        linter.feed(COLLECTION);
+        assert_eq!(rt; (linter.levels(), linter.judged()), (depth, depth / 2));
+        let fault = JsonFault {
+            place: depth as u64 / 2 * COLLECTION.len() as u64,
+            cause: Cause::Depth,
+        };
+        assert!(rt;
+            linter.finish() == Verdict::NotJson(fault),
+            "one collection too many, within {depth} levels"
+        );
+    }
 }
 
 #[test]
 fn one_text_after_another(rt: HostRuntime) {
-    let Some(ten) = Limits::new(64, 10) else {
+    let Some(ten) = Limits::new(MOST_LEVELS, 10) else {
         return;
     };
     let point = b"{\"type\":\"Point\",\"coordinates\":[1,2]}";

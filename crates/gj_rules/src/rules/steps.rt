@@ -4,6 +4,7 @@ ghost use Rattle.gj_json.specs.declared.event.What.TheVariants as W;
 
 use super::{MOST_AROUND, Rules};
 use crate::found::Found;
+use crate::frame::Frame;
 use crate::mode::Mode;
 use crate::opening::{levels_in, opening_fault, word_in};
 use crate::role::Role;
@@ -14,14 +15,19 @@ impl Rules {
     ghost use Rattle.gj_rules.specs.Frame.{settled};
     ghost use Rattle.gj_rules.specs.Step.{skip, pushed, popped, root_step, names_step, due_step, begun, element_step, is_feeding};
     ghost use Rattle.gj_rules.specs.Kept.{core_of, HasRoom, Holds};
+    ghost use Rattle.gj_rules.specs.Levels.{most_skipped};
 
-    /// An object with a role opens. A text of at most 64 levels has at most 33 of them open at once.
+    /// An object with a role opens. A text within the limits has at most [`MOST_AROUND`] of them open around it.
     #[inline(never)]
     fn push(&mut self, role: Role, place: u64)
         ensures rests { is_feeding 0 self.new.mode ≡ false }
         ensures core { length (core_of self.old).outer < MOST_AROUND → core_of self.new ≡ pushed role place (core_of self.old) }
     {
-        if (self.around as usize) < MOST_AROUND {
+        let around = self.around as usize + 1;
+        if around < self.frames.len() {
+            self.around += 1;
+        } else if around <= MOST_AROUND {
+            self.frames.push(Frame::new(role, place));
             self.around += 1;
         }
         self.frames[self.around as usize].again(role, place);
@@ -150,7 +156,7 @@ impl Rules {
     /// A part of a value that is not looked into.
     #[inline(always)]
     pub(super) fn skip(&mut self, what: What)
-        ensures { self.old.skipped < 255 → core_of self.new ≡ record (core_of self.old) { skipped = skip what self.old.skipped } }
+        ensures { self.old.skipped < most_skipped → core_of self.new ≡ record (core_of self.old) { skipped = skip what self.old.skipped } }
     {
         match what {
             What::OpenObject | What::OpenArray => self.skipped = self.skipped.saturating_add(1),

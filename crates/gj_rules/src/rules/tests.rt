@@ -9,7 +9,7 @@ ghost use Rattle.gj_rules.specs.Levels.{most_levels};
 
 use super::Rules;
 use gj_coords::{Fault, Rule};
-use gj_json::{Event, EventSink, Known, Limits, Reader, What, Word};
+use gj_json::{Event, EventSink, Known, Limits, MOST_LEVELS, Reader, What, Word};
 use std::process::Abort;
 
 /// A text that is read, and its rules.
@@ -515,10 +515,13 @@ fn a_byte_order_mark(rt: HostRuntime) {
 }
 
 /// A collection that is open in its first part.
+/// So many collections are as deep as a text may be.
+const HALF: u16 = MOST_LEVELS / 2;
+
 const OPEN: &str = "{\"type\":\"GeometryCollection\",\"geometries\":[";
 
 /// What was read behind a front, so many collections in one another, and an end.
-fn nested(front: &str, times: u32, end: &str) -> Reading {
+fn nested(front: &str, times: u16, end: &str) -> Reading {
     let mut reading = Reading::new();
     reading.piece(front.as_bytes());
     for _ in 0..times {
@@ -569,24 +572,24 @@ fn open_objects_with_a_role(rt: HostRuntime) {
 }
 
 #[test]
-fn sixty_four_levels(rt: HostRuntime) {
-    assert!(rt; nested("", 32, "").rules.judged() == 32, "32 collections");
+fn as_many_levels_as_can_be(rt: HostRuntime) {
+    assert!(rt; nested("", HALF, "").rules.judged() == HALF, "collections");
     assert!(rt;
-        nested("{\"geometry\":", 31, "{").rules.judged() == 33,
-        "33 objects with a role"
+        nested("{\"geometry\":", HALF - 1, "{").rules.judged() == HALF + 1,
+        "an object with a role more"
     );
-    let mut reading = nested("", 32, "");
-    for _ in 0..32 {
+    let mut reading = nested("", HALF, "");
+    for _ in 0..HALF {
         reading.piece(b"]}");
     }
     assert!(rt; reading.rules.fault() == None, "all of them closed");
-    let mut inner = nested("{\"geometry\":", 31, "{}");
-    for _ in 0..31 {
+    let mut inner = nested("{\"geometry\":", HALF - 1, "{}");
+    for _ in 1..HALF {
         inner.piece(b"]}");
     }
     inner.piece(b",\"type\":\"Feature\",\"properties\":null}");
     let fault = Fault {
-        place: 1345,
+        place: 12 + (HALF as u64 - 1) * OPEN.len() as u64,
         rule: Rule::G2,
     };
     assert!(rt;
@@ -612,7 +615,10 @@ fn events_of_no_text(rt: HostRuntime) {
             what: What::OpenArray,
         });
     }
-    assert!(rt; rules.judged() == 33, "more objects than there is room for");
+    assert!(rt;
+        rules.judged() == HALF + 1,
+        "more objects than there is room for"
+    );
     for place in 0..300 {
         rules.tell(Event {
             place,

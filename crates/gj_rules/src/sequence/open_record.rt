@@ -156,7 +156,7 @@ impl OpenRecord {
     }
 
     /// How many arrays and objects are open in it.
-    pub fn levels(&self) -> u8
+    pub fn levels(&self) -> u16
         ensures { (bytes rest : List ℕ) (text : Text) → StandsFor self.now bytes → refusal_of self.now.linter ≡ None → IsText text (bytes ++ rest) →
             result ≡ open_at (length bytes) text }
     {
@@ -165,7 +165,7 @@ impl OpenRecord {
     }
 
     /// How many of the open objects have a role by their position.
-    pub fn judged(&self) -> u8
+    pub fn judged(&self) -> u16
         ensures { (bytes rest : List ℕ) (text : Text) → StandsFor self.now bytes → refusal_of self.now.linter ≡ None → IsTextWithin self.now.limits.depth text (bytes ++ rest) →
             result ≡ judged_at (length bytes) text }
     {

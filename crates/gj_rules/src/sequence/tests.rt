@@ -2,6 +2,7 @@
 
 use super::*;
 use gj_coords::{Fault, Kind, Rule};
+use gj_json::MOST_LEVELS;
 use std::process::Abort;
 
 const MOST: u64 = 1 << 60;
@@ -16,7 +17,7 @@ const TWO: &[u8] =
 const MARKED: &[u8] =
     b"\x1E\xEF\xBB\xBF{\"type\":\"Point\",\"coordinates\":[1,2]}\n\x1E\xEF\xBB\xBF{\"type\":\"Point\",\"coordinates\":[1,2]}\n";
 
-fn start(depth: u8, bytes: u64) -> Sequence {
+fn start(depth: u16, bytes: u64) -> Sequence {
     Sequence::new(Limits::new(depth, bytes).unwrap_or(Limits::usual()))
 }
 
@@ -121,26 +122,46 @@ fn rows(rt: HostRuntime) {
         ),
     ];
     for (input, verdict) in rows {
-        in_any_cutting(&rt, 64, MOST, input, verdict);
+        in_any_cutting(&rt, MOST_LEVELS, MOST, input, verdict);
     }
 }
 
 #[test]
 fn limits(rt: HostRuntime) {
     let rows: [(u8, u64, &[u8], SeqVerdict); 13] = [
-        (64, 4, b"\x1E[]\n\x1E", not_json(1, 4, Cause::Length)),
-        (64, 5, b"\x1E[]\n\x1E", broken(1, 1, Rule::G1)),
+        (
+            MOST_LEVELS,
+            4,
+            b"\x1E[]\n\x1E",
+            not_json(1, 4, Cause::Length),
+        ),
+        (MOST_LEVELS, 5, b"\x1E[]\n\x1E", broken(1, 1, Rule::G1)),
         // inside a run of RS, at an RS, at the byte behind
-        (64, 1, b"\x1E\x1E\x1E[]\n", not_json(1, 1, Cause::Length)),
-        (64, 2, b"\x1E\x1E\x1E[]\n", not_json(1, 2, Cause::Length)),
-        (64, 3, b"\x1E\x1E\x1E[]\n", not_json(1, 3, Cause::Length)),
-        (64, 38, TWO, not_json(1, 38, Cause::Length)),
-        (64, 39, TWO, not_json(2, 39, Cause::Length)),
-        (64, 40, TWO, not_json(2, 40, Cause::Length)),
-        (64, 77, TWO, valid(2, Warnings::none())),
+        (
+            MOST_LEVELS,
+            1,
+            b"\x1E\x1E\x1E[]\n",
+            not_json(1, 1, Cause::Length),
+        ),
+        (
+            MOST_LEVELS,
+            2,
+            b"\x1E\x1E\x1E[]\n",
+            not_json(1, 2, Cause::Length),
+        ),
+        (
+            MOST_LEVELS,
+            3,
+            b"\x1E\x1E\x1E[]\n",
+            not_json(1, 3, Cause::Length),
+        ),
+        (MOST_LEVELS, 38, TWO, not_json(1, 38, Cause::Length)),
+        (MOST_LEVELS, 39, TWO, not_json(2, 39, Cause::Length)),
+        (MOST_LEVELS, 40, TWO, not_json(2, 40, Cause::Length)),
+        (MOST_LEVELS, 77, TWO, valid(2, Warnings::none())),
         // a refusal before the limit stands, and the limit comes before a refusal at its byte
-        (64, 3, b"\x1E[}]\n", not_json(1, 2, Cause::Syntax)),
-        (64, 2, b"\x1E[}]\n", not_json(1, 2, Cause::Length)),
+        (MOST_LEVELS, 3, b"\x1E[}]\n", not_json(1, 2, Cause::Syntax)),
+        (MOST_LEVELS, 2, b"\x1E[}]\n", not_json(1, 2, Cause::Length)),
         // the depth is allowed to each record
         (2, MOST, b"\x1E[[]]\n", broken(1, 1, Rule::G1)),
         (2, MOST, b"\x1E[[[", not_json(1, 3, Cause::Depth)),
@@ -152,7 +173,7 @@ fn limits(rt: HostRuntime) {
 
 #[test]
 fn progress(rt: HostRuntime) {
-    let mut sequence = start(64, MOST);
+    let mut sequence = start(MOST_LEVELS, MOST);
     assert!(rt; sequence.levels() == 0 && sequence.judged() == 0 && sequence.offset() == 0);
     assert!(rt; sequence.feed(POINT) == SeqProgress::Open);
     assert!(rt; sequence.feed(b"\n\x1E[{") == SeqProgress::Open);

@@ -2,7 +2,7 @@
 
 use super::{expect, refused};
 use crate::fault::Cause;
-use crate::limits::Limits;
+use crate::limits::{Limits, MOST_LEVELS};
 use crate::reader::Reader;
 use std::process::Abort;
 
@@ -88,7 +88,7 @@ fn long_strings_are_refused(rt: HostRuntime) {
         refused(Cause::Truncated, 110),
         "a character behind the run",
     );
-    let few = Limits::new(64, 50).expect(&rt, "within bounds");
+    let few = Limits::new(MOST_LEVELS, 50).expect(&rt, "within bounds");
     expect(
         &rt,
         few,

@@ -153,15 +153,15 @@ fn long_lists_and_names(rt: HostRuntime) {
 }
 
 #[test]
-fn thirty_two_collections_closed(rt: HostRuntime) {
-    let mut linter = fed(b"", 32, b"");
-    for _ in 0..32 {
+fn as_many_collections_as_can_be_closed(rt: HostRuntime) {
+    let mut linter = fed(b"", HALF as usize, b"");
+    for _ in 0..HALF {
         linter.feed(b"]}");
     }
     match linter.finish() {
         Verdict::Valid(warnings) => {
-            assert_eq!(rt; warnings.count(Kind::W7), 31);
-            assert_eq!(rt; warnings.first(Kind::W7), Some(43));
+            assert_eq!(rt; warnings.count(Kind::W7), HALF as u32 - 1);
+            assert_eq!(rt; warnings.first(Kind::W7), Some(COLLECTION.len() as u64));
         }
         verdict => assert!(rt; false, "{verdict:?}"),
     }
