@@ -1,7 +1,8 @@
 # The library for C and other languages: builds it, and installs it with its headers and the Python module.
 #
-#     make -f contrib/library.mk                                      # needs rt, the Rattle toolchain
-#     make -f contrib/library.mk install-library PREFIX=/usr/local    # needs no rt once it is built; honours DESTDIR
+#     make library                               # needs rt, the Rattle toolchain
+#     make install-library PREFIX=/usr/local     # needs no rt once it is built; honours DESTDIR
+#     make uninstall-library PREFIX=/usr/local
 #
 # The static library has no need of any other. The shared object is one line from it, see below.
 GEOLINT_ROOT := $(patsubst %/,%,$(dir $(lastword $(MAKEFILE_LIST))))/..
