@@ -12,7 +12,8 @@ GEOLINT_C := $(GEOLINT_ROOT)/crates/geolint_c
 PREFIX ?= /usr/local
 LIBDIR ?= $(PREFIX)/lib
 INCLUDEDIR ?= $(PREFIX)/include
-PYTHONDIR ?= $(PREFIX)/lib/python3/dist-packages
+# The folder under PREFIX in which Python looks for modules, where there is one.
+PYTHONDIR ?= $(or $(shell python3 -c 'import site, sys; print(*[it for it in [*site.getsitepackages(), site.getusersitepackages()] if it.startswith(sys.argv[1] + "/lib")][:1])' '$(PREFIX)' 2>/dev/null),$(PREFIX)/lib/python3/dist-packages)
 INSTALL ?= install
 
 .PHONY: library install-library uninstall-library

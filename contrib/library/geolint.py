@@ -9,7 +9,7 @@
     broken G15 at 89: ring not closed
 
 It needs nothing but the shared object `libgeolint.so`: the one that the variable GEOLINT_LIBRARY names, otherwise one that
-lies beside this file, otherwise the system's.
+lies beside this file or where `make install-library` put both, otherwise the system's.
 """
 
 import ctypes
@@ -46,9 +46,10 @@ class _Text(ctypes.Structure):
 
 
 def _load():
-    beside = os.path.join(os.path.dirname(os.path.abspath(__file__)), "libgeolint.so")
-    named = os.environ.get("GEOLINT_LIBRARY")
-    path = named or (beside if os.path.exists(beside) else ctypes.util.find_library("geolint"))
+    here = os.path.dirname(os.path.abspath(__file__))
+    near = [os.path.join(here, "libgeolint.so"), os.path.join(here, "..", "..", "libgeolint.so.0")]
+    found = [path for path in near if os.path.exists(path)]
+    path = os.environ.get("GEOLINT_LIBRARY") or (found[0] if found else ctypes.util.find_library("geolint"))
     if not path:
         raise ImportError("libgeolint.so is not installed; GEOLINT_LIBRARY may name it")
     library = ctypes.CDLL(path)
