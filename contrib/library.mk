@@ -33,15 +33,15 @@ $(LIBRARY_BUILD)/libgeolint.so: $(LIBRARY_BUILD)/libgeolint.a
 	$(CC) -shared -Wl,-soname,libgeolint.so.0 -Wl,--whole-archive $< -Wl,--no-whole-archive -o $@
 
 install-library: library
-	$(INSTALL) -d $(DESTDIR)$(LIBDIR)/pkgconfig $(DESTDIR)$(INCLUDEDIR) $(DESTDIR)$(PYTHONDIR)
-	$(INSTALL) -m 644 $(LIBRARY_BUILD)/libgeolint.a $(DESTDIR)$(LIBDIR)
-	$(INSTALL) -m 755 $(LIBRARY_BUILD)/libgeolint.so $(DESTDIR)$(LIBDIR)/libgeolint.so.0
-	ln -sf libgeolint.so.0 $(DESTDIR)$(LIBDIR)/libgeolint.so
-	$(INSTALL) -m 644 $(GEOLINT_C)/include/geolint.h $(GEOLINT_C)/include/geolint.hpp $(DESTDIR)$(INCLUDEDIR)
-	$(INSTALL) -m 644 $(GEOLINT_ROOT)/contrib/library/geolint.py $(DESTDIR)$(PYTHONDIR)
-	sed -e 's|@PREFIX@|$(PREFIX)|; s|@LIBDIR@|$(LIBDIR)|; s|@INCLUDEDIR@|$(INCLUDEDIR)|' $(GEOLINT_ROOT)/contrib/library/geolint.pc.in > $(DESTDIR)$(LIBDIR)/pkgconfig/geolint.pc
+	$(INSTALL) -d "$(DESTDIR)$(LIBDIR)/pkgconfig" "$(DESTDIR)$(INCLUDEDIR)" "$(DESTDIR)$(PYTHONDIR)"
+	$(INSTALL) -m 644 $(LIBRARY_BUILD)/libgeolint.a "$(DESTDIR)$(LIBDIR)"
+	$(INSTALL) -m 755 $(LIBRARY_BUILD)/libgeolint.so "$(DESTDIR)$(LIBDIR)/libgeolint.so.0"
+	ln -sf libgeolint.so.0 "$(DESTDIR)$(LIBDIR)/libgeolint.so"
+	$(INSTALL) -m 644 $(GEOLINT_C)/include/geolint.h $(GEOLINT_C)/include/geolint.hpp "$(DESTDIR)$(INCLUDEDIR)"
+	$(INSTALL) -m 644 $(GEOLINT_ROOT)/contrib/library/geolint.py "$(DESTDIR)$(PYTHONDIR)"
+	sed -e 's|@PREFIX@|$(PREFIX)|; s|@LIBDIR@|$(LIBDIR)|; s|@INCLUDEDIR@|$(INCLUDEDIR)|' $(GEOLINT_ROOT)/contrib/library/geolint.pc.in > "$(DESTDIR)$(LIBDIR)/pkgconfig/geolint.pc"
 
 uninstall-library:
-	rm -f $(DESTDIR)$(LIBDIR)/libgeolint.a $(DESTDIR)$(LIBDIR)/libgeolint.so $(DESTDIR)$(LIBDIR)/libgeolint.so.0
-	rm -f $(DESTDIR)$(LIBDIR)/pkgconfig/geolint.pc $(DESTDIR)$(INCLUDEDIR)/geolint.h $(DESTDIR)$(INCLUDEDIR)/geolint.hpp
-	rm -f $(DESTDIR)$(PYTHONDIR)/geolint.py
+	rm -f "$(DESTDIR)$(LIBDIR)/libgeolint.a" "$(DESTDIR)$(LIBDIR)/libgeolint.so" "$(DESTDIR)$(LIBDIR)/libgeolint.so.0"
+	rm -f "$(DESTDIR)$(LIBDIR)/pkgconfig/geolint.pc" "$(DESTDIR)$(INCLUDEDIR)/geolint.h" "$(DESTDIR)$(INCLUDEDIR)/geolint.hpp"
+	rm -f "$(DESTDIR)$(PYTHONDIR)/geolint.py"

@@ -34,7 +34,7 @@ static void pieces_of_length_0(void) {
         return;
     }
     wants(geolint_feed(linter, "", 0) == GEOLINT_DONE, "no bytes at all");
-    wants(geolint_feed(linter, GEOLINT_BYTES((const char *)NULL), 0) == GEOLINT_DONE, "a null piece of no bytes");
+    wants(geolint_feed(linter, geolint_bytes(NULL), 0) == GEOLINT_DONE, "a null piece of no bytes");
     wants(geolint_feed(linter, POINT, 10) == GEOLINT_DONE, "a piece");
     wants(geolint_feed(linter, "", 0) == GEOLINT_DONE && geolint_offset(linter) == 10, "no bytes in between");
     wants(geolint_feed(linter, POINT + 10, POINT_SIZE - 10) == GEOLINT_DONE, "the rest");

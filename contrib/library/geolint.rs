@@ -180,7 +180,8 @@ pub struct Linter {
     layout: Layout,
 }
 
-// It owns its memory, the library keeps nothing else, and each call takes it by `&mut`.
+// It owns its memory, the library keeps nothing else, and each call takes it by `&mut`. What lies in that memory is of a type
+// that is `Send` in the library's own language, which the check of `may_move` there sees.
 unsafe impl Send for Linter {}
 
 impl Linter {

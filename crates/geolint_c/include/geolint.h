@@ -21,8 +21,8 @@
  *
  * What the caller owes, as no library can test it:
  *   - a pointer that is not null points to what its parameter says, for the whole call;
- *   - `bytes` is not null, whatever the length is: for a length of 0 any address will do, as that of "". GEOLINT_BYTES
- *     below makes such an address of a pointer that may be null;
+ *   - `bytes` is not null, whatever the length is: for a length of 0 any address will do, as that of "". geolint_bytes below
+ *     makes such an address of a pointer that may be null;
  *   - a linter lies in memory of geolint_size() bytes at a multiple of geolint_alignment(), and is passed to no call before
  *     geolint_begin has got this memory. It is not copied, not moved and not written by the host;
  *   - one call at a time for each linter. Where the next call comes from another thread, a lock, a thread's start or join or the
@@ -90,7 +90,9 @@ typedef struct geolint_report {
 typedef struct geolint_linter geolint_linter;
 
 /* The address of bytes, where a null pointer may stand for no bytes. */
-#define GEOLINT_BYTES(bytes) ((bytes) ? (const void *)(bytes) : (const void *)"")
+static inline const void *geolint_bytes(const void *bytes) {
+    return bytes ? bytes : "";
+}
 
 /* ---- a text in memory */
 

@@ -56,7 +56,7 @@ private:
 
 /* Judges a text in memory. */
 inline Verdict check(const void *bytes, std::size_t length, Limits limits = Limits()) noexcept {
-    return Verdict(geolint_check(GEOLINT_BYTES(bytes), length, limits.max_depth, limits.max_bytes));
+    return Verdict(geolint_check(geolint_bytes(bytes), length, limits.max_depth, limits.max_bytes));
 }
 
 /* Judges any container of bytes that has data() and size(), as std::string or std::vector<char>. */
@@ -83,7 +83,7 @@ public:
 
     /* Takes the next bytes. False: the text is refused, or the linter is empty or has ended; the host may stop reading. */
     bool feed(const void *bytes, std::size_t length) noexcept {
-        return geolint_feed(linter_, GEOLINT_BYTES(bytes), length) == GEOLINT_DONE;
+        return geolint_feed(linter_, geolint_bytes(bytes), length) == GEOLINT_DONE;
     }
     template <class Bytes, class = decltype(std::declval<const Bytes &>().data())> bool feed(const Bytes &bytes) noexcept {
         return feed(bytes.data(), bytes.size() * sizeof(*bytes.data()));
