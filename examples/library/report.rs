@@ -1,7 +1,8 @@
 //! Copies standard input to a file while it is judged, and prints the report of `geolint stdin`: Rust with
 //! `contrib/library/geolint.rs`.
 //!
-//!     report [COPY]     without a copy, only the report
+//!     rustc --edition 2021 -O -L native=/usr/local/lib -l static=geolint report.rs
+//!     ./report [COPY]     without a copy, only the report
 //!
 //! The status is the program's: 0 valid, 1 not valid, 2 no verdict.
 #[allow(dead_code)]

@@ -109,7 +109,8 @@ size_t geolint_alignment(void);
 
 /* Begins a linter in this memory, whatever is there, before the first byte of an input: GEOLINT_DONE. The limits are those
  * of geolint_check; where they are not allowed the answer is GEOLINT_LIMITS, and the linter has ended. Null: GEOLINT_NULL.
- * A linter may be begun again at any time, also by geolint_begin_again. There is nothing to free in it: the host frees its memory, once, when it likes. */
+ * A linter may be begun again at any time, also by geolint_begin_again. There is nothing to free in it: the host frees its
+ * memory, once, when it likes. */
 uint32_t geolint_begin(geolint_linter *linter, uint32_t max_depth, uint64_t max_bytes);
 
 /* As geolint_begin, for memory that geolint_begin has got before: a host that judges many texts pays little for each, since
