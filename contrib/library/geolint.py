@@ -158,7 +158,7 @@ def _limits(max_depth, max_bytes):
 def _passed(data):
     """What a call is passed for some bytes: an address (of bytes, or of a copy) and the length."""
     if isinstance(data, str):
-        raise TypeError("bytes are due, not str: open a file as \"rb\", or encode the text")
+        raise TypeError("bytes are due, not str: open a file in binary mode, or encode the text")
     if not isinstance(data, bytes):
         data = bytes(memoryview(data))
     return data, ctypes.cast(ctypes.c_char_p(data), ctypes.c_void_p), len(data)

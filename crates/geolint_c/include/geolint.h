@@ -8,7 +8,7 @@
  * the profile in docs/DECISIONS.md reads them) on the whole text, and a prover checks it on each build:
  *   - geolint_check gives the verdict of these bytes: whether they are a JSON text (RFC 8259), then the broken rule of the
  *     least place in the whole text, otherwise of each kind of warning how many there are and the least place;
- *   - geolint_finish gives the same of all bytes that were fed since the linter was begun last, however they were cut into pieces;
+ *   - geolint_finish gives the same of all bytes fed since the linter was begun last, however they were cut into pieces;
  *   - geolint_feed answers GEOLINT_REFUSED only where every input that begins with the bytes fed so far is no JSON text within
  *     the limits, and GEOLINT_DONE only where these bytes begin a JSON text within the depth and are no more than allowed (not
  *     that such a text ends within the bytes allowed);
