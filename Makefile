@@ -40,3 +40,6 @@ install: build
 uninstall:
 	rm -f "$(program)" "$(manual)" "$(bash)" "$(zsh)" "$(fish)"
 	rm -f "$(program_files)" "$(manual_files)" "$(bash_files)" "$(zsh_files)" "$(fish_files)"
+
+# The library for C: `make library`, `make install-library`.
+include contrib/library.mk

@@ -75,17 +75,29 @@ static size_t print_report(const geolint_report *report, char *to) {
     return size;
 }
 
+/* Bytes in memory of their own, so that valgrind sees a read past their end. */
+static char *copied(const char *bytes, size_t size) {
+    char *copy = malloc(size ? size : 1);
+    if (!copy)
+        exit(2);
+    memcpy(copy, bytes, size);
+    return copy;
+}
+
+static geolint_report judge_whole(const char *text, size_t size) {
+    char *copy = copied(text, size);
+    geolint_report report = geolint_check(copy, size, 0, 0);
+    free(copy);
+    return report;
+}
+
 static geolint_report judge_cut(geolint_linter *linter, const char *text, size_t size) {
     size_t from = 0;
     geolint_begin_again(linter, 0, 0);
     while (from < size) {
         size_t most = below(3) ? 16 : size - from;
         size_t length = below((uint32_t)(most < size - from ? most : size - from) + 1);
-        /* A piece of its own, so that a read past its end is seen. */
-        char *piece = malloc(length + 1);
-        if (!piece)
-            break;
-        memcpy(piece, text + from, length);
+        char *piece = copied(text + from, length);
         geolint_feed(linter, piece, length);
         free(piece);
         from += length;
@@ -133,7 +145,7 @@ int main(int count, char **words) {
         memcpy(text, texts[file], size);
         for (uint32_t more = below(3); more > 0; more--)
             size = mutate(text, size);
-        geolint_report report = geolint_check(text, size, 0, 0), other = judge_cut(linter, text, size);
+        geolint_report report = judge_whole(text, size), other = judge_cut(linter, text, size);
         size_t one_size = print_report(&report, one), cut_size = print_report(&other, cut);
         int same = one_size == cut_size && memcmp(one, cut, one_size) == 0;
         tally[report.verdict & 3]++;

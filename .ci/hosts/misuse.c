@@ -34,7 +34,7 @@ static void pieces_of_length_0(void) {
         return;
     }
     wants(geolint_feed(linter, "", 0) == GEOLINT_DONE, "no bytes at all");
-    wants(geolint_feed(linter, GEOLINT_BYTES((const char *)NULL), 0) == GEOLINT_DONE, "a null piece of no bytes");
+    wants(geolint_feed(linter, geolint_bytes(NULL), 0) == GEOLINT_DONE, "a null piece of no bytes");
     wants(geolint_feed(linter, POINT, 10) == GEOLINT_DONE, "a piece");
     wants(geolint_feed(linter, "", 0) == GEOLINT_DONE && geolint_offset(linter) == 10, "no bytes in between");
     wants(geolint_feed(linter, POINT + 10, POINT_SIZE - 10) == GEOLINT_DONE, "the rest");
@@ -124,6 +124,12 @@ static void limits(void) {
     free(linter);
 }
 
+static void memory(void) {
+    size_t alignment = geolint_alignment();
+    wants(geolint_size() > 0 && geolint_size() % alignment == 0, "a size");
+    wants(alignment > 0 && (alignment & (alignment - 1)) == 0 && alignment <= 16, "an alignment that malloc has");
+}
+
 static void texts(void) {
     geolint_text text = {"", 1};
     wants(strcmp(geolint_rule(15), "ring not closed") == 0, "a rule's text");
@@ -143,6 +149,7 @@ int main(void) {
     begun_again();
     after_a_refusal();
     limits();
+    memory();
     texts();
     return failed;
 }

@@ -1,10 +1,18 @@
 """Judges the texts of rows.json by the library, in one call, in one piece, byte by byte and cut at each place (longer texts:
-at some), and compares with the verdict in the row. Then what the module says of itself."""
+at some), and compares with the verdict in the row, and its lines with those of the program that is named. Then what the
+module says of itself.
 
+    rows.py PROGRAM
+"""
+
+import copy
 import io
 import json
 import os
+import pickle
 import random
+import shutil
+import subprocess
 import sys
 
 import geolint
@@ -49,6 +57,14 @@ def fed(pieces, **limits):
     return plain(linter.finish())
 
 
+def reported(text, limits):
+    """The lines of the program and its status."""
+    words = [f"--{name.replace('_', '-')}={value}" for name, value in limits.items()]
+    done = subprocess.run([sys.argv[1], "stdin", *words], input=text, stdout=subprocess.PIPE, check=False)
+    return done.stdout.decode(), done.returncode
+
+
+said = set()
 rows = json.load(open(os.path.join(os.path.dirname(__file__), "rows.json")))
 chance = random.Random(22)
 for number, row in enumerate(rows, 1):
@@ -56,7 +72,10 @@ for number, row in enumerate(rows, 1):
     limits = {name: row[name] for name in ("max_depth", "max_bytes") if name in row}
     wanted = {name: row[name] for name in ("rule", "cause", "place", "warnings") if name in row}
     name = f"row {number} of rows.json"
-    wants(name, plain(geolint.check(text, **limits)), wanted)
+    verdict = geolint.check(text, **limits)
+    said |= {verdict.text, *(warning.text for warning in verdict.warnings)}
+    wants(name, plain(verdict), wanted)
+    wants(name + ", by the program", reported(text, limits), (f"{verdict}\n", 0 if verdict else 1))
     wants(name + ", as a file", plain(geolint.check(io.BytesIO(text), **limits)), wanted)
     if len(text) < 4096:
         wants(name + ", byte by byte", fed([text[i : i + 1] for i in range(len(text))], **limits), wanted)
@@ -65,6 +84,9 @@ for number, row in enumerate(rows, 1):
     else:
         for at in (chance.randrange(len(text)) for _ in range(5)):
             wants(f"{name}, cut at {at}", fed([text[:at], b"", text[at:]], **limits), wanted)
+
+# Each text of a rule, a cause and a kind was compared with the program's.
+wants("how many texts the rows have", len(said - {None}), 21 + 4 + 9)
 
 ring = b'{"type":"Polygon","coordinates":[[[0,0],[1,0],[1,1],[0,0,0]]]}'
 verdict = geolint.check(memoryview(bytearray(ring)))
@@ -76,6 +98,16 @@ try:
     wants("a frozen verdict", "changed", "refused")
 except AttributeError:
     pass
+
+pieces = [ring[i : i + 5] for i in range(0, len(ring), 5)]
+wants("pieces", geolint.check(pieces), verdict)
+wants("pieces of a generator", geolint.check(memoryview(piece) for piece in pieces), verdict)
+wants("no pieces", geolint.check([]), geolint.check(b""))
+wants("a verdict of its own", pickle.loads(pickle.dumps(verdict)), verdict)
+written = geolint.Linter()
+shutil.copyfileobj(io.BytesIO(ring), written, 7)
+wants("how many bytes are written", written.write(bytearray(b" \n")), 2)
+wants("what was written", written.finish(), verdict)
 
 with geolint.Linter() as linter:
     stored = b"".join(linter.watch(ring[i : i + 5] for i in range(0, len(ring), 5)))
@@ -94,6 +126,36 @@ for name, call in {
         wants(name, "nothing", "an error")
     except ValueError:
         pass
+
+
+class Empty:
+    """A stream that has no bytes yet and does not wait."""
+
+    def read(self, size):
+        return None
+
+
+for name, error, call in [
+    ("a path", TypeError, lambda: geolint.check("map.geojson")),
+    ("a file of characters", TypeError, lambda: geolint.check(io.StringIO("{}"))),
+    ("pieces of characters", TypeError, lambda: geolint.check(["{}"])),
+    ("a number", TypeError, lambda: geolint.check(7)),
+    ("a stream that does not wait", BlockingIOError, lambda: geolint.check(Empty())),
+    ("a copy", TypeError, lambda: copy.copy(geolint.Linter())),
+    ("a deep copy", TypeError, lambda: copy.deepcopy(geolint.Linter())),
+    ("a pickle", TypeError, lambda: pickle.dumps(geolint.Linter())),
+]:
+    try:
+        call()
+        wants(name, "nothing", "an error")
+    except error:
+        pass
+try:
+    with geolint.Linter() as unfinished:
+        unfinished.feed(b"{")
+        raise KeyError
+except KeyError:
+    wants("a block that was left", unfinished.verdict, None)
 wants("a version", geolint.version().count("."), 2)
 
 # Whether a text that begins so may still be valid, as far as that is seen early.

@@ -1,4 +1,7 @@
-/* Two threads with a linter each, over two texts, many times: each gets its own verdict. */
+/* Two threads with a linter each, over two texts, so many times: each gets its own verdict.
+ *
+ *     threads ROUNDS
+ */
 #include <geolint.h>
 #include <pthread.h>
 #include <stdio.h>
@@ -8,13 +11,14 @@ struct work {
     const char *text;
     uint32_t verdict;
     uint64_t place;
+    int rounds;
     int wrong;
 };
 
 static void *judge(void *at) {
     struct work *work = at;
     size_t size = strlen(work->text);
-    for (int round = 0; round < 2000; round++) {
+    for (int round = 0; round < work->rounds; round++) {
         geolint_linter *linter = geolint_new(0, 0);
         if (!linter) {
             work->wrong++;
@@ -31,11 +35,12 @@ static void *judge(void *at) {
     return NULL;
 }
 
-int main(void) {
-    struct work first = {"{\"type\":\"LineString\",\"coordinates\":[[0,0],[1,1],[2,2]]}", GEOLINT_VALID, 0, 0};
-    struct work second = {"{\"type\":\"Polygon\",\"coordinates\":[[[0,0],[1,0],[1,1],[0,0,0]]]}", GEOLINT_BROKEN, 33, 0};
+int main(int count, char **words) {
+    int rounds = count > 1 ? atoi(words[1]) : 0;
+    struct work first = {"{\"type\":\"LineString\",\"coordinates\":[[0,0],[1,1],[2,2]]}", GEOLINT_VALID, 0, rounds, 0};
+    struct work second = {"{\"type\":\"Polygon\",\"coordinates\":[[[0,0],[1,0],[1,1],[0,0,0]]]}", GEOLINT_BROKEN, 33, rounds, 0};
     pthread_t threads[2];
-    if (pthread_create(&threads[0], NULL, judge, &first) || pthread_create(&threads[1], NULL, judge, &second))
+    if (rounds < 1 || pthread_create(&threads[0], NULL, judge, &first) || pthread_create(&threads[1], NULL, judge, &second))
         return 2;
     pthread_join(threads[0], NULL);
     pthread_join(threads[1], NULL);

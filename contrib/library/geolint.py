@@ -9,7 +9,7 @@
     broken G15 at 89: ring not closed
 
 It needs nothing but the shared object `libgeolint.so`: the one that the variable GEOLINT_LIBRARY names, otherwise one that
-lies beside this file, otherwise the system's.
+lies beside this file or where `make install-library` put both, otherwise the system's.
 """
 
 import ctypes
@@ -46,9 +46,10 @@ class _Text(ctypes.Structure):
 
 
 def _load():
-    beside = os.path.join(os.path.dirname(os.path.abspath(__file__)), "libgeolint.so")
-    named = os.environ.get("GEOLINT_LIBRARY")
-    path = named or (beside if os.path.exists(beside) else ctypes.util.find_library("geolint"))
+    here = os.path.dirname(os.path.abspath(__file__))
+    near = [os.path.join(here, "libgeolint.so"), os.path.join(here, "..", "..", "libgeolint.so.0")]
+    found = [path for path in near if os.path.exists(path)]
+    path = os.environ.get("GEOLINT_LIBRARY") or (found[0] if found else ctypes.util.find_library("geolint"))
     if not path:
         raise ImportError("libgeolint.so is not installed; GEOLINT_LIBRARY may name it")
     library = ctypes.CDLL(path)
@@ -156,6 +157,8 @@ def _limits(max_depth, max_bytes):
 
 def _passed(data):
     """What a call is passed for some bytes: an address (of bytes, or of a copy) and the length."""
+    if isinstance(data, str):
+        raise TypeError("bytes are due, not str: open a file in binary mode, or encode the text")
     if not isinstance(data, bytes):
         data = bytes(memoryview(data))
     return data, ctypes.cast(ctypes.c_char_p(data), ctypes.c_void_p), len(data)
@@ -167,10 +170,12 @@ class Linter:
     As a context manager it is finished at the end of the block:
 
         with geolint.Linter() as linter:
-            for chunk in linter.watch(request.stream):
+            for chunk in linter.watch(upload.chunks()):
                 store.write(chunk)
         if not linter.verdict:
             ...
+
+    `write` serves what writes to a file, as shutil.copyfileobj(upload, linter).
     """
 
     def __init__(self, max_depth=None, max_bytes=None):
@@ -195,6 +200,12 @@ class Linter:
             raise Ended("the linter has ended")
         return status != _REFUSED
 
+    def write(self, data):
+        """Feeds bytes as they are written to a file, and takes all of them, also where the text is refused."""
+        data = data if isinstance(data, bytes) else memoryview(data)
+        self.feed(data)
+        return len(data) if isinstance(data, bytes) else data.nbytes
+
     def watch(self, pieces):
         """Hands pieces of bytes on, and feeds each before. It reads all of them, also where the text is refused."""
         for piece in pieces:
@@ -217,6 +228,9 @@ class Linter:
             self.verdict = _verdict(_library.geolint_finish(self._at))
         return self.verdict
 
+    def __reduce_ex__(self, protocol):
+        raise TypeError("a linter cannot be copied: it stays where it lies")
+
     def __enter__(self):
         return self
 
@@ -225,13 +239,35 @@ class Linter:
             self.finish()
 
 
+def _pieces(source):
+    """What a file-like object gives."""
+    while True:
+        piece = source.read(_PIECE)
+        if piece is None:
+            raise BlockingIOError("the source has no bytes yet, and does not wait for them")
+        if not piece:
+            return
+        yield piece
+
+
+def _is_bytes(source):
+    try:
+        memoryview(source).release()
+    except TypeError:
+        return isinstance(source, str)
+    return True
+
+
 def check(source, max_depth=None, max_bytes=None):
-    """Judges bytes, or what a file-like object gives: a file opened as "rb", an upload, a response."""
-    if not hasattr(source, "read"):
+    """Judges bytes, what a file-like object gives (a file opened as "rb", an upload, a response), or pieces of bytes.
+
+    A text that is refused is read no further.
+    """
+    if not hasattr(source, "read") and _is_bytes(source):
         kept, at, length = _passed(source)
         return _verdict(_library.geolint_check(at, length, *_limits(max_depth, max_bytes)))
     linter = Linter(max_depth, max_bytes)
-    while True:
-        piece = source.read(_PIECE)
-        if not piece or not linter.feed(piece):
-            return linter.finish()
+    for piece in _pieces(source) if hasattr(source, "read") else source:
+        if not linter.feed(piece):
+            break
+    return linter.finish()

@@ -5,7 +5,9 @@
 //! can be judged while it is stored (`Judging`).
 
 use std::alloc::{Layout, alloc, dealloc};
+use std::error::Error;
 use std::ffi::{CStr, c_void};
+use std::fmt;
 use std::io;
 use std::os::raw::c_char;
 use std::ptr::NonNull;
@@ -77,6 +79,27 @@ pub enum Refusal {
     Memory,
 }
 
+impl fmt::Display for Refusal {
+    fn fmt(&self, f: &mut fmt::Formatter<'_>) -> fmt::Result {
+        f.write_str(match self {
+            Refusal::Limits => "a depth is from 1 to 64, and a number of bytes from 1 to 2^60",
+            Refusal::Memory => "no memory for a linter",
+        })
+    }
+}
+
+impl Error for Refusal {}
+
+impl From<Refusal> for io::Error {
+    fn from(refusal: Refusal) -> io::Error {
+        let kind = match refusal {
+            Refusal::Limits => io::ErrorKind::InvalidInput,
+            Refusal::Memory => io::ErrorKind::OutOfMemory,
+        };
+        io::Error::new(kind, refusal)
+    }
+}
+
 /// The warnings of one kind.
 #[derive(Clone, Copy, Debug, PartialEq, Eq)]
 pub struct Warning {
@@ -98,10 +121,33 @@ pub enum Verdict {
     NotJson { cause: u32, place: u64 },
 }
 
+impl Verdict {
+    pub fn is_valid(&self) -> bool {
+        matches!(self, Verdict::Valid(_))
+    }
+}
+
+/// The lines of the program's report.
+impl fmt::Display for Verdict {
+    fn fmt(&self, f: &mut fmt::Formatter<'_>) -> fmt::Result {
+        match self {
+            Verdict::Valid(warnings) => {
+                f.write_str("valid")?;
+                for w in warnings {
+                    write!(f, "\nwarning W{} count {} first {}: {}", w.kind, w.count, w.first, warning_text(w.kind))?;
+                }
+                Ok(())
+            }
+            Verdict::Broken { rule, place } => write!(f, "broken G{} at {}: {}", rule, place, rule_text(*rule)),
+            Verdict::NotJson { cause, place } => write!(f, "not JSON at {}: {}", place, cause_text(*cause)),
+        }
+    }
+}
+
 /// What a piece of an input shows.
 #[derive(Clone, Copy, Debug, PartialEq, Eq)]
 pub enum Progress {
-    /// The input may still become a JSON text.
+    /// The bytes so far begin a JSON text within the depth, and are no more than allowed.
     Open,
     /// It is refused, and so is every input that begins so.
     Refused,
@@ -134,7 +180,8 @@ pub struct Linter {
     layout: Layout,
 }
 
-// It owns its memory, the library keeps nothing else, and each call takes it by `&mut`.
+// It owns its memory, the library keeps nothing else, and each call takes it by `&mut`. What lies in that memory is of a type
+// that is `Send` in the library's own language, which the check of `may_move` there sees.
 unsafe impl Send for Linter {}
 
 impl Linter {

@@ -1,6 +1,7 @@
 // Judges a file, read in pieces, and prints the report of `geolint stdin`: C++ with geolint.hpp.
 //
-//     report [PATH]     standard input where there is no path
+//     c++ -std=c++11 report.cpp -o report $(pkg-config --cflags --libs geolint)
+//     ./report [PATH]     standard input where there is no path
 //
 // The status is the program's: 0 valid, 1 not valid, 2 no verdict.
 #include <fstream>

@@ -1,34 +1,21 @@
 //! Copies standard input to a file while it is judged, and prints the report of `geolint stdin`: Rust with
 //! `contrib/library/geolint.rs`.
 //!
-//!     report [COPY]     without a copy, only the report
+//!     rustc --edition 2021 -O -L native=/usr/local/lib -l static=geolint report.rs
+//!     ./report [COPY]     without a copy, only the report
 //!
 //! The status is the program's: 0 valid, 1 not valid, 2 no verdict.
 #[allow(dead_code)]
 #[path = "../../contrib/library/geolint.rs"]
 mod geolint;
 
-use geolint::{Judging, Limits, Linter, Verdict, cause_text, rule_text, warning_text};
+use geolint::{Judging, Limits, Linter, Verdict};
 use std::fs::File;
 use std::io::{self, Write};
 use std::process::ExitCode;
 
-fn print_report(verdict: &Verdict, out: &mut impl Write) -> io::Result<()> {
-    match verdict {
-        Verdict::Valid(warnings) => {
-            writeln!(out, "valid")?;
-            for w in warnings {
-                writeln!(out, "warning W{} count {} first {}: {}", w.kind, w.count, w.first, warning_text(w.kind))?;
-            }
-            Ok(())
-        }
-        Verdict::Broken { rule, place } => writeln!(out, "broken G{rule} at {place}: {}", rule_text(*rule)),
-        Verdict::NotJson { cause, place } => writeln!(out, "not JSON at {place}: {}", cause_text(*cause)),
-    }
-}
-
 fn judge() -> io::Result<Verdict> {
-    let linter = Linter::new(Limits::default()).map_err(|_| io::ErrorKind::OutOfMemory)?;
+    let linter = Linter::new(Limits::default())?;
     let store: Box<dyn Write> = match std::env::args_os().nth(1) {
         Some(path) => Box::new(File::create(path)?),
         None => Box::new(io::sink()),
@@ -42,8 +29,8 @@ fn judge() -> io::Result<Verdict> {
 }
 
 fn main() -> ExitCode {
-    match judge().and_then(|verdict| print_report(&verdict, &mut io::stdout()).map(|()| verdict)) {
-        Ok(Verdict::Valid(_)) => ExitCode::from(0),
+    match judge().and_then(|verdict| writeln!(io::stdout(), "{verdict}").map(|()| verdict)) {
+        Ok(verdict) if verdict.is_valid() => ExitCode::from(0),
         Ok(_) => ExitCode::from(1),
         Err(error) => {
             eprintln!("{error}");

@@ -2,27 +2,31 @@
  *
  * Two ways in: geolint_check judges a text in memory; a linter (geolint_begin, geolint_feed, geolint_finish) judges a text
  * that comes in pieces, in the memory that the host gives it. The library takes no memory, keeps no state of its own,
- * opens nothing and prints nothing. Any number of linters may be in use at once; give each to one thread at a time.
+ * opens nothing and prints nothing. Any number of linters may be in use at once, each on one thread at a time.
  *
- * What is proved of the library. Each call below that judges states its result by the definitions of the two standards on
- * the whole text, and a prover checks it on each build:
+ * What is proved of the library. Each call below that judges states its result by the definitions of the two standards (as
+ * the profile in docs/DECISIONS.md reads them) on the whole text, and a prover checks it on each build:
  *   - geolint_check gives the verdict of these bytes: whether they are a JSON text (RFC 8259), then the broken rule of the
  *     least place in the whole text, otherwise of each kind of warning how many there are and the least place;
- *   - geolint_finish gives the same of all bytes that were fed since the linter was begun last, however they were cut into pieces;
- *   - geolint_feed answers GEOLINT_REFUSED exactly where every text that begins with the bytes fed so far is no JSON text
- *     within the limits;
- *   - geolint_doomed answers 1 only where no text that begins with the bytes fed so far is valid, and otherwise 0;
+ *   - geolint_finish gives the same of all bytes fed since the linter was begun last, however they were cut into pieces;
+ *   - geolint_feed answers GEOLINT_REFUSED only where every input that begins with the bytes fed so far is no JSON text within
+ *     the limits, and GEOLINT_DONE only where these bytes begin a JSON text within the depth and are no more than allowed (not
+ *     that such a text ends within the bytes allowed);
+ *   - geolint_doomed answers 1 only where no input that begins with the bytes fed so far is valid, and otherwise 0;
  *   - geolint_offset tells how many bytes were taken: all that were fed, or once they are refused the place of the refusal;
- *   - each call returns, reads and writes no memory but what it is passed, and leaves a linter that can be used again.
- * Tested and not proved: this header, and that the library is linked as it was built.
+ *   - each text is the one that the definitions have for its number, with a byte 0 at its end;
+ *   - each call returns, reads and writes no memory but what it is passed, and leaves a linter that can be used again; what it
+ *     does at null and after the end is as each says below. Between two calls a linter may go from thread to thread.
+ * Tested and not proved: this header with the functions in it, and that the library is linked as it was built.
  *
  * What the caller owes, as no library can test it:
  *   - a pointer that is not null points to what its parameter says, for the whole call;
- *   - `bytes` is not null, whatever the length is: for a length of 0 any address will do, as that of "". GEOLINT_BYTES
- *     below makes such an address of a pointer that may be null;
+ *   - `bytes` is not null, whatever the length is: for a length of 0 any address will do, as that of "". geolint_bytes below
+ *     makes such an address of a pointer that may be null;
  *   - a linter lies in memory of geolint_size() bytes at a multiple of geolint_alignment(), and is passed to no call before
  *     geolint_begin has got this memory. It is not copied, not moved and not written by the host;
- *   - one call at a time for each linter.
+ *   - one call at a time for each linter. Where the next call comes from another thread, a lock, a thread's start or join or the
+ *     like orders the two.
  *
  * C99 and C++11. Places are byte offsets from 0. */
 #ifndef GEOLINT_H
@@ -38,7 +42,7 @@ extern "C" {
 
 /* What a call answers. */
 enum geolint_status {
-    GEOLINT_DONE = 0,    /* of a piece: the input may still become a JSON text within the limits */
+    GEOLINT_DONE = 0,    /* of a piece: the bytes so far begin a JSON text within the depth, and are no more than allowed */
     GEOLINT_REFUSED = 1, /* of a piece: the input is refused, and so is every input that begins so */
     GEOLINT_ENDED = 2,   /* the linter has ended: nothing was changed */
     GEOLINT_LIMITS = 3,  /* the limits are not allowed: nothing can be judged under them */
@@ -86,7 +90,9 @@ typedef struct geolint_report {
 typedef struct geolint_linter geolint_linter;
 
 /* The address of bytes, where a null pointer may stand for no bytes. */
-#define GEOLINT_BYTES(bytes) ((bytes) ? (const void *)(bytes) : (const void *)"")
+static inline const void *geolint_bytes(const void *bytes) {
+    return bytes ? bytes : "";
+}
 
 /* ---- a text in memory */
 
@@ -103,7 +109,8 @@ size_t geolint_alignment(void);
 
 /* Begins a linter in this memory, whatever is there, before the first byte of an input: GEOLINT_DONE. The limits are those
  * of geolint_check; where they are not allowed the answer is GEOLINT_LIMITS, and the linter has ended. Null: GEOLINT_NULL.
- * A linter may be begun again at any time, also by geolint_begin_again. There is nothing to free in it: the host frees its memory, once, when it likes. */
+ * A linter may be begun again at any time, also by geolint_begin_again. There is nothing to free in it: the host frees its
+ * memory, once, when it likes. */
 uint32_t geolint_begin(geolint_linter *linter, uint32_t max_depth, uint64_t max_bytes);
 
 /* As geolint_begin, for memory that geolint_begin has got before: a host that judges many texts pays little for each, since
@@ -111,16 +118,17 @@ uint32_t geolint_begin(geolint_linter *linter, uint32_t max_depth, uint64_t max_
 uint32_t geolint_begin_again(geolint_linter *linter, uint32_t max_depth, uint64_t max_bytes);
 
 /* Takes the next bytes: GEOLINT_DONE or GEOLINT_REFUSED. After a refusal each further piece is refused and changes
- * nothing, and a host may stop reading: the verdict is settled. A broken rule does not end the reading. A piece of length
- * 0 changes nothing, and is answered as the bytes before it. After the end: GEOLINT_ENDED. Null: GEOLINT_NULL. */
+ * nothing, and a host may stop reading: the verdict is settled. A broken rule does not end the reading. A piece of length 0
+ * adds nothing to the bytes fed, and is answered as they are. After the end: GEOLINT_ENDED. Null: GEOLINT_NULL. */
 uint32_t geolint_feed(geolint_linter *linter, const void *bytes, size_t length);
 
 /* How many bytes were taken. After the end, and for null: 0. */
 uint64_t geolint_offset(geolint_linter *linter);
 
-/* 1 where no text that begins with the bytes fed is valid, as far as that is seen early, so that a host may stop for a yes or
- * no; otherwise 0. It is 1 after a refusal, and once the outermost value is no object, repeats a known name, or has a type
- * that is none of the nine or forbids another of its names. After the end, and for null: 0. */
+/* 1 where no input that begins with the bytes fed is valid, as far as that is seen early, so that a host may stop for a yes or
+ * no; otherwise 0. It is 1 after a refusal, and once the bytes show an outermost value that is no object (a number, a string
+ * and a word show it when they have ended), or in the outermost object a known name twice, a first `type` that is none of the
+ * nine, or a name that this type forbids. After the end, and for null: 0. */
 uint32_t geolint_doomed(geolint_linter *linter);
 
 /* The verdict of all that was fed, and the end of the linter. After the end there is GEOLINT_NO_VERDICT with

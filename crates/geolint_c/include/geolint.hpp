@@ -20,7 +20,7 @@ namespace geolint {
 struct Limits {
     std::uint32_t max_depth;
     std::uint64_t max_bytes;
-    constexpr Limits(std::uint32_t depth = 0, std::uint64_t bytes = 0) noexcept : max_depth(depth), max_bytes(bytes) {}
+    explicit constexpr Limits(std::uint32_t depth = 0, std::uint64_t bytes = 0) noexcept : max_depth(depth), max_bytes(bytes) {}
 };
 
 /* What a text is. */
@@ -56,11 +56,12 @@ private:
 
 /* Judges a text in memory. */
 inline Verdict check(const void *bytes, std::size_t length, Limits limits = Limits()) noexcept {
-    return Verdict(geolint_check(GEOLINT_BYTES(bytes), length, limits.max_depth, limits.max_bytes));
+    return Verdict(geolint_check(geolint_bytes(bytes), length, limits.max_depth, limits.max_bytes));
 }
 
 /* Judges any container of bytes that has data() and size(), as std::string or std::vector<char>. */
-template <class Bytes> Verdict check(const Bytes &bytes, Limits limits = Limits()) noexcept {
+template <class Bytes, class = decltype(std::declval<const Bytes &>().data())>
+Verdict check(const Bytes &bytes, Limits limits = Limits()) noexcept {
     return check(bytes.data(), bytes.size() * sizeof(*bytes.data()), limits);
 }
 
@@ -82,9 +83,9 @@ public:
 
     /* Takes the next bytes. False: the text is refused, or the linter is empty or has ended; the host may stop reading. */
     bool feed(const void *bytes, std::size_t length) noexcept {
-        return geolint_feed(linter_, GEOLINT_BYTES(bytes), length) == GEOLINT_DONE;
+        return geolint_feed(linter_, geolint_bytes(bytes), length) == GEOLINT_DONE;
     }
-    template <class Bytes> bool feed(const Bytes &bytes) noexcept {
+    template <class Bytes, class = decltype(std::declval<const Bytes &>().data())> bool feed(const Bytes &bytes) noexcept {
         return feed(bytes.data(), bytes.size() * sizeof(*bytes.data()));
     }
 

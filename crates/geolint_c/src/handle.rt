@@ -16,6 +16,13 @@ pub struct Handle {
     ended: bool,
 }
 
+fn is_for_any_thread<T: Send>(_value: &T) {}
+
+/// A handle may go from one thread to another between two calls: the check of this call sees that its type is `Send`.
+fn may_move(handle: &Handle) {
+    is_for_any_thread(handle);
+}
+
 impl Handle {
     /// Before the first byte of an input under these limits; where they are not allowed, a handle that has ended.
     pub fn begun(max_depth: u32, max_bytes: u64) -> Handle

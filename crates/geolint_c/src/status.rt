@@ -1,6 +1,6 @@
 //! What a call answers.
 
-/// The call did what it is for; of a piece: the input may still become a JSON text within the limits.
+/// The call did what it is for; of a piece: the bytes so far begin a JSON text within the depth, and are no more than allowed.
 pub const DONE: u32 = 0;
 
 /// Of a piece: the input is refused, and so is every input that begins so.

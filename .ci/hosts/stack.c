@@ -1,0 +1,90 @@
+/* How deep a stack the calls need: each runs on a thread whose stack is painted, and geolint.h says the most that may be
+ * written. The texts of the files that are named are judged in one call, in one piece and byte by byte. */
+#define _GNU_SOURCE
+#include <geolint.h>
+#include <pthread.h>
+#include <stdio.h>
+#include <string.h>
+#include <sys/mman.h>
+
+enum { STACK = 1 << 20, MOST = 1 << 16, PAINT = 0xA5, CHECK = 60 * 1024, STREAM = 8 * 1024 };
+
+struct work {
+    void *(*judge)(void *);
+    const char *text;
+    size_t size;
+    geolint_linter *linter;
+    geolint_report report;
+};
+
+static void *nothing(void *at) {
+    struct work *work = at;
+    memset(&work->report, 0, sizeof work->report);
+    return NULL;
+}
+
+static void *by_call(void *at) {
+    struct work *work = at;
+    work->report = geolint_check(work->text, work->size, 0, 0);
+    return NULL;
+}
+
+static void *by_pieces(void *at) {
+    struct work *work = at;
+    geolint_begin(work->linter, 0, 0);
+    geolint_feed(work->linter, work->text, work->size);
+    geolint_finish(work->linter);
+    geolint_begin_again(work->linter, 0, 0);
+    for (size_t from = 0; from < work->size; from++) {
+        geolint_feed(work->linter, work->text + from, 1);
+        geolint_doomed(work->linter);
+        geolint_offset(work->linter);
+    }
+    work->report = geolint_finish(work->linter);
+    return NULL;
+}
+
+/* How many bytes of a stack were written; 0 where there was no thread. */
+static size_t written(struct work *work, unsigned char *stack) {
+    pthread_attr_t how;
+    pthread_t thread;
+    size_t left = 0;
+    memset(stack, PAINT, STACK);
+    if (pthread_attr_init(&how) || pthread_attr_setstack(&how, stack, STACK))
+        return 0;
+    if (pthread_create(&thread, &how, work->judge, work) || pthread_join(thread, NULL))
+        return 0;
+    pthread_attr_destroy(&how);
+    while (left < STACK && stack[left] == PAINT)
+        left++;
+    return STACK - left;
+}
+
+int main(int count, char **words) {
+    static char text[MOST];
+    void *stack = mmap(NULL, STACK, PROT_READ | PROT_WRITE, MAP_PRIVATE | MAP_ANONYMOUS | MAP_STACK, -1, 0);
+    struct work work = {nothing, text, 0, geolint_new(0, 0), {0}};
+    size_t bare, call = 0, pieces = 0, depth;
+    if (stack == MAP_FAILED || !work.linter || count < 2)
+        return 2;
+    /* What the first calls need for being linked is the system's. */
+    by_call(&work);
+    by_pieces(&work);
+    written(&work, stack);
+    bare = written(&work, stack);
+    for (int file = 1; file < count; file++) {
+        FILE *from = fopen(words[file], "rb");
+        work.size = from ? fread(text, 1, MOST, from) : 0;
+        if (from)
+            fclose(from);
+        work.judge = by_call;
+        depth = written(&work, stack) - bare;
+        call = depth > call ? depth : call;
+        work.judge = by_pieces;
+        depth = written(&work, stack) - bare;
+        pieces = depth > pieces ? depth : pieces;
+    }
+    geolint_free(work.linter);
+    printf("%zu bytes for a text in memory, %zu for a linter\n", call, pieces);
+    return !bare || call > CHECK || pieces > STREAM;
+}

@@ -1,0 +1,113 @@
+// What geolint.hpp offers beyond the example: C++11 and later.
+#include <cstdio>
+#include <geolint.hpp>
+#include <string>
+#include <thread>
+#include <type_traits>
+#include <utility>
+#include <vector>
+
+static int failed = 0;
+
+static void wants(bool holds, const char *what) {
+    if (!holds) {
+        std::printf("FAILED: %s\n", what);
+        failed = 1;
+    }
+}
+
+static const std::string POINT = R"({"type":"Point","coordinates":[1,2]})";
+static const std::string RING = R"({"type":"Polygon","coordinates":[[[0,0],[1,0],[1,1],[0,0,0]]]})";
+
+static_assert(!std::is_copy_constructible<geolint::Linter>::value, "a linter is not copied");
+static_assert(std::is_nothrow_move_constructible<geolint::Linter>::value, "a linter is moved");
+static_assert(std::is_nothrow_move_assignable<geolint::Linter>::value, "a linter is moved");
+static_assert(std::is_copy_assignable<geolint::Verdict>::value, "a verdict is a value");
+
+static bool is_open_ring(const geolint::Verdict &verdict) {
+    return verdict.judged() && verdict.broken() && verdict.rule() == 15 && verdict.place() == 33 &&
+           std::string(verdict.text()) == "ring not closed";
+}
+
+static void one_call() {
+    geolint::Verdict verdict = geolint::check(POINT);
+    wants(verdict.judged() && verdict.valid() && !verdict.warned() && *verdict.text() == 0, "a point");
+    verdict = geolint::check(std::vector<unsigned char>(RING.begin(), RING.end()));
+    wants(is_open_ring(verdict), "an open ring");
+    verdict = geolint::check("\xEF\xBB\xBF" + POINT);
+    wants(verdict.valid() && verdict.warned() && verdict.warnings(1).count == 1 && verdict.warnings(2).count == 0, "a mark");
+    wants(verdict.warnings(0).count == 0 && verdict.warnings(10).count == 0, "no such kind");
+    verdict = geolint::check(std::vector<char>());
+    wants(verdict.not_json() && verdict.cause() == GEOLINT_TRUNCATED && verdict.place() == 0, "no bytes");
+    wants(geolint::check(nullptr, 0).not_json(), "a null pointer to no bytes");
+    wants(geolint::check(POINT, geolint::Limits(1)).cause() == GEOLINT_DEPTH, "one level");
+    wants(!geolint::check(POINT, geolint::Limits(65)).judged(), "65 levels");
+}
+
+static void pieces() {
+    geolint::Linter linter;
+    wants(bool(linter) && linter.feed(POINT) && linter.offset() == POINT.size(), "a piece");
+    wants(linter.finish().valid() && !linter.finish().judged() && !linter.feed(POINT), "the end");
+    wants(linter.begin() && linter.offset() == 0 && linter.feed(std::vector<char>()), "begin again");
+    wants(!linter.feed("[7 8", 4) && linter.doomed() && linter.finish().not_json(), "a refusal");
+    wants(!linter.begin(geolint::Limits(65)) && !linter.feed(POINT), "limits that are not allowed");
+    wants(linter.begin(geolint::Limits(2, 40)) && linter.feed(POINT) && linter.finish().valid(), "other limits");
+    wants(!geolint::Linter(geolint::Limits(0, UINT64_MAX)), "no linter");
+}
+
+static void moves() {
+    geolint::Linter first, second(geolint::Limits(1));
+    first.feed(RING.data(), 10);
+    geolint::Linter third(std::move(first));
+    wants(!first && !first.feed(RING) && !first.finish().judged() && !first.begin(), "what was moved from is empty");
+    second = std::move(third);
+    second.feed(RING.data() + 10, RING.size() - 10);
+    wants(is_open_ring(second.finish()), "the text went along");
+    std::vector<geolint::Linter> many(20);
+    many.emplace_back();
+    for (geolint::Linter &linter : many)
+        linter.feed(RING);
+    for (geolint::Linter &linter : many)
+        wants(is_open_ring(linter.finish()), "one of many");
+}
+
+static void threads() {
+    geolint::Linter linter;
+    linter.feed(RING.data(), 10);
+    geolint::Verdict verdict = linter.finish();
+    linter.begin();
+    std::thread thread([&verdict](geolint::Linter own) {
+        own.feed(RING);
+        verdict = own.finish();
+    }, std::move(linter));
+    thread.join();
+    wants(is_open_ring(verdict), "a linter on another thread");
+}
+
+static void exceptions() {
+#if defined(__cpp_exceptions)
+    wants(geolint::valid_or_throw(geolint::check(POINT)).valid(), "nothing is thrown");
+    try {
+        geolint::valid_or_throw(geolint::check(RING));
+        wants(false, "an exception");
+    } catch (const geolint::Invalid &invalid) {
+        wants(is_open_ring(invalid.verdict()), "its verdict");
+        wants(std::string(invalid.what()) == "broken G15 at 33: ring not closed", "its words");
+    }
+    try {
+        geolint::valid_or_throw(geolint::check("[1,]", 4));
+        wants(false, "an exception");
+    } catch (const std::runtime_error &invalid) {
+        wants(std::string(invalid.what()) == "not JSON at 3: syntax", "its words");
+    }
+#endif
+}
+
+int main() {
+    one_call();
+    pieces();
+    moves();
+    threads();
+    exceptions();
+    return failed;
+}
