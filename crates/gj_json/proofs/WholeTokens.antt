@@ -11,7 +11,7 @@ use Rattle.gj_json.specs.declared.event.What.{What}
 use Rattle.gj_json.specs.declared.levels.Level.{Level}
 use Rattle.gj_json.specs.declared.levels.Level.TheVariants.{Array, Object}
 use Rattle.gj_json.specs.declared.mode.Mode.{Mode}
-use Rattle.gj_json.specs.declared.mode.Mode.TheVariants.{ValueDone, ValueDue, NameDue, ColonDue}
+use Rattle.gj_json.specs.declared.mode.Mode.TheVariants.{ValueDone, ValueDue, ArrayOpened, NameDue, ColonDue}
 use Rattle.gj_json.specs.declared.mode.Move.TheVariants.{Go, Close}
 use Rattle.gj_json.specs.declared.mode.NumberTurn.{NumberTurn}
 use Rattle.gj_json.specs.declared.mode.StringState.{StringState}
@@ -32,7 +32,7 @@ use Rattle.gj_json.specs.Quiet.{Reads}
 use Rattle.gj_json.specs.Step.{opened}
 use Rattle.gj_json.specs.Seen.{seen, partial_timed, stack_timed, done_members, EdgeAt, done_elements}
 use Rattle.gj_json.specs.Stands.{StandsWell, StandsAs, FitsLeaf, FitsName, FitsBroken, levels_of, Fits}
-use Rattle.gj_json.specs.Tokens.{bracket_of, closing_event, names, IsString, Lands}
+use Rattle.gj_json.specs.Tokens.{bracket_of, closing_event, names, may_begin, IsString, Lands}
 use Rattle.gj_json.specs.Tree.{Tree, constant, string, depth, number}
 use Rattle.gj_json.specs.Told.{emitted, event_at, opening_of, closing_of, is_on, in_number, text_state}
 use Rattle.gj_json.specs.Under.{nothing, under_leaf, under_of}
@@ -395,12 +395,18 @@ outer_length (level ∷ levels) w = omega arith
 pub closed_floor : (floor : ℕ) (levels : List Level) → floor < length levels → floor ≤ length (outer_of levels)
 closed_floor floor levels w = omega (arith, outer_length levels (omega arith))
 
+-- where a value is awaited, one may begin
+may_begin_due : (mode : Mode) → awaits mode ≡ true → may_begin mode ≡ true
+may_begin_due ValueDue w = refl
+may_begin_due ArrayOpened w = refl
+may_begin_due _ w = cc
+
 pub opened_level : (floor : ℕ) (old new : Reader) (piece : List ℕ) (level : Level) → 0 < length piece → get_or piece 0 0 ≡ bracket_of level → old.fault ≡ None → awaits old.mode ≡ true → old.offset + length piece ≤ old.limits.bytes
     → length (levels_in old.levels) < old.limits.depth → floor < length (levels_in old.levels) → Lands 1 (opened level) (level ∷ levels_in old.levels) old new → FeedsWithin floor old new (take 1 piece)
 opened_level floor old new piece level some is live due room deep w p =
     let n : above floor new ≡ above floor old + 1 = omega (arith, ap length p.levels_are) in
     let leaves = opened_leaves (above floor old) (above floor new) level old.offset (omega arith) n in
-    open_taken {before = λ events. events ≡ []} {after = λ events. Leaves (above floor old) events (above floor new)} old new piece level some is live due room deep p
+    open_taken {before = λ events. events ≡ []} {after = λ events. Leaves (above floor old) events (above floor new)} old new piece level some is live (may_begin_due old.mode due) room deep p
     (λ events e. (let P : List Event → Type 0 = λ xs. Leaves (above floor old) (xs ++ event_at old.offset (opening_of level) ∷ []) (above floor new) in subst P (sym e) leaves))
 
 pub closed_level : (floor : ℕ) (old new : Reader) (piece : List ℕ) → 0 < length piece → old.fault ≡ None → old.mode ≡ ValueDone → old.offset + length piece ≤ old.limits.bytes → after_move (inner_of (levels_in old.levels)) (class_of (get_or piece 0 0)) ≡ Close

@@ -132,7 +132,7 @@ impl Reader {
 
     /// Takes the bracket at the front of the piece that opens a level: 1, or 0 where it opens one level too many.
     #[inline(always)]
-    fn pass_open(&mut self, level: Level, piece: &[u8], floor: u8) -> usize
+    fn pass_open(&mut self, level: Level, piece: &[u8], floor: u16) -> usize
         requires some { 0 < length piece.now }
         requires begins { get_or piece.now 0 0 ≡ bracket_of level }
         requires live { self.old.fault ≡ None }
@@ -153,7 +153,7 @@ impl Reader {
 
     /// Takes the bracket at the front of the piece that closes the innermost level: 1, or 0 where there is none.
     #[inline(always)]
-    fn pass_close(&mut self, piece: &[u8], floor: u8) -> usize
+    fn pass_close(&mut self, piece: &[u8], floor: u16) -> usize
         requires some { 0 < length piece.now }
         requires live { self.old.fault ≡ None }
         requires done { self.old.mode ≡ ValueDone }
@@ -176,7 +176,7 @@ impl Reader {
     /// Takes the value at the front of the piece, where it stands whole and has no levels, or the bracket that opens it: how
     /// many bytes.
     #[inline(always)]
-    fn pass_value(&mut self, piece: &[u8], floor: u8) -> usize
+    fn pass_value(&mut self, piece: &[u8], floor: u16) -> usize
         requires some { 0 < length piece.now }
         requires live { self.old.fault ≡ None }
         requires due { awaits self.old.mode ≡ true }
@@ -199,7 +199,7 @@ impl Reader {
 
     /// The same, and the comma behind it.
     #[inline(always)]
-    fn pass_element(&mut self, piece: &[u8], floor: u8) -> usize
+    fn pass_element(&mut self, piece: &[u8], floor: u16) -> usize
         requires some { 0 < length piece.now }
         requires live { self.old.fault ≡ None }
         requires due { awaits self.old.mode ≡ true }
@@ -241,7 +241,7 @@ impl Reader {
 
     /// Takes the name at the front of the piece, its colon and its value, and the comma behind that: how many bytes.
     #[inline(always)]
-    fn pass_member(&mut self, piece: &[u8], floor: u8) -> usize
+    fn pass_member(&mut self, piece: &[u8], floor: u16) -> usize
         requires some { 0 < length piece.now }
         requires quote { get_or piece.now 0 0 ≡ quote }
         requires live { self.old.fault ≡ None }
@@ -265,7 +265,7 @@ impl Reader {
 
     /// Takes white space, or tokens that stand whole at the front of the piece: how many bytes.
     #[inline(always)]
-    fn pass_token(&mut self, piece: &[u8], floor: u8) -> usize
+    fn pass_token(&mut self, piece: &[u8], floor: u16) -> usize
         requires some { 0 < length piece.now }
         requires live { self.old.fault ≡ None }
         requires room { self.old.offset + length piece.now ≤ self.old.limits.bytes }
@@ -307,7 +307,7 @@ impl Reader {
     }
 
     /// Takes whole tokens from the front of the piece, as long as levels above the floor are open: how many bytes.
-    pub(super) fn pass_tokens(&mut self, piece: &[u8], floor: u8) -> usize
+    pub(super) fn pass_tokens(&mut self, piece: &[u8], floor: u16) -> usize
         requires live { self.old.fault ≡ None }
         requires room { self.old.offset + length piece.now ≤ self.old.limits.bytes }
         requires small { self.old.limits.bytes ≤ 2 ^ 60 }

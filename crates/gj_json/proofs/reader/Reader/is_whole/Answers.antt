@@ -1,5 +1,5 @@
 -- A value that is done, and no level around it.
-use Rattle.std.proofs.Common.{◌≡◌, false, None, sym, ◌∙◌}
+use Rattle.std.proofs.Common.{◌≡◌, false, sym, ◌∙◌}
 use Rattle.std.specs.Option.{is_some}
 use Rattle.gj_json.proofs.Finishing.{none_is, whole_ends}
 use Rattle.gj_json.proofs.reader.Reader.is_whole.Goals as goal
