@@ -1,13 +1,14 @@
 # A rule for make: `include contrib/geojson.mk` and let a target need `check-geojson`. A file is judged again where it is newer
-# than its stamp, which stands in $(GEOJSON_STAMPS), and where the program or its flags are others than last time. Names with
-# spaces are none for make: give those to contrib/geolint-each.
+# than its stamp, which stands in $(GEOJSON_STAMPS), and where the program or its flags are others than last time. What does
+# not pass is told with its line and column, as a compiler tells it, so an editor that runs make goes there. Names with spaces
+# are none for make: give their folder to geolint-files itself.
 #
 #     GEOJSON := $(wildcard data/*.geojson)
-#     GEOLINT := path/to/bin/geolint
-#     GEOLINT_FLAGS := --strict
+#     GEOLINT := path/to/bin/geolint-files
+#     GEOLINT_FLAGS := --strict --allow W4,W9
 #     include path/to/contrib/geojson.mk
 
-GEOLINT ?= geolint
+GEOLINT ?= geolint-files
 GEOJSON_STAMPS ?= .geojson
 GEOLINT_FLAGS ?=
 
@@ -21,6 +22,5 @@ $(GEOJSON_STAMPS)/judged-by: geojson-each-time
 
 $(GEOJSON_STAMPS)/%.ok: % $(GEOJSON_STAMPS)/judged-by
 	@mkdir -p $(@D)
-	@$(GEOLINT) file $(GEOLINT_FLAGS) -- $< || \
-	    { [ $$? -eq 1 ] && echo "$<: does not pass" >&2 || echo "$<: could not be judged" >&2; exit 1; }
+	@$(GEOLINT) $(GEOLINT_FLAGS) -- $<
 	@touch $@

@@ -6,39 +6,38 @@ use Rattle.std.proofs.KnownBytes.{Consumes-trans}
 use Rattle.gj_json.specs.Limits.{Allowed}
 use Rattle.gj_json.specs.Refusal.{IsRefusal}
 use Rattle.gj_json.specs.declared.fault.JsonFault.{JsonFault}
-use Rattle.gj_rules.specs.declared.verdict.Verdict.{Verdict}
 use Rattle.gj_rules.specs.declared.verdict.Verdict.TheVariants.{NotJson}
 use Rattle.gj_rules.specs.Verdict.{IsVerdict}
-use Rattle.geolint_files.specs.Judged.{JudgesRead}
+use Rattle.geolint_files.specs.Judged.{JudgesBy}
 
 -- the reader has come to its end
-pub JudgesRead-end : (limits : Allowed) (old new : Option (List ℕ)) (read : List ℕ) (verdict : Verdict)
-    → Consumes old new read → IsAtEnd new → IsVerdict limits read verdict → JudgesRead limits old new verdict
-JudgesRead-end limits None new read verdict took ended is = tt
-JudgesRead-end limits (Some all) None read verdict took ended is = took
-JudgesRead-end limits (Some all) (Some rest) read verdict took ended is =
+pub Judges-end : {V : Type 0} (Is : Allowed → List ℕ → V → Type 0) (limits : Allowed) (old new : Option (List ℕ)) (read : List ℕ) (verdict : V)
+    → Consumes old new read → IsAtEnd new → Is limits read verdict → JudgesBy Is limits old new verdict
+Judges-end Is limits None new read verdict took ended is = tt
+Judges-end Is limits (Some all) None read verdict took ended is = took
+Judges-end Is limits (Some all) (Some rest) read verdict took ended is =
     let nothing_more : all ≡ read = took ∙ ap (λ (ys : List ℕ). read ++ ys) ended ∙ append-nil read in
     record {
       read = read;
       split = took;
       of_read = is;
       lasting = λ more_is_left. absurd (more_is_left ended);
-      of_all = subst (λ (bytes : List ℕ). IsVerdict limits bytes verdict) (sym nothing_more) is;
+      of_all = subst (λ (bytes : List ℕ). Is limits bytes verdict) (sym nothing_more) is;
     }
 
 -- the verdict lasts, whatever follows
-pub JudgesRead-lasting : (limits : Allowed) (old new : Option (List ℕ)) (read : List ℕ) (verdict : Verdict)
-    → Consumes old new read → ((more : List ℕ) → IsVerdict limits (read ++ more) verdict) → JudgesRead limits old new verdict
-JudgesRead-lasting limits None new read verdict took lasts = tt
-JudgesRead-lasting limits (Some all) None read verdict took lasts = took
-JudgesRead-lasting limits (Some all) (Some rest) read verdict took lasts =
-    let here : IsVerdict limits read verdict = subst (λ (bytes : List ℕ). IsVerdict limits bytes verdict) (append-nil read) (lasts []) in
+pub Judges-lasting : {V : Type 0} (Is : Allowed → List ℕ → V → Type 0) (limits : Allowed) (old new : Option (List ℕ)) (read : List ℕ) (verdict : V)
+    → Consumes old new read → ((more : List ℕ) → Is limits (read ++ more) verdict) → JudgesBy Is limits old new verdict
+Judges-lasting Is limits None new read verdict took lasts = tt
+Judges-lasting Is limits (Some all) None read verdict took lasts = took
+Judges-lasting Is limits (Some all) (Some rest) read verdict took lasts =
+    let here : Is limits read verdict = subst (λ (bytes : List ℕ). Is limits bytes verdict) (append-nil read) (lasts []) in
     record {
       read = read;
       split = took;
       of_read = here;
       lasting = λ more_is_left. lasts;
-      of_all = subst (λ (bytes : List ℕ). IsVerdict limits bytes verdict) (sym took) (lasts rest);
+      of_all = subst (λ (bytes : List ℕ). Is limits bytes verdict) (sym took) (lasts rest);
     }
 
 -- a read of 0 bytes

@@ -1,1 +1,4 @@
-pub mod Judging
+mod Judging
+mod Quickly
+mod Settled
+mod Lines

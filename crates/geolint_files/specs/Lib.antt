@@ -1,1 +1,5 @@
+pub mod Line
+pub mod Texts
 pub mod Judged
+pub mod Finding
+pub mod Forms

@@ -1,4 +1,8 @@
-//! The forms of the report.
+//! The forms of the report. Each puts what it tells of a file behind the bytes of a line.
+ghost use Rattle.std.specs.Prelude.{◌≡◌, OnOk};
+ghost use Rattle.gj_json.specs.Path.{steps_of};
+ghost use Rattle.geolint_files.specs.Line.{Adds};
+ghost use Rattle.geolint_files.specs.Texts.{name_text, step_text, steps_text, path_text};
 
 pub mod github;
 pub mod json;
@@ -6,46 +10,87 @@ pub mod lines;
 pub mod sarif;
 pub mod text;
 
+use crate::line::{put, put_all};
 use gj_json::{Known, Path, PathStep};
-use std::io::{self, Write};
+use itoa::Buffer;
+use std::alloc::AllocError;
 
-/// Writes a path from the root, as `$.features[3].geometry`; `*` stands for a name that the standard does not know.
-pub fn write_path<W: Write>(path: &Path, out: &mut W) -> io::Result<()> {
-    write!(out, "$")?;
+/// Puts a path from the root, as `$.features[3].geometry`; `*` stands for a name that the standard does not know.
+#[tactic(auto, unfolding(crate::specs::Texts::path_text))]
+pub fn put_path(path: &Path, line: &mut Vec<u8>) -> Result<(), AllocError>
+    ensures { OnOk result (Adds line.old line.new (path_text (steps_of path.now))) }
+{
+    put(line, b"$")?;
+    put_steps(path, line)
+}
+
+fn put_steps(path: &Path, line: &mut Vec<u8>) -> Result<(), AllocError>
+    ensures { OnOk result (Adds line.old line.new (steps_text (steps_of path.now))) }
+{
     for i in 0..path.len() {
-        match path.step(i) {
-            Some(PathStep::Index(index)) => write!(out, "[{index}]")?,
-            Some(PathStep::Member(name)) => write!(out, ".{}", name_text(name))?,
-            None => {}
+        if let Some(step) = path.step(i) {
+            put_step(step, line)?;
         }
     }
     Ok(())
 }
 
-fn name_text(name: Known) -> &'static str {
-    match name {
-        Known::TypeName => "type",
-        Known::Coordinates => "coordinates",
-        Known::Geometries => "geometries",
-        Known::Geometry => "geometry",
-        Known::Properties => "properties",
-        Known::Features => "features",
-        Known::Bbox => "bbox",
-        Known::Id => "id",
-        Known::Crs => "crs",
-        Known::Other => "*",
+fn put_step(step: PathStep, line: &mut Vec<u8>) -> Result<(), AllocError>
+    ensures { OnOk result (Adds line.old line.new (step_text step)) }
+{
+    match step {
+        PathStep::Index(index) => {
+            let mut digits = Buffer::new();
+            put_all(line, &[b"[", digits.format(index).as_bytes(), b"]"])
+        }
+        PathStep::Member(name) => put_all(line, &[b".", name_text(name)]),
     }
 }
 
-/// Writes a name as it is, but for control characters, which a terminal would obey and a reader of lines would take for
-/// the end of one.
-pub fn write_name<W: Write>(name: &[u8], out: &mut W) -> io::Result<()> {
-    for byte in name {
-        if byte.is_ascii_control() {
-            write!(out, "\\x{:02x}", *byte)?;
-        } else {
-            out.write_all(&[*byte])?;
+fn name_text(name: Known) -> &'static [u8]
+    ensures { result.now ≡ name_text name }
+{
+    match name {
+        Known::TypeName => b"type",
+        Known::Coordinates => b"coordinates",
+        Known::Geometries => b"geometries",
+        Known::Geometry => b"geometry",
+        Known::Properties => b"properties",
+        Known::Features => b"features",
+        Known::Bbox => b"bbox",
+        Known::Id => b"id",
+        Known::Crs => b"crs",
+        Known::Other => b"*",
+    }
+}
+
+const HEX_DIGITS: &[u8; 16] = b"0123456789abcdef";
+
+/// Puts a name as it is, but for control characters, which a terminal would obey and a reader of lines would take for the
+/// end of one, and for bytes that are no Unicode text: of these the number, as `\x0a`.
+pub fn put_name(name: &[u8], line: &mut Vec<u8>) -> Result<(), AllocError> {
+    for chunk in name.utf8_chunks() {
+        for c in chunk.valid().chars() {
+            let mut room = [0; 4];
+            let bytes = c.encode_utf8(&mut room).as_bytes();
+            if c.is_control() {
+                put_numbers(bytes, line)?;
+            } else {
+                line.extend_from_slice(bytes)?;
+            }
         }
+        put_numbers(chunk.invalid(), line)?;
+    }
+    Ok(())
+}
+
+fn put_numbers(bytes: &[u8], line: &mut Vec<u8>) -> Result<(), AllocError> {
+    for byte in bytes {
+        let digits = [
+            HEX_DIGITS[(*byte >> 4) as usize],
+            HEX_DIGITS[(*byte & 15) as usize],
+        ];
+        put_all(line, &[b"\\x", &digits])?;
     }
     Ok(())
 }

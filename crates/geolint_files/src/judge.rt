@@ -1,9 +1,13 @@
 //! The first reading: what a file is.
 ghost use Rattle.std.specs.Prelude.{◌≡◌, IfOk};
-ghost use Rattle.geolint_files.specs.Judged.{JudgesRead, FindsText};
+ghost use Rattle.geolint_files.specs.Judged.{JudgesRead, JudgesQuickly, JudgesSequence, Finds, valid_in};
 
+use crate::progress::Meter;
+use gj_coords::Warnings;
 use gj_json::Limits;
-use gj_rules::{Linter, Progress, SeqProgress, SeqVerdict, Sequence, Verdict};
+use gj_rules::{
+    Linter, Progress, SeqProgress, SeqVerdict, Sequence, Verdict, one_sequence_verdict, one_verdict,
+};
 use std::io::{self, Read};
 
 /// The most bytes of a read.
@@ -31,22 +35,35 @@ pub enum Reading {
 
 /// What the bytes of a reader are.
 ///
-/// Read as one text, it is the linter's verdict of all of them.
-pub fn judge<R: Read>(reader: &mut R, limits: Limits, reading: Reading) -> io::Result<Finding>
-    ensures text { reading ≡ Reading.Text → IfOk result (FindsText limits (R.remaining reader.old) (R.remaining reader.new)) }
+/// It is the linter's verdict of all of them, or that of a sequence; where only yes or no is asked, the warnings of a valid
+/// text, or that it is not valid. The bytes are counted as they come.
+pub fn judge<R: Read>(
+    reader: &mut R,
+    limits: Limits,
+    reading: Reading,
+    meter: &mut Meter,
+) -> io::Result<Finding>
+    ensures { IfOk result (Finds reading limits (R.remaining reader.old) (R.remaining reader.new)) }
 {
     match reading {
-        Reading::Text => match judge_text(reader, limits) {
+        Reading::Text => match judge_text(reader, limits, meter) {
             Ok(verdict) => Ok(Finding::Text(verdict)),
             Err(error) => Err(error),
         },
-        Reading::Quick => judge_quickly(reader, limits),
-        Reading::Sequence => Ok(Finding::Sequence(judge_sequence(reader, limits)?)),
+        Reading::Quick => match judge_quickly(reader, limits, meter) {
+            Ok(Some(warnings)) => Ok(Finding::Text(Verdict::Valid(warnings))),
+            Ok(None) => Ok(Finding::NotValid),
+            Err(error) => Err(error),
+        },
+        Reading::Sequence => match judge_sequence(reader, limits, meter) {
+            Ok(verdict) => Ok(Finding::Sequence(verdict)),
+            Err(error) => Err(error),
+        },
     }
 }
 
 /// The verdict of one text. No read follows a refusal.
-fn judge_text<R: Read>(reader: &mut R, limits: Limits) -> io::Result<Verdict>
+fn judge_text<R: Read>(reader: &mut R, limits: Limits, meter: &mut Meter) -> io::Result<Verdict>
     ensures { IfOk result (λ verdict. JudgesRead limits (R.remaining reader.old) (R.remaining reader.new) verdict) }
 {
     let _most = limits.bytes();
@@ -59,6 +76,7 @@ fn judge_text<R: Read>(reader: &mut R, limits: Limits) -> io::Result<Verdict>
             Ok(0) => return Ok(linter.finish()),
             Ok(count) => {
                 offset += count as u64;
+                meter.add_bytes(count);
                 match linter.feed(&piece[..count]) {
                     Progress::Open => {}
                     Progress::Refused(fault) => return Ok(Verdict::NotJson(fault)),
@@ -68,37 +86,74 @@ fn judge_text<R: Read>(reader: &mut R, limits: Limits) -> io::Result<Verdict>
     }
 }
 
-fn judge_quickly<R: Read>(reader: &mut R, limits: Limits) -> io::Result<Finding> {
+/// The warnings of a valid text. No read follows the piece that says no.
+fn judge_quickly<R: Read>(
+    reader: &mut R,
+    limits: Limits,
+    meter: &mut Meter,
+) -> io::Result<Option<Warnings>>
+    ensures { IfOk result (λ valid. JudgesQuickly limits (R.remaining reader.old) (R.remaining reader.new) valid) }
+{
+    let _most = limits.bytes();
+    one_verdict();
     let mut linter = Linter::new(limits);
     let mut piece = [0; PIECE];
-    for _ in 0..u64::MAX {
-        let count = reader.read(&mut piece)?;
-        if count == 0 {
-            break;
+    let mut offset = 0u64;
+    loop {
+        match reader.read(&mut piece) {
+            Err(error) => return Err(error),
+            Ok(0) => return Ok(valid_in(linter.finish())),
+            Ok(count) => {
+                offset += count as u64;
+                meter.add_bytes(count);
+                match linter.feed(&piece[..count]) {
+                    Progress::Refused(_) => return Ok(None),
+                    Progress::Open => {
+                        if linter.doomed() {
+                            return Ok(None);
+                        }
+                    }
+                }
+            }
         }
-        let _progress = linter.feed(&piece[..count]);
-        if linter.doomed() {
-            return Ok(Finding::NotValid);
-        }
-    }
-    match linter.finish() {
-        Verdict::Valid(warnings) => Ok(Finding::Text(Verdict::Valid(warnings))),
-        _ => Ok(Finding::NotValid),
     }
 }
 
-fn judge_sequence<R: Read>(reader: &mut R, limits: Limits) -> io::Result<SeqVerdict> {
+/// The warnings of a valid text.
+fn valid_in(verdict: Verdict) -> Option<Warnings>
+    ensures { result ≡ valid_in verdict }
+{
+    match verdict {
+        Verdict::Valid(warnings) => Some(warnings),
+        _ => None,
+    }
+}
+
+/// The verdict of a text sequence. No read follows the byte that decides it.
+fn judge_sequence<R: Read>(
+    reader: &mut R,
+    limits: Limits,
+    meter: &mut Meter,
+) -> io::Result<SeqVerdict>
+    ensures { IfOk result (λ verdict. JudgesSequence limits (R.remaining reader.old) (R.remaining reader.new) verdict) }
+{
+    let _most = limits.bytes();
+    one_sequence_verdict();
     let mut sequence = Sequence::new(limits);
     let mut piece = [0; PIECE];
-    for _ in 0..u64::MAX {
-        let count = reader.read(&mut piece)?;
-        if count == 0 {
-            break;
-        }
-        match sequence.feed(&piece[..count]) {
-            SeqProgress::Open => {}
-            SeqProgress::Decided => break,
+    let mut offset = 0u64;
+    loop {
+        match reader.read(&mut piece) {
+            Err(error) => return Err(error),
+            Ok(0) => return Ok(sequence.finish()),
+            Ok(count) => {
+                offset += count as u64;
+                meter.add_bytes(count);
+                match sequence.feed(&piece[..count]) {
+                    SeqProgress::Open => {}
+                    SeqProgress::Decided => return Ok(sequence.finish()),
+                }
+            }
         }
     }
-    Ok(sequence.finish())
 }

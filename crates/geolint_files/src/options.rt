@@ -1,6 +1,7 @@
 //! How files are judged, and in which form they are told.
 
-use crate::texts::{KINDS, has};
+use crate::judge::Finding;
+use crate::texts::has;
 use gj_coords::{Kind, Warnings};
 use gj_json::Limits;
 
@@ -20,7 +21,13 @@ pub struct Kinds {
     contained: [bool; 9],
 }
 
+ghost use Rattle.std.specs.Prelude.{◌≡◌, ◌-◌, ◌<◌};
+ghost use Rattle.gj_coords.specs.Warnings.{kind_number};
+
 impl Kinds {
+    ghost use Rattle.std.specs.Prelude.{◌≡◌};
+    ghost use Rattle.geolint_files.specs.Finding.{contains};
+
     pub fn none() -> Kinds {
         Kinds {
             contained: [false; 9],
@@ -28,21 +35,31 @@ impl Kinds {
     }
 
     pub fn insert(&mut self, kind: Kind) {
-        if let Some(contained) = self.contained.get_mut(index_of(kind)) {
-            *contained = true;
-        }
+        self.contained[index_of(kind)] = true;
     }
 
-    pub fn contains(&self, kind: Kind) -> bool {
-        match self.contained.get(index_of(kind)) {
-            Some(contained) => *contained,
-            None => false,
-        }
+    pub fn contains(&self, kind: Kind) -> bool
+        ensures { result ≡ contains self.now kind }
+    {
+        self.contained[index_of(kind)]
     }
 }
 
-fn index_of(kind: Kind) -> usize {
-    (kind.number() as usize).saturating_sub(1)
+fn index_of(kind: Kind) -> usize
+    ensures index { result ≡ kind_number kind - 1 }
+    ensures small { result < 9 }
+{
+    match kind {
+        Kind::W1 => 0,
+        Kind::W2 => 1,
+        Kind::W3 => 2,
+        Kind::W4 => 3,
+        Kind::W5 => 4,
+        Kind::W6 => 5,
+        Kind::W7 => 6,
+        Kind::W8 => 7,
+        Kind::W9 => 8,
+    }
 }
 
 /// How the files are judged and told.
@@ -61,16 +78,51 @@ pub struct Options {
 }
 
 impl Options {
-    /// Whether a valid file with these warnings passes.
-    pub fn lets_pass(&self, warnings: &Warnings) -> bool {
-        if !self.strict {
-            return true;
+    ghost use Rattle.std.specs.Prelude.{◌≡◌, Some};
+    ghost use Rattle.geolint_files.specs.Finding.{passes, passes_with, lets, lets_all};
+
+    /// Whether a file passes of which this is found.
+    pub fn passes(&self, finding: &Finding) -> bool
+        ensures { result ≡ passes self.now.strict self.now.allowed finding.now }
+    {
+        match finding.warnings() {
+            None => false,
+            Some(warnings) => self.lets_pass(&warnings),
         }
-        for kind in &KINDS {
-            if has(warnings, *kind) && !self.allowed.contains(*kind) {
-                return false;
-            }
+    }
+
+    fn lets_pass(&self, warnings: &Warnings) -> bool
+        ensures { result ≡ passes_with self.now.strict self.now.allowed (Some warnings.now) }
+    {
+        match self.strict {
+            false => true,
+            true => self.lets_all(warnings),
         }
-        true
+    }
+
+    /// Whether each kind of which there is a warning is allowed.
+    fn lets_all(&self, warnings: &Warnings) -> bool
+        ensures { result ≡ lets_all self.now.allowed warnings.now }
+    {
+        self.lets(warnings, Kind::W1)
+            && self.lets(warnings, Kind::W2)
+            && self.lets(warnings, Kind::W3)
+            && self.lets(warnings, Kind::W4)
+            && self.lets(warnings, Kind::W5)
+            && self.lets(warnings, Kind::W6)
+            && self.lets(warnings, Kind::W7)
+            && self.lets(warnings, Kind::W8)
+            && self.lets(warnings, Kind::W9)
+    }
+
+    fn lets(&self, warnings: &Warnings, kind: Kind) -> bool
+        ensures { result ≡ lets self.now.allowed warnings.now kind }
+    {
+        self.allowed.contains(kind) || !has(warnings, kind)
+    }
+
+    /// Whether a warning of this kind fails a file.
+    pub fn fails(&self, kind: Kind) -> bool {
+        self.strict && !self.allowed.contains(kind)
     }
 }

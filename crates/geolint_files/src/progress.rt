@@ -1,14 +1,13 @@
 //! How far the run is, on a terminal's standard error.
-
 use std::io::{IsTerminal, Write};
 use std::time::{Duration, Instant};
 
 /// How long a line stands at least.
 const PAUSE_MILLIS: u64 = 200;
 
-/// What the line is made of. Where standard error is no terminal it is never written.
+/// What the line is made of. Where standard error is no terminal it is never written, and no clock is asked.
 #[derive(Drop)]
-pub struct Progress {
+pub struct Meter {
     rt: HostRuntime,
     /// When the run began, where standard error is a terminal.
     begun: Option<Instant>,
@@ -18,14 +17,14 @@ pub struct Progress {
     bytes: u64,
 }
 
-impl Progress {
-    pub fn new(rt: HostRuntime) -> Progress {
+impl Meter {
+    pub fn new(rt: HostRuntime) -> Meter {
         let begun = if rt.stderr().is_terminal() {
             Instant::now(&rt).ok()
         } else {
             None
         };
-        Progress {
+        Meter {
             rt,
             begun,
             shown: None,
@@ -35,10 +34,20 @@ impl Progress {
         }
     }
 
-    /// One file more is read, of so many bytes.
-    pub fn add(&mut self, size: u64) {
+    /// One file more is read.
+    pub fn add_file(&mut self) {
         self.files = self.files.saturating_add(1);
-        self.bytes = self.bytes.saturating_add(size);
+        self.look();
+    }
+
+    /// So many bytes more are read.
+    pub fn add_bytes(&mut self, count: usize) {
+        self.bytes = self.bytes.saturating_add(count as u64);
+        self.look();
+    }
+
+    /// Shows the line where the last one has stood for long enough.
+    fn look(&mut self) {
         if let Some(begun) = self.begun {
             let Ok(now) = Instant::now(&self.rt) else {
                 return;

@@ -1,7 +1,7 @@
 //! What is told of one file.
 
 use crate::judge::Finding;
-use crate::sites::{MOST_PLACES, Site, Sites};
+use crate::sites::{MOST_PLACES, Sites, Spot};
 use crate::texts::{Code, KINDS};
 use gj_coords::{Kind, Warnings};
 use gj_json::Path;
@@ -16,16 +16,24 @@ pub struct Report<'a> {
     pub passes: bool,
 }
 
-/// A fault and its place.
+/// A fault or a kind of warning, and its place.
 #[derive(Clone, Copy)]
 pub struct Told {
     pub code: Code,
     pub place: u64,
 }
 
+ghost use Rattle.std.specs.Prelude.{◌≡◌};
+ghost use Rattle.geolint_files.specs.Finding.{fault_in};
+
 impl Finding {
+    ghost use Rattle.std.specs.Prelude.{◌≡◌};
+    ghost use Rattle.geolint_files.specs.Finding.{fault_of, warnings_of, record_of, records_of, word_of};
+
     /// The warnings, where the file is valid.
-    pub fn warnings(&self) -> Option<Warnings> {
+    pub fn warnings(&self) -> Option<Warnings>
+        ensures { result ≡ warnings_of self.now }
+    {
         match self {
             Finding::Text(Verdict::Valid(warnings)) => Some(*warnings),
             Finding::Sequence(SeqVerdict::Valid { warnings, .. }) => Some(*warnings),
@@ -34,16 +42,20 @@ impl Finding {
     }
 
     /// Why the file is not valid, where it is asked.
-    pub fn fault(&self) -> Option<Told> {
+    pub fn fault(&self) -> Option<Told>
+        ensures { result ≡ fault_of self.now }
+    {
         match self {
-            Finding::Text(verdict) => told_of(*verdict),
-            Finding::Sequence(SeqVerdict::Record { verdict, .. }) => told_of(*verdict),
+            Finding::Text(verdict) => fault_in(*verdict),
+            Finding::Sequence(SeqVerdict::Record { verdict, .. }) => fault_in(*verdict),
             _ => None,
         }
     }
 
     /// The record that is not valid, in a sequence.
-    pub fn record(&self) -> Option<u64> {
+    pub fn record(&self) -> Option<u64>
+        ensures { result ≡ record_of self.now }
+    {
         match self {
             Finding::Sequence(SeqVerdict::Record { number, .. }) => Some(*number),
             _ => None,
@@ -51,7 +63,9 @@ impl Finding {
     }
 
     /// How many records there are, in a valid sequence.
-    pub fn records(&self) -> Option<u64> {
+    pub fn records(&self) -> Option<u64>
+        ensures { result ≡ records_of self.now }
+    {
         match self {
             Finding::Sequence(SeqVerdict::Valid { records, .. }) => Some(*records),
             _ => None,
@@ -59,16 +73,21 @@ impl Finding {
     }
 
     /// The word for what the file is.
-    pub fn word(&self) -> &'static str {
-        match self.fault() {
-            Some(told) => match told.code {
-                Code::Cause(_) => "not JSON",
-                _ => "broken",
+    pub fn word(&self) -> &'static [u8]
+        ensures { result.now ≡ word_of self.now }
+    {
+        match self {
+            Finding::Text(Verdict::Valid(_)) | Finding::Sequence(SeqVerdict::Valid { .. }) => {
+                b"valid"
+            }
+            Finding::Text(Verdict::Broken(_)) => b"broken",
+            Finding::Text(Verdict::NotJson(_)) => b"not JSON",
+            Finding::Sequence(SeqVerdict::Record { verdict, .. }) => match verdict {
+                Verdict::Valid(_) => b"not valid",
+                Verdict::Broken(_) => b"broken",
+                Verdict::NotJson(_) => b"not JSON",
             },
-            None => match self.warnings() {
-                Some(_) => "valid",
-                None => "not valid",
-            },
+            Finding::NotValid => b"not valid",
         }
     }
 
@@ -96,7 +115,9 @@ impl Finding {
     }
 }
 
-fn told_of(verdict: Verdict) -> Option<Told> {
+fn fault_in(verdict: Verdict) -> Option<Told>
+    ensures { result ≡ fault_in verdict }
+{
     match verdict {
         Verdict::Valid(_) => None,
         Verdict::Broken(fault) => Some(Told {
@@ -112,15 +133,15 @@ fn told_of(verdict: Verdict) -> Option<Told> {
 
 impl<'a> Report<'a> {
     /// Where a place stands, if that was found.
-    pub fn site(&self, place: u64) -> Option<&Site> {
-        self.sites.at(place)
+    pub fn spot(&self, place: u64) -> Option<Spot> {
+        self.sites.at(place).map(|site| site.spot)
     }
 
     /// The path of the value at a place: none for a text that is refused, which need not have one there.
     pub fn path(&self, told: &Told) -> Option<Path> {
         match told.code {
             Code::Cause(_) => None,
-            _ => self.site(told.place).and_then(|site| site.path),
+            _ => self.sites.at(told.place).and_then(|site| site.path),
         }
     }
 }

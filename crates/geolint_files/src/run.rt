@@ -3,11 +3,13 @@
 use crate::files::{is_memory, reason, spell};
 use crate::formats::lines::Style;
 use crate::formats::sarif::Log;
-use crate::formats::{github, json, lines, text, write_name};
+use crate::formats::{github, json, lines, put_name, text};
 use crate::judge::{Finding, Reading, judge};
+use crate::line::put_all;
 use crate::names::Names;
 use crate::options::{Format, Options};
-use crate::progress::Progress;
+use crate::outcome::Outcome;
+use crate::progress::Meter;
 use crate::report::Report;
 use crate::sites::Sites;
 use crate::summary::Summary;
@@ -19,37 +21,6 @@ use std::env;
 use std::fs::{File, Metadata};
 use std::io::{self, BufWriter, IsTerminal, Read, Seek, SeekFrom, Stdout, Write};
 use std::os::unix::fs::MetadataExt;
-
-/// How a run ends whose report is whole.
-#[derive(Clone, Copy, Debug, PartialEq, Eq)]
-pub enum Outcome {
-    /// Each file passes.
-    Pass,
-    /// A file does not pass.
-    Fail,
-    /// A file could not be read.
-    Unread,
-}
-
-impl Outcome {
-    /// The program's status.
-    pub fn status(self) -> u8 {
-        match self {
-            Outcome::Pass => 0,
-            Outcome::Fail => 1,
-            Outcome::Unread => 2,
-        }
-    }
-
-    /// The worse of two.
-    pub fn worse(self, other: Outcome) -> Outcome {
-        if self.status() < other.status() {
-            other
-        } else {
-            self
-        }
-    }
-}
 
 /// What ends a run before its report is whole.
 #[derive(Drop)]
@@ -116,8 +87,10 @@ struct Run {
     style: Style,
     out: BufWriter<Stdout>,
     is_terminal: bool,
+    /// What is told of a file, before it is written.
+    line: Vec<u8>,
     log: Log,
-    progress: Progress,
+    progress: Meter,
     summary: Summary,
     outcome: Outcome,
 }
@@ -144,8 +117,9 @@ impl Run {
             style: style_of(rt, is_terminal),
             out: BufWriter::new(rt.alloc(), rt.stdout())?,
             is_terminal,
+            line: Vec::new(rt.alloc()),
             log: Log::new(rt.alloc()),
-            progress: Progress::new(rt.clone()?),
+            progress: Meter::new(rt.clone()?),
             summary: Summary::new(),
             outcome: Outcome::Pass,
         })
@@ -153,24 +127,33 @@ impl Run {
 
     fn begin(&mut self) -> Result<(), Failure> {
         if self.options.format == Format::Sarif {
-            self.log.begin(&mut self.out)?;
+            self.log.begin(&mut self.line)?;
         }
-        Ok(())
+        self.write()
     }
 
     fn end(mut self) -> Result<Outcome, Failure> {
         self.progress.clear();
         if self.options.format == Format::Sarif {
-            self.log.end(&mut self.out)?;
+            self.log.end(&mut self.line)?;
+            self.write()?;
         }
         if self.options.summary {
+            self.summary.put(&mut self.line)?;
             match self.options.format {
-                Format::Text | Format::Lines => self.summary.write(&mut self.out)?,
-                _ => self.summary.write(&mut self.rt.stderr())?,
+                Format::Text | Format::Lines => self.write()?,
+                _ => self.rt.stderr().write_all(self.line.as_slice())?,
             }
         }
         self.out.flush()?;
         Ok(self.outcome)
+    }
+
+    /// Writes what is told, and begins a new line.
+    fn write(&mut self) -> Result<(), Failure> {
+        self.out.write_all(self.line.as_slice())?;
+        self.line.clear();
+        Ok(())
     }
 
     /// Judges each path of a list.
@@ -279,8 +262,13 @@ impl Run {
     /// Judges what can be read once only: no line is known of its places.
     fn judge_stream<R: Read + Drop>(&mut self, name: &[u8], mut reader: R) -> Result<(), Failure> {
         let reading = self.reading(name);
-        self.progress.add(0);
-        match judge(&mut reader, self.options.limits, reading) {
+        self.progress.add_file();
+        match judge(
+            &mut reader,
+            self.options.limits,
+            reading,
+            &mut self.progress,
+        ) {
             Ok(finding) => self.tell(name, finding, &Sites::none()),
             Err(error) => self.tell_unread(name, &error),
         }
@@ -290,8 +278,8 @@ impl Run {
     fn judge_file(&mut self, name: &[u8], mut file: File) -> Result<(), Failure> {
         let before = file.metadata().ok();
         let reading = self.reading(name);
-        self.progress.add(size_of(&before));
-        match judge(&mut file, self.options.limits, reading) {
+        self.progress.add_file();
+        match judge(&mut file, self.options.limits, reading, &mut self.progress) {
             Ok(finding) => {
                 let sites = self.find_sites(&finding, &mut file, &before, reading);
                 self.tell(name, finding, &sites)
@@ -327,13 +315,8 @@ impl Run {
     /// Tells a file that was judged.
     fn tell(&mut self, name: &[u8], finding: Finding, sites: &Sites) -> Result<(), Failure> {
         self.progress.clear();
-        let passes = match finding.warnings() {
-            Some(warnings) => self.options.lets_pass(&warnings),
-            None => false,
-        };
-        if !passes {
-            self.outcome = self.outcome.worse(Outcome::Fail);
-        }
+        let passes = self.options.passes(&finding);
+        self.outcome = self.outcome.worse(Outcome::of(passes));
         self.count(&finding);
         let report = Report {
             name,
@@ -341,17 +324,21 @@ impl Run {
             sites,
             passes,
         };
+        self.put(&report)?;
+        self.write()?;
+        self.show()
+    }
+
+    /// What is told of a file, in the form that is asked for.
+    fn put(&mut self, report: &Report<'_>) -> Result<(), AllocError> {
         let alloc = self.rt.alloc();
         match self.options.format {
-            Format::Text => text::write(&report, &mut self.out)?,
-            Format::Lines => lines::write(alloc, &report, self.style, &mut self.out)?,
-            Format::Json => json::write(alloc, &report, &mut self.out)?,
-            Format::Github => github::write(&report, &self.options, &mut self.out)?,
-            Format::Sarif => self
-                .log
-                .write(alloc, &report, &self.options, &mut self.out)?,
+            Format::Text => text::put(report, &mut self.line),
+            Format::Lines => lines::put(alloc, report, self.style, &mut self.line),
+            Format::Json => json::put_report(alloc, report, &mut self.line),
+            Format::Github => github::put(alloc, report, &self.options, &mut self.line),
+            Format::Sarif => self.log.put(report, &self.options, &mut self.line),
         }
-        self.show()
     }
 
     fn count(&mut self, finding: &Finding) {
@@ -384,20 +371,26 @@ impl Run {
         self.summary.add_unread();
         let alloc = self.rt.alloc();
         let reason = reason(alloc, error)?;
-        let mut line = Vec::new(alloc);
-        write!(line, "geolint-files: ")?;
-        write_name(name, &mut line)?;
-        writeln!(line, ": {reason}")?;
         self.out.flush()?;
+        put_all(&mut self.line, &[b"geolint-files: "])?;
+        put_name(name, &mut self.line)?;
+        put_all(&mut self.line, &[b": ", reason.as_bytes(), b"\n"])?;
         // Where standard error cannot be written either, the status says it.
-        let _ = self.rt.stderr().write_all(line.as_slice());
-        match self.options.format {
-            Format::Text | Format::Lines => {}
-            Format::Json => json::write_unread(alloc, name, reason.as_str(), &mut self.out)?,
-            Format::Github => github::write_unread(name, reason.as_str(), &mut self.out)?,
-            Format::Sarif => self.log.write_unread(alloc, name, reason.as_str())?,
-        }
+        let _ = self.rt.stderr().write_all(self.line.as_slice());
+        self.line.clear();
+        self.put_unread(name, reason.as_str())?;
+        self.write()?;
         self.show()
+    }
+
+    fn put_unread(&mut self, name: &[u8], reason: &str) -> Result<(), AllocError> {
+        let alloc = self.rt.alloc();
+        match self.options.format {
+            Format::Text | Format::Lines => Ok(()),
+            Format::Json => json::put_unread(alloc, name, reason, &mut self.line),
+            Format::Github => github::put_unread(alloc, name, reason, &mut self.line),
+            Format::Sarif => self.log.keep_unread(alloc, name, reason),
+        }
     }
 
     /// On a terminal each file is shown when it is judged.
@@ -406,13 +399,6 @@ impl Run {
             self.out.flush()?;
         }
         Ok(())
-    }
-}
-
-fn size_of(metadata: &Option<Metadata>) -> u64 {
-    match metadata {
-        Some(metadata) => metadata.len(),
-        None => 0,
     }
 }
 

@@ -19,19 +19,24 @@ const MOST_BYTES: u64 = 1 << 60;
 /// Where a place stands, as far as it was found.
 #[derive(Clone, Copy)]
 pub struct Site {
-    pub place: u64,
-    pub line: u64,
-    pub column: u64,
+    place: u64,
+    pub spot: Spot,
     pub path: Option<Path>,
     is_found: bool,
+}
+
+/// A line and a column, each from 1.
+#[derive(Clone, Copy)]
+pub struct Spot {
+    pub line: u64,
+    pub column: u64,
 }
 
 impl Site {
     fn of(place: u64) -> Site {
         Site {
             place,
-            line: 0,
-            column: 0,
+            spot: Spot { line: 0, column: 0 },
             path: None,
             is_found: false,
         }
@@ -42,8 +47,7 @@ impl Site {
 #[derive(Drop)]
 pub struct Sites {
     sites: [Site; MOST_PLACES],
-    /// The line around the last of the places.
-    pub excerpt: Excerpt,
+    excerpt: Excerpt,
     count: usize,
 }
 
@@ -63,6 +67,11 @@ impl Sites {
             *site = Site::of(place);
             self.count += 1;
         }
+    }
+
+    /// The line around the last of the places.
+    pub fn excerpt(&self) -> &Excerpt {
+        &self.excerpt
     }
 
     /// Whether no place is sought.
@@ -131,8 +140,7 @@ impl Sites {
                         finder.locate(&piece[located..=at]);
                         located = at + 1;
                     }
-                    site.line = finder.lines.line;
-                    site.column = finder.lines.column;
+                    site.spot = finder.spot();
                     site.path = finder.path();
                     site.is_found = true;
                     finder.next = i + 1;
@@ -153,8 +161,7 @@ impl Sites {
     fn end(&mut self, finder: &Finder) {
         for site in self.sites.iter_mut() {
             if !site.is_found && site.place == finder.offset {
-                site.line = finder.lines.line;
-                site.column = finder.lines.column;
+                site.spot = finder.spot();
                 site.is_found = true;
             }
         }
@@ -224,6 +231,13 @@ impl Finder {
     fn locate_in_text(&mut self, bytes: &[u8]) {
         if !self.is_lost && self.locator.feed(bytes).is_err() {
             self.is_lost = true;
+        }
+    }
+
+    fn spot(&self) -> Spot {
+        Spot {
+            line: self.lines.line,
+            column: self.lines.column,
         }
     }
 

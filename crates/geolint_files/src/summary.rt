@@ -1,7 +1,9 @@
 //! How many files are what.
 
+use crate::line::put_all;
 use crate::texts::{CAUSES, Code, KINDS, RULES};
-use std::io::{self, Write};
+use itoa::Buffer;
+use std::alloc::AllocError;
 
 /// The counts of a run.
 #[derive(Drop)]
@@ -64,49 +66,54 @@ impl Summary {
         self.counts.get(slot(code)).copied().unwrap_or(0)
     }
 
-    /// Writes the counts, and how many files each rule is told of.
-    pub fn write<W: Write>(&self, out: &mut W) -> io::Result<()> {
-        let Summary {
-            valid,
-            warned,
-            broken,
-            refused,
-            unread,
-            ..
-        } = self;
-        write!(
-            out,
-            "{valid} valid, {warned} valid with warnings, {broken} broken, {refused} not JSON, {unread} not read"
-        )?;
-        if self.not_valid > 0 {
-            write!(out, ", {} not valid", self.not_valid)?;
-        }
-        writeln!(out)?;
+    /// Puts the counts, and how many files each rule is told of.
+    pub fn put(&self, line: &mut Vec<u8>) -> Result<(), AllocError> {
+        self.put_files(line)?;
         for rule in &RULES {
-            self.write_count(Code::Rule(*rule), out)?;
+            self.put_count(Code::Rule(*rule), line)?;
         }
         for kind in &KINDS {
-            self.write_count(Code::Kind(*kind), out)?;
+            self.put_count(Code::Kind(*kind), line)?;
         }
         for cause in &CAUSES {
-            self.write_count(Code::Cause(*cause), out)?;
+            self.put_count(Code::Cause(*cause), line)?;
         }
         Ok(())
     }
 
-    fn write_count<W: Write>(&self, code: Code, out: &mut W) -> io::Result<()> {
-        let count = self.of(code);
-        if count > 0 {
-            writeln!(
-                out,
-                "{count:8} {}{}: {}",
-                code.letter(),
-                code.number(),
-                code.text()
-            )?;
+    fn put_files(&self, line: &mut Vec<u8>) -> Result<(), AllocError> {
+        put_files_of(self.valid, b" valid, ", line)?;
+        put_files_of(self.warned, b" valid with warnings, ", line)?;
+        put_files_of(self.broken, b" broken, ", line)?;
+        put_files_of(self.refused, b" not JSON, ", line)?;
+        put_files_of(self.unread, b" not read", line)?;
+        if self.not_valid > 0 {
+            put_all(line, &[b", "])?;
+            put_files_of(self.not_valid, b" not valid", line)?;
         }
-        Ok(())
+        put_all(line, &[b"\n"])
     }
+
+    /// The count of a rule, in eight places, where there is one.
+    fn put_count(&self, code: Code, line: &mut Vec<u8>) -> Result<(), AllocError> {
+        let count = self.of(code);
+        if count == 0 {
+            return Ok(());
+        }
+        let mut digits = Buffer::new();
+        let count = digits.format(count).as_bytes();
+        for _ in count.len()..8 {
+            line.push(b' ')?;
+        }
+        put_all(line, &[count, b" "])?;
+        code.put_name(line)?;
+        put_all(line, &[b": ", code.text(), b"\n"])
+    }
+}
+
+fn put_files_of(count: u64, text: &[u8], line: &mut Vec<u8>) -> Result<(), AllocError> {
+    let mut digits = Buffer::new();
+    put_all(line, &[digits.format(count).as_bytes(), text])
 }
 
 fn slot(code: Code) -> usize {

@@ -1,7 +1,13 @@
 //! What each rule, kind of warning and cause is called.
+ghost use Rattle.std.specs.Prelude.{◌≡◌, is_some};
+ghost use Rattle.gj_coords.specs.Noted.{first_in};
+ghost use Rattle.geolint_files.specs.Texts.{cause_number, cause_text, kind_text, rule_text};
 
+use crate::line::{put, put_all};
 use gj_coords::{Kind, Rule, Warnings};
 use gj_json::Cause;
+use itoa::Buffer;
+use std::alloc::AllocError;
 
 /// The kinds of warning in the order of their numbers.
 pub const KINDS: [Kind; 9] = [
@@ -55,16 +61,24 @@ pub enum Code {
 }
 
 impl Code {
-    pub fn letter(self) -> char {
+    ghost use Rattle.std.specs.Prelude.{◌≡◌, OnOk};
+    ghost use Rattle.geolint_files.specs.Line.{Adds};
+    ghost use Rattle.geolint_files.specs.Texts.{code_letter, code_number, code_text, code_name};
+
+    fn letter(self) -> &'static [u8]
+        ensures { result.now ≡ code_letter self }
+    {
         match self {
-            Code::Rule(_) => 'G',
-            Code::Kind(_) => 'W',
-            Code::Cause(_) => 'J',
-            Code::NotValid => 'N',
+            Code::Rule(_) => b"G",
+            Code::Kind(_) => b"W",
+            Code::Cause(_) => b"J",
+            Code::NotValid => b"N",
         }
     }
 
-    pub fn number(self) -> u8 {
+    pub fn number(self) -> u8
+        ensures { result ≡ code_number self }
+    {
         match self {
             Code::Rule(rule) => rule.number(),
             Code::Kind(kind) => kind.number(),
@@ -73,17 +87,40 @@ impl Code {
         }
     }
 
-    pub fn text(self) -> &'static str {
+    pub fn text(self) -> &'static [u8]
+        ensures { result.now ≡ code_text self }
+    {
         match self {
             Code::Rule(rule) => rule_text(rule),
             Code::Kind(kind) => kind_text(kind),
             Code::Cause(cause) => cause_text(cause),
-            Code::NotValid => "not valid",
+            Code::NotValid => b"not valid",
         }
+    }
+
+    /// Appends its text.
+    pub fn put_text(self, line: &mut Vec<u8>) -> Result<(), AllocError>
+        ensures { OnOk result (Adds line.old line.new (code_text self)) }
+    {
+        put(line, self.text())
+    }
+
+    /// Appends its name, as G15.
+    #[tactic(auto, unfolding(crate::specs::Texts::code_name))]
+    pub fn put_name(self, line: &mut Vec<u8>) -> Result<(), AllocError>
+        ensures { OnOk result (Adds line.old line.new (code_name self)) }
+    {
+        let mut digits = Buffer::new();
+        put_all(
+            line,
+            &[self.letter(), digits.format(self.number()).as_bytes()],
+        )
     }
 }
 
-fn cause_number(cause: Cause) -> u8 {
+fn cause_number(cause: Cause) -> u8
+    ensures { result ≡ cause_number cause }
+{
     match cause {
         Cause::Syntax => 1,
         Cause::Truncated => 2,
@@ -92,56 +129,64 @@ fn cause_number(cause: Cause) -> u8 {
     }
 }
 
-fn cause_text(cause: Cause) -> &'static str {
+fn cause_text(cause: Cause) -> &'static [u8]
+    ensures { result.now ≡ cause_text cause }
+{
     match cause {
-        Cause::Syntax => "syntax",
-        Cause::Truncated => "truncated",
-        Cause::Depth => "too deep",
-        Cause::Length => "too long",
+        Cause::Syntax => b"syntax",
+        Cause::Truncated => b"truncated",
+        Cause::Depth => b"too deep",
+        Cause::Length => b"too long",
     }
 }
 
-fn kind_text(kind: Kind) -> &'static str {
+fn kind_text(kind: Kind) -> &'static [u8]
+    ensures { result.now ≡ kind_text kind }
+{
     match kind {
-        Kind::W1 => "byte order mark",
-        Kind::W2 => "ring runs the wrong way",
-        Kind::W3 => "more than three numbers in a position",
-        Kind::W4 => "more than seven decimal places",
-        Kind::W5 => "position out of range",
-        Kind::W6 => "empty coordinates",
-        Kind::W7 => "collection in a collection",
-        Kind::W8 => "bbox south above north",
-        Kind::W9 => "crs is no longer used",
+        Kind::W1 => b"byte order mark",
+        Kind::W2 => b"ring runs the wrong way",
+        Kind::W3 => b"more than three numbers in a position",
+        Kind::W4 => b"more than seven decimal places",
+        Kind::W5 => b"position out of range",
+        Kind::W6 => b"empty coordinates",
+        Kind::W7 => b"collection in a collection",
+        Kind::W8 => b"bbox south above north",
+        Kind::W9 => b"crs is no longer used",
     }
 }
 
-fn rule_text(rule: Rule) -> &'static str {
+fn rule_text(rule: Rule) -> &'static [u8]
+    ensures { result.now ≡ rule_text rule }
+{
     match rule {
-        Rule::G1 => "not an object",
-        Rule::G2 => "type missing",
-        Rule::G3 => "type not allowed here",
-        Rule::G4 => "coordinates missing",
-        Rule::G5 => "geometries missing",
-        Rule::G6 => "geometry missing",
-        Rule::G7 => "properties missing",
-        Rule::G8 => "features missing",
-        Rule::G9 => "member forbidden by section 7.1",
-        Rule::G10 => "name repeated",
-        Rule::G11 => "coordinates of the wrong shape",
-        Rule::G12 => "position of fewer than two elements",
-        Rule::G13 => "line of fewer than two elements",
-        Rule::G14 => "ring of fewer than four elements",
-        Rule::G15 => "ring not closed",
-        Rule::G16 => "number beyond the profile",
-        Rule::G17 => "not an array",
-        Rule::G18 => "properties neither object nor null",
-        Rule::G19 => "id neither string nor number",
-        Rule::G20 => "bbox or its element of the wrong kind",
-        Rule::G21 => "bbox length odd or below 4",
+        Rule::G1 => b"not an object",
+        Rule::G2 => b"type missing",
+        Rule::G3 => b"type not allowed here",
+        Rule::G4 => b"coordinates missing",
+        Rule::G5 => b"geometries missing",
+        Rule::G6 => b"geometry missing",
+        Rule::G7 => b"properties missing",
+        Rule::G8 => b"features missing",
+        Rule::G9 => b"member forbidden by section 7.1",
+        Rule::G10 => b"name repeated",
+        Rule::G11 => b"coordinates of the wrong shape",
+        Rule::G12 => b"position of fewer than two elements",
+        Rule::G13 => b"line of fewer than two elements",
+        Rule::G14 => b"ring of fewer than four elements",
+        Rule::G15 => b"ring not closed",
+        Rule::G16 => b"number beyond the profile",
+        Rule::G17 => b"not an array",
+        Rule::G18 => b"properties neither object nor null",
+        Rule::G19 => b"id neither string nor number",
+        Rule::G20 => b"bbox or its element of the wrong kind",
+        Rule::G21 => b"bbox length odd or below 4",
     }
 }
 
 /// Whether there is a warning of the kind.
-pub fn has(warnings: &Warnings, kind: Kind) -> bool {
+pub fn has(warnings: &Warnings, kind: Kind) -> bool
+    ensures { result ≡ is_some (first_in kind warnings.now) }
+{
     warnings.first(kind).is_some()
 }

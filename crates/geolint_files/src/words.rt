@@ -42,11 +42,25 @@ pub struct Order {
     pub list: Option<Vec<u8>>,
 }
 
+/// The command, each word of which is made and given over before the next: what is under way at once is one word.
 pub fn command<'a>(alloc: Global) -> Result<Command<'a>, AllocError> {
+    let command = Command::new(alloc, "geolint-files")
+        .version(VERSION)
+        .about("Judges GeoJSON files, and says of each that is not valid where and why not")
+        .after_help(AFTER_HELP)
+        .no_binary_name(true);
+    let command = with_warnings(alloc, command)?;
+    let command = with_reading(alloc, command)?;
+    let command = with_report(alloc, command)?;
+    with_files(alloc, command)
+}
+
+fn with_warnings<'a>(alloc: Global, command: Command<'a>) -> Result<Command<'a>, AllocError> {
     let strict = Arg::new(alloc, "strict")
         .long("strict")
         .help("A valid file with a warning does not pass")
         .action(ArgAction::SetTrue);
+    let command = command.arg(strict)?;
     let allow = Arg::new(alloc, "allow")
         .long("allow")
         .value_name("KINDS")
@@ -55,20 +69,30 @@ pub fn command<'a>(alloc: Global) -> Result<Command<'a>, AllocError> {
         .hide_possible_values(true)
         .value_delimiter(',')
         .action(ArgAction::Append);
+    command.arg(allow)
+}
+
+fn with_reading<'a>(alloc: Global, command: Command<'a>) -> Result<Command<'a>, AllocError> {
     let quick = Arg::new(alloc, "quick")
         .long("quick")
         .help("Ask only whether each file is valid, and read no further than that takes")
         .action(ArgAction::SetTrue);
+    let command = command.arg(quick)?;
     let sequence = Arg::new(alloc, "seq")
         .long("seq")
         .help("Judge each file as a text sequence, whatever its name is")
         .action(ArgAction::SetTrue);
+    let command = command.arg(sequence)?;
     let bytes = Arg::new(alloc, "max-bytes")
         .long("max-bytes")
         .value_name("N")
         .help("Refuse longer files")
         .action(ArgAction::Set)
         .value_parser(value_parser!(u64).range(1..=MOST_BYTES));
+    command.arg(bytes)
+}
+
+fn with_report<'a>(alloc: Global, command: Command<'a>) -> Result<Command<'a>, AllocError> {
     let format = Arg::new(alloc, "format")
         .long("format")
         .value_name("FORMAT")
@@ -76,10 +100,15 @@ pub fn command<'a>(alloc: Global) -> Result<Command<'a>, AllocError> {
         .value_parser(FORMATS.as_slice())
         .default_value("lines")
         .action(ArgAction::Set);
+    let command = command.arg(format)?;
     let summary = Arg::new(alloc, "summary")
         .long("summary")
         .help("Say at the end how many files are what, and the rules by count")
         .action(ArgAction::SetTrue);
+    command.arg(summary)
+}
+
+fn with_files<'a>(alloc: Global, command: Command<'a>) -> Result<Command<'a>, AllocError> {
     let list = Arg::new(alloc, "files-from")
         .long("files-from")
         .value_name("FILE")
@@ -87,25 +116,13 @@ pub fn command<'a>(alloc: Global) -> Result<Command<'a>, AllocError> {
             "Judge also the paths in this file, or in standard input if it is -, each ended by LF or NUL",
         )
         .action(ArgAction::Set);
+    let command = command.arg(list)?;
     let path = Arg::new(alloc, "path")
         .value_name("PATH")
         .help("What to judge")
         .num_args(0..)
         .action(ArgAction::Append);
-    Command::new(alloc, "geolint-files")
-        .version(VERSION)
-        .about("Judges GeoJSON files, and says of each that is not valid where and why not")
-        .after_help(AFTER_HELP)
-        .no_binary_name(true)
-        .arg(strict)?
-        .arg(allow)?
-        .arg(quick)?
-        .arg(sequence)?
-        .arg(bytes)?
-        .arg(format)?
-        .arg(summary)?
-        .arg(list)?
-        .arg(path)
+    command.arg(path)
 }
 
 /// What was asked for, or None where the words do not go together.

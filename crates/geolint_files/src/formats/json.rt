@@ -1,95 +1,180 @@
 //! One JSON object for each file, on a line of its own.
+ghost use Rattle.std.specs.Prelude.{OnOk};
+ghost use Rattle.gj_json.specs.Path.{steps_of};
+ghost use Rattle.geolint_files.specs.Finding.{word_of, record_of, records_of};
+ghost use Rattle.geolint_files.specs.Forms.{json_spot, json_path, json_path_string, json_told, json_head};
+ghost use Rattle.geolint_files.specs.Line.{Adds, optional_number};
 
-use crate::formats::write_path;
+use crate::formats::put_path;
+use crate::judge::Finding;
+use crate::line::{put, put_all, put_number, put_optional, put_truth};
 use crate::report::{Report, Told, warning};
+use crate::sites::Spot;
 use crate::texts::KINDS;
+use gj_coords::Warnings;
 use gj_json::Path;
 use gj_places::json_string;
-use std::alloc::Global;
-use std::io::{self, Write};
+use itoa::Buffer;
+use std::alloc::{AllocError, Global};
 
-/// Writes the line of a file.
-pub fn write<W: Write>(alloc: Global, report: &Report<'_>, out: &mut W) -> io::Result<()> {
+/// Puts the line of a file.
+pub fn put_report(
+    alloc: Global,
+    report: &Report<'_>,
+    line: &mut Vec<u8>,
+) -> Result<(), AllocError> {
     let name = json_string(alloc, report.name)?;
-    write!(
-        out,
-        "{{\"path\":{name},\"verdict\":\"{}\",\"passes\":{}",
-        report.finding.word(),
-        report.passes
-    )?;
-    match report.finding.record() {
-        Some(record) => write!(out, ",\"record\":{record}")?,
-        None => write!(out, ",\"record\":null")?,
-    }
-    match report.finding.records() {
-        Some(records) => write!(out, ",\"records\":{records}")?,
-        None => write!(out, ",\"records\":null")?,
-    }
+    put_head(name.as_bytes(), &report.finding, report.passes, line)?;
     match report.finding.fault() {
-        Some(told) => write_told(report, &told, out)?,
-        None => write!(
-            out,
-            ",\"rule\":null,\"text\":null,\"offset\":null,\"line\":null,\"column\":null,\"json_path\":null"
-        )?,
+        Some(told) => put_told(&told, report.spot(told.place), report.path(&told), line)?,
+        None => put(line, NOTHING_TOLD)?,
     }
-    write!(out, ",\"warnings\":[")?;
+    put(line, b",\"warnings\":[")?;
     if let Some(warnings) = report.finding.warnings() {
-        let mut is_first = true;
-        for kind in &KINDS {
-            if let Some((told, count)) = warning(*kind, &warnings) {
-                if !is_first {
-                    out.write_all(b",")?;
-                }
-                is_first = false;
-                write!(out, "{{\"count\":{count}")?;
-                write_told(report, &told, out)?;
-                write!(out, "}}")?;
+        put_warnings(report, &warnings, line)?;
+    }
+    put(line, b"]}\n")
+}
+
+/// The members where no rule is broken.
+const NOTHING_TOLD: &[u8] =
+    b",\"rule\":null,\"text\":null,\"offset\":null,\"line\":null,\"column\":null,\"json_path\":null";
+
+/// The members for the file; its name is spelled as a JSON string.
+fn put_head(
+    name: &[u8],
+    finding: &Finding,
+    passes: bool,
+    line: &mut Vec<u8>,
+) -> Result<(), AllocError>
+    ensures { OnOk result (Adds line.old line.new (json_head name.now finding.now passes)) }
+{
+    put(line, b"{\"path\":")?;
+    put(line, name)?;
+    put(line, b",\"verdict\":\"")?;
+    put_word(finding, line)?;
+    put(line, b"\",\"passes\":")?;
+    put_truth(line, passes)?;
+    put(line, b",\"record\":")?;
+    put_record(finding, line)?;
+    put(line, b",\"records\":")?;
+    put_records(finding, line)
+}
+
+fn put_word(finding: &Finding, line: &mut Vec<u8>) -> Result<(), AllocError>
+    ensures { OnOk result (Adds line.old line.new (word_of finding.now)) }
+{
+    put(line, finding.word())
+}
+
+fn put_record(finding: &Finding, line: &mut Vec<u8>) -> Result<(), AllocError>
+    ensures { OnOk result (Adds line.old line.new (optional_number (record_of finding.now))) }
+{
+    put_optional(line, finding.record())
+}
+
+fn put_records(finding: &Finding, line: &mut Vec<u8>) -> Result<(), AllocError>
+    ensures { OnOk result (Adds line.old line.new (optional_number (records_of finding.now))) }
+{
+    put_optional(line, finding.records())
+}
+
+/// The kinds of warning, each as an object.
+fn put_warnings(
+    report: &Report<'_>,
+    warnings: &Warnings,
+    line: &mut Vec<u8>,
+) -> Result<(), AllocError> {
+    let mut is_first = true;
+    for kind in &KINDS {
+        if let Some((told, count)) = warning(*kind, warnings) {
+            if !is_first {
+                put(line, b",")?;
             }
+            is_first = false;
+            put_all(line, &[b"{\"count\":"])?;
+            put_number(line, count as u64)?;
+            put_told(&told, report.spot(told.place), report.path(&told), line)?;
+            put(line, b"}")?;
         }
     }
-    writeln!(out, "]}}")
+    Ok(())
 }
 
 /// The members for what is told at a place. Texts and paths have no character that a JSON string escapes.
-fn write_told<W: Write>(report: &Report<'_>, told: &Told, out: &mut W) -> io::Result<()> {
-    let code = told.code;
-    write!(
-        out,
-        ",\"rule\":\"{}{}\",\"text\":\"{}\",\"offset\":{}",
-        code.letter(),
-        code.number(),
-        code.text(),
-        told.place
-    )?;
-    match report.site(told.place) {
-        Some(site) => write!(out, ",\"line\":{},\"column\":{}", site.line, site.column)?,
-        None => write!(out, ",\"line\":null,\"column\":null")?,
-    }
-    write_path_member(report.path(told), out)
+fn put_told(
+    told: &Told,
+    spot: Option<Spot>,
+    path: Option<Path>,
+    line: &mut Vec<u8>,
+) -> Result<(), AllocError>
+    ensures { OnOk result (Adds line.old line.new (json_told told.now spot path)) }
+{
+    put(line, b",\"rule\":\"")?;
+    told.code.put_name(line)?;
+    put(line, b"\",\"text\":\"")?;
+    told.code.put_text(line)?;
+    put(line, b"\",\"offset\":")?;
+    put_number(line, told.place)?;
+    put_spot(spot, line)?;
+    put_path_member(path, line)
 }
 
-fn write_path_member<W: Write>(path: Option<Path>, out: &mut W) -> io::Result<()> {
-    match path {
-        Some(path) => {
-            write!(out, ",\"json_path\":\"")?;
-            write_path(&path, out)?;
-            write!(out, "\"")
+fn put_spot(spot: Option<Spot>, line: &mut Vec<u8>) -> Result<(), AllocError>
+    ensures { OnOk result (Adds line.old line.new (json_spot spot)) }
+{
+    match spot {
+        Some(spot) => {
+            let mut line_digits = Buffer::new();
+            let mut column_digits = Buffer::new();
+            put_all(
+                line,
+                &[
+                    b",\"line\":",
+                    line_digits.format(spot.line).as_bytes(),
+                    b",\"column\":",
+                    column_digits.format(spot.column).as_bytes(),
+                ],
+            )
         }
-        None => write!(out, ",\"json_path\":null"),
+        None => put_all(line, &[b",\"line\":null,\"column\":null"]),
     }
 }
 
-/// Writes the line of a file that could not be opened or read.
-pub fn write_unread<W: Write>(
+fn put_path_member(path: Option<Path>, line: &mut Vec<u8>) -> Result<(), AllocError>
+    ensures { OnOk result (Adds line.old line.new (json_path path)) }
+{
+    match path {
+        Some(path) => put_path_string(&path, line),
+        None => put(line, b",\"json_path\":null"),
+    }
+}
+
+fn put_path_string(path: &Path, line: &mut Vec<u8>) -> Result<(), AllocError>
+    ensures { OnOk result (Adds line.old line.new (json_path_string (steps_of path.now))) }
+{
+    put(line, b",\"json_path\":\"")?;
+    put_path(path, line)?;
+    put(line, b"\"")
+}
+
+/// Puts the line of a file that could not be opened or read.
+pub fn put_unread(
     alloc: Global,
     name: &[u8],
     reason: &str,
-    out: &mut W,
-) -> io::Result<()> {
+    line: &mut Vec<u8>,
+) -> Result<(), AllocError> {
     let name = json_string(alloc, name)?;
     let reason = json_string(alloc, reason.as_bytes())?;
-    writeln!(
-        out,
-        "{{\"path\":{name},\"verdict\":\"not read\",\"passes\":false,\"record\":null,\"records\":null,\"rule\":null,\"text\":{reason},\"offset\":null,\"line\":null,\"column\":null,\"json_path\":null,\"warnings\":[]}}"
+    put_all(
+        line,
+        &[
+            b"{\"path\":",
+            name.as_bytes(),
+            b",\"verdict\":\"not read\",\"passes\":false,\"record\":null,\"records\":null,\"rule\":null,\"text\":",
+            reason.as_bytes(),
+            b",\"offset\":null,\"line\":null,\"column\":null,\"json_path\":null,\"warnings\":[]}\n",
+        ],
     )
 }

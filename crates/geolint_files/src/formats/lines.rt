@@ -1,10 +1,11 @@
 //! One line for each thing that is told, as compilers write them, and the place it is told of.
 
-use crate::formats::{write_name, write_path};
+use crate::formats::{put_name, put_path};
+use crate::line::{put_all, put_number};
 use crate::report::{Report, Told, warning};
 use crate::texts::{Code, KINDS};
-use std::alloc::Global;
-use std::io::{self, Write};
+use itoa::Buffer;
+use std::alloc::{AllocError, Global};
 
 /// How a terminal shows parts of a line, where it is one.
 #[derive(Clone, Copy, PartialEq, Eq)]
@@ -22,55 +23,51 @@ enum Part {
     Caret,
 }
 
-fn begin<W: Write>(part: Part, style: Style, out: &mut W) -> io::Result<()> {
-    if style == Style::Plain {
-        return Ok(());
+/// What begins a part in colour, and what ends it; nothing where the style is plain.
+fn beginning(part: Part, style: Style) -> &'static [u8] {
+    match (style, part) {
+        (Style::Plain, _) => b"",
+        (Style::Colour, Part::Name) => b"\x1b[1m",
+        (Style::Colour, Part::Fault) => b"\x1b[1;31m",
+        (Style::Colour, Part::Warning) => b"\x1b[1;33m",
+        (Style::Colour, Part::Caret) => b"\x1b[1;32m",
     }
-    out.write_all(match part {
-        Part::Name => b"\x1b[1m",
-        Part::Fault => b"\x1b[1;31m",
-        Part::Warning => b"\x1b[1;33m",
-        Part::Caret => b"\x1b[1;32m",
-    })
 }
 
-fn end<W: Write>(style: Style, out: &mut W) -> io::Result<()> {
+fn end(style: Style) -> &'static [u8] {
     match style {
-        Style::Plain => Ok(()),
-        Style::Colour => out.write_all(b"\x1b[0m"),
+        Style::Plain => b"",
+        Style::Colour => b"\x1b[0m",
     }
 }
 
-/// Writes the lines of a file: none for one that is valid without a warning.
-pub fn write<W: Write>(
+/// Puts the lines of a file: none for one that is valid without a warning.
+pub fn put(
     alloc: Global,
     report: &Report<'_>,
     style: Style,
-    out: &mut W,
-) -> io::Result<()> {
+    line: &mut Vec<u8>,
+) -> Result<(), AllocError> {
     if let Some(told) = report.finding.fault() {
-        write_place(report, &told, style, out)?;
-        begin(Part::Fault, style, out)?;
-        write!(out, "{}", report.finding.word())?;
-        write_code(told.code, style, out)?;
-        write_detail(report, &told, 1, out)?;
-        return write_excerpt(alloc, report, &told, style, out);
+        put_place(report, &told, style, line)?;
+        put_all(
+            line,
+            &[beginning(Part::Fault, style), report.finding.word()],
+        )?;
+        put_code(told.code, style, line)?;
+        put_detail(report, &told, 1, line)?;
+        return put_excerpt(alloc, report, &told, style, line);
     }
     match report.finding.warnings() {
         None => {
-            begin(Part::Name, style, out)?;
-            write_name(report.name, out)?;
-            end(style, out)?;
-            writeln!(out, ": not valid")
+            put_all(line, &[beginning(Part::Name, style)])?;
+            put_name(report.name, line)?;
+            put_all(line, &[end(style), b": not valid\n"])
         }
         Some(warnings) => {
             for kind in &KINDS {
                 if let Some((told, count)) = warning(*kind, &warnings) {
-                    write_place(report, &told, style, out)?;
-                    begin(Part::Warning, style, out)?;
-                    write!(out, "warning")?;
-                    write_code(told.code, style, out)?;
-                    write_detail(report, &told, count, out)?;
+                    put_warning(report, &told, count, style, line)?;
                 }
             }
             Ok(())
@@ -78,89 +75,118 @@ pub fn write<W: Write>(
     }
 }
 
-fn write_place<W: Write>(
+fn put_warning(
+    report: &Report<'_>,
+    told: &Told,
+    count: u32,
+    style: Style,
+    line: &mut Vec<u8>,
+) -> Result<(), AllocError> {
+    put_place(report, told, style, line)?;
+    put_all(line, &[beginning(Part::Warning, style), b"warning"])?;
+    put_code(told.code, style, line)?;
+    put_detail(report, told, count, line)
+}
+
+fn put_place(
     report: &Report<'_>,
     told: &Told,
     style: Style,
-    out: &mut W,
-) -> io::Result<()> {
-    begin(Part::Name, style, out)?;
-    write_name(report.name, out)?;
-    if let Some(site) = report.site(told.place) {
-        write!(out, ":{}:{}", site.line, site.column)?;
+    line: &mut Vec<u8>,
+) -> Result<(), AllocError> {
+    put_all(line, &[beginning(Part::Name, style)])?;
+    put_name(report.name, line)?;
+    if let Some(spot) = report.spot(told.place) {
+        let mut line_digits = Buffer::new();
+        let mut column_digits = Buffer::new();
+        put_all(
+            line,
+            &[
+                b":",
+                line_digits.format(spot.line).as_bytes(),
+                b":",
+                column_digits.format(spot.column).as_bytes(),
+            ],
+        )?;
     }
-    end(style, out)?;
-    write!(out, ": ")
+    put_all(line, &[end(style), b": "])
 }
 
-fn write_code<W: Write>(code: Code, style: Style, out: &mut W) -> io::Result<()> {
-    write!(out, " {}{}", code.letter(), code.number())?;
-    end(style, out)?;
-    write!(out, ": {}", code.text())
+fn put_code(code: Code, style: Style, line: &mut Vec<u8>) -> Result<(), AllocError> {
+    line.push(b' ')?;
+    code.put_name(line)?;
+    put_all(line, &[end(style), b": ", code.text()])
 }
 
 /// What stands in parentheses at the end of the line: the record, the count, the offset where the line is not known, and
 /// the path.
-fn write_detail<W: Write>(
+fn put_detail(
     report: &Report<'_>,
     told: &Told,
     count: u32,
-    out: &mut W,
-) -> io::Result<()> {
+    line: &mut Vec<u8>,
+) -> Result<(), AllocError> {
     let mut is_begun = false;
     if let Some(record) = report.finding.record() {
-        write_separator(is_begun, out)?;
+        put_number_in_detail(is_begun, b"record ", record, b"", line)?;
         is_begun = true;
-        write!(out, "record {record}")?;
     }
     if count > 1 {
-        write_separator(is_begun, out)?;
+        put_number_in_detail(is_begun, b"", count as u64, b" times", line)?;
         is_begun = true;
-        write!(out, "{count} times")?;
     }
-    if report.site(told.place).is_none() {
-        write_separator(is_begun, out)?;
+    if report.spot(told.place).is_none() {
+        put_number_in_detail(is_begun, b"at byte ", told.place, b"", line)?;
         is_begun = true;
-        write!(out, "at byte {}", told.place)?;
     }
     if let Some(path) = report.path(told) {
-        write_separator(is_begun, out)?;
+        put_all(line, &[separator(is_begun)])?;
+        put_path(&path, line)?;
         is_begun = true;
-        write_path(&path, out)?;
     }
     if is_begun {
-        out.write_all(b")")?;
+        put_all(line, &[b")"])?;
     }
-    writeln!(out)
+    put_all(line, &[b"\n"])
 }
 
-fn write_separator<W: Write>(is_begun: bool, out: &mut W) -> io::Result<()> {
-    if is_begun {
-        out.write_all(b", ")
-    } else {
-        out.write_all(b" (")
+fn put_number_in_detail(
+    is_begun: bool,
+    before: &'static [u8],
+    number: u64,
+    behind: &'static [u8],
+    line: &mut Vec<u8>,
+) -> Result<(), AllocError> {
+    put_all(line, &[separator(is_begun), before])?;
+    put_number(line, number)?;
+    put_all(line, &[behind])
+}
+
+fn separator(is_begun: bool) -> &'static [u8] {
+    match is_begun {
+        false => b" (",
+        true => b", ",
     }
 }
 
-/// The line around the place, with a caret under the byte at it.
-fn write_excerpt<W: Write>(
+/// The line around the place, with a caret under the character at it.
+fn put_excerpt(
     alloc: Global,
     report: &Report<'_>,
     told: &Told,
     style: Style,
-    out: &mut W,
-) -> io::Result<()> {
-    if report.site(told.place).is_none() {
+    line: &mut Vec<u8>,
+) -> Result<(), AllocError> {
+    if report.spot(told.place).is_none() {
         return Ok(());
     }
-    let shown = report.sites.excerpt.shown(alloc)?;
-    writeln!(out, "    {}", shown.text)?;
-    write!(out, "    ")?;
+    let shown = report.sites.excerpt().shown(alloc)?;
+    put_all(line, &[b"    ", shown.text.as_bytes(), b"\n    "])?;
     for _ in 0..shown.before {
-        write!(out, " ")?;
+        line.push(b' ')?;
     }
-    begin(Part::Caret, style, out)?;
-    write!(out, "^")?;
-    end(style, out)?;
-    writeln!(out)
+    put_all(
+        line,
+        &[beginning(Part::Caret, style), b"^", end(style), b"\n"],
+    )
 }

@@ -1,12 +1,13 @@
 //! A log in SARIF 2.1.0, written file by file.
 
-use crate::formats::write_path;
+use crate::formats::put_path;
+use crate::line::{put, put_all, put_number, put_truth};
 use crate::options::Options;
 use crate::report::{Report, Told, warning};
 use crate::texts::{CAUSES, Code, KINDS, RULES};
 use gj_places::json_string;
-use std::alloc::Global;
-use std::io::{self, Write};
+use itoa::Buffer;
+use std::alloc::{AllocError, Global};
 
 /// What has been written of a log.
 #[derive(Drop)]
@@ -16,6 +17,11 @@ pub struct Log {
     unread: Vec<u8>,
 }
 
+const BEGIN: &[u8] =
+    b"{\"$schema\":\"https://json.schemastore.org/sarif-2.1.0.json\",\"version\":\"2.1.0\",\"runs\":[{\"columnKind\":\"unicodeCodePoints\",\"tool\":{\"driver\":{\"name\":\"geolint-files\",\"version\":\"0.1.0\",\"rules\":[\n";
+
+const LOCATION: &[u8] = b",\"locations\":[{\"physicalLocation\":{\"artifactLocation\":{\"uri\":";
+
 impl Log {
     pub fn new(alloc: Global) -> Log {
         Log {
@@ -24,38 +30,34 @@ impl Log {
         }
     }
 
-    /// Writes what comes before the first result: the program and its rules.
-    pub fn begin<W: Write>(&self, out: &mut W) -> io::Result<()> {
-        writeln!(
-            out,
-            "{{\"$schema\":\"https://json.schemastore.org/sarif-2.1.0.json\",\"version\":\"2.1.0\",\"runs\":[{{\"columnKind\":\"unicodeCodePoints\",\"tool\":{{\"driver\":{{\"name\":\"geolint-files\",\"version\":\"0.1.0\",\"rules\":["
-        )?;
+    /// Puts what comes before the first result: the program and its rules.
+    pub fn begin(&self, line: &mut Vec<u8>) -> Result<(), AllocError> {
+        put_all(line, &[BEGIN])?;
         for rule in &RULES {
-            write_rule(Code::Rule(*rule), "error", out)?;
-            writeln!(out, ",")?;
+            put_rule(Code::Rule(*rule), b"error", line)?;
+            put_all(line, &[b",\n"])?;
         }
         for cause in &CAUSES {
-            write_rule(Code::Cause(*cause), "error", out)?;
-            writeln!(out, ",")?;
+            put_rule(Code::Cause(*cause), b"error", line)?;
+            put_all(line, &[b",\n"])?;
         }
-        write_rule(Code::NotValid, "error", out)?;
+        put_rule(Code::NotValid, b"error", line)?;
         for kind in &KINDS {
-            writeln!(out, ",")?;
-            write_rule(Code::Kind(*kind), "warning", out)?;
+            put_all(line, &[b",\n"])?;
+            put_rule(Code::Kind(*kind), b"warning", line)?;
         }
-        writeln!(out, "]}}}},\"results\":[")
+        put_all(line, &[b"]}},\"results\":[\n"])
     }
 
-    /// Writes the results of a file: none for one that is valid without a warning.
-    pub fn write<W: Write>(
+    /// Puts the results of a file: none for one that is valid without a warning.
+    pub fn put(
         &mut self,
-        alloc: Global,
         report: &Report<'_>,
         options: &Options,
-        out: &mut W,
-    ) -> io::Result<()> {
+        line: &mut Vec<u8>,
+    ) -> Result<(), AllocError> {
         if let Some(told) = report.finding.fault() {
-            return self.write_result(alloc, "error", report, &told, 1, out);
+            return self.put_result(b"error", report, &told, 1, line);
         }
         match report.finding.warnings() {
             None => {
@@ -63,14 +65,17 @@ impl Log {
                     code: Code::NotValid,
                     place: 0,
                 };
-                self.write_result(alloc, "error", report, &told, 1, out)
+                self.put_result(b"error", report, &told, 1, line)
             }
             Some(warnings) => {
                 for kind in &KINDS {
                     if let Some((told, count)) = warning(*kind, &warnings) {
-                        let fails = options.strict && !options.allowed.contains(*kind);
-                        let level = if fails { "error" } else { "warning" };
-                        self.write_result(alloc, level, report, &told, count, out)?;
+                        let level: &[u8] = if options.fails(*kind) {
+                            b"error"
+                        } else {
+                            b"warning"
+                        };
+                        self.put_result(level, report, &told, count, line)?;
                     }
                 }
                 Ok(())
@@ -78,123 +83,172 @@ impl Log {
         }
     }
 
-    fn write_result<W: Write>(
+    fn put_result(
         &mut self,
-        alloc: Global,
-        level: &str,
+        level: &[u8],
         report: &Report<'_>,
         told: &Told,
         count: u32,
-        out: &mut W,
-    ) -> io::Result<()> {
+        line: &mut Vec<u8>,
+    ) -> Result<(), AllocError> {
         if self.results > 0 {
-            writeln!(out, ",")?;
+            put_all(line, &[b",\n"])?;
         }
         self.results = self.results.saturating_add(1);
-        let code = told.code;
-        write!(out, "{{\"ruleId\":\"")?;
-        write_id(code, out)?;
-        write!(
-            out,
-            "\",\"level\":\"{level}\",\"message\":{{\"text\":\"{}",
-            code.text()
+        put_all(line, &[b"{\"ruleId\":\""])?;
+        put_id(told.code, line)?;
+        put_all(
+            line,
+            &[b"\",\"level\":\"", level, b"\",\"message\":{\"text\":\""],
         )?;
-        if let Some(record) = report.finding.record() {
-            write!(out, ", record {record}")?;
+        put_message(report, told, count, line)?;
+        put_all(line, &[b"\"}", LOCATION])?;
+        put_uri(report.name, line)?;
+        put_all(line, &[b"}"])?;
+        if told.code != Code::NotValid {
+            put_region(report, told, line)?;
         }
-        if count > 1 {
-            write!(out, ", {count} times")?;
-        }
-        write!(
-            out,
-            "\"}},\"locations\":[{{\"physicalLocation\":{{\"artifactLocation\":{{\"uri\":"
-        )?;
-        write_uri(alloc, report.name, out)?;
-        write!(out, "}}")?;
-        if code != Code::NotValid {
-            write!(out, ",\"region\":{{")?;
-            if let Some(site) = report.site(told.place) {
-                write!(
-                    out,
-                    "\"startLine\":{},\"startColumn\":{},",
-                    site.line, site.column
-                )?;
-            }
-            write!(out, "\"byteOffset\":{},\"byteLength\":0}}", told.place)?;
-        }
-        write!(out, "}}")?;
+        put_all(line, &[b"}"])?;
         if let Some(path) = report.path(told) {
-            write!(out, ",\"logicalLocations\":[{{\"fullyQualifiedName\":\"")?;
-            write_path(&path, out)?;
-            write!(out, "\"}}]")?;
+            put_all(
+                line,
+                &[b",\"logicalLocations\":[{\"fullyQualifiedName\":\""],
+            )?;
+            put_path(&path, line)?;
+            put_all(line, &[b"\"}]"])?;
         }
-        write!(out, "}}]}}")
+        put_all(line, &[b"}]}"])
     }
 
     /// Keeps that a file could not be opened or read.
-    pub fn write_unread(&mut self, alloc: Global, name: &[u8], reason: &str) -> io::Result<()> {
+    pub fn keep_unread(
+        &mut self,
+        alloc: Global,
+        name: &[u8],
+        reason: &str,
+    ) -> Result<(), AllocError> {
         let text = json_string(alloc, reason.as_bytes())?;
         if !self.unread.is_empty() {
-            self.unread.write_all(b",\n")?;
+            put_all(&mut self.unread, &[b",\n"])?;
         }
-        write!(
-            self.unread,
-            "{{\"level\":\"error\",\"message\":{{\"text\":{text}}},\"locations\":[{{\"physicalLocation\":{{\"artifactLocation\":{{\"uri\":"
+        put_all(
+            &mut self.unread,
+            &[b"{\"level\":\"error\",\"message\":{\"text\":"],
         )?;
-        write_uri(alloc, name, &mut self.unread)?;
-        self.unread.write_all(b"}}}]}")
+        put(&mut self.unread, text.as_bytes())?;
+        put_all(&mut self.unread, &[b"}", LOCATION])?;
+        put_uri(name, &mut self.unread)?;
+        put_all(&mut self.unread, &[b"}}}]}"])
     }
 
-    /// Writes what comes behind the last result.
-    pub fn end<W: Write>(&self, out: &mut W) -> io::Result<()> {
-        let successful = self.unread.is_empty();
-        write!(
-            out,
-            "],\"invocations\":[{{\"executionSuccessful\":{successful},\"toolExecutionNotifications\":["
-        )?;
-        out.write_all(self.unread.as_slice())?;
-        writeln!(out, "]}}]}}]}}")
+    /// Puts what comes behind the last result.
+    pub fn end(&self, line: &mut Vec<u8>) -> Result<(), AllocError> {
+        put(line, b"],\"invocations\":[{\"executionSuccessful\":")?;
+        put_truth(line, self.unread.is_empty())?;
+        put(line, b",\"toolExecutionNotifications\":[")?;
+        put(line, self.unread.as_slice())?;
+        put(line, b"]}]}]}\n")
     }
 }
 
-fn write_id<W: Write>(code: Code, out: &mut W) -> io::Result<()> {
+fn put_message(
+    report: &Report<'_>,
+    told: &Told,
+    count: u32,
+    line: &mut Vec<u8>,
+) -> Result<(), AllocError> {
+    put_all(line, &[told.code.text()])?;
+    if let Some(record) = report.finding.record() {
+        put_all(line, &[b", record "])?;
+        put_number(line, record)?;
+    }
+    if count > 1 {
+        put_all(line, &[b", "])?;
+        put_number(line, count as u64)?;
+        put_all(line, &[b" times"])?;
+    }
+    Ok(())
+}
+
+fn put_region(report: &Report<'_>, told: &Told, line: &mut Vec<u8>) -> Result<(), AllocError> {
+    put_all(line, &[b",\"region\":{"])?;
+    if let Some(spot) = report.spot(told.place) {
+        let mut line_digits = Buffer::new();
+        let mut column_digits = Buffer::new();
+        put_all(
+            line,
+            &[
+                b"\"startLine\":",
+                line_digits.format(spot.line).as_bytes(),
+                b",\"startColumn\":",
+                column_digits.format(spot.column).as_bytes(),
+                b",",
+            ],
+        )?;
+    }
+    let mut digits = Buffer::new();
+    let place = digits.format(told.place).as_bytes();
+    put_all(line, &[b"\"byteOffset\":", place, b",\"byteLength\":0}"])
+}
+
+fn put_id(code: Code, line: &mut Vec<u8>) -> Result<(), AllocError> {
     match code {
-        Code::NotValid => write!(out, "not-valid"),
-        code => write!(out, "{}{}", code.letter(), code.number()),
+        Code::NotValid => put_all(line, &[b"not-valid"]),
+        code => code.put_name(line),
     }
 }
 
 /// A rule, with its section of docs/rules.md.
-fn write_rule<W: Write>(code: Code, level: &str, out: &mut W) -> io::Result<()> {
+fn put_rule(code: Code, level: &[u8], line: &mut Vec<u8>) -> Result<(), AllocError> {
     let text = code.text();
-    write!(out, "{{\"id\":\"")?;
-    write_id(code, out)?;
-    write!(
-        out,
-        "\",\"shortDescription\":{{\"text\":\"{text}\"}},\"help\":{{\"text\":\"docs/rules.md, "
+    put_all(line, &[b"{\"id\":\""])?;
+    put_id(code, line)?;
+    put_all(
+        line,
+        &[
+            b"\",\"shortDescription\":{\"text\":\"",
+            text,
+            b"\"},\"help\":{\"text\":\"docs/rules.md, ",
+        ],
     )?;
     match code {
-        Code::NotValid => write!(out, "what geolint says")?,
-        code => write!(out, "{}{}: {text}", code.letter(), code.number())?,
+        Code::NotValid => put_all(line, &[b"what geolint says"])?,
+        code => {
+            code.put_name(line)?;
+            put_all(line, &[b": ", text])?;
+        }
     }
-    write!(
-        out,
-        "\"}},\"defaultConfiguration\":{{\"level\":\"{level}\"}}}}"
+    put_all(
+        line,
+        &[
+            b"\"},\"defaultConfiguration\":{\"level\":\"",
+            level,
+            b"\"}}",
+        ],
     )
 }
 
-/// A name as the text of a reference to it: of an absolute one with the scheme `file`, and relative otherwise.
-fn write_uri<W: Write>(alloc: Global, name: &[u8], out: &mut W) -> io::Result<()> {
-    let mut uri = Vec::new(alloc);
-    if name.starts_with(b"/") {
-        uri.write_all(b"file://")?;
-    }
+const HEX_DIGITS: &[u8; 16] = b"0123456789ABCDEF";
+
+/// A name as the text of a reference to it, between quotation marks: of an absolute one with the scheme `file`, and relative
+/// otherwise. No byte of it is one that a JSON string escapes.
+fn put_uri(name: &[u8], line: &mut Vec<u8>) -> Result<(), AllocError> {
+    let scheme: &[u8] = match name {
+        [b'/', ..] => b"\"file://",
+        _ => b"\"",
+    };
+    put_all(line, &[scheme])?;
     for byte in name {
         if byte.is_ascii_alphanumeric() || b"/-._~".contains(byte) {
-            uri.push(*byte)?;
+            line.push(*byte)?;
         } else {
-            write!(uri, "%{:02X}", *byte)?;
+            let digits = [
+                b'%',
+                HEX_DIGITS[(*byte >> 4) as usize],
+                HEX_DIGITS[(*byte & 15) as usize],
+            ];
+            put_all(line, &[&digits])?;
         }
     }
-    write!(out, "{}", json_string(alloc, uri.as_slice())?)
+    put_all(line, &[b"\""])
 }

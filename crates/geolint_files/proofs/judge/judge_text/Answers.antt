@@ -3,7 +3,7 @@ use Rattle.std.proofs.lemmas.List.{length-take-le}
 use Rattle.std.proofs.KnownBytes.{Consumes-nil, Consumes-trans}
 use Rattle.gj_json.specs.Limits.{Allowed}
 use Rattle.gj_rules.specs.Verdict.{IsVerdict}
-use Rattle.geolint_files.proofs.Judging.{JudgesRead-end, JudgesRead-lasting, Consumes-none, IsVerdict-of_refusal}
+use Rattle.geolint_files.proofs.Judging.{Judges-end, Judges-lasting, Consumes-none, IsVerdict-of_refusal}
 use Rattle.gj_rules.specs.Linter.{limits_of}
 use Rattle.geolint_files.proofs.judge.judge_text.Goals as goal
 
@@ -14,7 +14,7 @@ returns-in-Ok-eq0 g c =
     let bytes = c.in-Ok-eq0.ensures.bytes in
     let room : 0 < length c.read.new.buf = search rules in
     let verdict = subst (λ (limits : Allowed). IsVerdict limits read c.finish.result) c.loop-error.invariant.limits (c.finish.ensures.verdict read stands) in
-    JudgesRead-end _ _ _ read _ (Consumes-none _ _ _ read c.read.new.buf c.in-Ok-eq0.field-0 none took bytes.0) (bytes.1 none room) verdict
+    Judges-end IsVerdict _ _ _ read _ (Consumes-none _ _ _ read c.read.new.buf c.in-Ok-eq0.field-0 none took bytes.0) (bytes.1 none room) verdict
 
 pub returns-in-Refused : goal.returns-in-Refused
 returns-in-Refused g c =
@@ -22,7 +22,7 @@ returns-in-Refused g c =
     let piece = take c.in-Ok.count c.read.new.buf in
     let fed = Consumes-trans _ _ _ read piece took c.in-Ok.ensures.bytes.0 in
     let refused = rw (c.in-Refused.is) at (c.feed.ensures.answer read stands) in
-    JudgesRead-lasting _ _ _ (read ++ piece) _ fed
+    Judges-lasting IsVerdict _ _ _ (read ++ piece) _ fed
     (IsVerdict-of_refusal (limits_of c.loop-error.linter) c.args.limits (read ++ piece) c.in-Refused.fault c.loop-error.invariant.limits refused)
 
 -- the input is no longer than allowed with the bytes of this read
