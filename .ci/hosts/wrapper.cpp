@@ -41,7 +41,7 @@ static void one_call() {
     wants(verdict.not_json() && verdict.cause() == GEOLINT_TRUNCATED && verdict.place() == 0, "no bytes");
     wants(geolint::check(nullptr, 0).not_json(), "a null pointer to no bytes");
     wants(geolint::check(POINT, geolint::Limits(1)).cause() == GEOLINT_DEPTH, "one level");
-    wants(!geolint::check(POINT, geolint::Limits(65)).judged(), "65 levels");
+    wants(!geolint::check(POINT, geolint::Limits(257)).judged(), "257 levels");
 }
 
 static void pieces() {
@@ -50,7 +50,7 @@ static void pieces() {
     wants(linter.finish().valid() && !linter.finish().judged() && !linter.feed(POINT), "the end");
     wants(linter.begin() && linter.offset() == 0 && linter.feed(std::vector<char>()), "begin again");
     wants(!linter.feed("[7 8", 4) && linter.doomed() && linter.finish().not_json(), "a refusal");
-    wants(!linter.begin(geolint::Limits(65)) && !linter.feed(POINT), "limits that are not allowed");
+    wants(!linter.begin(geolint::Limits(257)) && !linter.feed(POINT), "limits that are not allowed");
     wants(linter.begin(geolint::Limits(2, 40)) && linter.feed(POINT) && linter.finish().valid(), "other limits");
     wants(!geolint::Linter(geolint::Limits(0, UINT64_MAX)), "no linter");
 }

@@ -22,7 +22,7 @@ fn one_call() -> Result<(), Box<dyn Error>> {
     assert_eq!(geolint::check(RING, Limits::default())?, OPEN_RING);
     assert_eq!(geolint::check(b"", Limits::default())?, Verdict::NotJson { cause: 2, place: 0 });
     assert_eq!(geolint::check(POINT, most(0, 10))?, Verdict::NotJson { cause: 4, place: 10 });
-    assert_eq!(geolint::check(POINT, most(65, 0)), Err(Refusal::Limits));
+    assert_eq!(geolint::check(POINT, most(257, 0)), Err(Refusal::Limits));
     let marked = [b"\xEF\xBB\xBF", POINT].concat();
     let verdict = geolint::check(&marked, Limits::default())?;
     assert_eq!(verdict, Verdict::Valid(vec![Warning { kind: 1, count: 1, first: 0 }]));
@@ -42,7 +42,7 @@ fn pieces() -> Result<(), Box<dyn Error>> {
     assert_eq!(linter.feed(b""), Progress::Open);
     assert_eq!((linter.feed(b"[7 8"), linter.offset(), linter.doomed()), (Progress::Refused, 3, true));
     assert_eq!(linter.feed(b""), Progress::Refused);
-    assert_eq!(linter.finish_and_begin(most(65, 0)), Err(Refusal::Limits));
+    assert_eq!(linter.finish_and_begin(most(257, 0)), Err(Refusal::Limits));
     assert_eq!(linter.offset(), 3);
     assert_eq!(linter.finish_and_begin(most(2, 0))?, Verdict::NotJson { cause: 1, place: 3 });
     assert_eq!((linter.offset(), linter.doomed()), (0, false));

@@ -82,7 +82,7 @@ pub enum Refusal {
 impl fmt::Display for Refusal {
     fn fmt(&self, f: &mut fmt::Formatter<'_>) -> fmt::Result {
         f.write_str(match self {
-            Refusal::Limits => "a depth is from 1 to 64, and a number of bytes from 1 to 2^60",
+            Refusal::Limits => "a depth is from 1 to 256, and a number of bytes from 1 to 2^60",
             Refusal::Memory => "no memory for a linter",
         })
     }
