@@ -7,7 +7,7 @@
 #include <string.h>
 #include <sys/mman.h>
 
-enum { STACK = 1 << 20, MOST = 1 << 16, PAINT = 0xA5, CHECK = 60 * 1024, STREAM = 8 * 1024 };
+enum { STACK = 1 << 20, MOST = 1 << 16, PAINT = 0xA5, CHECK = 208 * 1024, STREAM = 8 * 1024 };
 
 struct work {
     void *(*judge)(void *);

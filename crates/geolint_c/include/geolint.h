@@ -98,7 +98,8 @@ static inline const void *geolint_bytes(const void *bytes) {
 
 /* Judges `length` bytes. `max_depth` is how many arrays and objects may be open inside each other, from 1 to 256, and
  * `max_bytes` how many bytes a text may have, from 1 to 2^60; 0 stands for the most of either. Other limits give
- * GEOLINT_NO_VERDICT with GEOLINT_LIMITS. As measured, it needs 60 KiB of stack. */
+ * GEOLINT_NO_VERDICT with GEOLINT_LIMITS. As measured, it needs 208 KiB of stack, and
+ * touches what the text takes of it; on a smaller stack, judge with a linter in other memory. */
 geolint_report geolint_check(const void *bytes, size_t length, uint32_t max_depth, uint64_t max_bytes);
 
 /* ---- a text in pieces */
@@ -114,7 +115,7 @@ size_t geolint_alignment(void);
 uint32_t geolint_begin(geolint_linter *linter, uint32_t max_depth, uint64_t max_bytes);
 
 /* As geolint_begin, for memory that geolint_begin has got before: a host that judges many texts pays little for each, since
- * a linter of some 54 KB lies there already and most of it need not be written. */
+ * what the linter there has written once need not be written again. */
 uint32_t geolint_begin_again(geolint_linter *linter, uint32_t max_depth, uint64_t max_bytes);
 
 /* Takes the next bytes: GEOLINT_DONE or GEOLINT_REFUSED. After a refusal each further piece is refused and changes
