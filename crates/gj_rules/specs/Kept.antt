@@ -58,14 +58,14 @@ no_frame = record {
 
 -- the frame of the innermost open object with a role
 abbrev pub top_of : Rules → Frame
-top_of rules = frame_in (slice_index_or rules.frames.items rules.around no_frame)
+top_of rules = frame_in (slice_index_or rules.frames rules.around no_frame)
 
 abbrev pub core_of : Rules → Core
 core_of rules = record {
   skipped = rules.skipped;
   mode = rules.mode;
   top = top_of rules;
-  outer = map frame_in (reverse (take rules.around rules.frames.items));
+  outer = map frame_in (reverse (take rules.around rules.frames));
   answer = found_in rules.answer;
 }
 

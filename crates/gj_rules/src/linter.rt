@@ -17,7 +17,7 @@ ghost use Rattle.gj_rules.specs.Rules.{StandsFor as RulesStandFor};
 ghost use Rattle.gj_rules.specs.Verdict.{verdict_of};
 
 use crate::frame::Frame;
-use crate::rules::{MOST_FRAMES, Rules};
+use crate::rules::Rules;
 use crate::verdict::Verdict;
 use gj_coords::laws::kept_warnings;
 use gj_coords::{Fault, Warnings};
@@ -67,7 +67,9 @@ pub struct Linter {
 }
 
 // The frames, and at most 8,192 bytes beside them.
-const _: () = prove!(size_of::<Linter>() <= MOST_FRAMES * size_of::<Frame>() + 8192);
+const _: () = prove!(
+    size_of::<Linter>() <= (MOST_LEVELS as usize / 2 + 1) * size_of::<Frame>() + 8192
+);
 
 impl Linter {
     ghost use Rattle.gj_rules.specs.Linter.{StandsFor, limits_of, refusal_of, offset_of, levels_of, Answers, refusal_in};

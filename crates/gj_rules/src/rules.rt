@@ -1,5 +1,5 @@
-ghost use Rattle.std.specs.Prelude.{◌≡◌, ℕ, ◌<◌, ◌≤◌, [], List, length, true, false, None, IsTrue};
-ghost use Rattle.gj_rules.specs.declared.rules.TheConstants.{MOST_AROUND, MOST_FRAMES};
+ghost use Rattle.std.specs.Prelude.{◌≡◌, ℕ, ◌<◌, ◌≤◌, [], List, true, false, None, IsTrue};
+ghost use Rattle.gj_rules.specs.declared.rules.TheConstants.{MOST_AROUND};
 
 mod doomed;
 mod flats;
@@ -12,16 +12,12 @@ use crate::found::Found;
 use crate::frame::Frame;
 use crate::mode::Mode;
 use crate::role::Role;
-use arrayvec::ArrayVec;
 use gj_coords::{Bbox, Coordinates, Fault, Warned, Warnings};
 use gj_json::{Event, EventSink, Flat, Known, MOST_LEVELS, What};
 use std::mem::size_of;
 
 /// How many objects with a role can be open around the innermost one: at most one for each two levels.
 const MOST_AROUND: usize = MOST_LEVELS as usize / 2;
-
-/// How many frames there can be.
-pub const MOST_FRAMES: usize = MOST_AROUND + 1;
 
 /// Finds the least fault and the warnings of a text from its events, in whatever order the members
 /// stand.
@@ -30,9 +26,8 @@ pub const MOST_FRAMES: usize = MOST_AROUND + 1;
 /// value without a role is skipped by a count of its levels.
 #[derive(Drop)]
 pub struct Rules {
-    /// The frames of the objects with a role that were open at once, the outermost first: as many as there were ever, so that
-    /// no other is written.
-    frames: ArrayVec<Frame, MOST_FRAMES>,
+    /// The frames of the open objects with a role, the outermost first: up to that of the innermost one.
+    frames: [Frame; MOST_AROUND + 1],
     /// How many are open around the innermost one. Its frame is the one at this index.
     around: u16,
     coordinates: Coordinates,
@@ -42,12 +37,11 @@ pub struct Rules {
     mode: Mode,
     /// How many levels of a value are open that is not looked into.
     skipped: u16,
-    ghost fits: { around < length frames.items },
-    ghost room: { length frames.items ≤ MOST_FRAMES },
+    ghost fits: { around ≤ MOST_AROUND },
 }
 
-// The room for the frames lies in it.
-const _: () = prove!(size_of::<Rules>() <= MOST_FRAMES * size_of::<Frame>() + 4096);
+// The frames lie in it from the start.
+const _: () = prove!(size_of::<Rules>() <= (MOST_AROUND + 1) * size_of::<Frame>() + 4096);
 
 impl Rules {
     ghost use Rattle.gj_json.specs.Tree.{Tree, Text, depth};
@@ -78,10 +72,8 @@ impl Rules {
         ensures core { core_of result ≡ start.core }
         ensures holds { Holds result [] }
     {
-        let mut frames = ArrayVec::new();
-        frames.push(Frame::new(Role::Root, 0));
         Rules {
-            frames,
+            frames: [Frame::new(Role::Root, 0); MOST_AROUND + 1],
             around: 0,
             coordinates: Coordinates::new(),
             bbox: Bbox::new(),

@@ -4,7 +4,6 @@ ghost use Rattle.gj_json.specs.declared.event.What.TheVariants as W;
 
 use super::{MOST_AROUND, Rules};
 use crate::found::Found;
-use crate::frame::Frame;
 use crate::mode::Mode;
 use crate::opening::{levels_in, opening_fault, word_in};
 use crate::role::Role;
@@ -23,11 +22,7 @@ impl Rules {
         ensures rests { is_feeding 0 self.new.mode ≡ false }
         ensures core { length (core_of self.old).outer < MOST_AROUND → core_of self.new ≡ pushed role place (core_of self.old) }
     {
-        let around = self.around as usize + 1;
-        if around < self.frames.len() {
-            self.around += 1;
-        } else if around <= MOST_AROUND {
-            self.frames.push(Frame::new(role, place));
+        if (self.around as usize) < MOST_AROUND {
             self.around += 1;
         }
         self.frames[self.around as usize].again(role, place);

@@ -6,4 +6,4 @@ use Rattle.gj_rules.proofs.rules.Rules.outermost.Goals as goal
 
 pub returns : goal.returns
 unfolding no_frame
-returns c = rw (c.deref.ensures.0) (sym (first_root c.args.self.now.frames.items c.args.self.now.around (omega arith)))
+returns c = sym (first_root c.args.self.now.frames c.args.self.now.around (omega arith))
