@@ -1,6 +1,6 @@
 -- Tokens that stand whole and open and close nothing: a string, a literal name, a number with the comma behind it, a name,
 -- a colon and a comma.
-use Rattle.std.proofs.Common.{◌≡◌, ℕ, zero, suc, ◌+◌, ◌-◌, ◌≤◌, ◌<◌, Bool, true, false, List, [], ◌∷◌, ◌++◌, get_or, length, take, take-add, drop, Option, Some, None, refl, sym, ap, subst, ◌∙◌, arith, append_assoc, inr, append-nil}
+use Rattle.std.proofs.Common.{◌≡◌, ℕ, zero, suc, ◌+◌, ◌-◌, ◌≤◌, ◌<◌, Bool, true, false, List, [], ◌∷◌, ◌++◌, get_or, length, take, take-add, drop, Option, Some, None, refl, sym, ap, subst, ◌∙◌, arith, append_assoc}
 use Rattle.std.proofs.lemmas.List.{length-append, length-take-le, map-append, take_more}
 use Rattle.gj_json.specs.Bytes.{quote as quote_byte, comma as comma_byte, colon as colon_byte}
 use Rattle.gj_json.specs.declared.class.Class.TheVariants.{Quote as quote_class, Comma as comma_class, Colon as colon_class, Letter as letter}
@@ -9,6 +9,7 @@ use Rattle.gj_json.specs.declared.constant.Constant.TheVariants.{Null, True, Fal
 use Rattle.gj_json.specs.declared.event.Event.{Event}
 use Rattle.gj_json.specs.declared.event.What.{What}
 use Rattle.gj_json.specs.declared.levels.Level.{Level}
+use Rattle.gj_json.specs.declared.levels.Levels.{Levels}
 use Rattle.gj_json.specs.declared.levels.Level.TheVariants.{Array, Object}
 use Rattle.gj_json.specs.declared.mode.Mode.{Mode}
 use Rattle.gj_json.specs.declared.mode.Mode.TheVariants.{ValueDone, ValueDue, ArrayOpened, NameDue, ColonDue}
@@ -25,15 +26,15 @@ use Rattle.gj_json.specs.Grammar.{letters_of}
 use Rattle.gj_json.specs.Ignored.{levels_behind, Leaves, Stays}
 use Rattle.gj_json.specs.Levels.{levels_in, inner_of, outer_of}
 use Rattle.gj_json.specs.Limits.{Allowed}
-use Rattle.gj_json.specs.Machine.{Member, Frame, Leaf, value_due, value_done, array_opened, object_opened, constant_on, number_on, string_on, name_due, name_on, colon_due, Partial, Broken, text_due, mark_one, mark_two, begun, step_leaf, letters_after, to, run_from, run, after_value, number_may_end, in_array, in_object}
+use Rattle.gj_json.specs.Machine.{Member, Frame, Leaf, value_due, value_done, array_opened, object_opened, constant_on, number_on, string_on, name_due, name_on, colon_due, Partial, Broken, text_due, mark_one, mark_two, begun, step_leaf, letters_after, to, run_from, run}
 use Rattle.gj_json.specs.Moves.{move_of, after_move}
 use Rattle.gj_json.specs.Names.{known_of, word_of, Words}
 use Rattle.gj_json.specs.Quiet.{Reads}
 use Rattle.gj_json.specs.Step.{opened}
-use Rattle.gj_json.specs.Seen.{seen, partial_timed, stack_timed, done_members, EdgeAt, done_elements}
-use Rattle.gj_json.specs.Stands.{StandsWell, StandsAs, FitsLeaf, FitsName, FitsBroken, levels_of, Fits}
+use Rattle.gj_json.specs.Seen.{seen, partial_timed, stack_timed, done_members, EdgeAt}
+use Rattle.gj_json.specs.Stands.{StandsWell, StandsAs, FitsLeaf, FitsName, FitsBroken, levels_of}
 use Rattle.gj_json.specs.Tokens.{bracket_of, closing_event, names, may_begin, IsString, Lands}
-use Rattle.gj_json.specs.Tree.{Tree, constant, string, depth, number}
+use Rattle.gj_json.specs.Tree.{Tree, constant, string, depth}
 use Rattle.gj_json.specs.Told.{emitted, event_at, opening_of, closing_of, is_on, in_number, text_state}
 use Rattle.gj_json.specs.Under.{nothing, under_leaf, under_of}
 use Rattle.gj_json.proofs.CharacterFronts.{StringTo}
@@ -42,7 +43,7 @@ use Rattle.gj_json.proofs.Comes.{mode_under, mode_state}
 use Rattle.gj_json.proofs.Feeding.{feeds_nothing, front_skipped, piece_all, rest_all}
 use Rattle.gj_json.proofs.FlatFeeds.{IsDue, is_due, levels-length, After, seen_between, taken_feeds}
 use Rattle.gj_json.proofs.Ignoring.{leaves_more, all_by, all_more}
-use Rattle.gj_json.proofs.Leads.{Leads, at, leads_none, leads_byte, leads_on, run_from-append, over_steps}
+use Rattle.gj_json.proofs.Leads.{Leads, at, leads_none, leads_byte, leads_on, run_from-append}
 use Rattle.gj_json.proofs.Literals.{own_turn, own_turns, own_value, own_words, keeps_none}
 use Rattle.gj_json.proofs.Quietly.{byte_well, byte_completes}
 use Rattle.gj_number.specs.Exact.{Exact}
@@ -50,12 +51,10 @@ use Rattle.gj_json.proofs.Reaching.{reached}
 use Rattle.gj_json.proofs.Slices.{rest_of}
 use Rattle.gj_json.proofs.Spelled.{quote_on}
 use Rattle.gj_json.proofs.Times.{told}
-use Rattle.gj_json.proofs.TokenFeeds.{open_taken, end_closes}
-use Rattle.gj_json.proofs.ValueLeads.{InQuotes, a_string, a_name, text_leads, letters_lead, number_begins, digits_lead}
-use Rattle.gj_json.specs.NumberStates.{NumberState, number_state}
+use Rattle.gj_json.proofs.TokenFeeds.{open_taken, end_closes, number_then, number_closed}
+use Rattle.gj_json.proofs.ValueLeads.{InQuotes, a_string, a_name, text_leads, letters_lead}
 use Rattle.gj_number.specs.Grammar.{IsNumber}
 use Rattle.gj_number.specs.Value.{value_of}
-use Rattle.gj_json.proofs.NumberFronts.{number_read, state_parts}
 
 -- ---- from one state to another
 
@@ -418,94 +417,36 @@ closed_level floor old new piece some live done room made w p =
     end_closes {before = λ events. events ≡ []} {after = λ events. Leaves (above floor old) events (above floor new)} old new piece some live done room made p
     (λ events e. (let P : List Event → Type 0 = λ xs. Leaves (above floor old) (xs ++ closing_event (inner_of ls) (old.offset + 1 - 1)) (above floor new) in subst P (sym e) leaves))
 
--- ---- an ordinary number, and the comma behind it
+-- ---- a number, and the byte behind it, within levels that are open
 
-number_leads : (state : Broken) (levels : List Level) (d n : ℕ) (i : IsDue state levels d) (literal : List ℕ) (s : NumberState) → number_state literal ≡ Some s → Leads i.partial n literal (at i.stack (number_on n literal s))
-number_leads state levels d n i [] s e = cc
-number_leads state levels d n i (b ∷ more) s e =
-    let p = state_parts b more s e in
-    leads_byte (i.begins n b (class_of b) (at i.stack (number_on n (b ∷ []) p.0)) refl (number_begins i.stack n b (class_of b) p.0 p.1)) (digits_lead i.stack n more (b ∷ []) p.0 s (n + 1) p.2)
+number_leaves : (m n place : ℕ) (value : Option Exact) → 0 < m → n ≡ m → Leaves m (event_at place (What.Number value) ∷ []) n
+number_leaves zero n place value w e = absurd (omega arith)
+number_leaves (suc k) n place value w e = sym e
 
-comma_leads : (stack : List Frame) (n m : ℕ) (literal : List ℕ) (s : NumberState) (u : Partial) → number_may_end s ≡ true → after_value stack (number n literal m) m comma_class ≡ Some u → Leads (at stack (number_on n literal s)) m (comma_byte ∷ []) u
-comma_leads stack n m literal s u e h =
-    leads_byte (over_steps stack (number n literal m) m (number_on n literal s) comma_byte comma_class u (inr (n, literal, s, refl, refl, e)) (class_is comma_class comma_byte refl (λ e. cc)) h) (leads_none u (m + 1))
+ended_leaves : (m n : ℕ) (levels : List Level) (first last : ℕ) (value : Option Exact) → 0 < m → 0 < length levels → n + 1 ≡ m → Leaves m (event_at first (What.Number value) ∷ closing_event (inner_of levels) last) n
+ended_leaves zero n levels first last value w v e = absurd (omega arith)
+ended_leaves (suc k) n levels first last value w v e = closed_leaves (suc k) n levels last w v e
 
-both_lead : (state : Broken) (levels : List Level) (d n : ℕ) (i : IsDue state levels d) (literal : List ℕ) → IsNumber literal → (u : Partial) → after_value i.stack (number n literal (n + length literal)) (n + length literal) comma_class ≡ Some u → Leads i.partial n (literal ++ comma_byte ∷ []) u
-both_lead state levels d n i literal h u e =
-    let r = number_read literal h in
-    leads_on literal (comma_byte ∷ []) refl (number_leads state levels d n i literal r.0 r.1) (comma_leads i.stack n (n + length literal) literal r.0 u r.2 e)
+module _ (floor : ℕ) (old new : Reader) (piece : List ℕ) (n : ℕ) (live : old.fault ≡ None) (due : awaits old.mode ≡ true) (room : old.offset + length piece ≤ old.limits.bytes) (w : n < length piece) (digits : IsNumber (take n piece))
+    (above_floor : floor < length (levels_in old.levels)) where
+  abbrev value : Option Exact
+  value = value_of (take n piece)
 
-element_seen : (marked : Bool) (s : Partial) (stack : List Frame) (place : ℕ) (done : List Tree) (t : Tree) → partial_timed s ≡ stack_timed (in_array place done ∷ stack)
-    → told (seen (begun marked (at (in_array place (t ∷ done) ∷ stack) value_due))) ≡ told (seen (begun marked s)) ++ value_events t
-element_seen marked s stack place done t e =
-    let first : List Timed = timed (place + 1) place What.OpenArray ∷ done_elements done in
-    rw e (ap told (ap (λ xs. mark_events marked ++ xs) (append-nil (stack_timed stack ++ (first ++ events t)) ∙ sym (append_assoc (stack_timed stack) first (events t))) ∙ sym (append_assoc (mark_events marked) (stack_timed stack ++ first) (events t)))
-    ∙ map-append (λ (x : Timed). x.event) (mark_events marked ++ (stack_timed stack ++ first)) (events t))
+  abbrev Left : List Event → Type 0
+  Left events = Leaves (above floor old) events (above floor new)
 
-member_seen : (marked : Bool) (s : Partial) (stack : List Frame) (place : ℕ) (done : List Member) (np : ℕ) (name : List ℕ) (ne : ℕ) (t : Tree) → partial_timed s ≡ stack_timed (in_object place done np name ne ∷ stack)
-    → told (seen (begun marked (at stack (name_due place (record { place = np; name = name; end = ne; value = t } ∷ done))))) ≡ told (seen (begun marked s)) ++ value_events t
-member_seen marked s stack place done np name ne t e =
-    let named : List Timed = timed ne np (What.Name (known_of name)) ∷ [] in
-    let first : List Timed = timed (place + 1) place What.OpenObject ∷ (done_members done ++ named) in
-    let inner : timed (place + 1) place What.OpenObject ∷ (done_members done ++ (timed ne np (What.Name (known_of name)) ∷ events t)) ≡ first ++ events t =
-    ap (λ xs. timed (place + 1) place What.OpenObject ∷ xs) (sym (append_assoc (done_members done) named (events t))) in
-    rw e (ap told (ap (λ xs. mark_events marked ++ xs) (ap (λ xs. stack_timed stack ++ xs) inner ∙ sym (append_assoc (stack_timed stack) first (events t))) ∙ sym (append_assoc (mark_events marked) (stack_timed stack ++ first) (events t)))
-    ∙ map-append (λ (x : Timed). x.event) (mark_events marked ++ (stack_timed stack ++ first)) (events t))
+  pub number_within : (next : Mode) → after_move (inner_of (levels_in old.levels)) (class_of (get_or piece n 0)) ≡ Go next → Passed (n + 1) next old new → FeedsWithin floor old new (take (n + 1) piece)
+  number_within next made p =
+      let same : above floor new ≡ above floor old = ap (λ (l : Levels). length (levels_in l) - floor) p.levels in
+      let leaves : Left (event_at old.offset (What.Number value) ∷ []) = number_leaves (above floor old) (above floor new) old.offset value (omega arith) same in
+      number_then old new piece n value live due room w digits refl {before = λ events. events ≡ []} {after = Left} next made p
+      (λ events e. (let P : List Event → Type 0 = λ xs. Left (xs ++ event_at old.offset (What.Number value) ∷ []) in subst P (sym e) leaves))
 
-number_in_array : (state : Broken) (levels : List Level) (d n : ℕ) (literal : List ℕ) (i : IsDue state levels d) (stack : List Frame) → i.stack ≡ stack → inner_of (levels_of stack) ≡ Some Array → Fits d stack → partial_timed i.partial ≡ stack_timed stack → levels ≡ levels_of stack
-    → IsNumber literal → Token state levels d ValueDue n (literal ++ comma_byte ∷ []) (value_events (number n literal (n + length literal)))
-number_in_array state levels d n literal i [] q inner fits before around h = cc
-number_in_array state levels d n literal i (in_object place done np name ne ∷ stack) q inner fits before around h = cc
-number_in_array state levels d n literal i (in_array place done ∷ stack) q inner fits before around h =
-    let t : Tree = number n literal (n + length literal) in
-    record {
-      marked = i.marked;
-      from = i.partial;
-      target = at (in_array place (t ∷ done) ∷ stack) value_due;
-      is = i.is;
-      leads = both_lead state levels d n i literal h (at (in_array place (t ∷ done) ∷ stack) value_due) (rw q refl);
-      kept = (refl, around);
-      fits = (fits.0, (omega (arith, fits.0), fits.1), fits.2);
-      idle = refl;
-      edge = λ start m. (tt, tt);
-      sees = element_seen i.marked i.partial stack place done t before;
-    }
-
-number_in_object : (state : Broken) (levels : List Level) (d n : ℕ) (literal : List ℕ) (i : IsDue state levels d) (stack : List Frame) → i.stack ≡ stack → inner_of (levels_of stack) ≡ Some Object → Fits d stack → partial_timed i.partial ≡ stack_timed stack → levels ≡ levels_of stack
-    → IsNumber literal → Token state levels d NameDue n (literal ++ comma_byte ∷ []) (value_events (number n literal (n + length literal)))
-number_in_object state levels d n literal i [] q inner fits before around h = cc
-number_in_object state levels d n literal i (in_array place done ∷ stack) q inner fits before around h = cc
-number_in_object state levels d n literal i (in_object place done np name ne ∷ stack) q inner fits before around h =
-    let t : Tree = number n literal (n + length literal) in
-    let m : Member = record { place = np; name = name; end = ne; value = t } in
-    record {
-      marked = i.marked;
-      from = i.partial;
-      target = at stack (name_due place (m ∷ done));
-      is = i.is;
-      leads = both_lead state levels d n i literal h (at stack (name_due place (m ∷ done))) (rw q refl);
-      kept = (refl, around);
-      fits = (fits.0, (omega (arith, fits.0), fits.1), fits.2);
-      idle = refl;
-      edge = λ start m. (tt, tt);
-      sees = member_seen i.marked i.partial stack place done np name ne t before;
-    }
-
-number_stays : (literal : List ℕ) (n : ℕ) → Stays (value_events (number n literal (n + length literal)))
-number_stays literal n = one_stays (record { place = n; what = What.Number (value_of literal) }) (λ levels. refl)
-
-pub number_comma_array : (old new : Reader) (piece literal : List ℕ) (n : ℕ) → old.fault ≡ None → awaits old.mode ≡ true → old.offset + length piece ≤ old.limits.bytes → n ≤ length piece → IsNumber literal → take n piece ≡ literal ++ comma_byte ∷ [] → inner_of (levels_in old.levels) ≡ Some Array → Passed n ValueDue old new
-    → FeedsLevel old new (take n piece)
-number_comma_array old new piece literal n live due room w h e inner p =
-    front_feeds old new piece _ n ValueDue _ e w live p room
-    (λ state kept fits. (let i = is_due state old.mode (levels_in old.levels) old.limits.depth due kept fits in number_in_array state (levels_in old.levels) old.limits.depth old.offset literal i i.stack refl (ap inner_of (sym i.around) ∙ inner) i.fits i.before i.around h)) (number_stays literal old.offset)
-
-pub number_comma_object : (old new : Reader) (piece literal : List ℕ) (n : ℕ) → old.fault ≡ None → awaits old.mode ≡ true → old.offset + length piece ≤ old.limits.bytes → n ≤ length piece → IsNumber literal → take n piece ≡ literal ++ comma_byte ∷ [] → inner_of (levels_in old.levels) ≡ Some Object → Passed n NameDue old new
-    → FeedsLevel old new (take n piece)
-number_comma_object old new piece literal n live due room w h e inner p =
-    front_feeds old new piece _ n NameDue _ e w live p room
-    (λ state kept fits. (let i = is_due state old.mode (levels_in old.levels) old.limits.depth due kept fits in number_in_object state (levels_in old.levels) old.limits.depth old.offset literal i i.stack refl (ap inner_of (sym i.around) ∙ inner) i.fits i.before i.around h)) (number_stays literal old.offset)
-
--- the bytes of a piece
-pub with_comma : (piece : List ℕ) (n : ℕ) → n < length piece → get_or piece n 0 ≡ comma_byte → take (n + 1) piece ≡ take n piece ++ comma_byte ∷ []
-with_comma piece n w e = take_more piece n 0 w ∙ ap (λ b. take n piece ++ b ∷ []) e
+  pub ended_within : after_move (inner_of (levels_in old.levels)) (class_of (get_or piece n 0)) ≡ Close → Lands (n + 1) ValueDone (outer_of (levels_in old.levels)) old new → FeedsWithin floor old new (take (n + 1) piece)
+  ended_within made p =
+      let ls = levels_in old.levels in
+      let last = old.offset + (n + 1) - 1 in
+      let less : above floor new + 1 ≡ above floor old = omega (arith, ap length p.levels_are, outer_length ls (omega arith)) in
+      let leaves : Left (event_at old.offset (What.Number value) ∷ closing_event (inner_of ls) last) = ended_leaves (above floor old) (above floor new) ls old.offset last value (omega arith) (omega arith) less in
+      number_closed old new piece n value live due room w digits refl {before = λ events. events ≡ []} {after = Left} made p
+      (λ events e. (let P : List Event → Type 0 = λ xs. Left (xs ++ event_at old.offset (What.Number value) ∷ closing_event (inner_of ls) last) in subst P (sym e) leaves))

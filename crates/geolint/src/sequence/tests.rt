@@ -134,7 +134,7 @@ fn sequences_are_judged_by_their_records(rt: HostRuntime) {
 
 #[test]
 fn limits_end_a_sequence(rt: HostRuntime) {
-    let rows: [(&[u8], u8, u64, &str); 7] = [
+    let rows: [(&[u8], u16, u64, &str); 7] = [
         (
             b"\x1E[]\n\x1E",
             MOST_LEVELS,

@@ -21,11 +21,11 @@ impl EventSink for Told {
         self.bbox.event(event);
     }
 
-    fn ignored(&self) -> u8 {
+    fn ignored(&self) -> u16 {
         0
     }
 
-    fn pass(&mut self, _left: u8) {}
+    fn pass(&mut self, _left: u16) {}
 }
 
 fn at(rule: Rule, place: u64) -> Option<Fault> {

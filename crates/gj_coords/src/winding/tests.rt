@@ -51,11 +51,11 @@ impl EventSink for Told {
         }
     }
 
-    fn ignored(&self) -> u8 {
+    fn ignored(&self) -> u16 {
         0
     }
 
-    fn pass(&mut self, _left: u8) {}
+    fn pass(&mut self, _left: u16) {}
 }
 
 fn read(text: &str) -> Winding {

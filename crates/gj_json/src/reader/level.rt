@@ -108,25 +108,31 @@ impl Reader {
         }
     }
 
-    /// Takes the ordinary number at the front of the piece, and the comma behind it: how many bytes.
+    /// Takes the ordinary number at the front of the piece, and the byte behind it: how many bytes, or 0 where that byte ends
+    /// no value.
     #[inline(always)]
-    fn pass_number(&mut self, piece: &[u8]) -> usize
+    fn pass_number(&mut self, piece: &[u8], floor: u16) -> usize
         requires live { self.old.fault ≡ None }
         requires due { awaits self.old.mode ≡ true }
         requires room { self.old.offset + length piece.now ≤ self.old.limits.bytes }
         requires small { self.old.limits.bytes ≤ 2 ^ 60 }
+        requires above { floor < length (levels_in self.old.levels) }
         ensures within { result ≤ length piece.now }
-        ensures feeds { FeedsLevel self.old self.new (take result piece.now) }
+        ensures floor { floor ≤ length (levels_in self.new.levels) }
+        ensures feeds { FeedsWithin floor self.old self.new (take result piece.now) }
     {
         let mut number = Numbered::blank();
         let count = read_short(piece, &mut number.value);
-        if count == 0 || count == piece.len() || piece[count] != b',' {
+        if count == 0 || count == piece.len() {
             return 0;
         }
-        match self.levels.inner() {
-            Some(Level::Array) => self.skip(count + 1, Mode::ValueDue),
-            Some(Level::Object) => self.skip(count + 1, Mode::NameDue),
-            None => 0,
+        match end_of(self.levels.inner(), piece[count]) {
+            Move::Go(mode) => self.skip(count + 1, mode),
+            Move::Close => {
+                self.levels.pop();
+                self.skip(count + 1, Mode::ValueDone)
+            }
+            _ => 0,
         }
     }
 
@@ -173,8 +179,8 @@ impl Reader {
         }
     }
 
-    /// Takes the value at the front of the piece, where it stands whole and has no levels, or the bracket that opens it: how
-    /// many bytes.
+    /// Takes the value at the front of the piece, where it stands whole and is no number and has no levels, or the bracket that
+    /// opens it: how many bytes.
     #[inline(always)]
     fn pass_value(&mut self, piece: &[u8], floor: u16) -> usize
         requires some { 0 < length piece.now }
@@ -192,12 +198,11 @@ impl Reader {
             b'{' => self.pass_open(Level::Object, piece, floor),
             b'[' => self.pass_open(Level::Array, piece, floor),
             b'n' | b't' | b'f' => self.pass_constant(piece),
-            b'-' | b'0'..=b'9' => self.pass_number(piece),
             _ => 0,
         }
     }
 
-    /// The same, and the comma behind it.
+    /// The same, and the comma behind it; a number with the byte behind it.
     #[inline(always)]
     fn pass_element(&mut self, piece: &[u8], floor: u16) -> usize
         requires some { 0 < length piece.now }
@@ -207,9 +212,12 @@ impl Reader {
         requires small { self.old.limits.bytes ≤ 2 ^ 60 }
         requires above { floor < length (levels_in self.old.levels) }
         ensures within { result ≤ length piece.now }
-        ensures above { floor < length (levels_in self.new.levels) }
+        ensures floor { floor ≤ length (levels_in self.new.levels) }
         ensures feeds { FeedsWithin floor self.old self.new (take result piece.now) }
     {
+        if piece[0] == b'-' || piece[0].is_ascii_digit() {
+            return self.pass_number(piece, floor);
+        }
         let value = self.pass_value(piece, floor);
         if value == piece.len() || piece[value] != b',' {
             return value;
@@ -250,7 +258,7 @@ impl Reader {
         requires small { self.old.limits.bytes ≤ 2 ^ 60 }
         requires above { floor < length (levels_in self.old.levels) }
         ensures within { result ≤ length piece.now }
-        ensures above { floor < length (levels_in self.new.levels) }
+        ensures floor { floor ≤ length (levels_in self.new.levels) }
         ensures feeds { FeedsWithin floor self.old self.new (take result piece.now) }
     {
         let named = self.pass_named(piece);

@@ -36,7 +36,7 @@ fn valid(records: u64, warnings: Warnings) -> SeqVerdict {
 }
 
 /// The verdict of an input in two pieces.
-fn in_two(depth: u8, bytes: u64, first: &[u8], second: &[u8]) -> SeqVerdict {
+fn in_two(depth: u16, bytes: u64, first: &[u8], second: &[u8]) -> SeqVerdict {
     let mut sequence = start(depth, bytes);
     sequence.feed(first);
     sequence.feed(second);
@@ -44,7 +44,7 @@ fn in_two(depth: u8, bytes: u64, first: &[u8], second: &[u8]) -> SeqVerdict {
 }
 
 /// The verdict of an input byte by byte.
-fn by_bytes(depth: u8, bytes: u64, input: &[u8]) -> SeqVerdict {
+fn by_bytes(depth: u16, bytes: u64, input: &[u8]) -> SeqVerdict {
     let mut sequence = start(depth, bytes);
     for byte in input {
         sequence.feed(&[*byte]);
@@ -52,7 +52,7 @@ fn by_bytes(depth: u8, bytes: u64, input: &[u8]) -> SeqVerdict {
     sequence.finish()
 }
 
-fn in_any_cutting(rt: &impl Abort, depth: u8, bytes: u64, input: &[u8], verdict: SeqVerdict) {
+fn in_any_cutting(rt: &impl Abort, depth: u16, bytes: u64, input: &[u8], verdict: SeqVerdict) {
     assert!(rt;
         by_bytes(depth, bytes, input) == verdict,
         "{input:?} byte by byte"
@@ -128,7 +128,7 @@ fn rows(rt: HostRuntime) {
 
 #[test]
 fn limits(rt: HostRuntime) {
-    let rows: [(u8, u64, &[u8], SeqVerdict); 13] = [
+    let rows: [(u16, u64, &[u8], SeqVerdict); 13] = [
         (
             MOST_LEVELS,
             4,

@@ -134,9 +134,9 @@ impl EventSink for Both {
         self.take(&event);
     }
 
-    fn ignored(&self) -> u8 {
+    fn ignored(&self) -> u16 {
         0
     }
 
-    fn pass(&mut self, _left: u8) {}
+    fn pass(&mut self, _left: u16) {}
 }

@@ -77,11 +77,11 @@ impl EventSink for Grouped {
         self.flats = self.flats.saturating_add(1);
     }
 
-    fn ignored(&self) -> u8 {
+    fn ignored(&self) -> u16 {
         0
     }
 
-    fn pass(&mut self, _left: u8) {}
+    fn pass(&mut self, _left: u16) {}
 }
 
 /// Reads the text and spaces as one piece, in which the reader looks at each array of numbers as a whole.
@@ -143,11 +143,11 @@ impl EventSink for OnlyFlats {
         self.grouped.tell_flat(flat);
     }
 
-    fn ignored(&self) -> u8 {
+    fn ignored(&self) -> u16 {
         0
     }
 
-    fn pass(&mut self, _left: u8) {}
+    fn pass(&mut self, _left: u16) {}
 }
 
 #[test]

@@ -235,11 +235,11 @@ impl EventSink for Walked {
         self.walk.event(event);
     }
 
-    fn ignored(&self) -> u8 {
+    fn ignored(&self) -> u16 {
         0
     }
 
-    fn pass(&mut self, _left: u8) {}
+    fn pass(&mut self, _left: u16) {}
 }
 
 /// Tells the events of the text that has these parts, the middle one so many times.

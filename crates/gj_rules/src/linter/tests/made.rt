@@ -1,6 +1,6 @@
 //! Inputs that a program makes: long ones, whose levels stay few, and deep ones.
 
-use super::fed;
+use super::{COLLECTION, HALF, fed};
 use crate::{Linter, Verdict};
 use gj_coords::{Fault, Kind, Rule, Warnings};
 use gj_json::{Cause, JsonFault, Limits};

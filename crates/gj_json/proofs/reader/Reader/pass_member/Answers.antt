@@ -1,5 +1,5 @@
 -- The name and its colon, and the value behind them.
-use Rattle.std.proofs.Common.{take}
+use Rattle.std.proofs.Common.{take, arith}
 use Rattle.gj_json.proofs.WholeTokens.{level_within, then_within}
 use Rattle.gj_json.proofs.reader.Reader.pass_member.Goals as goal
 
@@ -18,6 +18,6 @@ returns-in_default c =
     let n = c.pass_named-named in
     record {
       within = n.ensures.within;
-      above = rw (n.ensures.feeds.levels) c.requires.above;
+      floor = rw (n.ensures.feeds.levels) (omega (arith, c.requires.above));
       feeds = level_within c.args.floor c.args.self.now n.new.self (take n.result c.args.piece.now) c.requires.above n.ensures.feeds;
     }

@@ -1,26 +1,35 @@
--- A number has ended where a comma follows it.
-use Rattle.std.proofs.Common.{◌≡◌, ◌∙◌, ◌+◌, ap, sym, take, arith, Some}
-use Rattle.gj_json.specs.Levels.{levels_in, inner_of}
-use Rattle.gj_json.specs.declared.levels.Level.{Level}
-use Rattle.gj_json.specs.declared.levels.Level.TheVariants.{Array, Object}
-use Rattle.gj_json.proofs.WholeTokens.{number_comma_array, number_comma_object, with_comma}
+-- A number has ended where the byte behind it ends a value.
+use Rattle.std.proofs.Common.{◌≡◌, get_or, sym, ap, ◌∙◌, arith, length}
+use Rattle.gj_json.specs.Classes.{class_of}
+use Rattle.gj_json.specs.Levels.{levels_in, inner_of, outer_of}
+use Rattle.gj_json.specs.Moves.{after_move}
+use Rattle.gj_json.specs.declared.mode.Move.TheVariants.{Go, Close}
+use Rattle.gj_json.proofs.WholeTokens.{number_within, ended_within, closed_floor}
 use Rattle.gj_json.proofs.reader.Reader.pass_number.Goals as goal
 
-pub returns-in-Some-Array-clause-feeds : goal.returns-in-Some-Array-clause-feeds
-returns-in-Some-Array-clause-feeds c =
+pub returns-in-Go-clause-feeds : goal.returns-in-Go-clause-feeds
+returns-in-Go-clause-feeds c =
     let n = c.read_short-count.result in
-    let piece = c.args.piece.now in
     let read = c.read_short-count.ensures.number (omega arith) in
-    let inner : inner_of (levels_in c.args.self.now.levels) ≡ Some Array = sym c.inner.ensures ∙ c.in-Some-Array.is ∙ ap (λ (x : Level). Some x) c.in-Some-Array.field-0-is in
+    let made : after_move (inner_of (levels_in c.args.self.now.levels)) (class_of (get_or c.args.piece.now n 0)) ≡ Go c.in-Go.mode =
+    ap (λ i. after_move i (class_of (get_or c.args.piece.now n 0))) (sym c.inner.ensures) ∙ sym c.end_of.ensures.value ∙ c.in-Go.is in
     rw (c.skip.ensures.count)
-    (number_comma_array c.args.self.now c.skip.new.self piece (take n piece) (n + 1) c.requires.live c.requires.due c.requires.room (omega (arith, read.within)) read.number (with_comma piece n read.within (omega (arith, c.if-piece-count-ne44.false))) inner c.skip.ensures.passed)
+    (number_within c.args.floor c.args.self.now c.skip.new.self c.args.piece.now n c.requires.live c.requires.due c.requires.room read.within read.number c.requires.above c.in-Go.mode made c.skip.ensures.passed)
 
-pub returns-in-Some-Object-clause-feeds : goal.returns-in-Some-Object-clause-feeds
-returns-in-Some-Object-clause-feeds c =
+pub returns-in-Close-clause-floor : goal.returns-in-Close-clause-floor
+returns-in-Close-clause-floor c =
+    let skip = c.skip-in-Close in
+    let e : levels_in skip.new.self.levels ≡ outer_of (levels_in c.args.self.now.levels) = ap levels_in skip.ensures.passed.levels ∙ c.pop.ensures in
+    omega (arith, ap length e, closed_floor c.args.floor (levels_in c.args.self.now.levels) c.requires.above)
+
+pub returns-in-Close-clause-feeds : goal.returns-in-Close-clause-feeds
+returns-in-Close-clause-feeds c =
     let n = c.read_short-count.result in
-    let piece = c.args.piece.now in
     let read = c.read_short-count.ensures.number (omega arith) in
-    let inner : inner_of (levels_in c.args.self.now.levels) ≡ Some Object = sym c.inner.ensures ∙ c.in-Some-Object.is ∙ ap (λ (x : Level). Some x) c.in-Some-Object.field-0-is in
-    let skip = c.skip-in-Some-Object in
+    let skip = c.skip-in-Close in
+    let p = skip.ensures.passed in
+    let made : after_move (inner_of (levels_in c.args.self.now.levels)) (class_of (get_or c.args.piece.now n 0)) ≡ Close =
+    ap (λ i. after_move i (class_of (get_or c.args.piece.now n 0))) (sym c.inner.ensures) ∙ sym c.end_of.ensures.value ∙ c.in-Close.is in
     rw (skip.ensures.count)
-    (number_comma_object c.args.self.now skip.new.self piece (take n piece) (n + 1) c.requires.live c.requires.due c.requires.room (omega (arith, read.within)) read.number (with_comma piece n read.within (omega (arith, c.if-piece-count-ne44.false))) inner skip.ensures.passed)
+    (ended_within c.args.floor c.args.self.now skip.new.self c.args.piece.now n c.requires.live c.requires.due c.requires.room read.within read.number c.requires.above made
+    (record { limits = p.limits; fault = p.fault; offset = p.offset; mode_is = p.mode_is; levels_are = ap levels_in p.levels ∙ c.pop.ensures }))

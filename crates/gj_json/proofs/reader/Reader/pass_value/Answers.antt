@@ -8,6 +8,3 @@ returns-in-34-clause-feeds c = level_within c.args.floor c.args.self.now c.pass_
 
 pub returns-in-110-clause-feeds : goal.returns-in-110-clause-feeds
 returns-in-110-clause-feeds c = level_within c.args.floor c.args.self.now c.pass_constant.new.self (take c.pass_constant.result c.args.piece.now) c.requires.above c.pass_constant.ensures.feeds
-
-pub returns-in-45-clause-feeds : goal.returns-in-45-clause-feeds
-returns-in-45-clause-feeds c = level_within c.args.floor c.args.self.now c.pass_number.new.self (take c.pass_number.result c.args.piece.now) c.requires.above c.pass_number.ensures.feeds
