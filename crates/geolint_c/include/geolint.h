@@ -98,8 +98,8 @@ static inline const void *geolint_bytes(const void *bytes) {
 
 /* Judges `length` bytes. `max_depth` is how many arrays and objects may be open inside each other, from 1 to 256, and
  * `max_bytes` how many bytes a text may have, from 1 to 2^60; 0 stands for the most of either. Other limits give
- * GEOLINT_NO_VERDICT with GEOLINT_LIMITS. As measured, it needs 208 KiB of stack, and
- * touches what the text takes of it; on a smaller stack, judge with a linter in other memory. */
+ * GEOLINT_NO_VERDICT with GEOLINT_LIMITS. As measured, it needs 208 KiB of stack, all of
+ * which it writes; on a smaller stack, and for many small texts, judge with a linter in other memory. */
 geolint_report geolint_check(const void *bytes, size_t length, uint32_t max_depth, uint64_t max_bytes);
 
 /* ---- a text in pieces */
