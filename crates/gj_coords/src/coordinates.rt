@@ -189,7 +189,7 @@ impl Coordinates {
         }
     }
 
-    /// Whether a few looks show that there are none of any type.
+    /// Whether a few looks show that there are none of any type. Where it answers `false` there may be none all the same.
     #[inline]
     pub fn is_quiet(&self) -> bool
         ensures none { (value : Tree) (simple : Simple) → StandsFor self.now (value_events value) → depth value < 2 ^ 64 → IsTrue result →

@@ -150,7 +150,8 @@ impl Reader {
         }
     }
 
-    /// Whether the text may end here with no event left to its end, as [`Reader::finish`] would answer.
+    /// Whether one look shows that [`Reader::finish`] would answer `Ok(None)`: the text may end here, and no event is left to its
+    /// end. Of a reader that answers `false` nothing is promised.
     #[inline]
     pub fn is_whole(&self) -> bool
         ensures live { IsTrue result → refusal_of self.now ≡ None }
