@@ -154,6 +154,24 @@ ends reader bytes may_end value l live h =
     ends_go reader.limits reader.mode (levels_in reader.levels) reader.start reader.offset bytes k (last_event reader.mode (inner_of (levels_in reader.levels)) may_end value reader.start)
     (text_says may_end value reader.limits.depth k.state reader.mode (levels_in reader.levels) reader.start (length bytes) k.kept (ends_as (under_of k.state) reader may_end value l o.keeps) k.fits (rw (← k.at) k.timely.edge))
 
+-- the number under way, read off the machine and not the literal
+under_so : (u : Under) → (may_end : Bool) × (value : Option Exact) × EndsAs u may_end value
+under_so nothing = (false, None, tt)
+under_so (text_under so_far state) = (false, None, tt)
+under_so (number_under so_far state) = (number_may_end state, value_of so_far, (refl, λ e. refl))
+
+pub under_ends : (reader : Reader) (bytes : List ℕ) → reader.fault ≡ None → StandsFor reader bytes
+    → (may_end : Bool) × (value : Option Exact) × Ends reader.limits reader.offset bytes (last_event reader.mode (inner_of (levels_in reader.levels)) may_end value reader.start)
+under_ends reader bytes live h =
+    let o = open_of reader bytes live h in
+    let k = o.well in
+    let u = under_so (under_of k.state) in (
+      u.0,
+      u.1,
+      ends_go reader.limits reader.mode (levels_in reader.levels) reader.start reader.offset bytes k (last_event reader.mode (inner_of (levels_in reader.levels)) u.0 u.1 reader.start)
+          (text_says u.0 u.1 reader.limits.depth k.state reader.mode (levels_in reader.levels) reader.start (length bytes) k.kept u.2 k.fits (rw (← k.at) k.timely.edge)),
+    )
+
 pub none_is : {A : Type 0} (x : Option A) → is_some x ≡ false → x ≡ None
 none_is None e = refl
 none_is (Some y) e = cc

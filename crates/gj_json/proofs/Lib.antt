@@ -34,6 +34,7 @@ pub mod Finishing
 pub mod Reaching
 pub mod Deepest
 pub mod Longest
+pub mod Ended
 pub mod LeftPart
 pub mod NumberFronts
 pub mod CharacterFronts

@@ -150,12 +150,12 @@ impl Reader {
         }
     }
 
-    /// Whether one look shows that [`Reader::finish`] would answer `Ok(None)`: the text may end here, and no event is left to its
-    /// end. Of a reader that answers `false` nothing is promised.
+    /// Whether [`Reader::finish`] would answer `Ok(None)`: the text may end here, and no event is left to its end.
     #[inline]
     pub fn is_whole(&self) -> bool
         ensures live { IsTrue result → refusal_of self.now ≡ None }
         ensures answer { (bytes : List ℕ) → StandsFor self.now bytes → IsTrue result → FinishAnswers (limits_of self.now) bytes (Ok None) }
+        ensures whole { (bytes : List ℕ) → StandsFor self.now bytes → FinishAnswers (limits_of self.now) bytes (Ok None) → IsTrue result }
     {
         match self.mode {
             Mode::ValueDone => self.fault.is_none() && self.levels.inner().is_none(),
