@@ -20,12 +20,6 @@ pub struct Frame {
 // At most 200 integers of 8 bytes for each open object with a role.
 const _: () = prove!(size_of::<Frame>() <= 1600);
 
-impl Default for Frame {
-    fn default() -> Self {
-        Frame::new(Role::Root, 0)
-    }
-}
-
 impl Frame {
     ghost use Rattle.gj_coords.specs.Warned.{all_in};
     ghost use Rattle.std.specs.Prelude.{◌≤◌};

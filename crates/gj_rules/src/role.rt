@@ -3,10 +3,9 @@ ghost use Rattle.std.specs.Prelude.{◌≡◌};
 use gj_json::{Known, Word};
 
 /// What a value stands as in its text, whatever the types of the objects around it.
-#[derive(Clone, Copy, Debug, Default, PartialEq, Eq)]
+#[derive(Clone, Copy, Debug, PartialEq, Eq)]
 pub enum Role {
     /// The value of the text (RFC 7946, section 3).
-    #[default]
     Root,
     /// The value of `geometry` (section 3.2).
     Geometry,
