@@ -108,6 +108,8 @@ impl Linter {
     }
 
     /// The verdict of the input that was fed, however it came in pieces.
+    // Not in line, so that the linter is not copied.
+    #[inline(never)]
     pub fn finish(mut self) -> Verdict
         ensures verdict { (bytes : List ℕ) → StandsFor self bytes → IsVerdict (limits_of self) bytes result }
         ensures again { (fault : JsonFault) → refusal_of self ≡ Some fault → result ≡ Verdict.NotJson fault }

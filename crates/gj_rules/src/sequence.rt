@@ -212,6 +212,7 @@ impl Sequence {
     }
 
     /// The verdict of the input that was fed, however it came in pieces.
+    #[inline(never)]
     pub fn finish(self) -> SeqVerdict
         ensures { (bytes : List ℕ) → StandsFor self bytes → IsSequenceVerdict (limits_of self) bytes result }
     {
@@ -222,25 +223,25 @@ impl Sequence {
     }
 
     /// The verdict of an input of which no byte has decided.
-    fn end(self) -> SeqVerdict
+    // Not in line, so that the record is not copied.
+    #[inline(never)]
+    fn end(mut self) -> SeqVerdict
         requires { is_decided self ≡ false }
         ensures { (bytes : List ℕ) → StandsFor self bytes → IsSequenceVerdict (limits_of self) bytes result }
     {
         joined_warnings();
-        let Sequence {
-            mut record,
-            warnings,
-            records,
-            ..
-        } = self;
+        let records = self.records;
         if records == 0 {
-            return SeqVerdict::Valid { records, warnings };
+            return SeqVerdict::Valid {
+                records,
+                warnings: self.warnings,
+            };
         }
-        let verdict = record.close(0);
+        let verdict = self.record.close(0);
         match valid_warnings(verdict) {
             Some(last) => SeqVerdict::Valid {
                 records,
-                warnings: warnings.join(last),
+                warnings: self.warnings.join(last),
             },
             None => SeqVerdict::Record {
                 number: records,
