@@ -2,55 +2,57 @@
 ghost use Rattle.std.specs.Prelude.{◌≡◌};
 ghost use Rattle.gj_coords.specs.Fault.{number_of, comes_first, lesser};
 
-/// The rules that a GeoJSON text may break.
+/// The rules that a GeoJSON text may break. In brackets stands the section of RFC 7946, and behind the colon what is at the
+/// place of the fault.
 #[derive(Clone, Copy, Debug, PartialEq, Eq)]
 pub enum Rule {
-    /// Not an object where one is due.
+    /// Not an object where one is due (sections 2, 3.1.8, 3.2 and 3.3): the value.
     G1,
-    /// The member `type` is missing.
+    /// The member `type` is missing (3): the object.
     G2,
-    /// The value of `type` is none of those allowed here.
+    /// The value of `type` is none of those allowed here (1.4 and 7): the value of `type`.
     G3,
-    /// The member `coordinates` is missing.
+    /// The member `coordinates` is missing (3.1): the object.
     G4,
-    /// The member `geometries` is missing.
+    /// The member `geometries` is missing (3.1.8): the object.
     G5,
-    /// The member `geometry` is missing.
+    /// The member `geometry` is missing (3.2): the object.
     G6,
-    /// The member `properties` is missing.
+    /// The member `properties` is missing (3.2): the object.
     G7,
-    /// The member `features` is missing.
+    /// The member `features` is missing (3.3): the object.
     G8,
-    /// A member that the type forbids.
+    /// A member that the type forbids (7.1): its name.
     G9,
-    /// A known name is repeated.
+    /// A known name is repeated (RFC 8259, section 4): the later name.
     G10,
-    /// Coordinates of the wrong shape.
+    /// Coordinates of the wrong shape (3.1.1 to 3.1.7): the value in them that is not right.
     G11,
-    /// A position of fewer than two elements.
+    /// A position of fewer than two elements (3.1.1): the position.
     G12,
-    /// A line of fewer than two positions.
+    /// A line of fewer than two positions (3.1.4 and 3.1.5): the line.
     G13,
-    /// A linear ring of fewer than four positions.
+    /// A linear ring of fewer than four positions (3.1.6): the ring.
     G14,
-    /// A linear ring that is not closed.
+    /// A linear ring that is not closed (3.1.6): the ring.
     G15,
-    /// A number that is not held, among the first three of a position.
+    /// A number that is not held, among the first three of a position, as RFC 8259, section 6, lets a reader limit them: the
+    /// number.
     G16,
-    /// The value of `features` or `geometries` is no array.
+    /// The value of `features` or `geometries` is no array (3.1.8 and 3.3): the value.
     G17,
-    /// The value of `properties` is neither an object nor null.
+    /// The value of `properties` is neither an object nor null (3.2): the value.
     G18,
-    /// The `id` of a Feature is neither a string nor a number.
+    /// The `id` of a Feature is neither a string nor a number (3.2): the value.
     G19,
-    /// A bounding box that is no array, or an element of one that is no number.
+    /// A bounding box that is no array, or an element of one that is no number (5): the value, or the element.
     G20,
-    /// A bounding box of odd length, or of a length below four.
+    /// A bounding box of odd length, or of a length below four (5): the array.
     G21,
 }
 
 impl Rule {
-    /// The number in the rule's name.
+    /// The number in the rule's name, from 1 to 21.
     pub fn number(self) -> u8
         ensures { result ≡ number_of self }
     {
@@ -83,6 +85,7 @@ impl Rule {
 /// A rule that is broken, and the place of what breaks it.
 #[derive(Clone, Copy, Debug, PartialEq, Eq)]
 pub struct Fault {
+    /// How many bytes of the text stand before it.
     pub place: u64,
     pub rule: Rule,
 }

@@ -2,31 +2,32 @@
 ghost use Rattle.std.specs.Prelude.{◌≡◌};
 ghost use Rattle.gj_coords.specs.Warnings.{kind_number};
 
-/// What a warning is given for.
+/// What a warning is given for. In brackets stands the section of RFC 7946, and behind the colon what is at the place of the
+/// warning.
 #[derive(Clone, Copy, Debug, PartialEq, Eq)]
 pub enum Kind {
-    /// A byte order mark (RFC 8259, section 8.1).
+    /// A byte order mark (RFC 8259, section 8.1): the mark.
     W1,
-    /// A ring that runs the wrong way (RFC 7946, section 3.1.6).
+    /// A ring that runs the wrong way (section 3.1.6): the ring.
     W2,
-    /// A position of more than three numbers (3.1.1).
+    /// A position of more than three numbers (3.1.1): the position.
     W3,
-    /// A number with more than seven decimal places, among the first three of a position (11.2).
+    /// A number with more than seven decimal places, among the first three of a position (11.2): the number.
     W4,
-    /// A position out of range (4).
+    /// A position out of range (4), a longitude beyond 180 degrees or a latitude beyond 90: the position.
     W5,
-    /// An empty `coordinates` array (3.1).
+    /// An empty `coordinates` array (3.1): the array.
     W6,
-    /// A GeometryCollection that is an element of the `geometries` of another (3.1.8).
+    /// A GeometryCollection that is an element of the `geometries` of another (3.1.8): the inner one.
     W7,
-    /// A bounding box whose south is above its north (5).
+    /// A bounding box whose south is above its north (5): the array.
     W8,
-    /// A member `crs` (4).
+    /// A member `crs` (4): its name.
     W9,
 }
 
 impl Kind {
-    /// The number in the kind's name.
+    /// The number in the kind's name, from 1 to 9.
     pub fn number(self) -> u8
         ensures { result ≡ kind_number self }
     {

@@ -3,7 +3,8 @@ ghost use Rattle.std.specs.Prelude.{◌≡◌};
 
 use crate::fault::Fault;
 
-/// The least fault of a value as the coordinates of each of the six types.
+/// The least fault of a value as the coordinates of each of the six types, or `None` where it has none (RFC 7946, sections
+/// 3.1.2 to 3.1.7).
 #[derive(Clone, Copy)]
 pub struct SimpleFaults {
     pub point: Option<Fault>,

@@ -127,7 +127,7 @@ impl Warnings {
         self.replace(kind, noted);
     }
 
-    /// The warnings of both: counts are added, and stay at the greatest; of two places the lesser is kept.
+    /// The warnings of both: counts are added, and stay at 4,294,967,295; of two places the lesser is kept.
     pub fn join(self, other: Warnings) -> Warnings
         ensures stands { (warnings others : List Warning) → StandsFor self warnings → StandsFor other others →
             StandsFor result (warnings ++ others) }
@@ -220,7 +220,7 @@ impl Warnings {
         }
     }
 
-    /// How many warnings there are of a kind.
+    /// How many warnings there are of a kind: 4,294,967,295 stands for as many or more.
     pub fn count(&self, kind: Kind) -> u32
         ensures kept { result ≡ count_in kind self.now }
         ensures count { (warnings : List Warning) → StandsFor self.now warnings → result ≡ count_of kind warnings }
@@ -228,7 +228,7 @@ impl Warnings {
         self.kept(kind).count
     }
 
-    /// The least place of a warning of a kind.
+    /// The least place of a warning of a kind, in bytes from the start of the text, or `None` where there is none.
     pub fn first(&self, kind: Kind) -> Option<u64>
         ensures kept { result ≡ first_in kind self.now }
         ensures first { (warnings : List Warning) → StandsFor self.now warnings → result ≡ first_of kind warnings }

@@ -1,3 +1,4 @@
+//! What a byte is to the grammar of RFC 8259.
 ghost use Rattle.std.specs.Prelude.{◌≡◌};
 ghost use Rattle.gj_json.specs.Classes.{class_of};
 

@@ -6,16 +6,20 @@ use gj_number::Short;
 #[derive(Clone, Copy)]
 pub struct Numbered {
     pub value: Short,
+    /// How many bytes of the text stand before it.
     pub place: u64,
 }
 
-/// An array of two or three ordinary numbers, with the places of its brackets and of its numbers.
+/// An array of two or three ordinary numbers, with the places of its brackets and of its numbers, as bytes from the start
+/// of the text.
 #[derive(Clone, Copy)]
 pub struct Flat {
     pub first: Numbered,
     pub second: Numbered,
     pub third: Option<Numbered>,
+    /// The place of `[`.
     pub place: u64,
+    /// The place of `]`.
     pub close: u64,
 }
 

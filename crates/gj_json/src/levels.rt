@@ -1,3 +1,4 @@
+//! The arrays and objects that are open, a bit for each.
 ghost use Rattle.std.specs.Prelude.{◌≡◌, ℕ, ◌*◌, ◌^◌, ◌<◌, ◌≤◌, [], ◌∷◌, length};
 ghost use Rattle.gj_json.specs.declared.levels.TheConstants.{WORD, MOST_FULL};
 

@@ -1,3 +1,4 @@
+//! What a text may have at the most (RFC 8259, section 9).
 ghost use Rattle.std.specs.Prelude.{◌≡◌};
 ghost use Rattle.std.specs.Option.{SomeIff};
 
@@ -8,7 +9,7 @@ pub const MOST_LEVELS: u16 = 256;
 
 const MOST_BYTES: u64 = 1 << 60;
 
-/// How deep the arrays and objects of a text may nest, and how many bytes it may have.
+/// How deep the arrays and objects of a text may nest, and how many bytes it may have, a byte order mark among them.
 #[derive(Clone, Copy, PartialEq, Eq)]
 pub struct Limits {
     bytes: u64,
@@ -32,7 +33,7 @@ impl Model for Limits {
 impl Limits {
     ghost use Rattle.gj_json.specs.Limits.{IsAllowed, most};
 
-    /// The limits, where the depth is from 1 to [`MOST_LEVELS`] and the number of bytes from 1 to 2^60.
+    /// The limits, or `None` where the depth is not from 1 to [`MOST_LEVELS`] or the number of bytes not from 1 to 2^60.
     pub fn new(depth: u16, bytes: u64) -> Option<Limits>
         ensures { SomeIff result (IsAllowed depth bytes) (record { depth = depth; bytes = bytes }) }
     {

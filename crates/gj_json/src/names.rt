@@ -7,16 +7,25 @@ ghost use Rattle.gj_json.specs.Names.{known_of, word_of};
 /// one (section 4), and all others.
 #[derive(Clone, Copy, Debug, Default, PartialEq, Eq)]
 pub enum Known {
-    /// The name `type`.
+    /// The name `type` (3).
     TypeName,
+    /// The name `coordinates` (3.1).
     Coordinates,
+    /// The name `geometries` (3.1.8).
     Geometries,
+    /// The name `geometry` (3.2).
     Geometry,
+    /// The name `properties` (3.2).
     Properties,
+    /// The name `features` (3.3).
     Features,
+    /// The name `bbox` (5).
     Bbox,
+    /// The name `id` (3.2).
     Id,
+    /// The name `crs` (4).
     Crs,
+    /// Any other name: that of a foreign member (6.1).
     #[default]
     Other,
 }
@@ -24,15 +33,25 @@ pub enum Known {
 /// The nine types of GeoJSON (RFC 7946, section 1.4), and all other strings.
 #[derive(Clone, Copy, Debug, Default, PartialEq, Eq)]
 pub enum Word {
+    /// `Point` (3.1.2).
     Point,
+    /// `MultiPoint` (3.1.3).
     MultiPoint,
+    /// `LineString` (3.1.4).
     LineString,
+    /// `MultiLineString` (3.1.5).
     MultiLineString,
+    /// `Polygon` (3.1.6).
     Polygon,
+    /// `MultiPolygon` (3.1.7).
     MultiPolygon,
+    /// `GeometryCollection` (3.1.8).
     GeometryCollection,
+    /// `Feature` (3.2).
     Feature,
+    /// `FeatureCollection` (3.3).
     FeatureCollection,
+    /// Any other string, also one that differs in upper and lower case.
     #[default]
     Other,
 }

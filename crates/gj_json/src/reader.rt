@@ -1,3 +1,4 @@
+//! The reader: it takes the bytes of a text and tells its events (RFC 8259).
 ghost use Rattle.std.specs.Prelude.{◌≡◌, ℕ, ◌+◌, ◌≤◌, ◌++◌, ◌∷◌, [], List, length, take, IfOk, IsTrue, MatchResult, Some, None, Ok, Err};
 ghost use Rattle.gj_json.specs.Moves.{IsMode};
 ghost use Rattle.gj_json.specs.Levels.{levels_in};

@@ -1,3 +1,4 @@
+//! What a reader tells its events to.
 ghost use Rattle.std.specs.Prelude.{◌≡◌, ℕ, ◌≤◌, ◌<◌, ◌∷◌, ◌++◌, [], List, length};
 
 use crate::event::{Event, What};

@@ -1,3 +1,4 @@
+//! What is kept of an open object with a role.
 ghost use Rattle.std.specs.Prelude.{◌≡◌};
 
 mod settle;

@@ -1,3 +1,4 @@
+//! The warnings that are kept of an open object with a role.
 ghost use Rattle.std.specs.Prelude.{◌≡◌};
 
 use crate::lazy_warned::LazyWarned;

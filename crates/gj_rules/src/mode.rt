@@ -1,3 +1,4 @@
+//! Where in the objects with a role the next event stands.
 ghost use Rattle.std.specs.Prelude.{◌≡◌};
 
 use crate::role::Role;

@@ -1,3 +1,4 @@
+//! What a value stands as in its text.
 ghost use Rattle.std.specs.Prelude.{◌≡◌};
 
 use gj_json::{Known, Word};

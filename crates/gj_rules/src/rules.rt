@@ -1,3 +1,4 @@
+//! The rules and the warnings of RFC 7946, found from the events of a text.
 ghost use Rattle.std.specs.Prelude.{◌≡◌, ℕ, ◌<◌, ◌≤◌, [], List, true, false, None, IsTrue};
 ghost use Rattle.gj_rules.specs.declared.rules.TheConstants.{MOST_AROUND};
 

@@ -1,3 +1,4 @@
+//! What is found in `coordinates`, for each type that they may be of.
 ghost use Rattle.std.specs.Prelude.{◌≡◌, ◌≤◌};
 ghost use Rattle.gj_json.specs.Tree.{Tree, depth};
 ghost use Rattle.gj_json.specs.Events.{value_events};

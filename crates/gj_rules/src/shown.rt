@@ -1,3 +1,4 @@
+//! What the members of an open object have shown of it.
 ghost use Rattle.std.specs.Prelude.{◌≡◌};
 ghost use Rattle.gj_rules.specs.Read.{slot_in};
 

@@ -1,3 +1,4 @@
+//! The verdict of an input.
 ghost use Rattle.std.specs.Prelude.{◌≡◌, ℕ, List};
 ghost use Rattle.gj_json.specs.Limits.{Allowed};
 
@@ -7,11 +8,11 @@ use gj_json::{JsonFault, one_refusal, one_text};
 /// What an input is, as a whole.
 #[derive(Clone, Copy, Debug, PartialEq, Eq)]
 pub enum Verdict {
-    /// A GeoJSON text (RFC 7946), and what in it is likely wrong in use.
+    /// A GeoJSON text (RFC 7946, section 2), and what in it is likely wrong in use.
     Valid(Warnings),
     /// A JSON text that breaks a rule: the broken rule of the least place in the whole text.
     Broken(Fault),
-    /// No JSON text within the limits: where and why it is refused. It comes before every rule.
+    /// No JSON text (RFC 8259) within the limits: where and why it is refused. It comes before every rule.
     NotJson(JsonFault),
 }
 
