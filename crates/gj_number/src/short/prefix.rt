@@ -21,6 +21,9 @@ use crate::tens::ten_to;
 /// How many digits an ordinary number has at most.
 const MOST_DIGITS: usize = 18;
 
+/// How many digits are read at once.
+const AT_ONCE: usize = 16;
+
 /// How many digits of an exponent are read at most.
 const MOST_EXPONENT_DIGITS: usize = 3;
 
@@ -241,18 +244,24 @@ fn fraction_run(piece: &[u8], natural: Spelled) -> Spelled
     ensures whole { (count : ℕ) → IsRun piece.now count → count ≤ 18 - natural.count → result.count ≡ count }
 {
     let (count, value) = first_digits(piece);
-    if count == 16 {
-        return first_run(piece, natural.value, MOST_DIGITS - natural.count);
-    }
     if count > MOST_DIGITS - natural.count {
         return Spelled {
             value: natural.value,
             count: 0,
         };
     }
+    let both = natural.value * ten_to(count) + value;
+    if count < AT_ONCE {
+        return Spelled { value: both, count };
+    }
+    let rest = first_run(
+        &piece[AT_ONCE..],
+        both,
+        MOST_DIGITS - AT_ONCE - natural.count,
+    );
     Spelled {
-        value: natural.value * ten_to(count) + value,
-        count,
+        value: rest.value,
+        count: AT_ONCE + rest.count,
     }
 }
 
