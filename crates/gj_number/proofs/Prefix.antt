@@ -130,6 +130,15 @@ below_power piece count value h =
 pub one_of : (piece : List ℕ) (first n : ℕ) → (get_or piece first 0 ≡ zero_digit → n ≡ 1) → get_or (drop first piece) 0 0 ≡ zero_digit → n ≡ 1
 one_of piece first n h e = let z : first + 0 ≡ first = omega arith in h (ap (λ k. get_or piece k 0) (sym z) ∙ sym (get_or-drop first piece 0 0) ∙ e)
 
+-- a digit there is one of those counted
+pub first_some : (piece : List ℕ) (first n : ℕ) → (IsDigit (get_or (take (length piece - first) (drop first piece)) n 0) → ⊥) → (n ≡ 0 → IsDigit (get_or piece first 0)) → 0 < n
+first_some piece first zero ends h =
+    let z : first + 0 ≡ first = omega arith in
+    let e : get_or (take (length piece - first) (drop first piece)) 0 0 ≡ get_or piece first 0 = ap (λ xs. get_or xs 0 0) (rest_is piece first) ∙ get_or-drop first piece 0 0 ∙ ap (λ k. get_or piece k 0) z in
+    let P : ℕ → Type 0 = λ b. IsDigit b in
+    absurd (ends (subst P (sym e) (h refl)))
+first_some piece first (suc n) ends h = omega arith
+
 -- ---- digits that are read apart
 
 apart : (n : ℕ) (xs : List ℕ) → fold with_digit n xs ≡ n * 10 ^ length xs + fold with_digit 0 xs
