@@ -54,7 +54,11 @@ fn read_item(piece: &[u8], at: usize, start: u64, number: &mut Numbered) -> usiz
         return 0;
     }
     number.place = start + first as u64;
-    white_end(piece, first + count)
+    let end = first + count;
+    if piece[end] > b' ' {
+        return end;
+    }
+    white_end(piece, end)
 }
 
 /// Reads the array of two or three ordinary numbers that stands whole at the start of a piece, which begins at the place

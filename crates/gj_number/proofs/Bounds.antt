@@ -1,5 +1,5 @@
 -- The bounds of the two parts in which digits are kept.
-use Rattle.std.proofs.Common.{◌≡◌, ℕ, ◌+◌, ◌-◌, ◌*◌, ◌^◌, ◌<◌, ◌≤◌, min, sym, ◌∙◌, ap, arith}
+use Rattle.std.proofs.Common.{subst, ◌≡◌, ℕ, ◌+◌, ◌-◌, ◌*◌, ◌^◌, ◌<◌, ◌≤◌, min, sym, ◌∙◌, ap, arith}
 use Rattle.std.proofs.Math.Nat.{mul_assoc, mul-le-mul_right, pow-le-pow_right}
 use Rattle.std.proofs.lemmas.Nat.{pow-add}
 use Rattle.gj_number.specs.Kept.{kept_number}
@@ -62,3 +62,16 @@ head_below head count h = let l : 10 ^ min count 19 ≤ 10 ^ 19 = (let e : min c
 -- the bound while there is room for a digit more
 pub head_small : (head count : ℕ) → head < 10 ^ min count 19 → count < 19 → head < 10 ^ 18
 head_small head count h k = let l : 10 ^ min count 19 ≤ 10 ^ 18 = (let e : min count 19 ≤ 18 = omega arith in pow-le-pow_right {n = 10} (omega arith) e) in omega arith
+
+-- behind the first digits there is room for another
+pub rest_small : (rest count : ℕ) → rest < 10 ^ (count - 19) → count < 30 → rest < 10 ^ 11
+rest_small rest count h few =
+    let e : count - 19 ≤ 11 = omega arith in
+    let l : 10 ^ (count - 19) ≤ 10 ^ 11 = pow-le-pow_right {n = 10} (omega arith) e in
+    omega arith
+
+pub rest_more : (rest count digit : ℕ) → 19 ≤ count → rest < 10 ^ (count - 19) → digit < 10 → rest * 10 + digit < 10 ^ (count + 1 - 19)
+rest_more rest count digit many h k =
+    let e : count - 19 + 1 ≡ count + 1 - 19 = omega arith in
+    let P : ℕ → Type 0 = λ n. rest * 10 + digit < 10 ^ n in
+    subst P e (digit_below rest (count - 19) 1 digit h k)

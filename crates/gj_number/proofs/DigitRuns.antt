@@ -1,10 +1,11 @@
 -- A run of digits is found by its end.
-use Rattle.std.proofs.Common.{◌≡◌, ℕ, ◌<◌, ◌≤◌, List, length, take, get_or, All, inl, inr, subst, arith}
+use Rattle.std.proofs.Common.{◌≡◌, ℕ, ◌+◌, ◌-◌, ◌∙◌, ap, ◌<◌, ◌≤◌, List, length, take, drop, get_or, All, inl, inr, subst, arith, length-drop}
 use Rattle.std.proofs.lemmas.Bool.{cases_lt}
-use Rattle.std.proofs.lemmas.List.{get_or-take, length-take-le}
-use Rattle.std.proofs.lemmas.List.Elements.{All-get_or}
+use Rattle.std.proofs.lemmas.List.{get_or-take, get_or-drop, drop-take, length-take-le}
+use Rattle.std.proofs.lemmas.List.Elements.{All-get_or, All-drop}
 use Rattle.gj_number.specs.Bytes.{IsDigit}
 use Rattle.gj_number.specs.DigitRuns.{IsRun}
+use Rattle.gj_number.proofs.Fronts.{rest_is}
 
 pub digit_at : (xs : List ℕ) (n i : ℕ) → i < n → n ≤ length xs → All IsDigit (take n xs) → IsDigit (get_or xs i 0)
 digit_at xs n i l w h =
@@ -19,3 +20,17 @@ run_found xs n k w h next r = elim (cases_lt n k) [
   | inl l ↦ absurd (next l (digit_at xs k n l (let v = r.within in omega arith) r.digits))
   | inr m ↦ elim (cases_lt k n) [ inl l ↦ absurd (r.ends (digit_at xs n k l w h)) | inr o ↦ omega arith ]
 ]
+
+-- what is left of a run, in the slice behind a place in it
+pub rest_of_run : (xs : List ℕ) (i k : ℕ) → i ≤ k → IsRun xs k → IsRun (take (length xs - i) (drop i xs)) (k - i)
+rest_of_run xs i k le r =
+    let within = r.within in
+    let at : get_or (drop i xs) (k - i) 0 ≡ get_or xs k 0 = get_or-drop i xs (k - i) 0 ∙ ap (λ n. get_or xs n 0) {y = k} (omega arith) in
+    let split : k ≡ i + (k - i) = omega arith in
+    let P : ℕ → Type 0 = λ n. All IsDigit (drop i (take n xs)) in
+    let Q : List ℕ → Type 0 = λ ys. All IsDigit ys in
+    rw (rest_is xs i) (record {
+      within = omega (arith, length-drop i xs);
+      digits = subst Q (drop-take i (k - i) xs) (subst P split (All-drop IsDigit i (take k xs) r.digits));
+      ends = λ d. r.ends (rw (← at) d);
+    })

@@ -1,21 +1,17 @@
 -- The number that a piece starts with, with an exponent or none.
-use Rattle.std.proofs.Common.{zero, suc, ◌≡◌, ℕ, ◌+◌, ◌-◌, ◌*◌, ◌^◌, ◌<◌, ◌≤◌, ◌⊎◌, Bool, true, false, inl, inr, List, [], ◌∷◌, ◌++◌, length, take, drop, get_or, All, refl, sym, ◌∙◌, ap, subst, arith, append_assoc, append-nil, ℤ, pos, ◌-ℤ◌, unsigned_abs}
+use Rattle.std.proofs.Common.{zero, suc, ◌≡◌, ℕ, ◌+◌, ◌-◌, ◌*◌, ◌^◌, ◌<◌, ◌≤◌, Bool, true, false, inl, inr, List, [], ◌∷◌, ◌++◌, length, take, drop, get_or, refl, sym, ◌∙◌, ap, subst, arith, append_assoc, append-nil, ℤ, pos, ◌-ℤ◌, unsigned_abs}
 use Rattle.std.proofs.Math.Seq.{take-add, drop-cons}
-use Rattle.std.proofs.lemmas.Bool.{cases_lt}
 use Rattle.std.proofs.lemmas.Int.{ints}
-use Rattle.std.proofs.lemmas.List.{take_more, get_or-take, length-take-le}
-use Rattle.std.proofs.lemmas.List.Elements.{All-append, All-from_recursion, All-get_or}
-use Rattle.std.specs.List.{AllByRecursion}
-use Rattle.gj_number.specs.Bytes.{minus_sign, decimal_point, IsDigit, IsExponentLetter, IsNumberByte}
-use Rattle.gj_number.specs.Grammar.{IsNatural, BeginsNumber}
+use Rattle.std.proofs.lemmas.List.{take_more, length-take-le}
+use Rattle.gj_number.specs.Bytes.{IsExponentLetter}
+use Rattle.gj_number.specs.Grammar.{BeginsNumber}
 use Rattle.gj_number.specs.Exact.{signed}
-use Rattle.gj_number.specs.Value.{number_of, Parts, Spells, SpellsSign, SpellsFraction, SpellsExponentSign, whole_of, scale_of}
+use Rattle.gj_number.specs.Value.{number_of, Parts, Spells, SpellsExponentSign, whole_of, scale_of}
 use Rattle.gj_number.specs.Machine.{class_of}
 use Rattle.gj_number.specs.declared.state.Class.TheVariants.{Other}
-use Rattle.gj_number.specs.declared.short.Short.{Short}
-use Rattle.gj_number.specs.Short.{short_value, StartsWithNumber, StartsOrdinary}
+use Rattle.gj_number.specs.Short.{short_value, StartsWithNumber}
 use Rattle.gj_number.specs.DigitRuns.{SpellsOn}
-use Rattle.gj_number.specs.Moved.{SpellsPlain, IsMoved}
+use Rattle.gj_number.specs.Moved.{SpellsPlain}
 use Rattle.gj_number.proofs.Bounds.{scaled_below}
 use Rattle.gj_number.proofs.Forward.{parts_reach}
 use Rattle.gj_number.proofs.Moves.{other_ends}
@@ -24,7 +20,7 @@ use Rattle.gj_number.proofs.Prefix.{fraction_is, below_power}
 use Rattle.gj_number.proofs.Same.{unsigned_abs-signed}
 use Rattle.gj_number.proofs.Shorts.{held_short, denoted_short}
 use Rattle.gj_number.proofs.Spelled.{number_from}
-use Rattle.gj_number.proofs.Splitting.{value_is, parts_digits, natural_digits, all_digits}
+use Rattle.gj_number.proofs.Splitting.{value_is, parts_digits}
 use Rattle.gj_number.proofs.Standing.{begins_none}
 
 -- what is made of parts, behind which a byte stands that no number has

@@ -1,5 +1,5 @@
 -- The number at the front of a piece: its digits, its parts and its end.
-use Rattle.std.proofs.Common.{zero, suc, ◌≡◌, ℕ, ◌+◌, ◌-◌, ◌*◌, ◌%◌, ◌^◌, ◌<◌, ◌≤◌, Bool, true, false, ◌==◌, ◌⊎◌, List, [], ◌∷◌, ◌++◌, length, take, drop, get_or, All, fold, inl, inr, refl, sym, ◌∙◌, ap, subst, arith, append_assoc, append-nil, length-append, length-drop, pos}
+use Rattle.std.proofs.Common.{zero, suc, ◌≡◌, ℕ, ◌+◌, ◌-◌, ◌*◌, ◌%◌, ◌^◌, ◌<◌, ◌≤◌, Bool, true, false, ◌==◌, ◌⊎◌, List, [], ◌∷◌, ◌++◌, length, take, drop, get_or, All, fold, inl, inr, refl, sym, ◌∙◌, ap, subst, arith, append_assoc, append-nil, length-append, length-drop}
 use Rattle.std.proofs.Math.Nat.{pow-suc, mul-le-mul_right, le-mul_of_pos_right}
 use Rattle.std.proofs.Math.Numerals.{add-one}
 use Rattle.std.proofs.Math.Seq.{take-add}
@@ -130,6 +130,15 @@ below_power piece count value h =
 pub one_of : (piece : List ℕ) (first n : ℕ) → (get_or piece first 0 ≡ zero_digit → n ≡ 1) → get_or (drop first piece) 0 0 ≡ zero_digit → n ≡ 1
 one_of piece first n h e = let z : first + 0 ≡ first = omega arith in h (ap (λ k. get_or piece k 0) (sym z) ∙ sym (get_or-drop first piece 0 0) ∙ e)
 
+-- a digit there is one of those counted
+pub first_some : (piece : List ℕ) (first n : ℕ) → (IsDigit (get_or (take (length piece - first) (drop first piece)) n 0) → ⊥) → (n ≡ 0 → IsDigit (get_or piece first 0)) → 0 < n
+first_some piece first zero ends h =
+    let z : first + 0 ≡ first = omega arith in
+    let e : get_or (take (length piece - first) (drop first piece)) 0 0 ≡ get_or piece first 0 = ap (λ xs. get_or xs 0 0) (rest_is piece first) ∙ get_or-drop first piece 0 0 ∙ ap (λ k. get_or piece k 0) z in
+    let P : ℕ → Type 0 = λ b. IsDigit b in
+    absurd (ends (subst P (sym e) (h refl)))
+first_some piece first (suc n) ends h = omega arith
+
 -- ---- digits that are read apart
 
 apart : (n : ℕ) (xs : List ℕ) → fold with_digit n xs ≡ n * 10 ^ length xs + fold with_digit 0 xs
@@ -143,6 +152,12 @@ joined_fits natural count places behind rest n k few most =
     let l = scaled_below natural count places 18 n (omega arith) in
     omega arith
 
+pub joined_below : (natural count places behind : ℕ) (rest : List ℕ) → natural < 10 ^ count → SpellsOn rest 0 places behind → natural * 10 ^ places + behind < 10 ^ (count + places)
+joined_below natural count places behind rest n k =
+    let b : behind < 10 ^ places = below_power rest places behind k in
+    let l = scaled_below natural count places (count + places) n (omega arith) in
+    omega arith
+
 pub joined_spells : (natural places behind : ℕ) (rest : List ℕ) → SpellsOn rest 0 places behind → SpellsOn rest natural places (natural * 10 ^ places + behind)
 joined_spells natural places behind rest k =
     let long : length (take places rest) ≡ places = length-take-le places rest k.within in
@@ -150,6 +165,18 @@ joined_spells natural places behind rest k =
     let e = subst P long (apart natural (take places rest)) in
     let v = k.value_is in
     record { within = k.within; digits = k.digits; value_is = omega arith }
+
+-- the digits behind these go on
+pub spells_more : (piece : List ℕ) (before n m first all : ℕ) → SpellsOn piece before n first → SpellsOn (drop n piece) first m all → SpellsOn piece before (n + m) all
+spells_more piece before n m first all h k =
+    let w = h.within in
+    let v = k.within in
+    let e : take (n + m) piece ≡ take n piece ++ take m (drop n piece) = take-add n m piece in
+    record {
+      within = omega (arith, length-drop n piece);
+      digits = rw e (All-append IsDigit _ _ h.digits k.digits);
+      value_is = rw (e, fold-append with_digit before (take n piece) (take m (drop n piece)), ← h.value_is) k.value_is;
+    }
 
 -- the number before the point alone
 pub natural_fits : (natural count : ℕ) → natural < 10 ^ count → count ≤ 18 → natural < 10 ^ 18

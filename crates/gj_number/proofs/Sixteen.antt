@@ -281,6 +281,9 @@ module _ (piece lanes : List ℕ) (long : 16 ≤ length piece) (fits : (k : ℕ)
   pub natural_few : natural < 16
   natural_few = found.1
 
+  pub natural_ends : IsDigit (get_or piece natural 0) → ⊥
+  natural_ends = lane_ends piece natural long (found.0 ∙ ap leading e) found.1
+
   pub natural_small : Each1 (λ x. x < 10) (replicate (16 - natural) 0 ++ take natural lanes)
   natural_small = moved_small lanes natural found.0
 

@@ -125,12 +125,15 @@ impl Digits {
         if self.pending == 0 && self.count < HEAD_DIGITS {
             self.head = self.head * 10 + digit as u64;
             self.count += 1;
+        } else if self.pending == 0 && self.count < MOST_DIGITS {
+            self.rest = self.rest * 10 + digit as u64;
+            self.count += 1;
         } else {
             self.keep_behind(digit);
         }
     }
 
-    /// The same where zeros are to be kept too, or `head` is full.
+    /// The same where zeros are to be kept too, or all are kept.
     fn keep_behind(&mut self, digit: u8)
         requires digit { digit < 10 }
         requires nonzero { digit ≢ 0 }

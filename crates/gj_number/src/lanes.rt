@@ -1,7 +1,8 @@
 //! Sixteen bytes at once.
-ghost use Rattle.std.specs.Prelude.{◌≡◌, ℕ, min, ◌-◌, ◌+◌, ◌*◌, ◌<◌, ◌≤◌, ◌++◌, List, [], ◌∷◌, length, map, take, drop, nat_le, replicate, IfSome};
+ghost use Rattle.std.specs.Prelude.{◌≡◌, ℕ, min, ◌-◌, ◌+◌, ◌*◌, ◌<◌, ◌≤◌, ◌++◌, List, [], ◌∷◌, length, map, take, drop, nat_le, replicate, IfSome, get_or};
 ghost use Rattle.std.specs.List.{fold};
 ghost use Rattle.std.specs.Simd.Lanes.{Each1, mask_l};
+ghost use Rattle.gj_number.specs.Bytes.{IsDigit};
 ghost use Rattle.gj_number.specs.Lanes.{lane_of, with_value, by_fours, leading};
 ghost use Rattle.gj_number.specs.DigitRuns.{IsRun, SpellsOn, SpellsUnsigned};
 
@@ -134,6 +135,7 @@ pub(crate) fn unsigned_prefix(piece: &[u8]) -> Option<Unsigned>
     ensures few { IfSome result (λ found. found.length < 16) }
     ensures spells { IfSome result (λ found.
         SpellsUnsigned piece.now found.natural found.fraction found.length found.value) }
+    ensures ends { IfSome result (λ found. IsDigit (get_or piece.now found.natural 0) → ⊥) }
 {
     let lanes = lanes_of(piece);
     let others = from_ten(lanes);

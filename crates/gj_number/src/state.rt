@@ -60,6 +60,15 @@ pub(crate) fn may_stand(byte: u8) -> bool
     }
 }
 
+/// Whether the byte is one that stands after nearly every number of a text. It goes on in none.
+#[inline(always)]
+#[tactic(auto, unfolding(crate::specs::Machine::class_of))]
+pub(crate) fn is_behind(byte: u8) -> bool
+    ensures { IsTrue result → class_of byte ≡ Other }
+{
+    matches!(byte, b',' | b']' | b'}') || byte <= b' '
+}
+
 /// What has been read of a number.
 #[derive(Clone, Copy)]
 pub(crate) enum State {

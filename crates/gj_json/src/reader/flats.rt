@@ -47,18 +47,26 @@ impl Reader {
         is_due(self.mode) && self.levels.len() < self.limits.depth()
     }
 
-    /// Takes an array of two or three ordinary numbers that stands whole at the start of the piece, with a comma after it
-    /// and the white space after that, and tells the array at once: how many bytes. Where none does, nothing is taken.
+    /// Takes an array of two or three ordinary numbers that stands whole at the start of the piece, in an array with a comma
+    /// after it and the white space after that, and tells it at once: how many bytes. Where none does, nothing is taken.
     #[inline(always)]
-    fn take_flat<S: EventSink>(&mut self, piece: &[u8], flat: &mut Flat, sink: &mut S) -> usize
+    fn take_flat<S: EventSink>(
+        &mut self,
+        piece: &[u8],
+        in_array: bool,
+        flat: &mut Flat,
+        sink: &mut S,
+    ) -> usize
         requires some { 0 < length piece.now }
         requires bracket { get_or piece.now 0 0 ≡ open_bracket }
         requires live { self.old.fault ≡ None }
         requires due { awaits self.old.mode ≡ true }
         requires deep { length (levels_in self.old.levels) < self.old.limits.depth }
+        requires inner { IsTrue in_array → inner_of (levels_in self.old.levels) ≡ Some Array }
         requires room { self.old.offset + length piece.now ≤ self.old.limits.bytes }
         requires small { self.old.limits.bytes ≤ 2 ^ 60 }
         ensures within { result ≤ length piece.now }
+        ensures levels { self.new.levels ≡ self.old.levels }
         ensures feeds { FeedsAll (S.heard sink.old) (S.heard sink.new) self.old self.new (take result piece.now) }
     {
         let count = read_flat(piece, self.offset, flat);
@@ -67,7 +75,7 @@ impl Reader {
         }
         sink.tell_flat(flat);
         let comma = comma_run(&piece[count..]);
-        if comma > 0 && self.is_in_array() {
+        if comma > 0 && in_array {
             return self.skip(count + comma, Mode::ValueDue);
         }
         self.skip(count, Mode::ValueDone)
@@ -83,14 +91,21 @@ impl Reader {
         ensures within { result ≤ length piece.now }
         ensures feeds { FeedsAll (S.heard sink.old) (S.heard sink.new) self.old self.new (take result piece.now) }
     {
+        if !self.may_open() {
+            return 0;
+        }
+        let in_array = self.is_in_array();
         let mut flat = Flat::blank();
         let mut at = 0;
-        while at < piece.len() && piece[at] == b'[' && self.may_open() {
-            let count = self.take_flat(&piece[at..], &mut flat, sink);
+        while at < piece.len() && piece[at] == b'[' {
+            let count = self.take_flat(&piece[at..], in_array, &mut flat, sink);
             if count == 0 {
                 return at;
             }
             at += count;
+            if !is_due(self.mode) {
+                return at;
+            }
         }
         at
     }

@@ -47,8 +47,25 @@ impl Digits {
         } else if self.count == 0 {
             self.push_small_run(piece)
         } else {
-            0
+            self.push_rest_run(piece)
         }
+    }
+
+    /// The same one by one.
+    #[inline(never)]
+    fn push_rest_run(&mut self, piece: &[u8]) -> usize
+        ensures length { result ≤ length piece.now }
+        ensures digits { All IsDigit (take result piece.now) }
+        ensures keeps { (whole fraction : ℕ) → Keeps self.old whole fraction
+            → Keeps self.new (fold with_digit whole (take result piece.now)) (fraction + result) }
+    {
+        for (taken, byte) in piece.iter().enumerate() {
+            if !byte.is_ascii_digit() {
+                return taken;
+            }
+            self.push_fraction(*byte - b'0');
+        }
+        piece.len()
     }
 
     /// The same where no digit but zeros has come.

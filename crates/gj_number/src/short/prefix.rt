@@ -4,7 +4,7 @@
 //! ([`long_number`]), so that each ordinary number is taken. An exponent moves the point of the digits before it, so a
 //! number with a small one is read as the ordinary number that it is equal to.
 ghost use Rattle.std.specs.Prelude.{◌≡◌, ◌↔◌, ℕ, ◌+◌, ◌-◌, ◌*◌, ◌^◌, ◌<◌, ◌≤◌, ◌∷◌, [], length, take, get_or, IsTrue};
-ghost use Rattle.gj_number.specs.Bytes.{zero_digit, IsExponentLetter, IsNumberByte};
+ghost use Rattle.gj_number.specs.Bytes.{zero_digit, IsDigit, IsExponentLetter, IsNumberByte};
 ghost use Rattle.gj_number.specs.Short.{exact_of, StartsWithNumber, StartsOrdinary};
 ghost use Rattle.gj_number.specs.DigitRuns.{IsRun, SpellsOn, StartsSigned};
 ghost use Rattle.gj_number.specs.Moved.{SpellsPlain};
@@ -15,11 +15,14 @@ mod tests;
 
 use super::Short;
 use crate::lanes::{first_digits, unsigned_prefix};
-use crate::state::may_stand;
+use crate::state::{is_behind, may_stand};
 use crate::tens::ten_to;
 
 /// How many digits an ordinary number has at most.
 const MOST_DIGITS: usize = 18;
+
+/// How many digits are read at once.
+const AT_ONCE: usize = 16;
 
 /// How many digits of an exponent are read at most.
 const MOST_EXPONENT_DIGITS: usize = 3;
@@ -83,7 +86,8 @@ fn read_copied(piece: &[u8], number: &mut Short) -> usize
     count
 }
 
-/// Reads the number, where it has no exponent and stands with the byte after it among the sixteen bytes after its sign.
+/// Reads the number, where it has no exponent, stands among the sixteen bytes after its sign, and one of the usual bytes
+/// stands after it.
 #[inline(always)]
 fn short_number(piece: &[u8], negative: bool, number: &mut Short) -> usize
     requires room { 40 ≤ length piece.now }
@@ -94,18 +98,16 @@ fn short_number(piece: &[u8], negative: bool, number: &mut Short) -> usize
     let Some(found) = unsigned_prefix(&piece[first..]) else {
         return 0;
     };
-    if !is_natural(piece[first], found.natural) {
+    if !leads(piece[first], found.natural) {
         return 0;
     }
     let end = first + found.length;
-    if may_stand(piece[end]) {
+    if !is_behind(piece[end]) {
         return 0;
     }
-    *number = Short {
-        digits: found.value,
-        places: found.fraction as u8,
-        negative,
-    };
+    number.digits = found.value;
+    number.places = found.fraction as u8;
+    number.negative = negative;
     end
 }
 
@@ -229,6 +231,15 @@ fn is_natural(first: u8, count: usize) -> bool
     count == 1 || count > 1 && first != b'0'
 }
 
+/// The same of digits of which each is counted.
+#[inline(always)]
+fn leads(first: u8, count: usize) -> bool
+    ensures some { IsTrue result → count ≡ 0 → IsDigit first }
+    ensures one { IsTrue result → first ≡ zero_digit → count ≡ 1 }
+{
+    count == 1 || matches!(first, b'1'..=b'9')
+}
+
 /// The digits after the point, up to the first byte that is none, where there are not too many with those before it.
 #[inline(always)]
 fn fraction_run(piece: &[u8], natural: Spelled) -> Spelled
@@ -241,18 +252,24 @@ fn fraction_run(piece: &[u8], natural: Spelled) -> Spelled
     ensures whole { (count : ℕ) → IsRun piece.now count → count ≤ 18 - natural.count → result.count ≡ count }
 {
     let (count, value) = first_digits(piece);
-    if count == 16 {
-        return first_run(piece, natural.value, MOST_DIGITS - natural.count);
-    }
     if count > MOST_DIGITS - natural.count {
         return Spelled {
             value: natural.value,
             count: 0,
         };
     }
+    let both = natural.value * ten_to(count) + value;
+    if count < AT_ONCE {
+        return Spelled { value: both, count };
+    }
+    let rest = first_run(
+        &piece[AT_ONCE..],
+        both,
+        MOST_DIGITS - AT_ONCE - natural.count,
+    );
     Spelled {
-        value: natural.value * ten_to(count) + value,
-        count,
+        value: rest.value,
+        count: AT_ONCE + rest.count,
     }
 }
 

@@ -1,17 +1,51 @@
 -- White space, a number and white space.
-use Rattle.std.proofs.Common.{◌+◌, ◌-◌, ℕ, List, drop, length, take, sym, refl, arith}
+use Rattle.std.proofs.Common.{◌≡◌, ◌<◌, ◌+◌, ◌-◌, ℕ, List, drop, length, take, sym, refl, subst, arith, length-drop}
+use Rattle.std.proofs.lemmas.List.{length-take}
+use Rattle.std.specs.List.{AllByRecursion}
+use Rattle.gj_number.specs.Exact.{Exact}
+use Rattle.gj_number.specs.Short.{StartsWithNumber, exact_of}
+use Rattle.gj_number.specs.declared.short.Short.{Short}
+use Rattle.gj_json.specs.Bytes.{IsWhite}
 use Rattle.gj_json.specs.FlatParts.{cut, IsValued}
 use Rattle.gj_json.proofs.Cutting.{cut_front}
 use Rattle.gj_json.proofs.FlatSpelled.{item_cut}
 use Rattle.gj_json.proofs.flats.read_item.Goals as goal
 
+-- the number that is read ends within the piece
+within : (piece : List ℕ) (first n : ℕ) (e : Exact) → StartsWithNumber (take (length piece - first) (drop first piece)) e n → first + n < length piece
+within piece first n e read =
+    let w = read.within in
+    omega (arith, length-take (length piece - first) (drop first piece), length-drop first piece)
+
+-- and has this value
+valued : (piece : List ℕ) (first n : ℕ) (value : Short) → StartsWithNumber (take (length piece - first) (drop first piece)) (exact_of value) n → IsValued value (cut piece first (first + n))
+valued piece first n value read =
+    let there : IsValued value (take n (take (length piece - first) (drop first piece))) = record { number = read.number; valued = sym read.value } in
+    rw (cut_front piece first n) there
+
+nothing : (piece : List ℕ) (end : ℕ) → AllByRecursion IsWhite (cut piece end end)
+nothing piece end =
+    let z : 0 ≡ end - end = omega arith in
+    let P : ℕ → Type 0 = λ n. AllByRecursion IsWhite (take n (drop end piece)) in
+    subst P z tt
+
+pub bounds-piece-end : goal.bounds-piece-end
+bounds-piece-end c = within c.args.piece.now c.white_end-first.result c.read_short-count.result _ (c.read_short-count.ensures.number (omega arith))
+
+pub returns-then-piece-end-gt32-clause-within : goal.returns-then-piece-end-gt32-clause-within
+returns-then-piece-end-gt32-clause-within c = let w = within c.args.piece.now c.white_end-first.result c.read_short-count.result _ (c.read_short-count.ensures.number (omega arith)) in omega arith
+
+pub returns-then-piece-end-gt32-clause-item : goal.returns-then-piece-end-gt32-clause-item
+returns-then-piece-end-gt32-clause-item c = λ some.
+    let piece = c.args.piece.now in
+    let first = c.white_end-first.result in
+    let end = first + c.read_short-count.result in
+    let w = within c.args.piece.now c.white_end-first.result c.read_short-count.result _ (c.read_short-count.ensures.number (omega arith)) in
+    item_cut piece c.args.start _ c.args.at first end end c.white_end-first.ensures.on (omega arith) (omega arith) (omega arith) c.white_end-first.ensures.white refl (valued piece first c.read_short-count.result _ (c.read_short-count.ensures.number (omega arith))) (nothing piece end)
+
 pub returns-clause-item : goal.returns-clause-item
 returns-clause-item c = λ some.
     let piece = c.args.piece.now in
     let first = c.white_end-first.result in
-    let n = c.read_short-count.result in
-    let read = c.read_short-count.ensures.number (omega arith) in
-    let bytes : List ℕ = take n (take (length piece - first) (drop first piece)) in
-    let there : IsValued c.read_short-count.new.number bytes = record { number = read.number; valued = sym read.value } in
-    let valued : IsValued c.read_short-count.new.number (cut piece first (first + n)) = rw (cut_front piece first n) there in
-    item_cut piece c.args.start _ c.args.at first (first + n) c.white_end.result c.white_end-first.ensures.on (omega arith) c.white_end.ensures.on c.white_end.ensures.within c.white_end-first.ensures.white refl valued c.white_end.ensures.white
+    let end = first + c.read_short-count.result in
+    item_cut piece c.args.start _ c.args.at first end c.white_end.result c.white_end-first.ensures.on (omega arith) c.white_end.ensures.on c.white_end.ensures.within c.white_end-first.ensures.white refl (valued piece first c.read_short-count.result _ (c.read_short-count.ensures.number (omega arith))) c.white_end.ensures.white

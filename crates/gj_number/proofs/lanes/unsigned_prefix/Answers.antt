@@ -3,7 +3,7 @@ use Rattle.std.proofs.Common.{◌<◌, List, ℕ, subst, sym, ◌∙◌, ap, ari
 use Rattle.std.specs.Simd.Lanes.{Each1}
 use Rattle.std.specs.List.{fold}
 use Rattle.gj_number.specs.Lanes.{with_value}
-use Rattle.gj_number.proofs.Sixteen.{natural_few, natural_small, natural_spell, both_few, both_small, both_spell}
+use Rattle.gj_number.proofs.Sixteen.{natural_few, natural_ends, natural_small, natural_spell, both_few, both_small, both_spell}
 use Rattle.gj_number.proofs.lanes.unsigned_prefix.Goals as goal
 
 pub bounds-piece-natural : goal.bounds-piece-natural
@@ -57,3 +57,11 @@ pub returns-clause-spells : goal.returns-clause-spells
 returns-clause-spells c =
     both_spell c.args.piece.now _ c.requires c.type_inv.piece c.lanes_of-lanes.ensures _ c.from_ten-others.ensures c.if-others-eq0.false c.if-rest-eq0.false _
     (c.number_of-2.ensures ∙ ap (fold with_value 0) (rw c.without_lane.ensures at c.moved_to_end-2.ensures)) c.if-piece-natural-ne46.false c.if-fraction-eq0.false
+
+pub returns-then-piece-natural-ne46-clause-ends : goal.returns-then-piece-natural-ne46-clause-ends
+returns-then-piece-natural-ne46-clause-ends c =
+    natural_ends c.args.piece.now _ c.requires c.type_inv.piece c.lanes_of-lanes.ensures _ c.from_ten-others.ensures c.if-others-eq0.false
+
+pub returns-clause-ends : goal.returns-clause-ends
+returns-clause-ends c =
+    natural_ends c.args.piece.now _ c.requires c.type_inv.piece c.lanes_of-lanes.ensures _ c.from_ten-others.ensures c.if-others-eq0.false

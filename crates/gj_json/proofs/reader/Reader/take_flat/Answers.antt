@@ -3,13 +3,13 @@ use Rattle.std.proofs.Common.{arith}
 use Rattle.gj_json.proofs.FlatFeeds.{flat_taken, comma_taken}
 use Rattle.gj_json.proofs.reader.Reader.take_flat.Goals as goal
 
-pub returns-then-is_in_array-clause-feeds : goal.returns-then-is_in_array-clause-feeds
-returns-then-is_in_array-clause-feeds g c =
+pub returns-then-in_array-clause-feeds : goal.returns-then-in_array-clause-feeds
+returns-then-in_array-clause-feeds g c =
     let read = c.read_flat-count in
     let run = c.comma_run-comma in
     rw (c.skip.ensures.count)
     (comma_taken c.args.self.now c.skip.new.self read.new.flat c.args.piece.now read.result run.result c.requires.live c.requires.due c.requires.deep c.requires.room read.ensures.within (read.ensures.flat (omega arith)) c.if-comma-gt0.true run.ensures.within (run.ensures.comma c.if-comma-gt0.true)
-    (run.ensures.white c.if-comma-gt0.true) (c.is_in_array.ensures c.if-is_in_array.true) c.skip.ensures.passed (λ events h. c.tell_flat.ensures events h))
+    (run.ensures.white c.if-comma-gt0.true) (c.requires.inner c.if-in_array.true) c.skip.ensures.passed (λ events h. c.tell_flat.ensures events h))
 
 pub returns-clause-feeds : goal.returns-clause-feeds
 returns-clause-feeds g c =

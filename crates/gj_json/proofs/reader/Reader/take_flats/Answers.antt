@@ -1,15 +1,25 @@
 -- The arrays, one behind another.
-use Rattle.std.proofs.Common.{◌≡◌, ◌+◌, ℕ, take, subst, arith}
+use Rattle.std.proofs.Common.{◌≡◌, ◌∙◌, sym, ◌+◌, ℕ, take, subst, arith}
 use Rattle.gj_json.specs.Feeding.{FeedsAll}
 use Rattle.gj_json.proofs.Feeding
 use Rattle.gj_json.proofs.Slices.{more_within}
 use Rattle.gj_json.proofs.reader.Reader.take_flats.Goals as goal
+
+pub take_flat-count-requires-clause-deep : goal.take_flat-count-requires-clause-deep
+take_flat-count-requires-clause-deep g c =
+    let deep = c.may_open.ensures.deep c.if-not-may_open.false in
+    rw (c.loop-at.invariant.levels, c.loop-at.invariant.fed.feeds.limits) deep
+
+pub take_flat-count-requires-clause-inner : goal.take_flat-count-requires-clause-inner
+take_flat-count-requires-clause-inner g c = λ inside. rw (c.loop-at.invariant.levels) (c.is_in_array-in_array.ensures inside)
 
 pub loop-at-preserved : goal.loop-at-preserved
 loop-at-preserved g c = record {
   within = more_within c.args.piece.now c.loop-at.at c.take_flat-count.result c.loop-at.invariant.within c.take_flat-count.ensures.within;
   fed = Feeding.piece_all c.args.self.now c.loop-at.self c.take_flat-count.new.self c.args.piece.now c.loop-at.at c.take_flat-count.result c.loop-at.invariant.fed
       (Feeding.rest_all c.loop-at.self c.take_flat-count.new.self c.args.piece.now c.loop-at.at c.take_flat-count.result c.take_flat-count.ensures.feeds);
+  due = sym c.is_due.ensures ∙ c.if-not-is_due.false;
+  levels = c.take_flat-count.ensures.levels ∙ c.loop-at.invariant.levels;
 }
 
 pub returns-then-count-eq0-clause-feeds : goal.returns-then-count-eq0-clause-feeds
@@ -19,3 +29,8 @@ returns-then-count-eq0-clause-feeds g c =
     subst P e
     (Feeding.piece_all c.args.self.now c.loop-at.self c.take_flat-count.new.self c.args.piece.now c.loop-at.at c.take_flat-count.result c.loop-at.invariant.fed
     (Feeding.rest_all c.loop-at.self c.take_flat-count.new.self c.args.piece.now c.loop-at.at c.take_flat-count.result c.take_flat-count.ensures.feeds))
+
+pub returns-then-not-is_due-clause-feeds : goal.returns-then-not-is_due-clause-feeds
+returns-then-not-is_due-clause-feeds g c =
+    Feeding.piece_all c.args.self.now c.loop-at.self c.take_flat-count.new.self c.args.piece.now c.loop-at.at c.take_flat-count.result c.loop-at.invariant.fed
+    (Feeding.rest_all c.loop-at.self c.take_flat-count.new.self c.args.piece.now c.loop-at.at c.take_flat-count.result c.take_flat-count.ensures.feeds)

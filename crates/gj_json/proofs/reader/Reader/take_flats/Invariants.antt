@@ -1,11 +1,14 @@
-use Rattle.std.proofs.Common.{◌≤◌, ◌-◌, length, take}
+use Rattle.std.proofs.Common.{◌≡◌, true, ◌≤◌, ◌-◌, length, take}
 use Rattle.gj_json.specs.Feeding.{FeedsAll}
+use Rattle.gj_json.specs.FlatParts.{awaits}
 use Rattle.gj_json.proofs.reader.Reader.take_flats.Given as goal
 
 abbrev pub invariant-loop-at : goal.invariant-loop-at
 invariant-loop-at g l = record {
   within : l.at ≤ length l.piece;
   fed : FeedsAll (g.S.EventSink.heard l.fn.sink) (g.S.EventSink.heard l.sink) l.fn.self l.self (take l.at l.piece);
+  due : awaits l.self.mode ≡ true;
+  levels : l.self.levels ≡ l.fn.self.levels;
 }
 
 abbrev pub decreases-loop-at : goal.decreases-loop-at

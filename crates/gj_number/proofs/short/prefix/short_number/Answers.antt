@@ -1,8 +1,8 @@
-use Rattle.std.proofs.Common.{◌+◌, ◌≤◌, List, ℕ, subst, refl, arith}
+use Rattle.std.proofs.Common.{◌+◌, ◌≤◌, List, ℕ, subst, arith}
 use mir.Val.{bool_byte}
 use Rattle.gj_number.specs.DigitRuns.{SpellsUnsigned}
 use Rattle.gj_number.proofs.Fronts.{rest_is}
-use Rattle.gj_number.proofs.Prefix.{sign_at, sign_length, one_of, short_small, short_plain}
+use Rattle.gj_number.proofs.Prefix.{sign_at, sign_length, one_of, first_some, short_small, short_plain}
 use Rattle.gj_number.proofs.Exponents.{plain_front}
 use Rattle.gj_number.proofs.short.prefix.short_number.Goals as goal
 
@@ -14,22 +14,24 @@ invariant_of-number c =
     let k : first ≤ 1 = sign_length negative in
     let found = c.in-Some.found in
     let P : List ℕ → Type 0 = λ xs. SpellsUnsigned xs found.natural found.fraction found.length found.value in
-    let natural = c.is_natural.ensures.0 c.if-not-is_natural.false in
-    let small = short_small piece negative first found.natural found.fraction found.length found.value (sign_at piece negative c.requires.sign (omega arith)) (subst P (rest_is piece first) c.in-Some.ensures.spells) natural.0 (one_of piece first found.natural natural.1) c.in-Some.ensures.few (omega arith) in
+    let some = first_some piece first found.natural c.in-Some.ensures.ends (c.leads.ensures.some c.if-not-leads.false) in
+    let lead = c.leads.ensures.one c.if-not-leads.false in
+    let small = short_small piece negative first found.natural found.fraction found.length found.value (sign_at piece negative c.requires.sign (omega arith)) (subst P (rest_is piece first) c.in-Some.ensures.spells) some (one_of piece first found.natural lead) c.in-Some.ensures.few (omega arith) in
     record { small = small.1; few = (let l = small.0 in omega arith) }
 
 pub returns : goal.returns
-returns c = λ some.
+returns c = λ positive.
     let piece = c.args.piece.now in
     let negative = c.args.negative in
     let first = bool_byte negative in
     let k : first ≤ 1 = sign_length negative in
     let found = c.in-Some.found in
     let P : List ℕ → Type 0 = λ xs. SpellsUnsigned xs found.natural found.fraction found.length found.value in
-    let natural = c.is_natural.ensures.0 c.if-not-is_natural.false in
+    let some = first_some piece first found.natural c.in-Some.ensures.ends (c.leads.ensures.some c.if-not-leads.false) in
+    let lead = c.leads.ensures.one c.if-not-leads.false in
     let spells = subst P (rest_is piece first) c.in-Some.ensures.spells in
     let sign = sign_at piece negative c.requires.sign (omega arith) in
-    let one = one_of piece first found.natural natural.1 in
-    let small = short_small piece negative first found.natural found.fraction found.length found.value sign spells natural.0 one c.in-Some.ensures.few (omega arith) in
-    plain_front piece negative found.value found.fraction (first + found.length) (short_plain piece negative first found.natural found.fraction found.length found.value sign spells natural.0 one c.in-Some.ensures.few (omega arith))
-    small.1 (let l = small.0 in omega arith) (let f = c.in-Some.ensures.few in omega arith) (c.if-may_stand.ensures.class refl)
+    let one = one_of piece first found.natural lead in
+    let small = short_small piece negative first found.natural found.fraction found.length found.value sign spells some one c.in-Some.ensures.few (omega arith) in
+    plain_front piece negative found.value found.fraction (first + found.length) (short_plain piece negative first found.natural found.fraction found.length found.value sign spells some one c.in-Some.ensures.few (omega arith))
+    small.1 (let l = small.0 in omega arith) (let f = c.in-Some.ensures.few in omega arith) (c.is_behind.ensures c.if-not-is_behind.false)
