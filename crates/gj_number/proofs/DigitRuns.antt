@@ -1,10 +1,11 @@
 -- A run of digits is found by its end.
-use Rattle.std.proofs.Common.{◌≡◌, ℕ, ◌<◌, ◌≤◌, List, length, take, get_or, All, inl, inr, subst, arith}
+use Rattle.std.proofs.Common.{◌≡◌, ℕ, ◌<◌, ◌≤◌, List, [], ◌∷◌, length, take, get_or, All, fold, inl, inr, refl, subst, arith}
 use Rattle.std.proofs.lemmas.Bool.{cases_lt}
 use Rattle.std.proofs.lemmas.List.{get_or-take, length-take-le}
 use Rattle.std.proofs.lemmas.List.Elements.{All-get_or}
 use Rattle.gj_number.specs.Bytes.{IsDigit}
 use Rattle.gj_number.specs.DigitRuns.{IsRun}
+use Rattle.gj_number.specs.Value.{with_digit}
 
 pub digit_at : (xs : List ℕ) (n i : ℕ) → i < n → n ≤ length xs → All IsDigit (take n xs) → IsDigit (get_or xs i 0)
 digit_at xs n i l w h =
@@ -19,3 +20,8 @@ run_found xs n k w h next r = elim (cases_lt n k) [
   | inl l ↦ absurd (next l (digit_at xs k n l (let v = r.within in omega arith) r.digits))
   | inr m ↦ elim (cases_lt k n) [ inl l ↦ absurd (r.ends (digit_at xs n k l w h)) | inr o ↦ omega arith ]
 ]
+
+-- digits behind a number make it no less
+pub fold_grows : (n : ℕ) (digits : List ℕ) → n ≤ fold with_digit n digits
+fold_grows n [] = omega arith
+fold_grows n (b ∷ digits) = let more = fold_grows (with_digit n b) digits in omega arith
