@@ -42,10 +42,10 @@ take_six (a ∷ b ∷ c ∷ d ∷ e ∷ f ∷ xs) h = refl
 
 -- ---- in UTF-8
 
-two : (a b : ℕ) → 0xC2 ≤ a → a ≤ 0xDF → 0x80 ≤ b → b ≤ 0xBF → IsCharacter (a ∷ b ∷ [])
+pub two : (a b : ℕ) → 0xC2 ≤ a → a ≤ 0xDF → 0x80 ≤ b → b ≤ 0xBF → IsCharacter (a ∷ b ∷ [])
 two a b l u p q = ((a - 0xC0) * 64 + b % 64, inr (inr (inr (a, b ∷ [], _, refl, lead_two a (omega arith) u, (b, refl, p, q, refl)))))
 
-three : (a b c : ℕ) → 0xE0 ≤ a → a ≤ 0xEF → 0x80 ≤ b → b ≤ 0xBF → 0x80 ≤ c → c ≤ 0xBF → (a ≡ 0xE0 → 0xA0 ≤ b) → (a ≡ 0xED → b ≤ 0x9F) → IsCharacter (a ∷ b ∷ c ∷ [])
+pub three : (a b c : ℕ) → 0xE0 ≤ a → a ≤ 0xEF → 0x80 ≤ b → b ≤ 0xBF → 0x80 ≤ c → c ≤ 0xBF → (a ≡ 0xE0 → 0xA0 ≤ b) → (a ≡ 0xED → b ≤ 0x9F) → IsCharacter (a ∷ b ∷ c ∷ [])
 three a b c l u p q r s f g = elim (cases_eq a 0xE0) [
   | inl e ↦ ((0 * 64 + b % 64) * 64 + c % 64, inr (inr (inr (a, b ∷ c ∷ [], _, refl, lead_e0 a e, (b, c ∷ [], refl, f e, q, (c, refl, r, s, refl))))))
   | inr m ↦ elim (cases_lt a 0xED) [

@@ -11,6 +11,9 @@ pub mod Texts
 pub mod Closing
 pub mod Slices
 pub mod ByLanes
+pub mod WideLanes
+pub mod WideRuns
+pub mod WideCharacters
 pub mod QuietLemmas
 pub mod Utf8Texts
 pub mod CharacterSpelled

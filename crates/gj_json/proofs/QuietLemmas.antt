@@ -77,7 +77,7 @@ white_run mode h xs = all_run is_white (IsQuiet mode) (quiet_white mode h) xs
 
 -- ---- one front of a piece after another
 
-joined : (a b c : StringState) (xs ys cs ds : List ℕ) → Reads a xs cs b → Reads b ys ds c → Reads a (xs ++ ys) (cs ++ ds) c
+pub joined : (a b c : StringState) (xs ys cs ds : List ℕ) → Reads a xs cs b → Reads b ys ds c → Reads a (xs ++ ys) (cs ++ ds) c
 joined a b c [] ys cs ds h g = let P : StringState → Type 0 = λ s. Reads s ys ds c in rw (h.1) (subst P (sym h.0) g)
 joined a b c (x ∷ xs) ys cs ds h g = (h.0, h.1, h.2 ++ ds, h.3, ap (λ zs. zs ++ ds) h.4 ∙ append_assoc h.1 h.2 ds, joined h.0 b c xs ys h.2 ds h.5 g)
 

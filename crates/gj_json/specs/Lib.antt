@@ -25,6 +25,7 @@ pub mod Under
 pub mod Stands
 pub mod Runs
 pub mod Quiet
+pub mod Wide
 pub mod Step
 pub mod Trail
 pub mod Ignored

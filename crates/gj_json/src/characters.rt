@@ -1,20 +1,19 @@
 //! Characters of a string that stand whole at the start of a piece (RFC 8259, section 7; RFC 3629, section 4).
 
-ghost use Rattle.std.specs.Prelude.{◌≡◌, ◌≤◌, ◌<◌, is_some, true, length, take, get_or};
+ghost use Rattle.std.specs.Prelude.{◌≡◌, ◌≤◌, ◌<◌, ◌-◌, is_some, true, length, take, get_or};
 ghost use Rattle.gj_json.specs.Bytes.{backslash};
 ghost use Rattle.gj_json.specs.Characters.{escape_of, hex_of};
 ghost use Rattle.gj_json.specs.Tokens.{IsCharacter, AreCharacters};
 
-use crate::lanes::{ascii_run, plain_run};
-use crate::runs::whole_characters;
-
-/// Of so many bytes, and behind so many, unescaped characters are looked at by many at a time.
-const MANY: usize = 256;
+use crate::lanes::ascii_run;
+use crate::wide::{end_of_wide, is_tail};
 
 /// How many bytes the character has that the piece starts with, in UTF-8 of several bytes, or 0.
 #[inline(always)]
 fn wide_character(piece: &[u8]) -> usize
     ensures within { result ≤ length piece.now }
+    ensures several { 0 < result → 2 ≤ result }
+    ensures last { 0 < result → get_or piece.now (result - 1) 0 ≤ 0xBF }
     ensures character { 0 < result → IsCharacter (take result piece.now) }
 {
     if piece.len() < 4 {
@@ -52,49 +51,41 @@ fn wide_character(piece: &[u8]) -> usize
     }
 }
 
+/// What a byte may be in an escape: 1 for a hexadecimal digit, 2 for what makes an escape of two bytes, 3 for both.
+static IN_ESCAPES: [u8; 256] = [
+    0, 0, 0, 0, 0, 0, 0, 0, 0, 0, 0, 0, 0, 0, 0, 0, 0, 0, 0, 0, 0, 0, 0, 0, 0, 0, 0, 0, 0, 0, 0, 0,
+    0, 0, 2, 0, 0, 0, 0, 0, 0, 0, 0, 0, 0, 0, 0, 2, 1, 1, 1, 1, 1, 1, 1, 1, 1, 1, 0, 0, 0, 0, 0, 0,
+    0, 1, 1, 1, 1, 1, 1, 0, 0, 0, 0, 0, 0, 0, 0, 0, 0, 0, 0, 0, 0, 0, 0, 0, 0, 0, 0, 0, 2, 0, 0, 0,
+    0, 1, 3, 1, 1, 1, 3, 0, 0, 0, 0, 0, 0, 0, 2, 0, 0, 0, 2, 0, 2, 0, 0, 0, 0, 0, 0, 0, 0, 0, 0, 0,
+    0, 0, 0, 0, 0, 0, 0, 0, 0, 0, 0, 0, 0, 0, 0, 0, 0, 0, 0, 0, 0, 0, 0, 0, 0, 0, 0, 0, 0, 0, 0, 0,
+    0, 0, 0, 0, 0, 0, 0, 0, 0, 0, 0, 0, 0, 0, 0, 0, 0, 0, 0, 0, 0, 0, 0, 0, 0, 0, 0, 0, 0, 0, 0, 0,
+    0, 0, 0, 0, 0, 0, 0, 0, 0, 0, 0, 0, 0, 0, 0, 0, 0, 0, 0, 0, 0, 0, 0, 0, 0, 0, 0, 0, 0, 0, 0, 0,
+    0, 0, 0, 0, 0, 0, 0, 0, 0, 0, 0, 0, 0, 0, 0, 0, 0, 0, 0, 0, 0, 0, 0, 0, 0, 0, 0, 0, 0, 0, 0, 0,
+];
+
 #[inline(always)]
-#[tactic(auto, unfolding(crate::specs::Characters::hex_of))]
 fn is_hexadecimal(byte: u8) -> bool
     ensures { result ≡ is_some (hex_of byte) }
 {
-    match byte {
-        b'0'..=b'9' => true,
-        b'A'..=b'F' => true,
-        b'a'..=b'f' => true,
-        _ => false,
-    }
+    IN_ESCAPES[byte as usize] % 2 == 1
 }
 
 /// Whether the byte after a backslash makes an escape of two bytes.
 #[inline(always)]
-#[tactic(auto, unfolding(crate::specs::Characters::escape_of))]
 fn is_short(byte: u8) -> bool
     ensures { result ≡ is_some (escape_of byte) }
 {
-    match byte {
-        b'"' => true,
-        b'\\' => true,
-        b'/' => true,
-        b'b' => true,
-        b'f' => true,
-        b'n' => true,
-        b'r' => true,
-        b't' => true,
-        _ => false,
-    }
+    IN_ESCAPES[byte as usize] >= 2
 }
 
 /// How many bytes the escape has that the piece starts with, or 0.
 #[inline(always)]
 fn escape(piece: &[u8]) -> usize
-    requires some { 0 < length piece.now }
+    requires some { 6 ≤ length piece.now }
     requires begins { get_or piece.now 0 0 ≡ backslash }
     ensures within { result ≤ length piece.now }
     ensures character { 0 < result → IsCharacter (take result piece.now) }
 {
-    if piece.len() < 6 {
-        return 0;
-    }
     if piece[1] != b'u' {
         return if is_short(piece[1]) { 2 } else { 0 };
     }
@@ -109,34 +100,58 @@ fn escape(piece: &[u8]) -> usize
     }
 }
 
-/// How many bytes the unescaped characters have that the piece starts with, by many at a time where there are many.
-#[inline(never)]
+/// How many bytes the escapes have that the piece starts with, as long as six bytes are left of it.
+#[inline(always)]
+fn escapes_run(piece: &[u8]) -> usize
+    ensures within { result ≤ length piece.now }
+    ensures characters { AreCharacters (take result piece.now) }
+{
+    let mut at = 0;
+    while piece.len() - at >= 6 && piece[at] == b'\\' {
+        let count = escape(&piece[at..]);
+        if count == 0 {
+            return at;
+        }
+        at += count;
+    }
+    at
+}
+
+/// How many bytes the characters have that stand whole at the start of the piece, unescaped, the first of several bytes. A
+/// last one that the piece ends soon after may be left out.
+#[inline(always)]
 fn wide_run(piece: &[u8]) -> usize
     ensures within { result ≤ length piece.now }
     ensures characters { AreCharacters (take result piece.now) }
 {
-    if plain_run(piece) < MANY {
-        wide_character(piece)
+    let first = wide_character(piece);
+    if first == 0 || first == piece.len() || is_tail(piece[first]) || piece[first] >= 0xF0 {
+        return first;
+    }
+    let end = first - 1 + end_of_wide(&piece[first - 1..]);
+    if !is_tail(piece[end]) {
+        end
+    } else if !is_tail(piece[end - 1]) {
+        end - 1
     } else {
-        whole_characters(piece)
+        end - 2
     }
 }
 
 /// How many bytes some characters have that stand whole at the start of the piece, or 0.
 #[inline(always)]
-fn some_characters(piece: &[u8], has_many: bool) -> usize
+fn some_characters(piece: &[u8]) -> usize
     requires some { 0 < length piece.now }
     ensures within { result ≤ length piece.now }
     ensures characters { AreCharacters (take result piece.now) }
 {
     if piece[0] == b'\\' {
-        escape(piece)
+        let escaped = escapes_run(piece);
+        escaped + ascii_run(&piece[escaped..])
     } else if piece[0] < 0x80 {
         ascii_run(piece)
-    } else if has_many {
-        wide_run(piece)
     } else {
-        wide_character(piece)
+        wide_run(piece)
     }
 }
 
@@ -149,7 +164,7 @@ pub fn characters_run(piece: &[u8]) -> usize
 {
     let mut at = 0;
     while at < piece.len() {
-        let count = some_characters(&piece[at..], at >= MANY);
+        let count = some_characters(&piece[at..]);
         if count == 0 {
             return at;
         }
@@ -187,6 +202,20 @@ mod tests {
             let mut bytes = [b'"'; 24];
             bytes[..row.len()].copy_from_slice(row);
             assert!(rt; characters_run(&bytes) == count);
+        }
+    }
+    /// Characters of one to three bytes one after another, with a quote at each place: those before it that are whole.
+    #[test]
+    fn whole_characters_before_a_quote(rt: HostRuntime) {
+        let row = b"\xC3\xA9\xE6\x9D\xB1x";
+        let behind = [0usize, 1, 0, 1, 2, 0];
+        for at in 0..=90usize {
+            let mut bytes = [b' '; 96];
+            for index in 0..96usize {
+                bytes[index] = row[index % 6];
+            }
+            bytes[at] = b'"';
+            assert_eq!(rt; characters_run(&bytes), at - behind[at % 6], "{at}");
         }
     }
 }

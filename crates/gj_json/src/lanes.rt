@@ -9,7 +9,7 @@ ghost use Rattle.gj_json.specs.Runs.{is_unescaped};
 use std::simd::prelude::*;
 
 /// How many bytes are looked at together.
-const LANES: usize = 16;
+pub const LANES: usize = 16;
 
 /// Whether the byte is a character by itself.
 fn is_plain(byte: u8) -> bool

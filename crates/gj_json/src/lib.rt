@@ -30,6 +30,7 @@ mod strings;
 mod tokens;
 mod told;
 mod trail;
+mod wide;
 
 pub use event::{Event, What};
 pub use fault::{Cause, JsonFault};

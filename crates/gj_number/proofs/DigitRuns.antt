@@ -1,11 +1,12 @@
 -- A run of digits is found by its end.
-use Rattle.std.proofs.Common.{◌≡◌, ℕ, ◌+◌, ◌-◌, ◌∙◌, ap, ◌<◌, ◌≤◌, List, length, take, drop, get_or, All, inl, inr, subst, arith, length-drop}
+use Rattle.std.proofs.Common.{◌≡◌, ℕ, ◌+◌, ◌-◌, ◌∙◌, ap, ◌<◌, ◌≤◌, List, [], ◌∷◌, length, take, drop, get_or, All, fold, inl, inr, subst, arith, length-drop}
 use Rattle.std.proofs.lemmas.Bool.{cases_lt}
 use Rattle.std.proofs.lemmas.List.{get_or-take, get_or-drop, drop-take, length-take-le}
 use Rattle.std.proofs.lemmas.List.Elements.{All-get_or, All-drop}
 use Rattle.gj_number.specs.Bytes.{IsDigit}
 use Rattle.gj_number.specs.DigitRuns.{IsRun}
 use Rattle.gj_number.proofs.Fronts.{rest_is}
+use Rattle.gj_number.specs.Value.{with_digit}
 
 pub digit_at : (xs : List ℕ) (n i : ℕ) → i < n → n ≤ length xs → All IsDigit (take n xs) → IsDigit (get_or xs i 0)
 digit_at xs n i l w h =
@@ -34,3 +35,8 @@ rest_of_run xs i k le r =
       digits = subst Q (drop-take i (k - i) xs) (subst P split (All-drop IsDigit i (take k xs) r.digits));
       ends = λ d. r.ends (rw (← at) d);
     })
+
+-- digits behind a number make it no less
+pub fold_grows : (n : ℕ) (digits : List ℕ) → n ≤ fold with_digit n digits
+fold_grows n [] = omega arith
+fold_grows n (b ∷ digits) = let more = fold_grows (with_digit n b) digits in omega arith

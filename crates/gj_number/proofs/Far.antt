@@ -1,8 +1,12 @@
 -- Numbers that are not held, whatever digits follow and with whatever exponent.
-use Rattle.std.proofs.Common.{zero, suc, ◌≡◌, ◌≢◌, ℕ, ◌+◌, ◌*◌, ◌%◌, ◌^◌, ◌<◌, ◌≤◌, ◌⊎◌, inl, inr, arith}
+use Rattle.std.proofs.Common.{zero, suc, ◌≡◌, ◌≢◌, ℕ, ◌+◌, ◌-◌, ◌*◌, ◌%◌, ◌^◌, ◌<◌, ◌≤◌, ◌⊎◌, inl, inr, List, [], ◌∷◌, length, fold, All, arith}
+use Rattle.std.specs.List.{AllByRecursion}
+use Rattle.std.proofs.lemmas.List.Elements.{recursion_from_All}
 use Rattle.std.proofs.Math.Nat.{pow-suc, mul-le-mul_left, mul-le-mul_right, pow-le-pow_right}
 use Rattle.std.proofs.Math.Numerals.{add-one}
-use Rattle.gj_number.specs.Kept.{IsFar}
+use Rattle.gj_number.specs.Bytes.{zero_digit, IsDigit}
+use Rattle.gj_number.specs.Kept.{IsFar, IsKept}
+use Rattle.gj_number.specs.Value.{with_digit}
 use Rattle.gj_number.proofs.Normal.{ten_above_zero}
 
 -- a number that ends in no zero is its own digits
@@ -62,3 +66,30 @@ far_fraction whole fraction (suc d) k h = ends_here whole (suc d) (fraction + 1)
     | inr f ↦ inr (omega arith)
   ]
 ])
+
+-- ---- digits in a row
+
+far_naturals : (whole : ℕ) (digits : List ℕ) → AllByRecursion IsDigit digits → IsFar whole 0 → IsFar (fold with_digit whole digits) 0
+far_naturals whole [] h far = far
+far_naturals whole (b ∷ digits) h far = far_naturals (with_digit whole b) digits h.1 (far_natural whole (b - zero_digit) (let low = h.0.0 in let high = h.0.1 in omega arith) far)
+
+far_fractions : (whole fraction n : ℕ) (digits : List ℕ) → n ≡ fraction + length digits → AllByRecursion IsDigit digits → IsFar whole fraction → IsFar (fold with_digit whole digits) n
+far_fractions whole fraction n [] e h far = let f : n ≡ fraction = omega arith in rw f far
+far_fractions whole fraction n (b ∷ digits) e h far =
+    far_fractions (with_digit whole b) (fraction + 1) n digits (omega arith) h.1 (far_fraction whole fraction (b - zero_digit) (let low = h.0.0 in let high = h.0.1 in omega arith) far)
+
+-- where the number is not held, what is kept is of use
+far_of : (kept count pending places whole fraction : ℕ) → count ≡ 31 → IsKept kept count pending places whole fraction → IsFar whole fraction
+far_of kept count pending places whole fraction e h = elim h [
+  | inl n ↦ absurd (let z = n.none in omega arith)
+  | inr o ↦ elim o [ inl d ↦ absurd (let f = d.few in omega arith) | inr l ↦ l.1 ]
+]
+
+-- and digits behind it change nothing
+pub passed_natural : (kept count pending places whole : ℕ) (digits : List ℕ) → count ≡ 31 → All IsDigit digits → IsKept kept count pending places whole 0 → IsKept kept count pending places (fold with_digit whole digits) 0
+passed_natural kept count pending places whole digits e h old = inr (inr (e, far_naturals whole digits (recursion_from_All IsDigit digits h) (far_of kept count pending places whole 0 e old)))
+
+pub passed_fraction : (kept count pending places whole fraction n : ℕ) (digits : List ℕ) → count ≡ 31 → n ≡ fraction + length digits → All IsDigit digits → IsKept kept count pending places whole fraction
+    → IsKept kept count pending places (fold with_digit whole digits) n
+passed_fraction kept count pending places whole fraction n digits e len h old =
+    inr (inr (e, far_fractions whole fraction n digits len (recursion_from_All IsDigit digits h) (far_of kept count pending places whole fraction e old)))

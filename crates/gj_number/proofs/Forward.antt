@@ -30,7 +30,7 @@ fraction_run negative n k m minus x [] e h = let f : k ≡ m = omega arith in ap
 fraction_run negative n k m minus x (b ∷ digits) e h =
     (InFraction, digit_goes InFraction InFraction b refl refl h.0, fraction_run negative (with_digit n b) (k + 1) m minus x digits (omega arith) h.1)
 
-exponent_run : (negative : Bool) (n k : ℕ) (minus : Bool) (x : ℕ) (digits : List ℕ) → AllByRecursion IsDigit digits
+pub exponent_run : (negative : Bool) (n k : ℕ) (minus : Bool) (x : ℕ) (digits : List ℕ) → AllByRecursion IsDigit digits
     → Reaches (at InExponent negative n k minus x) digits (at InExponent negative n k minus (fold with_digit x digits))
 exponent_run negative n k minus x [] h = refl
 exponent_run negative n k minus x (b ∷ digits) h = (InExponent, digit_goes InExponent InExponent b refl refl h.0, exponent_run negative n k minus (with_digit x b) digits h.1)

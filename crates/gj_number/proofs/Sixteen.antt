@@ -9,7 +9,7 @@ use Rattle.std.proofs.Math.Numerals.{one-add}
 use Rattle.std.proofs.lemmas.Bool.Decides.{leb_tells}
 use Rattle.std.proofs.Math.Nat.{div-one, zero-div, pow-suc, div-div-eq-div-mul}
 use Rattle.std.proofs.Math.Seq.{take-append-add}
-use Rattle.std.proofs.lemmas.List.{take-map, take-take, length-take-le, length-map, get_or-map, get_or-take, drop-map, drop-take, map-append, take-append-le}
+use Rattle.std.proofs.lemmas.List.{take-map, take-take, length-take-le, length-map, get_or-map, get_or-take, get_or-drop, drop-map, drop-take, map-append, take-append-le}
 use Rattle.std.proofs.lemmas.List.Elements.{All-from_recursion, All-nil}
 use Rattle.std.proofs.lemmas.List.Sums.{prefix_len-le-length, prefix_len_stops}
 use Rattle.std.proofs.lemmas.Simd.{zip2_splat, leading_from_mask_l, trailing_mask_l, chunk-fits, Each1-replicate, swz_l, SwzOk, SwzOk-from_Each1, Each1-chunk, length-chunk}
@@ -19,6 +19,8 @@ use Rattle.gj_number.specs.DigitRuns.{IsRun, SpellsOn, SpellsUnsigned}
 use Rattle.gj_number.specs.Value.{with_digit}
 use Rattle.gj_number.proofs.Prefix.{digit_byte}
 use Rattle.gj_number.proofs.DigitRuns.{digit_at, run_found}
+use Rattle.gj_number.proofs.Fronts.{rest_is}
+use Rattle.gj_number.proofs.Running.{parts_digits}
 use Rattle.gj_number.specs.Lanes.{lane_of, with_value, by_fours, leading}
 
 -- ---- four digits
@@ -174,6 +176,16 @@ run_whole piece lanes n count long e f few digits r =
       | inl l ↦ (let k = run_found piece n count (omega arith) digits (λ m. ends (omega arith)) r in omega arith)
       | inr m ↦ elim (cases_lt n 16) [ inl l ↦ absurd (ends l (digit_at piece count n (omega arith) (omega arith) r.digits)) | inr k ↦ omega arith ]
     ]
+
+-- digits in more lanes
+pub digits_on : (piece lanes : List ℕ) (at count : ℕ) → at + 16 ≤ length piece → ((k : ℕ) → Fits w8 (get_or piece k 0)) → lanes ≡ map lane_of (take 16 (take (length piece - at) (drop at piece))) → count ≡ leading lanes → count ≤ 16
+    → All IsDigit (take at piece) → All IsDigit (take (at + count) piece)
+digits_on piece lanes at count long fits e c few front =
+    let rest = drop at piece in
+    let fits_on : (k : ℕ) → Fits w8 (get_or rest k 0) = λ k. rw (get_or-drop at piece k 0) (fits (at + k)) in
+    let same : lanes ≡ map lane_of (take 16 rest) = e ∙ ap (λ xs. map lane_of (take 16 xs)) (rest_is piece at) in
+    let spelled = first_spell rest lanes count _ (omega (arith, length-drop at piece)) fits_on same c few refl in
+    parts_digits piece at count front spelled.digits
 
 -- ---- digits, a byte, and digits
 

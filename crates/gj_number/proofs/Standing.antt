@@ -8,11 +8,11 @@ use Rattle.gj_number.specs.Machine.{class_of, next_of, may_end_in, Scan, start, 
 use Rattle.gj_number.proofs.Reaching.{one_scan, reaches_on, reaches_part, ending}
 use Rattle.gj_number.proofs.Rest.{rest_is}
 use Rattle.gj_number.proofs.Spelled.{parts_of}
-use Rattle.gj_number.proofs.Forward.{parts_reach, Says, at, natural_run, fraction_run}
+use Rattle.gj_number.proofs.Forward.{parts_reach, Says, at, natural_run, fraction_run, exponent_run}
 use Rattle.std.specs.List.{All, fold}
 use Rattle.std.proofs.lemmas.List.Elements.{recursion_from_All}
 use Rattle.gj_number.specs.Bytes.{decimal_point, IsDigit}
-use Rattle.gj_number.specs.declared.state.State.TheVariants.{InNatural, AfterPoint, InFraction}
+use Rattle.gj_number.specs.declared.state.State.TheVariants.{InNatural, AfterPoint, InFraction, InExponent}
 use Rattle.gj_number.specs.declared.state.Class.TheVariants.{Point}
 use Rattle.gj_number.proofs.Classes.{class_is, digit_goes}
 use Rattle.gj_number.proofs.Splitting.{value_is, parts_digits}
@@ -85,6 +85,12 @@ pub fraction_on : (t : Scan) (digits : List ℕ) → t.state ≡ InFraction → 
 fraction_on t digits e h =
     let P : State → Type 0 = λ s. Reaches (at s t.negative t.whole t.fraction t.exponent_negative t.exponent) digits (at s t.negative (fold with_digit t.whole digits) (t.fraction + length digits) t.exponent_negative t.exponent) in
     subst P (sym e) (fraction_run t.negative t.whole t.fraction (t.fraction + length digits) t.exponent_negative t.exponent digits refl (recursion_from_All IsDigit digits h))
+
+-- the scan behind digits of the exponent
+pub exponent_on : (t : Scan) (digits : List ℕ) → t.state ≡ InExponent → All IsDigit digits → Reaches t digits (record t { exponent = fold with_digit t.exponent digits })
+exponent_on t digits e h =
+    let P : State → Type 0 = λ s. Reaches (at s t.negative t.whole t.fraction t.exponent_negative t.exponent) digits (at s t.negative t.whole t.fraction t.exponent_negative (fold with_digit t.exponent digits)) in
+    subst P (sym e) (exponent_run t.negative t.whole t.fraction t.exponent_negative t.exponent digits (recursion_from_All IsDigit digits h))
 
 -- the scan behind the first digits behind the point
 pub behind_point : (t : Scan) (digits : List ℕ) → t.state ≡ AfterPoint → 0 < length digits → All IsDigit digits

@@ -1,6 +1,10 @@
 //! The exponent that a number is written with.
-ghost use Rattle.std.specs.Prelude.{◌≡◌, ◌+◌, ◌*◌, ◌<◌, ◌≤◌, min, pos, ◌-ℤ◌};
+ghost use Rattle.std.specs.Prelude.{◌≡◌, ℕ, ◌+◌, ◌*◌, ◌<◌, ◌≤◌, min, pos, ◌-ℤ◌, length, take, All, fold};
+ghost use Rattle.gj_number.specs.Bytes.{IsDigit};
 ghost use Rattle.gj_number.specs.Kept.{limited_power};
+ghost use Rattle.gj_number.specs.Value.{with_digit};
+
+use crate::lanes::digit_run;
 
 /// The largest magnitude of a held number's written exponent.
 pub(crate) const EXPONENT_LIMIT: u16 = 1000;
@@ -25,6 +29,21 @@ impl Exponent {
         ensures negative { self.new.negative ≡ self.old.negative }
     {
         self.magnitude = (self.magnitude * 10 + digit as u16).min(EXPONENT_LIMIT + 1);
+    }
+
+    /// How many digits at the front of the piece make no difference, since the magnitude is past the limit.
+    #[inline]
+    pub(crate) fn pass_run(&self, piece: &[u8]) -> usize
+        ensures length { result ≤ length piece.now }
+        ensures digits { All IsDigit (take result piece.now) }
+        ensures magnitude { (written : ℕ) → self.now.magnitude ≡ min written 1001
+            → self.now.magnitude ≡ min (fold with_digit written (take result piece.now)) 1001 }
+    {
+        if self.magnitude > EXPONENT_LIMIT {
+            digit_run(piece)
+        } else {
+            0
+        }
     }
 }
 

@@ -1,5 +1,5 @@
 //! Sixteen bytes at once.
-ghost use Rattle.std.specs.Prelude.{◌≡◌, ℕ, min, ◌-◌, ◌+◌, ◌*◌, ◌<◌, ◌≤◌, ◌++◌, List, [], ◌∷◌, length, map, take, drop, nat_le, replicate, IfSome, get_or};
+ghost use Rattle.std.specs.Prelude.{◌≡◌, ℕ, min, ◌-◌, ◌+◌, ◌*◌, ◌<◌, ◌≤◌, ◌++◌, List, [], ◌∷◌, length, map, take, drop, nat_le, replicate, IfSome, All, get_or};
 ghost use Rattle.std.specs.List.{fold};
 ghost use Rattle.std.specs.Simd.Lanes.{Each1, mask_l};
 ghost use Rattle.gj_number.specs.Bytes.{IsDigit};
@@ -115,6 +115,22 @@ pub(crate) fn first_digits(piece: &[u8]) -> (usize, u64)
     let lanes = lanes_of(piece);
     let count = leading_digits(lanes);
     (count, number_of(moved_to_end(lanes, count)))
+}
+
+/// How many digits a piece begins with, as far as whole vectors of it go.
+pub(crate) fn digit_run(piece: &[u8]) -> usize
+    ensures length { result ≤ length piece.now }
+    ensures digits { All IsDigit (take result piece.now) }
+{
+    let mut at = 0;
+    while piece.len() - at >= 16 {
+        let count = leading_digits(lanes_of(&piece[at..]));
+        at += count;
+        if count < 16 {
+            return at;
+        }
+    }
+    at
 }
 
 /// A number without its sign and with no exponent: how many digits stand before its point and after it, how many bytes

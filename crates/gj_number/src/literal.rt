@@ -205,6 +205,7 @@ impl Literal {
                 taken
             }
             State::InFraction => self.digits.push_fraction_run(piece),
+            State::InExponent => self.exponent.pass_run(piece),
             _ => 0,
         }
     }

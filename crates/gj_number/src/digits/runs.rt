@@ -3,7 +3,8 @@ ghost use Rattle.std.specs.Prelude.{◌≡◌, ◌↔◌, ℕ, ◌+◌, ◌<◌,
 ghost use Rattle.gj_number.specs.Value.{with_digit};
 ghost use Rattle.gj_number.specs.Bytes.{IsDigit, decimal_point};
 
-use super::{Digits, MOST_PLACES};
+use super::{Digits, FAR, MOST_PLACES};
+use crate::lanes::digit_run;
 use crate::run::{HEAD_DIGITS, Run, zeros_in_front};
 
 /// How many digits are taken before a point and behind it.
@@ -17,7 +18,7 @@ impl Digits {
     ghost use Rattle.gj_number.specs.Digits.{Keeps, KeepsAll, RunKeeps, HasRoom};
 
     /// Takes the digits at the front of the piece that stand before the point, while `head` has room
-    /// for them, and answers how many.
+    /// for them or where they make no difference any more, and answers how many.
     #[inline]
     pub(crate) fn push_natural_run(&mut self, piece: &[u8]) -> usize
         ensures length { result ≤ length piece.now }
@@ -28,11 +29,28 @@ impl Digits {
         if self.has_room() {
             self.push_run(piece)
         } else {
+            self.pass_run(piece)
+        }
+    }
+
+    /// How many digits at the front of the piece make no difference, since the number is not held whatever follows.
+    #[inline]
+    fn pass_run(&self, piece: &[u8]) -> usize
+        ensures length { result ≤ length piece.now }
+        ensures digits { All IsDigit (take result piece.now) }
+        ensures natural { (whole : ℕ) → Keeps self.now whole 0
+            → Keeps self.now (fold with_digit whole (take result piece.now)) 0 }
+        ensures fraction { (whole fraction : ℕ) → Keeps self.now whole fraction
+            → Keeps self.now (fold with_digit whole (take result piece.now)) (fraction + result) }
+    {
+        if self.count == FAR {
+            digit_run(piece)
+        } else {
             0
         }
     }
 
-    /// The same for digits that stand behind the point.
+    /// As `push_natural_run` for digits that stand behind the point.
     #[inline]
     pub(crate) fn push_fraction_run(&mut self, piece: &[u8]) -> usize
         ensures length { result ≤ length piece.now }
@@ -46,6 +64,8 @@ impl Digits {
             taken
         } else if self.count == 0 {
             self.push_small_run(piece)
+        } else if self.count == FAR {
+            self.pass_run(piece)
         } else {
             self.push_rest_run(piece)
         }

@@ -1,17 +1,29 @@
 -- One character, or a run of them.
+use Rattle.std.proofs.Common.{◌++◌, arith}
 use Rattle.std.proofs.lemmas.List.Sums.{prefix_len-le-length}
 use Rattle.gj_json.specs.Quiet.{is_plain}
-use Rattle.gj_json.proofs.CharacterSpelled.{characters_read_at, plain_characters}
+use Rattle.gj_json.specs.declared.mode.StringState.TheVariants.{Plain}
+use Rattle.gj_json.proofs.CharacterSpelled.{plain_characters}
+use Rattle.gj_json.proofs.QuietLemmas.{reads_more}
+use Rattle.gj_json.proofs.Slices.{more_within}
 use Rattle.gj_json.proofs.characters.some_characters.Goals as goal
 
+pub returns-then-piece-eq92-clause-within : goal.returns-then-piece-eq92-clause-within
+returns-then-piece-eq92-clause-within c = more_within c.args.piece.now c.escapes_run-escaped.result c.ascii_run.result c.escapes_run-escaped.ensures.within (rw (c.ascii_run.ensures) (prefix_len-le-length is_plain _))
+
 pub returns-then-piece-eq92-clause-characters : goal.returns-then-piece-eq92-clause-characters
-returns-then-piece-eq92-clause-characters c = characters_read_at c.args.piece.now c.escape.result c.escape.ensures.character
+returns-then-piece-eq92-clause-characters c =
+    let before = c.escapes_run-escaped.ensures.characters in
+    let more = plain_characters _ c.ascii_run.result c.ascii_run.ensures in
+    (before.0 ++ more.0, reads_more Plain Plain Plain c.args.piece.now before.0 more.0 c.escapes_run-escaped.result c.ascii_run.result before.1 more.1)
 
 pub returns-then-piece-lt128-clause-within : goal.returns-then-piece-lt128-clause-within
-returns-then-piece-lt128-clause-within c = rw (c.ascii_run.ensures) (prefix_len-le-length is_plain c.args.piece.now)
+returns-then-piece-lt128-clause-within c = rw (c.ascii_run-then-piece-lt128.ensures) (prefix_len-le-length is_plain c.args.piece.now)
 
 pub returns-then-piece-lt128-clause-characters : goal.returns-then-piece-lt128-clause-characters
-returns-then-piece-lt128-clause-characters c = plain_characters c.args.piece.now c.ascii_run.result c.ascii_run.ensures
+returns-then-piece-lt128-clause-characters c = plain_characters c.args.piece.now c.ascii_run-then-piece-lt128.result c.ascii_run-then-piece-lt128.ensures
 
-pub returns-else-has_many-clause-characters : goal.returns-else-has_many-clause-characters
-returns-else-has_many-clause-characters c = characters_read_at c.args.piece.now c.wide_character.result c.wide_character.ensures.character
+pub overflow_add-result : goal.overflow_add-result
+overflow_add-result c =
+    let all = more_within c.args.piece.now c.escapes_run-escaped.result c.ascii_run.result c.escapes_run-escaped.ensures.within (rw (c.ascii_run.ensures) (prefix_len-le-length is_plain _)) in
+    record { fits = omega (arith, all) }

@@ -38,12 +38,13 @@ fn expect_some(rt: &impl Abort, limits: Limits, text: &str) {
     }
 }
 
-const TEXTS: [&str; 5] = [
+const TEXTS: [&str; 6] = [
     "{\"type\":\"Feature\",\"id\":17,\"properties\":{\"a\":null,\"b\" : true},\"geometry\":false}",
     "[\"x\\u0041y\",{\"bbox\":[1,2,3,4]},\"\",0.5 ,-7]",
     "{\"name\" :\n\"k\\\"q\",\"tipe\":\"Poimt\",\"crs\":{},\"bbox\":[]}",
     "[true,false,null,[[]],{\"\":{\"\":[1]}},1e5,12345678901234567890]",
     "{\n  \"features\": [\n    {\n      \"x\": \"zé\",\n      \"y\": 1\n    }\n  ]\n}",
+    "{\"é東\":\"東京 naïve 東京 à la हिन्दी 한국어 \\u00e9\\n🚲 é東京é\"}",
 ];
 
 #[test]

@@ -5,7 +5,7 @@ use Rattle.gj_number.specs.Literal.{StandsFor}
 use Rattle.gj_number.specs.Machine.{Scan, start}
 use Rattle.gj_number.specs.declared.state.State.TheVariants.{InFraction}
 use Rattle.gj_number.proofs.Reaching.{reaches_on}
-use Rattle.gj_number.proofs.Standing.{natural_on, fraction_on, behind_point}
+use Rattle.gj_number.proofs.Standing.{natural_on, fraction_on, exponent_on, behind_point}
 use Rattle.gj_number.proofs.literal.Literal.push_run.Goals as goal
 
 pub returns-in-InNatural-clause-stands : goal.returns-in-InNatural-clause-stands
@@ -44,6 +44,24 @@ returns-in-InFraction-clause-stands c bytes h =
         exponent_negative = h.2.exponent_negative;
         exponent = h.2.exponent;
         before_fraction = (λ e. absurd (let f : false ≡ true = rw state at e in cc));
+      },
+    )
+
+pub returns-in-InExponent-clause-stands : goal.returns-in-InExponent-clause-stands
+unfolding StandsFor
+returns-in-InExponent-clause-stands c bytes h =
+    let digits = take c.pass_run.result c.args.piece.now in
+    let state = sym h.2.state ∙ c.in-InExponent.is in
+    let next : Scan = record h.0 { exponent = fold with_digit h.0.exponent digits } in (
+      next,
+      reaches_on start h.0 next bytes digits h.1 (exponent_on h.0 digits state c.pass_run.ensures.digits),
+      record {
+        state = h.2.state;
+        negative = h.2.negative;
+        digits = h.2.digits;
+        exponent_negative = h.2.exponent_negative;
+        exponent = c.pass_run.ensures.magnitude h.0.exponent h.2.exponent;
+        before_fraction = h.2.before_fraction;
       },
     )
 

@@ -1,0 +1,16 @@
+-- Vector by vector.
+use Rattle.std.proofs.Common.{arith}
+use Rattle.gj_number.proofs.Sixteen.{digits_on}
+use Rattle.gj_number.proofs.lanes.digit_run.Goals as goal
+
+pub returns-then-count-lt16-clause-digits : goal.returns-then-count-lt16-clause-digits
+returns-then-count-lt16-clause-digits c =
+    let found = c.leading_digits-count in
+    digits_on c.args.piece.now _ c.loop-at.at found.result (omega arith) c.type_inv.piece c.lanes_of.ensures found.ensures.count found.ensures.few c.loop-at.invariant.digits
+
+pub loop-at-preserved : goal.loop-at-preserved
+loop-at-preserved c =
+    let found = c.leading_digits-count in record {
+      within = omega arith;
+      digits = digits_on c.args.piece.now _ c.loop-at.at found.result (omega arith) c.type_inv.piece c.lanes_of.ensures found.ensures.count found.ensures.few c.loop-at.invariant.digits;
+    }
