@@ -11,14 +11,14 @@ use crate::simple_faults::SimpleFaults;
 use crate::walk::{Walk, all_warnings, least_fault};
 use crate::warned::Warned;
 use crate::warnings::Warnings;
-use crate::{flat, walk};
+use crate::walk;
 use gj_json::{Event, Flat};
 use std::mem::size_of;
 
 /// Takes the events of one value of `coordinates`, and tells its least fault and its warnings for each of the six types.
 ///
-/// Most positions come as one [`Flat`]. From the fourth of a line or a linear ring on, such a position changes nothing but
-/// what is gathered of these positions, and takes one step.
+/// Most positions come as one [`Flat`]. From the second of a line or a linear ring on, such a position changes nothing but
+/// what is gathered of these positions, and their count, and takes one step.
 ///
 /// It holds one fixed record, whatever the value. So it counts the levels in it in 64 bits, and promises nothing for a
 /// value of 2^64 levels or more.
@@ -93,12 +93,9 @@ impl Coordinates {
     {
         if is_past(self.floor, flat) {
             match self.depth {
-                Depth::Second => return self.walk.item.gather.positions.add_quick(flat),
-                Depth::Third => return self.walk.item.item.gather.positions.add_quick(flat),
-                Depth::First => return flat::warn_quick(
-                    flat,
-                    &mut self.walk.gather.positions_warned,
-                ),
+                Depth::Second => return self.walk.item.gather.add_steady(flat),
+                Depth::Third => return self.walk.item.item.gather.add_steady(flat),
+                Depth::First => return self.walk.gather.add_steady(flat),
                 _ => {}
             }
         }

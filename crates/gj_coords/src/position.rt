@@ -151,7 +151,8 @@ impl Numbers {
     ghost use Rattle.gj_json.specs.declared.event.What.TheVariants.{OpenArray};
     ghost use Rattle.gj_coords.specs.Sent.{event_at};
     ghost use Rattle.gj_coords.specs.declared.kind.Kind.TheVariants.{W3, W4, W5};
-    ghost use Rattle.gj_coords.specs.Position.{number_added, first_judged, numbers_start, position_least, position_noted, judged_noted};
+    ghost use Rattle.gj_coords.specs.Position.{number_added, first_judged, array_counted, numbers_start, position_least, position_noted, judged_noted};
+    ghost use Rattle.gj_coords.specs.Steady.{IsCounted};
 
     pub fn none() -> Numbers
         ensures { result ≡ numbers_start 0 }
@@ -212,6 +213,25 @@ impl Numbers {
         ensures { self.new ≡ number_added self.old (event_at place OpenArray) }
     {
         join_fault(&mut self.fault, misshapen(place));
+        self.values.push(&None);
+        self.tally.add();
+    }
+
+    /// Counts an element that is an array, whose fault changes nothing. Mostly as many are counted as are.
+    #[tactic(auto, using(crate::proofs::SteadyLaws::counted_whole))]
+    #[inline(always)]
+    pub fn count_array(&mut self)
+        ensures { IsCounted self.old → self.new ≡ array_counted self.old }
+    {
+        if self.tally.is_open() {
+            self.count_one();
+        }
+    }
+
+    #[inline(never)]
+    fn count_one(&mut self)
+        ensures { self.new ≡ array_counted self.old }
+    {
         self.values.push(&None);
         self.tally.add();
     }
