@@ -23,7 +23,7 @@ use Rattle.gj_coords.specs.Walk.{position_machine, third_machine, second_machine
 use Rattle.gj_coords.specs.Array.{ended_at}
 use Rattle.gj_coords.specs.Noted.{no_warnings}
 use Rattle.gj_coords.specs.Warned.{no_warned, all_in}
-use Rattle.gj_coords.specs.FlatPosition.{Walk, flat_position, flat_first, held_fault, held_warned, at_value, flat_taken}
+use Rattle.gj_coords.specs.FlatPosition.{Walk, flat_first, held_fault, held_warned, at_value, flat_taken}
 use Rattle.gj_coords.specs.ElementLaws.{element_answers}
 use Rattle.gj_coords.specs.ArrayLaws.{array_answers}
 use Rattle.gj_coords.specs.Coordinates.{IsAt, IsWhole, Holds}
@@ -32,8 +32,6 @@ use Rattle.gj_coords.proofs.ReadingLaws.{reads_on_none, reads_on_more, reads_on_
 use Rattle.gj_coords.specs.CoordinatesKept.{third_answer, second_answer, first_answer, coordinates_kept}
 use Rattle.gj_coords.proofs.WalkLaws.{first_least}
 use Rattle.gj_coords.specs.declared.depth.Depth.{Depth}
-use Rattle.gj_coords.specs.Position.{sound_noted}
-use Rattle.gj_coords.specs.Positions.{position_added}
 use Rattle.gj_coords.specs.declared.depth.Depth.TheVariants.{Unknown, First, Second, Third, Whole}
 use Rattle.gj_coords.specs.Steady.{IsFirst, IsSecond, IsThird, IsSteady, IsPast, is_whole, third_steady, second_steady, first_steady}
 use Rattle.gj_coords.proofs.FlatLaws.{flat_leads, value_leads}

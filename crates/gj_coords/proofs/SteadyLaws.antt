@@ -21,7 +21,7 @@ use Rattle.gj_coords.specs.Sent.{event_at}
 use Rattle.gj_coords.specs.Element.{due}
 use Rattle.gj_coords.specs.LeastLaws.{lesser-none}
 use Rattle.gj_coords.specs.Tally.{one_counted}
-use Rattle.gj_coords.specs.Position.{pushed, precise_with, number_added, array_counted, misshapen_at, sound_noted}
+use Rattle.gj_coords.specs.Position.{pushed, precise_with, number_added, array_counted, sound_noted}
 use Rattle.gj_coords.specs.Positions.{position_added}
 use Rattle.gj_coords.specs.Walk.{position_machine, third_machine, second_machine, third_gathering, second_gathering, first_gathering}
 use Rattle.gj_coords.specs.FlatPosition.{least_with, least_place, flat_misshapen, flat_ring, flat_position, flat_third, flat_second, PositionReader, ThirdReader, SecondReader, Walk, in_first, in_second, in_third, in_fourth, second_due, third_due, flat_taken}

@@ -8,10 +8,10 @@ use crate::fault::Fault;
 use crate::part::Part;
 use crate::simple::Simple;
 use crate::simple_faults::SimpleFaults;
+use crate::walk;
 use crate::walk::{Walk, all_warnings, least_fault};
 use crate::warned::Warned;
 use crate::warnings::Warnings;
-use crate::walk;
 use gj_json::{Event, Flat};
 use std::mem::size_of;
 
@@ -36,6 +36,7 @@ const _: () = prove!(size_of::<Coordinates>() == 2912);
 impl Coordinates {
     ghost use Rattle.std.specs.Prelude.{◌≡◌, ◌↔◌, ◌<◌, ◌^◌, ◌++◌, ◌∷◌, List, [], length, IsTrue};
     ghost use Rattle.gj_json.specs.declared.event.Event.{Event};
+    ghost use Rattle.gj_json.specs.declared.event.What.TheVariants.{OpenArray, CloseArray};
     ghost use Rattle.gj_json.specs.Tree.{Tree, depth};
     ghost use Rattle.gj_json.specs.Events.{value_events};
     ghost use Rattle.gj_json.specs.Flat.{flat_events};
@@ -83,6 +84,26 @@ impl Coordinates {
     {
         self.depth = Depth::Unknown;
         self.walk.event(event);
+    }
+
+    /// The same of an opening bracket of an array.
+    #[inline]
+    pub fn open_array(&mut self, place: u64)
+        ensures stands { (events : List Event) → StandsFor self.old events →
+            StandsFor self.new (events ++ record { place = place; what = OpenArray } ∷ []) }
+    {
+        self.depth = Depth::Unknown;
+        self.walk.open_array(place);
+    }
+
+    /// The same of a closing bracket of an array.
+    #[inline]
+    pub fn close_array(&mut self, place: u64)
+        ensures stands { (events : List Event) → StandsFor self.old events →
+            StandsFor self.new (events ++ record { place = place; what = CloseArray } ∷ []) }
+    {
+        self.depth = Depth::Unknown;
+        self.walk.close_array(place);
     }
 
     /// The events of an array of numbers that is told as one.

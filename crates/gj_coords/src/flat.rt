@@ -5,7 +5,7 @@ ghost use Rattle.gj_coords.specs.CoordinateWarnings.{is_precise};
 ghost use Rattle.gj_coords.specs.Position.{position_noted, sound_noted};
 ghost use Rattle.gj_coords.specs.Winding.{corner_of};
 ghost use Rattle.gj_coords.specs.Noted.{nothing_noted};
-ghost use Rattle.gj_coords.specs.FlatPosition.{flat_values, flat_position, flat_precise, third_precise, number_precise, flat_count, least_place, flat_misshapen, flat_ring, IsPlain};
+ghost use Rattle.gj_coords.specs.FlatPosition.{flat_values, flat_position, flat_precise, third_value, third_precise, number_precise, flat_count, least_place, flat_misshapen, flat_ring, IsPlain};
 
 use crate::fault::{Fault, Rule};
 use crate::noted::Noted;
@@ -14,21 +14,38 @@ use crate::position_warned::note_position;
 use crate::warned::Warned;
 use crate::winding::Corner;
 use gj_json::{Flat, Numbered};
-use gj_number::Short;
+use gj_number::{Decimal, Short};
+
+/// How many numbers it has.
+#[inline]
+pub fn count(flat: &Flat) -> u8
+    ensures { result ≡ flat_count flat.now.third }
+{
+    match &flat.third {
+        Some(_) => 3,
+        None => 2,
+    }
+}
+
+/// The exact value of the third, where there is one.
+fn third_value(third: &Option<Numbered>) -> Option<Decimal>
+    ensures { result ≡ third_value third.now }
+{
+    match third {
+        Some(number) => Some(number.value.decimal()),
+        None => None,
+    }
+}
 
 /// Its exact values.
 pub fn values(flat: &Flat) -> Values
     ensures { result ≡ flat_values flat.now }
 {
-    let (count, third) = match &flat.third {
-        Some(number) => (3, Some(number.value.decimal())),
-        None => (2, None),
-    };
     Values {
-        count,
+        count: count(flat),
         first: Some(flat.first.value.decimal()),
         second: Some(flat.second.value.decimal()),
-        third,
+        third: third_value(&flat.third),
     }
 }
 
@@ -181,11 +198,7 @@ pub fn warn(flat: &Flat, corner: &Option<Corner>, warned: &mut Warned)
 fn warn_beyond(flat: &Flat, corner: &Option<Corner>, warned: &mut Warned)
     ensures { warned.new ≡ position_noted warned.old flat.now.place (flat_count flat.now.third) corner.now (flat_precise flat.now) }
 {
-    let count = match &flat.third {
-        Some(_) => 3,
-        None => 2,
-    };
-    note_position(flat.place, count, corner, precise(flat), warned);
+    note_position(flat.place, count(flat), corner, precise(flat), warned);
 }
 
 /// Notes what is worth a warning in it. Mostly there is nothing.

@@ -2,6 +2,8 @@
 ghost use Rattle.std.specs.Prelude.{◌≡◌, true, false, Some};
 ghost use Rattle.std.specs.Option.{option_eq};
 ghost use Rattle.gj_number.specs.Exact.{same_parts};
+ghost use Rattle.gj_number.specs.Short.{exact_of};
+ghost use Rattle.gj_coords.specs.FlatPosition.{third_value};
 ghost use Rattle.gj_coords.specs.CoordinateWarnings.{is_precise};
 ghost use Rattle.gj_coords.specs.Position.{misshapen_at, position_closed};
 
@@ -15,8 +17,8 @@ use crate::position_warned::note_position;
 use crate::tally::Tally;
 use crate::warned::Warned;
 use crate::winding::Corner;
-use gj_json::{Event, Flat, What};
-use gj_number::Decimal;
+use gj_json::{Event, Flat, Numbered, What};
+use gj_number::{Decimal, Short};
 
 /// A position needs this many elements.
 const NEEDED: u8 = 2;
@@ -77,6 +79,26 @@ fn digits_differ(number: &Decimal, other: &Decimal) -> bool
     digits != others
 }
 
+/// Whether it is this number.
+fn is_same(number: &Option<Decimal>, other: Short) -> bool
+    ensures { result ≡ option_eq same_parts number.now (Some (exact_of other)) }
+{
+    match number {
+        Some(number) => *number == other.decimal(),
+        None => false,
+    }
+}
+
+/// The same of a third number, where there is one.
+fn is_third_same(number: &Option<Decimal>, other: &Option<Numbered>) -> bool
+    ensures { result ≡ option_eq same_parts number.now (third_value other.now) }
+{
+    match other {
+        Some(other) => is_same(number, other.value),
+        None => number.is_none(),
+    }
+}
+
 impl Values {
     ghost use Rattle.std.specs.Prelude.{◌≡◌, true, false};
     ghost use Rattle.gj_coords.specs.FlatPosition.{flat_values};
@@ -121,12 +143,27 @@ impl Values {
         *self == *other
     }
 
-    /// Whether the first numbers of this and of a position that is told as one differ in their digits.
+    /// Whether a position that is told as one has the same values, and as many. Mostly the digits of the first numbers
+    /// differ.
     #[inline(always)]
-    pub fn differs(&self, other: &Flat) -> bool
-        ensures { result ≡ true → same_values self.now (flat_values other.now) ≡ false }
+    pub fn same_flat(&self, other: &Flat) -> bool
+        ensures { result ≡ same_values self.now (flat_values other.now) }
     {
-        differs(&self.first, &other.first.value.decimal())
+        if differs(&self.first, &other.first.value.decimal()) {
+            false
+        } else {
+            self.same_each(other)
+        }
+    }
+
+    #[inline(never)]
+    fn same_each(&self, other: &Flat) -> bool
+        ensures { result ≡ same_values self.now (flat_values other.now) }
+    {
+        self.count == flat::count(other)
+            && (is_same(&self.first, other.first.value)
+                && (is_same(&self.second, other.second.value)
+                    && is_third_same(&self.third, &other.third)))
     }
 
     /// The corner of the first two, where they are in range.

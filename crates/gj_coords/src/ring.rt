@@ -156,17 +156,17 @@ impl Positions {
         }
     }
 
-    /// Adds a position that is told as one after others without a fault. Mostly it is neither the first nor the same.
+    /// Adds a position that is told as one after others without a fault.
     #[inline(always)]
     fn add_sound_flat(&mut self, position: &Flat, corner: Corner)
         ensures { self.new ≡ sound_joined self.old (flat_values position.now) (Some corner) }
     {
         match &self.first {
-            Some(first) if first.differs(position) => {
-                self.closes = false;
+            Some(first) => {
+                self.closes = first.same_flat(position);
                 self.winding.add_next(&corner);
             }
-            _ => self.add_sound(&flat::values(position), Some(corner)),
+            None => self.add_sound(&flat::values(position), Some(corner)),
         }
     }
 
