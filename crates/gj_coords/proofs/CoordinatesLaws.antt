@@ -23,7 +23,7 @@ use Rattle.gj_coords.specs.Walk.{position_machine, third_machine, second_machine
 use Rattle.gj_coords.specs.Array.{ended_at}
 use Rattle.gj_coords.specs.Noted.{no_warnings}
 use Rattle.gj_coords.specs.Warned.{no_warned, all_in}
-use Rattle.gj_coords.specs.FlatPosition.{Walk, flat_position, flat_first, held_fault, held_warned, at_value, flat_taken}
+use Rattle.gj_coords.specs.FlatPosition.{Walk, flat_first, held_fault, held_warned, at_value, flat_taken}
 use Rattle.gj_coords.specs.ElementLaws.{element_answers}
 use Rattle.gj_coords.specs.ArrayLaws.{array_answers}
 use Rattle.gj_coords.specs.Coordinates.{IsAt, IsWhole, Holds}
@@ -32,10 +32,8 @@ use Rattle.gj_coords.proofs.ReadingLaws.{reads_on_none, reads_on_more, reads_on_
 use Rattle.gj_coords.specs.CoordinatesKept.{third_answer, second_answer, first_answer, coordinates_kept}
 use Rattle.gj_coords.proofs.WalkLaws.{first_least}
 use Rattle.gj_coords.specs.declared.depth.Depth.{Depth}
-use Rattle.gj_coords.specs.Position.{sound_noted}
-use Rattle.gj_coords.specs.Positions.{position_added}
 use Rattle.gj_coords.specs.declared.depth.Depth.TheVariants.{Unknown, First, Second, Third, Whole}
-use Rattle.gj_coords.specs.Steady.{IsFirst, IsSecond, IsThird, IsSteady, IsPast, is_whole}
+use Rattle.gj_coords.specs.Steady.{IsFirst, IsSecond, IsThird, IsSteady, IsPast, is_whole, third_steady, second_steady, first_steady}
 use Rattle.gj_coords.proofs.FlatLaws.{flat_leads, value_leads}
 use Rattle.gj_coords.proofs.HeldLaws.{flat_fault, flat_warned, is_no_warned, quiet_none}
 use Rattle.gj_coords.proofs.SteadyLaws.{first_taken, second_taken, third_taken}
@@ -66,17 +64,17 @@ walk_value walk es f due k v rest p room =
 
 pub first_flat : (floor : ℕ) (walk : Walk) (es : List Event) (f : Flat) → IsAt es walk → IsFirst floor walk → IsPast floor f →
     IsAt (es ++ flat_events f)
-    (record walk { gather = record walk.gather { positions_warned = sound_noted walk.gather.positions_warned (flat_position f) } })
+    (record walk { gather = first_steady f walk.gather })
 first_flat floor walk es f k steady past = subst (IsAt (es ++ flat_events f)) (first_taken floor f walk steady past) (walk_flat walk es f k)
 
 pub second_flat : (floor : ℕ) (walk : Walk) (es : List Event) (f : Flat) → IsAt es walk → IsSecond floor walk → IsPast floor f →
     IsAt (es ++ flat_events f)
-    (record walk { item = record walk.item { gather = record walk.item.gather { positions = position_added walk.item.gather.positions (flat_position f) } } })
+    (record walk { item = record walk.item { gather = second_steady f walk.item.gather } })
 second_flat floor walk es f k steady past = subst (IsAt (es ++ flat_events f)) (second_taken floor f walk steady past) (walk_flat walk es f k)
 
 pub third_flat : (floor : ℕ) (walk : Walk) (es : List Event) (f : Flat) → IsAt es walk → IsThird floor walk → IsPast floor f →
     IsAt (es ++ flat_events f)
-    (record walk { item = record walk.item { item = record walk.item.item { gather = record walk.item.item.gather { positions = position_added walk.item.item.gather.positions (flat_position f) } } } })
+    (record walk { item = record walk.item { item = record walk.item.item { gather = third_steady f walk.item.item.gather } } })
 third_flat floor walk es f k steady past = subst (IsAt (es ++ flat_events f)) (third_taken floor f walk steady past) (walk_flat walk es f k)
 
 -- ---- what holds at a depth

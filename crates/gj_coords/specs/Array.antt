@@ -15,11 +15,14 @@ abbrev pub when_due : {W G A B : Type 0} → Gathering G A B → What → Array 
 when_due r What.OpenArray s e = record s { stage = Between; gather = r.opened e.place }
 when_due r _ s e = record s { stage = Broken; other = element_machine.after s.other e }
 
+-- behind an event of an element
+abbrev pub behind : {W G A B : Type 0} → Machine W A → Gathering G A B → Array W G → W → Array W G
+behind m r s item =
+    if m.ended item then record s { stage = Between; gather = r.added s.gather (m.answered item); item = m.again item } else record s { stage = Within; item = item }
+
 -- an event of an array or object among the elements
 abbrev pub within : {W G A B : Type 0} → Machine W A → Gathering G A B → Array W G → Event → Array W G
-within m r s e =
-    let item = m.after s.item e in
-    if m.ended item then record s { stage = Between; gather = r.added s.gather (m.answered item); item = m.again item } else record s { stage = Within; item = item }
+within m r s e = behind m r s (m.after s.item e)
 
 -- an event where an element or the end is due
 abbrev pub between : {W G A B : Type 0} → Machine W A → Gathering G A B → What → Array W G → Event → Array W G

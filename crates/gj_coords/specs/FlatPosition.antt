@@ -1,5 +1,5 @@
 -- Internal: what each level of a value gathers of a position that is told as one.
-use Rattle.std.specs.Prelude.{ℕ, min, Option, Some, None, if◌then◌else◌, nat_lt}
+use Rattle.std.specs.Prelude.{◌≡◌, ℕ, min, Option, Some, None, if◌then◌else◌, nat_lt}
 use Rattle.gj_number.specs.Exact.{Exact}
 use Rattle.gj_number.specs.Short.{exact_of}
 use Rattle.gj_json.specs.declared.event.What.{What}
@@ -21,6 +21,7 @@ use Rattle.gj_coords.specs.declared.second_level.SecondLevel.{SecondLevel}
 use Rattle.gj_coords.specs.declared.second_level.SecondSummary.{SecondSummary}
 use Rattle.gj_coords.specs.declared.third_level.ThirdLevel.{ThirdLevel}
 use Rattle.gj_coords.specs.declared.third_level.ThirdSummary.{ThirdSummary}
+use Rattle.gj_coords.specs.declared.winding.Corner.{Corner}
 use Rattle.gj_coords.specs.declared.winding.Turn.TheVariants.{Straight}
 use Rattle.gj_coords.specs.Fault.{fault_at}
 use Rattle.gj_coords.specs.Sent.{event_at}
@@ -31,7 +32,7 @@ use Rattle.gj_coords.specs.declared.simple.Simple.{Simple}
 use Rattle.gj_coords.specs.declared.simple.Simple.TheVariants.{Point}
 use Rattle.gj_coords.specs.declared.warned.Warned.{Warned}
 use Rattle.gj_coords.specs.Warned.{no_warned}
-use Rattle.gj_coords.specs.Position.{precise_with, misshapen_at, sound_noted}
+use Rattle.gj_coords.specs.Position.{precise_with, corner_in, misshapen_at, sound_noted}
 use Rattle.gj_coords.specs.Walk.{position_machine, third_machine, second_machine, walk_machine, third_gathering, second_gathering, first_gathering}
 
 -- ---- as a position, which breaks no rule
@@ -73,6 +74,11 @@ flat_position f = record {
   count = flat_count f.third;
   precise = flat_precise f;
 }
+
+-- it is in range, with this corner, and nothing in it is worth a warning
+pub record IsPlain (f : Flat) (corner : Corner) : Type 0 where
+  pub in_range : corner_in (flat_values f) ≡ Some corner
+  pub quiet : (w : Warned) → sound_noted w (flat_position f) ≡ w
 
 -- ---- as an array of positions: no number has that shape
 

@@ -1,5 +1,5 @@
--- Internal: where a position that is told as one changes nothing but what is gathered of positions.
-use Rattle.std.specs.Prelude.{◌≡◌, ℕ, ◌<◌, ◌≤◌, Option, Some, None, Bool, true, false}
+-- Internal: where a position that is told as one changes nothing but what is gathered of positions, and their count.
+use Rattle.std.specs.Prelude.{◌≡◌, ℕ, min, ◌<◌, ◌≤◌, Option, Some, None, Bool, true, false}
 use Rattle.gj_json.specs.declared.flat.Flat.{Flat}
 use Rattle.gj_json.specs.declared.flat.Numbered.{Numbered}
 use Rattle.gj_coords.specs.declared.array.Stage.{Stage}
@@ -9,17 +9,25 @@ use Rattle.gj_coords.specs.declared.fault.Fault.{Fault}
 use Rattle.gj_coords.specs.declared.position.Numbers.{Numbers}
 use Rattle.gj_coords.specs.declared.depth.Depth.{Depth}
 use Rattle.gj_coords.specs.declared.depth.Depth.TheVariants.{Unknown, First, Second, Third, Whole}
-use Rattle.gj_coords.specs.FlatPosition.{Walk}
+use Rattle.gj_coords.specs.declared.first_level.FirstLevel.{FirstLevel}
+use Rattle.gj_coords.specs.declared.second_level.SecondLevel.{SecondLevel}
+use Rattle.gj_coords.specs.declared.third_level.ThirdLevel.{ThirdLevel}
+use Rattle.gj_coords.specs.Position.{array_counted, sound_noted}
+use Rattle.gj_coords.specs.Positions.{position_added}
+use Rattle.gj_coords.specs.FlatPosition.{Walk, flat_position}
 
 -- there is a fault, which stands at this place or before it
 abbrev pub IsFaultBy : ℕ → Option Fault → Type 0
 IsFaultBy floor None = ⊥
 IsFaultBy floor (Some fault) = fault.place ≤ floor
 
--- an array more after the place changes nothing
+-- as many values are held as elements are counted, as far as they are
+abbrev pub IsCounted : Numbers → Type 0
+IsCounted numbers = numbers.values.count ≡ min 3 numbers.tally.count
+
+-- an array more after the place is only counted
 pub record IsSettled (floor : ℕ) (numbers : Numbers) : Type 0 where
-  pub values : numbers.values.count ≡ 3
-  pub tally : numbers.tally.count ≡ 4
+  pub counted : IsCounted numbers
   pub fault : IsFaultBy floor numbers.fault
 
 -- no value is being read past
@@ -71,6 +79,16 @@ IsSteady First floor s = IsFirst floor s
 IsSteady Second floor s = IsSecond floor s
 IsSteady Third floor s = IsThird floor s
 IsSteady Whole floor s = ⊥
+
+-- what a position more, which is told as one, then changes
+abbrev pub third_steady : Flat → ThirdLevel → ThirdLevel
+third_steady f s = record s { numbers = array_counted s.numbers; positions = position_added s.positions (flat_position f) }
+
+abbrev pub second_steady : Flat → SecondLevel → SecondLevel
+second_steady f s = record s { numbers = array_counted s.numbers; positions = position_added s.positions (flat_position f) }
+
+abbrev pub first_steady : Flat → FirstLevel → FirstLevel
+first_steady f s = record s { numbers = array_counted s.numbers; positions_warned = sound_noted s.positions_warned (flat_position f) }
 
 -- all of it stands after the place
 abbrev pub IsThirdPast : ℕ → Option Numbered → Type 0

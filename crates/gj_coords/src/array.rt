@@ -53,6 +53,37 @@ impl<W: Part, G: Gather<W>> Part for Array<W, G> {
         }
     }
 
+    fn open_array(&mut self, place: u64) {
+        match self.stage {
+            Stage::Due => {
+                self.gather.open(place);
+                self.stage = Stage::Between;
+            }
+            Stage::Between | Stage::Within => {
+                self.item.open_array(place);
+                self.after_item();
+            }
+            Stage::Broken => self.other.open_array(place),
+            Stage::Done => {}
+        }
+    }
+
+    fn close_array(&mut self, place: u64) {
+        match self.stage {
+            Stage::Due => {
+                self.other.close_array(place);
+                self.stage = Stage::Broken;
+            }
+            Stage::Between => self.stage = Stage::Done,
+            Stage::Within => {
+                self.item.close_array(place);
+                self.after_item();
+            }
+            Stage::Broken => self.other.close_array(place),
+            Stage::Done => {}
+        }
+    }
+
     fn again(&mut self) {
         self.stage = Stage::Due;
         self.other.again();
@@ -86,7 +117,7 @@ impl<W: Part, G: Gather<W>> Part for Array<W, G> {
 
 impl<W: Part, G: Gather<W>> Array<W, G> {
     ghost use Rattle.std.specs.Prelude.{◌≡◌};
-    ghost use Rattle.gj_coords.specs.Array.{when_due, between, within};
+    ghost use Rattle.gj_coords.specs.Array.{when_due, between, within, behind};
 
     fn due_event(&mut self, event: &Event)
         ensures { self.new ≡ when_due G.gathering event.now.what self.old event.now }
@@ -117,6 +148,14 @@ impl<W: Part, G: Gather<W>> Array<W, G> {
         ensures { self.new ≡ within W.machine G.gathering self.old event.now }
     {
         self.item.event(event);
+        self.after_item();
+    }
+
+    /// Behind an event of an element: gathers it where it has ended.
+    #[inline]
+    fn after_item(&mut self)
+        ensures { self.new ≡ behind W.machine G.gathering self.old self.old.item }
+    {
         if self.item.done() {
             self.gather.add(&self.item);
             self.item.again();

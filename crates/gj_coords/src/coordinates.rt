@@ -8,17 +8,17 @@ use crate::fault::Fault;
 use crate::part::Part;
 use crate::simple::Simple;
 use crate::simple_faults::SimpleFaults;
+use crate::walk;
 use crate::walk::{Walk, all_warnings, least_fault};
 use crate::warned::Warned;
 use crate::warnings::Warnings;
-use crate::{flat, walk};
 use gj_json::{Event, Flat};
 use std::mem::size_of;
 
 /// Takes the events of one value of `coordinates`, and tells its least fault and its warnings for each of the six types.
 ///
-/// Most positions come as one [`Flat`]. From the fourth of a line or a linear ring on, such a position changes nothing but
-/// what is gathered of these positions, and takes one step.
+/// Most positions come as one [`Flat`]. From the second of a line or a linear ring on, such a position changes nothing but
+/// what is gathered of these positions, and their count, and takes one step.
 ///
 /// It holds one fixed record, whatever the value. So it counts the levels in it in 64 bits, and promises nothing for a
 /// value of 2^64 levels or more.
@@ -36,6 +36,7 @@ const _: () = prove!(size_of::<Coordinates>() == 2912);
 impl Coordinates {
     ghost use Rattle.std.specs.Prelude.{◌≡◌, ◌↔◌, ◌<◌, ◌^◌, ◌++◌, ◌∷◌, List, [], length, IsTrue};
     ghost use Rattle.gj_json.specs.declared.event.Event.{Event};
+    ghost use Rattle.gj_json.specs.declared.event.What.TheVariants.{OpenArray, CloseArray};
     ghost use Rattle.gj_json.specs.Tree.{Tree, depth};
     ghost use Rattle.gj_json.specs.Events.{value_events};
     ghost use Rattle.gj_json.specs.Flat.{flat_events};
@@ -85,6 +86,26 @@ impl Coordinates {
         self.walk.event(event);
     }
 
+    /// The same of an opening bracket of an array.
+    #[inline]
+    pub fn open_array(&mut self, place: u64)
+        ensures stands { (events : List Event) → StandsFor self.old events →
+            StandsFor self.new (events ++ record { place = place; what = OpenArray } ∷ []) }
+    {
+        self.depth = Depth::Unknown;
+        self.walk.open_array(place);
+    }
+
+    /// The same of a closing bracket of an array.
+    #[inline]
+    pub fn close_array(&mut self, place: u64)
+        ensures stands { (events : List Event) → StandsFor self.old events →
+            StandsFor self.new (events ++ record { place = place; what = CloseArray } ∷ []) }
+    {
+        self.depth = Depth::Unknown;
+        self.walk.close_array(place);
+    }
+
     /// The events of an array of numbers that is told as one.
     #[inline]
     pub fn take_flat(&mut self, flat: &Flat)
@@ -93,12 +114,9 @@ impl Coordinates {
     {
         if is_past(self.floor, flat) {
             match self.depth {
-                Depth::Second => return self.walk.item.gather.positions.add_quick(flat),
-                Depth::Third => return self.walk.item.item.gather.positions.add_quick(flat),
-                Depth::First => return flat::warn_quick(
-                    flat,
-                    &mut self.walk.gather.positions_warned,
-                ),
+                Depth::Second => return self.walk.item.gather.add_steady(flat),
+                Depth::Third => return self.walk.item.item.gather.add_steady(flat),
+                Depth::First => return self.walk.gather.add_steady(flat),
                 _ => {}
             }
         }

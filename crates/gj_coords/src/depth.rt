@@ -1,7 +1,7 @@
-//! At which depth a position that is told as one changes nothing but what is gathered of positions.
+//! At which depth a position that is told as one changes nothing but what is gathered of positions, and their count.
 //!
-//! Elements are counted up to four, and an array of positions has its least fault under the types that want no position
-//! there from its first element on. So from the fourth position on all this stays as it is.
+//! An array of positions has its least fault under the types that want no position there from its first element on. So
+//! from the second position on it stays as it is.
 ghost use Rattle.std.specs.Prelude.{◌≡◌, true};
 ghost use Rattle.gj_coords.specs.declared.array.Stage.TheVariants.{Due, Between, Within};
 ghost use Rattle.gj_coords.specs.Steady.{IsFaultBy, IsSettled, IsIdle, IsFirst, IsSecond, IsThird, IsSteady, IsThirdPast, IsPast};
@@ -53,7 +53,7 @@ fn is_fault_by(floor: u64, fault: &Option<Fault>) -> bool
 fn is_settled(floor: u64, numbers: &Numbers) -> bool
     ensures { result ≡ true → IsSettled floor numbers.now }
 {
-    numbers.values.count == 3 && numbers.tally.count == 4 && is_fault_by(floor, &numbers.fault)
+    numbers.values.count == numbers.tally.count.min(3) && is_fault_by(floor, &numbers.fault)
 }
 
 fn is_idle(other: &Element) -> bool

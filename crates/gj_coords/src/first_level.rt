@@ -39,6 +39,7 @@ pub enum FirstSummary {
 
 impl FirstLevel {
     ghost use Rattle.std.specs.Prelude.{◌≡◌};
+    ghost use Rattle.gj_coords.specs.Steady.{IsCounted, first_steady};
     ghost use Rattle.gj_coords.specs.FlatPosition.{flat_second, flat_held, held_fault, held_warned};
     ghost use Rattle.gj_coords.specs.SimpleFaults.{by_simple};
     ghost use Rattle.gj_coords.specs.Walk.{second_gathering, first_gathering, fault_in, some_fault_in, warned_in, some_warned_in, point_warned_in, some_quiet_in, quiet_in};
@@ -78,6 +79,15 @@ impl FirstLevel {
         join_fault(&mut self.lines, misshapen);
         join_fault(&mut self.rings, flat::ring_fault(position));
         join_fault(&mut self.polygons, misshapen);
+    }
+
+    /// The same where it changes no fault.
+    #[inline(always)]
+    pub fn add_steady(&mut self, position: &Flat)
+        ensures { IsCounted self.old.numbers → self.new ≡ first_steady position.now self.old }
+    {
+        self.numbers.count_array();
+        flat::warn_quick(position, &mut self.positions_warned);
     }
 
     /// Holds of a position told as one, which is the whole value, its least fault as positions and its own warnings.

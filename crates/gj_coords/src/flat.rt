@@ -1,10 +1,11 @@
 //! A position that is told as one.
-ghost use Rattle.std.specs.Prelude.{◌≡◌, Some, true};
+ghost use Rattle.std.specs.Prelude.{◌≡◌, Some, IfSome, true, false};
 ghost use Rattle.gj_number.specs.Short.{exact_of};
 ghost use Rattle.gj_coords.specs.CoordinateWarnings.{is_precise};
 ghost use Rattle.gj_coords.specs.Position.{position_noted, sound_noted};
 ghost use Rattle.gj_coords.specs.Winding.{corner_of};
-ghost use Rattle.gj_coords.specs.FlatPosition.{flat_values, flat_position, flat_precise, number_precise, flat_count, least_place, flat_misshapen, flat_ring};
+ghost use Rattle.gj_coords.specs.Noted.{nothing_noted};
+ghost use Rattle.gj_coords.specs.FlatPosition.{flat_values, flat_position, flat_precise, third_value, third_precise, number_precise, flat_count, least_place, flat_misshapen, flat_ring, IsPlain};
 
 use crate::fault::{Fault, Rule};
 use crate::noted::Noted;
@@ -13,21 +14,38 @@ use crate::position_warned::note_position;
 use crate::warned::Warned;
 use crate::winding::Corner;
 use gj_json::{Flat, Numbered};
-use gj_number::Short;
+use gj_number::{Decimal, Short};
+
+/// How many numbers it has.
+#[inline]
+pub fn count(flat: &Flat) -> u8
+    ensures { result ≡ flat_count flat.now.third }
+{
+    match &flat.third {
+        Some(_) => 3,
+        None => 2,
+    }
+}
+
+/// The exact value of the third, where there is one.
+fn third_value(third: &Option<Numbered>) -> Option<Decimal>
+    ensures { result ≡ third_value third.now }
+{
+    match third {
+        Some(number) => Some(number.value.decimal()),
+        None => None,
+    }
+}
 
 /// Its exact values.
 pub fn values(flat: &Flat) -> Values
     ensures { result ≡ flat_values flat.now }
 {
-    let (count, third) = match &flat.third {
-        Some(number) => (3, Some(number.value.decimal())),
-        None => (2, None),
-    };
     Values {
-        count,
+        count: count(flat),
         first: Some(flat.first.value.decimal()),
         second: Some(flat.second.value.decimal()),
-        third,
+        third: third_value(&flat.third),
     }
 }
 
@@ -48,6 +66,35 @@ fn is_too_precise(number: Short) -> bool
         return true;
     }
     number.is_precise()
+}
+
+/// Whether at most seven places are written, so that it is not too precise.
+#[inline(always)]
+fn is_written_short(number: Short) -> bool
+    ensures { result ≡ true → is_precise (Some (exact_of number)) ≡ false }
+{
+    number.places <= MOST_PLACES
+}
+
+/// The same of the third number, where there is one.
+#[inline(always)]
+fn is_third_short(third: &Option<Numbered>) -> bool
+    ensures { result ≡ true → (noted : Noted) → third_precise third.now noted ≡ noted }
+{
+    match third {
+        Some(number) => is_written_short(number.value),
+        None => true,
+    }
+}
+
+/// The same of all its numbers.
+#[inline(always)]
+fn is_all_short(flat: &Flat) -> bool
+    ensures { result ≡ true → flat_precise flat.now ≡ nothing_noted }
+{
+    is_written_short(flat.first.value)
+        && is_written_short(flat.second.value)
+        && is_third_short(&flat.third)
 }
 
 /// With this number, if it is too precise.
@@ -80,6 +127,19 @@ pub fn corner(flat: &Flat) -> Option<Corner>
     ensures { result ≡ corner_of (Some (exact_of flat.now.first.value)) (Some (exact_of flat.now.second.value)) }
 {
     Corner::of(flat.first.value, flat.second.value)
+}
+
+/// The corner of a position in which a look at how it is written shows nothing worth a warning, as it mostly does.
+#[tactic(auto, using(crate::proofs::PreciseLaws::plain_if))]
+#[inline(always)]
+pub fn plain_corner(flat: &Flat) -> Option<Corner>
+    ensures { IfSome result (λ corner. IsPlain flat.now corner) }
+{
+    if is_all_short(flat) {
+        corner(flat)
+    } else {
+        None
+    }
 }
 
 /// The least place of a number.
@@ -138,16 +198,21 @@ pub fn warn(flat: &Flat, corner: &Option<Corner>, warned: &mut Warned)
 fn warn_beyond(flat: &Flat, corner: &Option<Corner>, warned: &mut Warned)
     ensures { warned.new ≡ position_noted warned.old flat.now.place (flat_count flat.now.third) corner.now (flat_precise flat.now) }
 {
-    let count = match &flat.third {
-        Some(_) => 3,
-        None => 2,
-    };
-    note_position(flat.place, count, corner, precise(flat), warned);
+    note_position(flat.place, count(flat), corner, precise(flat), warned);
 }
 
-/// Notes what is worth a warning in it.
+/// Notes what is worth a warning in it. Mostly there is nothing.
 #[inline]
 pub fn warn_quick(flat: &Flat, warned: &mut Warned)
+    ensures { warned.new ≡ sound_noted warned.old (flat_position flat.now) }
+{
+    if plain_corner(flat).is_none() {
+        warn_slow(flat, warned);
+    }
+}
+
+#[inline(never)]
+fn warn_slow(flat: &Flat, warned: &mut Warned)
     ensures { warned.new ≡ sound_noted warned.old (flat_position flat.now) }
 {
     warn(flat, &corner(flat), warned);

@@ -1,12 +1,14 @@
 //! What the readers of coordinates are made of.
 ghost use Rattle.std.specs.Prelude.{◌≡◌};
+ghost use Rattle.gj_json.specs.declared.event.What.TheVariants.{OpenArray, CloseArray};
+ghost use Rattle.gj_coords.specs.Sent.{event_at};
 ghost use Rattle.gj_coords.specs.Reading.{Machine};
 ghost use Rattle.gj_coords.specs.Gathering.{Gathering};
 ghost use Rattle.gj_coords.specs.Findings.{Judgement};
 
 use crate::fault::Fault;
 use crate::warned::Warned;
-use gj_json::Event;
+use gj_json::{Event, What};
 
 /// Reads one value event by event, and answers.
 pub trait Part: Copy {
@@ -22,6 +24,28 @@ pub trait Part: Copy {
     /// One event more, whatever it is.
     fn event(&mut self, event: &Event)
         ensures { self.new ≡ machine.after self.old event.now };
+
+    /// The same of an opening bracket of an array.
+    #[inline]
+    fn open_array(&mut self, place: u64)
+        ensures { self.new ≡ machine.after self.old (event_at place OpenArray) }
+    {
+        self.event(&Event {
+            place,
+            what: What::OpenArray,
+        });
+    }
+
+    /// The same of a closing bracket of an array.
+    #[inline]
+    fn close_array(&mut self, place: u64)
+        ensures { self.new ≡ machine.after self.old (event_at place CloseArray) }
+    {
+        self.event(&Event {
+            place,
+            what: What::CloseArray,
+        });
+    }
 
     /// Makes it ready for another value, once one has ended.
     fn again(&mut self)

@@ -2,6 +2,8 @@
 ghost use Rattle.std.specs.Prelude.{◌≡◌, true, false, Some};
 ghost use Rattle.std.specs.Option.{option_eq};
 ghost use Rattle.gj_number.specs.Exact.{same_parts};
+ghost use Rattle.gj_number.specs.Short.{exact_of};
+ghost use Rattle.gj_coords.specs.FlatPosition.{third_value};
 ghost use Rattle.gj_coords.specs.CoordinateWarnings.{is_precise};
 ghost use Rattle.gj_coords.specs.Position.{misshapen_at, position_closed};
 
@@ -15,8 +17,8 @@ use crate::position_warned::note_position;
 use crate::tally::Tally;
 use crate::warned::Warned;
 use crate::winding::Corner;
-use gj_json::{Event, Flat, What};
-use gj_number::Decimal;
+use gj_json::{Event, Flat, Numbered, What};
+use gj_number::{Decimal, Short};
 
 /// A position needs this many elements.
 const NEEDED: u8 = 2;
@@ -77,6 +79,26 @@ fn digits_differ(number: &Decimal, other: &Decimal) -> bool
     digits != others
 }
 
+/// Whether it is this number.
+fn is_same(number: &Option<Decimal>, other: Short) -> bool
+    ensures { result ≡ option_eq same_parts number.now (Some (exact_of other)) }
+{
+    match number {
+        Some(number) => *number == other.decimal(),
+        None => false,
+    }
+}
+
+/// The same of a third number, where there is one.
+fn is_third_same(number: &Option<Decimal>, other: &Option<Numbered>) -> bool
+    ensures { result ≡ option_eq same_parts number.now (third_value other.now) }
+{
+    match other {
+        Some(other) => is_same(number, other.value),
+        None => number.is_none(),
+    }
+}
+
 impl Values {
     ghost use Rattle.std.specs.Prelude.{◌≡◌, true, false};
     ghost use Rattle.gj_coords.specs.FlatPosition.{flat_values};
@@ -121,12 +143,27 @@ impl Values {
         *self == *other
     }
 
-    /// Whether the first numbers of this and of a position that is told as one differ in their digits.
+    /// Whether a position that is told as one has the same values, and as many. Mostly the digits of the first numbers
+    /// differ.
     #[inline(always)]
-    pub fn differs(&self, other: &Flat) -> bool
-        ensures { result ≡ true → same_values self.now (flat_values other.now) ≡ false }
+    pub fn same_flat(&self, other: &Flat) -> bool
+        ensures { result ≡ same_values self.now (flat_values other.now) }
     {
-        differs(&self.first, &other.first.value.decimal())
+        if differs(&self.first, &other.first.value.decimal()) {
+            false
+        } else {
+            self.same_each(other)
+        }
+    }
+
+    #[inline(never)]
+    fn same_each(&self, other: &Flat) -> bool
+        ensures { result ≡ same_values self.now (flat_values other.now) }
+    {
+        self.count == flat::count(other)
+            && (is_same(&self.first, other.first.value)
+                && (is_same(&self.second, other.second.value)
+                    && is_third_same(&self.third, &other.third)))
     }
 
     /// The corner of the first two, where they are in range.
@@ -151,7 +188,8 @@ impl Numbers {
     ghost use Rattle.gj_json.specs.declared.event.What.TheVariants.{OpenArray};
     ghost use Rattle.gj_coords.specs.Sent.{event_at};
     ghost use Rattle.gj_coords.specs.declared.kind.Kind.TheVariants.{W3, W4, W5};
-    ghost use Rattle.gj_coords.specs.Position.{number_added, first_judged, numbers_start, position_least, position_noted, judged_noted};
+    ghost use Rattle.gj_coords.specs.Position.{number_added, first_judged, array_counted, numbers_start, position_least, position_noted, judged_noted};
+    ghost use Rattle.gj_coords.specs.Steady.{IsCounted};
 
     pub fn none() -> Numbers
         ensures { result ≡ numbers_start 0 }
@@ -212,6 +250,25 @@ impl Numbers {
         ensures { self.new ≡ number_added self.old (event_at place OpenArray) }
     {
         join_fault(&mut self.fault, misshapen(place));
+        self.values.push(&None);
+        self.tally.add();
+    }
+
+    /// Counts an element that is an array, whose fault changes nothing. Mostly as many are counted as are.
+    #[tactic(auto, using(crate::proofs::SteadyLaws::counted_whole))]
+    #[inline(always)]
+    pub fn count_array(&mut self)
+        ensures { IsCounted self.old → self.new ≡ array_counted self.old }
+    {
+        if self.tally.is_open() {
+            self.count_one();
+        }
+    }
+
+    #[inline(never)]
+    fn count_one(&mut self)
+        ensures { self.new ≡ array_counted self.old }
+    {
         self.values.push(&None);
         self.tally.add();
     }

@@ -130,24 +130,43 @@ impl Positions {
     pub fn add_quick(&mut self, position: &Flat)
         ensures { self.new ≡ position_added self.old (flat_position position.now) }
     {
-        let corner = flat::corner(position);
-        flat::warn(position, &corner, &mut self.warned);
-        if self.fault.is_none() {
-            self.add_sound_flat(position, corner);
+        match flat::plain_corner(position) {
+            Some(corner) => {
+                if self.fault.is_none() {
+                    self.add_sound_flat(position, corner);
+                }
+            }
+            None => self.add_warned(position),
         }
     }
 
-    /// Adds a position that is told as one after others without a fault. Mostly it is neither the first nor the same.
+    /// The same where it may be worth a warning.
+    #[inline(never)]
+    fn add_warned(&mut self, position: &Flat)
+        ensures { self.new ≡ position_added self.old (flat_position position.now) }
+    {
+        let corner = flat::corner(position);
+        flat::warn(position, &corner, &mut self.warned);
+        if self.fault.is_some() {
+            return;
+        }
+        match corner {
+            Some(corner) => self.add_sound_flat(position, corner),
+            None => self.add_sound(&flat::values(position), None),
+        }
+    }
+
+    /// Adds a position that is told as one after others without a fault.
     #[inline(always)]
-    fn add_sound_flat(&mut self, position: &Flat, corner: Option<Corner>)
-        ensures { self.new ≡ sound_joined self.old (flat_values position.now) corner }
+    fn add_sound_flat(&mut self, position: &Flat, corner: Corner)
+        ensures { self.new ≡ sound_joined self.old (flat_values position.now) (Some corner) }
     {
         match &self.first {
-            Some(first) if first.differs(position) => {
-                self.closes = false;
-                self.winding.add_quick(corner);
+            Some(first) => {
+                self.closes = first.same_flat(position);
+                self.winding.add_next(&corner);
             }
-            _ => self.add_sound(&flat::values(position), corner),
+            None => self.add_sound(&flat::values(position), Some(corner)),
         }
     }
 

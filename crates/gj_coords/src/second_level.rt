@@ -42,6 +42,7 @@ impl SecondLevel {
     ghost use Rattle.std.specs.Prelude.{◌≡◌};
     ghost use Rattle.gj_coords.specs.Positions.{ring_closed};
     ghost use Rattle.gj_coords.specs.Several.{line_closed};
+    ghost use Rattle.gj_coords.specs.Steady.{IsCounted, second_steady};
     ghost use Rattle.gj_coords.specs.FlatPosition.{flat_third};
     ghost use Rattle.gj_coords.specs.Walk.{third_gathering, second_gathering};
 
@@ -68,6 +69,15 @@ impl SecondLevel {
         self.numbers.add_array(position.place);
         self.positions.add_flat(position);
         join_fault(&mut self.rings, flat::ring_fault(position));
+    }
+
+    /// The same where it changes no fault.
+    #[inline(always)]
+    pub fn add_steady(&mut self, position: &Flat)
+        ensures { IsCounted self.old.numbers → self.new ≡ second_steady position.now self.old }
+    {
+        self.numbers.count_array();
+        self.positions.add_quick(position);
     }
 
     /// Adds an element that is no array, by its first event.

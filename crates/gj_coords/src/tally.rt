@@ -1,5 +1,5 @@
 //! How many elements an array has, as far as the rules ask.
-ghost use Rattle.std.specs.Prelude.{◌≡◌};
+ghost use Rattle.std.specs.Prelude.{◌≡◌, nat_lt};
 ghost use Rattle.gj_coords.specs.Tally.{tally_at, counted, few_in};
 
 use crate::fault::{Fault, Rule};
@@ -21,10 +21,18 @@ impl Tally {
         Tally { place, count: 0 }
     }
 
+    /// Whether an element more is counted.
+    #[inline(always)]
+    pub fn is_open(&self) -> bool
+        ensures { result ≡ nat_lt self.now.count 4 }
+    {
+        self.count < MOST_COUNTED
+    }
+
     pub fn add(&mut self)
         ensures { self.new ≡ counted self.old }
     {
-        if self.count < MOST_COUNTED {
+        if self.is_open() {
             self.count += 1;
         }
     }

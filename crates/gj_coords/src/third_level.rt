@@ -33,6 +33,7 @@ impl ThirdLevel {
     ghost use Rattle.std.specs.Prelude.{◌≡◌};
     ghost use Rattle.gj_coords.specs.Position.{position_closed, no_position};
     ghost use Rattle.gj_coords.specs.Positions.{ring_closed};
+    ghost use Rattle.gj_coords.specs.Steady.{IsCounted, third_steady};
     ghost use Rattle.gj_coords.specs.FlatPosition.{flat_position};
     ghost use Rattle.gj_coords.specs.Walk.{third_gathering};
 
@@ -51,6 +52,15 @@ impl ThirdLevel {
     {
         self.numbers.add_array(position.place);
         self.positions.add_flat(position);
+    }
+
+    /// The same where it changes no fault.
+    #[inline(always)]
+    pub fn add_steady(&mut self, position: &Flat)
+        ensures { IsCounted self.old.numbers → self.new ≡ third_steady position.now self.old }
+    {
+        self.numbers.count_array();
+        self.positions.add_quick(position);
     }
 
     /// Adds an element that is no array, by its first event.

@@ -212,20 +212,10 @@ impl Winding {
         self.last = Some(*corner);
     }
 
-    /// The same, for the one place where most positions come: after a first corner the sum and the last corner are
+    /// Adds a corner, for the one place where most positions come: after a first corner the sum and the last corner are
     /// written where they are.
     #[inline(always)]
-    pub fn add_quick(&mut self, corner: Option<Corner>)
-        ensures { self.new ≡ winding_added self.old corner }
-    {
-        match corner {
-            Some(corner) => self.add_next(&corner),
-            None => self.add(None),
-        }
-    }
-
-    #[inline(always)]
-    fn add_next(&mut self, corner: &Corner)
+    pub fn add_next(&mut self, corner: &Corner)
         ensures { self.new ≡ corner_added self.old corner.now }
     {
         match &mut self.last {

@@ -291,13 +291,15 @@ impl EventSink for Rules {
     ghost ignores = { λ rules. rules.skipped };
 
     // Whoever tells an event mostly knows of which kind it is. The usual kinds go on without the room of a number.
-    #[inline]
+    #[inline(always)]
     fn tell(&mut self, event: Event) {
         match event.what {
             What::Name(name) => self.tell_name(name, event.place),
             What::Text(word) => self.tell_text(word, event.place),
             What::OpenObject => self.tell_open_object(event.place),
             What::CloseObject => self.tell_close_object(event.place),
+            What::OpenArray => self.tell_open_array(event.place),
+            What::CloseArray => self.tell_close_array(event.place),
             _ => self.tell_other(event),
         }
     }

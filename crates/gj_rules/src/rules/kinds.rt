@@ -8,6 +8,7 @@ use crate::mode::Mode;
 use gj_json::{Event, Known, What, Word};
 
 impl Rules {
+    ghost use Rattle.gj_rules.specs.Kept.{Feeds};
     ghost use Rattle.gj_rules.specs.Rules.{StandsFor};
 
     #[inline(always)]
@@ -86,6 +87,68 @@ impl Rules {
         ensures { (events : List Event) → StandsFor self.old events → StandsFor self.new (events ++ record { place = place; what = W.CloseObject } ∷ []) }
     {
         self.tell_what(What::CloseObject, place);
+    }
+
+    /// The start of an array in the value of `coordinates`.
+    fn feed_open_array(&mut self, place: u64)
+        requires skipped { self.old.skipped ≡ 0 }
+        requires mode { self.old.mode ≡ Mode.Due Known.Coordinates }
+        ensures { Feeds self.old (record { place = place; what = W.OpenArray }) self.new }
+    {
+        self.coordinates.open_array(place);
+        if self.coordinates.done() {
+            self.end_coordinates();
+        }
+    }
+
+    /// The end of an array in the value of `coordinates`.
+    fn feed_close_array(&mut self, place: u64)
+        requires skipped { self.old.skipped ≡ 0 }
+        requires mode { self.old.mode ≡ Mode.Due Known.Coordinates }
+        ensures { Feeds self.old (record { place = place; what = W.CloseArray }) self.new }
+    {
+        self.coordinates.close_array(place);
+        if self.coordinates.done() {
+            self.end_coordinates();
+        }
+    }
+
+    /// The start of an array. Mostly it is one in a `coordinates`.
+    #[inline(never)]
+    pub(super) fn tell_open_array(&mut self, place: u64)
+        ensures { (events : List Event) → StandsFor self.old events → StandsFor self.new (events ++ record { place = place; what = W.OpenArray } ∷ []) }
+    {
+        if self.is_in_coordinates() {
+            self.feed_open_array(place);
+        } else {
+            self.tell_inner_open_array(place);
+        }
+    }
+
+    #[inline(never)]
+    fn tell_inner_open_array(&mut self, place: u64)
+        ensures { (events : List Event) → StandsFor self.old events → StandsFor self.new (events ++ record { place = place; what = W.OpenArray } ∷ []) }
+    {
+        self.tell_what(What::OpenArray, place);
+    }
+
+    /// The end of an array. Mostly it is one in a `coordinates`.
+    #[inline(never)]
+    pub(super) fn tell_close_array(&mut self, place: u64)
+        ensures { (events : List Event) → StandsFor self.old events → StandsFor self.new (events ++ record { place = place; what = W.CloseArray } ∷ []) }
+    {
+        if self.is_in_coordinates() {
+            self.feed_close_array(place);
+        } else {
+            self.tell_inner_close_array(place);
+        }
+    }
+
+    #[inline(never)]
+    fn tell_inner_close_array(&mut self, place: u64)
+        ensures { (events : List Event) → StandsFor self.old events → StandsFor self.new (events ++ record { place = place; what = W.CloseArray } ∷ []) }
+    {
+        self.tell_what(What::CloseArray, place);
     }
 
     #[inline(never)]

@@ -1,6 +1,7 @@
 use Rattle.gj_coords.specs.declared.depth.Depth.TheVariants.{First, Second, Third}
 use Rattle.gj_coords.specs.Coordinates.{Holds}
 use Rattle.gj_coords.proofs.CoordinatesLaws.{first_flat, second_flat, third_flat, holds_at, held_at}
+use Rattle.gj_coords.proofs.SteadyLaws.{first_still, second_still, third_still}
 use Rattle.gj_coords.proofs.coordinates.Coordinates.take_flat.Goals as goal
 
 pub returns-in-Second : goal.returns-in-Second
@@ -10,7 +11,7 @@ returns-in-Second c = record {
       let k : Holds Second s.floor events s.walk = holds_at s.depth Second s.floor events s.walk c.in-Second.is stands.holds in
       record {
         holds = held_at s.depth Second s.floor _ _ c.in-Second.is
-            (rw c.add_quick.ensures (second_flat s.floor s.walk events c.args.flat.now k.0 k.1 (c.is_past.ensures c.if-is_past.true), k.1));
+            (rw (c.add_steady.ensures k.1.settled.counted) (second_flat s.floor s.walk events c.args.flat.now k.0 k.1 (c.is_past.ensures c.if-is_past.true), second_still s.floor c.args.flat.now s.walk k.1));
       };
 }
 
@@ -21,7 +22,7 @@ returns-in-Third c = record {
       let k : Holds Third s.floor events s.walk = holds_at s.depth Third s.floor events s.walk c.in-Third.is stands.holds in
       record {
         holds = held_at s.depth Third s.floor _ _ c.in-Third.is
-            (rw c.add_quick-in-Third.ensures (third_flat s.floor s.walk events c.args.flat.now k.0 k.1 (c.is_past.ensures c.if-is_past.true), k.1));
+            (rw (c.add_steady-in-Third.ensures k.1.settled.counted) (third_flat s.floor s.walk events c.args.flat.now k.0 k.1 (c.is_past.ensures c.if-is_past.true), third_still s.floor c.args.flat.now s.walk k.1));
       };
 }
 
@@ -32,6 +33,6 @@ returns-in-First c = record {
       let k : Holds First s.floor events s.walk = holds_at s.depth First s.floor events s.walk c.in-First.is stands.holds in
       record {
         holds = held_at s.depth First s.floor _ _ c.in-First.is
-            (rw c.warn_quick.ensures (first_flat s.floor s.walk events c.args.flat.now k.0 k.1 (c.is_past.ensures c.if-is_past.true), k.1));
+            (rw (c.add_steady-in-First.ensures k.1.settled.counted) (first_flat s.floor s.walk events c.args.flat.now k.0 k.1 (c.is_past.ensures c.if-is_past.true), first_still s.floor c.args.flat.now s.walk k.1));
       };
 }
