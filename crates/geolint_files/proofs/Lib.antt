@@ -2,3 +2,4 @@ mod Judging
 mod Quickly
 mod Settled
 mod Lines
+mod Worst

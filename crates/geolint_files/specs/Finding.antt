@@ -98,7 +98,7 @@ worse Fail Unread = Unread
 worse Fail second = Fail
 worse Pass second = second
 
--- the worst of all
+-- the worst of all: 2 where a file could not be read, or else 1 where one does not pass
 abbrev pub worst : List Outcome → Outcome
 worst [] = Pass
 worst (first ∷ more) = worse first (worst more)

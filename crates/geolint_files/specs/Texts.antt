@@ -1,5 +1,5 @@
 -- What is told in words: of rules, kinds of warning and causes, and of the steps of a path.
-use Rattle.std.specs.Prelude.{ℕ, List, [], ◌∷◌, ◌++◌, codes}
+use Rattle.std.specs.Prelude.{ℕ, List, ◌++◌, codes}
 use Rattle.std.specs.List.{flat_map}
 use Rattle.std.specs.Fmt.{decimal}
 use Rattle.gj_coords.specs.declared.fault.Rule.{Rule}

@@ -12,8 +12,9 @@ pub enum Outcome {
 }
 
 impl Outcome {
-    ghost use Rattle.std.specs.Prelude.{◌≡◌};
-    ghost use Rattle.geolint_files.specs.Finding.{status_of, outcome_of, worse};
+    ghost use Rattle.std.specs.Prelude.{◌≡◌, ◌++◌, ◌∷◌, [], List};
+    ghost use Rattle.geolint_files.specs.declared.outcome.Outcome.{Outcome};
+    ghost use Rattle.geolint_files.specs.Finding.{status_of, outcome_of, worse, worst};
 
     /// Of one file that was read.
     pub fn of(passes: bool) -> Outcome
@@ -36,8 +37,15 @@ impl Outcome {
         }
     }
 
+    /// With one file more, the worst of all.
+    pub fn add(&mut self, other: Outcome)
+        ensures { (outcomes : List Outcome) → self.old ≡ worst outcomes → self.new ≡ worst (outcomes ++ other ∷ []) }
+    {
+        *self = self.worse(other);
+    }
+
     /// The worse of two.
-    pub fn worse(self, other: Outcome) -> Outcome
+    fn worse(self, other: Outcome) -> Outcome
         ensures { result ≡ worse self other }
     {
         match (self, other) {

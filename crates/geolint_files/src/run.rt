@@ -13,7 +13,6 @@ use crate::progress::Meter;
 use crate::report::Report;
 use crate::sites::Sites;
 use crate::summary::Summary;
-use crate::texts::{Code, KINDS, has};
 use crate::walk::{Pending, Walk, is_sequence, is_taken};
 use crate::words::Order;
 use std::alloc::AllocError;
@@ -109,7 +108,14 @@ fn style_of(rt: &HostRuntime, is_terminal: bool) -> Style {
 }
 
 impl Run {
-    fn new(rt: &HostRuntime, options: Options) -> Result<Run, Failure> {
+    ghost use Rattle.std.specs.Prelude.{◌≡◌, ◌++◌, ◌∷◌, [], List, IfOk, OnOk};
+    ghost use Rattle.geolint_files.specs.declared.outcome.Outcome.{Outcome};
+    ghost use Rattle.geolint_files.specs.declared.outcome.Outcome.TheVariants.{Unread};
+    ghost use Rattle.geolint_files.specs.Finding.{outcome_of, passes, worst};
+
+    fn new(rt: &HostRuntime, options: Options) -> Result<Run, Failure>
+        ensures { IfOk result (λ run. run.outcome ≡ worst []) }
+    {
         let is_terminal = rt.stdout().is_terminal();
         Ok(Run {
             rt: rt.clone()?,
@@ -132,7 +138,10 @@ impl Run {
         self.write()
     }
 
-    fn end(mut self) -> Result<Outcome, Failure> {
+    /// The worst of all is the answer.
+    fn end(mut self) -> Result<Outcome, Failure>
+        ensures { IfOk result (λ outcome. outcome ≡ self.outcome) }
+    {
         self.progress.clear();
         if self.options.format == Format::Sarif {
             self.log.end(&mut self.line)?;
@@ -150,7 +159,9 @@ impl Run {
     }
 
     /// Writes what is told, and begins a new line.
-    fn write(&mut self) -> Result<(), Failure> {
+    fn write(&mut self) -> Result<(), Failure>
+        ensures { self.new.outcome ≡ self.old.outcome }
+    {
         self.out.write_all(self.line.as_slice())?;
         self.line.clear();
         Ok(())
@@ -313,11 +324,14 @@ impl Run {
     }
 
     /// Tells a file that was judged.
-    fn tell(&mut self, name: &[u8], finding: Finding, sites: &Sites) -> Result<(), Failure> {
+    fn tell(&mut self, name: &[u8], finding: Finding, sites: &Sites) -> Result<(), Failure>
+        ensures { (outcomes : List Outcome) → self.old.outcome ≡ worst outcomes
+            → self.new.outcome ≡ worst (outcomes ++ outcome_of (passes self.old.options.strict self.old.options.allowed finding) ∷ []) }
+    {
         self.progress.clear();
         let passes = self.options.passes(&finding);
-        self.outcome = self.outcome.worse(Outcome::of(passes));
-        self.count(&finding);
+        self.outcome.add(Outcome::of(passes));
+        self.summary.add_file(&finding);
         let report = Report {
             name,
             finding,
@@ -330,7 +344,9 @@ impl Run {
     }
 
     /// What is told of a file, in the form that is asked for.
-    fn put(&mut self, report: &Report<'_>) -> Result<(), AllocError> {
+    fn put(&mut self, report: &Report<'_>) -> Result<(), AllocError>
+        ensures { self.new.outcome ≡ self.old.outcome }
+    {
         let alloc = self.rt.alloc();
         match self.options.format {
             Format::Text => text::put(report, &mut self.line),
@@ -341,33 +357,12 @@ impl Run {
         }
     }
 
-    fn count(&mut self, finding: &Finding) {
-        match finding.fault() {
-            Some(told) => {
-                match told.code {
-                    Code::Cause(_) => self.summary.add_refused(),
-                    _ => self.summary.add_broken(),
-                }
-                self.summary.count(told.code);
-            }
-            None => match finding.warnings() {
-                None => self.summary.add_not_valid(),
-                Some(warnings) => {
-                    self.summary.add_valid(!warnings.is_empty());
-                    for kind in &KINDS {
-                        if has(&warnings, *kind) {
-                            self.summary.count(Code::Kind(*kind));
-                        }
-                    }
-                }
-            },
-        }
-    }
-
     /// Tells a file that could not be opened or read. On standard error each is told.
-    fn tell_unread(&mut self, name: &[u8], error: &io::Error) -> Result<(), Failure> {
+    fn tell_unread(&mut self, name: &[u8], error: &io::Error) -> Result<(), Failure>
+        ensures { (outcomes : List Outcome) → self.old.outcome ≡ worst outcomes → self.new.outcome ≡ worst (outcomes ++ Unread ∷ []) }
+    {
         self.progress.clear();
-        self.outcome = self.outcome.worse(Outcome::Unread);
+        self.outcome.add(Outcome::Unread);
         self.summary.add_unread();
         let alloc = self.rt.alloc();
         let reason = reason(alloc, error)?;
@@ -383,7 +378,9 @@ impl Run {
         self.show()
     }
 
-    fn put_unread(&mut self, name: &[u8], reason: &str) -> Result<(), AllocError> {
+    fn put_unread(&mut self, name: &[u8], reason: &str) -> Result<(), AllocError>
+        ensures { self.new.outcome ≡ self.old.outcome }
+    {
         let alloc = self.rt.alloc();
         match self.options.format {
             Format::Text | Format::Lines => Ok(()),
@@ -394,7 +391,9 @@ impl Run {
     }
 
     /// On a terminal each file is shown when it is judged.
-    fn show(&mut self) -> Result<(), Failure> {
+    fn show(&mut self) -> Result<(), Failure>
+        ensures { self.new.outcome ≡ self.old.outcome }
+    {
         if self.is_terminal {
             self.out.flush()?;
         }

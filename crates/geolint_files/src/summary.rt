@@ -1,7 +1,9 @@
 //! How many files are what.
 
+use crate::judge::Finding;
 use crate::line::put_all;
-use crate::texts::{CAUSES, Code, KINDS, RULES};
+use crate::texts::{CAUSES, Code, KINDS, RULES, has};
+use gj_coords::Warnings;
 use itoa::Buffer;
 use std::alloc::AllocError;
 
@@ -31,24 +33,34 @@ impl Summary {
         }
     }
 
-    pub fn add_valid(&mut self, has_warnings: bool) {
-        if has_warnings {
-            self.warned = self.warned.saturating_add(1);
-        } else {
-            self.valid = self.valid.saturating_add(1);
+    /// One file more of which this is found.
+    pub fn add_file(&mut self, finding: &Finding) {
+        match finding.fault() {
+            Some(told) => {
+                match told.code {
+                    Code::Cause(_) => self.refused = self.refused.saturating_add(1),
+                    _ => self.broken = self.broken.saturating_add(1),
+                }
+                self.count(told.code);
+            }
+            None => match finding.warnings() {
+                None => self.not_valid = self.not_valid.saturating_add(1),
+                Some(warnings) => self.add_valid(&warnings),
+            },
         }
     }
 
-    pub fn add_broken(&mut self) {
-        self.broken = self.broken.saturating_add(1);
-    }
-
-    pub fn add_refused(&mut self) {
-        self.refused = self.refused.saturating_add(1);
-    }
-
-    pub fn add_not_valid(&mut self) {
-        self.not_valid = self.not_valid.saturating_add(1);
+    fn add_valid(&mut self, warnings: &Warnings) {
+        if warnings.is_empty() {
+            self.valid = self.valid.saturating_add(1);
+        } else {
+            self.warned = self.warned.saturating_add(1);
+        }
+        for kind in &KINDS {
+            if has(warnings, *kind) {
+                self.count(Code::Kind(*kind));
+            }
+        }
     }
 
     pub fn add_unread(&mut self) {
@@ -56,7 +68,7 @@ impl Summary {
     }
 
     /// One file more of which this is told.
-    pub fn count(&mut self, code: Code) {
+    fn count(&mut self, code: Code) {
         if let Some(count) = self.counts.get_mut(slot(code)) {
             *count = count.saturating_add(1);
         }

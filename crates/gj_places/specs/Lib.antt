@@ -1,3 +1,5 @@
 pub mod Lines
 pub mod Counting
 pub mod Strings
+pub mod Excerpts
+pub mod Keeping

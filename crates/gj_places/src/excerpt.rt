@@ -1,16 +1,17 @@
 //! The part of a line around a place.
 
+ghost use Rattle.std.specs.Prelude.{◌≡◌, ◌++◌, IfOk, OnOk, string_bytes, encode_utf8_all};
+ghost use Rattle.gj_places.specs.Excerpts.{last_of, without_return, harmless, characters_of, cut_front, cut_back};
+
 use arrayvec::ArrayVec;
 use std::alloc::{AllocError, Global};
+use unicode_width::UnicodeWidthStr;
 
 /// How many characters are shown before the place at most, and from it on.
 const MOST_SHOWN: usize = 50;
 
-/// How many bytes are kept of the line before the place. A half of them has more characters than are shown.
-const BEFORE: usize = 512;
-
-/// How many bytes are kept of the line from the place on: more characters than are shown.
-const AFTER: usize = 256;
+/// How many bytes are shown of the line before the place, and from it on: they have more characters than are shown.
+const MOST_BYTES: usize = 256;
 
 /// What stands where a part of the line is left out.
 const LEFT_OUT: &str = "...";
@@ -21,12 +22,12 @@ const HARMLESS: char = '\u{FFFD}';
 /// The bytes of a line around a place, as many as are needed to show them: fixed memory for a line of any length.
 #[derive(Drop)]
 pub struct Excerpt {
-    before: ArrayVec<u8, BEFORE>,
-    after: ArrayVec<u8, AFTER>,
+    before: ArrayVec<u8, MOST_BYTES>,
+    after: ArrayVec<u8, MOST_BYTES>,
     is_whole: bool,
 }
 
-/// A part of a line as it is shown, and how many characters stand before the place in it.
+/// A part of a line as it is shown, and how many columns of a terminal stand before the place in it.
 #[derive(Drop)]
 pub struct Shown {
     pub text: String,
@@ -34,8 +35,16 @@ pub struct Shown {
 }
 
 impl Excerpt {
+    ghost use Rattle.std.specs.Prelude.{◌≡◌, ◌<◌, ◌++◌, ◌∷◌, [], ℕ, List, IfOk, string_bytes, chars, encode_utf8_all, true, false};
+    ghost use Rattle.arrayvec.specs.ArrayVec.{array_vec_len};
+    ghost use Rattle.unicode_width.specs.Width.{str_width};
+    ghost use Rattle.gj_places.specs.Excerpts.{front_of, rest_of};
+    ghost use Rattle.gj_places.specs.Keeping.{Keeps};
+
     /// Of a text of which nothing was read.
-    pub fn new() -> Excerpt {
+    pub fn new() -> Excerpt
+        ensures { Keeps result [] [] }
+    {
         Excerpt {
             before: ArrayVec::new(),
             after: ArrayVec::new(),
@@ -44,79 +53,120 @@ impl Excerpt {
     }
 
     /// Takes the next bytes, all before the place.
-    pub fn feed_before(&mut self, piece: &[u8]) {
-        let skipped = piece.len().saturating_sub(BEFORE);
-        for byte in &piece[skipped..] {
-            if *byte == b'\n' {
-                self.before.clear();
-            } else {
-                self.push_before(*byte);
-            }
+    pub fn feed_before(&mut self, piece: &[u8])
+        ensures { (before : List ℕ) → Keeps self.old before [] → Keeps self.new (before ++ piece.now) [] }
+    {
+        if piece.len() < MOST_BYTES {
+            self.push_all_before(piece);
+        } else {
+            self.before.clear();
+            self.push_all_before(last_bytes(piece));
         }
     }
 
-    fn push_before(&mut self, byte: u8) {
-        if self.before.is_full() {
-            self.before.drain(..BEFORE / 2);
+    fn push_all_before(&mut self, piece: &[u8])
+        ensures { (before : List ℕ) → Keeps self.old before [] → Keeps self.new (before ++ piece.now) [] }
+    {
+        for byte in piece {
+            self.push_before(*byte);
         }
-        let _has_room = self.before.try_push(byte);
+    }
+
+    fn push_before(&mut self, byte: u8)
+        ensures { (before : List ℕ) → Keeps self.old before [] → Keeps self.new (before ++ byte ∷ []) [] }
+    {
+        if byte == b'\n' {
+            self.before.clear();
+            return;
+        }
+        if self.before.is_full() {
+            self.before.remove(0);
+        }
+        self.before.push(byte);
     }
 
     /// Takes the next bytes, all at the place or behind it.
-    pub fn feed_after(&mut self, piece: &[u8]) {
+    pub fn feed_after(&mut self, piece: &[u8])
+        ensures { (before after : List ℕ) → Keeps self.old before after → Keeps self.new before (after ++ piece.now) }
+    {
         for byte in piece {
             if self.is_whole() {
                 return;
             }
-            if *byte == b'\n' {
-                self.is_whole = true;
-            } else {
-                let _has_room = self.after.try_push(*byte);
-            }
+            self.push_after(*byte);
+        }
+    }
+
+    fn push_after(&mut self, byte: u8)
+        requires open { self.old.is_whole ≡ false }
+        requires room { array_vec_len self.old.after < 256 }
+        ensures { (before after : List ℕ) → Keeps self.old before after → Keeps self.new before (after ++ byte ∷ []) }
+    {
+        if byte == b'\n' {
+            self.is_whole = true;
+        } else {
+            self.after.push(byte);
         }
     }
 
     /// Whether no more bytes are needed.
-    pub fn is_whole(&self) -> bool {
+    pub fn is_whole(&self) -> bool
+        ensures whole { (before after more : List ℕ) → Keeps self.now before after → result ≡ true → Keeps self.now before (after ++ more) }
+        ensures open { result ≡ false → (self.now.is_whole ≡ false) × (array_vec_len self.now.after < 256) }
+    {
         self.is_whole || self.after.is_full()
     }
 
     /// The part of the line as a terminal shows it: each control character and what is no UTF-8 as one harmless character.
-    pub fn shown(&self, alloc: Global) -> Result<Shown, AllocError> {
-        let before = String::from_utf8_lossy(alloc, self.before.as_slice())?;
-        let after = String::from_utf8_lossy(alloc, without_return(self.after.as_slice()))?;
-        let left_out = before.as_str().chars().count().saturating_sub(MOST_SHOWN);
+    pub fn shown(&self, alloc: Global) -> Result<Shown, AllocError>
+        ensures text { (before after : List ℕ) → Keeps self.now before after
+            → IfOk result (λ shown. string_bytes shown.text ≡ encode_utf8_all (front_of before) ++ encode_utf8_all (rest_of after)) }
+        ensures caret { (before after : List ℕ) → Keeps self.now before after
+            → IfOk result (λ shown. shown.before ≡ str_width false (chars (encode_utf8_all (front_of before)))) }
+    {
+        let front = characters_of(alloc, last_bytes(self.before.as_slice()))?;
+        let rest = characters_of(alloc, without_return(self.after.as_slice()))?;
         let mut text = String::new(alloc);
-        if left_out > 0 {
-            text.push_str(LEFT_OUT)?;
-        }
-        for c in before.as_str().chars().skip(left_out) {
-            text.push(harmless(c))?;
-        }
-        let shown_before = text.as_str().chars().count();
-        for c in after.as_str().chars().take(MOST_SHOWN) {
-            text.push(harmless(c))?;
-        }
-        if after.as_str().chars().count() > MOST_SHOWN {
-            text.push_str(LEFT_OUT)?;
-        }
-        Ok(Shown {
-            text,
-            before: shown_before,
-        })
+        push_cut_front(&mut text, front.as_slice())?;
+        let before = text.as_str().width();
+        push_cut_back(&mut text, rest.as_slice())?;
+        Ok(Shown { text, before })
     }
 }
 
+/// The bytes at the end, as many as are shown.
+fn last_bytes(bytes: &[u8]) -> &[u8]
+    ensures { result.now ≡ last_of 256 bytes.now }
+{
+    &bytes[bytes.len().saturating_sub(MOST_BYTES)..]
+}
+
 /// The bytes without a CR at their end, which belongs to the end of the line.
-fn without_return(bytes: &[u8]) -> &[u8] {
+fn without_return(bytes: &[u8]) -> &[u8]
+    ensures { result.now ≡ without_return bytes.now }
+{
     match bytes {
         [line @ .., b'\r'] => line,
         _ => bytes,
     }
 }
 
+/// The characters that are shown for the bytes.
+fn characters_of(alloc: Global, bytes: &[u8]) -> Result<Vec<char>, AllocError>
+    ensures { IfOk result (λ shown. shown.items ≡ characters_of bytes.now) }
+{
+    let text = String::from_utf8_lossy(alloc, bytes)?;
+    let mut shown = Vec::new(alloc);
+    for c in text.as_str().chars() {
+        shown.push(harmless(c))?;
+    }
+    Ok(shown)
+}
+
 /// What is shown for a character: itself, where it moves no cursor and turns no direction of writing.
-fn harmless(c: char) -> char {
+fn harmless(c: char) -> char
+    ensures { result ≡ harmless c }
+{
     match c {
         '\t' => ' ',
         '\0'..='\u{1F}' | '\u{7F}'..='\u{9F}' => HARMLESS,
@@ -124,6 +174,38 @@ fn harmless(c: char) -> char {
         '\u{61C}' | '\u{FEFF}' => HARMLESS,
         _ => c,
     }
+}
+
+/// Appends the last of the characters.
+fn push_cut_front(text: &mut String, shown: &[char]) -> Result<(), AllocError>
+    ensures { OnOk result (string_bytes text.new ≡ string_bytes text.old ++ encode_utf8_all (cut_front shown.now)) }
+{
+    let left_out = shown.len().saturating_sub(MOST_SHOWN);
+    if left_out > 0 {
+        text.push_str(LEFT_OUT)?;
+    }
+    push_all(text, &shown[left_out..])
+}
+
+/// Appends the first of the characters.
+fn push_cut_back(text: &mut String, shown: &[char]) -> Result<(), AllocError>
+    ensures { OnOk result (string_bytes text.new ≡ string_bytes text.old ++ encode_utf8_all (cut_back shown.now)) }
+{
+    let most = shown.len().min(MOST_SHOWN);
+    push_all(text, &shown[..most])?;
+    if most < shown.len() {
+        text.push_str(LEFT_OUT)?;
+    }
+    Ok(())
+}
+
+fn push_all(text: &mut String, shown: &[char]) -> Result<(), AllocError>
+    ensures { OnOk result (string_bytes text.new ≡ string_bytes text.old ++ encode_utf8_all shown.now) }
+{
+    for c in shown {
+        text.push(*c)?;
+    }
+    Ok(())
 }
 
 #[cfg(test)]
@@ -144,13 +226,15 @@ mod tests {
 
     #[test]
     fn shows_the_line_around_a_place(rt: HostRuntime) -> Result<(), Fail> {
-        let rows: [(&[u8], &[u8], &str, usize); 6] = [
+        let rows: [(&[u8], &[u8], &str, usize); 8] = [
             (b"", b"", "", 0),
             (b"{\n  \"a\": ", b"1,\n}", "  \"a\": 1,", 7),
             (b"\t", b"x\r\n", " x", 1),
             (b"\x1b[31m", b"\x00\xFF", "\u{FFFD}[31m\u{FFFD}\u{FFFD}", 5),
             (b"\xC3\xA9", b"\xE2\x82\xAC", "é€", 1),
             (b"\xE2\x80\xAE", b"x", "\u{FFFD}x", 1),
+            ("位置".as_bytes(), b"x", "位置x", 4),
+            ("e\u{301}".as_bytes(), b"x", "e\u{301}x", 1),
         ];
         for (before, after, text, places) in rows {
             for most in 1..12 {

@@ -1,0 +1,8 @@
+use Rattle.std.proofs.Common.{ap, sym, ◌∙◌}
+use Rattle.geolint_files.specs.declared.outcome.Outcome.{Outcome}
+use Rattle.geolint_files.specs.Finding.{worse}
+use Rattle.geolint_files.proofs.Worst.{worst-more}
+use Rattle.geolint_files.proofs.outcome.Outcome.add.Goals as goal
+
+pub returns : goal.returns
+returns c = λ outcomes is. c.worse.ensures ∙ ap (λ (first : Outcome). worse first c.args.other) is ∙ sym (worst-more outcomes c.args.other)
