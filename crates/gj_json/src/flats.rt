@@ -39,13 +39,13 @@ pub fn comma_run(piece: &[u8]) -> usize
 }
 
 /// Reads the ordinary number that stands at an index, with white space around it, in a piece that begins at the place
-/// `start`: the index after that, or 0.
+/// `start`: the index of the byte after that, or 0 where there is none.
 #[inline(always)]
 fn read_item(piece: &[u8], at: usize, start: u64, number: &mut Numbered) -> usize
     requires within { at ≤ length piece.now }
     requires small { start + length piece.now ≤ 2 ^ 60 }
     ensures on { 0 < result → at ≤ result }
-    ensures within { result ≤ length piece.now }
+    ensures within { 0 < result → result < length piece.now }
     ensures item { 0 < result → IsItem number.new (start + at) (cut piece.now at result) }
 {
     let first = white_end(piece, at);
@@ -58,7 +58,11 @@ fn read_item(piece: &[u8], at: usize, start: u64, number: &mut Numbered) -> usiz
     if piece[end] > b' ' {
         return end;
     }
-    white_end(piece, end)
+    let end = white_end(piece, end);
+    if end == piece.len() {
+        return 0;
+    }
+    end
 }
 
 /// Reads the array of two or three ordinary numbers that stands whole at the start of a piece, which begins at the place
@@ -72,11 +76,11 @@ pub fn read_flat(piece: &[u8], start: u64, flat: &mut Flat) -> usize
     ensures flat { 0 < result → IsFlat flat.new start (take result piece.now) }
 {
     let first = read_item(piece, 1, start, &mut flat.first);
-    if first == 0 || first == piece.len() || piece[first] != b',' {
+    if first == 0 || piece[first] != b',' {
         return 0;
     }
     let second = read_item(piece, first + 1, start, &mut flat.second);
-    if second == 0 || second == piece.len() {
+    if second == 0 {
         return 0;
     }
     flat.place = start;
@@ -105,7 +109,7 @@ fn read_third(piece: &[u8], at: usize, start: u64, flat: &mut Flat) -> usize
     }
     let mut number = Numbered::blank();
     let third = read_item(piece, at + 1, start, &mut number);
-    if third == 0 || third == piece.len() || piece[third] != b']' {
+    if third == 0 || piece[third] != b']' {
         return 0;
     }
     flat.third = Some(number);

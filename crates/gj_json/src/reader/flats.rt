@@ -75,7 +75,7 @@ impl Reader {
         }
         sink.tell_flat(flat);
         let comma = comma_run(&piece[count..]);
-        if comma > 0 && in_array {
+        if in_array && comma > 0 {
             return self.skip(count + comma, Mode::ValueDue);
         }
         self.skip(count, Mode::ValueDone)

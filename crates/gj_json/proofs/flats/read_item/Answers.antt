@@ -48,4 +48,4 @@ returns-clause-item c = λ some.
     let piece = c.args.piece.now in
     let first = c.white_end-first.result in
     let end = first + c.read_short-count.result in
-    item_cut piece c.args.start _ c.args.at first end c.white_end.result c.white_end-first.ensures.on (omega arith) c.white_end.ensures.on c.white_end.ensures.within c.white_end-first.ensures.white refl (valued piece first c.read_short-count.result _ (c.read_short-count.ensures.number (omega arith))) c.white_end.ensures.white
+    item_cut piece c.args.start _ c.args.at first end c.white_end-end.result c.white_end-first.ensures.on (omega arith) c.white_end-end.ensures.on c.white_end-end.ensures.within c.white_end-first.ensures.white refl (valued piece first c.read_short-count.result _ (c.read_short-count.ensures.number (omega arith))) c.white_end-end.ensures.white

@@ -3,8 +3,8 @@ use Rattle.std.proofs.Common.{arith}
 use Rattle.gj_json.proofs.FlatFeeds.{flat_taken, comma_taken}
 use Rattle.gj_json.proofs.reader.Reader.take_flat.Goals as goal
 
-pub returns-then-in_array-clause-feeds : goal.returns-then-in_array-clause-feeds
-returns-then-in_array-clause-feeds g c =
+pub returns-then-comma-gt0-clause-feeds : goal.returns-then-comma-gt0-clause-feeds
+returns-then-comma-gt0-clause-feeds g c =
     let read = c.read_flat-count in
     let run = c.comma_run-comma in
     rw (c.skip.ensures.count)
