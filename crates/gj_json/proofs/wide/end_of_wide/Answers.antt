@@ -1,5 +1,5 @@
 -- Vector by vector.
-use Rattle.std.proofs.Common.{◌<◌, arith}
+use Rattle.std.proofs.Common.{arith}
 use Rattle.gj_json.proofs.WideRuns.{stops_on, passes_on}
 use Rattle.gj_json.proofs.wide.end_of_wide.Goals as goal
 
