@@ -1,9 +1,10 @@
 -- Lanes that are looked at with those before and after them.
-use Rattle.std.proofs.Common.{◌≡◌, ℕ, ◌<◌, ◌≤◌, ◌%◌, ◌^◌, Bool, true, false, not, ◌&&◌, ◌||◌, cond, eqb, ltb, leb, List, [], ◌∷◌, map, length, replicate, inl, inr, refl, ap, ap₂, ◌∙◌, arith}
-use Rattle.std.proofs.lemmas.Bool.Decides.{leb_tells, nat_tests}
-use Rattle.std.proofs.lemmas.Simd.{mask_l-mod, zip2_splat, zip2_splat_left}
+use Rattle.std.proofs.Common.{◌≡◌, ℕ, ◌<◌, ◌≤◌, ◌%◌, ◌^◌, Bool, true, false, not, ◌&&◌, ◌||◌, cond, Fits, w8, eqb, ltb, leb, List, [], ◌∷◌, map, length, replicate, inl, inr, refl, ap, ap₂, ◌∙◌, arith}
+use Rattle.std.proofs.lemmas.Bool.{agree_below_at}
+use Rattle.std.proofs.lemmas.List.{length-map}
+use Rattle.std.proofs.lemmas.Simd.{map-map, mask_l-mod, zip2_splat, zip2_splat_left}
 use lib.Bits.{bit_or, bit_and}
-use lib.Lanes.{zip2, mask_l, top}
+use lib.Lanes.{zip2, mask_l, top, Each1}
 use Rattle.gj_json.specs.Wide.{is_tail, is_stop, goes_on, is_narrow, ends_at, ends_of}
 use Rattle.gj_json.proofs.ByLanes.{equal, less}
 
@@ -70,61 +71,47 @@ stops_at a = bit_or (bit_or (bit_or (bit_or (bit_or (equal a 34) (equal a 92)) (
 abbrev goes : ℕ → ℕ → ℕ
 goes p a = bit_or (at_most 194 a) (at_most 224 p)
 
-abbrev done : ℕ → ℕ → ℕ
-done p a = bit_and (less a 194) (less p 224)
-
 abbrev tail_at : ℕ → ℕ
-tail_at b = bit_and (at_most 128 b) (at_most b 191)
-
-abbrev other_at : ℕ → ℕ
-other_at b = bit_or (less b 128) (less 191 b)
+tail_at b = equal (bit_and b 192) 128
 
 abbrev narrow_at : ℕ → ℕ → ℕ
 narrow_at a b = bit_or (bit_and (equal a 224) (less b 160)) (bit_and (equal a 237) (at_most 160 b))
 
-abbrev lane : ℕ → ℕ → ℕ → ℕ
-lane p a b = bit_or (bit_or (stops_at a) (bit_or (bit_and (goes p a) (other_at b)) (bit_and (done p a) (tail_at b)))) (narrow_at a b)
+abbrev lane : (ℕ → ℕ) → ℕ → ℕ → ℕ → ℕ
+lane flip p a b = bit_or (bit_or (stops_at a) (bit_or (bit_and (goes p a) (flip (tail_at b))) (bit_and (flip (goes p a)) (tail_at b)))) (narrow_at a b)
 
--- a comparison turned
-turned : (a b : ℕ) → ltb a b ≡ not (leb b a)
-turned a b = elim (leb_tells b a) [ inl h ↦ rw (h.0) (lt_no a b (h.1)) | inr h ↦ rw (h.0) (lt_yes a b (h.1)) ]
-  where
-    lt_no : (a b : ℕ) → b ≤ a → ltb a b ≡ false
-    lt_no a b h = grind (arith, nat_tests)
+tail_is : (b : ℕ) → b < 256 → eqb (bit_and b 192) 128 ≡ is_tail b
+tail_is b h = agree_below_at (λ x. eqb (bit_and x 192) 128) is_tail 256 b refl h
 
-    lt_yes : (a b : ℕ) → a < b → ltb a b ≡ true
-    lt_yes a b h = grind (arith, nat_tests)
+flip_c : (flip : ℕ → ℕ) → flip 255 ≡ 0 → flip 0 ≡ 255 → {x : ℕ} (s : Bool) → x ≡ cond s 255 0 → flip x ≡ cond (not s) 255 0
+flip_c flip h k true e = ap flip e ∙ h
+flip_c flip h k false e = ap flip e ∙ k
 
-neither : (s t : Bool) → (not s && not t) ≡ not (s || t)
-neither true t = refl
-neither false t = refl
-
-not_each : (s t : Bool) → (not s || not t) ≡ not (s && t)
-not_each true t = refl
-not_each false t = refl
-
-done_is : (p a : ℕ) → (ltb a 194 && ltb p 224) ≡ not (goes_on p a)
-done_is p a = ap₂ (λ s t. s && t) (turned a 194) (turned p 224) ∙ neither (leb 194 a) (leb 224 p)
-
-other_is : (b : ℕ) → (ltb b 128 || ltb 191 b) ≡ not (is_tail b)
-other_is b = ap₂ (λ s t. s || t) (turned b 128) (turned 191 b) ∙ not_each (leb 128 b) (leb b 191)
-
-lane_is : (p a b : ℕ) → top 7 (lane p a b) ≡ ends_at p a b
-lane_is p a b =
+lane_is : (flip : ℕ → ℕ) → flip 255 ≡ 0 → flip 0 ≡ 255 → (p a b : ℕ) → b < 256 → top 7 (lane flip p a b) ≡ ends_at p a b
+lane_is flip h k p a b fits =
     let stops : stops_at a ≡ cond (is_stop a) 255 0 =
     or_c _ (eqb a 193) (or_c _ (eqb a 192) (or_c _ (leb 240 a) (or_c _ (ltb a 32) (or_c (eqb a 34) (eqb a 92) refl refl) refl) refl) refl) refl in
     let goes_c : goes p a ≡ cond (goes_on p a) 255 0 = or_c (leb 194 a) (leb 224 p) refl refl in
-    let done_c : done p a ≡ cond (not (goes_on p a)) 255 0 = and_c (ltb a 194) (ltb p 224) refl refl ∙ ap (λ s. cond s 255 0) (done_is p a) in
-    let tail_c : tail_at b ≡ cond (is_tail b) 255 0 = and_c (leb 128 b) (leb b 191) refl refl in
-    let other_c : other_at b ≡ cond (not (is_tail b)) 255 0 = or_c (ltb b 128) (ltb 191 b) refl refl ∙ ap (λ s. cond s 255 0) (other_is b) in
+    let done_c : flip (goes p a) ≡ cond (not (goes_on p a)) 255 0 = flip_c flip h k (goes_on p a) goes_c in
+    let tail_c : tail_at b ≡ cond (is_tail b) 255 0 = ap (λ t. cond t 255 0) (tail_is b fits) in
+    let other_c : flip (tail_at b) ≡ cond (not (is_tail b)) 255 0 = flip_c flip h k (is_tail b) tail_c in
     let narrow_c : narrow_at a b ≡ cond (is_narrow a b) 255 0 = or_c _ _ (and_c (eqb a 224) (ltb b 160) refl refl) (and_c (eqb a 237) (leb 160 b) refl refl) in
     ap (top 7) (or_c _ _ (or_c _ _ stops (or_c _ _ (and_c _ _ goes_c other_c) (and_c _ _ done_c tail_c))) narrow_c) ∙ top_c (ends_at p a b)
 
-lanes_are : (ps hs ns : List ℕ) → map (top 7) (zip3 lane ps hs ns) ≡ ends_of ps hs ns
-lanes_are (p ∷ ps) (a ∷ hs) (b ∷ ns) = ap₂ (λ x xs. x ∷ xs) (lane_is p a b) (lanes_are ps hs ns)
-lanes_are [] hs ns = refl
-lanes_are (p ∷ ps) [] ns = refl
-lanes_are (p ∷ ps) (a ∷ hs) [] = refl
+lanes_are : (flip : ℕ → ℕ) → flip 255 ≡ 0 → flip 0 ≡ 255 → (ps hs ns : List ℕ) → Each1 (Fits w8) ns → map (top 7) (zip3 (lane flip) ps hs ns) ≡ ends_of ps hs ns
+lanes_are flip h k (p ∷ ps) (a ∷ hs) (b ∷ ns) fits = ap₂ (λ x xs. x ∷ xs) (lane_is flip h k p a b fits.0.fits) (lanes_are flip h k ps hs ns fits.1)
+lanes_are flip h k [] hs ns fits = refl
+lanes_are flip h k (p ∷ ps) [] ns fits = refl
+lanes_are flip h k (p ∷ ps) (a ∷ hs) [] fits = refl
+
+flipped : (flip : ℕ → ℕ) (f : ℕ → ℕ → ℕ → ℕ) (ps hs ns : List ℕ) {xs : List ℕ} → xs ≡ zip3 f ps hs ns → map flip xs ≡ zip3 (λ p a b. flip (f p a b)) ps hs ns
+flipped flip f ps hs ns e = ap (map flip) e ∙ each ps hs ns
+  where
+    each : (ps hs ns : List ℕ) → map flip (zip3 f ps hs ns) ≡ zip3 (λ p a b. flip (f p a b)) ps hs ns
+    each (p ∷ ps) (a ∷ hs) (b ∷ ns) = ap (λ xs. flip (f p a b) ∷ xs) (each ps hs ns)
+    each [] hs ns = refl
+    each (p ∷ ps) [] ns = refl
+    each (p ∷ ps) (a ∷ hs) [] = refl
 
 pub few : (ps hs ns : List ℕ) → length hs ≤ 16 → length (ends_of ps hs ns) ≤ 16
 few ps hs ns h = let k = no_more ps hs ns in omega arith
@@ -157,7 +144,7 @@ ors xs ys = zip2 bit_or xs ys
 abbrev ands : List ℕ → List ℕ → List ℕ
 ands xs ys = zip2 bit_and xs ys
 
-module _ (ps hs ns : List ℕ) (lp : length ps ≡ 16) (la : length hs ≡ 16) (lb : length ns ≡ 16) where
+module _ (ps hs ns : List ℕ) (lp : length ps ≡ 16) (la : length hs ≡ 16) (lb : length ns ≡ 16) (fits : Each1 (Fits w8) ns) (flip : ℕ → ℕ) (f1 : flip 255 ≡ 0) (f0 : flip 0 ≡ 255) where
   h : length ps ≡ length hs
   h = omega arith
 
@@ -182,14 +169,11 @@ module _ (ps hs ns : List ℕ) (lp : length ps ≡ 16) (la : length hs ≡ 16) (
   gone : ors (ges hs 194) (ges ps 224) ≡ zip3 (λ p a b. goes p a) ps hs ns
   gone = both bit_or _ _ ps hs ns (here (λ a. at_most 194 a) (zip2_splat_left at_most 194 16 hs la)) (before (λ p. at_most 224 p) (zip2_splat_left at_most 224 16 ps lp))
 
-  whole : ands (lts hs 194) (lts ps 224) ≡ zip3 (λ p a b. done p a) ps hs ns
-  whole = both bit_and _ _ ps hs ns (here (λ a. less a 194) (zip2_splat less hs 16 194 la)) (before (λ p. less p 224) (zip2_splat less ps 16 224 lp))
-
-  tails : ands (ges ns 128) (les ns 191) ≡ zip3 (λ p a b. tail_at b) ps hs ns
-  tails = both bit_and _ _ ps hs ns (next (λ b. at_most 128 b) (zip2_splat_left at_most 128 16 ns lb)) (next (λ b. at_most b 191) (zip2_splat at_most ns 16 191 lb))
-
-  others : ors (lts ns 128) (gts ns 191) ≡ zip3 (λ p a b. other_at b) ps hs ns
-  others = both bit_or _ _ ps hs ns (next (λ b. less b 128) (zip2_splat less ns 16 128 lb)) (next (λ b. less 191 b) (zip2_splat_left less 191 16 ns lb))
+  tails : zip2 equal (zip2 bit_and ns (replicate 16 192)) (replicate 16 128) ≡ zip3 (λ p a b. tail_at b) ps hs ns
+  tails =
+      let masked = zip2_splat bit_and ns 16 192 lb in
+      let long : length (map (λ b. bit_and b 192) ns) ≡ 16 = length-map ns (λ b. bit_and b 192) ∙ lb in
+      next tail_at (ap (λ v. zip2 equal v (replicate 16 128)) masked ∙ zip2_splat equal (map (λ b. bit_and b 192) ns) 16 128 long ∙ map-map (λ b. equal b 128) (λ b. bit_and b 192) ns)
 
   narrow : ors (ands (eqs hs 224) (lts ns 160)) (ands (eqs hs 237) (ges ns 160)) ≡ zip3 (λ p a b. narrow_at a b) ps hs ns
   narrow =
@@ -199,11 +183,11 @@ module _ (ps hs ns : List ℕ) (lp : length ps ≡ 16) (la : length hs ≡ 16) (
   abbrev pub all : List ℕ
   all =
       ors (ors (ors (ors (ors (ors (ors (eqs hs 34) (eqs hs 92)) (lts hs 32)) (ges hs 240)) (eqs hs 192)) (eqs hs 193))
-      (ors (ands (ors (ges hs 194) (ges ps 224)) (ors (lts ns 128) (gts ns 191))) (ands (ands (lts hs 194) (lts ps 224)) (ands (ges ns 128) (les ns 191)))))
+      (ors (ands (ors (ges hs 194) (ges ps 224)) (map flip (zip2 equal (zip2 bit_and ns (replicate 16 192)) (replicate 16 128)))) (ands (map flip (ors (ges hs 194) (ges ps 224))) (zip2 equal (zip2 bit_and ns (replicate 16 192)) (replicate 16 128)))))
       (ors (ands (eqs hs 224) (lts ns 160)) (ands (eqs hs 237) (ges ns 160)))
 
-  lanes : all ≡ zip3 lane ps hs ns
-  lanes = both bit_or _ _ ps hs ns (both bit_or _ _ ps hs ns stops (both bit_or _ _ ps hs ns (both bit_and _ _ ps hs ns gone others) (both bit_and _ _ ps hs ns whole tails))) narrow
+  lanes : all ≡ zip3 (lane flip) ps hs ns
+  lanes = both bit_or _ _ ps hs ns (both bit_or _ _ ps hs ns stops (both bit_or _ _ ps hs ns (both bit_and _ _ ps hs ns gone (flipped flip _ ps hs ns tails)) (both bit_and _ _ ps hs ns (flipped flip _ ps hs ns gone) tails))) narrow
 
   pub ends_are : mask_l (map (top 7) all) % 2 ^ 64 ≡ mask_l (ends_of ps hs ns)
-  ends_are = ap (λ xs. mask_l (map (top 7) xs) % 2 ^ 64) lanes ∙ ap (λ ms. mask_l ms % 2 ^ 64) (lanes_are ps hs ns) ∙ mask_l-mod (ends_of ps hs ns) 64 (let f = few ps hs ns (omega arith) in omega arith)
+  ends_are = ap (λ xs. mask_l (map (top 7) xs) % 2 ^ 64) lanes ∙ ap (λ ms. mask_l ms % 2 ^ 64) (lanes_are flip f1 f0 ps hs ns fits) ∙ mask_l-mod (ends_of ps hs ns) 64 (let f = few ps hs ns (omega arith) in omega arith)

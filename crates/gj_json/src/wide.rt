@@ -27,12 +27,10 @@ fn ends(before: u8x16, here: u8x16, next: u8x16) -> u64
         | here.simd_eq(u8x16::splat(0xC0))
         | here.simd_eq(u8x16::splat(0xC1));
     let goes_on = here.simd_ge(u8x16::splat(0xC2)) | before.simd_ge(u8x16::splat(0xE0));
-    let is_done = here.simd_lt(u8x16::splat(0xC2)) & before.simd_lt(u8x16::splat(0xE0));
-    let tails = next.simd_ge(u8x16::splat(0x80)) & next.simd_le(u8x16::splat(0xBF));
-    let others = next.simd_lt(u8x16::splat(0x80)) | next.simd_gt(u8x16::splat(0xBF));
+    let tails = (next & u8x16::splat(0xC0)).simd_eq(u8x16::splat(0x80));
     let narrow = here.simd_eq(u8x16::splat(0xE0)) & next.simd_lt(u8x16::splat(0xA0))
         | here.simd_eq(u8x16::splat(0xED)) & next.simd_ge(u8x16::splat(0xA0));
-    (stops | (goes_on & others | is_done & tails) | narrow).to_bitmask()
+    (stops | (goes_on & !tails | !goes_on & tails) | narrow).to_bitmask()
 }
 
 /// At which byte after the first such characters end. The piece may end before that.
