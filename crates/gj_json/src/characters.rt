@@ -148,6 +148,8 @@ fn some_characters(piece: &[u8]) -> usize
     if piece[0] == b'\\' {
         let escaped = escapes_run(piece);
         escaped + ascii_run(&piece[escaped..])
+    } else if piece[0] == b'"' {
+        0
     } else if piece[0] < 0x80 {
         ascii_run(piece)
     } else {

@@ -142,6 +142,20 @@ pub fn white_run(piece: &[u8]) -> usize
     if piece.is_empty() || !is_white(piece[0]) {
         return 0;
     }
+    if piece.len() >= LANES {
+        let stops = white_stops(u8x16::from_slice(piece));
+        if stops != 0 {
+            return stops.trailing_zeros() as usize;
+        }
+    }
+    long_white_run(piece)
+}
+
+/// The same, of a run of any length.
+#[inline(never)]
+fn long_white_run(piece: &[u8]) -> usize
+    ensures { result ≡ prefix_len is_white piece.now }
+{
     let (blocks, rest) = piece.as_chunks::<LANES>();
     let mut index = 0;
     while index < blocks.len() {

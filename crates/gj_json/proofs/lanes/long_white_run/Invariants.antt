@@ -1,7 +1,7 @@
 use Rattle.std.proofs.Common.{◌≡◌, ◌+◌, ◌-◌, ◌*◌, ◌≤◌, length, drop}
 use Rattle.std.specs.List.{prefix_len}
 use Rattle.gj_json.specs.Quiet.{is_white}
-use Rattle.gj_json.proofs.lanes.white_run.Given as goal
+use Rattle.gj_json.proofs.lanes.long_white_run.Given as goal
 
 abbrev pub invariant-loop-index : goal.invariant-loop-index
 invariant-loop-index l = record {
