@@ -52,7 +52,7 @@ pub unsafe extern "C" fn geolint_begin(memory: *mut Memory, max_depth: u32, max_
     begun_status(max_depth, max_bytes)
 }
 
-/// As `geolint_begin`, in memory that has a handle. It writes little where that one was begun well: 54 KB lie in it.
+/// As `geolint_begin`, in memory that has a handle. It writes little where that one was begun well: 200 KB lie in it.
 #[unsafe(no_mangle)]
 pub unsafe extern "C" fn geolint_begin_again(
     memory: *mut Memory,

@@ -108,9 +108,23 @@ impl Linter {
     }
 
     /// The verdict of the input that was fed, however it came in pieces.
-    // Not in line, so that the linter is not copied.
+    pub fn finish(self) -> Verdict
+        ensures verdict { (bytes : List ℕ) → StandsFor self bytes → IsVerdict (limits_of self) bytes result }
+        ensures again { (fault : JsonFault) → refusal_of self ≡ Some fault → result ≡ Verdict.NotJson fault }
+    {
+        bytes_taken();
+        few_events();
+        kept_warnings();
+        match self.reader.finish() {
+            Err(fault) => Verdict::NotJson(fault),
+            Ok(None) => verdict_of(self.rules.fault(), self.rules.warnings()),
+            Ok(Some(_)) => self.finish_number(),
+        }
+    }
+
+    /// The same of a number alone. Only then is an event left, and the linter copied, so that it can be told.
     #[inline(never)]
-    pub fn finish(mut self) -> Verdict
+    fn finish_number(mut self) -> Verdict
         ensures verdict { (bytes : List ℕ) → StandsFor self bytes → IsVerdict (limits_of self) bytes result }
         ensures again { (fault : JsonFault) → refusal_of self ≡ Some fault → result ≡ Verdict.NotJson fault }
     {
@@ -126,7 +140,7 @@ impl Linter {
         few_events();
         kept_warnings();
         match self.reader.finish() {
-            Err(fault) => Verdict::NotJson(fault),
+            Err(refused) => Verdict::NotJson(refused),
             Ok(last) => {
                 tell_last(&mut self.rules, last);
                 verdict_of(self.rules.fault(), self.rules.warnings())

@@ -212,7 +212,6 @@ impl Sequence {
     }
 
     /// The verdict of the input that was fed, however it came in pieces.
-    #[inline(never)]
     pub fn finish(self) -> SeqVerdict
         ensures { (bytes : List ℕ) → StandsFor self bytes → IsSequenceVerdict (limits_of self) bytes result }
     {
@@ -223,8 +222,6 @@ impl Sequence {
     }
 
     /// The verdict of an input of which no byte has decided.
-    // Not in line, so that the record is not copied.
-    #[inline(never)]
     fn end(mut self) -> SeqVerdict
         requires { is_decided self ≡ false }
         ensures { (bytes : List ℕ) → StandsFor self bytes → IsSequenceVerdict (limits_of self) bytes result }
