@@ -32,7 +32,8 @@ pub fn lint_reader<S: Source>(reader: &mut S, limits: Limits) -> Result<Verdict,
     loop {
         match reader.read_piece(&mut piece) {
             Err(_) => return Err(ReadFault { offset }),
-            Ok(0) => return Ok(linter.finish()),
+            // A linter is large: it stays where it lies.
+            Ok(0) => return Ok(linter.finish_and_begin(limits)),
             Ok(count) => {
                 offset += count as u64;
                 match linter.feed(&piece[..count]) {

@@ -44,7 +44,7 @@ pub fn lint_quickly<S: Source>(
     loop {
         match reader.read_piece(&mut piece) {
             Err(_) => return Err(ReadFault { offset }),
-            Ok(0) => return Ok(valid_in(linter.finish())),
+            Ok(0) => return Ok(valid_in(linter.finish_and_begin(limits))),
             Ok(count) => {
                 offset += count as u64;
                 match linter.feed(&piece[..count]) {

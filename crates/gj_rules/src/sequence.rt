@@ -212,6 +212,8 @@ impl Sequence {
     }
 
     /// The verdict of the input that was fed, however it came in pieces.
+    // Not in line: it has room for a record more, which its caller should not have.
+    #[inline(never)]
     pub fn finish(self) -> SeqVerdict
         ensures { (bytes : List ℕ) → StandsFor self bytes → IsSequenceVerdict (limits_of self) bytes result }
     {

@@ -21,7 +21,7 @@ returns-in-Ok-eq0-clause-valid g c =
     let none = c.in-Ok-eq0.field-0-test in
     let bytes = c.in-Ok-eq0.ensures.bytes in
     let room : 0 < length c.read_piece.new.piece = search rules in
-    let verdict = subst (λ (limits : Allowed). IsVerdict limits read c.finish.result) c.loop-linter.invariant.limits (c.finish.ensures.verdict read stands) in
+    let verdict = subst (λ (limits : Allowed). IsVerdict limits read c.finish_and_begin.result) c.loop-linter.invariant.limits (c.finish_and_begin.ensures.verdict read stands) in
     subst (λ (valid : Option Warnings). JudgesQuickly c.args.limits (g.S.Source.remaining c.args.reader.now) (g.S.Source.remaining c.read_piece.new.self) valid) (sym c.valid_in.ensures)
     (quick-end c.one_verdict.ensures.one _ _ _ read _ (Consumes-none _ _ _ read c.read_piece.new.piece c.in-Ok-eq0.field-0 none took bytes.0) (bytes.1 none room) verdict)
 
