@@ -3,3 +3,4 @@ mod Quickly
 mod Settled
 mod Lines
 mod Worst
+mod Found

@@ -3,3 +3,4 @@ pub mod Texts
 pub mod Judged
 pub mod Finding
 pub mod Forms
+pub mod Sites

@@ -1,5 +1,7 @@
 //! The second reading: the lines, columns and paths of places.
 
+ghost use Rattle.std.specs.Prelude.{◌≡◌, drop};
+
 use gj_json::{Limits, Locator, Path};
 use gj_places::{Excerpt, Lines};
 use std::io::{self, Read};
@@ -33,7 +35,11 @@ pub struct Spot {
 }
 
 impl Site {
-    fn of(place: u64) -> Site {
+    ghost use Rattle.std.specs.Prelude.{◌≡◌, false};
+
+    fn of(place: u64) -> Site
+        ensures { (result.place ≡ place) × (result.is_found ≡ false) }
+    {
         Site {
             place,
             spot: Spot { line: 0, column: 0 },
@@ -52,8 +58,14 @@ pub struct Sites {
 }
 
 impl Sites {
+    ghost use Rattle.std.specs.Prelude.{◌≡◌, ◌<◌, ◌++◌, [], ℕ, List, IfSome, get_or};
+    ghost use Rattle.geolint_files.specs.declared.sites.Site.{Site};
+    ghost use Rattle.geolint_files.specs.Sites.{IsSpot, AreRight, RightBy, Reaches};
+
     /// Where no place is sought.
-    pub fn none() -> Sites {
+    pub fn none() -> Sites
+        ensures { (text : List ℕ) → AreRight text result.sites }
+    {
         Sites {
             sites: [Site::of(0); MOST_PLACES],
             excerpt: Excerpt::new(),
@@ -62,9 +74,11 @@ impl Sites {
     }
 
     /// Seeks one place more, which is not before the others.
-    pub fn seek(&mut self, place: u64) {
-        if let Some(site) = self.sites.get_mut(self.count) {
-            *site = Site::of(place);
+    pub fn seek(&mut self, place: u64)
+        ensures { (text : List ℕ) → AreRight text self.old.sites → AreRight text self.new.sites }
+    {
+        if self.count < MOST_PLACES {
+            self.sites[self.count] = Site::of(place);
             self.count += 1;
         }
     }
@@ -80,7 +94,9 @@ impl Sites {
     }
 
     /// Where the place stands, if it was found.
-    pub fn at(&self, place: u64) -> Option<&Site> {
+    pub fn at(&self, place: u64) -> Option<&Site>
+        ensures { IfSome result (λ site. (site.now.place ≡ place) × ((text : List ℕ) → AreRight text self.now.sites → IsSpot text place site.now.spot)) }
+    {
         for site in &self.sites {
             if site.is_found && site.place == place {
                 return Some(site);
@@ -90,10 +106,10 @@ impl Sites {
     }
 
     /// Forgets what was found, where it may not hold.
-    pub fn forget(&mut self) {
-        for site in self.sites.iter_mut() {
-            site.is_found = false;
-        }
+    pub fn forget(&mut self)
+        ensures { (text : List ℕ) → AreRight text self.new.sites }
+    {
+        self.sites = [Site::of(0); MOST_PLACES];
     }
 
     /// Reads as far as the places need, and says how far each is found.
@@ -102,7 +118,9 @@ impl Sites {
         reader: &mut R,
         limits: Limits,
         is_sequence: bool,
-    ) -> io::Result<()> {
+    ) -> io::Result<()>
+        ensures { AreRight [] self.old.sites → RightBy (R.remaining reader.old) self.new.sites }
+    {
         let mut finder = Finder::new(limits, is_sequence);
         let mut piece = [0; PIECE];
         for _ in 0..u64::MAX {
@@ -120,56 +138,94 @@ impl Sites {
     }
 
     /// Takes the next bytes of the file.
-    fn take(&mut self, finder: &mut Finder, piece: &[u8]) {
-        let begin = finder.offset;
-        let end = begin.saturating_add(piece.len() as u64);
-        let mut counted = 0;
-        let mut located = 0;
-        for i in finder.next..MOST_PLACES {
-            if i < self.count
-                && let Some(site) = self.sites.get_mut(i)
-                && begin <= site.place
-                && site.place < end
-            {
-                let at = (site.place - begin) as usize;
-                if counted <= at && at < piece.len() {
-                    finder.lines.feed(&piece[counted..at]);
-                    self.excerpt.feed_before(&piece[counted..at]);
-                    counted = at;
-                    if located <= at {
-                        finder.locate(&piece[located..=at]);
-                        located = at + 1;
-                    }
-                    site.spot = finder.spot();
-                    site.path = finder.path();
-                    site.is_found = true;
-                    finder.next = i + 1;
-                }
+    fn take(&mut self, finder: &mut Finder, piece: &[u8])
+        ensures { (text : List ℕ) → Reaches finder.old self.old text [] → Reaches finder.new self.new (text ++ piece.now) [] }
+    {
+        for _ in 0..MOST_PLACES {
+            if !self.reach(finder, piece) {
+                break;
             }
         }
-        if finder.next >= self.count {
-            self.excerpt.feed_after(rest_of(piece, counted));
-        } else {
-            finder.lines.feed(rest_of(piece, counted));
-            self.excerpt.feed_before(rest_of(piece, counted));
-            finder.locate(rest_of(piece, located));
+        self.pass(finder, piece);
+    }
+
+    /// Takes the bytes up to the next place, where it is among these: whether it is.
+    fn reach(&mut self, finder: &mut Finder, piece: &[u8]) -> bool
+        ensures { (text : List ℕ) → Reaches finder.old self.old text piece.now → Reaches finder.new self.new text piece.now }
+    {
+        let i = finder.next;
+        let end = finder.offset.saturating_add(piece.len() as u64);
+        if i >= self.count || i >= MOST_PLACES {
+            return false;
         }
-        finder.offset = end;
+        let place = self.sites[i].place;
+        if place < finder.offset || end <= place {
+            return false;
+        }
+        let at = (place - finder.offset) as usize;
+        if at < finder.counted {
+            return false;
+        }
+        let front = &piece[finder.counted..at];
+        finder.lines.feed(front);
+        self.excerpt.feed_before(front);
+        finder.counted = at;
+        finder.locate_to(piece, at + 1);
+        self.settle(i, finder.spot(), finder.path());
+        finder.next = i + 1;
+        true
+    }
+
+    /// Takes the rest of the bytes.
+    fn pass(&mut self, finder: &mut Finder, piece: &[u8])
+        ensures { (text : List ℕ) → Reaches finder.old self.old text piece.now → Reaches finder.new self.new (text ++ piece.now) [] }
+    {
+        let rest = rest_of(piece, finder.counted);
+        if finder.next >= self.count {
+            self.excerpt.feed_after(rest);
+        } else {
+            finder.lines.feed(rest);
+            self.excerpt.feed_before(rest);
+            finder.locate_to(piece, piece.len());
+        }
+        finder.offset = finder.offset.saturating_add(piece.len() as u64);
+        finder.counted = 0;
+        finder.located = 0;
     }
 
     /// The place behind the last byte has a line and a column too.
-    fn end(&mut self, finder: &Finder) {
-        for site in self.sites.iter_mut() {
-            if !site.is_found && site.place == finder.offset {
-                site.spot = finder.spot();
-                site.is_found = true;
-            }
+    fn end(&mut self, finder: &Finder)
+        ensures { (text : List ℕ) → Reaches finder.now self.old text [] → AreRight text self.new.sites }
+    {
+        let i = finder.next;
+        if i < self.count
+            && i < MOST_PLACES
+            && finder.offset < u64::MAX
+            && self.sites[i].place == finder.offset
+        {
+            self.settle(i, finder.spot(), None);
         }
+    }
+
+    fn settle(&mut self, i: usize, spot: Spot, path: Option<Path>)
+        requires { i < 10 }
+        ensures right { (text : List ℕ) (other : Site) → AreRight text self.old.sites → IsSpot text (get_or self.old.sites i other).place spot → AreRight text self.new.sites }
+        ensures count { self.new.count ≡ self.old.count }
+    {
+        let place = self.sites[i].place;
+        self.sites[i] = Site {
+            place,
+            spot,
+            path,
+            is_found: true,
+        };
     }
 }
 
 /// The bytes from an index on.
-fn rest_of(bytes: &[u8], begin: usize) -> &[u8] {
+fn rest_of(bytes: &[u8], begin: usize) -> &[u8]
+    ensures { result.now ≡ drop begin bytes.now }
+{
     match bytes.get(begin..) {
         Some(rest) => rest,
         None => &[],
@@ -182,7 +238,11 @@ struct Finder {
     locator: Locator,
     lines: Lines,
     limits: Limits,
+    /// How many bytes were read before the piece under way.
     offset: u64,
+    /// How many bytes of the piece are counted, and how many the locator had.
+    counted: usize,
+    located: usize,
     next: usize,
     is_sequence: bool,
     is_lost: bool,
@@ -197,19 +257,39 @@ fn record_limits(limits: Limits) -> Limits {
 }
 
 impl Finder {
-    fn new(limits: Limits, is_sequence: bool) -> Finder {
+    ghost use Rattle.std.specs.Prelude.{◌≡◌, []};
+    ghost use Rattle.geolint_files.specs.declared.sites.Sites.{Sites};
+    ghost use Rattle.geolint_files.specs.Sites.{AreRight, Reaches, IsLocated};
+
+    fn new(limits: Limits, is_sequence: bool) -> Finder
+        ensures begins { (sites : Sites) → AreRight [] sites.sites → Reaches result sites [] [] }
+    {
         Finder {
             locator: Locator::new(limits),
             lines: Lines::new(),
             limits,
             offset: 0,
+            counted: 0,
+            located: 0,
             next: 0,
             is_sequence,
             is_lost: is_sequence,
         }
     }
 
-    fn locate(&mut self, bytes: &[u8]) {
+    /// Gives the locator the bytes of the piece up to an index.
+    fn locate_to(&mut self, piece: &[u8], end: usize)
+        ensures { IsLocated self.old self.new }
+    {
+        if self.located < end && end <= piece.len() {
+            self.locate(&piece[self.located..end]);
+            self.located = end;
+        }
+    }
+
+    fn locate(&mut self, bytes: &[u8])
+        ensures { IsLocated self.old self.new }
+    {
         if self.is_sequence {
             for byte in bytes {
                 self.locate_in_record(*byte);
@@ -219,7 +299,9 @@ impl Finder {
         }
     }
 
-    fn locate_in_record(&mut self, byte: u8) {
+    fn locate_in_record(&mut self, byte: u8)
+        ensures { IsLocated self.old self.new }
+    {
         if byte == SEPARATOR {
             self.locator = Locator::new(record_limits(self.limits));
             self.is_lost = false;
@@ -228,13 +310,17 @@ impl Finder {
         }
     }
 
-    fn locate_in_text(&mut self, bytes: &[u8]) {
+    fn locate_in_text(&mut self, bytes: &[u8])
+        ensures { IsLocated self.old self.new }
+    {
         if !self.is_lost && self.locator.feed(bytes).is_err() {
             self.is_lost = true;
         }
     }
 
-    fn spot(&self) -> Spot {
+    fn spot(&self) -> Spot
+        ensures { (result.line ≡ self.now.lines.line) × (result.column ≡ self.now.lines.column) }
+    {
         Spot {
             line: self.lines.line,
             column: self.lines.column,
@@ -247,5 +333,38 @@ impl Finder {
         } else {
             Some(self.locator.path())
         }
+    }
+}
+
+#[cfg(test)]
+mod tests {
+    use super::*;
+    use std::test::Fail;
+
+    const TEXT: &[u8] = b"[1,\n\"\xC3\xA9\", [2]";
+
+    #[test]
+    fn finds_lines_and_columns(rt: HostRuntime) -> Result<(), Fail> {
+        let mut sites = Sites::none();
+        for place in [0, 1, 8, 13, 14] {
+            sites.seek(place);
+        }
+        let found = sites.find(&mut &TEXT[..], Limits::usual(), false);
+        assert!(rt; found.is_ok());
+        let rows = [
+            (0, Some((1, 1))),
+            (1, Some((1, 2))),
+            (8, Some((2, 4))),
+            (13, Some((2, 9))),
+            (14, None),
+            (2, None),
+        ];
+        for (place, spot) in rows {
+            let at = sites
+                .at(place)
+                .map(|site| (site.spot.line, site.spot.column));
+            assert_eq!(rt; at, spot, "{place}");
+        }
+        Ok(())
     }
 }

@@ -1,0 +1,5 @@
+use Rattle.geolint_files.specs.Sites.{IsLocated}
+use Rattle.geolint_files.proofs.sites.Finder.locate.Given as goal
+
+abbrev pub invariant-loop-byte : goal.invariant-loop-byte
+invariant-loop-byte l = IsLocated l.fn.self l.self

@@ -1,0 +1,34 @@
+use Rattle.std.proofs.Common.{arith, ◌≡◌, ◌++◌, [], ℕ, List, take, ap, sym, ◌∙◌, subst, append_assoc, append-nil, length-append}
+use Rattle.std.proofs.lemmas.List.{take-append-drop}
+use Rattle.gj_places.specs.Counting.{StandsFor}
+use Rattle.geolint_files.specs.Sites.{AreRight}
+use Rattle.geolint_files.proofs.sites.Sites.pass.Goals as goal
+use Rattle.geolint_files.proofs.sites.Sites.pass.Goals.{then-finder-self, else-finder-self}
+
+pub returns : goal.returns
+returns c = λ text reaches.
+    let piece = c.args.piece.now in
+    let counted = c.args.finder.now.counted in
+    let longer = length-append text piece in
+    let offset = reaches.offset in
+    let right = subst (λ (bytes : List ℕ). AreRight bytes c.args.self.now.sites) (sym (append-nil (text ++ piece))) reaches.right in
+    let end = c.saturating_add-finder.ensures in
+    elim c.if-finder-self.branch [
+      | then-finder-self w ↦ let sum = rw (w.finder-is) at end in rw (w.self-is, w.finder-is) (record {
+        offset = omega (arith, longer, offset, sum);
+        counted = omega arith;
+        lines = λ fewer. absurd (omega (arith, fewer, w.if-finder-self.true));
+        right = right;
+      })
+      | else-finder-self w ↦ let sum = rw (w.finder-is) at end in rw (w.self-is, w.finder-is) (record {
+        offset = omega (arith, longer, offset, sum, w.locate_to.ensures.offset);
+        counted = omega arith;
+        lines = λ fewer.
+            let here = w.feed.ensures (text ++ take counted piece) (reaches.lines w.if-finder-self.false) in
+            let all : (text ++ take counted piece) ++ c.rest_of-rest.result.now ≡ (text ++ piece) ++ [] =
+            append_assoc text (take counted piece) _ ∙ ap (λ (ys : List ℕ). text ++ ys) (ap (λ (ys : List ℕ). take counted piece ++ ys) c.rest_of-rest.ensures ∙ take-append-drop counted piece) ∙ sym (append-nil (text ++ piece)) in
+            let fed = subst (StandsFor w.feed.new.self) all here in
+            rw (w.locate_to.ensures.lines) fed;
+        right = right;
+      })
+    ]

@@ -1,0 +1,35 @@
+use Rattle.std.proofs.Common.{arith, ◌≡◌, ◌≤◌, ◌<◌, ◌+◌, ◌-◌, ◌++◌, ℕ, List, length, take, drop, get_or, ap, sym, ◌∙◌, subst, append_assoc, length-take-le}
+use Rattle.std.proofs.lemmas.List.{take-append-drop}
+use Rattle.gj_places.specs.Counting.{StandsFor}
+use Rattle.gj_places.specs.declared.lines.Lines.{Lines}
+use Rattle.geolint_files.specs.Sites.{IsSpot}
+use Rattle.geolint_files.proofs.Found.{Spot-is, take-joined}
+use Rattle.geolint_files.proofs.sites.Sites.reach.Goals as goal
+
+pub returns : goal.returns
+returns c = λ text reaches.
+    let finder = c.args.finder.now in
+    let piece = c.args.piece.now in
+    let site = get_or c.args.self.now.sites finder.next c.index-self-i.result in
+    let at = site.place - finder.offset in
+    let offset = reaches.offset in
+    let exact : finder.offset ≡ length text = omega (arith, offset, c.saturating_add-end.ensures, c.if-place-finder.false, c.if-end-place.false) in
+    let behind : finder.offset ≤ site.place = c.if-place-finder.false in
+    let before : site.place < c.saturating_add-end.result = c.if-end-place.false in
+    let within : at < length piece = omega (arith, offset, c.saturating_add-end.ensures, behind, before) in
+    let here : site.place ≡ length text + at = omega (arith, exact, behind) in
+    let open_place : finder.next < c.args.self.now.count = c.if-i-self.false in
+    let fed = c.feed.ensures (text ++ take finder.counted piece) (reaches.lines open_place) in
+    let joined = append_assoc text (take finder.counted piece) _ ∙ ap (λ (ys : List ℕ). text ++ ys) (take-joined finder.counted at piece c.if-at-finder.false) in
+    let stands : StandsFor c.feed.new.self (text ++ take at piece) = subst (StandsFor c.feed.new.self) joined fed in
+    let lines = c.locate_to.ensures.lines in
+    let after = subst (λ (l : Lines). StandsFor l (text ++ take at piece)) (sym lines) stands in
+    let spot = Spot-is text (take at piece) at site.place c.locate_to.new.self.lines c.spot.result (drop at piece) (length-take-le at piece (omega (arith, within))) here after c.spot.ensures.0 c.spot.ensures.1 in
+    let whole : (text ++ take at piece) ++ drop at piece ≡ text ++ piece = append_assoc text (take at piece) (drop at piece) ∙ ap (λ (ys : List ℕ). text ++ ys) (take-append-drop at piece) in
+    let is : IsSpot (text ++ piece) site.place c.spot.result = subst (λ (bytes : List ℕ). IsSpot bytes site.place c.spot.result) whole spot in
+    record {
+      offset = c.locate_to.ensures.offset ∙ reaches.offset;
+      counted = omega (arith, within, c.locate_to.ensures.counted);
+      lines = λ fewer. subst (λ (k : ℕ). StandsFor c.locate_to.new.self.lines (text ++ take k piece)) (sym c.locate_to.ensures.counted) after;
+      right = c.settle.ensures.right (text ++ piece) c.index-self-i.result reaches.right is;
+    }
