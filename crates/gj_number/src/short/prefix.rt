@@ -1,7 +1,7 @@
 //! The ordinary number that a piece starts with, read at once.
 //!
-//! Nearly all are read as sixteen bytes in lanes ([`short_number`]). A longer one is read by its runs of digits
-//! ([`long_number`]), so that each ordinary number is taken. An exponent moves the point of the digits before it, so a
+//! Nearly all are read as sixteen bytes in lanes ([`short_number`]). A longer one, or one before an unusual byte, is read
+//! by its runs of digits ([`long_number`]), so that each ordinary number is taken. An exponent moves the point of the digits before it, so a
 //! number with a small one is read as the ordinary number that it is equal to.
 ghost use Rattle.std.specs.Prelude.{◌≡◌, ◌↔◌, ℕ, ◌+◌, ◌-◌, ◌*◌, ◌^◌, ◌<◌, ◌≤◌, ◌∷◌, [], length, take, get_or, IsTrue};
 ghost use Rattle.gj_number.specs.Bytes.{zero_digit, IsDigit, IsExponentLetter, IsNumberByte};
