@@ -1,5 +1,5 @@
-mod Locating
-mod Judging
-mod Out
-mod Quickly
-mod Settled
+mod PathSearches
+mod ReadVerdicts
+mod RoomWrites
+mod QuickReadings
+mod DecidedSequences

@@ -4,7 +4,7 @@ use Rattle.std.specs.Io.KnownBytes.{Appends, Consumes, Keeps}
 use Rattle.gj_json.specs.Limits.{Allowed}
 use Rattle.gj_json.specs.declared.path.Path.{Path}
 use Rattle.gj_coords.specs.declared.fault.Fault.{Fault}
-use Rattle.gj_coords.specs.Noted.{none_in}
+use Rattle.gj_coords.specs.Internal.KeptWarnings.{none_in}
 use Rattle.geolint.specs.declared.fault.RunFault.{RunFault}
 use Rattle.geolint.specs.declared.fault.RunFault.TheVariants.{Read, Write}
 use Rattle.geolint.specs.declared.options.Options.{Options}

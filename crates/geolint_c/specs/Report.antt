@@ -9,7 +9,7 @@ use Rattle.gj_coords.specs.declared.kind.Kind.{Kind}
 use Rattle.gj_coords.specs.declared.kind.Kind.TheVariants.{W1, W2, W3, W4, W5, W6, W7, W8, W9}
 use Rattle.gj_coords.specs.declared.warnings.Warnings.{Warnings}
 use Rattle.gj_coords.specs.Fault.{number_of}
-use Rattle.gj_coords.specs.Noted.{count_in, first_in, none_in}
+use Rattle.gj_coords.specs.Internal.KeptWarnings.{count_in, first_in, none_in}
 use Rattle.gj_rules.specs.declared.verdict.Verdict.{Verdict}
 use Rattle.gj_rules.specs.declared.verdict.Verdict.TheVariants.{Valid, Broken, NotJson}
 use Rattle.gj_rules.specs.Verdict.{IsVerdict}

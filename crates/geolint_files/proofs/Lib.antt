@@ -1,6 +1,6 @@
-mod Judging
-mod Quickly
-mod Settled
-mod Lines
-mod Worst
-mod Found
+mod FileVerdicts
+mod QuickFiles
+mod DecidedFiles
+mod JoinedElements
+mod WorstOutcome
+mod FoundSites

@@ -36,21 +36,22 @@ pub enum Reading {
 /// What the bytes of a reader are.
 ///
 /// It is the linter's verdict of all of them, or that of a sequence; where only yes or no is asked, the warnings of a valid
-/// text, or that it is not valid. The bytes are counted as they come.
+/// text, or that it is not valid. The bytes are counted as they come. The linter is begun anew, whatever it was fed before.
 pub fn judge<R: Read>(
     reader: &mut R,
     limits: Limits,
     reading: Reading,
+    linter: &mut Linter,
     meter: &mut Meter,
 ) -> io::Result<Finding>
     ensures { IfOk result (Finds reading limits (R.remaining reader.old) (R.remaining reader.new)) }
 {
     match reading {
-        Reading::Text => match judge_text(reader, limits, meter) {
+        Reading::Text => match judge_text(reader, limits, linter, meter) {
             Ok(verdict) => Ok(Finding::Text(verdict)),
             Err(error) => Err(error),
         },
-        Reading::Quick => match judge_quickly(reader, limits, meter) {
+        Reading::Quick => match judge_quickly(reader, limits, linter, meter) {
             Ok(Some(warnings)) => Ok(Finding::Text(Verdict::Valid(warnings))),
             Ok(None) => Ok(Finding::NotValid),
             Err(error) => Err(error),
@@ -63,17 +64,22 @@ pub fn judge<R: Read>(
 }
 
 /// The verdict of one text. No read follows a refusal.
-fn judge_text<R: Read>(reader: &mut R, limits: Limits, meter: &mut Meter) -> io::Result<Verdict>
+fn judge_text<R: Read>(
+    reader: &mut R,
+    limits: Limits,
+    linter: &mut Linter,
+    meter: &mut Meter,
+) -> io::Result<Verdict>
     ensures { IfOk result (λ verdict. JudgesRead limits (R.remaining reader.old) (R.remaining reader.new) verdict) }
 {
     let _most = limits.bytes();
-    let mut linter = Linter::new(limits);
+    let _left = linter.finish_and_begin(limits);
     let mut piece = [0; PIECE];
     let mut offset = 0u64;
     loop {
         match reader.read(&mut piece) {
             Err(error) => return Err(error),
-            Ok(0) => return Ok(linter.finish()),
+            Ok(0) => return Ok(linter.finish_and_begin(limits)),
             Ok(count) => {
                 offset += count as u64;
                 meter.add_bytes(count);
@@ -90,19 +96,20 @@ fn judge_text<R: Read>(reader: &mut R, limits: Limits, meter: &mut Meter) -> io:
 fn judge_quickly<R: Read>(
     reader: &mut R,
     limits: Limits,
+    linter: &mut Linter,
     meter: &mut Meter,
 ) -> io::Result<Option<Warnings>>
     ensures { IfOk result (λ valid. JudgesQuickly limits (R.remaining reader.old) (R.remaining reader.new) valid) }
 {
     let _most = limits.bytes();
     one_verdict();
-    let mut linter = Linter::new(limits);
+    let _left = linter.finish_and_begin(limits);
     let mut piece = [0; PIECE];
     let mut offset = 0u64;
     loop {
         match reader.read(&mut piece) {
             Err(error) => return Err(error),
-            Ok(0) => return Ok(valid_in(linter.finish())),
+            Ok(0) => return Ok(valid_in(linter.finish_and_begin(limits))),
             Ok(count) => {
                 offset += count as u64;
                 meter.add_bytes(count);

@@ -12,7 +12,8 @@ use gj_rules::{SeqVerdict, Verdict};
 pub struct Report<'a> {
     pub name: &'a [u8],
     pub finding: Finding,
-    pub sites: &'a Sites,
+    /// None where no place was sought.
+    pub sites: Option<&'a Sites>,
     pub passes: bool,
 }
 
@@ -91,6 +92,14 @@ impl Finding {
         }
     }
 
+    /// Whether a place of it is told.
+    pub fn has_places(&self) -> bool {
+        match self.warnings() {
+            Some(warnings) => !warnings.is_empty(),
+            None => self.fault().is_some(),
+        }
+    }
+
     /// The places that are to be sought, in their order.
     pub fn places(&self) -> Sites {
         let mut sites = Sites::none();
@@ -134,14 +143,17 @@ fn fault_in(verdict: Verdict) -> Option<Told>
 impl<'a> Report<'a> {
     /// Where a place stands, if that was found.
     pub fn spot(&self, place: u64) -> Option<Spot> {
-        self.sites.at(place).map(|site| site.spot)
+        match self.sites {
+            Some(sites) => sites.at(place).map(|site| site.spot),
+            None => None,
+        }
     }
 
     /// The path of the value at a place: none for a text that is refused, which need not have one there.
     pub fn path(&self, told: &Told) -> Option<Path> {
-        match told.code {
-            Code::Cause(_) => None,
-            _ => self.sites.at(told.place).and_then(|site| site.path),
+        match (told.code, self.sites) {
+            (Code::Cause(_), _) | (_, None) => None,
+            (_, Some(sites)) => sites.at(told.place).and_then(|site| site.path),
         }
     }
 }

@@ -15,6 +15,7 @@ use crate::sites::Sites;
 use crate::summary::Summary;
 use crate::walk::{Pending, Walk, is_sequence, is_taken};
 use crate::words::Order;
+use gj_rules::Linter;
 use std::alloc::AllocError;
 use std::env;
 use std::fs::{File, Metadata};
@@ -53,7 +54,8 @@ pub fn judge_all(rt: &HostRuntime, order: &Order) -> Result<Outcome, Failure> {
     if names_input(order) {
         return Err(Failure::BothFromInput);
     }
-    let mut run = Run::new(rt, order.options)?;
+    let mut linter = Linter::new(order.options.limits);
+    let mut run = Run::new(rt, order.options, &mut linter)?;
     run.begin()?;
     for path in &order.paths {
         run.judge_path(path.as_slice())?;
@@ -80,9 +82,11 @@ fn names_input(order: &Order) -> bool {
 }
 
 #[derive(Drop)]
-struct Run {
+struct Run<'a> {
     rt: HostRuntime,
     options: Options,
+    /// One for all files, each of which begins it anew.
+    linter: &'a mut Linter,
     style: Style,
     out: BufWriter<Stdout>,
     is_terminal: bool,
@@ -107,19 +111,20 @@ fn style_of(rt: &HostRuntime, is_terminal: bool) -> Style {
     }
 }
 
-impl Run {
+impl<'a> Run<'a> {
     ghost use Rattle.std.specs.Prelude.{◌≡◌, ◌++◌, ◌∷◌, [], List, IfOk, OnOk};
     ghost use Rattle.geolint_files.specs.declared.outcome.Outcome.{Outcome};
     ghost use Rattle.geolint_files.specs.declared.outcome.Outcome.TheVariants.{Unread};
     ghost use Rattle.geolint_files.specs.Finding.{outcome_of, passes, worst};
 
-    fn new(rt: &HostRuntime, options: Options) -> Result<Run, Failure>
+    fn new(rt: &HostRuntime, options: Options, linter: &'a mut Linter) -> Result<Run<'a>, Failure>
         ensures { IfOk result (λ run. run.outcome ≡ worst []) }
     {
         let is_terminal = rt.stdout().is_terminal();
         Ok(Run {
             rt: rt.clone()?,
             options,
+            linter,
             style: style_of(rt, is_terminal),
             out: BufWriter::new(rt.alloc(), rt.stdout())?,
             is_terminal,
@@ -139,8 +144,8 @@ impl Run {
     }
 
     /// The worst of all is the answer.
-    fn end(mut self) -> Result<Outcome, Failure>
-        ensures { IfOk result (λ outcome. outcome ≡ self.outcome) }
+    fn end(&mut self) -> Result<Outcome, Failure>
+        ensures { IfOk result (λ outcome. outcome ≡ self.old.outcome) }
     {
         self.progress.clear();
         if self.options.format == Format::Sarif {
@@ -278,9 +283,10 @@ impl Run {
             &mut reader,
             self.options.limits,
             reading,
+            self.linter,
             &mut self.progress,
         ) {
-            Ok(finding) => self.tell(name, finding, &Sites::none()),
+            Ok(finding) => self.tell(name, finding, None),
             Err(error) => self.tell_unread(name, &error),
         }
     }
@@ -290,13 +296,41 @@ impl Run {
         let before = file.metadata().ok();
         let reading = self.reading(name);
         self.progress.add_file();
-        match judge(&mut file, self.options.limits, reading, &mut self.progress) {
+        match judge(
+            &mut file,
+            self.options.limits,
+            reading,
+            self.linter,
+            &mut self.progress,
+        ) {
             Ok(finding) => {
-                let sites = self.find_sites(&finding, &mut file, &before, reading);
-                self.tell(name, finding, &sites)
+                if finding.has_places() {
+                    self.tell_found(name, finding, &mut file, &before, reading)
+                } else {
+                    self.tell(name, finding, None)
+                }
             }
             Err(error) => self.tell_unread(name, &error),
         }
+    }
+
+    /// Reads a file again, and tells it with its lines.
+    ///
+    /// The sites have room of their own, which costs a file without any nothing.
+    #[inline(never)]
+    fn tell_found(
+        &mut self,
+        name: &[u8],
+        finding: Finding,
+        file: &mut File,
+        before: &Option<Metadata>,
+        reading: Reading,
+    ) -> Result<(), Failure>
+        ensures { (outcomes : List Outcome) → self.old.outcome ≡ worst outcomes
+            → self.new.outcome ≡ worst (outcomes ++ outcome_of (passes self.old.options.strict self.old.options.allowed finding) ∷ []) }
+    {
+        let sites = self.find_sites(&finding, file, before, reading);
+        self.tell(name, finding, Some(&sites))
     }
 
     /// The lines, columns and paths of what is told, where the file is still as it was judged.
@@ -324,7 +358,7 @@ impl Run {
     }
 
     /// Tells a file that was judged.
-    fn tell(&mut self, name: &[u8], finding: Finding, sites: &Sites) -> Result<(), Failure>
+    fn tell(&mut self, name: &[u8], finding: Finding, sites: Option<&Sites>) -> Result<(), Failure>
         ensures { (outcomes : List Outcome) → self.old.outcome ≡ worst outcomes
             → self.new.outcome ≡ worst (outcomes ++ outcome_of (passes self.old.options.strict self.old.options.allowed finding) ∷ []) }
     {

@@ -1,6 +1,6 @@
 //! What each rule, kind of warning and cause is called.
 ghost use Rattle.std.specs.Prelude.{◌≡◌, is_some};
-ghost use Rattle.gj_coords.specs.Noted.{first_in};
+ghost use Rattle.gj_coords.specs.Internal.KeptWarnings.{first_in};
 ghost use Rattle.geolint_files.specs.Texts.{cause_number, cause_text, kind_text, rule_text};
 
 use crate::line::{put, put_all};

@@ -2,8 +2,8 @@
 use Rattle.std.specs.Prelude.{List}
 use Rattle.gj_json.specs.declared.event.Event.{Event}
 use Rattle.gj_coords.specs.declared.bbox.Bbox.{Bbox}
-use Rattle.gj_coords.specs.Reading.{IsAfter}
-use Rattle.gj_coords.specs.BoxGather.{box_machine}
+use Rattle.gj_coords.specs.Internal.ValueMachine.{IsAfter}
+use Rattle.gj_coords.specs.Internal.BoxGather.{box_machine}
 
 -- What it says is internal: a caller needs that `new` stands for no events, and that `event` keeps it.
 abbrev pub StandsFor : Bbox → List Event → Type 0

@@ -6,13 +6,13 @@ use Rattle.gj_coords.specs.declared.array.Stage.TheVariants.{Done}
 use Rattle.gj_coords.specs.declared.coordinates.Coordinates.{Coordinates}
 use Rattle.gj_coords.specs.declared.depth.Depth.{Depth}
 use Rattle.gj_coords.specs.declared.depth.Depth.TheVariants.{Unknown, First, Second, Third, Whole}
-use Rattle.gj_coords.specs.Reading.{ReadsOn}
-use Rattle.gj_coords.specs.Warned.{no_warned}
-use Rattle.gj_coords.specs.Position.{sound_noted}
-use Rattle.gj_coords.specs.FlatPosition.{Walk, flat_misshapen, flat_position, flat_first}
-use Rattle.gj_coords.specs.Walk.{walk_machine}
-use Rattle.gj_coords.specs.CoordinatesKept.{first_answer}
-use Rattle.gj_coords.specs.Steady.{IsFirst, IsSecond, IsThird}
+use Rattle.gj_coords.specs.Internal.ValueMachine.{ReadsOn}
+use Rattle.gj_coords.specs.Internal.GatheredWarnings.{no_warned}
+use Rattle.gj_coords.specs.Internal.PositionGather.{sound_noted}
+use Rattle.gj_coords.specs.Internal.FlatPosition.{Walk, flat_misshapen, flat_position, flat_first}
+use Rattle.gj_coords.specs.Internal.LevelGather.{walk_machine}
+use Rattle.gj_coords.specs.Internal.CoordinatesKept.{first_answer}
+use Rattle.gj_coords.specs.Internal.SteadyWalk.{IsFirst, IsSecond, IsThird}
 
 -- the walk has read these events
 abbrev pub IsAt : List Event → Walk → Type 0

@@ -5,8 +5,8 @@ use Rattle.gj_coords.specs.declared.kind.Kind.{Kind}
 use Rattle.gj_coords.specs.declared.noted.Noted.{Noted}
 use Rattle.gj_coords.specs.declared.warnings.Warnings.{Warnings}
 use Rattle.gj_coords.specs.Warnings.{Warning, warning_at, same_kind}
-use Rattle.gj_coords.specs.Noted.{noted_as, noted_of, nothing_noted, joined_noted, by_kind, kept, warnings_of, no_warnings, joined, added}
-use Rattle.gj_coords.specs.NotedLaws.{joined_noted_none, joined_noted_assoc, joined_noted_comm, noted_of-append}
+use Rattle.gj_coords.specs.Internal.KeptWarnings.{noted_as, noted_of, nothing_noted, joined_noted, by_kind, kept, warnings_of, no_warnings, joined, added}
+use Rattle.gj_coords.specs.Internal.KeptWarningLaws.{joined_noted_none, joined_noted_assoc, joined_noted_comm, noted_of-append}
 
 -- what is kept by kind
 pub kept_by_kind : (noted : Kind → Noted) (kind : Kind) → kept (by_kind noted) kind ≡ noted kind

@@ -28,7 +28,7 @@ pub struct Array<W, G> {
 }
 
 impl<W: Part, G: Gather<W>> Part for Array<W, G> {
-    ghost use Rattle.gj_coords.specs.Array.{array_machine};
+    ghost use Rattle.gj_coords.specs.Internal.ArrayReader.{array_machine};
 
     type Answer = G::Answer;
 
@@ -117,7 +117,7 @@ impl<W: Part, G: Gather<W>> Part for Array<W, G> {
 
 impl<W: Part, G: Gather<W>> Array<W, G> {
     ghost use Rattle.std.specs.Prelude.{◌≡◌};
-    ghost use Rattle.gj_coords.specs.Array.{when_due, between, within, behind};
+    ghost use Rattle.gj_coords.specs.Internal.ArrayReader.{when_due, between, within, behind};
 
     fn due_event(&mut self, event: &Event)
         ensures { self.new ≡ when_due G.gathering event.now.what self.old event.now }

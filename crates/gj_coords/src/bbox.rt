@@ -3,7 +3,7 @@
 mod tests;
 
 ghost use Rattle.std.specs.Prelude.{◌≡◌};
-ghost use Rattle.gj_coords.specs.BoxGather.{unlike_number};
+ghost use Rattle.gj_coords.specs.Internal.BoxGather.{unlike_number};
 
 mod latitudes;
 
@@ -52,7 +52,7 @@ fn not_a_number(element: &Event) -> Option<Fault>
 
 impl BoxGather {
     ghost use Rattle.std.specs.Prelude.{◌≡◌};
-    ghost use Rattle.gj_coords.specs.BoxGather.{wrong_length, upside_down, box_gathering};
+    ghost use Rattle.gj_coords.specs.Internal.BoxGather.{wrong_length, upside_down, box_gathering};
 
     /// Adds an element by its first event.
     fn add_element(&mut self, element: &Event)
@@ -91,7 +91,7 @@ impl BoxGather {
 }
 
 impl Gather<Element> for BoxGather {
-    ghost use Rattle.gj_coords.specs.BoxGather.{box_gathering};
+    ghost use Rattle.gj_coords.specs.Internal.BoxGather.{box_gathering};
 
     type Answer = BoxFindings;
 
@@ -157,7 +157,7 @@ impl Bbox {
     ghost use Rattle.gj_coords.specs.Box.{bbox_faults};
     ghost use Rattle.gj_coords.specs.Bbox.{StandsFor};
     ghost use Rattle.gj_coords.specs.BoxWarnings.{bbox_warnings};
-    ghost use Rattle.gj_coords.specs.Noted.{StandsFor as WarningsStandFor};
+    ghost use Rattle.gj_coords.specs.Internal.KeptWarnings.{StandsFor as WarningsStandFor};
 
     /// No event has come.
     pub fn new() -> Bbox

@@ -43,12 +43,12 @@ impl Coordinates {
     ghost use Rattle.gj_coords.specs.Fault.{least};
     ghost use Rattle.gj_coords.specs.Shape.{coordinates_faults};
     ghost use Rattle.gj_coords.specs.Coordinates.{StandsFor};
-    ghost use Rattle.gj_coords.specs.Noted.{StandsFor as WarningsStandFor, joined, no_warnings};
+    ghost use Rattle.gj_coords.specs.Internal.KeptWarnings.{StandsFor as WarningsStandFor, joined, no_warnings};
     ghost use Rattle.gj_coords.specs.declared.array.Stage.TheVariants.{Due};
     ghost use Rattle.gj_coords.specs.SimpleFaults.{least_faults};
-    ghost use Rattle.gj_coords.specs.Warned.{all_in};
+    ghost use Rattle.gj_coords.specs.Internal.GatheredWarnings.{all_in};
     ghost use Rattle.gj_coords.specs.CoordinateWarnings.{coordinates_warnings};
-    ghost use Rattle.gj_coords.specs.CoordinatesKept.{coordinates_kept};
+    ghost use Rattle.gj_coords.specs.Internal.CoordinatesKept.{coordinates_kept};
 
     /// No event has come.
     pub fn new() -> Coordinates

@@ -4,7 +4,7 @@
 //! from the second position on it stays as it is.
 ghost use Rattle.std.specs.Prelude.{◌≡◌, true};
 ghost use Rattle.gj_coords.specs.declared.array.Stage.TheVariants.{Due, Between, Within};
-ghost use Rattle.gj_coords.specs.Steady.{IsFaultBy, IsSettled, IsIdle, IsFirst, IsSecond, IsThird, IsSteady, IsThirdPast, IsPast};
+ghost use Rattle.gj_coords.specs.Internal.SteadyWalk.{IsFaultBy, IsSettled, IsIdle, IsFirst, IsSecond, IsThird, IsSteady, IsThirdPast, IsPast};
 
 use crate::array::Stage;
 use crate::element::Element;
@@ -27,7 +27,7 @@ pub enum Depth {
 }
 
 impl Depth {
-    ghost use Rattle.gj_coords.specs.Steady.{is_whole};
+    ghost use Rattle.gj_coords.specs.Internal.SteadyWalk.{is_whole};
 
     /// Whether the value is a position that was told as one.
     #[inline(always)]

@@ -1,6 +1,6 @@
 //! An element that is read past.
 ghost use Rattle.std.specs.Prelude.{◌≡◌};
-ghost use Rattle.gj_coords.specs.Element.{levels_after as levels_after_event};
+ghost use Rattle.gj_coords.specs.Internal.ElementReader.{levels_after as levels_after_event};
 
 use crate::part::Part;
 use gj_json::{Event, What};
@@ -31,7 +31,7 @@ pub struct Element {
 }
 
 impl Part for Element {
-    ghost use Rattle.gj_coords.specs.Element.{element_machine};
+    ghost use Rattle.gj_coords.specs.Internal.ElementReader.{element_machine};
 
     type Answer = Event;
 

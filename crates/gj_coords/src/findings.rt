@@ -14,7 +14,7 @@ pub struct Findings {
 
 impl Findings {
     ghost use Rattle.std.specs.Prelude.{◌≡◌};
-    ghost use Rattle.gj_coords.specs.Findings.{misshapen_found, empty_found, found_in};
+    ghost use Rattle.gj_coords.specs.Internal.Findings.{misshapen_found, empty_found, found_in};
 
     /// In a value that has not the shape that is due.
     pub fn misshapen(place: u64) -> Findings
@@ -52,7 +52,7 @@ impl Findings {
 }
 
 impl Judged for Findings {
-    ghost use Rattle.gj_coords.specs.Findings.{findings_judged};
+    ghost use Rattle.gj_coords.specs.Internal.Findings.{findings_judged};
 
     ghost judgement = { findings_judged };
 

@@ -39,11 +39,11 @@ pub enum FirstSummary {
 
 impl FirstLevel {
     ghost use Rattle.std.specs.Prelude.{◌≡◌};
-    ghost use Rattle.gj_coords.specs.Steady.{IsCounted, first_steady};
-    ghost use Rattle.gj_coords.specs.FlatPosition.{flat_second, flat_held, held_fault, held_warned};
+    ghost use Rattle.gj_coords.specs.Internal.SteadyWalk.{IsCounted, first_steady};
+    ghost use Rattle.gj_coords.specs.Internal.FlatPosition.{flat_second, flat_held, held_fault, held_warned};
     ghost use Rattle.gj_coords.specs.SimpleFaults.{by_simple};
-    ghost use Rattle.gj_coords.specs.Walk.{second_gathering, first_gathering, fault_in, some_fault_in, warned_in, some_warned_in, point_warned_in, some_quiet_in, quiet_in};
-    ghost use Rattle.gj_coords.specs.Warned.{taken};
+    ghost use Rattle.gj_coords.specs.Internal.LevelGather.{second_gathering, first_gathering, fault_in, some_fault_in, warned_in, some_warned_in, point_warned_in, some_quiet_in, quiet_in};
+    ghost use Rattle.gj_coords.specs.Internal.GatheredWarnings.{taken};
 
     /// Adds an element that is an array, by what it gathered.
     fn add_array(&mut self, element: &SecondLevel)
@@ -271,7 +271,7 @@ impl FirstLevel {
 }
 
 impl Gather<SecondReader> for FirstLevel {
-    ghost use Rattle.gj_coords.specs.Walk.{first_gathering};
+    ghost use Rattle.gj_coords.specs.Internal.LevelGather.{first_gathering};
 
     type Answer = FirstSummary;
 

@@ -2,10 +2,10 @@
 ghost use Rattle.std.specs.Prelude.{◌≡◌, Some, IfSome, true, false};
 ghost use Rattle.gj_number.specs.Short.{exact_of};
 ghost use Rattle.gj_coords.specs.CoordinateWarnings.{is_precise};
-ghost use Rattle.gj_coords.specs.Position.{position_noted, sound_noted};
+ghost use Rattle.gj_coords.specs.Internal.PositionGather.{position_noted, sound_noted};
 ghost use Rattle.gj_coords.specs.Winding.{corner_of};
-ghost use Rattle.gj_coords.specs.Noted.{nothing_noted};
-ghost use Rattle.gj_coords.specs.FlatPosition.{flat_values, flat_position, flat_precise, third_value, third_precise, number_precise, flat_count, least_place, flat_misshapen, flat_ring, IsPlain};
+ghost use Rattle.gj_coords.specs.Internal.KeptWarnings.{nothing_noted};
+ghost use Rattle.gj_coords.specs.Internal.FlatPosition.{flat_values, flat_position, flat_precise, third_value, third_precise, number_precise, flat_count, least_place, flat_misshapen, flat_ring, IsPlain};
 
 use crate::fault::{Fault, Rule};
 use crate::noted::Noted;
@@ -130,7 +130,7 @@ pub fn corner(flat: &Flat) -> Option<Corner>
 }
 
 /// The corner of a position in which a look at how it is written shows nothing worth a warning, as it mostly does.
-#[tactic(auto, using(crate::proofs::PreciseLaws::plain_if))]
+#[tactic(auto, using(crate::proofs::Walks::PreciseNumbers::plain_if))]
 #[inline(always)]
 pub fn plain_corner(flat: &Flat) -> Option<Corner>
     ensures { IfSome result (λ corner. IsPlain flat.now corner) }

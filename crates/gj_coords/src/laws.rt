@@ -9,9 +9,9 @@ ghost use Rattle.gj_coords.specs.Ring.{agree, first_values};
 ghost use Rattle.gj_coords.specs.declared.warnings.Warnings.{Warnings};
 ghost use Rattle.gj_coords.specs.Warnings.{Warning};
 ghost use Rattle.gj_coords.specs.declared.simple.Simple.{Simple};
-ghost use Rattle.gj_coords.specs.Noted.{warnings_of, no_warnings, joined};
+ghost use Rattle.gj_coords.specs.Internal.KeptWarnings.{warnings_of, no_warnings, joined};
 ghost use Rattle.gj_coords.specs.CoordinateWarnings.{coordinates_warnings};
-ghost use Rattle.gj_coords.specs.CoordinatesKept.{coordinates_kept};
+ghost use Rattle.gj_coords.specs.Internal.CoordinatesKept.{coordinates_kept};
 
 /// The least of some faults is one of them, and comes before each of them or is the same. It can be
 /// taken in any grouping.

@@ -1,6 +1,6 @@
 //! What is kept of the warnings of one kind.
 ghost use Rattle.std.specs.Prelude.{◌≡◌};
-ghost use Rattle.gj_coords.specs.Noted.{noted_as, nothing_noted, is_nothing, joined_noted};
+ghost use Rattle.gj_coords.specs.Internal.KeptWarnings.{noted_as, nothing_noted, is_nothing, joined_noted};
 
 /// How many warnings of one kind there are, and where the first stands.
 #[derive(Clone, Copy)]

@@ -1,10 +1,10 @@
 //! What the readers of coordinates are made of.
 ghost use Rattle.std.specs.Prelude.{◌≡◌};
 ghost use Rattle.gj_json.specs.declared.event.What.TheVariants.{OpenArray, CloseArray};
-ghost use Rattle.gj_coords.specs.Sent.{event_at};
-ghost use Rattle.gj_coords.specs.Reading.{Machine};
-ghost use Rattle.gj_coords.specs.Gathering.{Gathering};
-ghost use Rattle.gj_coords.specs.Findings.{Judgement};
+ghost use Rattle.gj_coords.specs.Internal.SentEvents.{event_at};
+ghost use Rattle.gj_coords.specs.Internal.ValueMachine.{Machine};
+ghost use Rattle.gj_coords.specs.Internal.Gathering.{Gathering};
+ghost use Rattle.gj_coords.specs.Internal.Findings.{Judgement};
 
 use crate::fault::Fault;
 use crate::warned::Warned;

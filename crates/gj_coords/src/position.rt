@@ -3,9 +3,9 @@ ghost use Rattle.std.specs.Prelude.{◌≡◌, true, false, Some};
 ghost use Rattle.std.specs.Option.{option_eq};
 ghost use Rattle.gj_number.specs.Exact.{same_parts};
 ghost use Rattle.gj_number.specs.Short.{exact_of};
-ghost use Rattle.gj_coords.specs.FlatPosition.{third_value};
+ghost use Rattle.gj_coords.specs.Internal.FlatPosition.{third_value};
 ghost use Rattle.gj_coords.specs.CoordinateWarnings.{is_precise};
-ghost use Rattle.gj_coords.specs.Position.{misshapen_at, position_closed};
+ghost use Rattle.gj_coords.specs.Internal.PositionGather.{misshapen_at, position_closed};
 
 use crate::array::Array;
 use crate::element::Element;
@@ -101,8 +101,8 @@ fn is_third_same(number: &Option<Decimal>, other: &Option<Numbered>) -> bool
 
 impl Values {
     ghost use Rattle.std.specs.Prelude.{◌≡◌, true, false};
-    ghost use Rattle.gj_coords.specs.FlatPosition.{flat_values};
-    ghost use Rattle.gj_coords.specs.Position.{no_values, pushed, same_values, corner_in};
+    ghost use Rattle.gj_coords.specs.Internal.FlatPosition.{flat_values};
+    ghost use Rattle.gj_coords.specs.Internal.PositionGather.{no_values, pushed, same_values, corner_in};
 
     pub fn none() -> Values
         ensures { result ≡ no_values }
@@ -186,10 +186,10 @@ fn is_precise(value: &Option<Decimal>) -> bool
 impl Numbers {
     ghost use Rattle.std.specs.Prelude.{◌≡◌};
     ghost use Rattle.gj_json.specs.declared.event.What.TheVariants.{OpenArray};
-    ghost use Rattle.gj_coords.specs.Sent.{event_at};
+    ghost use Rattle.gj_coords.specs.Internal.SentEvents.{event_at};
     ghost use Rattle.gj_coords.specs.declared.kind.Kind.TheVariants.{W3, W4, W5};
-    ghost use Rattle.gj_coords.specs.Position.{number_added, first_judged, array_counted, numbers_start, position_least, position_noted, judged_noted};
-    ghost use Rattle.gj_coords.specs.Steady.{IsCounted};
+    ghost use Rattle.gj_coords.specs.Internal.PositionGather.{number_added, first_judged, array_counted, numbers_start, position_least, position_noted, judged_noted};
+    ghost use Rattle.gj_coords.specs.Internal.SteadyWalk.{IsCounted};
 
     pub fn none() -> Numbers
         ensures { result ≡ numbers_start 0 }
@@ -255,7 +255,7 @@ impl Numbers {
     }
 
     /// Counts an element that is an array, whose fault changes nothing. Mostly as many are counted as are.
-    #[tactic(auto, using(crate::proofs::SteadyLaws::counted_whole))]
+    #[tactic(auto, using(crate::proofs::Walks::SteadyLaws::counted_whole))]
     #[inline(always)]
     pub fn count_array(&mut self)
         ensures { IsCounted self.old → self.new ≡ array_counted self.old }
@@ -321,7 +321,7 @@ impl Numbers {
 
 impl Position {
     ghost use Rattle.std.specs.Prelude.{◌≡◌};
-    ghost use Rattle.gj_coords.specs.Position.{no_position};
+    ghost use Rattle.gj_coords.specs.Internal.PositionGather.{no_position};
 
     /// What is known of a value that is no array.
     pub fn none(head: &Event) -> Position
@@ -338,7 +338,7 @@ impl Position {
 }
 
 impl Gather<Element> for Numbers {
-    ghost use Rattle.gj_coords.specs.Position.{numbers_gathering};
+    ghost use Rattle.gj_coords.specs.Internal.PositionGather.{numbers_gathering};
 
     type Answer = Position;
 

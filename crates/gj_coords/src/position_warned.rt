@@ -1,6 +1,6 @@
 //! What is worth a warning in a position (RFC 7946, sections 3.1.1, 4 and 11.2).
 ghost use Rattle.std.specs.Prelude.{◌≡◌};
-ghost use Rattle.gj_coords.specs.Position.{position_noted};
+ghost use Rattle.gj_coords.specs.Internal.PositionGather.{position_noted};
 
 use crate::fault::Fault;
 use crate::kind::Kind;
@@ -34,7 +34,7 @@ pub fn note_position(
 }
 
 impl Judged for Position {
-    ghost use Rattle.gj_coords.specs.Findings.{position_judged};
+    ghost use Rattle.gj_coords.specs.Internal.Findings.{position_judged};
 
     ghost judgement = { position_judged };
 

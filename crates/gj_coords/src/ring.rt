@@ -1,6 +1,6 @@
 //! Arrays of positions: what lines and linear rings have in common (RFC 7946, sections 3.1.4 and 3.1.6).
 ghost use Rattle.std.specs.Prelude.{◌≡◌};
-ghost use Rattle.gj_coords.specs.Positions.{role_behind, runs_wrong};
+ghost use Rattle.gj_coords.specs.Internal.PositionsGather.{role_behind, runs_wrong};
 
 use crate::array::{Array, Stage};
 use crate::fault::{Fault, Rule, join_fault, lesser_fault};
@@ -74,10 +74,10 @@ impl RingRole {
 
 impl Positions {
     ghost use Rattle.std.specs.Prelude.{◌≡◌};
-    ghost use Rattle.gj_coords.specs.WindingGather.{turn_in};
-    ghost use Rattle.gj_coords.specs.Position.{position_closed, misshapen_at};
-    ghost use Rattle.gj_coords.specs.FlatPosition.{flat_position, flat_values};
-    ghost use Rattle.gj_coords.specs.Positions.{no_positions, position_added, misshapen_added, sound_joined, ring_closed, ring_noted};
+    ghost use Rattle.gj_coords.specs.Internal.WindingGather.{turn_in};
+    ghost use Rattle.gj_coords.specs.Internal.PositionGather.{position_closed, misshapen_at};
+    ghost use Rattle.gj_coords.specs.Internal.FlatPosition.{flat_position, flat_values};
+    ghost use Rattle.gj_coords.specs.Internal.PositionsGather.{no_positions, position_added, misshapen_added, sound_joined, ring_closed, ring_noted};
 
     pub fn none() -> Positions
         ensures { result ≡ no_positions }
@@ -175,13 +175,13 @@ impl Positions {
     fn add_sound(&mut self, values: &Values, corner: Option<Corner>)
         ensures { self.new ≡ sound_joined self.old values.now corner }
     {
-        if self.first.is_none() {
-            self.first = Some(*values);
+        match &self.first {
+            Some(first) => self.closes = first.same(values),
+            None => {
+                self.first = Some(*values);
+                self.closes = true;
+            }
         }
-        self.closes = match &self.first {
-            Some(first) => first.same(values),
-            None => true,
-        };
         self.winding.add(corner);
     }
 
@@ -221,8 +221,8 @@ impl Positions {
 
 impl RingGather {
     ghost use Rattle.std.specs.Prelude.{◌≡◌};
-    ghost use Rattle.gj_coords.specs.Position.{position_closed, no_position};
-    ghost use Rattle.gj_coords.specs.Positions.{ring_gathering};
+    ghost use Rattle.gj_coords.specs.Internal.PositionGather.{position_closed, no_position};
+    ghost use Rattle.gj_coords.specs.Internal.PositionsGather.{ring_gathering};
 
     /// Adds an element that is an array, by what it gathered.
     fn add_array(&mut self, element: &Numbers)
@@ -242,7 +242,7 @@ impl RingGather {
 }
 
 impl Gather<PositionReader> for RingGather {
-    ghost use Rattle.gj_coords.specs.Positions.{ring_gathering};
+    ghost use Rattle.gj_coords.specs.Internal.PositionsGather.{ring_gathering};
 
     type Answer = LinearRing;
 
@@ -289,7 +289,7 @@ impl Gather<PositionReader> for RingGather {
 }
 
 impl Judged for LinearRing {
-    ghost use Rattle.gj_coords.specs.Positions.{ring_judged};
+    ghost use Rattle.gj_coords.specs.Internal.PositionsGather.{ring_judged};
 
     ghost judgement = { ring_judged };
 

@@ -40,11 +40,11 @@ pub type SecondReader = Array<ThirdReader, SecondLevel>;
 
 impl SecondLevel {
     ghost use Rattle.std.specs.Prelude.{◌≡◌};
-    ghost use Rattle.gj_coords.specs.Positions.{ring_closed};
-    ghost use Rattle.gj_coords.specs.Several.{line_closed};
-    ghost use Rattle.gj_coords.specs.Steady.{IsCounted, second_steady};
-    ghost use Rattle.gj_coords.specs.FlatPosition.{flat_third};
-    ghost use Rattle.gj_coords.specs.Walk.{third_gathering, second_gathering};
+    ghost use Rattle.gj_coords.specs.Internal.PositionsGather.{ring_closed};
+    ghost use Rattle.gj_coords.specs.Internal.ListGather.{line_closed};
+    ghost use Rattle.gj_coords.specs.Internal.SteadyWalk.{IsCounted, second_steady};
+    ghost use Rattle.gj_coords.specs.Internal.FlatPosition.{flat_third};
+    ghost use Rattle.gj_coords.specs.Internal.LevelGather.{third_gathering, second_gathering};
 
     /// Adds an element that is an array, by what it gathered.
     fn add_array(&mut self, element: &ThirdLevel)
@@ -105,7 +105,7 @@ impl SecondLevel {
 }
 
 impl Gather<ThirdReader> for SecondLevel {
-    ghost use Rattle.gj_coords.specs.Walk.{second_gathering};
+    ghost use Rattle.gj_coords.specs.Internal.LevelGather.{second_gathering};
 
     type Answer = SecondSummary;
 

@@ -1,6 +1,6 @@
 //! Lists and lines (RFC 7946, sections 3.1.3 to 3.1.7).
 ghost use Rattle.std.specs.Prelude.{◌≡◌};
-ghost use Rattle.gj_coords.specs.Several.{line_closed};
+ghost use Rattle.gj_coords.specs.Internal.ListGather.{line_closed};
 
 use crate::array::Array;
 use crate::fault::{Fault, Rule, join_fault, lesser_fault};
@@ -34,7 +34,7 @@ pub struct Several<const NEEDED: u8> {
 
 impl<const NEEDED: u8> Several<NEEDED> {
     ghost use Rattle.std.specs.Prelude.{◌≡◌};
-    ghost use Rattle.gj_coords.specs.Several.{several_gathering};
+    ghost use Rattle.gj_coords.specs.Internal.ListGather.{several_gathering};
 
     /// Adds an element that was answered for so.
     fn add_answer<A: Judged>(&mut self, answer: &A)
@@ -47,7 +47,7 @@ impl<const NEEDED: u8> Several<NEEDED> {
 }
 
 impl<W: Part<Answer: Judged>, const NEEDED: u8> Gather<W> for Several<NEEDED> {
-    ghost use Rattle.gj_coords.specs.Several.{several_gathering};
+    ghost use Rattle.gj_coords.specs.Internal.ListGather.{several_gathering};
 
     type Answer = Findings;
 

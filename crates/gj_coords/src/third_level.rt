@@ -31,11 +31,11 @@ pub type ThirdReader = Array<PositionReader, ThirdLevel>;
 
 impl ThirdLevel {
     ghost use Rattle.std.specs.Prelude.{◌≡◌};
-    ghost use Rattle.gj_coords.specs.Position.{position_closed, no_position};
-    ghost use Rattle.gj_coords.specs.Positions.{ring_closed};
-    ghost use Rattle.gj_coords.specs.Steady.{IsCounted, third_steady};
-    ghost use Rattle.gj_coords.specs.FlatPosition.{flat_position};
-    ghost use Rattle.gj_coords.specs.Walk.{third_gathering};
+    ghost use Rattle.gj_coords.specs.Internal.PositionGather.{position_closed, no_position};
+    ghost use Rattle.gj_coords.specs.Internal.PositionsGather.{ring_closed};
+    ghost use Rattle.gj_coords.specs.Internal.SteadyWalk.{IsCounted, third_steady};
+    ghost use Rattle.gj_coords.specs.Internal.FlatPosition.{flat_position};
+    ghost use Rattle.gj_coords.specs.Internal.LevelGather.{third_gathering};
 
     /// Adds an element that is an array, by what it gathered.
     fn add_array(&mut self, element: &Numbers)
@@ -80,7 +80,7 @@ impl ThirdLevel {
 }
 
 impl Gather<PositionReader> for ThirdLevel {
-    ghost use Rattle.gj_coords.specs.Walk.{third_gathering};
+    ghost use Rattle.gj_coords.specs.Internal.LevelGather.{third_gathering};
 
     type Answer = ThirdSummary;
 

@@ -3,12 +3,12 @@
 //! Each level is read once, in each role that it has under some type: the value itself as each of the six types; its
 //! elements as positions, lines, linear rings and polygons; theirs as positions and linear rings; and theirs as positions.
 ghost use Rattle.std.specs.Prelude.{◌≡◌};
-ghost use Rattle.gj_coords.specs.Warned.{all_in, taken};
+ghost use Rattle.gj_coords.specs.Internal.GatheredWarnings.{all_in, taken};
 ghost use Rattle.gj_coords.specs.SimpleFaults.{by_simple};
-ghost use Rattle.gj_coords.specs.Walk.{walk_machine, fault_as, warned_as, quiet_as};
+ghost use Rattle.gj_coords.specs.Internal.LevelGather.{walk_machine, fault_as, warned_as, quiet_as};
 ghost use Rattle.gj_json.specs.Flat.{number_event};
-ghost use Rattle.gj_coords.specs.Sent.{event_at};
-ghost use Rattle.gj_coords.specs.FlatPosition.{flat_taken, singly, in_second, second_due, third_due, in_third, in_fourth};
+ghost use Rattle.gj_coords.specs.Internal.SentEvents.{event_at};
+ghost use Rattle.gj_coords.specs.Internal.FlatPosition.{flat_taken, singly, in_second, second_due, third_due, in_third, in_fourth};
 
 use crate::array::{Array, Stage};
 use crate::fault::Fault;

@@ -13,8 +13,8 @@ pub struct Warned {
 impl Warned {
     ghost use Rattle.std.specs.Prelude.{◌≡◌, is_none, IsTrue};
     ghost use Rattle.gj_coords.specs.declared.kind.Kind.TheVariants.{W4};
-    ghost use Rattle.gj_coords.specs.Noted.{joined, added, no_warnings, none_in};
-    ghost use Rattle.gj_coords.specs.Warned.{no_warned, all_in, noted_in, all_noted_in, taken_all, taken};
+    ghost use Rattle.gj_coords.specs.Internal.KeptWarnings.{joined, added, no_warnings, none_in};
+    ghost use Rattle.gj_coords.specs.Internal.GatheredWarnings.{no_warned, all_in, noted_in, all_noted_in, taken_all, taken};
 
     /// No warning.
     pub fn none() -> Warned
@@ -34,7 +34,7 @@ impl Warned {
     }
 
     /// Forgets them all. Mostly there is nothing to write.
-    #[tactic(auto, using(crate::proofs::HeldLaws::is_no_warned))]
+    #[tactic(auto, using(crate::proofs::Walks::HeldPositions::is_no_warned))]
     #[inline(always)]
     pub fn clear(&mut self)
         ensures exact { self.new ≡ no_warned }

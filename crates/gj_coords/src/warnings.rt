@@ -22,7 +22,7 @@ struct Counts {
 
 impl Counts {
     ghost use Rattle.std.specs.Prelude.{◌≡◌};
-    ghost use Rattle.gj_coords.specs.Noted.{all_zero};
+    ghost use Rattle.gj_coords.specs.Internal.KeptWarnings.{all_zero};
 
     fn all_zero(&self) -> bool
         ensures { result ≡ all_zero self.now }
@@ -65,10 +65,10 @@ const _: () = prove!(size_of::<Warnings>() == 112);
 impl Warnings {
     ghost use Rattle.std.specs.Prelude.{◌≡◌, ◌↔◌, ◌++◌, ◌∷◌, [], ℕ, ◌+◌, ◌≤◌, ◌^◌, List, map, IsTrue};
     ghost use Rattle.gj_coords.specs.Warnings.{Warning, warning_at, shifted_by, count_of, first_of};
-    ghost use Rattle.gj_coords.specs.Noted.{StandsFor, warnings_of, no_warnings, joined, shifted, added, replaced, kept, joined_noted, shifted_noted, with_noted, count_in, first_in, none_in};
+    ghost use Rattle.gj_coords.specs.Internal.KeptWarnings.{StandsFor, warnings_of, no_warnings, joined, shifted, added, replaced, kept, joined_noted, shifted_noted, with_noted, count_in, first_in, none_in};
 
     /// No warning.
-    #[tactic(auto, unfolding(crate::specs::Noted::no_warnings, crate::specs::Noted::warnings_of))]
+    #[tactic(auto, unfolding(crate::specs::Internal::KeptWarnings::no_warnings, crate::specs::Internal::KeptWarnings::warnings_of))]
     pub fn none() -> Warnings
         ensures stands { StandsFor result [] }
         ensures exact { result ≡ no_warnings }
@@ -139,7 +139,7 @@ impl Warnings {
     }
 
     /// Takes the warnings of another.
-    #[tactic(auto, unfolding(crate::specs::Noted::joined))]
+    #[tactic(auto, unfolding(crate::specs::Internal::KeptWarnings::joined))]
     pub(crate) fn take(&mut self, other: &Warnings)
         ensures { self.new ≡ joined self.old other.now }
     {
@@ -189,7 +189,7 @@ impl Warnings {
     }
 
     /// Moves each place so many bytes further on.
-    #[tactic(auto, unfolding(crate::specs::Noted::shifted))]
+    #[tactic(auto, unfolding(crate::specs::Internal::KeptWarnings::shifted))]
     fn shift(&mut self, by: u64)
         requires { (kind : Kind) (place : ℕ) → first_in kind self.old ≡ Some place → place + by ≤ 2 ^ 61 }
         ensures { self.new ≡ shifted self.old by }

@@ -8,10 +8,10 @@ ghost use Rattle.gj_json.specs.Events.{value_events};
 ghost use Rattle.gj_coords.specs.declared.simple.Simple.{Simple};
 ghost use Rattle.gj_coords.specs.Fault.{least};
 ghost use Rattle.gj_coords.specs.Shape.{coordinates_faults};
-ghost use Rattle.gj_coords.specs.Noted.{StandsFor as WarningsStandFor};
+ghost use Rattle.gj_coords.specs.Internal.KeptWarnings.{StandsFor as WarningsStandFor};
 ghost use Rattle.gj_coords.specs.CoordinateWarnings.{coordinates_warnings};
-ghost use Rattle.gj_coords.specs.Reading.{Answers};
-ghost use Rattle.gj_coords.specs.SixLaws.{type_answer};
+ghost use Rattle.gj_coords.specs.Internal.ValueMachine.{Answers};
+ghost use Rattle.gj_coords.specs.Internal.SixReaders.{type_answer};
 
 use crate::array::Array;
 use crate::element::Element;
@@ -71,7 +71,7 @@ pub struct Watch<R> {
 }
 
 impl<R: TypeReader> Watcher for Watch<R> {
-    ghost use Rattle.gj_coords.specs.Reading.{IsAfter};
+    ghost use Rattle.gj_coords.specs.Internal.ValueMachine.{IsAfter};
 
     ghost simple = { R.simple };
 
@@ -105,7 +105,7 @@ type PointReader = Array<Element, Whole<Numbers>>;
 
 impl TypeReader for PointReader {
     ghost use Rattle.gj_coords.specs.declared.simple.Simple.TheVariants.{Point};
-    ghost use Rattle.gj_coords.specs.SixLaws.{point_answers};
+    ghost use Rattle.gj_coords.specs.Internal.SixReaders.{point_answers};
 
     ghost simple = { Point };
 
@@ -119,7 +119,7 @@ type MultiPointReader = Array<PositionReader, Whole<Several<LIST_NEEDS>>>;
 
 impl TypeReader for MultiPointReader {
     ghost use Rattle.gj_coords.specs.declared.simple.Simple.TheVariants.{MultiPoint};
-    ghost use Rattle.gj_coords.specs.SixLaws.{multi_point_answers};
+    ghost use Rattle.gj_coords.specs.Internal.SixReaders.{multi_point_answers};
 
     ghost simple = { MultiPoint };
 
@@ -133,7 +133,7 @@ type LineStringReader = Array<PositionReader, Whole<Several<LINE_NEEDS>>>;
 
 impl TypeReader for LineStringReader {
     ghost use Rattle.gj_coords.specs.declared.simple.Simple.TheVariants.{LineString};
-    ghost use Rattle.gj_coords.specs.SixLaws.{line_string_answers};
+    ghost use Rattle.gj_coords.specs.Internal.SixReaders.{line_string_answers};
 
     ghost simple = { LineString };
 
@@ -147,7 +147,7 @@ type MultiLineStringReader = Array<Line, Whole<Several<LIST_NEEDS>>>;
 
 impl TypeReader for MultiLineStringReader {
     ghost use Rattle.gj_coords.specs.declared.simple.Simple.TheVariants.{MultiLineString};
-    ghost use Rattle.gj_coords.specs.SixLaws.{multi_line_string_answers};
+    ghost use Rattle.gj_coords.specs.Internal.SixReaders.{multi_line_string_answers};
 
     ghost simple = { MultiLineString };
 
@@ -161,7 +161,7 @@ type PolygonReader = Array<Ring, Whole<Several<LIST_NEEDS>>>;
 
 impl TypeReader for PolygonReader {
     ghost use Rattle.gj_coords.specs.declared.simple.Simple.TheVariants.{Polygon};
-    ghost use Rattle.gj_coords.specs.SixLaws.{polygon_answers};
+    ghost use Rattle.gj_coords.specs.Internal.SixReaders.{polygon_answers};
 
     ghost simple = { Polygon };
 
@@ -175,7 +175,7 @@ type MultiPolygonReader = Array<List<Ring>, Whole<Several<LIST_NEEDS>>>;
 
 impl TypeReader for MultiPolygonReader {
     ghost use Rattle.gj_coords.specs.declared.simple.Simple.TheVariants.{MultiPolygon};
-    ghost use Rattle.gj_coords.specs.SixLaws.{multi_polygon_answers};
+    ghost use Rattle.gj_coords.specs.Internal.SixReaders.{multi_polygon_answers};
 
     ghost simple = { MultiPolygon };
 

@@ -12,7 +12,7 @@ pub struct Whole<G> {
 }
 
 impl<W: Part, G: Gather<W, Answer: Judged>> Gather<W> for Whole<G> {
-    ghost use Rattle.gj_coords.specs.Whole.{whole_gathering};
+    ghost use Rattle.gj_coords.specs.Internal.WholeGather.{whole_gathering};
 
     type Answer = Findings;
 

@@ -179,7 +179,7 @@ impl Winding {
     ghost use Rattle.std.specs.Prelude.{◌≡◌, ◌++◌, ◌∷◌, ◌<◌, ◌^◌, List, [], Option, length};
     ghost use Rattle.gj_coords.specs.declared.winding.Corner.{Corner};
     ghost use Rattle.gj_coords.specs.Winding.{turn_of, all_corners};
-    ghost use Rattle.gj_coords.specs.WindingGather.{StandsFor, no_winding, term_of, corner_added, winding_added, turn_in};
+    ghost use Rattle.gj_coords.specs.Internal.WindingGather.{StandsFor, no_winding, term_of, corner_added, winding_added, turn_in};
 
     /// No position has come.
     pub fn none() -> Winding

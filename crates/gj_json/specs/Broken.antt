@@ -3,7 +3,7 @@ use Rattle.std.specs.Prelude.{◌≡◌, ◌≢◌, ℕ, zero, suc, ◌+◌, ◌
 use Rattle.gj_json.specs.declared.constant.Constant.{Constant}
 use Rattle.gj_json.specs.declared.mode.Bounds.{Bounds}
 use Rattle.gj_json.specs.declared.mode.Bounds.TheVariants.{Any}
-use Rattle.gj_json.specs.NumberStates.{NumberState}
+use Rattle.gj_json.specs.Internal.NumberStates.{NumberState}
 use Rattle.gj_json.specs.declared.mode.StringState.{StringState}
 use Rattle.gj_json.specs.declared.mode.StringState.TheVariants.{Plain, Escape, HexDue, HexOne, HexTwo, HexThree, InCharacter}
 use Rattle.gj_json.specs.Bytes.{open_bracket, open_brace, comma, colon, quote, backslash, letter_u, mark_first, mark_second}
@@ -11,7 +11,7 @@ use Rattle.gj_json.specs.Tree.{Text, Tree, constant, number, string, array, obje
 use Rattle.gj_number.specs.Grammar.{BeginsNumber as NumberFront}
 use Rattle.gj_json.specs.Characters.{hex_of, Lead, lead_of, low_of, high_of, SpellsContent}
 use Rattle.gj_json.specs.Grammar.{Then, White, Exactly, Quoted, letters_of, Spells}
-use Rattle.gj_json.specs.NumberStates.{number_state}
+use Rattle.gj_json.specs.Internal.NumberStates.{number_state}
 use Rattle.gj_json.specs.Text.{SpellsMark}
 
 -- a member that has ended

@@ -3,9 +3,9 @@ use Rattle.std.specs.Prelude.{◌≡◌, ℕ, List, take, Option, Some}
 use Rattle.gj_json.specs.declared.fault.JsonFault.{JsonFault}
 use Rattle.gj_json.specs.declared.locator.Locator.{Locator}
 use Rattle.gj_json.specs.Limits.{Allowed}
-use Rattle.gj_json.specs.Machine.{Broken, run}
+use Rattle.gj_json.specs.Internal.TextMachine.{Broken, run}
 use Rattle.gj_json.specs.Reader as Reader
-use Rattle.gj_json.specs.Trail.{inner_steps, TrailAt}
+use Rattle.gj_json.specs.Internal.PathTrail.{inner_steps, TrailAt}
 
 -- what it reads under
 abbrev pub limits_of : Locator → Allowed

@@ -9,8 +9,8 @@ use Rattle.gj_json.specs.Tree.{Text}
 use Rattle.gj_json.specs.Text.{IsText, IsViableWithin}
 use Rattle.gj_json.specs.Events.{all_events, events_by}
 use Rattle.gj_json.specs.Refusal.{IsRefusal, IsAdmitted}
-use Rattle.gj_json.specs.Levels.{levels_in}
-use Rattle.gj_json.specs.Stands.{Stands}
+use Rattle.gj_json.specs.Internal.OpenLevels.{levels_in}
+use Rattle.gj_json.specs.Internal.ReaderState.{Stands}
 
 -- The reader may have been given these bytes, refused ones among them. What it says is internal: a caller needs that
 -- `new` stands for no bytes, and that each call keeps it.

@@ -3,7 +3,7 @@
 ghost use Rattle.std.specs.Prelude.{◌≡◌, ◌≤◌, ◌<◌, ◌-◌, is_some, true, length, take, get_or};
 ghost use Rattle.gj_json.specs.Bytes.{backslash};
 ghost use Rattle.gj_json.specs.Characters.{escape_of, hex_of};
-ghost use Rattle.gj_json.specs.Tokens.{IsCharacter, AreCharacters};
+ghost use Rattle.gj_json.specs.Internal.WholeTokens.{IsCharacter, AreCharacters};
 
 use crate::lanes::ascii_run;
 use crate::wide::{end_of_wide, is_tail};

@@ -1,6 +1,6 @@
 //! What a byte is to the grammar of RFC 8259.
 ghost use Rattle.std.specs.Prelude.{◌≡◌};
-ghost use Rattle.gj_json.specs.Classes.{class_of};
+ghost use Rattle.gj_json.specs.Internal.ByteClasses.{class_of};
 
 use crate::constant::Constant;
 
@@ -28,7 +28,7 @@ pub enum Class {
 
 /// The class of a byte.
 #[inline(always)]
-#[tactic(auto, unfolding(crate::specs::Classes::class_of))]
+#[tactic(auto, unfolding(crate::specs::Internal::ByteClasses::class_of))]
 pub fn classify(byte: u8) -> Class
     ensures { result ≡ class_of byte }
 {

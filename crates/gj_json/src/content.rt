@@ -20,7 +20,7 @@ pub struct Content {
 
 impl Content {
     ghost use Rattle.std.specs.Str.{IsUtf8};
-    ghost use Rattle.gj_json.specs.Content.{IsAscii, Holds, known_in, word_in};
+    ghost use Rattle.gj_json.specs.Internal.KeptContent.{IsAscii, Holds, known_in, word_in};
 
     pub fn new() -> Self
         ensures { Holds result [] }

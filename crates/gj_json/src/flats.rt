@@ -5,7 +5,7 @@ ghost use Rattle.std.specs.List.{AllByRecursion};
 ghost use Rattle.std.specs.Option.{option_to_list};
 ghost use Rattle.gj_json.specs.Bytes.{IsWhite, open_bracket, comma};
 ghost use Rattle.gj_json.specs.Flat.{IsFlat};
-ghost use Rattle.gj_json.specs.FlatParts.{cut, IsItem, IsMore};
+ghost use Rattle.gj_json.specs.Internal.FlatParts.{cut, IsItem, IsMore};
 
 use crate::flat::{Flat, Numbered};
 use crate::runs::white_run;

@@ -3,7 +3,7 @@
 ghost use Rattle.std.specs.Prelude.{◌≡◌, map, not};
 ghost use Rattle.std.specs.List.{prefix_len};
 ghost use Rattle.std.specs.Simd.Lanes.{mask_l};
-ghost use Rattle.gj_json.specs.Quiet.{is_plain, is_white};
+ghost use Rattle.gj_json.specs.Internal.QuietBytes.{is_plain, is_white};
 ghost use Rattle.gj_json.specs.Runs.{is_unescaped};
 
 use std::simd::prelude::*;

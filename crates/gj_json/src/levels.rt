@@ -18,7 +18,7 @@ pub enum Level {
 }
 
 impl Level {
-    ghost use Rattle.gj_json.specs.Levels.{bit_of};
+    ghost use Rattle.gj_json.specs.Internal.OpenLevels.{bit_of};
 
     /// Its bit in a word.
     #[inline]
@@ -53,9 +53,9 @@ pub struct Levels {
 }
 
 impl Levels {
-    ghost use Rattle.gj_json.specs.Levels.{levels_in, inner_of, outer_of};
+    ghost use Rattle.gj_json.specs.Internal.OpenLevels.{levels_in, inner_of, outer_of};
 
-    #[tactic(auto, unfolding(crate::specs::Levels::levels_in))]
+    #[tactic(auto, unfolding(crate::specs::Internal::OpenLevels::levels_in))]
     pub fn new() -> Self
         ensures { levels_in result ≡ [] }
     {
@@ -67,7 +67,7 @@ impl Levels {
         }
     }
 
-    #[tactic(auto, unfolding(crate::specs::Levels::levels_in))]
+    #[tactic(auto, unfolding(crate::specs::Internal::OpenLevels::levels_in))]
     pub fn len(&self) -> u16
         ensures value { result ≡ length (levels_in self.now) }
         ensures small { result ≤ MOST_LEVELS }
@@ -76,7 +76,7 @@ impl Levels {
     }
 
     /// The innermost level.
-    #[tactic(auto, unfolding(crate::specs::Levels::levels_in))]
+    #[tactic(auto, unfolding(crate::specs::Internal::OpenLevels::levels_in))]
     pub fn inner(&self) -> Option<Level>
         ensures { result ≡ inner_of (levels_in self.now) }
     {
@@ -89,7 +89,7 @@ impl Levels {
         }
     }
 
-    #[tactic(auto, unfolding(crate::specs::Levels::levels_in))]
+    #[tactic(auto, unfolding(crate::specs::Internal::OpenLevels::levels_in))]
     pub fn push(&mut self, level: Level)
         requires { length (levels_in self.old) < MOST_LEVELS }
         ensures { levels_in self.new ≡ level ∷ levels_in self.old }
@@ -107,7 +107,7 @@ impl Levels {
     }
 
     /// Takes the innermost level away, where there is one.
-    #[tactic(auto, unfolding(crate::specs::Levels::levels_in))]
+    #[tactic(auto, unfolding(crate::specs::Internal::OpenLevels::levels_in))]
     pub fn pop(&mut self)
         ensures { levels_in self.new ≡ outer_of (levels_in self.old) }
     {

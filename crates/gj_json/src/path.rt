@@ -33,7 +33,7 @@ pub struct Path {
 
 impl Path {
     ghost use Rattle.gj_json.specs.Path.{steps_of};
-    ghost use Rattle.gj_json.specs.Trail.{inner_steps, outer_steps, inner_step, with_inner, advanced, IsSmall, Fits, followed};
+    ghost use Rattle.gj_json.specs.Internal.PathTrail.{inner_steps, outer_steps, inner_step, with_inner, advanced, IsSmall, Fits, followed};
 
     /// The path to the root.
     pub(crate) fn new() -> Self

@@ -1,7 +1,7 @@
 //! The reader: it takes the bytes of a text and tells its events (RFC 8259).
 ghost use Rattle.std.specs.Prelude.{◌≡◌, ℕ, ◌+◌, ◌≤◌, ◌++◌, ◌∷◌, [], List, length, take, IfOk, IsTrue, MatchResult, Some, None, Ok, Err};
-ghost use Rattle.gj_json.specs.Moves.{IsMode};
-ghost use Rattle.gj_json.specs.Levels.{levels_in};
+ghost use Rattle.gj_json.specs.Internal.Transitions.{IsMode};
+ghost use Rattle.gj_json.specs.Internal.OpenLevels.{levels_in};
 
 use crate::content::Content;
 use crate::event::Event;
@@ -44,7 +44,7 @@ impl Reader {
     ghost use Rattle.gj_json.specs.Open.{open_at};
     ghost use Rattle.gj_json.specs.Refusal.{IsRefusal};
     ghost use Rattle.gj_json.specs.Reader.{StandsFor, limits_of, refusal_of, offset_of, levels_of, Answers, Completed, HearsBy, FinishAnswers};
-    ghost use Rattle.gj_json.specs.Feeding.{HearsTwo};
+    ghost use Rattle.gj_json.specs.Internal.FedReader.{HearsTwo};
 
     /// A reader of a text under these limits, before its first byte.
     pub fn new(limits: Limits) -> Self

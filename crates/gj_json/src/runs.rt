@@ -2,10 +2,10 @@
 
 ghost use Rattle.std.specs.Prelude.{◌≡◌, ◌≤◌, ◌++◌, ℕ, List, length, take};
 ghost use Rattle.std.specs.List.{AllByRecursion};
-ghost use Rattle.gj_json.specs.Moves.{IsStringState};
-ghost use Rattle.gj_json.specs.Quiet.{IsQuiet, Reads, is_between};
+ghost use Rattle.gj_json.specs.Internal.Transitions.{IsStringState};
+ghost use Rattle.gj_json.specs.Internal.QuietBytes.{IsQuiet, Reads, is_between};
 ghost use Rattle.gj_json.specs.Runs.{IsLongestUtf8, plain_run_of};
-ghost use Rattle.gj_json.specs.Content.{IsAscii, Holds};
+ghost use Rattle.gj_json.specs.Internal.KeptContent.{IsAscii, Holds};
 
 use crate::characters::characters_run;
 use crate::content::Content;

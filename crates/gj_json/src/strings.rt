@@ -2,8 +2,8 @@
 
 ghost use Rattle.std.specs.Prelude.{◌≤◌, ◌-◌, ◌≡◌, ◌<◌, IfSome};
 ghost use Rattle.gj_json.specs.Characters.{escape_of, hex_of, lead_of};
-ghost use Rattle.gj_json.specs.Machine.{string_next, plain_step, lead_step, tail_step, within};
-ghost use Rattle.gj_json.specs.Moves.{string_move, IsStringState, IsStringMove, value_limit};
+ghost use Rattle.gj_json.specs.Internal.TextMachine.{string_next, plain_step, lead_step, tail_step, within};
+ghost use Rattle.gj_json.specs.Internal.Transitions.{string_move, IsStringState, IsStringMove, value_limit};
 
 use crate::mode::{Bounds, StringMove, StringState};
 
@@ -95,7 +95,7 @@ fn tail(more: u8, value: u32) -> StringMove
 }
 
 #[inline(always)]
-#[tactic(auto, unfolding(crate::specs::Machine::plain_step))]
+#[tactic(auto, unfolding(crate::specs::Internal::TextMachine::plain_step))]
 fn next_plain(byte: u8) -> StringMove
     ensures value { result ≡ string_move (plain_step byte) }
     ensures state { IsStringMove result }

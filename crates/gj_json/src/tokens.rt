@@ -3,11 +3,11 @@
 ghost use Rattle.std.specs.Prelude.{◌≡◌, ◌-◌, ◌≤◌, ◌<◌, length, take, get_or};
 ghost use Rattle.gj_json.specs.Bytes.{quote};
 ghost use Rattle.gj_json.specs.Grammar.{letters_of};
-ghost use Rattle.gj_json.specs.FlatParts.{cut};
-ghost use Rattle.gj_json.specs.Tokens.{AreCharacters, IsQuoted, IsString};
-ghost use Rattle.gj_json.specs.declared.constant.Constant.{Constant};
+ghost use Rattle.gj_json.specs.Internal.FlatParts.{cut};
+ghost use Rattle.gj_json.specs.Internal.WholeTokens.{AreCharacters, IsQuoted, IsString};
 
 use crate::characters::characters_run;
+use crate::constant::Constant;
 use crate::lanes::ascii_run;
 
 /// How many bytes the characters of a string have that stand whole at the start of the piece.
@@ -57,16 +57,33 @@ pub fn quoted_run(piece: &[u8]) -> usize
     }
 }
 
-/// The literal name that the piece starts with: how many bytes, or 0.
-pub fn constant_run(piece: &[u8]) -> usize
+/// How many bytes the literal name has, where the piece starts with it, or 0.
+#[inline(always)]
+pub fn constant_run(which: Constant, piece: &[u8]) -> usize
     ensures within { result ≤ length piece.now }
-    ensures constant { 0 < result → (which : Constant) × (take result piece.now ≡ letters_of which) }
+    ensures letters { 0 < result → take result piece.now ≡ letters_of which }
 {
-    if piece.starts_with(b"null") || piece.starts_with(b"true") {
-        4
-    } else if piece.starts_with(b"false") {
-        5
-    } else {
-        0
+    match which {
+        Constant::Null => {
+            if piece.len() >= 4 && &piece[..4] == b"null".as_slice() {
+                4
+            } else {
+                0
+            }
+        }
+        Constant::True => {
+            if piece.len() >= 4 && &piece[..4] == b"true".as_slice() {
+                4
+            } else {
+                0
+            }
+        }
+        Constant::False => {
+            if piece.len() >= 5 && &piece[..5] == b"false".as_slice() {
+                5
+            } else {
+                0
+            }
+        }
     }
 }

@@ -1,8 +1,8 @@
 //! Which events a byte completes.
 
 ghost use Rattle.std.specs.Prelude.{◌≡◌, ◌++◌, List};
-ghost use Rattle.gj_json.specs.Told.{ended, value_ended, gone, opening_of, closing_of, made_event, emitted, is_on as is_on_of, last_event as last_event_of};
-ghost use Rattle.gj_json.specs.Content.{words_in};
+ghost use Rattle.gj_json.specs.Internal.ToldEvents.{ended, value_ended, gone, opening_of, closing_of, made_event, emitted, is_on as is_on_of, last_event as last_event_of};
+ghost use Rattle.gj_json.specs.Internal.KeptContent.{words_in};
 ghost use Rattle.gj_json.specs.Events.{what_of as what_of_constant};
 ghost use Rattle.gj_json.specs.declared.event.Event.{Event};
 

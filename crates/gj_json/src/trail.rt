@@ -1,9 +1,9 @@
 //! What a byte does to the way from the root of a text to its right edge.
 
 ghost use Rattle.std.specs.Prelude.{◌≡◌};
-ghost use Rattle.gj_json.specs.Classes.{class_of};
-ghost use Rattle.gj_json.specs.Content.{known_in};
-ghost use Rattle.gj_json.specs.Trail.{class_turn, turn_of, is_value as is_value_of};
+ghost use Rattle.gj_json.specs.Internal.ByteClasses.{class_of};
+ghost use Rattle.gj_json.specs.Internal.KeptContent.{known_in};
+ghost use Rattle.gj_json.specs.Internal.PathTrail.{class_turn, turn_of, is_value as is_value_of};
 
 use crate::class::{Class, classify};
 use crate::content::Content;

@@ -2,7 +2,7 @@
 
 ghost use Rattle.std.specs.Prelude.{◌≡◌, ◌<◌, length};
 ghost use Rattle.std.specs.Simd.Lanes.{mask_l};
-ghost use Rattle.gj_json.specs.Wide.{is_tail, ends_of, NoneEnds};
+ghost use Rattle.gj_json.specs.Internal.WideCharacters.{is_tail, ends_of, NoneEnds};
 
 use crate::lanes::LANES;
 use std::simd::prelude::*;

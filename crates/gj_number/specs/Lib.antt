@@ -2,11 +2,6 @@ pub mod Bytes
 pub mod Grammar
 pub mod Exact
 pub mod Value
-pub mod Machine
-pub mod Kept
-pub mod Digits
 pub mod Literal
 pub mod Short
-pub mod DigitRuns
-pub mod Lanes
-pub mod Moved
+pub mod Internal

@@ -1,8 +1,8 @@
 -- Which bytes a literal stands for. The body is internal to this crate: a caller has `new` and that each call keeps it.
 use Rattle.std.specs.Prelude.{◌≡◌, ℕ, true, min, List}
 use Rattle.gj_number.specs.declared.literal.Literal.{Literal}
-use Rattle.gj_number.specs.Machine.{Scan, start, Reaches, is_before_fraction}
-use Rattle.gj_number.specs.Digits.{Keeps}
+use Rattle.gj_number.specs.Internal.NumberMachine.{Scan, start, Reaches, is_before_fraction}
+use Rattle.gj_number.specs.Internal.KeptDigits.{Keeps}
 
 -- the literal keeps what it needs of the scan
 pub record KeepsScan (literal : Literal) (scan : Scan) : Type 0 where

@@ -3,7 +3,7 @@ ghost use Rattle.std.specs.Prelude.{◌≡◌, ◌↔◌, ◌*◌, ◌/◌, ◌^
 ghost use Rattle.std.proofs.Common.{rules};
 ghost use Rattle.std.specs.Cmp.Rules.{comparing};
 ghost use Rattle.gj_number.specs.Exact.{zero_exact, IsWithinLimits, SameValue, same_parts, digits_limit, cut_limit, cut_magnitude, signed, places_of, cut_of};
-ghost use Rattle.gj_number.specs.Kept.{limited_cut};
+ghost use Rattle.gj_number.specs.Internal.KeptParts.{limited_cut};
 
 use crate::tens::{ten_to, wide_ten_to};
 use std::marker::Model;

@@ -1,7 +1,7 @@
 //! The digits that are kept of a number.
 ghost use Rattle.std.specs.Prelude.{◌≡◌, ◌≢◌, ℕ, ◌+◌, ◌-◌, ◌*◌, ◌^◌, ◌<◌, ◌≤◌, min, pos, ◌+ℤ◌, ◌-ℤ◌};
 ghost use Rattle.gj_number.specs.Exact.{signed};
-ghost use Rattle.gj_number.specs.Kept.{limited_power, last_digit};
+ghost use Rattle.gj_number.specs.Internal.KeptParts.{limited_power, last_digit};
 ghost use Rattle.gj_number.specs.Value.{held_value};
 
 mod runs;
@@ -46,7 +46,7 @@ pub(crate) struct Digits {
 }
 
 impl Digits {
-    ghost use Rattle.gj_number.specs.Digits.{Keeps, AddsDigit, kept_of};
+    ghost use Rattle.gj_number.specs.Internal.KeptDigits.{Keeps, AddsDigit, kept_of};
 
     /// No digit.
     pub(crate) fn new() -> Digits

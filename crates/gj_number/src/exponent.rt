@@ -1,7 +1,7 @@
 //! The exponent that a number is written with.
 ghost use Rattle.std.specs.Prelude.{◌≡◌, ℕ, ◌+◌, ◌*◌, ◌<◌, ◌≤◌, min, pos, ◌-ℤ◌, length, take, All, fold};
 ghost use Rattle.gj_number.specs.Bytes.{IsDigit};
-ghost use Rattle.gj_number.specs.Kept.{limited_power};
+ghost use Rattle.gj_number.specs.Internal.KeptParts.{limited_power};
 ghost use Rattle.gj_number.specs.Value.{with_digit};
 
 use crate::lanes::digit_run;

@@ -1,6 +1,6 @@
 //! Digits that are kept in two numbers, the first nineteen and the rest.
 ghost use Rattle.std.specs.Prelude.{◌≡◌, ◌+◌, ◌-◌, ◌*◌, ◌^◌, ◌<◌, ◌≤◌, min};
-ghost use Rattle.gj_number.specs.Kept.{kept_number};
+ghost use Rattle.gj_number.specs.Internal.KeptParts.{kept_number};
 
 use crate::run::HEAD_DIGITS;
 use crate::tens::ten_to;

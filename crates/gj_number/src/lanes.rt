@@ -3,8 +3,8 @@ ghost use Rattle.std.specs.Prelude.{◌≡◌, ℕ, min, ◌-◌, ◌+◌, ◌*�
 ghost use Rattle.std.specs.List.{fold};
 ghost use Rattle.std.specs.Simd.Lanes.{Each1, mask_l};
 ghost use Rattle.gj_number.specs.Bytes.{IsDigit};
-ghost use Rattle.gj_number.specs.Lanes.{lane_of, with_value, by_fours, leading};
-ghost use Rattle.gj_number.specs.DigitRuns.{IsRun, SpellsOn, SpellsUnsigned};
+ghost use Rattle.gj_number.specs.Internal.DigitLanes.{lane_of, with_value, by_fours, leading};
+ghost use Rattle.gj_number.specs.Internal.DigitRuns.{IsRun, SpellsOn, SpellsUnsigned};
 
 use std::simd::prelude::*;
 

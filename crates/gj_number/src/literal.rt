@@ -37,7 +37,7 @@ const _: () = prove!(size_of::<Literal>() == 32);
 
 impl Literal {
     ghost use Rattle.gj_number.specs.Literal.{StandsFor, KeepsScan};
-    ghost use Rattle.gj_number.specs.Machine.{Scan, taken, next_of, class_of};
+    ghost use Rattle.gj_number.specs.Internal.NumberMachine.{Scan, taken, next_of, class_of};
 
     /// No byte so far.
     pub fn new() -> Literal

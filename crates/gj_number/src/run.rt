@@ -46,7 +46,7 @@ pub(crate) fn zeros_in_front(piece: &[u8]) -> usize
 }
 
 impl Run {
-    ghost use Rattle.gj_number.specs.Digits.{RunKeeps};
+    ghost use Rattle.gj_number.specs.Internal.KeptDigits.{RunKeeps};
 
     /// The run that begins with this many digits and zeros behind them.
     #[inline]

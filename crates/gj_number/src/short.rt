@@ -1,7 +1,7 @@
 //! Numbers as most are written: at most eighteen digits, and no exponent.
 ghost use Rattle.std.specs.Prelude.{◌≡◌, ◌≢◌, ◌↔◌, ◌*◌, ◌/◌, ◌%◌, ◌^◌, ◌<◌, ◌≤◌, IsTrue, IfSome};
 ghost use Rattle.gj_number.specs.Exact.{SameValue, signed, cut_limit, cut_magnitude, cut_of, cut_places, places_of};
-ghost use Rattle.gj_number.specs.Kept.{limited_cut};
+ghost use Rattle.gj_number.specs.Internal.KeptParts.{limited_cut};
 
 pub(crate) mod prefix;
 
@@ -29,7 +29,7 @@ pub struct Short {
 
 impl Short {
     ghost use Rattle.gj_number.specs.Short.{exact_of};
-    ghost use Rattle.gj_number.specs.Moved.{IsMoved};
+    ghost use Rattle.gj_number.specs.Internal.MovedPoint.{IsMoved};
 
     /// Zero.
     pub fn zero() -> Short

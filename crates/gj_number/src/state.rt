@@ -1,7 +1,7 @@
 //! Where in a number its next byte stands.
 ghost use Rattle.std.specs.Prelude.{◌≡◌, IsTrue, IsFalse};
 ghost use Rattle.gj_number.specs.Bytes.{IsDigit, IsNumberByte};
-ghost use Rattle.gj_number.specs.Machine.{class_of, next_of, may_end_in};
+ghost use Rattle.gj_number.specs.Internal.NumberMachine.{class_of, next_of, may_end_in};
 ghost use Rattle.gj_number.specs.declared.state.Class.TheVariants.{Other};
 
 /// The bytes that the grammar of a number (RFC 8259, section 6) tells apart.
@@ -19,7 +19,7 @@ pub(crate) enum Class {
 
 impl Class {
     #[inline]
-    #[tactic(auto, unfolding(crate::specs::Machine::class_of))]
+    #[tactic(auto, unfolding(crate::specs::Internal::NumberMachine::class_of))]
     pub(crate) fn of(byte: u8) -> Class
         ensures { result ≡ class_of byte }
     {
@@ -62,7 +62,7 @@ pub(crate) fn may_stand(byte: u8) -> bool
 
 /// Whether the byte is one that stands after nearly every number of a text. It goes on in none.
 #[inline(always)]
-#[tactic(auto, unfolding(crate::specs::Machine::class_of))]
+#[tactic(auto, unfolding(crate::specs::Internal::NumberMachine::class_of))]
 pub(crate) fn is_behind(byte: u8) -> bool
     ensures { IsTrue result → class_of byte ≡ Other }
 {

@@ -1,2 +1,2 @@
-mod Counted
-mod Kept
+mod CountedBytes
+mod KeptLines

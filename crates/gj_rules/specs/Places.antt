@@ -1,7 +1,7 @@
 -- The places that a verdict tells.
 use Rattle.std.specs.Prelude.{◌≡◌, ℕ, Some}
 use Rattle.gj_coords.specs.declared.kind.Kind.{Kind}
-use Rattle.gj_coords.specs.Noted.{first_in}
+use Rattle.gj_coords.specs.Internal.KeptWarnings.{first_in}
 use Rattle.gj_rules.specs.declared.verdict.Verdict.{Verdict}
 use Rattle.gj_rules.specs.declared.verdict.Verdict.TheVariants.{Valid, Broken, NotJson}
 

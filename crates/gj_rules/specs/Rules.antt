@@ -4,10 +4,10 @@ use Rattle.std.specs.Prelude.{◌≡◌, ◌≤◌, List, ◌++◌, map}
 use Rattle.gj_json.specs.declared.event.Event.{Event}
 use Rattle.gj_json.specs.Tree.{Text, depth}
 use Rattle.gj_rules.specs.declared.rules.Rules.{Rules}
-use Rattle.gj_rules.specs.Kept.{Stands}
+use Rattle.gj_rules.specs.Internal.RulesState.{Stands}
 use Rattle.gj_rules.specs.Levels.{most_levels}
-use Rattle.gj_rules.specs.Step.{run, start}
-use Rattle.gj_rules.specs.Told.{Told, event_of, text_told}
+use Rattle.gj_rules.specs.Internal.EventSteps.{run, start}
+use Rattle.gj_rules.specs.Internal.LabelledEvents.{Told, event_of, text_told}
 
 -- The rules may have been told these events. Nothing is said of events that no text within those levels begins with.
 abbrev pub StandsFor : Rules → List Event → Type 0

@@ -7,7 +7,7 @@ use Rattle.gj_json.specs.Text.{IsViableWithin}
 use Rattle.gj_json.specs.declared.fault.Cause.{Cause}
 use Rattle.gj_json.specs.declared.fault.Cause.TheVariants.{Syntax, Truncated, Depth, Length}
 use Rattle.gj_coords.specs.Fault.{fault_at}
-use Rattle.gj_coords.specs.Noted.{no_warnings, joined, shifted}
+use Rattle.gj_coords.specs.Internal.KeptWarnings.{no_warnings, joined, shifted}
 use Rattle.gj_coords.specs.declared.warnings.Warnings.{Warnings}
 use Rattle.gj_rules.specs.declared.sequence.verdict.SeqVerdict.{SeqVerdict}
 use Rattle.gj_rules.specs.declared.verdict.Verdict.{Verdict}

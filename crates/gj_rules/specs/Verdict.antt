@@ -6,7 +6,7 @@ use Rattle.gj_json.specs.Tree.{Text}
 use Rattle.gj_coords.specs.Fault.{least}
 use Rattle.gj_coords.specs.declared.fault.Fault.{Fault}
 use Rattle.gj_coords.specs.declared.warnings.Warnings.{Warnings}
-use Rattle.gj_coords.specs.Noted.{StandsFor as WarningsStandFor}
+use Rattle.gj_coords.specs.Internal.KeptWarnings.{StandsFor as WarningsStandFor}
 use Rattle.gj_rules.specs.Faults.{text_faults}
 use Rattle.gj_rules.specs.TextWarnings.{text_warnings}
 use Rattle.gj_rules.specs.declared.verdict.Verdict.{Verdict}

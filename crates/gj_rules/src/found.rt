@@ -13,8 +13,8 @@ pub struct Found {
 }
 
 impl Found {
-    ghost use Rattle.gj_rules.specs.Read.{found_in};
-    ghost use Rattle.gj_rules.specs.Summaries.{none_found};
+    ghost use Rattle.gj_rules.specs.Internal.FrameReading.{found_in};
+    ghost use Rattle.gj_rules.specs.Internal.Summaries.{none_found};
 
     /// Nothing.
     pub fn none() -> Self

@@ -22,14 +22,14 @@ pub struct Frame {
 const _: () = prove!(size_of::<Frame>() <= 1600);
 
 impl Frame {
-    ghost use Rattle.gj_coords.specs.Warned.{all_in};
+    ghost use Rattle.gj_coords.specs.Internal.GatheredWarnings.{all_in};
     ghost use Rattle.std.specs.Prelude.{◌≤◌};
     ghost use Rattle.gj_json.specs.Tree.{Tree, depth};
     ghost use Rattle.gj_json.specs.Events.{value_events};
     ghost use Rattle.gj_rules.specs.Levels.{most_levels};
-    ghost use Rattle.gj_rules.specs.Read.{frame_in, found_in};
-    ghost use Rattle.gj_rules.specs.Summaries.{StandsForCoordinates, shapes_of};
-    ghost use Rattle.gj_rules.specs.Frame.{blank, joined, warned, taken_in, named, due_after, type_set, shapes_set};
+    ghost use Rattle.gj_rules.specs.Internal.FrameReading.{frame_in, found_in};
+    ghost use Rattle.gj_rules.specs.Internal.Summaries.{StandsForCoordinates, shapes_of};
+    ghost use Rattle.gj_rules.specs.Internal.FrameCalls.{blank, joined, warned, taken_in, named, due_after, type_set, shapes_set};
 
     /// Of an object that opens at this place.
     pub fn new(role: Role, place: u64) -> Self

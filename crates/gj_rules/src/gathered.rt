@@ -17,9 +17,9 @@ pub struct Gathered {
 }
 
 impl Gathered {
-    ghost use Rattle.gj_coords.specs.Warned.{all_in};
-    ghost use Rattle.gj_rules.specs.Read.{gathered_in};
-    ghost use Rattle.gj_rules.specs.Gathered.{none_gathered, gathered, gathered_at};
+    ghost use Rattle.gj_coords.specs.Internal.GatheredWarnings.{all_in};
+    ghost use Rattle.gj_rules.specs.Internal.FrameReading.{gathered_in};
+    ghost use Rattle.gj_rules.specs.Internal.GatheredWarnings.{none_gathered, gathered, gathered_at};
 
     /// Of no member.
     pub fn none() -> Self

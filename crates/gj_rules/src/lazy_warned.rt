@@ -11,9 +11,9 @@ pub struct LazyWarned {
 }
 
 impl LazyWarned {
-    ghost use Rattle.gj_coords.specs.Noted.{no_warnings, joined, added};
-    ghost use Rattle.gj_coords.specs.Warned.{all_in};
-    ghost use Rattle.gj_rules.specs.Read.{counted_in};
+    ghost use Rattle.gj_coords.specs.Internal.KeptWarnings.{no_warnings, joined, added};
+    ghost use Rattle.gj_coords.specs.Internal.GatheredWarnings.{all_in};
+    ghost use Rattle.gj_rules.specs.Internal.FrameReading.{counted_in};
 
     /// No warning.
     pub fn none() -> Self
@@ -53,7 +53,7 @@ impl LazyWarned {
     }
 
     /// Takes the warnings of another. Mostly there are none.
-    #[tactic(auto, using(crate::proofs::WarnedInTurn::with_none))]
+    #[tactic(auto, using(crate::proofs::Objects::WarningsInTurn::with_none))]
     #[inline]
     pub fn take(&mut self, other: &Warned)
         ensures { counted_in self.new ≡ joined (counted_in self.old) (all_in other.now) }
@@ -72,7 +72,7 @@ impl LazyWarned {
     }
 
     /// Adds them to others.
-    #[tactic(auto, using(crate::proofs::WarnedInTurn::with_none))]
+    #[tactic(auto, using(crate::proofs::Objects::WarningsInTurn::with_none))]
     #[inline]
     pub fn add_to(&self, warned: &mut Warned)
         ensures { all_in warned.new ≡ joined (all_in warned.old) (counted_in self.now) }

@@ -73,7 +73,7 @@ const _: () = prove!(
 
 impl Linter {
     ghost use Rattle.gj_rules.specs.Linter.{StandsFor, limits_of, refusal_of, offset_of, levels_of, Answers, refusal_in};
-    ghost use Rattle.gj_coords.specs.Noted.{no_warnings};
+    ghost use Rattle.gj_coords.specs.Internal.KeptWarnings.{no_warnings};
     ghost use Rattle.gj_rules.specs.Verdict.{IsVerdict, NeverValid};
     ghost use Rattle.gj_rules.specs.Doomed.{BeginNoGeoJson};
 

@@ -21,7 +21,7 @@ pub enum Mode {
 }
 
 impl Mode {
-    ghost use Rattle.gj_rules.specs.Step.{mode_behind};
+    ghost use Rattle.gj_rules.specs.Internal.EventSteps.{mode_behind};
 
     /// What comes behind an object with this role.
     pub fn behind(role: Role) -> Mode

@@ -1,6 +1,6 @@
 //! What the first event of a value tells.
 ghost use Rattle.std.specs.Prelude.{◌≡◌};
-ghost use Rattle.gj_rules.specs.Step.{levels_in, word_in, opening_fault};
+ghost use Rattle.gj_rules.specs.Internal.EventSteps.{levels_in, word_in, opening_fault};
 
 use gj_coords::{Fault, Rule};
 use gj_json::{Known, What, Word};

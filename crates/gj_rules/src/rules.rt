@@ -49,16 +49,16 @@ impl Rules {
     ghost use Rattle.gj_json.specs.Events.{all_events, events_by, value_events};
     ghost use Rattle.gj_json.specs.Text.{IsText};
     ghost use Rattle.gj_coords.specs.Fault.{least};
-    ghost use Rattle.gj_coords.specs.Noted.{none_in};
-    ghost use Rattle.gj_coords.specs.Warned.{all_in};
+    ghost use Rattle.gj_coords.specs.Internal.KeptWarnings.{none_in};
+    ghost use Rattle.gj_coords.specs.Internal.GatheredWarnings.{all_in};
     ghost use Rattle.gj_rules.specs.Faults.{text_faults};
-    ghost use Rattle.gj_rules.specs.TextKept.{text_kept};
+    ghost use Rattle.gj_rules.specs.Internal.TextKept.{text_kept};
     ghost use Rattle.gj_rules.specs.Judged.{judged_at};
-    ghost use Rattle.gj_rules.specs.Read.{found_in};
-    ghost use Rattle.gj_rules.specs.Frame.{settled, taken_in};
-    ghost use Rattle.gj_rules.specs.Step.{start, core_step, is_feeding, ended_as};
-    ghost use Rattle.gj_rules.specs.Summaries.{StandsForCoordinates, StandsForBbox};
-    ghost use Rattle.gj_rules.specs.Kept.{core_of, frames_by, Holds, HasRoom, Feeds};
+    ghost use Rattle.gj_rules.specs.Internal.FrameReading.{found_in};
+    ghost use Rattle.gj_rules.specs.Internal.FrameCalls.{settled, taken_in};
+    ghost use Rattle.gj_rules.specs.Internal.EventSteps.{start, core_step, is_feeding, ended_as};
+    ghost use Rattle.gj_rules.specs.Internal.Summaries.{StandsForCoordinates, StandsForBbox};
+    ghost use Rattle.gj_rules.specs.Internal.RulesState.{core_of, frames_by, Holds, HasRoom, Feeds};
     ghost use Rattle.gj_rules.specs.Levels.{most_levels, most_skipped};
     ghost use Rattle.gj_rules.specs.Rules.{StandsFor};
 

@@ -2,11 +2,11 @@
 ghost use Rattle.std.specs.Prelude.{◌≡◌, ◌≤◌};
 ghost use Rattle.gj_json.specs.Tree.{Tree, depth};
 ghost use Rattle.gj_json.specs.Events.{value_events};
-ghost use Rattle.gj_coords.specs.CoordinatesKept.{coordinates_kept};
-ghost use Rattle.gj_coords.specs.Warned.{all_in};
+ghost use Rattle.gj_coords.specs.Internal.CoordinatesKept.{coordinates_kept};
+ghost use Rattle.gj_coords.specs.Internal.GatheredWarnings.{all_in};
 ghost use Rattle.gj_rules.specs.Levels.{most_levels};
-ghost use Rattle.gj_rules.specs.Read.{shapes_by};
-ghost use Rattle.gj_rules.specs.Summaries.{StandsForCoordinates};
+ghost use Rattle.gj_rules.specs.Internal.FrameReading.{shapes_by};
+ghost use Rattle.gj_rules.specs.Internal.Summaries.{StandsForCoordinates};
 
 use gj_coords::{Coordinates, Fault, Simple, SimpleFaults, Warned};
 
@@ -25,7 +25,7 @@ pub struct Shapes {
 }
 
 /// Sets the warnings of the value whose events the summary took, as the coordinates of this type.
-#[tactic(auto, using(crate::proofs::WarnedInTurn::to_none))]
+#[tactic(auto, using(crate::proofs::Objects::WarningsInTurn::to_none))]
 fn set_warned(warned: &mut Warned, summary: &Coordinates, simple: Simple)
     ensures { (value : Tree) → depth value ≤ most_levels → StandsForCoordinates summary.now (value_events value) → all_in warned.new ≡ coordinates_kept simple value }
 {
@@ -34,8 +34,8 @@ fn set_warned(warned: &mut Warned, summary: &Coordinates, simple: Simple)
 }
 
 impl Shapes {
-    ghost use Rattle.gj_rules.specs.Read.{shapes_in};
-    ghost use Rattle.gj_rules.specs.Summaries.{no_shapes, shape_for, warned_for, shapes_of};
+    ghost use Rattle.gj_rules.specs.Internal.FrameReading.{shapes_in};
+    ghost use Rattle.gj_rules.specs.Internal.Summaries.{no_shapes, shape_for, warned_for, shapes_of};
 
     /// Of no value.
     pub fn none() -> Self

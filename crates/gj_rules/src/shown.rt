@@ -1,6 +1,6 @@
 //! What the members of an open object have shown of it.
 ghost use Rattle.std.specs.Prelude.{◌≡◌};
-ghost use Rattle.gj_rules.specs.Read.{slot_in};
+ghost use Rattle.gj_rules.specs.Internal.FrameReading.{slot_in};
 
 mod lost;
 mod settle;
@@ -40,7 +40,7 @@ pub struct Present {
 }
 
 impl Present {
-    ghost use Rattle.gj_rules.specs.Read.{none_present};
+    ghost use Rattle.gj_rules.specs.Internal.FrameReading.{none_present};
 
     /// Of none.
     #[inline]
@@ -99,9 +99,9 @@ impl Shown {
     ghost use Rattle.gj_json.specs.Tree.{Tree, depth};
     ghost use Rattle.gj_json.specs.Events.{value_events};
     ghost use Rattle.gj_rules.specs.Levels.{most_levels};
-    ghost use Rattle.gj_rules.specs.Read.{shown_in};
-    ghost use Rattle.gj_rules.specs.Summaries.{StandsForCoordinates, shapes_of};
-    ghost use Rattle.gj_rules.specs.Shown.{blank, slot_of, with_slot, joined, named, due_after, repeated_at, used, type_set, shapes_set};
+    ghost use Rattle.gj_rules.specs.Internal.FrameReading.{shown_in};
+    ghost use Rattle.gj_rules.specs.Internal.Summaries.{StandsForCoordinates, shapes_of};
+    ghost use Rattle.gj_rules.specs.Internal.ShownMembers.{blank, slot_of, with_slot, joined, named, due_after, repeated_at, used, type_set, shapes_set};
 
     /// Of an object that opens at this place.
     pub fn new(role: Role, place: u64) -> Self

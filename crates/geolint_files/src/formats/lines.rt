@@ -177,10 +177,11 @@ fn put_excerpt(
     style: Style,
     line: &mut Vec<u8>,
 ) -> Result<(), AllocError> {
-    if report.spot(told.place).is_none() {
-        return Ok(());
-    }
-    let shown = report.sites.excerpt().shown(alloc)?;
+    let sites = match report.sites {
+        Some(sites) if report.spot(told.place).is_some() => sites,
+        _ => return Ok(()),
+    };
+    let shown = sites.excerpt().shown(alloc)?;
     put_all(line, &[b"    ", shown.text.as_bytes(), b"\n    "])?;
     for _ in 0..shown.before {
         line.push(b' ')?;

@@ -1,7 +1,7 @@
 //! The south and the north of a bounding box.
 ghost use Rattle.std.specs.Prelude.{◌≡◌};
 ghost use Rattle.gj_coords.specs.BoxWarnings.{is_above};
-ghost use Rattle.gj_coords.specs.Position.{value_in};
+ghost use Rattle.gj_coords.specs.Internal.PositionGather.{value_in};
 ghost use Rattle.gj_coords.specs.Winding.{cut_value};
 
 use gj_json::What;
@@ -48,7 +48,7 @@ fn is_above(south: Option<i64>, north: Option<i64>) -> bool
 
 impl Latitudes {
     ghost use Rattle.std.specs.Prelude.{◌≡◌};
-    ghost use Rattle.gj_coords.specs.BoxGather.{no_latitudes, latitude_added, is_upside_down};
+    ghost use Rattle.gj_coords.specs.Internal.BoxGather.{no_latitudes, latitude_added, is_upside_down};
 
     /// No element has come.
     pub fn none() -> Latitudes

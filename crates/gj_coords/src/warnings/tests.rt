@@ -1,7 +1,7 @@
 //! Rows of warnings, and what is reported of them.
 ghost use Rattle.std.specs.Prelude.{◌∷◌, []};
 ghost use Rattle.gj_coords.specs.Warnings.{warning_at};
-ghost use Rattle.gj_coords.specs.Noted.{StandsFor};
+ghost use Rattle.gj_coords.specs.Internal.KeptWarnings.{StandsFor};
 
 use super::Warnings;
 use crate::kind::Kind;

@@ -2,8 +2,8 @@
 
 ghost use Rattle.std.specs.Prelude.{◌≡◌, ◌+◌, ◌^◌, ◌≤◌, ◌<◌, true, length, take, get_or, None, Some, IsTrue};
 ghost use Rattle.gj_json.specs.Bytes.{open_bracket};
-ghost use Rattle.gj_json.specs.FlatParts.{awaits};
-ghost use Rattle.gj_json.specs.Levels.{levels_in, inner_of};
+ghost use Rattle.gj_json.specs.Internal.FlatParts.{awaits};
+ghost use Rattle.gj_json.specs.Internal.OpenLevels.{levels_in, inner_of};
 ghost use Rattle.gj_json.specs.declared.levels.Level.TheVariants.{Array};
 
 use super::Reader;
@@ -25,7 +25,7 @@ fn is_due(mode: Mode) -> bool
 }
 
 impl Reader {
-    ghost use Rattle.gj_json.specs.Feeding.{FeedsAll};
+    ghost use Rattle.gj_json.specs.Internal.FedReader.{FeedsAll};
 
     /// Whether the innermost level is an array.
     #[inline(always)]

@@ -1,7 +1,7 @@
 //! Bytes whose events do not matter to the sink.
 
 ghost use Rattle.std.specs.Prelude.{◌≡◌, ◌+◌, ◌^◌, ◌≤◌, ◌<◌, length, take, IfOk, MatchResult, None};
-ghost use Rattle.gj_json.specs.Levels.{levels_in};
+ghost use Rattle.gj_json.specs.Internal.OpenLevels.{levels_in};
 
 use super::Reader;
 use crate::fault::JsonFault;
@@ -9,7 +9,7 @@ use crate::mode::Mode;
 use crate::sink::{EventSink, NoEvents};
 
 impl Reader {
-    ghost use Rattle.gj_json.specs.Feeding.{FeedsAll, FeedsTo, FeedsWithin, FeedsWithinTo};
+    ghost use Rattle.gj_json.specs.Internal.FedReader.{FeedsAll, FeedsTo, FeedsWithin, FeedsWithinTo};
 
     /// Takes bytes from the front of the piece, one at least, where some levels above the floor are open: how many.
     fn take_some_within(&mut self, piece: &[u8], floor: u16) -> Result<usize, JsonFault>

@@ -2,13 +2,14 @@
 
 ghost use Rattle.std.specs.Prelude.{◌≡◌, ◌+◌, ◌^◌, ◌≤◌, ◌<◌, true, length, take, get_or, None};
 ghost use Rattle.gj_json.specs.Bytes.{quote, comma, colon};
-ghost use Rattle.gj_json.specs.FlatParts.{awaits};
-ghost use Rattle.gj_json.specs.Levels.{levels_in};
-ghost use Rattle.gj_json.specs.Tokens.{bracket_of, names};
+ghost use Rattle.gj_json.specs.Internal.FlatParts.{awaits};
+ghost use Rattle.gj_json.specs.Internal.OpenLevels.{levels_in};
+ghost use Rattle.gj_json.specs.Internal.WholeTokens.{bracket_of, names};
 ghost use Rattle.gj_json.specs.declared.mode.Mode.TheVariants.{ValueDone, ColonDue};
 
 use super::Reader;
 use super::tokens::{end_of, opened_mode};
+use crate::constant::Constant;
 use crate::flat::Numbered;
 use crate::levels::Level;
 use crate::mode::{Mode, Move};
@@ -16,7 +17,7 @@ use crate::tokens::{constant_run, quoted_run};
 use gj_number::read_short;
 
 impl Reader {
-    ghost use Rattle.gj_json.specs.Feeding.{FeedsLevel, FeedsWithin};
+    ghost use Rattle.gj_json.specs.Internal.FedReader.{FeedsLevel, FeedsWithin};
 
     /// Takes the string at the front of the piece, where it stands whole: how many bytes.
     #[inline(always)]
@@ -39,7 +40,7 @@ impl Reader {
 
     /// Takes the literal name at the front of the piece, where it stands whole: how many bytes.
     #[inline(always)]
-    fn pass_constant(&mut self, piece: &[u8]) -> usize
+    fn pass_constant(&mut self, which: Constant, piece: &[u8]) -> usize
         requires live { self.old.fault ≡ None }
         requires due { awaits self.old.mode ≡ true }
         requires room { self.old.offset + length piece.now ≤ self.old.limits.bytes }
@@ -47,7 +48,7 @@ impl Reader {
         ensures within { result ≤ length piece.now }
         ensures feeds { FeedsLevel self.old self.new (take result piece.now) }
     {
-        let count = constant_run(piece);
+        let count = constant_run(which, piece);
         if count == 0 {
             return 0;
         }
@@ -197,7 +198,9 @@ impl Reader {
             b'"' => self.pass_text(piece),
             b'{' => self.pass_open(Level::Object, piece, floor),
             b'[' => self.pass_open(Level::Array, piece, floor),
-            b'n' | b't' | b'f' => self.pass_constant(piece),
+            b'n' => self.pass_constant(Constant::Null, piece),
+            b't' => self.pass_constant(Constant::True, piece),
+            b'f' => self.pass_constant(Constant::False, piece),
             _ => 0,
         }
     }

@@ -1,7 +1,7 @@
 //! Bytes in a row, from what the reader keeps.
 
 ghost use Rattle.std.specs.Prelude.{◌≡◌, ◌+◌, ◌^◌, ◌≤◌, ◌<◌, length, take, IfOk, MatchResult, None};
-ghost use Rattle.gj_json.specs.Moves.{IsMode};
+ghost use Rattle.gj_json.specs.Internal.Transitions.{IsMode};
 ghost use Rattle.gj_json.specs.declared.mode.Mode.TheVariants.{NumberOn};
 
 use super::Reader;
@@ -11,7 +11,7 @@ use crate::runs::{is_white, quiet_run, string_run};
 use crate::sink::EventSink;
 
 impl Reader {
-    ghost use Rattle.gj_json.specs.Feeding.{Passed, Skips, FeedsAll, FeedsTo};
+    ghost use Rattle.gj_json.specs.Internal.FedReader.{Passed, Skips, FeedsAll, FeedsTo};
 
     /// Passes over so many bytes, behind which this is the mode.
     pub(super) fn skip(&mut self, count: usize, mode: Mode) -> usize

@@ -3,9 +3,9 @@
 ghost use Rattle.std.specs.Prelude.{◌≡◌, ◌+◌, ◌≤◌, ◌<◌, ◌++◌, ◌∷◌, [], false, List, length, Some, None, Err};
 ghost use Rattle.gj_number.specs.Grammar.{BeginsNumber};
 ghost use Rattle.gj_number.specs.Literal.{StandsFor as LiteralStandsFor};
-ghost use Rattle.gj_json.specs.Moves.{IsMode, IsMove, IsStringState};
-ghost use Rattle.gj_json.specs.Levels.{levels_in, outer_of};
-ghost use Rattle.gj_json.specs.Told.{in_number, text_state};
+ghost use Rattle.gj_json.specs.Internal.Transitions.{IsMode, IsMove, IsStringState};
+ghost use Rattle.gj_json.specs.Internal.OpenLevels.{levels_in, outer_of};
+ghost use Rattle.gj_json.specs.Internal.ToldEvents.{in_number, text_state};
 ghost use Rattle.gj_json.specs.declared.mode.StringState.TheVariants.{Plain};
 ghost use Rattle.gj_json.specs.declared.mode.Mode.TheVariants.{NumberOn, ValueDone};
 ghost use Rattle.gj_json.specs.declared.mode.NumberTurn.TheVariants.{Ends};
@@ -32,8 +32,8 @@ fn literal_of(byte: u8) -> Literal
 
 impl Reader {
     ghost use Rattle.gj_json.specs.declared.event.Event.{Event};
-    ghost use Rattle.gj_json.specs.Feeding.{GoesOn};
-    ghost use Rattle.gj_json.specs.Step.{Applied, IsRefusedWith, told_on, Passes, opened, move_by, told_by, Takes};
+    ghost use Rattle.gj_json.specs.Internal.FedReader.{GoesOn};
+    ghost use Rattle.gj_json.specs.Internal.ReaderStep.{Applied, IsRefusedWith, told_on, Passes, opened, move_by, told_by, Takes};
 
     pub(super) fn fault_here(&self, cause: Cause) -> JsonFault
         ensures { result ≡ record { place = self.now.offset; cause = cause } }

@@ -4,15 +4,14 @@
 ghost use Rattle.std.specs.Prelude.{◌≡◌, ◌+◌, ◌-◌, ◌^◌, ◌≤◌, ◌<◌, ◌++◌, true, List, length, take, get_or, None};
 ghost use Rattle.gj_number.specs.Grammar.{IsNumber};
 ghost use Rattle.gj_number.specs.Value.{value_of};
-ghost use Rattle.gj_json.specs.Quiet.{Leads};
+ghost use Rattle.gj_json.specs.Internal.QuietBytes.{Leads};
 ghost use Rattle.gj_json.specs.Bytes.{open_bracket, quote};
-ghost use Rattle.gj_json.specs.Classes.{class_of};
-ghost use Rattle.gj_json.specs.FlatParts.{awaits};
-ghost use Rattle.gj_json.specs.Grammar.{letters_of};
-ghost use Rattle.gj_json.specs.Levels.{levels_in, inner_of, outer_of};
-ghost use Rattle.gj_json.specs.Moves.{after_move, IsMove};
-ghost use Rattle.gj_json.specs.Step.{opened};
-ghost use Rattle.gj_json.specs.Tokens.{bracket_of, closing_event, may_begin, names};
+ghost use Rattle.gj_json.specs.Internal.ByteClasses.{class_of};
+ghost use Rattle.gj_json.specs.Internal.FlatParts.{awaits};
+ghost use Rattle.gj_json.specs.Internal.OpenLevels.{levels_in, inner_of, outer_of};
+ghost use Rattle.gj_json.specs.Internal.Transitions.{after_move, IsMove};
+ghost use Rattle.gj_json.specs.Internal.ReaderStep.{opened};
+ghost use Rattle.gj_json.specs.Internal.WholeTokens.{bracket_of, closing_event, may_begin, names};
 ghost use Rattle.gj_json.specs.declared.mode.Mode.TheVariants.{ValueDone, ValueDue, ColonDue};
 
 use super::Reader;
@@ -24,7 +23,7 @@ use crate::levels::Level;
 use crate::mode::{Mode, Move};
 use crate::names::{name_of, type_of};
 use crate::sink::EventSink;
-use crate::tokens::plain_quoted_run;
+use crate::tokens::{constant_run, plain_quoted_run};
 use crate::told::{closing, is_on, opening, what_of};
 use gj_number::{Decimal, Literal, Short, read_short};
 
@@ -33,7 +32,7 @@ const SHORTEST: usize = 16;
 
 /// What a byte after a value does.
 #[inline(always)]
-#[tactic(auto, unfolding(crate::specs::Classes::class_of))]
+#[tactic(auto, unfolding(crate::specs::Internal::ByteClasses::class_of))]
 pub(super) fn end_of(inner: Option<Level>, byte: u8) -> Move
     ensures value { result ≡ after_move inner (class_of byte) }
     ensures sound { IsMove result }
@@ -84,37 +83,6 @@ fn colon_run(piece: &[u8]) -> usize
     white_end(piece, white + 1)
 }
 
-/// How many bytes the literal name has, where the piece starts with it, or 0.
-#[inline(always)]
-fn constant_run(which: Constant, piece: &[u8]) -> usize
-    ensures within { result ≤ length piece.now }
-    ensures letters { 0 < result → take result piece.now ≡ letters_of which }
-{
-    match which {
-        Constant::Null => {
-            if piece.len() >= 4 && &piece[..4] == b"null".as_slice() {
-                4
-            } else {
-                0
-            }
-        }
-        Constant::True => {
-            if piece.len() >= 4 && &piece[..4] == b"true".as_slice() {
-                4
-            } else {
-                0
-            }
-        }
-        Constant::False => {
-            if piece.len() >= 5 && &piece[..5] == b"false".as_slice() {
-                5
-            } else {
-                0
-            }
-        }
-    }
-}
-
 /// How many numbers an array has at the least that is not told at once.
 const MANY: u8 = 4;
 
@@ -150,8 +118,8 @@ fn numbers_with(byte: u8, count: usize, numbers: u8) -> u8 {
 
 impl Reader {
     ghost use Rattle.gj_json.specs.declared.event.Event.{Event};
-    ghost use Rattle.gj_json.specs.Feeding.{Skips, FeedsAll};
-    ghost use Rattle.gj_json.specs.Tokens.{Lands};
+    ghost use Rattle.gj_json.specs.Internal.FedReader.{Skips, FeedsAll};
+    ghost use Rattle.gj_json.specs.Internal.WholeTokens.{Lands};
 
     /// Takes a string of plain characters that is a value: how many bytes, or 0.
     #[inline(always)]

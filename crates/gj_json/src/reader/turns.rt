@@ -6,9 +6,9 @@ use super::Reader;
 use crate::trail::{Turn, is_value, turn_in};
 
 impl Reader {
-    ghost use Rattle.gj_json.specs.Content.{known_in};
-    ghost use Rattle.gj_json.specs.Trail.{turn_of, begins};
-    ghost use Rattle.gj_json.specs.Feeding.{Skips};
+    ghost use Rattle.gj_json.specs.Internal.KeptContent.{known_in};
+    ghost use Rattle.gj_json.specs.Internal.PathTrail.{turn_of, begins};
+    ghost use Rattle.gj_json.specs.Internal.FedReader.{Skips};
 
     /// What the next byte does to the levels that are open, where it is taken.
     #[inline(always)]

@@ -15,7 +15,7 @@ pub(crate) struct Plain {
 }
 
 impl Digits {
-    ghost use Rattle.gj_number.specs.Digits.{Keeps, KeepsAll, RunKeeps, HasRoom};
+    ghost use Rattle.gj_number.specs.Internal.KeptDigits.{Keeps, KeepsAll, RunKeeps, HasRoom};
 
     /// Takes the digits at the front of the piece that stand before the point, while `head` has room
     /// for them or where they make no difference any more, and answers how many.

@@ -6,8 +6,8 @@
 ghost use Rattle.std.specs.Prelude.{◌≡◌, ◌↔◌, ℕ, ◌+◌, ◌-◌, ◌*◌, ◌^◌, ◌<◌, ◌≤◌, ◌∷◌, [], length, take, get_or, IsTrue};
 ghost use Rattle.gj_number.specs.Bytes.{zero_digit, IsDigit, IsExponentLetter, IsNumberByte};
 ghost use Rattle.gj_number.specs.Short.{exact_of, StartsWithNumber, StartsOrdinary};
-ghost use Rattle.gj_number.specs.DigitRuns.{IsRun, SpellsOn, StartsSigned};
-ghost use Rattle.gj_number.specs.Moved.{SpellsPlain};
+ghost use Rattle.gj_number.specs.Internal.DigitRuns.{IsRun, SpellsOn, StartsSigned};
+ghost use Rattle.gj_number.specs.Internal.MovedPoint.{SpellsPlain};
 ghost use Rattle.gj_number.specs.Value.{SpellsExponentSign};
 
 #[cfg(test)]

@@ -8,13 +8,13 @@ use gj_coords::{Kind, Simple, Warned};
 use gj_json::Word;
 
 impl Frame {
-    ghost use Rattle.gj_coords.specs.Noted.{joined};
-    ghost use Rattle.gj_coords.specs.Warned.{all_in};
-    ghost use Rattle.gj_rules.specs.Read.{frame_in, found_in, counted_in};
-    ghost use Rattle.gj_rules.specs.Frame.{collected, warned_as, warned_by, settled};
+    ghost use Rattle.gj_coords.specs.Internal.KeptWarnings.{joined};
+    ghost use Rattle.gj_coords.specs.Internal.GatheredWarnings.{all_in};
+    ghost use Rattle.gj_rules.specs.Internal.FrameReading.{frame_in, found_in, counted_in};
+    ghost use Rattle.gj_rules.specs.Internal.FrameCalls.{collected, warned_as, warned_by, settled};
 
     /// Adds those of a GeometryCollection: of its geometries, and that it is one of another's (RFC 7946, section 3.1.8).
-    #[tactic(auto, using(crate::proofs::WarnedInTurn::and_one))]
+    #[tactic(auto, using(crate::proofs::Objects::WarningsInTurn::and_one))]
     fn warn_collected(&self, warned: &mut Warned)
         ensures { all_in warned.new ≡ joined (all_in warned.old) (collected self.now.shown.role self.now.shown.place (counted_in self.now.gathered.geometries)) }
     {
@@ -26,7 +26,7 @@ impl Frame {
     }
 
     /// Adds those that hang on its type, as one of this type.
-    #[tactic(auto, using(crate::proofs::WarnedInTurn::with_none))]
+    #[tactic(auto, using(crate::proofs::Objects::WarningsInTurn::with_none))]
     fn warn_as(&self, word: Word, warned: &mut Warned)
         ensures { all_in warned.new ≡ joined (all_in warned.old) (warned_as word (frame_in self.now)) }
     {
@@ -45,7 +45,7 @@ impl Frame {
     }
 
     /// Adds those that hang on its type.
-    #[tactic(auto, using(crate::proofs::WarnedInTurn::with_none))]
+    #[tactic(auto, using(crate::proofs::Objects::WarningsInTurn::with_none))]
     fn warn_by_type(&self, warned: &mut Warned)
         ensures { all_in warned.new ≡ joined (all_in warned.old) (warned_by self.now.shown.type_value (frame_in self.now)) }
     {
@@ -57,7 +57,7 @@ impl Frame {
     }
 
     /// Sets what is found in the object, at its close.
-    #[tactic(auto, using(crate::proofs::WarnedInTurn::to_none))]
+    #[tactic(auto, using(crate::proofs::Objects::WarningsInTurn::to_none))]
     pub fn settle(&self, found: &mut Found)
         ensures { found_in found.new ≡ settled (frame_in self.now) }
     {

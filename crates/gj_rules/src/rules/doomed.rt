@@ -10,10 +10,10 @@ impl Rules {
     ghost use Rattle.gj_json.specs.Events.{events_by};
     ghost use Rattle.gj_rules.specs.Doomed.{is_doomed};
     ghost use Rattle.gj_rules.specs.Faults.{text_faults};
-    ghost use Rattle.gj_rules.specs.Kept.{core_of};
+    ghost use Rattle.gj_rules.specs.Internal.RulesState.{core_of};
     ghost use Rattle.gj_rules.specs.Levels.{most_levels};
-    ghost use Rattle.gj_rules.specs.Lost.{core_lost, root_of};
-    ghost use Rattle.gj_rules.specs.Read.{shown_in};
+    ghost use Rattle.gj_rules.specs.Internal.LostObjects.{core_lost, root_of};
+    ghost use Rattle.gj_rules.specs.Internal.FrameReading.{shown_in};
     ghost use Rattle.gj_rules.specs.Rules.{StandsFor};
 
     /// What the outermost open object has shown.

@@ -9,7 +9,7 @@ use crate::mode::Mode;
 use gj_json::{Event, EventSink, Flat, Known, What};
 
 impl Rules {
-    ghost use Rattle.gj_rules.specs.Kept.{FeedsMany};
+    ghost use Rattle.gj_rules.specs.Internal.RulesState.{FeedsMany};
     ghost use Rattle.gj_rules.specs.Rules.{StandsFor};
 
     /// Whether the next event goes to the summary of a `coordinates`.

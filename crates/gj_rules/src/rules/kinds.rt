@@ -8,7 +8,7 @@ use crate::mode::Mode;
 use gj_json::{Event, Known, What, Word};
 
 impl Rules {
-    ghost use Rattle.gj_rules.specs.Kept.{Feeds};
+    ghost use Rattle.gj_rules.specs.Internal.RulesState.{Feeds};
     ghost use Rattle.gj_rules.specs.Rules.{StandsFor};
 
     #[inline(always)]

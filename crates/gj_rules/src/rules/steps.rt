@@ -11,9 +11,9 @@ use gj_coords::{Fault, Kind, Rule};
 use gj_json::{Known, What};
 
 impl Rules {
-    ghost use Rattle.gj_rules.specs.Frame.{settled};
-    ghost use Rattle.gj_rules.specs.Step.{skip, pushed, popped, root_step, names_step, due_step, begun, element_step, is_feeding};
-    ghost use Rattle.gj_rules.specs.Kept.{core_of, HasRoom, Holds};
+    ghost use Rattle.gj_rules.specs.Internal.FrameCalls.{settled};
+    ghost use Rattle.gj_rules.specs.Internal.EventSteps.{skip, pushed, popped, root_step, names_step, due_step, begun, element_step, is_feeding};
+    ghost use Rattle.gj_rules.specs.Internal.RulesState.{core_of, HasRoom, Holds};
     ghost use Rattle.gj_rules.specs.Levels.{most_skipped};
 
     /// An object with a role opens. A text within the limits has at most [`MOST_AROUND`] of them open around it.

@@ -35,8 +35,8 @@ impl OpenRecord {
     ghost use Rattle.gj_json.specs.Tree.{Text};
     ghost use Rattle.gj_rules.specs.Judged.{judged_at};
     ghost use Rattle.gj_rules.specs.Linter.{refusal_of, refusal_in};
-    ghost use Rattle.gj_rules.specs.OpenRecord.{StandsFor, AnswersAt};
-    ghost use Rattle.gj_coords.specs.Noted.{no_warnings};
+    ghost use Rattle.gj_rules.specs.Internal.OpenRecord.{StandsFor, AnswersAt};
+    ghost use Rattle.gj_coords.specs.Internal.KeptWarnings.{no_warnings};
     ghost use Rattle.gj_rules.specs.Sequence.{IsRecordVerdict};
 
     /// A record without a byte, which begins at the place.

@@ -7,9 +7,9 @@ use gj_json::{Known, Word};
 
 impl Shown {
     ghost use Rattle.std.specs.Prelude.{is_some};
-    ghost use Rattle.gj_rules.specs.Read.{shown_in};
-    ghost use Rattle.gj_rules.specs.Shown.{slot_of};
-    ghost use Rattle.gj_rules.specs.Lost.{slot_fails, geometry_forbids, simple_fails, collection_fails, feature_forbids, feature_fails, features_forbid, features_fails, fails_as, all_fail, is_lost};
+    ghost use Rattle.gj_rules.specs.Internal.FrameReading.{shown_in};
+    ghost use Rattle.gj_rules.specs.Internal.ShownMembers.{slot_of};
+    ghost use Rattle.gj_rules.specs.Internal.LostObjects.{slot_fails, geometry_forbids, simple_fails, collection_fails, feature_forbids, feature_fails, features_forbid, features_fails, fails_as, all_fail, is_lost};
 
     /// It has a member of this name.
     fn has(&self, name: Known) -> bool

@@ -6,11 +6,11 @@ use gj_coords::{Fault, Rule, Simple, Warned, lesser_fault};
 use gj_json::{Known, Word};
 
 impl Shown {
-    ghost use Rattle.gj_rules.specs.Read.{shown_in, repeated_in};
-    ghost use Rattle.gj_coords.specs.Noted.{joined};
-    ghost use Rattle.gj_coords.specs.Warned.{all_in};
-    ghost use Rattle.gj_rules.specs.Summaries.{shape_for, warned_for};
-    ghost use Rattle.gj_rules.specs.Shown.{due_shape, settled, rest_of, as_type, as_simple, geometry_forbids, feature_forbids, feature_dues, features_forbid, due_slot, forbidden_slot, slot_fault};
+    ghost use Rattle.gj_rules.specs.Internal.FrameReading.{shown_in, repeated_in};
+    ghost use Rattle.gj_coords.specs.Internal.KeptWarnings.{joined};
+    ghost use Rattle.gj_coords.specs.Internal.GatheredWarnings.{all_in};
+    ghost use Rattle.gj_rules.specs.Internal.Summaries.{shape_for, warned_for};
+    ghost use Rattle.gj_rules.specs.Internal.ShownMembers.{due_shape, settled, rest_of, as_type, as_simple, geometry_forbids, feature_forbids, feature_dues, features_forbid, due_slot, forbidden_slot, slot_fault};
 
     fn due(&self, slot: Option<Slot>, rule: Rule) -> Option<Fault>
         ensures { result ≡ due_slot self.now.place rule slot }
@@ -25,7 +25,7 @@ impl Shown {
     }
 
     /// The fault of the first `coordinates` for one type.
-    #[tactic(auto, using(crate::proofs::NoShapes::no_fault))]
+    #[tactic(auto, using(crate::proofs::Objects::NoShapes::no_fault))]
     pub(super) fn shape_fault(&self, simple: Simple) -> Option<Fault>
         ensures { result ≡ shape_for simple (shown_in self.now).shapes }
     {
@@ -37,7 +37,7 @@ impl Shown {
     }
 
     /// Adds its warnings for one type.
-    #[tactic(auto, using(crate::proofs::NoShapes::no_warnings_more))]
+    #[tactic(auto, using(crate::proofs::Objects::NoShapes::no_warnings_more))]
     pub fn warn_shape(&self, simple: Simple, warned: &mut Warned)
         ensures { all_in warned.new ≡ joined (all_in warned.old) (warned_for simple (shown_in self.now).shapes) }
     {

@@ -6,8 +6,8 @@ use gj_coords::Simple;
 use gj_json::Word;
 
 impl Shown {
-    ghost use Rattle.gj_rules.specs.Read.{shown_in};
-    ghost use Rattle.gj_rules.specs.Shown.{settled, as_type, as_simple, as_collection, as_feature};
+    ghost use Rattle.gj_rules.specs.Internal.FrameReading.{shown_in};
+    ghost use Rattle.gj_rules.specs.Internal.ShownMembers.{settled, as_type, as_simple, as_collection, as_feature};
 
     /// Whether it has the members of a geometry with coordinates, and nothing is wrong with any.
     fn is_sound_simple(&self, simple: Simple) -> bool

@@ -3,7 +3,7 @@ use Rattle.std.proofs.lemmas.List.{length-take-le}
 use Rattle.std.proofs.KnownBytes.{Consumes-nil, Consumes-trans}
 use Rattle.gj_json.specs.Limits.{Allowed}
 use Rattle.gj_rules.specs.Verdict.{IsVerdict}
-use Rattle.geolint.proofs.Judging.{Judges-end, Judges-lasting, Consumes-none, IsVerdict-of_refusal, given_more}
+use Rattle.geolint.proofs.ReadVerdicts.{Judges-end, Judges-lasting, Consumes-none, IsVerdict-of_refusal, given_more}
 use Rattle.gj_rules.specs.Linter.{limits_of}
 use Rattle.geolint.proofs.lint.lint_reader.Goals as goal
 

@@ -10,8 +10,8 @@ use Rattle.gj_rules.specs.Verdict.{NeverValid}
 use Rattle.gj_rules.specs.Doomed.{BeginNoGeoJson}
 use Rattle.gj_coords.specs.declared.warnings.Warnings.{Warnings}
 use Rattle.geolint.specs.Quick.{JudgesQuickly, ShowNoFault}
-use Rattle.geolint.proofs.Judging.{Consumes-none, given_more}
-use Rattle.geolint.proofs.Quickly.{quick-end, quick-lasting, refused_never, stops, one_read}
+use Rattle.geolint.proofs.ReadVerdicts.{Consumes-none, given_more}
+use Rattle.geolint.proofs.QuickReadings.{quick-end, quick-lasting, refused_never, stops, one_read}
 use Rattle.gj_rules.specs.Linter.{StandsFor, limits_of}
 use Rattle.geolint.proofs.quick.lint_quickly.Goals as goal
 

@@ -1,5 +1,5 @@
 use Rattle.std.proofs.Common.{rules}
-use Rattle.geolint.proofs.Out.{Appends-take_more}
+use Rattle.geolint.proofs.RoomWrites.{Appends-take_more}
 use Rattle.geolint.proofs.report.write_bytes.Goals as goal
 
 pub loop-at-preserved : goal.loop-at-preserved

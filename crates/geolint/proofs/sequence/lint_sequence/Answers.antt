@@ -4,8 +4,8 @@ use Rattle.std.proofs.KnownBytes.{Consumes-nil, Consumes-trans}
 use Rattle.gj_json.specs.Limits.{Allowed}
 use Rattle.gj_rules.specs.Sequence.{IsSequenceVerdict}
 use Rattle.gj_rules.specs.SequenceStands.{limits_of}
-use Rattle.geolint.proofs.Judging.{Judges-end, Consumes-none, given_more}
-use Rattle.geolint.proofs.Settled.{Judges-settled}
+use Rattle.geolint.proofs.ReadVerdicts.{Judges-end, Consumes-none, given_more}
+use Rattle.geolint.proofs.DecidedSequences.{Judges-settled}
 use Rattle.geolint.proofs.sequence.lint_sequence.Goals as goal
 
 pub returns-in-Ok-eq0-clause-verdict : goal.returns-in-Ok-eq0-clause-verdict

@@ -1,5 +1,5 @@
 -- `geolint_begin` meets its contract: a walk of its MIR. What `Handle::begun` gives is written where the host has room for it.
-use Rattle.geolint_c.proofs.Steps.{None, true, ℕ, [], ◌∷◌, refl, subst, lit<, w32, w64, proved, full_share, sep, emp, ex, ex_i, via, mono_r, id⊢, ftrue, Val, vint, WpFn, fact, fact_i, tables, sem, ‵, raw, ◌⊛◌, some, later, prop, at_ret, ◌$◌, ◌∵◌, !, qed, done, move, drop, use0, use1, use2, split, join, pick, await, regoal, suffices, group, part_in, init, enter, of_opd, lit, bin, stop, no_more, and_then, assigns, first, branches, skips, exec, returns, returns_within, alloc_all, pass_all, free_all, look_at, get, through, sets, lands_as, env, u32, u64, if_non_null, yes, shows, Is, uint_Lawful, uint_Makes, uint_vals, uint_Tells, Ptr, RawPtr, block_ptr, null_ptr, ptr_val, lies_at, room_at, rawptr_vals, rawptr_Tells, Testable, tests_null, part_at, plain, nothing, owned, heard, peeks, calls_at, lasts, on_entry, triple_of, on_exit, Stays, walk_of, stay_dropped, Goes-dropped, ends_at, framed, by_form}
+use Rattle.geolint_c.proofs.ExportedCalls.{None, true, ℕ, [], ◌∷◌, refl, subst, lit<, w32, w64, proved, full_share, sep, emp, ex, ex_i, via, mono_r, id⊢, ftrue, Val, vint, WpFn, fact, fact_i, tables, sem, ‵, raw, ◌⊛◌, some, later, prop, at_ret, ◌$◌, ◌∵◌, !, qed, done, move, drop, use0, use1, use2, split, join, pick, await, regoal, suffices, group, part_in, init, enter, of_opd, lit, bin, stop, no_more, and_then, assigns, first, branches, skips, exec, returns, returns_within, alloc_all, pass_all, free_all, look_at, get, through, sets, lands_as, env, u32, u64, if_non_null, yes, shows, Is, uint_Lawful, uint_Makes, uint_vals, uint_Tells, Ptr, RawPtr, block_ptr, null_ptr, ptr_val, lies_at, room_at, rawptr_vals, rawptr_Tells, Testable, tests_null, part_at, plain, nothing, owned, heard, peeks, calls_at, lasts, on_entry, triple_of, on_exit, Stays, walk_of, stay_dropped, Goes-dropped, ends_at, framed, by_form}
 use Rattle.geolint_c.specs.declared.handle.Handle.{Handle}
 use Rattle.geolint_c.specs.Handle.{BegunLive, BegunEnded, BegunStatus}
 use Rattle.geolint_c.specs.Stream.{BegunAt}

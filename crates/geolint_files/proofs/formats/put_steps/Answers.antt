@@ -6,7 +6,7 @@ use Rattle.gj_json.specs.declared.path.PathStep.{PathStep}
 use Rattle.gj_json.specs.declared.path.PathStep.TheVariants.{Index}
 use Rattle.gj_json.specs.Path.{steps_of}
 use Rattle.geolint_files.specs.Texts.{step_text, steps_text}
-use Rattle.geolint_files.proofs.Lines.{lines-more}
+use Rattle.geolint_files.proofs.JoinedElements.{lines-more}
 use Rattle.geolint_files.proofs.formats.put_steps.Goals as goal
 use Rattle.geolint_files.proofs.formats.put_steps.Goals.{in-Some+in_ok-put_step, in_default}
 

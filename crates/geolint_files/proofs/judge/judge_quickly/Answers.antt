@@ -7,8 +7,8 @@ use Rattle.gj_rules.specs.Verdict.{IsVerdict}
 use Rattle.gj_rules.specs.Verdict.{NeverValid}
 use Rattle.gj_coords.specs.declared.warnings.Warnings.{Warnings}
 use Rattle.geolint_files.specs.Judged.{JudgesQuickly}
-use Rattle.geolint_files.proofs.Judging.{Consumes-none}
-use Rattle.geolint_files.proofs.Quickly.{quick-end, quick-lasting, refused_never}
+use Rattle.geolint_files.proofs.FileVerdicts.{Consumes-none}
+use Rattle.geolint_files.proofs.QuickFiles.{quick-end, quick-lasting, refused_never}
 use Rattle.gj_rules.specs.Linter.{limits_of}
 use Rattle.geolint_files.proofs.judge.judge_quickly.Goals as goal
 
@@ -18,7 +18,7 @@ returns-in-Ok-eq0 g c =
     let none = c.in-Ok-eq0.field-0-test in
     let bytes = c.in-Ok-eq0.ensures.bytes in
     let room : 0 < length c.read.new.buf = search rules in
-    let verdict = subst (λ (limits : Allowed). IsVerdict limits read c.finish.result) c.loop-error.invariant.limits (c.finish.ensures.verdict read stands) in
+    let verdict = subst (λ (limits : Allowed). IsVerdict limits read c.finish_and_begin.result) c.loop-error.invariant.limits (c.finish_and_begin.ensures.verdict read stands) in
     subst (λ (valid : Option Warnings). JudgesQuickly c.args.limits (g.R.Read.remaining c.args.reader.now) (g.R.Read.remaining c.read.new.self) valid) (sym c.valid_in.ensures)
     (quick-end c.one_verdict.ensures.one _ _ _ read _ (Consumes-none _ _ _ read c.read.new.buf c.in-Ok-eq0.field-0 none took bytes.0) (bytes.1 none room) verdict)
 
@@ -52,8 +52,8 @@ within g c =
 
 pub loop-error-init : goal.loop-error-init
 loop-error-init g c = record {
-  read = ([], Consumes-nil _, refl, c.new-linter.ensures.stands);
-  limits = c.new-linter.ensures.limits;
+  read = ([], Consumes-nil _, refl, c.finish_and_begin-left.ensures.stands);
+  limits = c.finish_and_begin-left.ensures.limits;
   within = omega arith;
 }
 

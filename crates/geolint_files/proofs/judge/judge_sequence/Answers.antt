@@ -4,8 +4,8 @@ use Rattle.std.proofs.KnownBytes.{Consumes-nil, Consumes-trans}
 use Rattle.gj_json.specs.Limits.{Allowed}
 use Rattle.gj_rules.specs.Sequence.{IsSequenceVerdict}
 use Rattle.gj_rules.specs.SequenceStands.{limits_of}
-use Rattle.geolint_files.proofs.Judging.{Judges-end, Consumes-none}
-use Rattle.geolint_files.proofs.Settled.{Judges-settled}
+use Rattle.geolint_files.proofs.FileVerdicts.{Judges-end, Consumes-none}
+use Rattle.geolint_files.proofs.DecidedFiles.{Judges-settled}
 use Rattle.geolint_files.proofs.judge.judge_sequence.Goals as goal
 
 pub returns-in-Ok-eq0 : goal.returns-in-Ok-eq0

@@ -3,7 +3,7 @@ use Rattle.std.proofs.lemmas.List.{length-take-le}
 use Rattle.std.proofs.KnownBytes.{Consumes-nil, Consumes-trans}
 use Rattle.gj_json.specs.Limits.{Allowed}
 use Rattle.gj_rules.specs.Verdict.{IsVerdict}
-use Rattle.geolint_files.proofs.Judging.{Judges-end, Judges-lasting, Consumes-none, IsVerdict-of_refusal}
+use Rattle.geolint_files.proofs.FileVerdicts.{Judges-end, Judges-lasting, Consumes-none, IsVerdict-of_refusal}
 use Rattle.gj_rules.specs.Linter.{limits_of}
 use Rattle.geolint_files.proofs.judge.judge_text.Goals as goal
 
@@ -13,7 +13,7 @@ returns-in-Ok-eq0 g c =
     let none = c.in-Ok-eq0.field-0-test in
     let bytes = c.in-Ok-eq0.ensures.bytes in
     let room : 0 < length c.read.new.buf = search rules in
-    let verdict = subst (λ (limits : Allowed). IsVerdict limits read c.finish.result) c.loop-error.invariant.limits (c.finish.ensures.verdict read stands) in
+    let verdict = subst (λ (limits : Allowed). IsVerdict limits read c.finish_and_begin.result) c.loop-error.invariant.limits (c.finish_and_begin.ensures.verdict read stands) in
     Judges-end IsVerdict _ _ _ read _ (Consumes-none _ _ _ read c.read.new.buf c.in-Ok-eq0.field-0 none took bytes.0) (bytes.1 none room) verdict
 
 pub returns-in-Refused : goal.returns-in-Refused
@@ -37,8 +37,8 @@ within g c =
 
 pub loop-error-init : goal.loop-error-init
 loop-error-init g c = record {
-  read = ([], Consumes-nil _, refl, c.new-linter.ensures.stands);
-  limits = c.new-linter.ensures.limits;
+  read = ([], Consumes-nil _, refl, c.finish_and_begin-left.ensures.stands);
+  limits = c.finish_and_begin-left.ensures.limits;
   within = omega arith;
 }
 

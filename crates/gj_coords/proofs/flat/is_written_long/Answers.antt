@@ -1,6 +1,6 @@
 use Rattle.std.proofs.Common.{arith, ◌≢◌, ◌%◌}
 use Rattle.std.proofs.lemmas.Bool.Decides.{nat_tests}
-use Rattle.gj_coords.proofs.PreciseLaws.{written_long}
+use Rattle.gj_coords.proofs.Walks.PreciseNumbers.{written_long}
 use Rattle.gj_coords.proofs.flat.is_written_long.Goals as goal
 
 pub returns-then-number-gt-MOST_PLACES : goal.returns-then-number-gt-MOST_PLACES

@@ -1,4 +1,4 @@
-use Rattle.gj_coords.proofs.PreciseLaws.{written_short}
+use Rattle.gj_coords.proofs.Walks.PreciseNumbers.{written_short}
 use Rattle.std.proofs.lemmas.Bool.Decides.{nat_tests}
 use Rattle.std.proofs.Common.{arith, ◌≤◌}
 use Rattle.gj_coords.proofs.flat.is_written_short.Goals as goal

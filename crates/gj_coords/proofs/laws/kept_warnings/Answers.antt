@@ -1,4 +1,4 @@
-use Rattle.gj_coords.proofs.KeptLaws.{kept_is}
+use Rattle.gj_coords.proofs.Lists.KeptOfShortValues.{kept_is}
 use Rattle.gj_coords.proofs.laws.kept_warnings.Goals as goal
 
 pub returns : goal.returns

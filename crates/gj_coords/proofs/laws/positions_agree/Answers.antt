@@ -1,4 +1,4 @@
-use Rattle.gj_coords.proofs.Agreeing.{agree_is}
+use Rattle.gj_coords.proofs.Readers.AgreeingPositions.{agree_is}
 use Rattle.gj_coords.proofs.laws.positions_agree.Goals as goal
 
 pub returns : goal.returns

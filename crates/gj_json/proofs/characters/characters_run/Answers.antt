@@ -1,8 +1,8 @@
 -- Some characters after others.
 use Rattle.std.proofs.Common.{◌++◌}
 use Rattle.gj_json.specs.declared.mode.StringState.TheVariants.{Plain}
-use Rattle.gj_json.proofs.QuietLemmas.{reads_more}
-use Rattle.gj_json.proofs.Slices.{more_within}
+use Rattle.gj_json.proofs.Pieces.QuietModes.{reads_more}
+use Rattle.gj_json.proofs.Pieces.PieceRests.{more_within}
 use Rattle.gj_json.proofs.characters.characters_run.Goals as goal
 
 pub loop-at-preserved : goal.loop-at-preserved

@@ -1,6 +1,6 @@
 -- The bytes of an escape.
 use Rattle.std.proofs.Common.{sym, ◌∙◌, arith}
-use Rattle.gj_json.proofs.CharacterSpelled.{short_taken, unicode_taken}
+use Rattle.gj_json.proofs.Grammar.SpelledCharacters.{short_taken, unicode_taken}
 use Rattle.gj_json.proofs.characters.escape.Goals as goal
 
 pub returns-then-is_short-clause-character : goal.returns-then-is_short-clause-character

@@ -1,9 +1,9 @@
 -- One escape after another.
 use Rattle.std.proofs.Common.{◌++◌}
 use Rattle.gj_json.specs.declared.mode.StringState.TheVariants.{Plain}
-use Rattle.gj_json.proofs.CharacterSpelled.{characters_read_at}
-use Rattle.gj_json.proofs.QuietLemmas.{reads_more}
-use Rattle.gj_json.proofs.Slices.{more_within}
+use Rattle.gj_json.proofs.Grammar.SpelledCharacters.{characters_read_at}
+use Rattle.gj_json.proofs.Pieces.QuietModes.{reads_more}
+use Rattle.gj_json.proofs.Pieces.PieceRests.{more_within}
 use Rattle.gj_json.proofs.characters.escapes_run.Goals as goal
 
 pub loop-at-preserved : goal.loop-at-preserved

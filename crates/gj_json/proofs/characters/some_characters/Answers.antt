@@ -1,11 +1,11 @@
 -- One character, or a run of them.
 use Rattle.std.proofs.Common.{◌++◌, arith}
 use Rattle.std.proofs.lemmas.List.Sums.{prefix_len-le-length}
-use Rattle.gj_json.specs.Quiet.{is_plain}
+use Rattle.gj_json.specs.Internal.QuietBytes.{is_plain}
 use Rattle.gj_json.specs.declared.mode.StringState.TheVariants.{Plain}
-use Rattle.gj_json.proofs.CharacterSpelled.{plain_characters}
-use Rattle.gj_json.proofs.QuietLemmas.{reads_more}
-use Rattle.gj_json.proofs.Slices.{more_within}
+use Rattle.gj_json.proofs.Grammar.SpelledCharacters.{plain_characters}
+use Rattle.gj_json.proofs.Pieces.QuietModes.{reads_more}
+use Rattle.gj_json.proofs.Pieces.PieceRests.{more_within}
 use Rattle.gj_json.proofs.characters.some_characters.Goals as goal
 
 pub returns-then-piece-eq92-clause-within : goal.returns-then-piece-eq92-clause-within

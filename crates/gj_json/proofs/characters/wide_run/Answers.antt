@@ -1,7 +1,7 @@
 -- The first character, and those after it by what is seen at each byte.
 use Rattle.std.proofs.Common.{◌<◌, sym, ◌∙◌, arith}
-use Rattle.gj_json.proofs.CharacterSpelled.{characters_read_at}
-use Rattle.gj_json.proofs.WideCharacters.{all_whole, but_one_whole, but_two_whole}
+use Rattle.gj_json.proofs.Grammar.SpelledCharacters.{characters_read_at}
+use Rattle.gj_json.proofs.Grammar.WideCharacterEnds.{all_whole, but_one_whole, but_two_whole}
 use Rattle.gj_json.proofs.characters.wide_run.Goals as goal
 
 pub returns-then-first-eq0-clause-characters : goal.returns-then-first-eq0-clause-characters

@@ -1,7 +1,7 @@
 -- From the closing bracket back to the opening one.
 use Rattle.std.proofs.Common.{[], ◌∷◌, ◌+◌, arith}
 use Rattle.std.specs.Option.{option_to_list}
-use Rattle.gj_json.proofs.FlatSpelled.{end_cut, more_cut, flat_cut}
+use Rattle.gj_json.proofs.Grammar.SpelledFlats.{end_cut, more_cut, flat_cut}
 use Rattle.gj_json.proofs.flats.read_flat.Goals as goal
 
 pub returns-then-piece-second-eq93-clause-flat : goal.returns-then-piece-second-eq93-clause-flat

@@ -6,9 +6,9 @@ use Rattle.gj_number.specs.Exact.{Exact}
 use Rattle.gj_number.specs.Short.{StartsWithNumber, exact_of}
 use Rattle.gj_number.specs.declared.short.Short.{Short}
 use Rattle.gj_json.specs.Bytes.{IsWhite}
-use Rattle.gj_json.specs.FlatParts.{cut, IsValued}
-use Rattle.gj_json.proofs.Cutting.{cut_front}
-use Rattle.gj_json.proofs.FlatSpelled.{item_cut}
+use Rattle.gj_json.specs.Internal.FlatParts.{cut, IsValued}
+use Rattle.gj_json.proofs.Pieces.PieceCuts.{cut_front}
+use Rattle.gj_json.proofs.Grammar.SpelledFlats.{item_cut}
 use Rattle.gj_json.proofs.flats.read_item.Goals as goal
 
 -- the number that is read ends within the piece

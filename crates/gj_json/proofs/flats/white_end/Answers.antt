@@ -2,10 +2,10 @@
 use Rattle.std.proofs.Common.{◌≤◌, ◌+◌, ◌-◌, ℕ, List, drop, length, take, arith}
 use Rattle.std.proofs.lemmas.List.Sums.{prefix_len-le-length}
 use Rattle.gj_json.specs.Bytes.{IsWhite}
-use Rattle.gj_json.specs.Quiet.{is_white}
-use Rattle.gj_json.proofs.Cutting.{cut_front}
-use Rattle.gj_json.proofs.QuietLemmas.{all_run, white_is}
-use Rattle.gj_json.proofs.Slices.{more_within}
+use Rattle.gj_json.specs.Internal.QuietBytes.{is_white}
+use Rattle.gj_json.proofs.Pieces.PieceCuts.{cut_front}
+use Rattle.gj_json.proofs.Pieces.QuietModes.{all_run, white_is}
+use Rattle.gj_json.proofs.Pieces.PieceRests.{more_within}
 use Rattle.gj_json.proofs.flats.white_end.Goals as goal
 
 within : (c : goal.After-white_run) → c.args.at + c.white_run.result ≤ length c.args.piece.now

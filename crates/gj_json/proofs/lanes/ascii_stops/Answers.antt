@@ -1,8 +1,8 @@
 -- The mask of four comparisons.
 use Rattle.std.proofs.Common.{not, refl, arith}
 use Rattle.std.proofs.lemmas.Simd.{zip2_splat, zip2_splat_left}
-use Rattle.gj_json.specs.Quiet.{is_plain}
-use Rattle.gj_json.proofs.ByLanes.{equal, less, either, mask_is}
+use Rattle.gj_json.specs.Internal.QuietBytes.{is_plain}
+use Rattle.gj_json.proofs.Pieces.LaneTests.{equal, less, either, mask_is}
 use Rattle.gj_json.proofs.lanes.ascii_stops.Goals as goal
 
 pub returns : goal.returns

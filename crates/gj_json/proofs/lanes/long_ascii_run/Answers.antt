@@ -1,8 +1,8 @@
 -- Block by block, and then the bytes that fill none.
 use Rattle.std.proofs.Common.{◌<◌, ◌/◌, ◌≡◌, refl, length, arith}
 use Rattle.std.proofs.lemmas.List.Sums.{prefix_len-le-length}
-use Rattle.gj_json.specs.Quiet.{is_plain}
-use Rattle.gj_json.proofs.ByLanes.{block_passes, block_stops, rest_stops}
+use Rattle.gj_json.specs.Internal.QuietBytes.{is_plain}
+use Rattle.gj_json.proofs.Pieces.LaneTests.{block_passes, block_stops, rest_stops}
 use Rattle.gj_json.proofs.lanes.long_ascii_run.Goals as goal
 
 pub returns-then-stops-ne0 : goal.returns-then-stops-ne0

@@ -1,6 +1,6 @@
 use Rattle.std.proofs.Common.{◌≡◌, ◌+◌, ◌-◌, ◌*◌, ◌≤◌, length, drop}
 use Rattle.std.specs.List.{prefix_len}
-use Rattle.gj_json.specs.Quiet.{is_plain}
+use Rattle.gj_json.specs.Internal.QuietBytes.{is_plain}
 use Rattle.gj_json.proofs.lanes.long_ascii_run.Given as goal
 
 abbrev pub invariant-loop-index : goal.invariant-loop-index

@@ -2,7 +2,7 @@
 use Rattle.std.proofs.Common.{◌<◌, ◌/◌, ◌≡◌, refl, length, arith}
 use Rattle.std.proofs.lemmas.List.Sums.{prefix_len-le-length}
 use Rattle.gj_json.specs.Runs.{is_unescaped}
-use Rattle.gj_json.proofs.ByLanes.{block_passes, block_stops, rest_stops}
+use Rattle.gj_json.proofs.Pieces.LaneTests.{block_passes, block_stops, rest_stops}
 use Rattle.gj_json.proofs.lanes.plain_run.Goals as goal
 
 pub returns-then-stops-ne0 : goal.returns-then-stops-ne0

@@ -2,7 +2,7 @@
 use Rattle.std.proofs.Common.{not, refl, arith}
 use Rattle.std.proofs.lemmas.Simd.{zip2_splat}
 use Rattle.gj_json.specs.Runs.{is_unescaped}
-use Rattle.gj_json.proofs.ByLanes.{equal, less, either, mask_is}
+use Rattle.gj_json.proofs.Pieces.LaneTests.{equal, less, either, mask_is}
 use Rattle.gj_json.proofs.lanes.plain_stops.Goals as goal
 
 pub returns : goal.returns

@@ -1,8 +1,8 @@
 -- The first sixteen bytes, and then all.
 use Rattle.std.proofs.Common.{ℕ, ◌<◌, sym, ap, subst, ◌∙◌, arith}
 use lib.Count.{count_trailing_zeros}
-use Rattle.gj_json.specs.Quiet.{is_white}
-use Rattle.gj_json.proofs.ByLanes.{lanes_stop}
+use Rattle.gj_json.specs.Internal.QuietBytes.{is_white}
+use Rattle.gj_json.proofs.Pieces.LaneTests.{lanes_stop}
 use Rattle.gj_json.proofs.lanes.white_run.Goals as goal
 
 pub returns-then-stops-ne0 : goal.returns-then-stops-ne0

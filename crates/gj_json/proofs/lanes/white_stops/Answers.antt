@@ -1,8 +1,8 @@
 -- The mask of four comparisons, turned.
 use Rattle.std.proofs.Common.{map, not, ap, ◌∙◌, refl, arith}
 use Rattle.std.proofs.lemmas.Simd.{map-map, zip2_splat}
-use Rattle.gj_json.specs.Quiet.{is_white}
-use Rattle.gj_json.proofs.ByLanes.{equal, either, mask_is}
+use Rattle.gj_json.specs.Internal.QuietBytes.{is_white}
+use Rattle.gj_json.proofs.Pieces.LaneTests.{equal, either, mask_is}
 use Rattle.gj_json.proofs.lanes.white_stops.Goals as goal
 
 pub returns : goal.returns

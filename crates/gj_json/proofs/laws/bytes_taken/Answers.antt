@@ -1,4 +1,4 @@
-use Rattle.gj_json.proofs.Feeding.{live_offset, refused_offset, taken_within}
+use Rattle.gj_json.proofs.Readers.CallsInTurn.{live_offset, refused_offset, taken_within}
 use Rattle.std.proofs.Common.{sym}
 use Rattle.gj_json.proofs.laws.bytes_taken.Goals as goal
 

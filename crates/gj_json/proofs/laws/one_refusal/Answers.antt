@@ -1,11 +1,11 @@
-use Rattle.gj_json.proofs.Longest
+use Rattle.gj_json.proofs.Machine.LongestPrefixes
 use Rattle.gj_json.proofs.laws.one_refusal.Goals as goal
 
 pub returns-clause-at_most_one : goal.returns-clause-at_most_one
-returns-clause-at_most_one c = Longest.one_refusal
+returns-clause-at_most_one c = LongestPrefixes.one_refusal
 
 pub returns-clause-either : goal.returns-clause-either
-returns-clause-either c = Longest.refused_or_admitted
+returns-clause-either c = LongestPrefixes.refused_or_admitted
 
 pub returns-clause-never_both : goal.returns-clause-never_both
-returns-clause-never_both c = Longest.never_both
+returns-clause-never_both c = LongestPrefixes.never_both

@@ -1,5 +1,5 @@
-use Rattle.gj_json.proofs.Texts
+use Rattle.gj_json.proofs.Machine.MachineTexts
 use Rattle.gj_json.proofs.laws.one_text.Goals as goal
 
 pub returns : goal.returns
-returns c = Texts.one_text
+returns c = MachineTexts.one_text

@@ -1,4 +1,4 @@
-use Rattle.gj_json.proofs.Reaching.{alike}
+use Rattle.gj_json.proofs.Machine.ReachedStates.{alike}
 use Rattle.gj_json.proofs.laws.same_events.Goals as goal
 
 pub returns-clause-events : goal.returns-clause-events

@@ -1,4 +1,4 @@
-use Rattle.gj_json.proofs.Located.{same_path}
+use Rattle.gj_json.proofs.Paths.PathsOfStates.{same_path}
 use Rattle.gj_json.proofs.laws.same_path.Goals as goal
 
 pub returns : goal.returns

@@ -1,10 +1,10 @@
 -- The bytes of a string, run by run and byte by byte.
 use Rattle.std.proofs.Common.{◌≡◌, ◌+◌, ◌≤◌, ◌<◌, [], ◌∷◌, get_or, length, arith, sym, ◌∙◌, append-nil}
-use Rattle.gj_json.specs.Machine.{string_next, string_goes}
+use Rattle.gj_json.specs.Internal.TextMachine.{string_next, string_goes}
 use Rattle.gj_json.specs.declared.mode.StringState.TheVariants.{Plain}
-use Rattle.gj_json.proofs.OneCharacter.{one_character, goes_is, reads_is}
-use Rattle.gj_json.proofs.Skipping.{HasRead, after_plain, after_text, after_byte}
-use Rattle.gj_json.proofs.Slices.{more_within}
+use Rattle.gj_json.proofs.Grammar.OneCharacter.{one_character, goes_is, reads_is}
+use Rattle.gj_json.proofs.Pieces.SkippedRuns.{HasRead, after_plain, after_text, after_byte}
+use Rattle.gj_json.proofs.Pieces.PieceRests.{more_within}
 use Rattle.gj_json.proofs.runs.string_run.Goals as goal
 use Rattle.gj_json.proofs.runs.string_run.Goals.{in-Goes, in-Reads}
 

@@ -1,7 +1,7 @@
 use Rattle.std.proofs.Common.{ℕ, List, length, ◌-◌, ◌≤◌, ◌++◌, take}
-use Rattle.gj_json.specs.Content.{Holds}
-use Rattle.gj_json.specs.Moves.{IsStringState}
-use Rattle.gj_json.specs.Quiet.{Reads}
+use Rattle.gj_json.specs.Internal.KeptContent.{Holds}
+use Rattle.gj_json.specs.Internal.Transitions.{IsStringState}
+use Rattle.gj_json.specs.Internal.QuietBytes.{Reads}
 use Rattle.gj_json.proofs.runs.string_run.Given as goal
 
 abbrev pub invariant-loop-count : goal.invariant-loop-count

@@ -1,6 +1,6 @@
 -- Whole characters leave none under way.
 use Rattle.std.proofs.Common.{sym, ◌∙◌}
-use Rattle.gj_json.proofs.Utf8Texts.{other_holds}
+use Rattle.gj_json.proofs.Grammar.Utf8Characters.{other_holds}
 use Rattle.gj_json.proofs.runs.text_front.Goals as goal
 
 pub returns-in-Plain-clause-reads : goal.returns-in-Plain-clause-reads

@@ -1,9 +1,9 @@
 -- The quotes, and plain characters between them.
 use Rattle.std.proofs.Common.{ap, ◌∙◌, arith}
 use Rattle.std.specs.List.{prefix_len}
-use Rattle.gj_json.specs.Quiet.{is_plain}
-use Rattle.gj_json.proofs.Slices.{rest_of}
-use Rattle.gj_json.proofs.TokenSpelled.{quoted_cut}
+use Rattle.gj_json.specs.Internal.QuietBytes.{is_plain}
+use Rattle.gj_json.proofs.Pieces.PieceRests.{rest_of}
+use Rattle.gj_json.proofs.Grammar.SpelledTokens.{quoted_cut}
 use Rattle.gj_json.proofs.tokens.plain_quoted_run.Goals as goal
 
 pub returns-then-piece-count-eq34-clause-quoted : goal.returns-then-piece-count-eq34-clause-quoted

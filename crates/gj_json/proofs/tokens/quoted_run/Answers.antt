@@ -1,5 +1,5 @@
 -- The characters, and the quotes around them.
-use Rattle.gj_json.proofs.WholeTokens.{quoted_is}
+use Rattle.gj_json.proofs.Pieces.PassedTokens.{quoted_is}
 use Rattle.gj_json.proofs.tokens.quoted_run.Goals as goal
 
 pub returns-then-piece-end-eq34-clause-quoted : goal.returns-then-piece-end-eq34-clause-quoted

@@ -1,10 +1,10 @@
 -- Plain characters, and those after them.
 use Rattle.std.proofs.Common.{◌++◌}
 use Rattle.std.proofs.lemmas.List.Sums.{prefix_len-le-length}
-use Rattle.gj_json.specs.Quiet.{is_plain}
+use Rattle.gj_json.specs.Internal.QuietBytes.{is_plain}
 use Rattle.gj_json.specs.declared.mode.StringState.TheVariants.{Plain}
-use Rattle.gj_json.proofs.CharacterSpelled.{plain_characters}
-use Rattle.gj_json.proofs.QuietLemmas.{reads_more}
+use Rattle.gj_json.proofs.Grammar.SpelledCharacters.{plain_characters}
+use Rattle.gj_json.proofs.Pieces.QuietModes.{reads_more}
 use Rattle.gj_json.proofs.tokens.text_run.Goals as goal
 
 pub returns-then-piece-plain-ne34-clause-characters : goal.returns-then-piece-plain-ne34-clause-characters

@@ -1,6 +1,6 @@
 -- Vector by vector.
 use Rattle.std.proofs.Common.{arith}
-use Rattle.gj_json.proofs.WideRuns.{stops_on, passes_on}
+use Rattle.gj_json.proofs.Pieces.WideRuns.{stops_on, passes_on}
 use Rattle.gj_json.proofs.wide.end_of_wide.Goals as goal
 
 pub returns-then-found-ne0-clause-within : goal.returns-then-found-ne0-clause-within

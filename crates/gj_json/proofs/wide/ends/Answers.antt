@@ -1,6 +1,6 @@
 -- The mask of comparisons of three vectors.
 use Rattle.std.proofs.Common.{refl}
-use Rattle.gj_json.proofs.WideLanes.{ends_are}
+use Rattle.gj_json.proofs.Pieces.WideLanes.{ends_are}
 use Rattle.gj_json.proofs.wide.ends.Goals as goal
 
 pub returns : goal.returns

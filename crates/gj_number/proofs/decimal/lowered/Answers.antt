@@ -1,6 +1,6 @@
 use Rattle.std.proofs.Common.{sym, arith}
-use Rattle.gj_number.proofs.Cutting.{lowered_far}
-use Rattle.gj_number.proofs.Normal.{ten_above_zero}
+use Rattle.gj_number.proofs.Shorts.CutNumbers.{lowered_far}
+use Rattle.gj_number.proofs.Value.NormalForm.{ten_above_zero}
 use Rattle.gj_number.proofs.decimal.lowered.Goals as goal
 
 pub returns-then-down-ge30-clause-magnitude : goal.returns-then-down-ge30-clause-magnitude

@@ -1,5 +1,5 @@
 use Rattle.std.proofs.Common.{sym, arith}
-use Rattle.gj_number.proofs.Cutting.{raised_far, raised_above, raised_small, limited_below}
+use Rattle.gj_number.proofs.Shorts.CutNumbers.{raised_far, raised_above, raised_small, limited_below}
 use Rattle.gj_number.proofs.decimal.raised.Goals as goal
 use Rattle.gj_number.proofs.decimal.raised.Goals.{then-up-ge-CUT_DIGITS-via-then-up-ge-CUT_DIGITS, then-up-ge-CUT_DIGITS-via-else-up-ge-CUT_DIGITS+then-digits-ten_to}
 

@@ -1,5 +1,5 @@
 use Rattle.std.proofs.Common.{◌≡◌, ◌+◌, ◌-◌, min, arith}
-use Rattle.gj_number.proofs.Bounds.{scaled_below, digit_below, small_digit, kept_first, kept_across, kept_second}
+use Rattle.gj_number.proofs.Literals.DigitBounds.{scaled_below, digit_below, small_digit, kept_first, kept_across, kept_second}
 use Rattle.gj_number.proofs.join.joined.Goals as goal
 
 pub appended-requires-clause-fits : goal.appended-requires-clause-fits

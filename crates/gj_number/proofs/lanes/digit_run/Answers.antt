@@ -1,6 +1,6 @@
 -- Vector by vector.
 use Rattle.std.proofs.Common.{arith}
-use Rattle.gj_number.proofs.Sixteen.{digits_on}
+use Rattle.gj_number.proofs.Shorts.SixteenLanes.{digits_on}
 use Rattle.gj_number.proofs.lanes.digit_run.Goals as goal
 
 pub returns-then-count-lt16-clause-digits : goal.returns-then-count-lt16-clause-digits

@@ -1,8 +1,8 @@
 use Rattle.std.proofs.Common.{List, ℕ, subst, sym, ◌∙◌, ap, ◌<◌}
 use Rattle.std.specs.Simd.Lanes.{Each1}
 use Rattle.std.specs.List.{fold}
-use Rattle.gj_number.specs.Lanes.{with_value}
-use Rattle.gj_number.proofs.Sixteen.{moved_small, first_spell, run_whole}
+use Rattle.gj_number.specs.Internal.DigitLanes.{with_value}
+use Rattle.gj_number.proofs.Shorts.SixteenLanes.{moved_small, first_spell, run_whole}
 use Rattle.gj_number.proofs.lanes.first_digits.Goals as goal
 
 pub number_of-requires : goal.number_of-requires

@@ -1,5 +1,5 @@
 use Rattle.std.proofs.lemmas.Simd.{dot4_Fits}
-use Rattle.gj_number.proofs.Sixteen.{fours_is}
+use Rattle.gj_number.proofs.Shorts.SixteenLanes.{fours_is}
 use Rattle.gj_number.specs.declared.lanes.TheConstants.{FIRST_TWO, LAST_TWO}
 use Rattle.gj_number.proofs.lanes.fours_of.Goals as goal
 

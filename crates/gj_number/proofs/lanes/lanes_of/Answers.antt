@@ -1,4 +1,4 @@
-use Rattle.gj_number.proofs.Sixteen.{lanes_are}
+use Rattle.gj_number.proofs.Shorts.SixteenLanes.{lanes_are}
 use Rattle.gj_number.proofs.lanes.lanes_of.Goals as goal
 
 pub returns : goal.returns

@@ -1,5 +1,5 @@
 use Rattle.std.proofs.Common.{arith}
-use Rattle.gj_number.proofs.Sixteen.{leading_none, leading_some, leading_le}
+use Rattle.gj_number.proofs.Shorts.SixteenLanes.{leading_none, leading_some, leading_le}
 use Rattle.gj_number.proofs.lanes.leading_digits.Goals as goal
 
 pub returns-then-others-eq0-clause-count : goal.returns-then-others-eq0-clause-count

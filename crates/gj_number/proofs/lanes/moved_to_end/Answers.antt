@@ -1,4 +1,4 @@
-use Rattle.gj_number.proofs.Sixteen.{places_ok, moved_is}
+use Rattle.gj_number.proofs.Shorts.SixteenLanes.{places_ok, moved_is}
 use Rattle.gj_number.proofs.lanes.moved_to_end.Goals as goal
 
 pub swizzle : goal.swizzle

@@ -2,8 +2,8 @@
 use Rattle.std.proofs.Common.{◌<◌, List, ℕ, subst, sym, ◌∙◌, ap, arith}
 use Rattle.std.specs.Simd.Lanes.{Each1}
 use Rattle.std.specs.List.{fold}
-use Rattle.gj_number.specs.Lanes.{with_value}
-use Rattle.gj_number.proofs.Sixteen.{natural_few, natural_ends, natural_small, natural_spell, both_few, both_small, both_spell}
+use Rattle.gj_number.specs.Internal.DigitLanes.{with_value}
+use Rattle.gj_number.proofs.Shorts.SixteenLanes.{natural_few, natural_ends, natural_small, natural_spell, both_few, both_small, both_spell}
 use Rattle.gj_number.proofs.lanes.unsigned_prefix.Goals as goal
 
 pub bounds-piece-natural : goal.bounds-piece-natural

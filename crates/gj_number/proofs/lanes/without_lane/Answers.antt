@@ -1,4 +1,4 @@
-use Rattle.gj_number.proofs.Sixteen.{others_ok, others_is}
+use Rattle.gj_number.proofs.Shorts.SixteenLanes.{others_ok, others_is}
 use Rattle.gj_number.proofs.lanes.without_lane.Goals as goal
 
 pub swizzle : goal.swizzle

@@ -1,5 +1,5 @@
-use Rattle.gj_number.proofs.Spelled.{number_from}
-use Rattle.gj_number.proofs.Denoting.{some_denoted, one_denoted}
+use Rattle.gj_number.proofs.Grammar.SpelledParts.{number_from}
+use Rattle.gj_number.proofs.Value.OneDenotation.{some_denoted, one_denoted}
 use Rattle.gj_number.proofs.laws.one_decimal.Goals as goal
 
 pub returns-clause-exists : goal.returns-clause-exists

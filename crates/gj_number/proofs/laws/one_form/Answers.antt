@@ -1,5 +1,5 @@
-use Rattle.gj_number.proofs.Denoting.{denoted_normal}
-use Rattle.gj_number.proofs.Same.{same_value}
+use Rattle.gj_number.proofs.Value.OneDenotation.{denoted_normal}
+use Rattle.gj_number.proofs.Value.SameDecimals.{same_value}
 use Rattle.gj_number.proofs.laws.one_form.Goals as goal
 
 pub returns-clause-denoted : goal.returns-clause-denoted

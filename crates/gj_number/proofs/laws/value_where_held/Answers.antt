@@ -1,4 +1,4 @@
-use Rattle.gj_number.proofs.Denoting.{value_held, value_not_held}
+use Rattle.gj_number.proofs.Value.OneDenotation.{value_held, value_not_held}
 use Rattle.gj_number.proofs.laws.value_where_held.Goals as goal
 
 pub returns-clause-held : goal.returns-clause-held

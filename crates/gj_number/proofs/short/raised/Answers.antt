@@ -1,5 +1,5 @@
 use Rattle.std.proofs.Common.{sym, arith}
-use Rattle.gj_number.proofs.Cutting.{raised_above, raised_small, limited_below}
+use Rattle.gj_number.proofs.Shorts.CutNumbers.{raised_above, raised_small, limited_below}
 use Rattle.gj_number.proofs.short.raised.Goals as goal
 
 pub returns-then-digits-ten_to-clause-magnitude : goal.returns-then-digits-ten_to-clause-magnitude

@@ -1,4 +1,4 @@
-use Rattle.gj_number.proofs.Running.{zero_off}
+use Rattle.gj_number.proofs.Literals.RunsOfDigits.{zero_off}
 use Rattle.gj_number.proofs.short.without_zeros.Goals as goal
 
 pub loop-digits-preserved : goal.loop-digits-preserved

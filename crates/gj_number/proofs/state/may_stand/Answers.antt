@@ -1,5 +1,5 @@
 use Rattle.std.proofs.Common.{◌∙◌}
-use Rattle.gj_number.proofs.Classes.{number_byte}
+use Rattle.gj_number.proofs.Grammar.ByteClasses.{number_byte}
 use Rattle.gj_number.proofs.state.may_stand.Goals as goal
 
 pub returns-in_default-clause-number : goal.returns-in_default-clause-number

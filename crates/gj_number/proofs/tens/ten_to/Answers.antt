@@ -1,5 +1,5 @@
 use Rattle.std.proofs.Common.{◌∙◌, ◌^◌, ap, arith}
-use Rattle.gj_number.proofs.Powers.{power_at}
+use Rattle.gj_number.proofs.Shorts.TensTable.{power_at}
 use Rattle.gj_number.proofs.tens.ten_to.Goals as goal
 
 pub returns : goal.returns

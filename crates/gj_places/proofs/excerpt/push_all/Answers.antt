@@ -1,5 +1,5 @@
 use Rattle.std.proofs.Common.{rules, ◌++◌, ◌∙◌, ap, sym, append_assoc, ℕ, List, string_bytes, encode_utf8}
-use Rattle.gj_places.proofs.Kept.{encodes-more}
+use Rattle.gj_places.proofs.KeptLines.{encodes-more}
 use Rattle.gj_places.proofs.excerpt.push_all.Goals as goal
 
 pub loop-c-preserved : goal.loop-c-preserved

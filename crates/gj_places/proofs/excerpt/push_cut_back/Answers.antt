@@ -1,5 +1,5 @@
 use Rattle.std.proofs.Common.{◌++◌, ◌∙◌, ap, sym, append_assoc, List, ℕ, codes, string_bytes}
-use Rattle.gj_places.proofs.Kept.{cut_back-more, cut_back-all}
+use Rattle.gj_places.proofs.KeptLines.{cut_back-more, cut_back-all}
 use Rattle.gj_places.proofs.excerpt.push_cut_back.Goals as goal
 
 pub returns-in_ok-push_str : goal.returns-in_ok-push_str

@@ -1,5 +1,5 @@
 use Rattle.std.proofs.Common.{arith}
-use Rattle.gj_rules.proofs.Halves.{judged_open, judged_half}
+use Rattle.gj_rules.proofs.Texts.RoleDepths.{judged_open, judged_half}
 use Rattle.gj_rules.proofs.laws.judged_levels.Goals as goal
 
 pub returns-clause-open : goal.returns-clause-open

@@ -8,8 +8,8 @@ use Rattle.gj_rules.specs.declared.verdict.Verdict.{Verdict}
 use Rattle.gj_rules.specs.declared.verdict.Verdict.TheVariants.{Valid, Broken, NotJson}
 use Rattle.gj_rules.specs.Places.{IsPlaceIn}
 use Rattle.gj_rules.specs.Verdict.{IsVerdict}
-use Rattle.gj_rules.proofs.Places.{least_within}
-use Rattle.gj_rules.proofs.PlacesWarned.{warnings_within}
+use Rattle.gj_rules.proofs.Texts.PlacesOfFaults.{least_within}
+use Rattle.gj_rules.proofs.Texts.PlacesOfWarnings.{warnings_within}
 use Rattle.gj_rules.proofs.laws.places_within.Goals as goal
 
 stop_within : (limits : Allowed) (bytes : List ℕ) (place : ℕ) → Stops limits bytes place → place ≤ length bytes

@@ -8,13 +8,13 @@ use Rattle.gj_json.specs.Refusal.{IsRefusal, IsAdmitted}
 use Rattle.gj_coords.specs.declared.fault.Fault.{Fault}
 use Rattle.gj_coords.specs.Fault.{least}
 use Rattle.gj_coords.specs.declared.warnings.Warnings.{Warnings}
-use Rattle.gj_coords.specs.Noted.{warnings_of}
+use Rattle.gj_coords.specs.Internal.KeptWarnings.{warnings_of}
 use Rattle.gj_rules.specs.TextWarnings.{text_warnings}
 use Rattle.gj_rules.specs.declared.verdict.Verdict.{Verdict}
 use Rattle.gj_rules.specs.declared.verdict.Verdict.TheVariants.{Valid, Broken, NotJson}
 use Rattle.gj_rules.specs.Faults.{text_faults}
 use Rattle.gj_rules.specs.Verdict.{IsVerdict, verdict_of}
-use Rattle.gj_rules.proofs.Fed.{text_verdict}
+use Rattle.gj_rules.proofs.Texts.LinterEvents.{text_verdict}
 use Rattle.gj_rules.proofs.verdict.one_verdict.Goals as goal
 
 module _ (one_text : (first second : Text) (bytes : List ℕ) → IsText first bytes → IsText second bytes → first ≡ second)

@@ -7,7 +7,7 @@ use Rattle.gj_json.specs.declared.path.PathStep.TheVariants.{Index}
 use Rattle.gj_json.specs.Path.{steps_of}
 use Rattle.geolint.specs.Report.{step_text, steps_text}
 use Rattle.geolint.specs.Room.{written_in}
-use Rattle.geolint.proofs.Out.{lines-more}
+use Rattle.geolint.proofs.RoomWrites.{lines-more}
 use Rattle.geolint.proofs.report.path.push_steps.Goals as goal
 use Rattle.geolint.proofs.report.path.push_steps.Goals.{in-Some, in_default}
 

@@ -3,7 +3,7 @@ use Rattle.std.specs.List.{flat_map}
 use Rattle.gj_coords.specs.declared.kind.Kind.TheVariants.{W1}
 use Rattle.geolint.specs.Report.{kind_line, kinds, warning_lines}
 use Rattle.geolint.specs.Room.{written_in}
-use Rattle.geolint.proofs.Out.{lines-more}
+use Rattle.geolint.proofs.RoomWrites.{lines-more}
 use Rattle.geolint.proofs.report.warnings.push_warnings.Goals as goal
 
 pub loop-kind-preserved : goal.loop-kind-preserved

@@ -1,7 +1,7 @@
 use Rattle.std.proofs.Common.{arith, length, ap, length-append}
 use Rattle.std.specs.Borrow.{Bor}
 use Rattle.std.specs.Prelude.{ℕ, List, []}
-use Rattle.geolint.proofs.Out.{joined-split}
+use Rattle.geolint.proofs.RoomWrites.{joined-split}
 use Rattle.geolint.proofs.room.Room.push_all.Goals as goal
 
 -- stands for no piece

@@ -1,7 +1,7 @@
 use Rattle.std.proofs.Common.{rules, arith, ◌≡◌, ◌++◌, [], ℕ, List, length, take, get_or, ap, ◌∙◌, subst, append-nil}
 use Rattle.gj_places.specs.Counting.{StandsFor}
 use Rattle.geolint_files.specs.Sites.{AreRight}
-use Rattle.geolint_files.proofs.Found.{IsSpot-end}
+use Rattle.geolint_files.proofs.FoundSites.{IsSpot-end}
 use Rattle.geolint_files.proofs.sites.Sites.end.Goals as goal
 
 pub returns-then-self-i : goal.returns-then-self-i

@@ -1,6 +1,6 @@
 use Rattle.std.proofs.Common.{◌++◌, take}
 use Rattle.std.proofs.KnownBytes.{Consumes-trans}
-use Rattle.geolint_files.proofs.Found.{RightBy-read, RightBy-reached}
+use Rattle.geolint_files.proofs.FoundSites.{RightBy-read, RightBy-reached}
 use Rattle.geolint_files.proofs.sites.Sites.find.Goals as goal
 
 pub returns-in_err-count : goal.returns-in_err-count

@@ -3,7 +3,7 @@ use Rattle.std.proofs.lemmas.List.{take-append-drop}
 use Rattle.gj_places.specs.Counting.{StandsFor}
 use Rattle.gj_places.specs.declared.lines.Lines.{Lines}
 use Rattle.geolint_files.specs.Sites.{IsSpot}
-use Rattle.geolint_files.proofs.Found.{Spot-is, take-joined}
+use Rattle.geolint_files.proofs.FoundSites.{Spot-is, take-joined}
 use Rattle.geolint_files.proofs.sites.Sites.reach.Goals as goal
 
 pub returns : goal.returns

@@ -1,4 +1,4 @@
-use Rattle.geolint_files.proofs.Found.{right-sought}
+use Rattle.geolint_files.proofs.FoundSites.{right-sought}
 use Rattle.geolint_files.proofs.sites.Sites.seek.Goals as goal
 
 pub returns-then-self-lt-MOST_PLACES : goal.returns-then-self-lt-MOST_PLACES

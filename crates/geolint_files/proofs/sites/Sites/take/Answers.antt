@@ -1,4 +1,4 @@
-use Rattle.geolint_files.proofs.Found.{Reaches-piece}
+use Rattle.geolint_files.proofs.FoundSites.{Reaches-piece}
 use Rattle.geolint_files.proofs.sites.Sites.take.Goals as goal
 use Rattle.geolint_files.proofs.sites.Sites.take.Goals.{else-loop-test, then-loop-test+then-not-reach}
 

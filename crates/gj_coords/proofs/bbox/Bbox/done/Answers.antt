@@ -1,4 +1,4 @@
-use Rattle.gj_coords.proofs.BboxLaws.{box_ends}
+use Rattle.gj_coords.proofs.Readers.BboxLaws.{box_ends}
 use Rattle.gj_coords.proofs.bbox.Bbox.done.Goals as goal
 
 pub returns : goal.returns

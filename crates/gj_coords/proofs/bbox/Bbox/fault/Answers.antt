@@ -1,5 +1,5 @@
 use Rattle.std.proofs.Common.{◌∙◌, ap}
-use Rattle.gj_coords.proofs.BboxLaws.{box_fault}
+use Rattle.gj_coords.proofs.Readers.BboxLaws.{box_fault}
 use Rattle.gj_coords.proofs.bbox.Bbox.fault.Goals as goal
 
 pub returns : goal.returns

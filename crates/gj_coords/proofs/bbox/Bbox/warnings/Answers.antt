@@ -1,7 +1,7 @@
 use Rattle.std.proofs.Common.{sym, ◌∙◌, ap}
 use Rattle.gj_coords.specs.declared.kind.Kind.TheVariants.{W8}
-use Rattle.gj_coords.specs.Noted.{added}
-use Rattle.gj_coords.proofs.BboxLaws.{box_warned, some_warned, none_warned}
+use Rattle.gj_coords.specs.Internal.KeptWarnings.{added}
+use Rattle.gj_coords.proofs.Readers.BboxLaws.{box_warned, some_warned, none_warned}
 use Rattle.gj_coords.proofs.bbox.Bbox.warnings.Goals as goal
 
 pub returns-in-Some : goal.returns-in-Some

@@ -1,4 +1,4 @@
-use Rattle.gj_coords.proofs.CoordinatesLaws.{walk_ready}
+use Rattle.gj_coords.proofs.Walks.AnswersOfWalks.{walk_ready}
 use Rattle.gj_coords.proofs.coordinates.Coordinates.again.Goals as goal
 
 pub returns : goal.returns

@@ -1,4 +1,4 @@
-use Rattle.gj_coords.proofs.CoordinatesLaws.{holds_ended}
+use Rattle.gj_coords.proofs.Walks.AnswersOfWalks.{holds_ended}
 use Rattle.gj_coords.proofs.coordinates.Coordinates.done.Goals as goal
 
 pub returns : goal.returns

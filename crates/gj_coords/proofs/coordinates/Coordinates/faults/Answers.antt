@@ -1,5 +1,5 @@
 use Rattle.std.proofs.Common.{sym, ◌∙◌}
-use Rattle.gj_coords.proofs.CoordinatesLaws.{holds_whole, holds_walk, walk_faults, whole_faults}
+use Rattle.gj_coords.proofs.Walks.AnswersOfWalks.{holds_whole, holds_walk, walk_faults, whole_faults}
 use Rattle.gj_coords.proofs.coordinates.Coordinates.faults.Goals as goal
 
 pub returns-then-is_whole : goal.returns-then-is_whole

@@ -1,5 +1,5 @@
-use Rattle.gj_coords.specs.Walk.{walk_machine}
-use Rattle.gj_coords.proofs.CoordinatesLaws.{walk_answers, walk_ready}
+use Rattle.gj_coords.specs.Internal.LevelGather.{walk_machine}
+use Rattle.gj_coords.proofs.Walks.AnswersOfWalks.{walk_answers, walk_ready}
 use Rattle.gj_coords.proofs.coordinates.Coordinates.new.Goals as goal
 
 pub returns : goal.returns

@@ -1,7 +1,7 @@
 use Rattle.std.proofs.Common.{[]}
 use Rattle.gj_json.specs.declared.event.What.{What}
-use Rattle.gj_coords.specs.Sent.{event_at}
-use Rattle.gj_coords.proofs.CoordinatesLaws.{holds_more, walk_more}
+use Rattle.gj_coords.specs.Internal.SentEvents.{event_at}
+use Rattle.gj_coords.proofs.Walks.AnswersOfWalks.{holds_more, walk_more}
 use Rattle.gj_coords.proofs.coordinates.Coordinates.open_array.Goals as goal
 
 pub returns : goal.returns

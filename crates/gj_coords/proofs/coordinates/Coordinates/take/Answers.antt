@@ -1,5 +1,5 @@
 use Rattle.std.proofs.Common.{[]}
-use Rattle.gj_coords.proofs.CoordinatesLaws.{holds_more, walk_more}
+use Rattle.gj_coords.proofs.Walks.AnswersOfWalks.{holds_more, walk_more}
 use Rattle.gj_coords.proofs.coordinates.Coordinates.take.Goals as goal
 
 pub returns : goal.returns

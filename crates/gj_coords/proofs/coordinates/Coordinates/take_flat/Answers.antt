@@ -1,7 +1,7 @@
 use Rattle.gj_coords.specs.declared.depth.Depth.TheVariants.{First, Second, Third}
 use Rattle.gj_coords.specs.Coordinates.{Holds}
-use Rattle.gj_coords.proofs.CoordinatesLaws.{first_flat, second_flat, third_flat, holds_at, held_at}
-use Rattle.gj_coords.proofs.SteadyLaws.{first_still, second_still, third_still}
+use Rattle.gj_coords.proofs.Walks.AnswersOfWalks.{first_flat, second_flat, third_flat, holds_at, held_at}
+use Rattle.gj_coords.proofs.Walks.SteadyLaws.{first_still, second_still, third_still}
 use Rattle.gj_coords.proofs.coordinates.Coordinates.take_flat.Goals as goal
 
 pub returns-in-Second : goal.returns-in-Second

@@ -1,4 +1,4 @@
-use Rattle.gj_coords.proofs.CoordinatesLaws.{holds_more, steady_holds, walk_flat}
+use Rattle.gj_coords.proofs.Walks.AnswersOfWalks.{holds_more, steady_holds, walk_flat}
 use Rattle.gj_coords.proofs.coordinates.Coordinates.take_inside.Goals as goal
 
 pub returns : goal.returns

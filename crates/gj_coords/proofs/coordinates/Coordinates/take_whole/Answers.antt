@@ -1,5 +1,5 @@
 use Rattle.std.proofs.Common.{ap, refl}
-use Rattle.gj_coords.proofs.CoordinatesLaws.{holds_more, walk_value}
+use Rattle.gj_coords.proofs.Walks.AnswersOfWalks.{holds_more, walk_value}
 use Rattle.gj_coords.proofs.coordinates.Coordinates.take_whole.Goals as goal
 
 pub returns : goal.returns

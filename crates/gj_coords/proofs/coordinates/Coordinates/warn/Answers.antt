@@ -1,9 +1,9 @@
 use Rattle.std.proofs.Common.{sym, ◌∙◌, ap}
-use Rattle.gj_coords.specs.Noted.{joined}
-use Rattle.gj_coords.specs.Walk.{walk_machine, warned_as}
-use Rattle.gj_coords.specs.Warned.{all_in}
-use Rattle.gj_coords.specs.WarnedLaws.{taken_is}
-use Rattle.gj_coords.proofs.CoordinatesLaws.{holds_whole, holds_walk, walk_kept, whole_kept}
+use Rattle.gj_coords.specs.Internal.KeptWarnings.{joined}
+use Rattle.gj_coords.specs.Internal.LevelGather.{walk_machine, warned_as}
+use Rattle.gj_coords.specs.Internal.GatheredWarnings.{all_in}
+use Rattle.gj_coords.specs.Internal.GatheredWarningLaws.{taken_is}
+use Rattle.gj_coords.proofs.Walks.AnswersOfWalks.{holds_whole, holds_walk, walk_kept, whole_kept}
 use Rattle.gj_coords.proofs.coordinates.Coordinates.warn.Goals as goal
 
 pub returns-then-is_whole : goal.returns-then-is_whole

@@ -1,7 +1,7 @@
 use Rattle.std.proofs.Common.{sym, ◌∙◌, ap}
-use Rattle.gj_coords.specs.Warned.{all_in}
-use Rattle.gj_coords.proofs.CoordinatesLaws.{holds_whole, holds_walk, walk_kept, whole_kept}
-use Rattle.gj_coords.proofs.KeptLaws.{kept_is, countable}
+use Rattle.gj_coords.specs.Internal.GatheredWarnings.{all_in}
+use Rattle.gj_coords.proofs.Walks.AnswersOfWalks.{holds_whole, holds_walk, walk_kept, whole_kept}
+use Rattle.gj_coords.proofs.Lists.KeptOfShortValues.{kept_is, countable}
 use Rattle.gj_coords.proofs.coordinates.Coordinates.warnings.Goals as goal
 
 pub returns-then-is_whole-clause-kept : goal.returns-then-is_whole-clause-kept

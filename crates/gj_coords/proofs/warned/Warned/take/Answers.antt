@@ -1,6 +1,6 @@
 use Rattle.std.proofs.Common.{ap, sym, ◌∙◌}
-use Rattle.gj_coords.specs.Noted.{joined}
-use Rattle.gj_coords.specs.Warned.{all_in, warnings_in}
+use Rattle.gj_coords.specs.Internal.KeptWarnings.{joined}
+use Rattle.gj_coords.specs.Internal.GatheredWarnings.{all_in, warnings_in}
 use Rattle.gj_coords.specs.WarningLaws.{joined_none_last}
 use Rattle.gj_coords.proofs.warned.Warned.take.Goals as goal
 

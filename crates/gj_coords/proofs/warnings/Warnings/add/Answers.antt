@@ -1,5 +1,5 @@
 use Rattle.std.proofs.Common.{◌∙◌}
-use Rattle.gj_coords.proofs.WarningsStand.{added_stands}
+use Rattle.gj_coords.proofs.Lists.ListsStoodFor.{added_stands}
 use Rattle.gj_coords.proofs.warnings.Warnings.add.Goals as goal
 
 pub returns-clause-stands : goal.returns-clause-stands

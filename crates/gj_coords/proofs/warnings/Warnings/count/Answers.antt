@@ -1,5 +1,5 @@
 use Rattle.std.proofs.Common.{◌∙◌, ap}
-use Rattle.gj_coords.proofs.WarningsStand.{kept_of}
+use Rattle.gj_coords.proofs.Lists.ListsStoodFor.{kept_of}
 use Rattle.gj_coords.proofs.warnings.Warnings.count.Goals as goal
 
 pub returns-clause-count : goal.returns-clause-count

@@ -1,5 +1,5 @@
 use Rattle.std.proofs.Common.{arith, ◌∙◌}
-use Rattle.gj_coords.proofs.WarningsStand.{first_is, first_is_none, kept_of}
+use Rattle.gj_coords.proofs.Lists.ListsStoodFor.{first_is, first_is_none, kept_of}
 use Rattle.gj_coords.proofs.warnings.Warnings.first.Goals as goal
 
 pub returns-then-noted-eq0-clause-first : goal.returns-then-noted-eq0-clause-first

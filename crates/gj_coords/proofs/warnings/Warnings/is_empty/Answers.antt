@@ -1,4 +1,4 @@
-use Rattle.gj_coords.proofs.WarningsStand.{empty_is}
+use Rattle.gj_coords.proofs.Lists.ListsStoodFor.{empty_is}
 use Rattle.gj_coords.proofs.warnings.Warnings.is_empty.Goals as goal
 
 pub returns-clause-empty : goal.returns-clause-empty

@@ -1,5 +1,5 @@
 use Rattle.std.proofs.Common.{◌∙◌}
-use Rattle.gj_coords.proofs.WarningsStand.{joined_stands}
+use Rattle.gj_coords.proofs.Lists.ListsStoodFor.{joined_stands}
 use Rattle.gj_coords.proofs.warnings.Warnings.join.Goals as goal
 
 pub returns-clause-stands : goal.returns-clause-stands

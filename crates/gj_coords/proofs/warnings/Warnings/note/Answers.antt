@@ -1,4 +1,4 @@
-use Rattle.gj_coords.proofs.WarningsStand.{added_by_replacing}
+use Rattle.gj_coords.proofs.Lists.ListsStoodFor.{added_by_replacing}
 use Rattle.gj_coords.proofs.warnings.Warnings.note.Goals as goal
 
 pub returns : goal.returns

@@ -1,5 +1,5 @@
 use Rattle.std.proofs.Common.{◌∙◌}
-use Rattle.gj_coords.proofs.WarningsShifted.{shifted_stands}
+use Rattle.gj_coords.proofs.Lists.ShiftedWarnings.{shifted_stands}
 use Rattle.gj_coords.proofs.warnings.Warnings.shifted.Goals as goal
 
 pub returns-clause-stands : goal.returns-clause-stands

@@ -1,6 +1,6 @@
 -- The one place and the shift fit 33 bits.
 use Rattle.std.proofs.Common.{◌≡◌, ℕ, arith}
-use Rattle.gj_coords.proofs.WarningsShifted.{one_first}
+use Rattle.gj_coords.proofs.Lists.ShiftedWarnings.{one_first}
 use Rattle.gj_coords.proofs.warnings.tests.one_shifted.Goals as goal
 
 pub shifted-requires : goal.shifted-requires

@@ -1,5 +1,5 @@
-use Rattle.gj_coords.specs.SixLaws.{type_answer}
-use Rattle.gj_coords.proofs.ReadingLaws.{ended_at_end}
+use Rattle.gj_coords.specs.Internal.SixReaders.{type_answer}
+use Rattle.gj_coords.proofs.Readers.RestsOfValues.{ended_at_end}
 use Rattle.gj_coords.proofs.watcher.WatchWatcher.done.Goals as goal
 
 pub returns : goal.returns

@@ -1,7 +1,7 @@
 use Rattle.std.proofs.Common.{ap, ◌∙◌}
-use Rattle.gj_coords.specs.SixLaws.{type_answer}
-use Rattle.gj_coords.proofs.ReadingLaws.{answer_at_end}
-use Rattle.gj_coords.proofs.SixFaults.{type_least}
+use Rattle.gj_coords.specs.Internal.SixReaders.{type_answer}
+use Rattle.gj_coords.proofs.Readers.RestsOfValues.{answer_at_end}
+use Rattle.gj_coords.proofs.Readers.SixFaults.{type_least}
 use Rattle.gj_coords.proofs.watcher.WatchWatcher.fault.Goals as goal
 
 pub returns : goal.returns

@@ -1,9 +1,9 @@
 use Rattle.std.proofs.Common.{ap, ◌∙◌}
-use Rattle.gj_coords.specs.Warned.{all_in}
-use Rattle.gj_coords.specs.SixLaws.{type_answer}
-use Rattle.gj_coords.proofs.KeptLaws.{short, countable}
-use Rattle.gj_coords.proofs.ReadingLaws.{answer_at_end}
-use Rattle.gj_coords.proofs.SixWarned.{type_warned}
+use Rattle.gj_coords.specs.Internal.GatheredWarnings.{all_in}
+use Rattle.gj_coords.specs.Internal.SixReaders.{type_answer}
+use Rattle.gj_coords.proofs.Lists.KeptOfShortValues.{short, countable}
+use Rattle.gj_coords.proofs.Readers.RestsOfValues.{answer_at_end}
+use Rattle.gj_coords.proofs.Readers.SixWarnings.{type_warned}
 use Rattle.gj_coords.proofs.watcher.WatchWatcher.warnings.Goals as goal
 
 pub returns : goal.returns

@@ -1,7 +1,7 @@
 use Rattle.std.proofs.Common.{Some, None, rules, FitsSigned}
 use Rattle.std.specs.Int.{w32}
-use Rattle.gj_coords.specs.WindingGather.{IsSmall}
-use Rattle.gj_coords.specs.WindingLaws.{stands-append}
+use Rattle.gj_coords.specs.Internal.WindingGather.{IsSmall}
+use Rattle.gj_coords.specs.Internal.WindingLaws.{stands-append}
 use Rattle.gj_coords.proofs.winding.Winding.add.Goals as goal
 
 pub returns-in-Some-clause-stands : goal.returns-in-Some-clause-stands

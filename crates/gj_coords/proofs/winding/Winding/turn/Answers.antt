@@ -1,7 +1,7 @@
 use Rattle.std.proofs.Common.{◌∙◌, FitsSigned, rules}
 use Rattle.std.specs.Int.{w128}
 use Rattle.std.proofs.lemmas.Int.{to_z-of_z}
-use Rattle.gj_coords.specs.WindingLaws.{judged_turn, stands_turn}
+use Rattle.gj_coords.specs.Internal.WindingLaws.{judged_turn, stands_turn}
 use Rattle.gj_coords.proofs.winding.Winding.turn.Goals as goal
 
 pub returns-else-self-clause-turn : goal.returns-else-self-clause-turn

@@ -1,6 +1,6 @@
 -- Each level has a bit in one of the words.
 use Rattle.std.proofs.Common.{sym}
-use Rattle.gj_json.proofs.LevelLemmas.{length-levels}
+use Rattle.gj_json.proofs.Readers.LevelWords.{length-levels}
 use Rattle.gj_json.proofs.levels.Levels.len.Goals as goal
 
 pub returns-clause-value : goal.returns-clause-value

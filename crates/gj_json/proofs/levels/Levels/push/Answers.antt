@@ -1,7 +1,7 @@
 -- The full word goes to the others.
 use Rattle.std.proofs.Common.{rules, arith}
-use Rattle.gj_json.specs.Levels.{levels_in}
-use Rattle.gj_json.proofs.LevelLemmas.{pushed_full}
+use Rattle.gj_json.specs.Internal.OpenLevels.{levels_in}
+use Rattle.gj_json.proofs.Readers.LevelWords.{pushed_full}
 use Rattle.gj_json.proofs.levels.Levels.push.Goals as goal
 
 pub returns-else-self-lt-WORD : goal.returns-else-self-lt-WORD

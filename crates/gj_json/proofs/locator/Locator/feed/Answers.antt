@@ -1,8 +1,8 @@
 -- The piece, front by front.
 use Rattle.std.proofs.Common.{◌≡◌, ◌∙◌, ◌++◌, subst, refl, sym, ℕ, List, length, take, Some, arith}
 use Rattle.gj_json.specs.Locator.{StandsFor, refusal_of}
-use Rattle.gj_json.proofs.Locating.{refused_on, live_answer, refused_answer}
-use Rattle.gj_json.proofs.Slices.{more_within, front_and_more, front_and_rest, take_all_of}
+use Rattle.gj_json.proofs.Paths.LocatorSteps.{refused_on, live_answer, refused_answer}
+use Rattle.gj_json.proofs.Pieces.PieceRests.{more_within, front_and_more, front_and_rest, take_all_of}
 use Rattle.gj_json.proofs.locator.Locator.feed.Goals as goal
 use Rattle.gj_json.proofs.locator.Locator.feed.Goals.{After-loop-at}
 

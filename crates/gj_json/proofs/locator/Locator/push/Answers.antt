@@ -2,7 +2,7 @@
 use Rattle.std.proofs.Common.{refl, ap, arith}
 use Rattle.gj_json.specs.Limits.{Allowed}
 use Rattle.gj_json.specs.Locator.{StandsFor}
-use Rattle.gj_json.proofs.Locating.{trail_on, trail_kept, was_live}
+use Rattle.gj_json.proofs.Paths.LocatorSteps.{trail_on, trail_kept, was_live}
 use Rattle.gj_json.proofs.locator.Locator.push.Goals as goal
 
 pub returns-in-Ok-clause-stands : goal.returns-in-Ok-clause-stands

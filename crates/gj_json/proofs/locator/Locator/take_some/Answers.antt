@@ -1,8 +1,8 @@
 -- Quiet bytes, and then one byte.
 use Rattle.std.proofs.Common.{◌<◌, ◌+◌, ◌++◌, ℕ, List, length, take, subst, arith}
 use Rattle.gj_json.specs.Locator.{StandsFor}
-use Rattle.gj_json.proofs.Locating.{refused_in, front_passed}
-use Rattle.gj_json.proofs.Slices.{front_and_byte}
+use Rattle.gj_json.proofs.Paths.LocatorSteps.{refused_in, front_passed}
+use Rattle.gj_json.proofs.Pieces.PieceRests.{front_and_byte}
 use Rattle.gj_json.proofs.locator.Locator.take_some.Goals as goal
 
 pub returns-then-quiet-piece-clause-stands : goal.returns-then-quiet-piece-clause-stands

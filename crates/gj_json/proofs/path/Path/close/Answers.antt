@@ -1,5 +1,5 @@
 -- The innermost step goes.
-use Rattle.gj_json.proofs.Steps.{steps_closed}
+use Rattle.gj_json.proofs.Paths.PathSteps.{steps_closed}
 use Rattle.gj_json.proofs.path.Path.close.Goals as goal
 
 pub returns-then-self-gt0 : goal.returns-then-self-gt0

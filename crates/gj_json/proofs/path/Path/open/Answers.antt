@@ -1,6 +1,6 @@
 -- The step that is added stands innermost.
 use Rattle.std.proofs.Common.{rules}
-use Rattle.gj_json.proofs.Steps.{steps_pushed}
+use Rattle.gj_json.proofs.Paths.PathSteps.{steps_pushed}
 use Rattle.gj_json.proofs.path.Path.open.Goals as goal
 
 pub returns-then-self-lt-MOST_LEVELS : goal.returns-then-self-lt-MOST_LEVELS

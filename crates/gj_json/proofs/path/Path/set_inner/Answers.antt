@@ -1,6 +1,6 @@
 -- The innermost step is replaced.
 use Rattle.std.proofs.Common.{rules}
-use Rattle.gj_json.proofs.Steps.{steps_set}
+use Rattle.gj_json.proofs.Paths.PathSteps.{steps_set}
 use Rattle.gj_json.proofs.path.Path.set_inner.Goals as goal
 
 pub returns-then-self-gt0 : goal.returns-then-self-gt0

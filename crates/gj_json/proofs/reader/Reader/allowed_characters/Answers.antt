@@ -1,7 +1,7 @@
 -- The whole piece, or what is allowed of it.
 use Rattle.std.proofs.Common.{ℕ, ◌-◌, min, take, subst, arith}
 use Rattle.gj_json.specs.Runs.{IsLongestUtf8, plain_run_of}
-use Rattle.gj_json.proofs.Utf8Texts.{longest_all, longest_upto}
+use Rattle.gj_json.proofs.Grammar.Utf8Characters.{longest_all, longest_upto}
 use Rattle.gj_json.proofs.reader.Reader.allowed_characters.Goals as goal
 
 pub returns-then-piece-room-clause-longest : goal.returns-then-piece-room-clause-longest

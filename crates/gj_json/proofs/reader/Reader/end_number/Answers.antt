@@ -1,10 +1,10 @@
 -- A number and the byte after it.
 use Rattle.std.proofs.Common.{◌≡◌, get_or, sym, ap, ◌∙◌, append_assoc}
-use Rattle.gj_json.specs.Classes.{class_of}
-use Rattle.gj_json.specs.Levels.{levels_in, inner_of}
-use Rattle.gj_json.specs.Moves.{after_move}
+use Rattle.gj_json.specs.Internal.ByteClasses.{class_of}
+use Rattle.gj_json.specs.Internal.OpenLevels.{levels_in, inner_of}
+use Rattle.gj_json.specs.Internal.Transitions.{after_move}
 use Rattle.gj_json.specs.declared.mode.Move.TheVariants.{Go, Close}
-use Rattle.gj_json.proofs.TokenFeeds.{number_then, number_closed}
+use Rattle.gj_json.proofs.Pieces.TakenTokens.{number_then, number_closed}
 use Rattle.gj_json.proofs.reader.Reader.end_number.Goals as goal
 
 pub returns-in-Go-clause-feeds : goal.returns-in-Go-clause-feeds

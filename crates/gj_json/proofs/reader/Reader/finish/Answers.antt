@@ -1,6 +1,6 @@
 -- What the end of the text answers.
 use Rattle.std.proofs.Common.{sym, ◌∙◌}
-use Rattle.gj_json.proofs.Finishing.{ends}
+use Rattle.gj_json.proofs.Events.FinishedTexts.{ends}
 use Rattle.gj_json.proofs.reader.Reader.finish.Goals as goal
 
 pub returns-in-Some-last_event-clause-answer : goal.returns-in-Some-last_event-clause-answer

@@ -1,8 +1,8 @@
 -- A value that is done, and no level around it.
 use Rattle.std.proofs.Common.{◌≡◌, false, sym, ◌∙◌}
 use Rattle.std.specs.Option.{is_some}
-use Rattle.gj_json.proofs.Ended.{ended_whole, none_told}
-use Rattle.gj_json.proofs.Finishing.{none_is, whole_ends}
+use Rattle.gj_json.proofs.Machine.EmptyRests.{ended_whole, none_told}
+use Rattle.gj_json.proofs.Events.FinishedTexts.{none_is, whole_ends}
 use Rattle.gj_json.proofs.reader.Reader.is_whole.Goals as goal
 
 pub returns-then-is_none-clause-live : goal.returns-then-is_none-clause-live

@@ -1,7 +1,7 @@
 -- Before the first byte nothing is complete.
 use Rattle.std.proofs.Common.{refl, arith}
-use Rattle.gj_json.specs.Machine.{text_due}
-use Rattle.gj_json.proofs.Finishing.{none_at_first}
+use Rattle.gj_json.specs.Internal.TextMachine.{text_due}
+use Rattle.gj_json.proofs.Events.FinishedTexts.{none_at_first}
 use Rattle.gj_json.proofs.reader.Reader.new.Goals as goal
 
 pub returns-clause-stands : goal.returns-clause-stands

@@ -1,10 +1,10 @@
 -- A closing bracket.
 use Rattle.std.proofs.Common.{◌≡◌, get_or, sym, ap, ◌∙◌, arith, length}
-use Rattle.gj_json.specs.Classes.{class_of}
-use Rattle.gj_json.specs.Levels.{levels_in, inner_of, outer_of}
-use Rattle.gj_json.specs.Moves.{after_move}
+use Rattle.gj_json.specs.Internal.ByteClasses.{class_of}
+use Rattle.gj_json.specs.Internal.OpenLevels.{levels_in, inner_of, outer_of}
+use Rattle.gj_json.specs.Internal.Transitions.{after_move}
 use Rattle.gj_json.specs.declared.mode.Move.TheVariants.{Close}
-use Rattle.gj_json.proofs.WholeTokens.{closed_level, closed_floor, none_within}
+use Rattle.gj_json.proofs.Pieces.PassedTokens.{closed_level, closed_floor, none_within}
 use Rattle.gj_json.proofs.reader.Reader.pass_close.Goals as goal
 
 pub returns-in-Close-clause-floor : goal.returns-in-Close-clause-floor

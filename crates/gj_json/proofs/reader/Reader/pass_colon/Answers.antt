@@ -1,5 +1,5 @@
 -- Behind a colon a value is due.
-use Rattle.gj_json.proofs.WholeTokens.{colon_passed}
+use Rattle.gj_json.proofs.Pieces.PassedTokens.{colon_passed}
 use Rattle.gj_json.proofs.reader.Reader.pass_colon.Goals as goal
 
 pub returns-clause-feeds : goal.returns-clause-feeds

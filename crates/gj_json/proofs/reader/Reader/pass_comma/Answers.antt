@@ -1,9 +1,9 @@
 -- Behind a comma the next element or the next name is due.
 use Rattle.std.proofs.Common.{◌≡◌, ◌∙◌, ap, sym, Some}
-use Rattle.gj_json.specs.Levels.{levels_in, inner_of}
+use Rattle.gj_json.specs.Internal.OpenLevels.{levels_in, inner_of}
 use Rattle.gj_json.specs.declared.levels.Level.{Level}
 use Rattle.gj_json.specs.declared.levels.Level.TheVariants.{Array, Object}
-use Rattle.gj_json.proofs.WholeTokens.{comma_in_array, comma_in_object}
+use Rattle.gj_json.proofs.Pieces.PassedTokens.{comma_in_array, comma_in_object}
 use Rattle.gj_json.proofs.reader.Reader.pass_comma.Goals as goal
 
 pub returns-in-Some-Array-clause-feeds : goal.returns-in-Some-Array-clause-feeds

@@ -1,5 +1,5 @@
 -- The value, and the comma behind it.
-use Rattle.gj_json.proofs.WholeTokens.{within_more}
+use Rattle.gj_json.proofs.Pieces.PassedTokens.{within_more}
 use Rattle.gj_json.proofs.reader.Reader.pass_element.Goals as goal
 
 pub returns-in-ValueDone-clause-feeds : goal.returns-in-ValueDone-clause-feeds

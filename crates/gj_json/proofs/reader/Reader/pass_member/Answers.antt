@@ -1,6 +1,6 @@
 -- The name and its colon, and the value behind them.
 use Rattle.std.proofs.Common.{take, arith}
-use Rattle.gj_json.proofs.WholeTokens.{level_within, then_within}
+use Rattle.gj_json.proofs.Pieces.PassedTokens.{level_within, then_within}
 use Rattle.gj_json.proofs.reader.Reader.pass_member.Goals as goal
 
 pub returns-then-named-piece-clause-feeds : goal.returns-then-named-piece-clause-feeds

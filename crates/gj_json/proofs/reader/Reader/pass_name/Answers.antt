@@ -1,6 +1,6 @@
 -- A name goes up to its quote.
 use Rattle.std.proofs.Common.{arith}
-use Rattle.gj_json.proofs.WholeTokens.{name_passed}
+use Rattle.gj_json.proofs.Pieces.PassedTokens.{name_passed}
 use Rattle.gj_json.proofs.reader.Reader.pass_name.Goals as goal
 
 pub returns-clause-feeds : goal.returns-clause-feeds

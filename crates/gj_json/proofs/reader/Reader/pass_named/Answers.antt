@@ -1,6 +1,6 @@
 -- The name, and the colon behind it.
 use Rattle.std.proofs.Common.{arith}
-use Rattle.gj_json.proofs.WholeTokens.{level_more}
+use Rattle.gj_json.proofs.Pieces.PassedTokens.{level_more}
 use Rattle.gj_json.proofs.reader.Reader.pass_named.Goals as goal
 
 pub pass_colon-requires-clause-due : goal.pass_colon-requires-clause-due

@@ -1,10 +1,10 @@
 -- A number has ended where the byte behind it ends a value.
 use Rattle.std.proofs.Common.{◌≡◌, get_or, sym, ap, ◌∙◌, arith, length}
-use Rattle.gj_json.specs.Classes.{class_of}
-use Rattle.gj_json.specs.Levels.{levels_in, inner_of, outer_of}
-use Rattle.gj_json.specs.Moves.{after_move}
+use Rattle.gj_json.specs.Internal.ByteClasses.{class_of}
+use Rattle.gj_json.specs.Internal.OpenLevels.{levels_in, inner_of, outer_of}
+use Rattle.gj_json.specs.Internal.Transitions.{after_move}
 use Rattle.gj_json.specs.declared.mode.Move.TheVariants.{Go, Close}
-use Rattle.gj_json.proofs.WholeTokens.{number_within, ended_within, closed_floor}
+use Rattle.gj_json.proofs.Pieces.PassedTokens.{number_within, ended_within, closed_floor}
 use Rattle.gj_json.proofs.reader.Reader.pass_number.Goals as goal
 
 pub returns-in-Go-clause-feeds : goal.returns-in-Go-clause-feeds

@@ -1,7 +1,7 @@
 -- An opening bracket.
 use Rattle.std.proofs.Common.{◌≡◌, ap, ◌∙◌, ◌∷◌, arith, length}
-use Rattle.gj_json.specs.Levels.{levels_in}
-use Rattle.gj_json.proofs.WholeTokens.{opened_level, none_within}
+use Rattle.gj_json.specs.Internal.OpenLevels.{levels_in}
+use Rattle.gj_json.proofs.Pieces.PassedTokens.{opened_level, none_within}
 use Rattle.gj_json.proofs.reader.Reader.pass_open.Goals as goal
 
 pub returns-clause-above : goal.returns-clause-above

@@ -1,7 +1,7 @@
 -- A front of the part of the piece that is allowed is a front of the piece.
 use Rattle.std.proofs.Common.{ℕ, List, ◌-◌, ◌≤◌, subst, arith}
 use Rattle.std.proofs.lemmas.List.{take-take, length-take-le}
-use Rattle.gj_json.specs.Feeding.{Skips}
+use Rattle.gj_json.specs.Internal.FedReader.{Skips}
 use Rattle.gj_json.proofs.reader.Reader.pass_quiet.Goals as goal
 
 pub returns-else-piece-room-clause-skips : goal.returns-else-piece-room-clause-skips

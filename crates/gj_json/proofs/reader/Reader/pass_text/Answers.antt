@@ -1,6 +1,6 @@
 -- A string is a value by itself.
 use Rattle.std.proofs.Common.{arith}
-use Rattle.gj_json.proofs.WholeTokens.{text_passed}
+use Rattle.gj_json.proofs.Pieces.PassedTokens.{text_passed}
 use Rattle.gj_json.proofs.reader.Reader.pass_text.Goals as goal
 
 pub returns-clause-feeds : goal.returns-clause-feeds

@@ -1,6 +1,6 @@
 -- White space completes nothing, and neither does a colon or a comma.
 use Rattle.std.proofs.Common.{take}
-use Rattle.gj_json.proofs.WholeTokens.{level_within, skips_passed}
+use Rattle.gj_json.proofs.Pieces.PassedTokens.{level_within, skips_passed}
 use Rattle.gj_json.proofs.reader.Reader.pass_token.Goals as goal
 
 pub returns-then-byte-le32-clause-feeds : goal.returns-then-byte-le32-clause-feeds

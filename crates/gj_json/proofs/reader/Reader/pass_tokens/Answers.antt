@@ -1,8 +1,8 @@
 -- The tokens, one behind another.
 use Rattle.std.proofs.Common.{◌≡◌, ◌+◌, ℕ, take, subst, arith}
-use Rattle.gj_json.specs.Feeding.{FeedsWithin}
-use Rattle.gj_json.proofs.Slices.{more_within}
-use Rattle.gj_json.proofs.WholeTokens.{both_within, none_within}
+use Rattle.gj_json.specs.Internal.FedReader.{FeedsWithin}
+use Rattle.gj_json.proofs.Pieces.PieceRests.{more_within}
+use Rattle.gj_json.proofs.Pieces.PassedTokens.{both_within, none_within}
 use Rattle.gj_json.proofs.reader.Reader.pass_tokens.Goals as goal
 
 pub loop-at-init : goal.loop-at-init

@@ -1,6 +1,6 @@
 use Rattle.std.proofs.Common.{◌≤◌, ◌-◌, length, take}
-use Rattle.gj_json.specs.Feeding.{FeedsWithin}
-use Rattle.gj_json.specs.Levels.{levels_in}
+use Rattle.gj_json.specs.Internal.FedReader.{FeedsWithin}
+use Rattle.gj_json.specs.Internal.OpenLevels.{levels_in}
 use Rattle.gj_json.proofs.reader.Reader.pass_tokens.Given as goal
 
 abbrev pub invariant-loop-at : goal.invariant-loop-at

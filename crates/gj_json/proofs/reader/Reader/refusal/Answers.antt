@@ -1,5 +1,5 @@
 -- What was refused goes on to be refused.
-use Rattle.gj_json.proofs.Feeding.{kept_answer}
+use Rattle.gj_json.proofs.Readers.CallsInTurn.{kept_answer}
 use Rattle.gj_json.proofs.reader.Reader.refusal.Goals as goal
 
 pub returns-clause-lasting : goal.returns-clause-lasting

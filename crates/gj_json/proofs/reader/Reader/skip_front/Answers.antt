@@ -1,6 +1,6 @@
 -- No byte is quiet.
-use Rattle.gj_json.proofs.QuietLemmas.{other_mode, no_text}
-use Rattle.gj_json.proofs.Skipping.{nothing_skipped}
+use Rattle.gj_json.proofs.Pieces.QuietModes.{other_mode, no_text}
+use Rattle.gj_json.proofs.Pieces.SkippedRuns.{nothing_skipped}
 use Rattle.gj_json.proofs.reader.Reader.skip_front.Goals as goal
 
 pub returns-else-is_white-clause-skips : goal.returns-else-is_white-clause-skips

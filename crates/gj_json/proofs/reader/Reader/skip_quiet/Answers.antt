@@ -2,8 +2,8 @@
 use Rattle.std.proofs.Common.{inl, inr, take, refl}
 use Rattle.std.proofs.lemmas.List.{length-take-le}
 use Rattle.gj_json.specs.declared.mode.Mode.TheVariants.{StringOn, NameOn}
-use Rattle.gj_json.proofs.QuietLemmas.{quiet_leads, other_mode, no_text}
-use Rattle.gj_json.proofs.Skipping.{leads_skips, text_skips}
+use Rattle.gj_json.proofs.Pieces.QuietModes.{quiet_leads, other_mode, no_text}
+use Rattle.gj_json.proofs.Pieces.SkippedRuns.{leads_skips, text_skips}
 use Rattle.gj_json.proofs.reader.Reader.skip_quiet.Goals as goal
 
 pub returns-in-StringOn-clause-skips : goal.returns-in-StringOn-clause-skips

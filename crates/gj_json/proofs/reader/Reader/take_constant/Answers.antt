@@ -1,6 +1,6 @@
 -- A literal name.
 use Rattle.std.proofs.Common.{arith}
-use Rattle.gj_json.proofs.TokenFeeds.{constant_taken}
+use Rattle.gj_json.proofs.Pieces.TakenTokens.{constant_taken}
 use Rattle.gj_json.proofs.reader.Reader.take_constant.Goals as goal
 
 pub returns-clause-feeds : goal.returns-clause-feeds

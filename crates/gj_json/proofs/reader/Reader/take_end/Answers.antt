@@ -1,10 +1,10 @@
 -- The byte after a value.
 use Rattle.std.proofs.Common.{◌≡◌, get_or, sym, ap, ◌∙◌}
-use Rattle.gj_json.specs.Classes.{class_of}
-use Rattle.gj_json.specs.Levels.{levels_in, inner_of}
-use Rattle.gj_json.specs.Moves.{after_move}
+use Rattle.gj_json.specs.Internal.ByteClasses.{class_of}
+use Rattle.gj_json.specs.Internal.OpenLevels.{levels_in, inner_of}
+use Rattle.gj_json.specs.Internal.Transitions.{after_move}
 use Rattle.gj_json.specs.declared.mode.Move.TheVariants.{Go, Close}
-use Rattle.gj_json.proofs.TokenFeeds.{end_goes, end_closes}
+use Rattle.gj_json.proofs.Pieces.TakenTokens.{end_goes, end_closes}
 use Rattle.gj_json.proofs.reader.Reader.take_end.Goals as goal
 
 pub returns-in-Go-clause-feeds : goal.returns-in-Go-clause-feeds

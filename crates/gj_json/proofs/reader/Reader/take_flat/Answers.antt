@@ -1,6 +1,6 @@
 -- The array is taken as its bytes in turn are, and so are the comma and the white space after it.
 use Rattle.std.proofs.Common.{arith}
-use Rattle.gj_json.proofs.FlatFeeds.{flat_taken, comma_taken}
+use Rattle.gj_json.proofs.Pieces.TakenFlats.{flat_taken, comma_taken}
 use Rattle.gj_json.proofs.reader.Reader.take_flat.Goals as goal
 
 pub returns-then-comma-gt0-clause-feeds : goal.returns-then-comma-gt0-clause-feeds

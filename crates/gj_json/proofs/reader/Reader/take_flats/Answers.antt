@@ -1,8 +1,8 @@
 -- The arrays, one behind another.
 use Rattle.std.proofs.Common.{◌≡◌, ◌∙◌, sym, ◌+◌, ℕ, take, subst, arith}
-use Rattle.gj_json.specs.Feeding.{FeedsAll}
-use Rattle.gj_json.proofs.Feeding
-use Rattle.gj_json.proofs.Slices.{more_within}
+use Rattle.gj_json.specs.Internal.FedReader.{FeedsAll}
+use Rattle.gj_json.proofs.Readers.CallsInTurn
+use Rattle.gj_json.proofs.Pieces.PieceRests.{more_within}
 use Rattle.gj_json.proofs.reader.Reader.take_flats.Goals as goal
 
 pub take_flat-count-requires-clause-deep : goal.take_flat-count-requires-clause-deep
@@ -16,8 +16,8 @@ take_flat-count-requires-clause-inner g c = λ inside. rw (c.loop-at.invariant.l
 pub loop-at-preserved : goal.loop-at-preserved
 loop-at-preserved g c = record {
   within = more_within c.args.piece.now c.loop-at.at c.take_flat-count.result c.loop-at.invariant.within c.take_flat-count.ensures.within;
-  fed = Feeding.piece_all c.args.self.now c.loop-at.self c.take_flat-count.new.self c.args.piece.now c.loop-at.at c.take_flat-count.result c.loop-at.invariant.fed
-      (Feeding.rest_all c.loop-at.self c.take_flat-count.new.self c.args.piece.now c.loop-at.at c.take_flat-count.result c.take_flat-count.ensures.feeds);
+  fed = CallsInTurn.piece_all c.args.self.now c.loop-at.self c.take_flat-count.new.self c.args.piece.now c.loop-at.at c.take_flat-count.result c.loop-at.invariant.fed
+      (CallsInTurn.rest_all c.loop-at.self c.take_flat-count.new.self c.args.piece.now c.loop-at.at c.take_flat-count.result c.take_flat-count.ensures.feeds);
   due = sym c.is_due.ensures ∙ c.if-not-is_due.false;
   levels = c.take_flat-count.ensures.levels ∙ c.loop-at.invariant.levels;
 }
@@ -27,10 +27,10 @@ returns-then-count-eq0-clause-feeds g c =
     let e : c.loop-at.at + c.take_flat-count.result ≡ c.loop-at.at = omega (arith, c.if-count-eq0.true) in
     let P : ℕ → Type 0 = λ n. FeedsAll (g.S.EventSink.heard c.args.sink.now) (g.S.EventSink.heard c.take_flat-count.new.sink) c.args.self.now c.take_flat-count.new.self (take n c.args.piece.now) in
     subst P e
-    (Feeding.piece_all c.args.self.now c.loop-at.self c.take_flat-count.new.self c.args.piece.now c.loop-at.at c.take_flat-count.result c.loop-at.invariant.fed
-    (Feeding.rest_all c.loop-at.self c.take_flat-count.new.self c.args.piece.now c.loop-at.at c.take_flat-count.result c.take_flat-count.ensures.feeds))
+    (CallsInTurn.piece_all c.args.self.now c.loop-at.self c.take_flat-count.new.self c.args.piece.now c.loop-at.at c.take_flat-count.result c.loop-at.invariant.fed
+    (CallsInTurn.rest_all c.loop-at.self c.take_flat-count.new.self c.args.piece.now c.loop-at.at c.take_flat-count.result c.take_flat-count.ensures.feeds))
 
 pub returns-then-not-is_due-clause-feeds : goal.returns-then-not-is_due-clause-feeds
 returns-then-not-is_due-clause-feeds g c =
-    Feeding.piece_all c.args.self.now c.loop-at.self c.take_flat-count.new.self c.args.piece.now c.loop-at.at c.take_flat-count.result c.loop-at.invariant.fed
-    (Feeding.rest_all c.loop-at.self c.take_flat-count.new.self c.args.piece.now c.loop-at.at c.take_flat-count.result c.take_flat-count.ensures.feeds)
+    CallsInTurn.piece_all c.args.self.now c.loop-at.self c.take_flat-count.new.self c.args.piece.now c.loop-at.at c.take_flat-count.result c.loop-at.invariant.fed
+    (CallsInTurn.rest_all c.loop-at.self c.take_flat-count.new.self c.args.piece.now c.loop-at.at c.take_flat-count.result c.take_flat-count.ensures.feeds)

@@ -1,6 +1,6 @@
 use Rattle.std.proofs.Common.{◌≡◌, true, ◌≤◌, ◌-◌, length, take}
-use Rattle.gj_json.specs.Feeding.{FeedsAll}
-use Rattle.gj_json.specs.FlatParts.{awaits}
+use Rattle.gj_json.specs.Internal.FedReader.{FeedsAll}
+use Rattle.gj_json.specs.Internal.FlatParts.{awaits}
 use Rattle.gj_json.proofs.reader.Reader.take_flats.Given as goal
 
 abbrev pub invariant-loop-at : goal.invariant-loop-at

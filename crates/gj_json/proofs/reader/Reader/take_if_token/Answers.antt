@@ -1,5 +1,5 @@
 -- The first bracket of a text, and then tokens.
-use Rattle.gj_json.proofs.Feeding.{piece_all, rest_all}
+use Rattle.gj_json.proofs.Readers.CallsInTurn.{piece_all, rest_all}
 use Rattle.gj_json.proofs.reader.Reader.take_if_token.Goals as goal
 
 pub returns-clause-feeds : goal.returns-clause-feeds

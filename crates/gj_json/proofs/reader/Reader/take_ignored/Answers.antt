@@ -1,8 +1,8 @@
 -- What was passed over does not matter to the sink.
 use Rattle.std.proofs.Common.{◌≡◌, ◌-◌, subst, sym, arith}
-use Rattle.gj_json.specs.Feeding.{above}
+use Rattle.gj_json.specs.Internal.FedReader.{above}
 use Rattle.gj_json.specs.Ignored.{Leaves}
-use Rattle.gj_json.proofs.Ignoring.{ignored_by}
+use Rattle.gj_json.proofs.Events.IgnoredEvents.{ignored_by}
 use Rattle.gj_json.proofs.reader.Reader.take_ignored.Goals as goal
 
 pub returns-clause-feeds : goal.returns-clause-feeds

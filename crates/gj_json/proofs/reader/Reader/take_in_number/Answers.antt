@@ -1,7 +1,7 @@
 -- A byte while a number is under way: the number goes on with it, or it has ended before it, or neither.
 use Rattle.std.proofs.Common.{None, Err, refl, append-nil}
-use Rattle.gj_json.specs.Step.{move_by}
-use Rattle.gj_json.proofs.Alike
+use Rattle.gj_json.specs.Internal.ReaderStep.{move_by}
+use Rattle.gj_json.proofs.Readers.StepsAlike
 use Rattle.gj_json.specs.declared.mode.NumberTurn.TheVariants.{Goes, Ends, Refuses}
 use Rattle.gj_json.proofs.reader.Reader.take_in_number.Goals as goal
 
@@ -23,8 +23,8 @@ returns-in-Goes g c = record {
       begins = λ state t f h. let x = rw (c.requires.number) at t in cc;
     },
   );
-  applied = Alike.goes c.args.self.now _ c.go.new.self c.args.byte c.requires.number (record { limits = refl; fault = refl; start = refl; offset = refl; mode = refl; levels = refl }) c.go.ensures.passes;
-  told = λ events h. (let e = Alike.goes_tells c.args.self.now None c.args.byte c.requires.number in rw (e, append-nil) h);
+  applied = StepsAlike.goes c.args.self.now _ c.go.new.self c.args.byte c.requires.number (record { limits = refl; fault = refl; start = refl; offset = refl; mode = refl; levels = refl }) c.go.ensures.passes;
+  told = λ events h. (let e = StepsAlike.goes_tells c.args.self.now None c.args.byte c.requires.number in rw (e, append-nil) h);
 }
 
 pub returns-then-may_end : goal.returns-then-may_end
@@ -45,7 +45,7 @@ returns-then-may_end g c = record {
       begins = λ state t f h. let x = rw (c.requires.number) at t in cc;
     },
   );
-  applied = Alike.applied c.args.self.now _ c.take_other.new.self (move_by c.args.self.now Ends c.args.byte) c.take_other.result (record { limits = refl; fault = refl; start = refl; offset = refl; mode = refl; levels = refl }) c.take_other.ensures.applied;
+  applied = StepsAlike.applied c.args.self.now _ c.take_other.new.self (move_by c.args.self.now Ends c.args.byte) c.take_other.result (record { limits = refl; fault = refl; start = refl; offset = refl; mode = refl; levels = refl }) c.take_other.ensures.applied;
   told = λ events h. c.take_other.ensures.heard events h;
 }
 
@@ -58,6 +58,6 @@ returns-else-may_end g c = record {
     values = λ e bytes m k n. cc;
   };
   goes = λ e. cc;
-  applied = Alike.refused c.args.self.now _ c.refuse.new.self c.args.byte (Err c.refuse.result) c.requires.number (record { limits = refl; fault = refl; start = refl; offset = refl; mode = refl; levels = refl }) (record { fault = c.refuse.result; answer = refl; refused = c.refuse.ensures.refused });
+  applied = StepsAlike.refused c.args.self.now _ c.refuse.new.self c.args.byte (Err c.refuse.result) c.requires.number (record { limits = refl; fault = refl; start = refl; offset = refl; mode = refl; levels = refl }) (record { fault = c.refuse.result; answer = refl; refused = c.refuse.ensures.refused });
   told = λ events h. rw append-nil h;
 }

@@ -3,16 +3,16 @@ use Rattle.std.proofs.Common.{◌≡◌, ◌∷◌, [], None, refl, sym, ◌∙�
 use Rattle.gj_json.specs.declared.mode.NumberTurn.TheVariants.{Ends}
 use Rattle.gj_json.specs.declared.mode.StringState.{StringState}
 use Rattle.gj_json.specs.declared.mode.StringState.TheVariants.{Plain}
-use Rattle.gj_json.specs.Machine.{string_next, string_goes}
-use Rattle.gj_json.proofs.Alike
-use Rattle.gj_json.proofs.OneCharacter.{one_character, reads_is}
+use Rattle.gj_json.specs.Internal.TextMachine.{string_next, string_goes}
+use Rattle.gj_json.proofs.Readers.StepsAlike
+use Rattle.gj_json.proofs.Grammar.OneCharacter.{one_character, reads_is}
 use Rattle.gj_json.proofs.reader.Reader.take_in_text.Goals as goal
 
 pub returns-in-Reads : goal.returns-in-Reads
 returns-in-Reads g c =
     let old = c.args.self.now in
-    let from = Alike.first_text old.mode c.args.between c.args.state Plain c.requires.text in
-    let to = Alike.last_text old.mode c.args.between c.args.state Plain c.requires.text in
+    let from = StepsAlike.first_text old.mode c.args.between c.args.state Plain c.requires.text in
+    let to = StepsAlike.last_text old.mode c.args.between c.args.state Plain c.requires.text in
     let move = sym c.next_string.ensures.value ∙ c.in-Reads.is in
     let step = reads_is (string_next c.args.state c.args.byte) c.in-Reads.character (one_character c.args.state c.args.byte) move in
     record {
@@ -36,15 +36,15 @@ returns-in-Reads g c =
           begins = λ state m t f. let x = sym t ∙ from.text in cc;
         },
       );
-      applied = Alike.reads old _ c.go.new.self c.args.between c.args.state Ends c.args.byte c.in-Reads.character c.requires.text move
+      applied = StepsAlike.reads old _ c.go.new.self c.args.between c.args.state Ends c.args.byte c.in-Reads.character c.requires.text move
           (record { limits = refl; fault = refl; start = refl; offset = refl; mode = refl; levels = refl }) c.go.ensures.passes;
-      told = λ events h. let e = Alike.reads_tells old c.args.between c.args.state Ends None c.args.byte c.in-Reads.character c.requires.text move in rw (e, append-nil) h;
+      told = λ events h. let e = StepsAlike.reads_tells old c.args.between c.args.state Ends None c.args.byte c.in-Reads.character c.requires.text move in rw (e, append-nil) h;
     }
 
 pub returns-in_default : goal.returns-in_default
 returns-in_default g c =
     let old = c.args.self.now in
-    let from = Alike.first_text old.mode c.args.between c.args.state Plain c.requires.text in
+    let from = StepsAlike.first_text old.mode c.args.between c.args.state Plain c.requires.text in
     record {
       turn = Ends;
       value = None;
@@ -61,7 +61,7 @@ returns-in_default g c =
           goes = λ state next more so_far t f k.
               let same : state ≡ c.args.state = (let x = sym t ∙ from.text in cc) in
               let P : StringState → Type 0 = λ s. string_next s c.args.byte ≡ string_goes more next in
-              let e : more ≡ [] = Alike.no_more (string_next c.args.state c.args.byte) more next (subst P same f) (λ d r. c.in_default.not-Reads d (c.next_string.ensures.value ∙ r)) in
+              let e : more ≡ [] = StepsAlike.no_more (string_next c.args.state c.args.byte) more next (subst P same f) (λ d r. c.in_default.not-Reads d (c.next_string.ensures.value ∙ r)) in
               rw (c.take_other.ensures.content, e, append-nil) k;
           begins = λ state m t f. let x = sym t ∙ from.text in cc;
         },

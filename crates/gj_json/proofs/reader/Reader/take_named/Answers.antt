@@ -1,7 +1,7 @@
 -- A name, and its colon.
 use Rattle.std.proofs.Common.{◌-◌, arith}
-use Rattle.gj_json.specs.FlatParts.{cut}
-use Rattle.gj_json.proofs.TokenFeeds.{named_taken}
+use Rattle.gj_json.specs.Internal.FlatParts.{cut}
+use Rattle.gj_json.proofs.Pieces.TakenTokens.{named_taken}
 use Rattle.gj_json.proofs.reader.Reader.take_named.Goals as goal
 
 pub returns-clause-feeds : goal.returns-clause-feeds

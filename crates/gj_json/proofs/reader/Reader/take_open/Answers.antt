@@ -1,7 +1,7 @@
 -- An opening bracket.
 use Rattle.std.proofs.Common.{ap, ◌∙◌, arith}
-use Rattle.gj_json.specs.Levels.{levels_in}
-use Rattle.gj_json.proofs.TokenFeeds.{open_taken}
+use Rattle.gj_json.specs.Internal.OpenLevels.{levels_in}
+use Rattle.gj_json.proofs.Pieces.TakenTokens.{open_taken}
 use Rattle.gj_json.proofs.reader.Reader.take_open.Goals as goal
 
 pub returns-clause-feeds : goal.returns-clause-feeds

@@ -1,7 +1,7 @@
 -- The piece, front by front, and behind each what does not matter to the sink.
 use Rattle.std.proofs.Common.{◌+◌}
-use Rattle.gj_json.proofs.Feeding
-use Rattle.gj_json.proofs.Slices.{more_within}
+use Rattle.gj_json.proofs.Readers.CallsInTurn
+use Rattle.gj_json.proofs.Pieces.PieceRests.{more_within}
 use Rattle.gj_json.proofs.reader.Reader.take_piece.Goals as goal
 
 pub loop-at-preserved : goal.loop-at-preserved
@@ -12,20 +12,20 @@ loop-at-preserved g c =
     let also = rw (c.in-Ok-take_if_opened.is) at c.take_if_opened.ensures.within in
     let at = c.loop-at.at + c.in-Ok-take_some.count in
     let piece = c.args.piece.now in
-    let some = Feeding.piece_all c.args.self.now c.loop-at.self c.take_some.new.self piece c.loop-at.at c.in-Ok-take_some.count c.loop-at.invariant.fed
-    (Feeding.rest_all c.loop-at.self c.take_some.new.self piece c.loop-at.at c.in-Ok-take_some.count fed) in
+    let some = CallsInTurn.piece_all c.args.self.now c.loop-at.self c.take_some.new.self piece c.loop-at.at c.in-Ok-take_some.count c.loop-at.invariant.fed
+    (CallsInTurn.rest_all c.loop-at.self c.take_some.new.self piece c.loop-at.at c.in-Ok-take_some.count fed) in
     record {
       within = more_within piece at c.in-Ok-take_if_opened.count (more_within piece c.loop-at.at c.in-Ok-take_some.count c.loop-at.invariant.within within.1) also;
-      fed = Feeding.piece_all c.args.self.now c.take_some.new.self c.take_if_opened.new.self piece at c.in-Ok-take_if_opened.count some
-          (Feeding.rest_all c.take_some.new.self c.take_if_opened.new.self piece at c.in-Ok-take_if_opened.count passed);
+      fed = CallsInTurn.piece_all c.args.self.now c.take_some.new.self c.take_if_opened.new.self piece at c.in-Ok-take_if_opened.count some
+          (CallsInTurn.rest_all c.take_some.new.self c.take_if_opened.new.self piece at c.in-Ok-take_if_opened.count passed);
     }
 
 pub returns-in-Err-take_some : goal.returns-in-Err-take_some
 returns-in-Err-take_some g c =
     let fed = rw (c.in-Err-take_some.is) at c.take_some.ensures.feeds in
     record {
-      feeds = Feeding.piece_to c.args.self.now c.loop-at.self c.take_some.new.self c.args.piece.now c.loop-at.at c.in-Err-take_some.fault c.loop-at.invariant.fed
-          (Feeding.rest_to c.loop-at.self c.take_some.new.self c.args.piece.now c.loop-at.at c.in-Err-take_some.fault fed);
+      feeds = CallsInTurn.piece_to c.args.self.now c.loop-at.self c.take_some.new.self c.args.piece.now c.loop-at.at c.in-Err-take_some.fault c.loop-at.invariant.fed
+          (CallsInTurn.rest_to c.loop-at.self c.take_some.new.self c.args.piece.now c.loop-at.at c.in-Err-take_some.fault fed);
     }
 
 pub returns-in-Err-take_if_opened : goal.returns-in-Err-take_if_opened
@@ -34,9 +34,9 @@ returns-in-Err-take_if_opened g c =
     let passed = rw (c.in-Err-take_if_opened.is) at c.take_if_opened.ensures.feeds in
     let at = c.loop-at.at + c.in-Ok-take_some.count in
     let piece = c.args.piece.now in
-    let some = Feeding.piece_all c.args.self.now c.loop-at.self c.take_some.new.self piece c.loop-at.at c.in-Ok-take_some.count c.loop-at.invariant.fed
-    (Feeding.rest_all c.loop-at.self c.take_some.new.self piece c.loop-at.at c.in-Ok-take_some.count fed) in
+    let some = CallsInTurn.piece_all c.args.self.now c.loop-at.self c.take_some.new.self piece c.loop-at.at c.in-Ok-take_some.count c.loop-at.invariant.fed
+    (CallsInTurn.rest_all c.loop-at.self c.take_some.new.self piece c.loop-at.at c.in-Ok-take_some.count fed) in
     record {
-      feeds = Feeding.piece_to c.args.self.now c.take_some.new.self c.take_if_opened.new.self piece at c.in-Err-take_if_opened.fault some
-          (Feeding.rest_to c.take_some.new.self c.take_if_opened.new.self piece at c.in-Err-take_if_opened.fault passed);
+      feeds = CallsInTurn.piece_to c.args.self.now c.take_some.new.self c.take_if_opened.new.self piece at c.in-Err-take_if_opened.fault some
+          (CallsInTurn.rest_to c.take_some.new.self c.take_if_opened.new.self piece at c.in-Err-take_if_opened.fault passed);
     }

@@ -1,10 +1,10 @@
 -- Quiet bytes, and then one byte, within levels that are open.
 use Rattle.std.proofs.Common.{◌<◌, List, length, take, arith}
 use Rattle.gj_json.specs.declared.event.Event.{Event}
-use Rattle.gj_json.specs.Feeding.{above}
+use Rattle.gj_json.specs.Internal.FedReader.{above}
 use Rattle.gj_json.specs.Ignored.{Leaves}
-use Rattle.gj_json.proofs.Feeding
-use Rattle.gj_json.proofs.Ignoring.{takes_within, all_from, to_from}
+use Rattle.gj_json.proofs.Readers.CallsInTurn
+use Rattle.gj_json.proofs.Events.IgnoredEvents.{takes_within, all_from, to_from}
 use Rattle.gj_json.proofs.reader.Reader.take_some_within.Goals as goal
 
 pub returns-then-quiet-piece-clause-feeds : goal.returns-then-quiet-piece-clause-feeds
@@ -13,7 +13,7 @@ returns-then-quiet-piece-clause-feeds c =
     let mid = c.skip_front-quiet.new.self in
     let P : List Event → Type 0 = λ events. Leaves (above c.args.floor old) events (above c.args.floor mid) in
     all_from c.args.floor old mid mid (take c.skip_front-quiet.result c.args.piece.now) c.skip_front-quiet.ensures.skips.levels
-    (Feeding.front_skipped {heard = P} old mid c.args.piece.now c.skip_front-quiet.result c.requires.live c.skip_front-quiet.ensures.within c.requires.room c.skip_front-quiet.ensures.skips)
+    (CallsInTurn.front_skipped {heard = P} old mid c.args.piece.now c.skip_front-quiet.result c.requires.live c.skip_front-quiet.ensures.within c.requires.room c.skip_front-quiet.ensures.skips)
 
 pub returns-in-Ok-clause-feeds : goal.returns-in-Ok-clause-feeds
 returns-in-Ok-clause-feeds c =
@@ -22,9 +22,9 @@ returns-in-Ok-clause-feeds c =
     let w : c.skip_front-quiet.result < length c.args.piece.now = omega (arith, c.skip_front-quiet.ensures.within, c.if-quiet-piece.false) in
     let s = c.skip_front-quiet.ensures.skips in
     let P : List Event → Type 0 = λ events. Leaves (above c.args.floor old) events (above c.args.floor mid) in
-    let skipped = Feeding.front_skipped {heard = P} old mid c.args.piece.now c.skip_front-quiet.result c.requires.live c.skip_front-quiet.ensures.within c.requires.room s in
+    let skipped = CallsInTurn.front_skipped {heard = P} old mid c.args.piece.now c.skip_front-quiet.result c.requires.live c.skip_front-quiet.ensures.within c.requires.room s in
     all_from c.args.floor old mid c.take_byte.new.self _ s.levels
-    (Feeding.some_all old mid c.take_byte.new.self c.args.piece.now c.skip_front-quiet.result c.take_byte.result w c.requires.room skipped
+    (CallsInTurn.some_all old mid c.take_byte.new.self c.args.piece.now c.skip_front-quiet.result c.take_byte.result w c.requires.room skipped
     (takes_within c.args.floor old mid c.take_byte.new.self _ c.take_byte.result s.levels c.requires.above c.take_byte.ensures) c.in-Ok.field-0 c.in-Ok.is)
 
 pub returns-in-Err-clause-feeds : goal.returns-in-Err-clause-feeds
@@ -34,7 +34,7 @@ returns-in-Err-clause-feeds c =
     let w : c.skip_front-quiet.result < length c.args.piece.now = omega (arith, c.skip_front-quiet.ensures.within, c.if-quiet-piece.false) in
     let s = c.skip_front-quiet.ensures.skips in
     let P : List Event → Type 0 = λ events. Leaves (above c.args.floor old) events (above c.args.floor mid) in
-    let skipped = Feeding.front_skipped {heard = P} old mid c.args.piece.now c.skip_front-quiet.result c.requires.live c.skip_front-quiet.ensures.within c.requires.room s in
+    let skipped = CallsInTurn.front_skipped {heard = P} old mid c.args.piece.now c.skip_front-quiet.result c.requires.live c.skip_front-quiet.ensures.within c.requires.room s in
     to_from c.args.floor old mid c.take_byte.new.self c.args.piece.now c.in-Err.fault s.levels
-    (Feeding.some_to old mid c.take_byte.new.self c.args.piece.now c.skip_front-quiet.result c.take_byte.result w c.requires.room skipped
+    (CallsInTurn.some_to old mid c.take_byte.new.self c.args.piece.now c.skip_front-quiet.result c.take_byte.result w c.requires.room skipped
     (takes_within c.args.floor old mid c.take_byte.new.self _ c.take_byte.result s.levels c.requires.above c.take_byte.ensures) c.in-Err.fault c.in-Err.is)

@@ -1,7 +1,7 @@
 -- A string of plain characters.
 use Rattle.std.proofs.Common.{◌-◌, arith}
-use Rattle.gj_json.specs.FlatParts.{cut}
-use Rattle.gj_json.proofs.TokenFeeds.{text_taken}
+use Rattle.gj_json.specs.Internal.FlatParts.{cut}
+use Rattle.gj_json.proofs.Pieces.TakenTokens.{text_taken}
 use Rattle.gj_json.proofs.reader.Reader.take_text.Goals as goal
 
 pub returns-clause-feeds : goal.returns-clause-feeds

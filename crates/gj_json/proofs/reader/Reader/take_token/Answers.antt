@@ -1,5 +1,5 @@
 -- A name and its value.
-use Rattle.gj_json.proofs.Feeding.{piece_all, rest_all}
+use Rattle.gj_json.proofs.Readers.CallsInTurn.{piece_all, rest_all}
 use Rattle.gj_json.proofs.reader.Reader.take_token.Goals as goal
 
 pub returns-else-named-piece-clause-feeds : goal.returns-else-named-piece-clause-feeds

@@ -1,15 +1,15 @@
 -- The tokens, one after another.
 use Rattle.std.proofs.Common.{◌≡◌, ◌+◌, ℕ, take, subst, arith}
-use Rattle.gj_json.specs.Feeding.{FeedsAll}
-use Rattle.gj_json.proofs.Feeding
-use Rattle.gj_json.proofs.Slices.{more_within}
+use Rattle.gj_json.specs.Internal.FedReader.{FeedsAll}
+use Rattle.gj_json.proofs.Readers.CallsInTurn
+use Rattle.gj_json.proofs.Pieces.PieceRests.{more_within}
 use Rattle.gj_json.proofs.reader.Reader.take_tokens.Goals as goal
 
 pub loop-at-preserved : goal.loop-at-preserved
 loop-at-preserved g c = record {
   within = more_within c.args.piece.now c.loop-at.at c.take_token-count.result c.loop-at.invariant.within c.take_token-count.ensures.within;
-  fed = Feeding.piece_all c.args.self.now c.loop-at.self c.take_token-count.new.self c.args.piece.now c.loop-at.at c.take_token-count.result c.loop-at.invariant.fed
-      (Feeding.rest_all c.loop-at.self c.take_token-count.new.self c.args.piece.now c.loop-at.at c.take_token-count.result c.take_token-count.ensures.feeds);
+  fed = CallsInTurn.piece_all c.args.self.now c.loop-at.self c.take_token-count.new.self c.args.piece.now c.loop-at.at c.take_token-count.result c.loop-at.invariant.fed
+      (CallsInTurn.rest_all c.loop-at.self c.take_token-count.new.self c.args.piece.now c.loop-at.at c.take_token-count.result c.take_token-count.ensures.feeds);
 }
 
 pub returns-then-count-eq0-clause-feeds : goal.returns-then-count-eq0-clause-feeds
@@ -17,11 +17,11 @@ returns-then-count-eq0-clause-feeds g c =
     let e : c.loop-at.at + c.take_token-count.result ≡ c.loop-at.at = omega (arith, c.if-count-eq0.true) in
     let P : ℕ → Type 0 = λ n. FeedsAll (g.S.EventSink.heard c.args.sink.now) (g.S.EventSink.heard c.take_token-count.new.sink) c.args.self.now c.take_token-count.new.self (take n c.args.piece.now) in
     subst P e
-    (Feeding.piece_all c.args.self.now c.loop-at.self c.take_token-count.new.self c.args.piece.now c.loop-at.at c.take_token-count.result c.loop-at.invariant.fed
-    (Feeding.rest_all c.loop-at.self c.take_token-count.new.self c.args.piece.now c.loop-at.at c.take_token-count.result c.take_token-count.ensures.feeds))
+    (CallsInTurn.piece_all c.args.self.now c.loop-at.self c.take_token-count.new.self c.args.piece.now c.loop-at.at c.take_token-count.result c.loop-at.invariant.fed
+    (CallsInTurn.rest_all c.loop-at.self c.take_token-count.new.self c.args.piece.now c.loop-at.at c.take_token-count.result c.take_token-count.ensures.feeds))
 
 -- up to a container in which no event matters
 pub returns-then-is_ignored-clause-feeds : goal.returns-then-is_ignored-clause-feeds
 returns-then-is_ignored-clause-feeds g c =
-    Feeding.piece_all c.args.self.now c.loop-at.self c.take_token-count.new.self c.args.piece.now c.loop-at.at c.take_token-count.result c.loop-at.invariant.fed
-    (Feeding.rest_all c.loop-at.self c.take_token-count.new.self c.args.piece.now c.loop-at.at c.take_token-count.result c.take_token-count.ensures.feeds)
+    CallsInTurn.piece_all c.args.self.now c.loop-at.self c.take_token-count.new.self c.args.piece.now c.loop-at.at c.take_token-count.result c.loop-at.invariant.fed
+    (CallsInTurn.rest_all c.loop-at.self c.take_token-count.new.self c.args.piece.now c.loop-at.at c.take_token-count.result c.take_token-count.ensures.feeds)

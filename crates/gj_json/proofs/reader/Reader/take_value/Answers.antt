@@ -1,7 +1,7 @@
 -- A string and the byte after it; no array of numbers, and then a bracket.
 use Rattle.std.proofs.Common.{arith}
-use Rattle.gj_json.proofs.Feeding.{piece_all, rest_all}
-use Rattle.gj_json.proofs.TokenFeeds.{nothing_then}
+use Rattle.gj_json.proofs.Readers.CallsInTurn.{piece_all, rest_all}
+use Rattle.gj_json.proofs.Pieces.TakenTokens.{nothing_then}
 use Rattle.gj_json.proofs.reader.Reader.take_value.Goals as goal
 
 pub returns-else-text-piece-clause-feeds : goal.returns-else-text-piece-clause-feeds

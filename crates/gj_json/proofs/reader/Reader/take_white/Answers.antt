@@ -1,5 +1,5 @@
 -- White space.
-use Rattle.gj_json.proofs.Feeding.{front_skipped}
+use Rattle.gj_json.proofs.Readers.CallsInTurn.{front_skipped}
 use Rattle.gj_json.proofs.reader.Reader.take_white.Goals as goal
 
 pub returns-then-piece-gt1-clause-feeds : goal.returns-then-piece-gt1-clause-feeds

@@ -1,9 +1,9 @@
 -- The piece, front by front, within levels that are open.
 use Rattle.std.proofs.Common.{◌+◌}
-use Rattle.gj_json.proofs.Feeding
-use Rattle.gj_json.proofs.Ignoring.{all_more, to_more}
-use Rattle.gj_json.proofs.Slices.{more_within}
-use Rattle.gj_json.proofs.WholeTokens.{both_within}
+use Rattle.gj_json.proofs.Readers.CallsInTurn
+use Rattle.gj_json.proofs.Events.IgnoredEvents.{all_more, to_more}
+use Rattle.gj_json.proofs.Pieces.PieceRests.{more_within}
+use Rattle.gj_json.proofs.Pieces.PassedTokens.{both_within}
 use Rattle.gj_json.proofs.reader.Reader.take_within.Goals as goal
 
 pub loop-at-preserved : goal.loop-at-preserved
@@ -19,7 +19,7 @@ loop-at-preserved c =
     record {
       within = more_within piece at c.in-Ok.count (more_within piece c.loop-at.at c.pass_tokens-at.result c.loop-at.invariant.within c.pass_tokens-at.ensures.within) within.1;
       floor = c.take_some_within.ensures.floor;
-      fed = Feeding.piece_all c.args.self.now mid last piece at c.in-Ok.count passed (Feeding.rest_all mid last piece at c.in-Ok.count (all_more c.args.floor c.args.self.now mid last _ fed));
+      fed = CallsInTurn.piece_all c.args.self.now mid last piece at c.in-Ok.count passed (CallsInTurn.rest_all mid last piece at c.in-Ok.count (all_more c.args.floor c.args.self.now mid last _ fed));
     }
 
 pub returns-in-Err-clause-feeds : goal.returns-in-Err-clause-feeds
@@ -31,7 +31,7 @@ returns-in-Err-clause-feeds c =
     let at = c.loop-at.at + c.pass_tokens-at.result in
     let passed = both_within c.args.floor c.args.self.now next mid piece c.loop-at.at c.pass_tokens-at.result c.loop-at.invariant.fed c.pass_tokens-at.ensures.feeds in
     let fed = rw (c.in-Err.is) at c.take_some_within.ensures.feeds in
-    Feeding.piece_to c.args.self.now mid last piece at c.in-Err.fault passed (Feeding.rest_to mid last piece at c.in-Err.fault (to_more c.args.floor c.args.self.now mid last _ c.in-Err.fault fed))
+    CallsInTurn.piece_to c.args.self.now mid last piece at c.in-Err.fault passed (CallsInTurn.rest_to mid last piece at c.in-Err.fault (to_more c.args.floor c.args.self.now mid last _ c.in-Err.fault fed))
 
 pub returns-then-at-piece-clause-feeds : goal.returns-then-at-piece-clause-feeds
 returns-then-at-piece-clause-feeds c =

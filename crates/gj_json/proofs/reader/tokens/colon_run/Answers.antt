@@ -1,6 +1,6 @@
 -- The colon, and the white space around it.
 use Rattle.std.proofs.Common.{arith}
-use Rattle.gj_json.proofs.TokenSpelled.{colon_cut, first_colon_cut}
+use Rattle.gj_json.proofs.Grammar.SpelledTokens.{colon_cut, first_colon_cut}
 use Rattle.gj_json.proofs.reader.tokens.colon_run.Goals as goal
 
 pub returns-then-piece-eq58-clause-leads : goal.returns-then-piece-eq58-clause-leads

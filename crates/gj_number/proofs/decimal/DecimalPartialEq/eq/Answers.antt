@@ -1,6 +1,6 @@
 use Rattle.std.proofs.Common.{◌≡◌, rules}
 use Rattle.gj_number.specs.Exact.{same_parts}
-use Rattle.gj_number.proofs.Same.{same_parts_value}
+use Rattle.gj_number.proofs.Value.SameDecimals.{same_parts_value}
 use Rattle.gj_number.proofs.decimal.DecimalPartialEq.eq.Goals as goal
 
 pub returns-clause-value : goal.returns-clause-value

@@ -1,6 +1,6 @@
 use Rattle.std.proofs.Common.{inr}
-use Rattle.gj_number.specs.Digits.{kept_of}
-use Rattle.gj_number.proofs.Keeping.{zero_natural, past_natural}
+use Rattle.gj_number.specs.Internal.KeptDigits.{kept_of}
+use Rattle.gj_number.proofs.Literals.OneDigitMore.{zero_natural, past_natural}
 use Rattle.gj_number.proofs.digits.Digits.add_zero.Goals as goal
 
 pub returns-then-self-lt-MOST_PLACES : goal.returns-then-self-lt-MOST_PLACES

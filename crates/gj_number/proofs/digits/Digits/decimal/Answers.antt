@@ -1,10 +1,10 @@
 use Rattle.std.proofs.Common.{◌≡◌, ◌<◌, ◌≤◌, arith, ◌⊎◌, inl, inr, refl, sym, ◌∙◌, ap, Some, rules, w16}
 use mir.Val.{SFits}
 use Rattle.std.proofs.lemmas.Int.{to_z-of_z}
-use Rattle.gj_number.specs.Digits.{kept_of}
-use Rattle.gj_number.proofs.Held.{decimal_limits, zero_held, far_not_held, power_not_held, decimal_held}
-use Rattle.gj_number.proofs.Last.{kept_below, last_is}
-use Rattle.gj_number.proofs.Limits.{exact_of}
+use Rattle.gj_number.specs.Internal.KeptDigits.{kept_of}
+use Rattle.gj_number.proofs.Value.HeldDecimals.{decimal_limits, zero_held, far_not_held, power_not_held, decimal_held}
+use Rattle.gj_number.proofs.Literals.LastDigits.{kept_below, last_is}
+use Rattle.gj_number.proofs.Value.HeldLimits.{exact_of}
 use Rattle.gj_number.proofs.digits.Digits.decimal.Goals as goal
 
 pub new-requires : goal.new-requires

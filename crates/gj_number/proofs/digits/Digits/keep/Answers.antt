@@ -1,7 +1,7 @@
 use Rattle.std.proofs.Common.{◌≡◌, ◌≤◌, ◌+◌, ◌*◌, ◌^◌, ◌<◌, ℕ, min, subst, sym, arith}
-use Rattle.gj_number.specs.Kept.{kept_number}
-use Rattle.gj_number.proofs.Bounds.{head_small, rest_small, rest_more, kept_second}
-use Rattle.gj_number.proofs.Last.{last_of}
+use Rattle.gj_number.specs.Internal.KeptParts.{kept_number}
+use Rattle.gj_number.proofs.Literals.DigitBounds.{head_small, rest_small, rest_more, kept_second}
+use Rattle.gj_number.proofs.Literals.LastDigits.{last_of}
 use Rattle.gj_number.proofs.digits.Digits.keep.Goals.{else-self-eq0-via-then-self-eq0+else-self-lt-HEAD_DIGITS, else-self-eq0-via-else-self-eq0}
 use Rattle.gj_number.proofs.digits.Digits.keep.Goals as goal
 

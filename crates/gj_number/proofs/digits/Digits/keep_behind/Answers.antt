@@ -1,5 +1,5 @@
 -- The last digit is the one that is kept now.
-use Rattle.gj_number.proofs.Last.{last_of}
+use Rattle.gj_number.proofs.Literals.LastDigits.{last_of}
 use Rattle.gj_number.proofs.digits.Digits.keep_behind.Goals as goal
 
 pub invariant_of-self-clause-stripped : goal.invariant_of-self-clause-stripped

@@ -1,4 +1,4 @@
-use Rattle.gj_number.proofs.Bounds.{rest_below, head_below}
+use Rattle.gj_number.proofs.Literals.DigitBounds.{rest_below, head_below}
 use Rattle.gj_number.proofs.digits.Digits.mark_far.Goals as goal
 
 pub invariant_of-self-clause-head_bounded : goal.invariant_of-self-clause-head_bounded

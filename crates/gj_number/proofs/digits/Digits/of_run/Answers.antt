@@ -1,7 +1,7 @@
 use Rattle.std.proofs.Common.{ℕ, ◌-◌, subst, sym, arith}
-use Rattle.gj_number.specs.Kept.{HasDigits}
-use Rattle.gj_number.proofs.Running.{run_kept, kept_small}
-use Rattle.gj_number.proofs.Normal.{ten_above_zero}
+use Rattle.gj_number.specs.Internal.KeptParts.{HasDigits}
+use Rattle.gj_number.proofs.Literals.RunsOfDigits.{run_kept, kept_small}
+use Rattle.gj_number.proofs.Value.NormalForm.{ten_above_zero}
 use Rattle.gj_number.proofs.digits.Digits.of_run.Goals as goal
 
 pub returns-clause-keeps : goal.returns-clause-keeps

@@ -1,8 +1,8 @@
 -- Where the number is not held, digits change nothing.
 use Rattle.std.proofs.Common.{◌≡◌, ◌+◌, take, length, arith}
 use Rattle.std.proofs.lemmas.List.{length-take-le}
-use Rattle.gj_number.specs.Digits.{kept_of}
-use Rattle.gj_number.proofs.Far.{passed_natural, passed_fraction}
+use Rattle.gj_number.specs.Internal.KeptDigits.{kept_of}
+use Rattle.gj_number.proofs.Value.UnheldNumbers.{passed_natural, passed_fraction}
 use Rattle.gj_number.proofs.digits.Digits.pass_run.Goals as goal
 
 pub returns-then-self-eq-FAR-clause-natural : goal.returns-then-self-eq-FAR-clause-natural

@@ -2,10 +2,10 @@
 use Rattle.std.proofs.Common.{◌≡◌, ℕ, ◌+◌, ◌-◌, ◌<◌, List, length, get_or, take, fold, All, inl, inr, ◌∙◌, subst, rules, arith}
 use Rattle.std.proofs.lemmas.Bool.Decides.{nat_tests}
 use Rattle.gj_number.specs.Bytes.{zero_digit, IsDigit, IsFirstDigit}
-use Rattle.gj_number.specs.Digits.{Keeps, RunKeeps, kept_of}
+use Rattle.gj_number.specs.Internal.KeptDigits.{Keeps, RunKeeps, kept_of}
 use Rattle.gj_number.specs.Value.{with_digit}
-use Rattle.gj_number.proofs.Fronts.{rest_is}
-use Rattle.gj_number.proofs.Running.{nothing_of, first_run, first_fold, first_digit, parts_fold, parts_digits, placed}
+use Rattle.gj_number.proofs.Shorts.PiecePrefixes.{rest_is}
+use Rattle.gj_number.proofs.Literals.RunsOfDigits.{nothing_of, first_run, first_fold, first_digit, parts_fold, parts_digits, placed}
 use Rattle.gj_number.proofs.digits.Digits.push_first_run.Goals as goal
 
 pub returns-clause-digits : goal.returns-clause-digits

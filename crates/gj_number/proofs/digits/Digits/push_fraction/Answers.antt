@@ -1,6 +1,6 @@
 use Rattle.std.proofs.Common.{◌+◌, inr, arith}
-use Rattle.gj_number.specs.Digits.{kept_of}
-use Rattle.gj_number.proofs.Keeping.{keep_fraction, zero_fraction, past_fraction}
+use Rattle.gj_number.specs.Internal.KeptDigits.{kept_of}
+use Rattle.gj_number.proofs.Literals.OneDigitMore.{keep_fraction, zero_fraction, past_fraction}
 use Rattle.gj_number.proofs.digits.Digits.push_fraction.Goals as goal
 
 pub returns-then-digit-ne0 : goal.returns-then-digit-ne0

@@ -1,6 +1,6 @@
 use Rattle.std.proofs.Common.{arith}
-use Rattle.gj_number.specs.Digits.{kept_of}
-use Rattle.gj_number.proofs.Keeping.{keep_natural, none_natural}
+use Rattle.gj_number.specs.Internal.KeptDigits.{kept_of}
+use Rattle.gj_number.proofs.Literals.OneDigitMore.{keep_natural, none_natural}
 use Rattle.gj_number.proofs.digits.Digits.push_natural.Goals as goal
 
 pub returns-then-digit-ne0 : goal.returns-then-digit-ne0

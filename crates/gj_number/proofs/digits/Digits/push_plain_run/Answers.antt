@@ -1,9 +1,9 @@
 use Rattle.std.proofs.Common.{ℕ, ◌+◌, List, take, drop, fold, All, inl, inr, subst, arith}
 use Rattle.gj_number.specs.Bytes.{IsDigit}
-use Rattle.gj_number.specs.Digits.{Keeps, RunKeeps, HasRoom, kept_of}
+use Rattle.gj_number.specs.Internal.KeptDigits.{Keeps, RunKeeps, HasRoom, kept_of}
 use Rattle.gj_number.specs.Value.{with_digit}
-use Rattle.gj_number.proofs.Fronts.{behind_is}
-use Rattle.gj_number.proofs.Running.{digits_of, unplaced, placed}
+use Rattle.gj_number.proofs.Shorts.PiecePrefixes.{behind_is}
+use Rattle.gj_number.proofs.Literals.RunsOfDigits.{digits_of, unplaced, placed}
 use Rattle.gj_number.proofs.digits.Digits.push_plain_run.Goals as goal
 
 pub returns-clause-fraction_digits : goal.returns-clause-fraction_digits

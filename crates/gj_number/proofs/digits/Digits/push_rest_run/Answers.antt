@@ -2,7 +2,7 @@ use Rattle.std.proofs.Common.{◌≡◌, ◌+◌, ℕ, length, take, fold, All, 
 use Rattle.std.proofs.lemmas.List.Elements.{All-more}
 use Rattle.std.proofs.lemmas.List.Sums.{fold_more}
 use Rattle.gj_number.specs.Bytes.{IsDigit}
-use Rattle.gj_number.specs.Digits.{Keeps}
+use Rattle.gj_number.specs.Internal.KeptDigits.{Keeps}
 use Rattle.gj_number.specs.Value.{with_digit}
 use Rattle.gj_number.proofs.digits.Digits.push_rest_run.Goals as goal
 

@@ -1,10 +1,10 @@
 -- Zeros, and digits behind them.
 use Rattle.std.proofs.Common.{◌≡◌, ℕ, ◌+◌, List, take, fold, All, inl, subst, ◌∙◌, ap, arith}
 use Rattle.gj_number.specs.Bytes.{IsDigit}
-use Rattle.gj_number.specs.Digits.{Keeps, kept_of}
+use Rattle.gj_number.specs.Internal.KeptDigits.{Keeps, kept_of}
 use Rattle.gj_number.specs.Value.{with_digit}
-use Rattle.gj_number.proofs.Fronts.{rest_is}
-use Rattle.gj_number.proofs.Running.{nothing_of, parts_fold, parts_digits, zeros_more}
+use Rattle.gj_number.proofs.Shorts.PiecePrefixes.{rest_is}
+use Rattle.gj_number.proofs.Literals.RunsOfDigits.{nothing_of, parts_fold, parts_digits, zeros_more}
 use Rattle.gj_number.proofs.digits.Digits.push_small_run.Goals as goal
 
 pub returns-clause-digits : goal.returns-clause-digits

@@ -1,6 +1,6 @@
 use Rattle.std.proofs.Common.{arith}
-use Rattle.gj_number.specs.Digits.{kept_of}
-use Rattle.gj_number.proofs.Running.{kept_run, kept_small}
+use Rattle.gj_number.specs.Internal.KeptDigits.{kept_of}
+use Rattle.gj_number.proofs.Literals.RunsOfDigits.{kept_run, kept_small}
 use Rattle.gj_number.proofs.digits.Digits.run.Goals as goal
 
 pub returns : goal.returns

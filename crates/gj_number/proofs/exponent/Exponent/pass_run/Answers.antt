@@ -1,6 +1,6 @@
 -- A magnitude past the limit stays past it.
 use Rattle.std.proofs.Common.{take, arith}
-use Rattle.gj_number.proofs.DigitRuns.{fold_grows}
+use Rattle.gj_number.proofs.Shorts.RunEnds.{fold_grows}
 use Rattle.gj_number.proofs.exponent.Exponent.pass_run.Goals as goal
 
 pub returns-then-self-gt-EXPONENT_LIMIT-clause-magnitude : goal.returns-then-self-gt-EXPONENT_LIMIT-clause-magnitude

@@ -1,7 +1,7 @@
 use Rattle.std.proofs.Common.{◌≡◌, ◌∙◌, ap}
-use Rattle.gj_number.specs.Machine.{may_end_in}
+use Rattle.gj_number.specs.Internal.NumberMachine.{may_end_in}
 use Rattle.gj_number.specs.Literal.{StandsFor}
-use Rattle.gj_number.proofs.Standing.{may_end_is}
+use Rattle.gj_number.proofs.Literals.LiteralBytes.{may_end_is}
 use Rattle.gj_number.proofs.literal.Literal.may_end.Goals as goal
 
 pub returns : goal.returns

@@ -1,8 +1,8 @@
 use Rattle.std.proofs.Common.{◌≡◌, Some, None, sym, ◌∙◌}
-use Rattle.gj_number.specs.Machine.{class_of, next_of, taken, start}
+use Rattle.gj_number.specs.Internal.NumberMachine.{class_of, next_of, taken, start}
 use Rattle.gj_number.specs.Literal.{StandsFor}
-use Rattle.gj_number.proofs.Reaching.{reaches_one}
-use Rattle.gj_number.proofs.Standing.{begins, begins_none}
+use Rattle.gj_number.proofs.Grammar.ScanPaths.{reaches_one}
+use Rattle.gj_number.proofs.Literals.LiteralBytes.{begins, begins_none}
 use Rattle.gj_number.proofs.literal.Literal.push_as.Goals as goal
 
 pub returns-in-Some-clause-stands : goal.returns-in-Some-clause-stands

@@ -5,8 +5,8 @@ use Rattle.std.proofs.lemmas.List.Elements.{All-append, All-more}
 use Rattle.gj_number.specs.Bytes.{IsDigit}
 use Rattle.gj_number.specs.Grammar.{BeginsNumber}
 use Rattle.gj_number.specs.Literal.{StandsFor}
-use Rattle.gj_number.proofs.Fronts.{rest_is}
-use Rattle.gj_number.proofs.Pieces.{one_more, run_more, stands_begin}
+use Rattle.gj_number.proofs.Shorts.PiecePrefixes.{rest_is}
+use Rattle.gj_number.proofs.Literals.LiteralPieces.{one_more, run_more, stands_begin}
 use Rattle.gj_number.proofs.literal.Literal.push_digits.Goals as goal
 
 pub loop-at-preserved : goal.loop-at-preserved

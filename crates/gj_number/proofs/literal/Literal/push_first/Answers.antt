@@ -1,9 +1,9 @@
 use Rattle.std.proofs.Common.{◌≡◌, get_or, Some, rules, arith}
 use Rattle.std.proofs.lemmas.Bool.Decides.{nat_tests}
-use Rattle.gj_number.specs.Machine.{class_of, next_of, taken}
+use Rattle.gj_number.specs.Internal.NumberMachine.{class_of, next_of, taken}
 use Rattle.gj_number.specs.Literal.{StandsFor}
 use Rattle.gj_number.specs.declared.state.State.TheVariants.{AfterZero, InNatural}
-use Rattle.gj_number.proofs.Pieces.{reaches_first}
+use Rattle.gj_number.proofs.Literals.LiteralPieces.{reaches_first}
 use Rattle.gj_number.proofs.literal.Literal.push_first.Goals as goal
 
 pub returns-in-Zero-clause-stands : goal.returns-in-Zero-clause-stands

@@ -3,7 +3,7 @@ use Rattle.std.proofs.Common.{ℕ, ◌+◌, ◌≤◌, List, ◌++◌, take, len
 use Rattle.std.proofs.lemmas.List.{take_more}
 use Rattle.gj_number.specs.Grammar.{BeginsNumber}
 use Rattle.gj_number.specs.Literal.{StandsFor}
-use Rattle.gj_number.proofs.Pieces.{one_more, run_stands, run_within, stands_begin, stands_last}
+use Rattle.gj_number.proofs.Literals.LiteralPieces.{one_more, run_stands, run_within, stands_begin, stands_last}
 use Rattle.gj_number.proofs.literal.Literal.push_piece.Goals as goal
 
 pub loop-at-init : goal.loop-at-init

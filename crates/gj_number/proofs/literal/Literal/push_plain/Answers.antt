@@ -5,13 +5,13 @@ use Rattle.std.proofs.lemmas.List.{length-take-le}
 use Rattle.gj_number.specs.Bytes.{decimal_point}
 use Rattle.gj_number.specs.Value.{with_digit}
 use Rattle.gj_number.specs.Literal.{StandsFor}
-use Rattle.gj_number.specs.Machine.{class_of, next_of, Scan, start, Reaches}
+use Rattle.gj_number.specs.Internal.NumberMachine.{class_of, next_of, Scan, start, Reaches}
 use Rattle.gj_number.specs.declared.state.State.TheVariants.{AfterPoint, InFraction}
 use Rattle.gj_number.specs.declared.state.Class.TheVariants.{Point}
-use Rattle.gj_number.proofs.Classes.{class_is}
-use Rattle.gj_number.proofs.Pieces.{reaches_first, run_stands, decimal_more}
-use Rattle.gj_number.proofs.Reaching.{reaches_on}
-use Rattle.gj_number.proofs.Standing.{natural_on, point_on}
+use Rattle.gj_number.proofs.Grammar.ByteClasses.{class_is}
+use Rattle.gj_number.proofs.Literals.LiteralPieces.{reaches_first, run_stands, decimal_more}
+use Rattle.gj_number.proofs.Grammar.ScanPaths.{reaches_on}
+use Rattle.gj_number.proofs.Literals.LiteralBytes.{natural_on, point_on}
 use Rattle.gj_number.proofs.literal.Literal.push_plain.Goals as goal
 
 pub returns-then-plain-eq0-clause-stands : goal.returns-then-plain-eq0-clause-stands

@@ -2,10 +2,10 @@ use Rattle.std.proofs.Common.{◌≡◌, ◌+◌, take, fold, length, true, fals
 use Rattle.std.proofs.lemmas.List.{length-take-le, append-nil}
 use Rattle.gj_number.specs.Value.{with_digit}
 use Rattle.gj_number.specs.Literal.{StandsFor}
-use Rattle.gj_number.specs.Machine.{Scan, start}
+use Rattle.gj_number.specs.Internal.NumberMachine.{Scan, start}
 use Rattle.gj_number.specs.declared.state.State.TheVariants.{InFraction}
-use Rattle.gj_number.proofs.Reaching.{reaches_on}
-use Rattle.gj_number.proofs.Standing.{natural_on, fraction_on, exponent_on, behind_point}
+use Rattle.gj_number.proofs.Grammar.ScanPaths.{reaches_on}
+use Rattle.gj_number.proofs.Literals.LiteralBytes.{natural_on, fraction_on, exponent_on, behind_point}
 use Rattle.gj_number.proofs.literal.Literal.push_run.Goals as goal
 
 pub returns-in-InNatural-clause-stands : goal.returns-in-InNatural-clause-stands

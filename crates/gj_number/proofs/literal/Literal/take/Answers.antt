@@ -1,10 +1,10 @@
 use Rattle.std.proofs.Common.{◌≡◌, ℕ, Some, refl, arith}
-use Rattle.gj_number.specs.Machine.{Scan, class_of, next_of, taken}
+use Rattle.gj_number.specs.Internal.NumberMachine.{Scan, class_of, next_of, taken}
 use Rattle.gj_number.specs.Literal.{KeepsScan}
 use Rattle.gj_number.specs.declared.literal.Literal.{Literal}
 use Rattle.gj_number.specs.declared.state.State.{State}
 use Rattle.gj_number.specs.declared.state.State.TheVariants.{Start, AfterMinus, AfterZero, InNatural, AfterPoint, InFraction, AfterLetter, AfterSign, InExponent}
-use Rattle.gj_number.proofs.Moves.{digit_into, before_fraction_from}
+use Rattle.gj_number.proofs.Grammar.StateMoves.{digit_into, before_fraction_from}
 use Rattle.gj_number.proofs.literal.Literal.take.Goals as goal
 
 pub overflow_sub-byte : goal.overflow_sub-byte

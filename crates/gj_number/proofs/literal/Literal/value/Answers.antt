@@ -1,6 +1,6 @@
 use Rattle.std.proofs.Common.{sym, ◌∙◌}
 use Rattle.gj_number.specs.Literal.{StandsFor}
-use Rattle.gj_number.proofs.Standing.{value_by}
+use Rattle.gj_number.proofs.Literals.LiteralBytes.{value_by}
 use Rattle.gj_number.proofs.literal.Literal.value.Goals as goal
 
 pub returns : goal.returns

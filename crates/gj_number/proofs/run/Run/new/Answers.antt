@@ -1,7 +1,7 @@
 use Rattle.std.proofs.Common.{arith}
-use Rattle.gj_number.proofs.Bounds.{digit_below, scaled_below}
-use Rattle.gj_number.proofs.Running.{some_times}
-use Rattle.gj_number.proofs.Normal.{ten_above_zero}
+use Rattle.gj_number.proofs.Literals.DigitBounds.{digit_below, scaled_below}
+use Rattle.gj_number.proofs.Literals.RunsOfDigits.{some_times}
+use Rattle.gj_number.proofs.Value.NormalForm.{ten_above_zero}
 use Rattle.gj_number.proofs.run.Run.new.Goals as goal
 
 pub overflow_mul-result : goal.overflow_mul-result

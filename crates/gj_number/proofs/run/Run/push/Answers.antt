@@ -1,6 +1,6 @@
 use Rattle.std.proofs.Common.{arith}
-use Rattle.gj_number.proofs.Bounds.{digit_below, scaled_below}
-use Rattle.gj_number.proofs.Running.{digit_more}
+use Rattle.gj_number.proofs.Literals.DigitBounds.{digit_below, scaled_below}
+use Rattle.gj_number.proofs.Literals.RunsOfDigits.{digit_more}
 use Rattle.gj_number.proofs.run.Run.push.Goals as goal
 
 pub overflow_mul-self : goal.overflow_mul-self

@@ -1,4 +1,4 @@
-use Rattle.gj_number.proofs.Running.{zero_off}
+use Rattle.gj_number.proofs.Literals.RunsOfDigits.{zero_off}
 use Rattle.gj_number.proofs.run.Run.stripped.Goals as goal
 
 pub loop-head-preserved : goal.loop-head-preserved

@@ -2,9 +2,9 @@ use Rattle.std.proofs.Common.{◌≡◌, ◌≤◌, ℕ, List, length, take, fol
 use Rattle.std.proofs.lemmas.List.Elements.{All-more}
 use Rattle.std.proofs.lemmas.List.Sums.{fold_more}
 use Rattle.gj_number.specs.Bytes.{IsDigit}
-use Rattle.gj_number.specs.Digits.{RunKeeps}
+use Rattle.gj_number.specs.Internal.KeptDigits.{RunKeeps}
 use Rattle.gj_number.specs.Value.{with_digit}
-use Rattle.gj_number.proofs.Fronts.{front_is}
+use Rattle.gj_number.proofs.Shorts.PiecePrefixes.{front_is}
 use Rattle.gj_number.proofs.run.Run.take.Goals as goal
 
 pub loop-taken-preserved : goal.loop-taken-preserved

@@ -2,7 +2,7 @@ use Rattle.std.proofs.Common.{◌≡◌, ℕ, ◌+◌, take, fold}
 use Rattle.std.specs.List.{All}
 use Rattle.gj_number.specs.Bytes.{IsDigit}
 use Rattle.gj_number.specs.Value.{with_digit}
-use Rattle.gj_number.specs.Digits.{RunKeeps}
+use Rattle.gj_number.specs.Internal.KeptDigits.{RunKeeps}
 use Rattle.gj_number.proofs.run.Run.take.Given as goal
 
 -- the bytes before this one are digits, and taken

@@ -1,7 +1,7 @@
 use Rattle.std.proofs.Common.{ℕ, List, take, fold, subst}
-use Rattle.gj_number.specs.Digits.{RunKeeps}
+use Rattle.gj_number.specs.Internal.KeptDigits.{RunKeeps}
 use Rattle.gj_number.specs.Value.{with_digit}
-use Rattle.gj_number.proofs.Fronts.{rest_is}
+use Rattle.gj_number.proofs.Shorts.PiecePrefixes.{rest_is}
 use Rattle.gj_number.proofs.run.Run.take_fraction.Goals as goal
 
 pub returns-clause-keeps : goal.returns-clause-keeps

@@ -1,7 +1,7 @@
 use Rattle.std.proofs.Common.{◌-◌, sym, ◌∙◌, ap, arith}
-use Rattle.gj_number.specs.Kept.{limited_cut}
-use Rattle.gj_number.proofs.Cutting.{limited_below}
-use Rattle.gj_number.proofs.Shorts.{cut_raised, cut_lowered}
+use Rattle.gj_number.specs.Internal.KeptParts.{limited_cut}
+use Rattle.gj_number.proofs.Shorts.CutNumbers.{limited_below}
+use Rattle.gj_number.proofs.Shorts.ShortDecimals.{cut_raised, cut_lowered}
 use Rattle.gj_number.proofs.short.Short.cut_magnitude.Goals as goal
 
 pub returns-then-self-le-CUT_PLACES-clause-magnitude :

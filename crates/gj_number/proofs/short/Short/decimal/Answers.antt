@@ -1,6 +1,6 @@
 use Rattle.std.proofs.Common.{sym, ◌∙◌, arith}
 use Rattle.std.proofs.lemmas.Int.{ints}
-use Rattle.gj_number.proofs.Shorts.{short_zero, short_made}
+use Rattle.gj_number.proofs.Shorts.ShortDecimals.{short_zero, short_made}
 use Rattle.gj_number.proofs.short.Short.decimal.Goals as goal
 
 pub returns-then-self-eq0 : goal.returns-then-self-eq0

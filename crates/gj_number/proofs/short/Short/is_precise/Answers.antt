@@ -1,5 +1,5 @@
 use Rattle.std.proofs.Common.{◌*◌, ◌/◌, ◌-◌, ◌^◌, arith}
-use Rattle.gj_number.proofs.Shorts.{precise_is, not_precise, unequal_iff, differ_iff}
+use Rattle.gj_number.proofs.Shorts.ShortDecimals.{precise_is, not_precise, unequal_iff, differ_iff}
 use Rattle.gj_number.proofs.short.Short.is_precise.Goals as goal
 
 pub returns-then-self-le-CUT_PLACES : goal.returns-then-self-le-CUT_PLACES

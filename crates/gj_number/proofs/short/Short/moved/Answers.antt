@@ -1,6 +1,6 @@
 use Rattle.std.proofs.Common.{◌≡◌, ◌≤◌, ◌*◌, ◌-◌, ◌<◌, ◌^◌, ℕ, sym, arith}
-use Rattle.gj_number.proofs.Bounds.{scaled_below}
-use Rattle.gj_number.proofs.Normal.{ten_above_zero}
+use Rattle.gj_number.proofs.Literals.DigitBounds.{scaled_below}
+use Rattle.gj_number.proofs.Value.NormalForm.{ten_above_zero}
 use Rattle.gj_number.proofs.short.Short.moved.Goals as goal
 
 -- there is room for the zeros

@@ -1,4 +1,4 @@
-use Rattle.gj_number.proofs.Shorts.{digits_iff, signs_iff, zeros_iff}
+use Rattle.gj_number.proofs.Shorts.ShortDecimals.{digits_iff, signs_iff, zeros_iff}
 use Rattle.gj_number.proofs.short.Short.same.Goals as goal
 
 pub returns-then-self-other-2 : goal.returns-then-self-other-2

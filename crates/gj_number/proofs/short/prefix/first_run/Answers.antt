@@ -3,8 +3,8 @@ use Rattle.std.proofs.lemmas.List.Elements.{All-more}
 use Rattle.std.proofs.lemmas.List.Sums.{fold_more}
 use Rattle.gj_number.specs.Bytes.{IsDigit}
 use Rattle.gj_number.specs.Value.{with_digit}
-use Rattle.gj_number.proofs.DigitRuns.{run_found}
-use Rattle.gj_number.proofs.Prefix.{digit_room, digit_byte, other_byte, room_left}
+use Rattle.gj_number.proofs.Shorts.RunEnds.{run_found}
+use Rattle.gj_number.proofs.Shorts.NumberPrefixes.{digit_room, digit_byte, other_byte, room_left}
 use Rattle.gj_number.proofs.short.prefix.first_run.Goals as goal
 
 pub returns-then-digit-gt9-clause-small : goal.returns-then-digit-gt9-clause-small

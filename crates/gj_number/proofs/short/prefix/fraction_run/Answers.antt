@@ -1,8 +1,8 @@
 use Rattle.std.proofs.Common.{◌≡◌, ◌+◌, ◌-◌, ◌*◌, ◌^◌, ℕ, subst, arith}
-use Rattle.gj_number.specs.DigitRuns.{SpellsOn}
-use Rattle.gj_number.proofs.Bounds.{scaled_below}
-use Rattle.gj_number.proofs.DigitRuns.{rest_of_run}
-use Rattle.gj_number.proofs.Prefix.{natural_fits, none_spells, joined_fits, joined_below, joined_spells, spells_more, spells_rest}
+use Rattle.gj_number.specs.Internal.DigitRuns.{SpellsOn}
+use Rattle.gj_number.proofs.Literals.DigitBounds.{scaled_below}
+use Rattle.gj_number.proofs.Shorts.RunEnds.{rest_of_run}
+use Rattle.gj_number.proofs.Shorts.NumberPrefixes.{natural_fits, none_spells, joined_fits, joined_below, joined_spells, spells_more, spells_rest}
 use Rattle.gj_number.proofs.short.prefix.fraction_run.Goals as goal
 
 pub overflow_mul-both : goal.overflow_mul-both

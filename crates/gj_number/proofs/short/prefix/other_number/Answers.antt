@@ -1,5 +1,5 @@
 use Rattle.std.proofs.Common.{refl, arith}
-use Rattle.gj_number.proofs.Exponents.{plain_front}
+use Rattle.gj_number.proofs.Shorts.WrittenExponents.{plain_front}
 use Rattle.gj_number.proofs.short.prefix.other_number.Goals as goal
 use Rattle.gj_number.proofs.short.prefix.other_number.Goals.{then-count-eq0-via-then-count-eq0, then-count-eq0-via-else-count-eq0+then-not-may_stand}
 

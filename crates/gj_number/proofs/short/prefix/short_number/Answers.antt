@@ -1,9 +1,9 @@
 use Rattle.std.proofs.Common.{◌+◌, ◌≤◌, List, ℕ, subst, arith}
 use mir.Val.{bool_byte}
-use Rattle.gj_number.specs.DigitRuns.{SpellsUnsigned}
-use Rattle.gj_number.proofs.Fronts.{rest_is}
-use Rattle.gj_number.proofs.Prefix.{sign_at, sign_length, one_of, first_some, short_small, short_plain}
-use Rattle.gj_number.proofs.Exponents.{plain_front}
+use Rattle.gj_number.specs.Internal.DigitRuns.{SpellsUnsigned}
+use Rattle.gj_number.proofs.Shorts.PiecePrefixes.{rest_is}
+use Rattle.gj_number.proofs.Shorts.NumberPrefixes.{sign_at, sign_length, one_of, first_some, short_small, short_plain}
+use Rattle.gj_number.proofs.Shorts.WrittenExponents.{plain_front}
 use Rattle.gj_number.proofs.short.prefix.short_number.Goals as goal
 
 pub invariant_of-number : goal.invariant_of-number

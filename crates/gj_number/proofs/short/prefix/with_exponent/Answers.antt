@@ -1,7 +1,7 @@
 use Rattle.std.proofs.Common.{◌+◌, Bool, refl, sym, subst, arith}
 use Rattle.gj_number.specs.Short.{short_value, StartsWithNumber}
-use Rattle.gj_number.proofs.Prefix.{spells_rest}
-use Rattle.gj_number.proofs.Exponents.{exponent_front, few_written}
+use Rattle.gj_number.proofs.Shorts.NumberPrefixes.{spells_rest}
+use Rattle.gj_number.proofs.Shorts.WrittenExponents.{exponent_front, few_written}
 use Rattle.gj_number.proofs.short.prefix.with_exponent.Goals as goal
 
 pub moved-requires : goal.moved-requires

@@ -1,6 +1,6 @@
 use Rattle.std.proofs.Common.{sym, arith}
 use Rattle.gj_number.specs.declared.state.Class.TheVariants.{Zero, NonZero}
-use Rattle.gj_number.proofs.Classes.{class_is}
+use Rattle.gj_number.proofs.Grammar.ByteClasses.{class_is}
 use Rattle.gj_number.proofs.state.Class.of_digit.Goals as goal
 
 pub returns-then-byte-eq48 : goal.returns-then-byte-eq48

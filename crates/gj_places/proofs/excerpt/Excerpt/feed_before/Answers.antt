@@ -1,7 +1,7 @@
 use Rattle.std.proofs.Common.{ap, sym, ◌∙◌, [], ℕ, List}
 use Rattle.gj_places.specs.Lines.{last_line}
 use Rattle.gj_places.specs.Excerpts.{last_of}
-use Rattle.gj_places.proofs.Kept.{recent}
+use Rattle.gj_places.proofs.KeptLines.{recent}
 use Rattle.gj_places.proofs.excerpt.Excerpt.feed_before.Goals as goal
 
 pub returns-else-piece-lt-MOST_BYTES : goal.returns-else-piece-lt-MOST_BYTES

@@ -1,5 +1,5 @@
 use Rattle.std.proofs.Common.{rules, arith, ap, sym, ◌∙◌, subst, ◌≤◌, ℕ, List, length, take}
-use Rattle.gj_places.proofs.Kept.{first_line-ended, first-full, has-before, contrary}
+use Rattle.gj_places.proofs.KeptLines.{first_line-ended, first-full, has-before, contrary}
 use Rattle.gj_places.proofs.excerpt.Excerpt.is_whole.Goals as goal
 
 pub returns-then-self-clause-whole : goal.returns-then-self-clause-whole

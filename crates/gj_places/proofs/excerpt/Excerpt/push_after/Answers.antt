@@ -1,7 +1,7 @@
 use Rattle.std.proofs.Common.{rules, ap, sym, ◌∙◌, subst, ◌≡◌, ◌<◌, ◌++◌, ◌∷◌, [], ℕ, List, length, take}
 use Rattle.std.specs.Prelude.{true, false}
 use Rattle.gj_places.specs.Lines.{is_line_feed}
-use Rattle.gj_places.proofs.Kept.{first-feed, first-room, has-behind, has-neither, has-one, contrary}
+use Rattle.gj_places.proofs.KeptLines.{first-feed, first-room, has-behind, has-neither, has-one, contrary}
 use Rattle.gj_places.proofs.excerpt.Excerpt.push_after.Goals as goal
 
 pub returns-then-byte-eq10 : goal.returns-then-byte-eq10

@@ -2,8 +2,8 @@ use Rattle.std.proofs.Common.{rules, arith, ap, sym, ◌∙◌, subst, ◌≡◌
 use Rattle.std.specs.Prelude.{true, false}
 use Rattle.gj_places.specs.Lines.{is_line_feed, last_line}
 use Rattle.gj_places.specs.Excerpts.{last_of}
-use Rattle.gj_places.proofs.Counted.{last_line-feed, last_line-other}
-use Rattle.gj_places.proofs.Kept.{last_of-room, last_of-full}
+use Rattle.gj_places.proofs.CountedBytes.{last_line-feed, last_line-other}
+use Rattle.gj_places.proofs.KeptLines.{last_of-room, last_of-full}
 use Rattle.gj_places.proofs.excerpt.Excerpt.push_before.Goals as goal
 use Rattle.gj_places.proofs.excerpt.Excerpt.push_before.Goals.{then-is_full, else-is_full}
 

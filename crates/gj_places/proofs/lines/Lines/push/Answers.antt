@@ -1,7 +1,7 @@
 use Rattle.std.proofs.Common.{rules, arith, ◌≡◌, ap}
 use Rattle.std.specs.Prelude.{true, false}
 use Rattle.gj_places.specs.Lines.{is_line_feed, begins_character}
-use Rattle.gj_places.proofs.Counted.{counted, line_feeds-more, column_of-feed, column_of-other}
+use Rattle.gj_places.proofs.CountedBytes.{counted, line_feeds-more, column_of-feed, column_of-other}
 use Rattle.gj_places.proofs.lines.Lines.push.Goals as goal
 
 pub returns-then-byte-eq-LINE_FEED : goal.returns-then-byte-eq-LINE_FEED

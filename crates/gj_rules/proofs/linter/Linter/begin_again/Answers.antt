@@ -1,5 +1,5 @@
 -- Before the first byte no event has come.
-use Rattle.gj_rules.proofs.Fed.{new_told}
+use Rattle.gj_rules.proofs.Texts.LinterEvents.{new_told}
 use Rattle.gj_rules.specs.Linter.{StandsFor}
 use Rattle.gj_rules.proofs.linter.Linter.begin_again.Goals as goal
 

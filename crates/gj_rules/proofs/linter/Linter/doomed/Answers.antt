@@ -3,7 +3,7 @@ use Rattle.std.proofs.Common.{List, ◌++◌, length, arith, sym, subst, ◌∙�
 use Rattle.gj_json.specs.declared.event.Event.{Event}
 use Rattle.gj_rules.specs.Linter.{StandsFor}
 use Rattle.gj_rules.specs.Rules.{StandsFor as RulesStandFor}
-use Rattle.gj_rules.proofs.Fed.{taken_all}
+use Rattle.gj_rules.proofs.Texts.LinterEvents.{taken_all}
 use Rattle.gj_rules.proofs.linter.Linter.doomed.Goals as goal
 
 pub returns-in-Some-clause-sound : goal.returns-in-Some-clause-sound

@@ -1,5 +1,5 @@
 -- The verdict by the last event.
-use Rattle.gj_rules.proofs.Fed
+use Rattle.gj_rules.proofs.Texts.LinterEvents
 use Rattle.gj_rules.specs.Linter.{StandsFor}
 use Rattle.gj_rules.proofs.linter.Linter.end.Goals as goal
 
@@ -8,10 +8,10 @@ unfolding StandsFor
 returns-in-Ok-clause-verdict c = λ bytes h.
     let self = c.args.self.now in
     let laws = c.bytes_taken.ensures in
-    let live = Fed.was_live self.reader c.finish.result c.in-Ok.last (λ fault e. c.finish.ensures.again fault e) c.in-Ok.is in
+    let live = LinterEvents.was_live self.reader c.finish.result c.in-Ok.last (λ fault e. c.finish.ensures.again fault e) c.in-Ok.is in
     let f = rw (c.in-Ok.is) at (c.finish.ensures.answer bytes h.0) in
-    let k = Fed.taken_all self.rules bytes _ (laws.«open» self.reader bytes h.0 live) h.1 in
-    rw (c.verdict_of.ensures) (Fed.end_verdict _ bytes self.rules c.tell_last.new.rules c.in-Ok.last c.fault.result c.warnings.result self.shallow self.short k f c.tell_last.ensures c.fault.ensures c.warnings.ensures c.few_events.ensures c.kept_warnings.ensures)
+    let k = LinterEvents.taken_all self.rules bytes _ (laws.«open» self.reader bytes h.0 live) h.1 in
+    rw (c.verdict_of.ensures) (LinterEvents.end_verdict _ bytes self.rules c.tell_last.new.rules c.in-Ok.last c.fault.result c.warnings.result self.shallow self.short k f c.tell_last.ensures c.fault.ensures c.warnings.ensures c.few_events.ensures c.kept_warnings.ensures)
 
 pub returns-in-Err-clause-verdict : goal.returns-in-Err-clause-verdict
 unfolding StandsFor

@@ -1,5 +1,5 @@
 -- What the piece leaves.
-use Rattle.gj_rules.proofs.Fed
+use Rattle.gj_rules.proofs.Texts.LinterEvents
 use Rattle.gj_rules.specs.Linter.{StandsFor}
 use Rattle.gj_rules.proofs.linter.Linter.feed.Goals as goal
 
@@ -8,11 +8,11 @@ unfolding StandsFor
 returns-in-Ok-clause-stands c = λ bytes h.
     let old = c.args.self.now in
     let laws = c.bytes_taken.ensures in
-    let live = Fed.was_live old.reader c.feed.result c.in-Ok.field-0 (λ fault e. (c.feed.ensures.again fault e).2) c.in-Ok.is in
+    let live = LinterEvents.was_live old.reader c.feed.result c.in-Ok.field-0 (λ fault e. (c.feed.ensures.again fault e).2) c.in-Ok.is in
     let stands = c.feed.ensures.stands bytes h.0 in
     let on = rw (c.in-Ok.is) at c.feed.ensures.refusal in (
       stands,
-      Fed.fed_ok laws.«open» laws.refused laws.within old.reader c.feed.new.self old.rules c.feed.new.sink bytes c.args.piece.now h.0 stands live on h.1
+      LinterEvents.fed_ok laws.«open» laws.refused laws.within old.reader c.feed.new.self old.rules c.feed.new.sink bytes c.args.piece.now h.0 stands live on h.1
           (λ events told. let k = c.feed.ensures.heard bytes events live h.0 told in rw (c.in-Ok.is) at k),
     )
 
@@ -24,7 +24,7 @@ returns-in-Err-clause-stands c = λ bytes h.
     let stands = c.feed.ensures.stands bytes h.0 in
     let on = rw (c.in-Err.is) at c.feed.ensures.refusal in (
       stands,
-      Fed.fed_refused laws.«open» laws.refused laws.within old.reader c.feed.new.self old.rules c.feed.new.sink bytes c.args.piece.now c.in-Err.fault h.0 stands on c.feed.ensures.on h.1
+      LinterEvents.fed_refused laws.«open» laws.refused laws.within old.reader c.feed.new.self old.rules c.feed.new.sink bytes c.args.piece.now c.in-Err.fault h.0 stands on c.feed.ensures.on h.1
           (λ events live told. let k = c.feed.ensures.heard bytes events live h.0 told in rw (c.in-Err.is) at k)
           (λ fault e. let a = c.feed.ensures.again fault e in (a.0, a.1)),
     )

@@ -1,7 +1,7 @@
 -- The verdict, where no event is left to the end.
 use Rattle.std.proofs.Common.{◌∙◌, List, None, Ok, ap, sym, subst, append-nil}
 use Rattle.gj_json.specs.declared.event.Event.{Event}
-use Rattle.gj_rules.proofs.Fed
+use Rattle.gj_rules.proofs.Texts.LinterEvents
 use Rattle.gj_rules.specs.Linter.{StandsFor}
 use Rattle.gj_rules.specs.Rules.{StandsFor as RulesStandFor}
 use Rattle.gj_rules.proofs.linter.Linter.finish.Goals as goal
@@ -11,11 +11,11 @@ unfolding StandsFor
 returns-in-Ok-None-clause-verdict c = λ bytes h.
     let self = c.args.self in
     let none = c.in-Ok-None.is ∙ ap Ok c.in-Ok-None.field-0-is in
-    let live = Fed.was_live self.reader c.finish.result None (λ fault e. c.finish.ensures.again fault e) none in
+    let live = LinterEvents.was_live self.reader c.finish.result None (λ fault e. c.finish.ensures.again fault e) none in
     let f = rw none at (c.finish.ensures.answer bytes h.0) in
-    let k = Fed.taken_all self.rules bytes _ (c.bytes_taken.ensures.«open» self.reader bytes h.0 live) h.1 in
+    let k = LinterEvents.taken_all self.rules bytes _ (c.bytes_taken.ensures.«open» self.reader bytes h.0 live) h.1 in
     let P : List Event → Type 0 = λ events. RulesStandFor self.rules events in
-    rw (c.verdict_of.ensures) (Fed.end_verdict _ bytes self.rules self.rules None c.fault.result c.warnings.result self.shallow self.short k f (λ events s. subst P (sym (append-nil events)) s) c.fault.ensures c.warnings.ensures c.few_events.ensures c.kept_warnings.ensures)
+    rw (c.verdict_of.ensures) (LinterEvents.end_verdict _ bytes self.rules self.rules None c.fault.result c.warnings.result self.shallow self.short k f (λ events s. subst P (sym (append-nil events)) s) c.fault.ensures c.warnings.ensures c.few_events.ensures c.kept_warnings.ensures)
 
 pub returns-in-Err-clause-verdict : goal.returns-in-Err-clause-verdict
 unfolding StandsFor

@@ -1,4 +1,4 @@
-use Rattle.gj_rules.proofs.Telling.{started}
+use Rattle.gj_rules.proofs.Texts.OneEventMore.{started}
 use Rattle.gj_rules.proofs.rules.Rules.begin_again.Goals as goal
 
 pub returns : goal.returns

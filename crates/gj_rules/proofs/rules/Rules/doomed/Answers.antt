@@ -1,6 +1,6 @@
 -- What the rules keep shows what the events do, and no more than the text has.
 use Rattle.std.proofs.Common.{sym, ◌∙◌}
-use Rattle.gj_rules.proofs.DoomedTexts.{answers}
+use Rattle.gj_rules.proofs.Doom.DoomedTexts.{answers}
 use Rattle.gj_rules.proofs.rules.Rules.doomed.Goals as goal
 
 pub returns-clause-sound : goal.returns-clause-sound

@@ -1,6 +1,6 @@
 use Rattle.std.proofs.Common.{ap}
-use Rattle.gj_rules.specs.Seen.{Found}
-use Rattle.gj_rules.proofs.Telling.{answered}
+use Rattle.gj_rules.specs.Internal.FrameMeaning.{Found}
+use Rattle.gj_rules.proofs.Texts.OneEventMore.{answered}
 use Rattle.gj_rules.proofs.rules.Rules.fault.Goals as goal
 
 pub returns : goal.returns

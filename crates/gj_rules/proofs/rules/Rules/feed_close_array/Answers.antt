@@ -1,7 +1,7 @@
 use Rattle.std.proofs.Common.{refl, arith, ◌++◌, ◌∷◌, []}
 use Rattle.gj_json.specs.declared.event.What.{What}
-use Rattle.gj_coords.specs.Sent.{event_at}
-use Rattle.gj_rules.proofs.Feeding.{not_whole, whole}
+use Rattle.gj_coords.specs.Internal.SentEvents.{event_at}
+use Rattle.gj_rules.proofs.Objects.FedSummaries.{not_whole, whole}
 use Rattle.gj_rules.proofs.rules.Rules.feed_close_array.Goals as goal
 
 pub returns-else-done : goal.returns-else-done

@@ -1,5 +1,5 @@
 use Rattle.std.proofs.Common.{refl, arith, ◌++◌, ◌∷◌, []}
-use Rattle.gj_rules.proofs.Feeding.{not_whole, whole}
+use Rattle.gj_rules.proofs.Objects.FedSummaries.{not_whole, whole}
 use Rattle.gj_rules.proofs.rules.Rules.feed_coordinates.Goals as goal
 
 pub returns-else-done : goal.returns-else-done

@@ -1,6 +1,6 @@
 use Rattle.std.proofs.Common.{refl, arith, ◌++◌}
 use Rattle.gj_json.specs.Flat.{flat_events}
-use Rattle.gj_rules.proofs.Feeding.{not_whole, whole}
+use Rattle.gj_rules.proofs.Objects.FedSummaries.{not_whole, whole}
 use Rattle.gj_rules.proofs.rules.Rules.feed_flat.Goals as goal
 
 pub returns-else-done : goal.returns-else-done

@@ -1,5 +1,5 @@
 use Rattle.std.proofs.Common.{◌∙◌}
-use Rattle.gj_rules.proofs.Telling.{judged_is}
+use Rattle.gj_rules.proofs.Texts.OneEventMore.{judged_is}
 use Rattle.gj_rules.proofs.rules.Rules.judged.Goals as goal
 
 pub returns : goal.returns

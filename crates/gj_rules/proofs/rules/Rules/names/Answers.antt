@@ -1,5 +1,5 @@
 use Rattle.std.proofs.Common.{◌∙◌}
-use Rattle.gj_rules.proofs.Resting.{rests}
+use Rattle.gj_rules.proofs.Objects.RestingSummaries.{rests}
 use Rattle.gj_rules.proofs.rules.Rules.names.Goals as goal
 
 pub returns-in-Name-clause-core : goal.returns-in-Name-clause-core

@@ -1,7 +1,7 @@
 -- The outermost frame is the first.
 use Rattle.std.proofs.Common.{sym, arith}
-use Rattle.gj_rules.specs.Kept.{no_frame}
-use Rattle.gj_rules.proofs.InsideValues.{first_root}
+use Rattle.gj_rules.specs.Internal.RulesState.{no_frame}
+use Rattle.gj_rules.proofs.Doom.InsideValues.{first_root}
 use Rattle.gj_rules.proofs.rules.Rules.outermost.Goals as goal
 
 pub returns : goal.returns

@@ -1,5 +1,5 @@
 use Rattle.std.proofs.Common.{refl, ◌∙◌}
-use Rattle.gj_rules.proofs.Resting.{rests, skips}
+use Rattle.gj_rules.proofs.Objects.RestingSummaries.{rests, skips}
 use Rattle.gj_rules.proofs.rules.Rules.take.Goals as goal
 
 pub returns-then-self-gt0-clause-core : goal.returns-then-self-gt0-clause-core

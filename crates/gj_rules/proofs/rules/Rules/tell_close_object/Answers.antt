@@ -1,8 +1,8 @@
 use Rattle.std.proofs.Common.{◌≡◌, false, refl, ◌∙◌}
 use Rattle.gj_json.specs.declared.event.What.TheVariants as W
-use Rattle.gj_rules.specs.Step.{is_feeding}
-use Rattle.gj_rules.proofs.Resting.{names}
-use Rattle.gj_rules.proofs.Telling.{told_on, steps_taken}
+use Rattle.gj_rules.specs.Internal.EventSteps.{is_feeding}
+use Rattle.gj_rules.proofs.Objects.RestingSummaries.{names}
+use Rattle.gj_rules.proofs.Texts.OneEventMore.{told_on, steps_taken}
 use Rattle.gj_rules.proofs.rules.Rules.tell_close_object.Goals as goal
 
 pub returns-then-is_at_names : goal.returns-then-is_at_names

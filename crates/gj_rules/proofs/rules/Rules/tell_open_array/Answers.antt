@@ -1,6 +1,6 @@
 use Rattle.std.proofs.Common.{◌≡◌, true, refl}
-use Rattle.gj_rules.specs.Step.{is_feeding}
-use Rattle.gj_rules.proofs.Telling.{told_on, steps_fed}
+use Rattle.gj_rules.specs.Internal.EventSteps.{is_feeding}
+use Rattle.gj_rules.proofs.Texts.OneEventMore.{told_on, steps_fed}
 use Rattle.gj_rules.proofs.rules.Rules.tell_open_array.Goals as goal
 
 pub returns-then-is_in_coordinates : goal.returns-then-is_in_coordinates

@@ -1,5 +1,5 @@
 use Rattle.std.proofs.Common.{sym, ◌∙◌}
-use Rattle.gj_rules.proofs.Telling.{told_on, steps_fed, steps_taken}
+use Rattle.gj_rules.proofs.Texts.OneEventMore.{told_on, steps_fed, steps_taken}
 use Rattle.gj_rules.proofs.rules.Rules.tell_what.Goals as goal
 
 pub returns-then-is_feeding : goal.returns-then-is_feeding

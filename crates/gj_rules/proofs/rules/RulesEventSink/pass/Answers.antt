@@ -1,5 +1,5 @@
 -- Where a value is not looked into, it does not matter which events pass.
-use Rattle.gj_rules.proofs.Passing.{passed}
+use Rattle.gj_rules.proofs.Texts.IgnoredValues.{passed}
 use Rattle.gj_rules.proofs.rules.RulesEventSink.pass.Goals as goal
 
 pub returns : goal.returns

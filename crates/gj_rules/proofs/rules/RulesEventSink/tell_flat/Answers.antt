@@ -1,7 +1,7 @@
 use Rattle.std.proofs.Common.{◌≡◌, true, refl}
 use Rattle.gj_json.specs.Flat.{numbers_of}
-use Rattle.gj_rules.specs.Step.{is_feeding}
-use Rattle.gj_rules.proofs.FlatFed.{told_flat}
+use Rattle.gj_rules.specs.Internal.EventSteps.{is_feeding}
+use Rattle.gj_rules.proofs.Texts.OneFlatMore.{told_flat}
 use Rattle.gj_rules.proofs.rules.RulesEventSink.tell_flat.Goals as goal
 
 pub returns-then-is_in_coordinates : goal.returns-then-is_in_coordinates

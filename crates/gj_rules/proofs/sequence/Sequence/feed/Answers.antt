@@ -2,7 +2,7 @@
 use Rattle.std.proofs.Common.{rules, ◌≡◌, ℕ, true, false, List, ◌++◌, take, ap, sym, subst, ◌∙◌}
 use Rattle.std.proofs.lemmas.List.{take_all}
 use Rattle.gj_rules.specs.SequenceStands.{StandsFor, is_decided}
-use Rattle.gj_rules.proofs.SequenceSteps.{rest_fed, fed_decided, fed_answers, taken_further}
+use Rattle.gj_rules.proofs.Sequences.SequenceSteps.{rest_fed, fed_decided, fed_answers, taken_further}
 use Rattle.gj_rules.proofs.sequence.Sequence.feed.Goals as goal
 
 pub returns-then-is_decided-clause-stands : goal.returns-then-is_decided-clause-stands

@@ -1,5 +1,5 @@
 -- A byte has decided, or the end of the input ends the open record.
-use Rattle.gj_rules.proofs.SequenceSteps.{ends_settled}
+use Rattle.gj_rules.proofs.Sequences.SequenceSteps.{ends_settled}
 use Rattle.gj_rules.proofs.sequence.Sequence.finish.Goals as goal
 
 pub returns-in-Some : goal.returns-in-Some

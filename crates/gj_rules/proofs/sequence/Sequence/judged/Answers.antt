@@ -2,7 +2,7 @@
 use Rattle.std.proofs.Common.{ℕ, ◌++◌, List, length, ap, sym, subst, ◌∙◌, arith}
 use Rattle.gj_rules.specs.Judged.{judged_at}
 use Rattle.gj_json.specs.Text.{IsTextWithin}
-use Rattle.gj_rules.proofs.SequenceSteps.{live_of, in_of, last_record, some_record, no_record}
+use Rattle.gj_rules.proofs.Sequences.SequenceSteps.{live_of, in_of, last_record, some_record, no_record}
 use Rattle.gj_rules.proofs.sequence.Sequence.judged.Goals as goal
 
 pub returns-then-self-eq0-clause-open : goal.returns-then-self-eq0-clause-open

@@ -1,13 +1,13 @@
 -- A separator begins a record, and ends the one before it.
 use Rattle.std.proofs.Common.{◌≡◌, ⊎_elim, ℕ, ◌+◌, true, false, List, [], ◌∷◌, ◌++◌, length, length-append, refl, ap, sym, subst, ◌∙◌, arith}
 use Rattle.gj_rules.specs.declared.sequence.verdict.SeqVerdict.{SeqVerdict}
-use Rattle.gj_coords.specs.Noted.{no_warnings}
+use Rattle.gj_coords.specs.Internal.KeptWarnings.{no_warnings}
 use Rattle.gj_rules.specs.declared.verdict.Verdict.{Verdict}
 use Rattle.gj_rules.specs.Linter.{refusal_of}
-use Rattle.gj_rules.specs.OpenRecord.{StandsFor as RecordStandsFor}
+use Rattle.gj_rules.specs.Internal.OpenRecord.{StandsFor as RecordStandsFor}
 use Rattle.gj_rules.specs.Sequence.{separator}
-use Rattle.gj_rules.proofs.Deciding.{begun_more}
-use Rattle.gj_rules.proofs.SequenceSteps.{live_of, before_or_in, at_in, live_stands, settled_stands, empty_viable, first_begun, first_valid, first_counted, run_valid, run_counted, no_given, in_some, some_given, was_valid, was_failing, more_valid, more_counted, failing_closed}
+use Rattle.gj_rules.proofs.Sequences.DecidingBytes.{begun_more}
+use Rattle.gj_rules.proofs.Sequences.SequenceSteps.{live_of, before_or_in, at_in, live_stands, settled_stands, empty_viable, first_begun, first_valid, first_counted, run_valid, run_counted, no_given, in_some, some_given, was_valid, was_failing, more_valid, more_counted, failing_closed}
 use Rattle.gj_rules.proofs.sequence.Sequence.separate.Goals as goal
 
 pub returns-then-is_empty-clause-stands : goal.returns-then-is_empty-clause-stands

@@ -4,8 +4,8 @@ use Rattle.gj_json.specs.declared.fault.Cause.TheVariants.{Length}
 use Rattle.gj_rules.specs.declared.sequence.verdict.SeqVerdict.{SeqVerdict}
 use Rattle.gj_rules.specs.Sequence.{not_json}
 use Rattle.gj_rules.specs.SequenceStands.{IsSettled}
-use Rattle.gj_rules.proofs.Deciding.{take_one}
-use Rattle.gj_rules.proofs.SequenceSteps.{live_of, settled_stands, long_run}
+use Rattle.gj_rules.proofs.Sequences.DecidingBytes.{take_one}
+use Rattle.gj_rules.proofs.Sequences.SequenceSteps.{live_of, settled_stands, long_run}
 use Rattle.gj_rules.proofs.sequence.Sequence.take.Goals as goal
 
 pub returns-then-offset-bytes-clause-stands : goal.returns-then-offset-bytes-clause-stands

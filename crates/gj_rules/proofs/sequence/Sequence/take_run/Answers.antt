@@ -5,10 +5,10 @@ use Rattle.gj_rules.specs.declared.linter.Progress.{Progress}
 use Rattle.gj_rules.specs.declared.sequence.verdict.SeqVerdict.{SeqVerdict}
 use Rattle.gj_rules.specs.declared.verdict.Verdict.TheVariants.{NotJson}
 use Rattle.gj_rules.specs.Linter.{refusal_in}
-use Rattle.gj_rules.specs.OpenRecord.{AnswersAt}
-use Rattle.gj_rules.proofs.Cutting.{plain-append}
-use Rattle.gj_rules.proofs.Deciding.{regroup, begun_more}
-use Rattle.gj_rules.proofs.SequenceSteps.{live_of, in_of, at_in, live_stands, settled_stands, refused_run}
+use Rattle.gj_rules.specs.Internal.OpenRecord.{AnswersAt}
+use Rattle.gj_rules.proofs.Sequences.RecordCuts.{plain-append}
+use Rattle.gj_rules.proofs.Sequences.DecidingBytes.{regroup, begun_more}
+use Rattle.gj_rules.proofs.Sequences.SequenceSteps.{live_of, in_of, at_in, live_stands, settled_stands, refused_run}
 use Rattle.gj_rules.proofs.sequence.Sequence.take_run.Goals as goal
 
 pub returns-in-Open-clause-stands : goal.returns-in-Open-clause-stands

@@ -1,6 +1,6 @@
 -- By the one verdict of each record.
 use Rattle.gj_rules.specs.Sequence.{is_stray, records_of}
-use Rattle.gj_rules.proofs.OneSequence.{some_sequence, one_sequence}
+use Rattle.gj_rules.proofs.Sequences.OneVerdict.{some_sequence, one_sequence}
 use Rattle.gj_rules.proofs.sequence.verdict.one_sequence_verdict.Goals as goal
 
 pub returns-clause-some : goal.returns-clause-some

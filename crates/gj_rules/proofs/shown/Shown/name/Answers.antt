@@ -4,9 +4,9 @@ use Rattle.gj_json.specs.declared.names.Known.{Known}
 use Rattle.gj_json.specs.declared.names.Known.TheVariants.{Crs, Other}
 use Rattle.gj_rules.specs.declared.shown.Slot.{Slot}
 use Rattle.gj_rules.specs.Members.{is_known}
-use Rattle.gj_rules.specs.Read.{shown_in}
-use Rattle.gj_rules.specs.Seen.{Shown}
-use Rattle.gj_rules.specs.Shown.{slot_of, with_slot, named, due_after, repeated_at, used}
+use Rattle.gj_rules.specs.Internal.FrameReading.{shown_in}
+use Rattle.gj_rules.specs.Internal.FrameMeaning.{Shown}
+use Rattle.gj_rules.specs.Internal.ShownMembers.{slot_of, with_slot, named, due_after, repeated_at, used}
 use Rattle.gj_rules.proofs.shown.Shown.name.Goals as goal
 
 known : (n : Known) → ¬ (n ≡ Crs) → ¬ (n ≡ Other) → is_known n ≡ true

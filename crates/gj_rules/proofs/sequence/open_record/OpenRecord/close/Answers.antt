@@ -6,7 +6,7 @@ use Rattle.gj_json.specs.Limits.{Allowed}
 use Rattle.gj_rules.specs.Linter.{limits_of}
 use Rattle.gj_rules.specs.Sequence.{shifted_verdict}
 use Rattle.gj_rules.specs.Verdict.{IsVerdict}
-use Rattle.gj_rules.proofs.OpenRecords.{own_limit, ended_within, told_as}
+use Rattle.gj_rules.proofs.Sequences.OpenRecords.{own_limit, ended_within, told_as}
 use Rattle.gj_rules.proofs.sequence.open_record.OpenRecord.close.Goals as goal
 
 pub shifted-verdict-requires : goal.shifted-verdict-requires

@@ -4,7 +4,7 @@ use Rattle.std.proofs.Math.Bridge.{le_prop}
 use Rattle.std.proofs.Math.Logic.{∥∥₁_elim, ∥∥₁_map}
 use Rattle.gj_json.specs.Refusal.{IsRefusal}
 use Rattle.gj_rules.specs.Linter.{limits_of}
-use Rattle.gj_rules.proofs.OpenRecords.{last_of_run, refused_within}
+use Rattle.gj_rules.proofs.Sequences.OpenRecords.{last_of_run, refused_within}
 use Rattle.gj_rules.proofs.sequence.open_record.OpenRecord.feed.Goals as goal
 
 pub invariant_of-self : goal.invariant_of-self

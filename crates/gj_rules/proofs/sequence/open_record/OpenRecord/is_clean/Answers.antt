@@ -1,11 +1,11 @@
 -- The verdict of a record that is ended, and of which the linter tells nothing.
 use Rattle.std.proofs.Common.{length, ap, refl, sym, subst, ◌∙◌, arith}
 use Rattle.gj_json.specs.Limits.{Allowed}
-use Rattle.gj_coords.specs.Noted.{no_warnings}
+use Rattle.gj_coords.specs.Internal.KeptWarnings.{no_warnings}
 use Rattle.gj_coords.specs.declared.warnings.Warnings.{Warnings}
 use Rattle.gj_rules.specs.declared.verdict.Verdict.{Verdict}
 use Rattle.gj_rules.specs.Verdict.{IsVerdict}
-use Rattle.gj_rules.proofs.OpenRecords.{own_limit, told_as, none_shifted}
+use Rattle.gj_rules.proofs.Sequences.OpenRecords.{own_limit, told_as, none_shifted}
 use Rattle.gj_rules.proofs.sequence.open_record.OpenRecord.is_clean.Goals as goal
 
 pub returns-then-self-eq-LINE_FEED : goal.returns-then-self-eq-LINE_FEED

@@ -5,7 +5,7 @@ use Rattle.gj_json.specs.Limits.{Allowed}
 use Rattle.gj_json.specs.Text.{IsTextWithin}
 use Rattle.gj_rules.specs.Judged.{judged_at}
 use Rattle.gj_rules.specs.Linter.{limits_of}
-use Rattle.gj_rules.proofs.OpenRecords.{all_taken}
+use Rattle.gj_rules.proofs.Sequences.OpenRecords.{all_taken}
 use Rattle.gj_rules.proofs.sequence.open_record.OpenRecord.judged.Goals as goal
 
 pub returns : goal.returns

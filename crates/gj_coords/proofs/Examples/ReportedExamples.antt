@@ -1,0 +1,53 @@
+-- What is reported of some warnings, by computing.
+use Rattle.std.proofs.Common.{◌≡◌, ℕ, List, [], ◌∷◌, Option, Some, None, refl}
+use Rattle.gj_coords.specs.declared.kind.Kind.{Kind}
+use Rattle.gj_coords.specs.declared.kind.Kind.TheVariants.{W1, W2, W3, W4, W5, W8, W9}
+use Rattle.gj_coords.specs.Warnings.{Warning, warning_at, count_of, first_of, greatest_count}
+use Rattle.gj_coords.specs.Internal.KeptWarnings.{noted_as, joined_noted, no_warnings, warnings_of, added, joined}
+
+abbrev Reported : List Warning → Kind → ℕ → Option ℕ → Type 0
+Reported warnings kind count first = (count_of kind warnings ≡ count) × (first_of kind warnings ≡ first)
+
+none : Reported [] W2 0 None
+none = (refl, refl)
+
+-- a byte order mark
+at_the_start : Reported (warning_at 0 W1 ∷ []) W1 1 (Some 0)
+at_the_start = (refl, refl)
+
+-- {"crs":1,"crs":2,"type":"Point","coordinates":[1,2]}
+twice : Reported (warning_at 1 W9 ∷ warning_at 9 W9 ∷ []) W9 2 (Some 1)
+twice = (refl, refl)
+
+lesser_second : Reported (warning_at 50 W3 ∷ warning_at 36 W3 ∷ []) W3 2 (Some 36)
+lesser_second = (refl, refl)
+
+-- of two kinds each has its own
+first_kind : Reported (warning_at 31 W4 ∷ warning_at 30 W5 ∷ warning_at 32 W4 ∷ []) W4 2 (Some 31)
+first_kind = (refl, refl)
+
+second_kind : Reported (warning_at 31 W4 ∷ warning_at 30 W5 ∷ warning_at 32 W4 ∷ []) W5 1 (Some 30)
+second_kind = (refl, refl)
+
+other_kind : Reported (warning_at 31 W4 ∷ warning_at 30 W5 ∷ warning_at 32 W4 ∷ []) W8 0 None
+other_kind = (refl, refl)
+
+-- the greatest count stays
+stays : joined_noted (noted_as greatest_count 3) (noted_as 2 1) ≡ noted_as greatest_count 1
+stays = refl
+
+one_below : joined_noted (noted_as 4294967294 3) (noted_as 1 7) ≡ noted_as greatest_count 3
+one_below = refl
+
+-- what is kept is that of a list
+no_warning : no_warnings ≡ warnings_of []
+unfolding no_warnings warnings_of
+no_warning = refl
+
+one_by_one : added (added no_warnings W3 50) W3 36 ≡ warnings_of (warning_at 50 W3 ∷ warning_at 36 W3 ∷ [])
+unfolding added no_warnings warnings_of
+one_by_one = refl
+
+both_lists : joined (warnings_of (warning_at 50 W3 ∷ [])) (warnings_of (warning_at 36 W3 ∷ warning_at 1 W9 ∷ [])) ≡ warnings_of (warning_at 50 W3 ∷ warning_at 36 W3 ∷ warning_at 1 W9 ∷ [])
+unfolding joined warnings_of
+both_lists = refl

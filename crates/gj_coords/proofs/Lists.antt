@@ -1,0 +1,4 @@
+-- What is kept of a list of warnings.
+pub mod ListsStoodFor
+pub mod ShiftedWarnings
+pub mod KeptOfShortValues

@@ -1,0 +1,26 @@
+-- What is kept of the warnings of a value of fewer than 2^64 events is what is kept of the list of them.
+use Rattle.std.proofs.Common.{◌≡◌, ◌<◌, ◌^◌, length, List, ap, arith}
+use Rattle.gj_json.specs.declared.event.Event.{Event}
+use Rattle.gj_json.specs.Tree.{Tree, depth}
+use Rattle.gj_json.specs.Events.{value_events}
+use Rattle.gj_coords.specs.declared.simple.Simple.{Simple}
+use Rattle.gj_coords.specs.Internal.KeptWarnings.{warnings_of}
+use Rattle.gj_coords.specs.CoordinateWarnings.{coordinates_warnings}
+use Rattle.gj_coords.specs.Internal.CoordinatesKept.{coordinates_kept}
+use Rattle.gj_coords.proofs.Readers.SentLaws.{value_sent}
+use Rattle.gj_coords.proofs.Readers.EventCounts.{depth_below}
+use Rattle.gj_coords.proofs.Readers.WarningsOfElements.{IsShort}
+use Rattle.gj_coords.proofs.Walks.WarningsOfLevels.{first_warned}
+
+pub short : (v : Tree) → length (value_events v) < 2 ^ 64 → IsShort v
+short v few = let h : length (value_events v) ≡ length _ = ap (λ (es : List Event). length es) (value_sent v) in omega arith
+
+pub kept_is : (simple : Simple) (v : Tree) → length (value_events v) < 2 ^ 64 → coordinates_kept simple v ≡ warnings_of (coordinates_warnings simple v)
+unfolding coordinates_kept
+kept_is simple v few = first_warned simple v (short v few)
+
+pub countable : (v : Tree) → length (value_events v) < 2 ^ 64 → depth v < 2 ^ 64
+countable v few =
+    let h = short v few in
+    let k = depth_below v in
+    omega arith

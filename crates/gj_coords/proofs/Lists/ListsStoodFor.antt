@@ -1,0 +1,97 @@
+-- The lists that warnings stand for, and what is read off them.
+use Rattle.std.specs.Prelude.{refl, ◌≡◌, ℕ, min, ◌<◌, true, List, [], ◌∷◌, ◌++◌, length, Some, None, unwrap_or, suc, IsTrue, ◌↔◌}
+use Rattle.std.proofs.Common.{arith, sym, ◌∙◌, ap}
+use Rattle.std.proofs.lemmas.Bool.Decides.{nat_tests}
+use Rattle.gj_coords.specs.declared.kind.Kind.{Kind}
+use Rattle.gj_coords.specs.declared.noted.Noted.{Noted}
+use Rattle.gj_coords.specs.declared.warnings.Warnings.{Warnings}
+use Rattle.gj_coords.specs.Warnings.{Warning, warning_at, same_kind, places_of, greatest_count, first_of, least_place}
+use Rattle.gj_coords.specs.Internal.KeptWarnings.{noted_as, noted_of, joined_noted, kept, warnings_of, StandsFor, joined, added, replaced, all_zero}
+use Rattle.gj_coords.specs.Internal.KeptWarningLaws.{some_least}
+use Rattle.gj_coords.specs.WarningLaws.{kept_by_kind, added_is, warnings_of-append}
+
+-- what is written for the kind alone
+pub added_by_replacing : (a : Warnings) (kind : Kind) (place : ℕ) → replaced a kind (joined_noted (kept a kind) (noted_as 1 place)) ≡ added a kind place
+unfolding added
+added_by_replacing a Kind.W1 place = refl
+added_by_replacing a Kind.W2 place = refl
+added_by_replacing a Kind.W3 place = refl
+added_by_replacing a Kind.W4 place = refl
+added_by_replacing a Kind.W5 place = refl
+added_by_replacing a Kind.W6 place = refl
+added_by_replacing a Kind.W7 place = refl
+added_by_replacing a Kind.W8 place = refl
+added_by_replacing a Kind.W9 place = refl
+
+-- lists that the values stand for
+pub added_stands : (a : Warnings) (kind : Kind) (place : ℕ) (warnings : List Warning) → StandsFor a warnings →
+    StandsFor (added a kind place) (warnings ++ warning_at place kind ∷ [])
+added_stands a kind place warnings h =
+    added_is a kind place ∙ (ap (λ x. joined x (warnings_of (warning_at place kind ∷ []))) h ∙ sym (warnings_of-append warnings (warning_at place kind ∷ [])))
+
+pub joined_stands : (a b : Warnings) (warnings others : List Warning) → StandsFor a warnings → StandsFor b others → StandsFor (joined a b) (warnings ++ others)
+joined_stands a b warnings others h k = ap (λ x. joined x b) h ∙ (ap (joined (warnings_of warnings)) k ∙ sym (warnings_of-append warnings others))
+
+pub kept_of : (a : Warnings) (kind : Kind) (warnings : List Warning) → StandsFor a warnings → kept a kind ≡ noted_of kind warnings
+unfolding warnings_of
+kept_of a kind warnings h = ap (λ x. kept x kind) h ∙ kept_by_kind (λ k. noted_of k warnings) kind
+
+-- the least place, where there is a count
+first_there : (places : List ℕ) (count first : ℕ) → count ≡ min (length places) greatest_count → first ≡ unwrap_or (least_place places) 0 → 0 < count →
+    Some first ≡ least_place places
+first_there [] count first h k some = absurd (omega arith)
+first_there (x ∷ xs) count first h k some =
+    let found : (place : ℕ) × (least_place (x ∷ xs) ≡ Some place) = some_least x xs in
+    ap Some (k ∙ ap (λ o. unwrap_or o 0) found.1) ∙ sym found.1
+
+none_there : (places : List ℕ) (count : ℕ) → count ≡ min (length places) greatest_count → count ≡ 0 → None ≡ least_place places
+none_there [] count h zero = refl
+none_there (x ∷ xs) count h zero = absurd (counted greatest_count (length xs) (omega arith) (sym h ∙ zero))
+  where
+    counted : (limit n : ℕ) → 0 < limit → min (suc n) limit ≡ 0 → ⊥
+    counted limit n h k = grind (arith, nat_tests)
+
+pub first_is : (noted : Noted) (kind : Kind) (warnings : List Warning) → noted ≡ noted_of kind warnings → 0 < noted.count → Some noted.first ≡ first_of kind warnings
+first_is noted kind warnings h some =
+    first_there (places_of kind warnings) noted.count noted.first (ap (λ x. x.count) h) (ap (λ x. x.first) h) some
+
+pub first_is_none : (noted : Noted) (kind : Kind) (warnings : List Warning) → noted ≡ noted_of kind warnings → noted.count ≡ 0 → None ≡ first_of kind warnings
+first_is_none noted kind warnings h zero = none_there (places_of kind warnings) noted.count (ap (λ x. x.count) h) zero
+
+-- no count, no warning
+itself : (kind : Kind) → same_kind kind kind ≡ true
+itself Kind.W1 = refl
+itself Kind.W2 = refl
+itself Kind.W3 = refl
+itself Kind.W4 = refl
+itself Kind.W5 = refl
+itself Kind.W6 = refl
+itself Kind.W7 = refl
+itself Kind.W8 = refl
+itself Kind.W9 = refl
+
+count_zero : (a : Warnings) (kind : Kind) → IsTrue (all_zero a.counts) → (kept a kind).count ≡ 0
+count_zero a Kind.W1 h = grind (arith, nat_tests)
+count_zero a Kind.W2 h = grind (arith, nat_tests)
+count_zero a Kind.W3 h = grind (arith, nat_tests)
+count_zero a Kind.W4 h = grind (arith, nat_tests)
+count_zero a Kind.W5 h = grind (arith, nat_tests)
+count_zero a Kind.W6 h = grind (arith, nat_tests)
+count_zero a Kind.W7 h = grind (arith, nat_tests)
+count_zero a Kind.W8 h = grind (arith, nat_tests)
+count_zero a Kind.W9 h = grind (arith, nat_tests)
+
+counted_itself : (warning : Warning) (more : List Warning) → places_of warning.kind (warning ∷ more) ≡ warning.place ∷ places_of warning.kind more
+counted_itself warning more = simp (itself warning.kind)
+
+pub empty_is : (a : Warnings) (warnings : List Warning) → StandsFor a warnings → IsTrue (all_zero a.counts) ↔ (warnings ≡ [])
+unfolding warnings_of
+empty_is a [] h = (λ _. refl, λ _. rw h refl)
+empty_is a (warning ∷ more) h = (
+  λ t.
+      let zero : (kept a warning.kind).count ≡ 0 = count_zero a warning.kind t in
+      let e : None ≡ first_of warning.kind (warning ∷ more) = first_is_none (kept a warning.kind) warning.kind (warning ∷ more) (kept_of a warning.kind (warning ∷ more) h) zero in
+      let found : (place : ℕ) × (least_place (warning.place ∷ places_of warning.kind more) ≡ Some place) = some_least warning.place (places_of warning.kind more) in
+      let e2 : None ≡ Some found.0 = e ∙ (ap least_place (counted_itself warning more) ∙ found.1) in cc,
+  λ e. cc,
+)

@@ -1,0 +1,11 @@
+-- What the reader of each kind of value answers.
+pub mod SentLaws
+pub mod RestsOfValues
+pub mod BboxLaws
+pub mod LeastOfSome
+pub mod AgreeingPositions
+pub mod EventCounts
+pub mod WarningsOfElements
+pub mod WholeLaws
+pub mod SixFaults
+pub mod SixWarnings

@@ -1,0 +1,9 @@
+-- One walk over a value for the six types at once.
+pub mod FaultsOfLevels
+pub mod HeldPositions
+pub mod AnswersOfWalks
+pub mod StatesAlike
+pub mod FlatLaws
+pub mod SteadyLaws
+pub mod WarningsOfLevels
+pub mod PreciseNumbers

@@ -1,0 +1,145 @@
+-- What is held of a position that is the whole value tells all that its levels would; and where a few looks show nothing
+-- worth a warning, there is none.
+use Rattle.std.proofs.Common.{◌≡◌, ℕ, Option, Some, None, Bool, true, false, ◌&&◌, ◌==◌, is_some, is_none, if◌then◌else◌, refl, ap}
+use Rattle.gj_json.specs.declared.flat.Flat.{Flat}
+use Rattle.gj_json.specs.declared.flat.Numbered.{Numbered}
+use Rattle.gj_coords.specs.declared.fault.Fault.{Fault}
+use Rattle.gj_coords.specs.declared.first_level.FirstLevel.{FirstLevel}
+use Rattle.gj_coords.specs.declared.first_level.FirstSummary.{FirstSummary}
+use Rattle.gj_coords.specs.declared.first_level.FirstSummary.TheVariants.{Other, Level}
+use Rattle.gj_coords.specs.declared.noted.Noted.{Noted}
+use Rattle.gj_coords.specs.declared.position.Position.{Position}
+use Rattle.gj_coords.specs.declared.position.Values.{Values}
+use Rattle.gj_coords.specs.declared.simple.Simple.{Simple}
+use Rattle.gj_coords.specs.declared.simple.Simple.TheVariants.{Point, MultiPoint, LineString, MultiLineString, Polygon, MultiPolygon}
+use Rattle.gj_coords.specs.declared.warned.Warned.{Warned}
+use Rattle.gj_coords.specs.declared.warnings.Warnings.{Warnings}
+use Rattle.gj_coords.specs.Fault.{lesser, comes_first}
+use Rattle.gj_coords.specs.Internal.GatheredWarnings.{no_warned}
+use Rattle.gj_coords.specs.Internal.PositionGather.{judged_noted, position_closed, sound_noted}
+use Rattle.gj_coords.specs.Internal.LevelGather.{fault_in, some_warned_in, warned_in, warned_as, some_quiet_in, quiet_as}
+use Rattle.gj_coords.specs.Internal.FlatPosition.{flat_count, flat_misshapen, flat_position, flat_first, held_fault, held_warned}
+
+-- ---- a position that is the whole value
+
+abbrev level_of : Option Numbered → ℕ → Values → Noted → Option Fault → FirstLevel
+level_of third place values precise misshapen = record {
+  numbers = record { values = values; tally = record { place = place; count = flat_count third }; fault = None; precise = precise };
+  positions_warned = no_warned;
+  lines_warned = no_warned;
+  rings_warned = no_warned;
+  polygons_warned = no_warned;
+  positions = misshapen;
+  lines = misshapen;
+  rings = misshapen;
+  polygons = misshapen;
+}
+
+level_fault : (simple : Simple) (third : Option Numbered) (place : ℕ) (values : Values) (precise : Noted) (misshapen : Option Fault) →
+    held_fault simple misshapen ≡ fault_in simple (level_of third place values precise misshapen)
+level_fault Point None place values precise misshapen = refl
+level_fault MultiPoint None place values precise misshapen = refl
+level_fault LineString None place values precise misshapen = refl
+level_fault MultiLineString None place values precise misshapen = refl
+level_fault Polygon None place values precise misshapen = refl
+level_fault MultiPolygon None place values precise misshapen = refl
+level_fault Point (Some number) place values precise misshapen = refl
+level_fault MultiPoint (Some number) place values precise misshapen = refl
+level_fault LineString (Some number) place values precise misshapen = refl
+level_fault MultiLineString (Some number) place values precise misshapen = refl
+level_fault Polygon (Some number) place values precise misshapen = refl
+level_fault MultiPolygon (Some number) place values precise misshapen = refl
+
+pub flat_fault : (simple : Simple) (f : Flat) → held_fault simple (flat_misshapen f) ≡ fault_in simple (flat_first f)
+flat_fault simple f =
+    let s : FirstLevel = flat_first f in
+    level_fault simple f.third f.place s.numbers.values s.numbers.precise (flat_misshapen f)
+
+abbrev position_of : Option Numbered → ℕ → Values → Noted → Position
+position_of third place values precise =
+    position_closed (record { values = values; tally = record { place = place; count = flat_count third }; fault = None; precise = precise })
+
+level_warned : (simple : Simple) (third : Option Numbered) (place : ℕ) (values : Values) (precise : Noted) (misshapen : Option Fault) →
+    held_warned simple (sound_noted no_warned (position_of third place values precise)) ≡ warned_in simple (level_of third place values precise misshapen)
+level_warned Point None place values precise misshapen = refl
+level_warned MultiPoint None place values precise misshapen = refl
+level_warned LineString None place values precise misshapen = refl
+level_warned MultiLineString None place values precise misshapen = refl
+level_warned Polygon None place values precise misshapen = refl
+level_warned MultiPolygon None place values precise misshapen = refl
+level_warned Point (Some number) place values precise misshapen = refl
+level_warned MultiPoint (Some number) place values precise misshapen = refl
+level_warned LineString (Some number) place values precise misshapen = refl
+level_warned MultiLineString (Some number) place values precise misshapen = refl
+level_warned Polygon (Some number) place values precise misshapen = refl
+level_warned MultiPolygon (Some number) place values precise misshapen = refl
+
+pub flat_warned : (simple : Simple) (f : Flat) →
+    held_warned simple (sound_noted no_warned (flat_position f)) ≡ warned_in simple (flat_first f)
+flat_warned simple f =
+    let s : FirstLevel = flat_first f in
+    level_warned simple f.third f.place s.numbers.values s.numbers.precise (flat_misshapen f)
+
+-- ---- a few looks
+
+first_of : (a b : Bool) → (a && b) ≡ true → a ≡ true
+first_of true b e = refl
+first_of false b e = e
+
+second_of : (a b : Bool) → (a && b) ≡ true → b ≡ true
+second_of true b e = e
+second_of false b e = cc
+
+none_of : (o : Option Warnings) → is_none o ≡ true → o ≡ None
+none_of None e = refl
+none_of (Some warnings) e = cc
+
+pub is_no_warned : (w : Warned) → is_none w.warnings ≡ true → w ≡ no_warned
+is_no_warned w e =
+    let build : Option Warnings → Warned = λ o. record { warnings = o } in
+    ap build (none_of w.warnings e)
+
+broken_if : (b : Bool) (x y : Fault) (p : Position) → judged_noted (if b then Some x else Some y) no_warned p ≡ no_warned
+broken_if true x y p = refl
+broken_if false x y p = refl
+
+-- a position that breaks a rule gives none
+broken_none : (few fault : Option Fault) (p : Position) → is_some fault ≡ true → judged_noted (lesser few fault) no_warned p ≡ no_warned
+broken_none few None p e = cc
+broken_none None (Some y) p e = refl
+broken_none (Some x) (Some y) p e = broken_if (comes_first x y) x y p
+
+for_each : (simple : Simple) (s : FirstLevel) → is_some s.numbers.fault ≡ true → is_none s.positions_warned.warnings ≡ true →
+    is_none s.lines_warned.warnings ≡ true → is_none s.rings_warned.warnings ≡ true → is_none s.polygons_warned.warnings ≡ true →
+    some_warned_in simple s ≡ no_warned
+for_each Point s broken positions lines rings polygons = broken_none _ s.numbers.fault (position_closed s.numbers) broken
+for_each MultiPoint s broken positions lines rings polygons = is_no_warned s.positions_warned positions
+for_each LineString s broken positions lines rings polygons = is_no_warned s.positions_warned positions
+for_each MultiLineString s broken positions lines rings polygons = is_no_warned s.lines_warned lines
+for_each Polygon s broken positions lines rings polygons = is_no_warned s.rings_warned rings
+for_each MultiPolygon s broken positions lines rings polygons = is_no_warned s.polygons_warned polygons
+
+some_quiet : (simple : Simple) (s : FirstLevel) → some_quiet_in s ≡ true → some_warned_in simple s ≡ no_warned
+some_quiet simple s e =
+    let broken : Bool = is_some s.numbers.fault in
+    let positions : Bool = is_none s.positions_warned.warnings in
+    let lines : Bool = is_none s.lines_warned.warnings in
+    let rings : Bool = is_none s.rings_warned.warnings in
+    let polygons : Bool = is_none s.polygons_warned.warnings in
+    let a = second_of broken (positions && (lines && (rings && polygons))) e in
+    let b = second_of positions (lines && (rings && polygons)) a in
+    let d = second_of lines (rings && polygons) b in
+    for_each simple s
+    (first_of broken (positions && (lines && (rings && polygons))) e)
+    (first_of positions (lines && (rings && polygons)) a)
+    (first_of lines (rings && polygons) b)
+    (first_of rings polygons d)
+    (second_of rings polygons d)
+
+where_some : (empty quiet : Bool) (w v : Warned) → (if empty then false else quiet) ≡ true → (quiet ≡ true → v ≡ no_warned) → (if empty then w else v) ≡ no_warned
+where_some true quiet w v e k = cc
+where_some false quiet w v e k = k e
+
+pub quiet_none : (simple : Simple) (a : FirstSummary) → quiet_as a ≡ true → warned_as simple a ≡ no_warned
+quiet_none simple (Other place) e = refl
+quiet_none simple (Level s) e = where_some (s.numbers.tally.count == 0) (some_quiet_in s) _ _ e (some_quiet simple s)

@@ -1,0 +1,194 @@
+-- Each role of each level of a value has the warnings of its concern.
+use Rattle.std.specs.List.{flat_map}
+use Rattle.std.specs.Prelude.{⊤}
+use Rattle.std.proofs.Common.{◌≡◌, ℕ, [], ◌∷◌, true, false, refl, sym, ap, ◌∙◌, arith, if◌then◌else◌}
+use Rattle.gj_json.specs.Tree.{Tree, constant, number, string, array, object, Elements, end_of_array, element}
+use Rattle.gj_coords.specs.declared.first_level.FirstLevel.{FirstLevel}
+use Rattle.gj_coords.specs.declared.kind.Kind.TheVariants.{W6}
+use Rattle.gj_coords.specs.declared.position.Position.{Position}
+use Rattle.gj_coords.specs.declared.ring.RingGather.{RingGather}
+use Rattle.gj_coords.specs.declared.second_level.SecondLevel.{SecondLevel}
+use Rattle.gj_coords.specs.declared.third_level.ThirdLevel.{ThirdLevel}
+use Rattle.gj_coords.specs.declared.simple.Simple.{Simple}
+use Rattle.gj_coords.specs.declared.simple.Simple.TheVariants.{Point, MultiPoint, LineString, MultiLineString, Polygon, MultiPolygon}
+use Rattle.gj_coords.specs.Items.{items, elements_of, place_of}
+use Rattle.gj_coords.specs.Shape.{position, ring}
+use Rattle.gj_coords.specs.Winding.{ring_turn}
+use Rattle.gj_coords.specs.Internal.WindingGather.{turn_in}
+use Rattle.gj_coords.specs.CoordinateWarnings.{is_sound, each, sound_position_warnings, position_warnings, rings_warnings, polygon_warnings, concern_of, coordinates_warnings}
+use Rattle.gj_coords.specs.Internal.SentEvents.{head}
+use Rattle.gj_coords.specs.Internal.Gathering.{gathered}
+use Rattle.gj_coords.specs.Internal.KeptWarnings.{warnings_of, no_warnings, joined}
+use Rattle.gj_coords.specs.Internal.GatheredWarnings.{no_warned, all_in, noted_in}
+use Rattle.gj_coords.specs.Internal.PositionGather.{numbers_gathering, position_closed, position_answer, judged_noted}
+use Rattle.gj_coords.specs.Internal.PositionsGather.{position_added, ring_gathering, role_behind}
+use Rattle.gj_coords.specs.Internal.LevelGather.{third_gathering, second_gathering, first_gathering, some_warned_in, warned_as}
+use Rattle.gj_coords.specs.Internal.CoordinatesKept.{third_answer, second_answer, first_answer}
+use Rattle.gj_coords.specs.Internal.PositionLaws.{position_head}
+use Rattle.gj_coords.specs.Internal.PositionWarnings.{place_head, position_warned}
+use Rattle.gj_coords.specs.Internal.RingWarnings.{added_warned, ring_turns}
+use Rattle.gj_coords.specs.WarningLaws.{joined_none_first, added_is}
+use Rattle.gj_coords.specs.Internal.GatheredWarningLaws.{taken_is}
+use Rattle.gj_coords.proofs.Readers.EventCounts.{length_below}
+use Rattle.gj_coords.proofs.Readers.WarningsOfElements.{IsShort, elements_short, none_of, always, sound_positions, gathered_warned, from_none, ring_warnings, ring_warned, gathered_rings}
+use Rattle.gj_coords.proofs.Walks.FaultsOfLevels.{project, third_position, third_ring, second_position, second_ring, not_empty}
+
+-- where the answer as a position says it is
+answered_place : (p : Position) (v : Tree) → p ≡ position_answer v → p.head.place ≡ place_of v
+answered_place p v e = ap (λ q. q.head.place) e ∙ (ap (λ h. h.place) (position_head v) ∙ place_head v)
+
+-- ---- the third level
+
+third_step : (g : ThirdLevel) (v : Tree) → ⊤ → IsShort v →
+    all_in (third_gathering.added g (position_answer v)).positions.warned ≡ joined (all_in g.positions.warned) (warnings_of (position_warnings v))
+third_step g v t short = ap all_in (added_warned g.positions (position_answer v)) ∙ position_warned g.positions.warned v
+
+third_warned : (v : Tree) → IsShort v → all_in (third_answer v).warned ≡ warnings_of (each position_warnings v)
+third_warned (constant which place) short = none_of
+third_warned (number place literal end) short = none_of
+third_warned (string place content end) short = none_of
+third_warned (object place ms close) short = none_of
+third_warned (array place es close) short =
+    from_none _ no_warnings (flat_map position_warnings (items es))
+    (gathered_warned third_gathering position_answer (λ g. g.positions.warned) position_warnings (λ g. ⊤) always third_step
+    (items es) (third_gathering.opened place) tt (elements_short place es close short))
+    refl
+
+third_turn : (v : Tree) → IsShort v → is_sound ring v ≡ true → (third_answer v).turn ≡ ring_turn (elements_of v)
+third_turn (constant which place) short sound = cc
+third_turn (number place literal end) short sound = cc
+third_turn (string place content end) short sound = cc
+third_turn (object place ms close) short sound = cc
+third_turn (array place es close) short sound =
+    let count = elements_short place es close short in
+    let long = length_below (items es) in
+    ap (λ (h : RingGather). turn_in h.positions.winding)
+    (project third_gathering ring_gathering (λ g. record { positions = g.positions; tally = g.numbers.tally }) (λ a. a) position_answer position_answer
+    (λ g a. refl) (λ v. refl) (items es) (third_gathering.opened place)) ∙
+    ring_turns place (items es) (sound_positions place (items es) sound) (omega arith)
+
+-- ---- the second level
+
+second_step : (g : SecondLevel) (v : Tree) → ⊤ → IsShort v →
+    all_in (second_gathering.added g (third_answer v)).positions.warned ≡ joined (all_in g.positions.warned) (warnings_of (position_warnings v))
+second_step g v t short =
+    ap (λ p. all_in (position_added g.positions p).warned) (third_position v) ∙
+    (ap all_in (added_warned g.positions (position_answer v)) ∙ position_warned g.positions.warned v)
+
+second_warned : (v : Tree) → IsShort v → all_in (second_answer v).warned ≡ warnings_of (each position_warnings v)
+second_warned (constant which place) short = none_of
+second_warned (number place literal end) short = none_of
+second_warned (string place content end) short = none_of
+second_warned (object place ms close) short = none_of
+second_warned (array place es close) short =
+    from_none _ no_warnings (flat_map position_warnings (items es))
+    (gathered_warned second_gathering third_answer (λ g. g.positions.warned) position_warnings (λ g. ⊤) always second_step
+    (items es) (second_gathering.opened place) tt (elements_short place es close short))
+    refl
+
+second_turn : (v : Tree) → IsShort v → is_sound ring v ≡ true → (second_answer v).turn ≡ ring_turn (elements_of v)
+second_turn (constant which place) short sound = cc
+second_turn (number place literal end) short sound = cc
+second_turn (string place content end) short sound = cc
+second_turn (object place ms close) short sound = cc
+second_turn (array place es close) short sound =
+    let count = elements_short place es close short in
+    let long = length_below (items es) in
+    ap (λ (h : RingGather). turn_in h.positions.winding)
+    (project second_gathering ring_gathering (λ g. record { positions = g.positions; tally = g.numbers.tally }) (λ a. a.position) third_answer position_answer
+    (λ g a. refl) third_position (items es) (second_gathering.opened place)) ∙
+    ring_turns place (items es) (sound_positions place (items es) sound) (omega arith)
+
+second_ring_step : (g : SecondLevel) (v : Tree) → IsShort v →
+    all_in (second_gathering.added g (third_answer v)).rings_warned ≡ joined (all_in g.rings_warned) (warnings_of (ring_warnings (role_behind g.numbers.tally.count) v))
+second_ring_step g v short =
+    let a = third_answer v in
+    ring_warned (role_behind g.numbers.tally.count) g.rings_warned a.position.head.place a.ring a.turn a.warned v
+    (answered_place a.position v (third_position v)) (third_ring v) (third_turn v short) (third_warned v short)
+
+second_rings_warned : (v : Tree) → IsShort v → all_in (second_answer v).rings_warned ≡ warnings_of (polygon_warnings v)
+second_rings_warned (constant which place) short = none_of
+second_rings_warned (number place literal end) short = none_of
+second_rings_warned (string place content end) short = none_of
+second_rings_warned (object place ms close) short = none_of
+second_rings_warned (array place es close) short =
+    gathered_rings second_gathering third_answer (λ g. g.rings_warned) (λ g. g.numbers.tally.count) (λ g a. refl) second_ring_step
+    (items es) (second_gathering.opened place) refl refl (elements_short place es close short)
+
+-- ---- the first level
+
+positions_step : (g : FirstLevel) (v : Tree) → ⊤ → IsShort v →
+    all_in (first_gathering.added g (second_answer v)).positions_warned ≡ joined (all_in g.positions_warned) (warnings_of (position_warnings v))
+positions_step g v t short =
+    ap (λ p. all_in (judged_noted p.fault g.positions_warned p)) (second_position v) ∙ position_warned g.positions_warned v
+
+lines_step : (g : FirstLevel) (v : Tree) → ⊤ → IsShort v →
+    all_in (first_gathering.added g (second_answer v)).lines_warned ≡ joined (all_in g.lines_warned) (warnings_of (each position_warnings v))
+lines_step g v t short = taken_is g.lines_warned (second_answer v).warned ∙ ap (joined (all_in g.lines_warned)) (second_warned v short)
+
+rings_step : (g : FirstLevel) (v : Tree) → IsShort v →
+    all_in (first_gathering.added g (second_answer v)).rings_warned ≡ joined (all_in g.rings_warned) (warnings_of (ring_warnings (role_behind g.numbers.tally.count) v))
+rings_step g v short =
+    let a = second_answer v in
+    ring_warned (role_behind g.numbers.tally.count) g.rings_warned a.position.head.place a.ring a.turn a.warned v
+    (answered_place a.position v (second_position v)) (second_ring v) (second_turn v short) (second_warned v short)
+
+polygons_step : (g : FirstLevel) (v : Tree) → ⊤ → IsShort v →
+    all_in (first_gathering.added g (second_answer v)).polygons_warned ≡ joined (all_in g.polygons_warned) (warnings_of (polygon_warnings v))
+polygons_step g v t short = taken_is g.polygons_warned (second_answer v).rings_warned ∙ ap (joined (all_in g.polygons_warned)) (second_rings_warned v short)
+
+positions_warned : (place : ℕ) (es : Elements) (close : ℕ) → IsShort (array place es close) →
+    all_in (gathered first_gathering second_answer (first_gathering.opened place) (items es)).positions_warned ≡ warnings_of (flat_map position_warnings (items es))
+positions_warned place es close short =
+    from_none _ no_warnings (flat_map position_warnings (items es))
+    (gathered_warned first_gathering second_answer (λ g. g.positions_warned) position_warnings (λ g. ⊤) always positions_step
+    (items es) (first_gathering.opened place) tt (elements_short place es close short))
+    refl
+
+-- of an array, empty or not
+array_warned : (simple : Simple) (place : ℕ) (es : Elements) (close : ℕ) → IsShort (array place es close) →
+    all_in (some_warned_in simple (gathered first_gathering second_answer (first_gathering.opened place) (items es))) ≡
+    warnings_of (concern_of simple (array place es close))
+array_warned Point place es close short =
+    ap (λ n. let p = position_closed n in all_in (judged_noted p.fault no_warned p))
+    (project first_gathering numbers_gathering (λ g. g.numbers) (λ a. a.position.head) second_answer head
+    (λ g a. refl) (λ v. ap (λ p. p.head) (second_position v) ∙ position_head v) (items es) (first_gathering.opened place)) ∙
+    from_none _ no_warnings (position_warnings (array place es close)) (position_warned no_warned (array place es close)) refl
+array_warned MultiPoint place es close short = positions_warned place es close short
+array_warned LineString place es close short = positions_warned place es close short
+array_warned MultiLineString place es close short =
+    from_none _ no_warnings (flat_map (each position_warnings) (items es))
+    (gathered_warned first_gathering second_answer (λ g. g.lines_warned) (each position_warnings) (λ g. ⊤) always lines_step
+    (items es) (first_gathering.opened place) tt (elements_short place es close short))
+    refl
+array_warned Polygon place es close short =
+    gathered_rings first_gathering second_answer (λ g. g.rings_warned) (λ g. g.numbers.tally.count) (λ g a. refl) rings_step
+    (items es) (first_gathering.opened place) refl refl (elements_short place es close short)
+array_warned MultiPolygon place es close short =
+    from_none _ no_warnings (flat_map polygon_warnings (items es))
+    (gathered_warned first_gathering second_answer (λ g. g.polygons_warned) polygon_warnings (λ g. ⊤) always polygons_step
+    (items es) (first_gathering.opened place) tt (elements_short place es close short))
+    refl
+
+-- what is no array has none
+none_for : (simple : Simple) (v : Tree) → is_sound position v ≡ false → elements_of v ≡ [] → concern_of simple v ≡ []
+none_for Point v broken none = ap (λ b. if b then sound_position_warnings v else []) broken
+none_for MultiPoint v broken none = ap (flat_map position_warnings) none
+none_for LineString v broken none = ap (flat_map position_warnings) none
+none_for MultiLineString v broken none = ap (flat_map (each position_warnings)) none
+none_for Polygon v broken none = ap rings_warnings none
+none_for MultiPolygon v broken none = ap (flat_map polygon_warnings) none
+
+other_warned : (simple : Simple) (v : Tree) → is_sound position v ≡ false → elements_of v ≡ [] → no_warnings ≡ warnings_of (concern_of simple v)
+other_warned simple v broken none = none_of ∙ sym (ap warnings_of (none_for simple v broken none))
+
+pub first_warned : (simple : Simple) (v : Tree) → IsShort v → all_in (warned_as simple (first_answer v)) ≡ warnings_of (coordinates_warnings simple v)
+first_warned simple (constant which place) short = other_warned simple (constant which place) refl refl
+first_warned simple (number place literal end) short = other_warned simple (number place literal end) refl refl
+first_warned simple (string place content end) short = other_warned simple (string place content end) refl refl
+first_warned simple (object place ms close) short = other_warned simple (object place ms close) refl refl
+first_warned simple (array place end_of_array close) short = added_is no_warnings W6 place ∙ joined_none_first _
+first_warned simple (array place (element v more) close) short =
+    let g : FirstLevel = gathered first_gathering second_answer (first_gathering.opened place) (v ∷ items more) in
+    ap (λ b. all_in (if b then noted_in no_warned W6 g.numbers.tally.place else some_warned_in simple g)) (not_empty place v (items more)) ∙
+    array_warned simple place (element v more) close short

@@ -1,0 +1,203 @@
+-- What each level of a value gathers of a position that is told as one.
+use Rattle.std.specs.Prelude.{◌≡◌, ℕ, min, Option, Some, None, if◌then◌else◌, nat_lt}
+use Rattle.gj_number.specs.Exact.{Exact}
+use Rattle.gj_number.specs.Short.{exact_of}
+use Rattle.gj_json.specs.declared.event.What.{What}
+use Rattle.gj_json.specs.declared.flat.Flat.{Flat}
+use Rattle.gj_json.specs.declared.flat.Numbered.{Numbered}
+use Rattle.gj_json.specs.Flat.{flat_events}
+use Rattle.gj_coords.specs.declared.array.Array.{Array}
+use Rattle.gj_coords.specs.declared.array.Stage.{Stage}
+use Rattle.gj_coords.specs.declared.array.Stage.TheVariants.{Due, Between, Within, Done}
+use Rattle.gj_coords.specs.declared.element.Element.{Element}
+use Rattle.gj_coords.specs.declared.fault.Fault.{Fault}
+use Rattle.gj_coords.specs.declared.fault.Rule.TheVariants.{G11, G14}
+use Rattle.gj_coords.specs.declared.first_level.FirstLevel.{FirstLevel}
+use Rattle.gj_coords.specs.declared.noted.Noted.{Noted}
+use Rattle.gj_coords.specs.declared.position.Numbers.{Numbers}
+use Rattle.gj_coords.specs.declared.position.Position.{Position}
+use Rattle.gj_coords.specs.declared.position.Values.{Values}
+use Rattle.gj_coords.specs.declared.second_level.SecondLevel.{SecondLevel}
+use Rattle.gj_coords.specs.declared.second_level.SecondSummary.{SecondSummary}
+use Rattle.gj_coords.specs.declared.third_level.ThirdLevel.{ThirdLevel}
+use Rattle.gj_coords.specs.declared.third_level.ThirdSummary.{ThirdSummary}
+use Rattle.gj_coords.specs.declared.winding.Corner.{Corner}
+use Rattle.gj_coords.specs.declared.winding.Turn.TheVariants.{Straight}
+use Rattle.gj_coords.specs.Fault.{fault_at}
+use Rattle.gj_coords.specs.Internal.SentEvents.{event_at}
+use Rattle.gj_coords.specs.Internal.ValueMachine.{run}
+use Rattle.gj_coords.specs.Internal.KeptWarnings.{nothing_noted}
+use Rattle.gj_coords.specs.CoordinateWarnings.{is_precise}
+use Rattle.gj_coords.specs.declared.simple.Simple.{Simple}
+use Rattle.gj_coords.specs.declared.simple.Simple.TheVariants.{Point}
+use Rattle.gj_coords.specs.declared.warned.Warned.{Warned}
+use Rattle.gj_coords.specs.Internal.GatheredWarnings.{no_warned}
+use Rattle.gj_coords.specs.Internal.PositionGather.{precise_with, corner_in, misshapen_at, sound_noted}
+use Rattle.gj_coords.specs.Internal.LevelGather.{position_machine, third_machine, second_machine, walk_machine, third_gathering, second_gathering, first_gathering}
+
+-- ---- as a position, which breaks no rule
+
+abbrev pub third_value : Option Numbered → Option Exact
+third_value None = None
+third_value (Some number) = Some (exact_of number.value)
+
+abbrev pub flat_count : Option Numbered → ℕ
+flat_count None = 2
+flat_count (Some number) = 3
+
+abbrev pub flat_values : Flat → Values
+flat_values f = record { count = flat_count f.third; first = Some (exact_of f.first.value); second = Some (exact_of f.second.value); third = third_value f.third }
+
+abbrev pub number_precise : Numbered → Noted → Noted
+number_precise number noted = precise_with (is_precise (Some (exact_of number.value))) number.place noted
+
+abbrev pub third_precise : Option Numbered → Noted → Noted
+third_precise None noted = noted
+third_precise (Some number) noted = number_precise number noted
+
+abbrev pub flat_precise : Flat → Noted
+flat_precise f = third_precise f.third (number_precise f.second (number_precise f.first nothing_noted))
+
+abbrev pub flat_numbers : Flat → Numbers
+flat_numbers f = record {
+  values = flat_values f;
+  tally = record { place = f.place; count = flat_count f.third };
+  fault = None;
+  precise = flat_precise f;
+}
+
+abbrev pub flat_position : Flat → Position
+flat_position f = record {
+  values = flat_values f;
+  head = event_at f.place What.OpenArray;
+  fault = None;
+  count = flat_count f.third;
+  precise = flat_precise f;
+}
+
+-- it is in range, with this corner, and nothing in it is worth a warning
+pub record IsPlain (f : Flat) (corner : Corner) : Type 0 where
+  pub in_range : corner_in (flat_values f) ≡ Some corner
+  pub quiet : (w : Warned) → sound_noted w (flat_position f) ≡ w
+
+-- ---- as an array of positions: no number has that shape
+
+-- the least place of a number
+abbrev pub least_with : Option Numbered → ℕ → ℕ
+least_with None place = place
+least_with (Some number) place = min place number.place
+
+abbrev pub least_place : Flat → ℕ
+least_place f = least_with f.third (min f.first.place f.second.place)
+
+abbrev pub flat_misshapen : Flat → Option Fault
+flat_misshapen f = misshapen_at (least_place f)
+
+-- as a linear ring it has too few elements
+abbrev pub flat_ring : Flat → Option Fault
+flat_ring f = Some (if nat_lt f.place (least_place f) then fault_at f.place G14 else fault_at (least_place f) G11)
+
+-- ---- what the levels know of it
+
+abbrev pub flat_third : Flat → ThirdSummary
+flat_third f = record { position = flat_position f; ring = flat_ring f; turn = Straight; warned = no_warned }
+
+abbrev pub flat_second : Flat → SecondSummary
+flat_second f = record {
+  position = flat_position f;
+  line = flat_misshapen f;
+  ring = flat_ring f;
+  polygon = flat_misshapen f;
+  turn = Straight;
+  warned = no_warned;
+  rings_warned = no_warned;
+}
+
+abbrev pub flat_first : Flat → FirstLevel
+flat_first f = record {
+  numbers = flat_numbers f;
+  positions_warned = no_warned;
+  lines_warned = no_warned;
+  rings_warned = no_warned;
+  polygons_warned = no_warned;
+  positions = flat_misshapen f;
+  lines = flat_misshapen f;
+  rings = flat_misshapen f;
+  polygons = flat_misshapen f;
+}
+
+-- ---- what is held of it where it is the value itself: little, of which all that the six types ask for is read
+
+abbrev pub flat_held : Flat → FirstLevel → FirstLevel
+flat_held f s = record s { positions = flat_misshapen f; positions_warned = sound_noted no_warned (flat_position f) }
+
+abbrev pub held_fault : Simple → Option Fault → Option Fault
+held_fault Point misshapen = None
+held_fault _ misshapen = misshapen
+
+abbrev pub held_warned : Simple → Warned → Warned
+held_warned Point warned = warned
+held_warned _ warned = no_warned
+
+-- ---- the walk
+
+abbrev pub PositionReader : Type 0
+PositionReader = Array Element Numbers
+
+abbrev pub ThirdReader : Type 0
+ThirdReader = Array PositionReader ThirdLevel
+
+abbrev pub SecondReader : Type 0
+SecondReader = Array ThirdReader SecondLevel
+
+abbrev pub Walk : Type 0
+Walk = Array SecondReader FirstLevel
+
+-- its events one by one
+abbrev pub singly : Flat → Walk → Walk
+singly f s = run walk_machine.after s (flat_events f)
+
+-- where the value itself is due, in which it ends
+abbrev pub at_value : Flat → Walk → Walk
+at_value f s = record s { gather = flat_first f; stage = Done }
+
+-- where an element of the value is due
+abbrev pub at_first : Flat → Walk → Walk
+at_first f s = record s { gather = first_gathering.added s.gather (flat_second f); item = second_machine.again s.item }
+
+-- where an element of an element is due, and so on
+abbrev pub at_second : Flat → SecondReader → SecondReader
+at_second f s = record s { gather = second_gathering.added s.gather (flat_third f); item = third_machine.again s.item }
+
+abbrev pub at_third : Flat → ThirdReader → ThirdReader
+at_third f s = record s { gather = third_gathering.added s.gather (flat_position f); item = position_machine.again s.item }
+
+-- by the stages of the levels, from the first on
+abbrev pub in_fourth : Flat → Stage → Walk → Walk
+in_fourth f Due s = record s { item = record s.item { item = at_third f s.item.item } }
+in_fourth f _ s = singly f s
+
+abbrev pub in_third : Flat → Stage → Walk → Walk
+in_third f Between s = in_fourth f s.item.item.item.stage s
+in_third f _ s = singly f s
+
+abbrev pub third_due : Flat → Stage → Walk → Walk
+third_due f Due s = record s { item = at_second f s.item }
+third_due f _ s = singly f s
+
+abbrev pub in_second : Flat → Stage → Walk → Walk
+in_second f Between s = third_due f s.item.item.stage s
+in_second f Within s = in_third f s.item.item.stage s
+in_second f _ s = singly f s
+
+abbrev pub second_due : Flat → Stage → Walk → Walk
+second_due f Due s = at_first f s
+second_due f _ s = singly f s
+
+abbrev pub in_first : Flat → Stage → Walk → Walk
+in_first f Between s = second_due f s.item.stage s
+in_first f Within s = in_second f s.item.stage s
+in_first f _ s = singly f s
+
+abbrev pub flat_taken : Flat → Walk → Walk
+flat_taken f s = in_first f s.stage s

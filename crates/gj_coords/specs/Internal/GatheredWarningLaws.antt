@@ -1,0 +1,75 @@
+-- Laws of warnings as they are gathered: what is taken is joined.
+use Rattle.std.specs.Prelude.{◌≡◌, ℕ, Bool, true, false, Option, Some, None, [], refl}
+use Rattle.std.proofs.Common.{sym, ◌∙◌, ap}
+use Rattle.gj_coords.specs.declared.kind.Kind.{Kind}
+use Rattle.gj_coords.specs.declared.kind.Kind.TheVariants.{W4}
+use Rattle.gj_coords.specs.declared.noted.Noted.{Noted}
+use Rattle.gj_coords.specs.declared.warned.Warned.{Warned}
+use Rattle.gj_coords.specs.declared.warnings.Warnings.{Warnings}
+use Rattle.gj_coords.specs.Internal.KeptWarnings.{noted_as, nothing_noted, is_nothing, joined_noted, kept, warnings_of, joined, added, with_noted}
+use Rattle.gj_coords.specs.CoordinateWarnings.{warned_if}
+use Rattle.gj_coords.specs.Internal.KeptWarningLaws.{nothing_at_zero, joined_noted_none, joined_noted_assoc}
+use Rattle.gj_coords.specs.WarningLaws.{by_kind_alike, joined_none_last, warnings_of_none, added_is}
+use Rattle.gj_coords.specs.Internal.GatheredWarnings.{warnings_in, all_in, noted_when, some_noted, taken_some, taken}
+
+-- no warnings more
+pub none_more : (a : Warnings) → a ≡ joined a (warnings_of [])
+none_more a = sym (ap (joined a) warnings_of_none ∙ joined_none_last a)
+
+-- one warning more, where there is one
+pub noted_when_is : (wrong : Bool) (w : Warned) (kind : Kind) (place : ℕ) →
+    all_in (noted_when wrong w kind place) ≡ joined (all_in w) (warnings_of (warned_if wrong place kind))
+noted_when_is true w kind place = added_is (all_in w) kind place
+noted_when_is false w kind place = none_more (all_in w)
+
+taken_some_is : (w : Warned) (others : Option Warnings) → all_in (taken_some w others) ≡ joined (all_in w) (warnings_in others)
+taken_some_is w None = sym (joined_none_last (all_in w))
+taken_some_is w (Some others) = refl
+
+-- those of another
+pub taken_is : (w other : Warned) → all_in (taken w other) ≡ joined (all_in w) (all_in other)
+taken_is w other = taken_some_is w other.warnings
+
+-- ---- some warnings of one kind
+
+no_more_of : (a : Warnings) (kind : Kind) → kept (with_noted a W4 nothing_noted) kind ≡ kept a kind
+no_more_of a Kind.W1 = refl
+no_more_of a Kind.W2 = refl
+no_more_of a Kind.W3 = refl
+no_more_of a Kind.W4 = joined_noted_none (kept a W4)
+no_more_of a Kind.W5 = refl
+no_more_of a Kind.W6 = refl
+no_more_of a Kind.W7 = refl
+no_more_of a Kind.W8 = refl
+no_more_of a Kind.W9 = refl
+
+pub with_nothing : (a : Warnings) → with_noted a W4 nothing_noted ≡ a
+with_nothing a = by_kind_alike (kept (with_noted a W4 nothing_noted)) (kept a) (no_more_of a)
+
+one_more_of : (a : Warnings) (noted one : Noted) (kind : Kind) →
+    kept (with_noted a W4 (joined_noted noted one)) kind ≡ kept (with_noted (with_noted a W4 noted) W4 one) kind
+one_more_of a noted one Kind.W1 = refl
+one_more_of a noted one Kind.W2 = refl
+one_more_of a noted one Kind.W3 = refl
+one_more_of a noted one Kind.W4 = sym (joined_noted_assoc (kept a W4) noted one)
+one_more_of a noted one Kind.W5 = refl
+one_more_of a noted one Kind.W6 = refl
+one_more_of a noted one Kind.W7 = refl
+one_more_of a noted one Kind.W8 = refl
+one_more_of a noted one Kind.W9 = refl
+
+with_both : (a : Warnings) (noted one : Noted) → with_noted a W4 (joined_noted noted one) ≡ with_noted (with_noted a W4 noted) W4 one
+with_both a noted one =
+    by_kind_alike (kept (with_noted a W4 (joined_noted noted one))) (kept (with_noted (with_noted a W4 noted) W4 one)) (one_more_of a noted one)
+
+with_one : (a : Warnings) (place : ℕ) → with_noted a W4 (noted_as 1 place) ≡ added a W4 place
+unfolding added
+with_one a place = refl
+
+-- one of the kind more
+pub with_one_more : (a : Warnings) (noted : Noted) (place : ℕ) → with_noted a W4 (joined_noted noted (noted_as 1 place)) ≡ added (with_noted a W4 noted) W4 place
+with_one_more a noted place = with_both a noted (noted_as 1 place) ∙ with_one (with_noted a W4 noted) place
+
+pub some_noted_is : (none : Bool) (w : Warned) (noted : Noted) → is_nothing noted ≡ none → all_in (some_noted none w W4 noted) ≡ with_noted (all_in w) W4 noted
+some_noted_is true w noted h = sym (ap (with_noted (all_in w) W4) (sym (nothing_at_zero noted h)) ∙ with_nothing (all_in w))
+some_noted_is false w noted h = refl

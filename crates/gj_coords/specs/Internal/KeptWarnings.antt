@@ -1,0 +1,119 @@
+-- What a `Warnings` keeps of a list of warnings, and how two of them are joined. The laws of `warnings_of`, `joined` and
+-- `added` are in `WarningLaws`: cite those, and unfold none of the three.
+use Rattle.std.specs.Prelude.{◌≡◌, ℕ, ◌+◌, min, ◌==◌, Bool, ◌&&◌, if◌then◌else◌, List, Option, Some, None, unwrap_or}
+use Rattle.gj_coords.specs.declared.kind.Kind.{Kind}
+use Rattle.gj_coords.specs.declared.noted.Noted.{Noted}
+use Rattle.gj_coords.specs.declared.warnings.Counts.{Counts}
+use Rattle.gj_coords.specs.declared.warnings.Warnings.{Warnings}
+use Rattle.gj_coords.specs.Warnings.{Warning, same_kind, greatest_count, count_of, first_of}
+
+abbrev pub noted_as : ℕ → ℕ → Noted
+noted_as count first = record { count = count; first = first }
+
+-- what is kept of the warnings of one kind: how many, and the least place, which is 0 where there are none
+abbrev pub noted_of : Kind → List Warning → Noted
+noted_of kind warnings = noted_as (count_of kind warnings) (unwrap_or (first_of kind warnings) 0)
+
+abbrev pub nothing_noted : Noted
+nothing_noted = noted_as 0 0
+
+abbrev pub is_nothing : Noted → Bool
+is_nothing noted = noted.count == 0 && noted.first == 0
+
+-- counts are added, and the lesser place is kept
+abbrev pub joined_noted : Noted → Noted → Noted
+joined_noted a b =
+    if is_nothing a then b
+    else (if is_nothing b then a
+    else noted_as (min (a.count + b.count) greatest_count) (min a.first b.first))
+
+-- the place is so many bytes further on, where there is one
+abbrev pub shifted_noted : ℕ → Noted → Noted
+shifted_noted by a = noted_as a.count (if a.count == 0 then a.first else a.first + by)
+
+-- what is kept of each kind, side by side
+abbrev pub by_kind : (Kind → Noted) → Warnings
+by_kind noted = record {
+  firsts = record {
+    w1 = (noted Kind.W1).first;
+    w2 = (noted Kind.W2).first;
+    w3 = (noted Kind.W3).first;
+    w4 = (noted Kind.W4).first;
+    w5 = (noted Kind.W5).first;
+    w6 = (noted Kind.W6).first;
+    w7 = (noted Kind.W7).first;
+    w8 = (noted Kind.W8).first;
+    w9 = (noted Kind.W9).first;
+  };
+  counts = record {
+    w1 = (noted Kind.W1).count;
+    w2 = (noted Kind.W2).count;
+    w3 = (noted Kind.W3).count;
+    w4 = (noted Kind.W4).count;
+    w5 = (noted Kind.W5).count;
+    w6 = (noted Kind.W6).count;
+    w7 = (noted Kind.W7).count;
+    w8 = (noted Kind.W8).count;
+    w9 = (noted Kind.W9).count;
+  };
+}
+
+-- of a kind
+abbrev pub kept : Warnings → Kind → Noted
+kept warnings Kind.W1 = noted_as warnings.counts.w1 warnings.firsts.w1
+kept warnings Kind.W2 = noted_as warnings.counts.w2 warnings.firsts.w2
+kept warnings Kind.W3 = noted_as warnings.counts.w3 warnings.firsts.w3
+kept warnings Kind.W4 = noted_as warnings.counts.w4 warnings.firsts.w4
+kept warnings Kind.W5 = noted_as warnings.counts.w5 warnings.firsts.w5
+kept warnings Kind.W6 = noted_as warnings.counts.w6 warnings.firsts.w6
+kept warnings Kind.W7 = noted_as warnings.counts.w7 warnings.firsts.w7
+kept warnings Kind.W8 = noted_as warnings.counts.w8 warnings.firsts.w8
+kept warnings Kind.W9 = noted_as warnings.counts.w9 warnings.firsts.w9
+
+-- how many of a kind there are, and the least place, as they are told
+abbrev pub count_in : Kind → Warnings → ℕ
+count_in kind warnings = (kept warnings kind).count
+
+abbrev pub first_in : Kind → Warnings → Option ℕ
+first_in kind warnings = if (kept warnings kind).count == 0 then None else Some (kept warnings kind).first
+
+-- what is kept of a list of warnings
+unfoldable pub warnings_of : List Warning → Warnings
+warnings_of warnings = by_kind (λ kind. noted_of kind warnings)
+
+-- the value is what is kept of the list
+abbrev pub StandsFor : Warnings → List Warning → Type 0
+StandsFor self warnings = self ≡ warnings_of warnings
+
+-- what is kept of no warning
+unfoldable pub no_warnings : Warnings
+no_warnings = by_kind (λ kind. nothing_noted)
+
+-- what is kept of both, kind by kind
+unfoldable pub joined : Warnings → Warnings → Warnings
+joined a b = by_kind (λ kind. joined_noted (kept a kind) (kept b kind))
+
+-- each place so many bytes further on
+unfoldable pub shifted : Warnings → ℕ → Warnings
+shifted a by = by_kind (λ kind. shifted_noted by (kept a kind))
+
+-- one kind replaced
+abbrev pub replaced : Warnings → Kind → Noted → Warnings
+replaced warnings kind noted = by_kind (λ other. if same_kind kind other then noted else kept warnings other)
+
+-- some warnings of a kind more
+abbrev pub with_noted : Warnings → Kind → Noted → Warnings
+with_noted warnings kind noted = replaced warnings kind (joined_noted (kept warnings kind) noted)
+
+-- one warning more
+unfoldable pub added : Warnings → Kind → ℕ → Warnings
+added warnings kind place =
+    by_kind (λ other. if same_kind kind other then joined_noted (kept warnings other) (noted_as 1 place) else kept warnings other)
+
+-- no kind has a count
+abbrev pub all_zero : Counts → Bool
+all_zero counts =
+    counts.w1 == 0 && counts.w2 == 0 && counts.w3 == 0 && counts.w4 == 0 && counts.w5 == 0 && counts.w6 == 0 && counts.w7 == 0 && counts.w8 == 0 && counts.w9 == 0
+
+abbrev pub none_in : Warnings → Bool
+none_in warnings = all_zero warnings.counts

@@ -1,0 +1,8 @@
+-- Which events a byte completes, and how many containers are open.
+pub mod EventCount
+pub mod EventTimes
+pub mod PastEvents
+pub mod EventsOfSteps
+pub mod OpenContainers
+pub mod FinishedTexts
+pub mod IgnoredEvents

@@ -1,0 +1,395 @@
+-- Which events a step of the machine completes.
+use Rattle.std.proofs.Common.{◌≤◌, ◌≡◌, ℕ, suc, ◌+◌, ◌==◌, ◌<◌, Bool, true, false, if◌then◌else◌, List, [], ◌∷◌, ◌++◌, length, drop, Option, Some, None, refl, sym, ap, subst, ◌∙◌, arith, append_assoc, eq-eqb, get_or, length-drop, drop-cons}
+use Rattle.std.proofs.lemmas.Bool.Decides.{nat_tests}
+use Rattle.gj_json.specs.Bytes.{mark_first, mark_second, mark_third}
+use Rattle.gj_json.specs.Bytes.{mark_first, mark_second, mark_third}
+use Rattle.gj_json.specs.declared.class.Class.{Class}
+use Rattle.gj_json.specs.declared.class.Class.TheVariants.{White, OpenArray, CloseArray, OpenObject, CloseObject, Comma, Colon, Quote, Minus, Plus, Point, Exponent, ZeroDigit, FirstDigit, Letter, Other}
+use Rattle.gj_json.specs.declared.constant.Constant.{Constant}
+use Rattle.gj_json.specs.declared.constant.Constant.TheVariants.{Null, True, False}
+use Rattle.gj_json.specs.Internal.NumberStates.{NumberState, turn_of}
+use Rattle.gj_number.specs.Exact.{Exact}
+use Rattle.gj_number.specs.Value.{value_of}
+use Rattle.gj_json.specs.declared.mode.NumberTurn.{NumberTurn}
+use Rattle.gj_json.specs.Names.{Words, words_of}
+use Rattle.gj_json.specs.Internal.UnderWay.{under_leaf, under_of, Turns, HasValue, HasWords}
+use Rattle.gj_json.specs.declared.mode.StringState.{StringState}
+use Rattle.gj_json.specs.declared.levels.Level.{Level}
+use Rattle.gj_json.specs.declared.levels.Level.TheVariants.{Array, Object}
+use Rattle.gj_json.specs.declared.mode.Mode.{Mode}
+use Rattle.gj_json.specs.declared.mode.Move.{Move}
+use Rattle.gj_json.specs.declared.mode.Mode.TheVariants.{TextDue, MarkOne, MarkTwo, ValueDue, ValueDone, ArrayOpened, ObjectOpened, ConstantOn, NumberOn, StringOn, NameDue, NameOn, ColonDue}
+use Rattle.gj_json.specs.declared.mode.Move.TheVariants.{Refuse, Go}
+use Rattle.gj_json.specs.Tree.{Tree, constant, number, end_of_array, element, end_of_object, member}
+use Rattle.gj_json.specs.Grammar.{letters_of}
+use Rattle.gj_json.specs.Names.{known_of}
+use Rattle.gj_json.specs.Internal.ByteClasses.{class_of}
+use Rattle.gj_json.specs.Internal.TextMachine.{Broken, text_due, mark_one, mark_two, begun, with_mark, step, Frame, in_array, in_object, Member, Leaf, Partial, value_due, value_done, array_opened, object_opened, constant_on, number_on, string_on, name_due, name_on, colon_due, to, step_leaf, begin_value, after_value, step_value_due, step_array_opened, step_object_opened, step_name_due, step_colon_due, step_constant, step_number, step_string, step_name, string_next, StringStep, string_ends, string_goes, string_refuses, number_next, number_may_end, letters_after}
+use Rattle.gj_json.specs.Internal.Transitions.{string_move, begin_move, due_move, array_move, object_move, name_due_move, colon_move, after_move, constant_move, number_move, value_string_move, name_string_move, move_of}
+use Rattle.std.proofs.lemmas.List.{append-nil}
+use Rattle.gj_json.specs.declared.event.Event.{Event}
+use Rattle.gj_json.specs.declared.event.What.{What}
+use Rattle.gj_json.specs.Internal.ReaderState.{levels_of, levels_with, LeafAs, StandsAs}
+use Rattle.gj_json.specs.Events.{Timed, timed, events, mark_events, what_of}
+use Rattle.std.specs.Option.{option_to_list}
+use Rattle.gj_json.specs.Internal.ToldEvents.{event_at, ended, made_event, emitted, start_after}
+use Rattle.gj_json.specs.Internal.OpenLevels.{inner_of}
+use Rattle.gj_json.proofs.Events.EventTimes.{told, in_time-append, in_time_on}
+use Rattle.gj_json.specs.Internal.SeenEvents.{InTime, stack_timed, leaf_timed, partial_timed, seen, done_elements, done_members, ConstantAt, BegunAs, EdgeAt, IsTimely}
+use Rattle.gj_json.proofs.Events.PastEvents.{back_elements-events, back_members-events}
+
+abbrev seen_at : List Frame → Leaf → List Timed
+seen_at stack leaf = stack_timed stack ++ leaf_timed leaf
+
+-- events that are complete at one length
+abbrev pub all_at : ℕ → List Event → List Timed
+all_at m [] = []
+all_at m (e ∷ es) = record { at = m; event = e } ∷ all_at m es
+
+-- the state after a byte has seen this, and then the events
+abbrev pub Tell : List Timed → ℕ → List Event → Option Partial → Type 0
+Tell before n es None = Unit {0}
+Tell before n es (Some s) = (partial_timed s ≡ before ++ all_at (n + 1) es) × ConstantAt s.leaf (n + 1)
+
+begin_events : Class → ℕ → List Event
+begin_events OpenArray n = event_at n What.OpenArray ∷ []
+begin_events OpenObject n = event_at n What.OpenObject ∷ []
+begin_events _ n = []
+
+word_at : (which : Constant) (n : ℕ) → (n + 1 + length (letters_after which) ≡ n + length (letters_of which)) × (0 < length (letters_after which))
+word_at Null n = (omega arith, omega arith)
+word_at True n = (omega arith, omega arith)
+word_at False n = (omega arith, omega arith)
+
+on_begin : (stack : List Frame) (before : List Timed) (n b : ℕ) (c : Class) → before ≡ stack_timed stack → Tell before n (begin_events c n) (begin_value stack n b c)
+unfolding begin_events
+on_begin stack before n b OpenArray e = (ap (λ xs. xs ++ timed (n + 1) n What.OpenArray ∷ []) (sym e), tt)
+on_begin stack before n b OpenObject e = (ap (λ xs. xs ++ timed (n + 1) n What.OpenObject ∷ []) (sym e), tt)
+on_begin stack before n b (Letter which) e = (ap (λ xs. xs ++ []) (sym e), word_at which n)
+on_begin stack before n b Quote e = (ap (λ xs. xs ++ []) (sym e), tt)
+on_begin stack before n b Minus e = (ap (λ xs. xs ++ []) (sym e), tt)
+on_begin stack before n b ZeroDigit e = (ap (λ xs. xs ++ []) (sym e), tt)
+on_begin stack before n b FirstDigit e = (ap (λ xs. xs ++ []) (sym e), tt)
+on_begin stack before n b Plus e = tt
+on_begin stack before n b Point e = tt
+on_begin stack before n b Exponent e = tt
+on_begin stack before n b White e = tt
+on_begin stack before n b CloseArray e = tt
+on_begin stack before n b CloseObject e = tt
+on_begin stack before n b Comma e = tt
+on_begin stack before n b Colon e = tt
+on_begin stack before n b Other e = tt
+
+module _ (value : Option Exact) (words : Words) where
+  due_begins : (inner : Option Level) (c : Class) (start n : ℕ) → emitted ValueDue inner (begin_move c) value words start n ≡ begin_events c n
+  unfolding begin_events
+  due_begins inner OpenArray start n = refl
+  due_begins inner OpenObject start n = refl
+  due_begins inner _ start n = refl
+
+  opened_begins : (inner : Option Level) (c : Class) (start n : ℕ) → emitted ArrayOpened inner (begin_move c) value words start n ≡ begin_events c n
+  unfolding begin_events
+  opened_begins inner OpenArray start n = refl
+  opened_begins inner OpenObject start n = refl
+  opened_begins inner _ start n = refl
+
+  on_value_due : (stack : List Frame) (inner : Option Level) (start n b : ℕ) (c : Class) → Tell (seen_at stack value_due) n (emitted ValueDue inner (due_move c) value words start n) (step_value_due stack n b c)
+  on_value_due stack inner start n b White = (sym (append-nil (stack_timed stack ++ [])), tt)
+  on_value_due stack inner start n b c =
+      let P : List Event → Type 0 = λ es. Tell (seen_at stack value_due) n es (step_value_due stack n b c) in
+      subst P (sym (due_begins inner c start n)) (on_begin stack (seen_at stack value_due) n b c (append-nil (stack_timed stack)))
+
+  on_array_opened : (stack : List Frame) (place start n b : ℕ) (c : Class) → Tell (seen_at stack (array_opened place)) n (emitted ArrayOpened (Some Array) (array_move c) value words start n) (step_array_opened stack place n b c)
+  on_array_opened stack place start n b White = (sym (append-nil (stack_timed stack ++ timed (place + 1) place What.OpenArray ∷ [])), tt)
+  on_array_opened stack place start n b CloseArray = (sym (append_assoc (stack_timed stack) (timed (place + 1) place What.OpenArray ∷ []) (timed (n + 1) n What.CloseArray ∷ [])), tt)
+  on_array_opened stack place start n b c =
+      let P : List Event → Type 0 = λ es. Tell (seen_at stack (array_opened place)) n es (step_array_opened stack place n b c) in
+      subst P (sym (opened_begins (Some Array) c start n)) (on_begin (in_array place [] ∷ stack) (seen_at stack (array_opened place)) n b c refl)
+
+  on_object_opened : (stack : List Frame) (place start n b : ℕ) (c : Class) → Tell (seen_at stack (object_opened place)) n (emitted ObjectOpened (Some Object) (object_move c) value words start n) (step_object_opened stack place n c)
+  on_object_opened stack place start n b White = (sym (append-nil (stack_timed stack ++ timed (place + 1) place What.OpenObject ∷ [])), tt)
+  on_object_opened stack place start n b CloseObject = (sym (append_assoc (stack_timed stack) (timed (place + 1) place What.OpenObject ∷ []) (timed (n + 1) n What.CloseObject ∷ [])), tt)
+  on_object_opened stack place start n b Quote = (sym (append-nil (stack_timed stack ++ timed (place + 1) place What.OpenObject ∷ [])), tt)
+  on_object_opened stack place start n b _ = tt
+
+  on_name_due : (stack : List Frame) (place : ℕ) (done : List Member) (start n : ℕ) (c : Class) → Tell (seen_at stack (name_due place done)) n (emitted NameDue (Some Object) (name_due_move c) value words start n) (step_name_due stack place done n c)
+  on_name_due stack place done start n White = (sym (append-nil (stack_timed stack ++ timed (place + 1) place What.OpenObject ∷ done_members done)), tt)
+  on_name_due stack place done start n Quote = (sym (append-nil (stack_timed stack ++ timed (place + 1) place What.OpenObject ∷ done_members done)), tt)
+  on_name_due stack place done start n _ = tt
+
+  on_colon_due : (stack : List Frame) (place : ℕ) (done : List Member) (np : ℕ) (name : List ℕ) (ne start n : ℕ) (c : Class)
+      → Tell (seen_at stack (colon_due place done np name ne)) n (emitted ColonDue (Some Object) (colon_move c) value words start n) (step_colon_due stack place done np name ne c)
+  on_colon_due stack place done np name ne start n White = (sym (append-nil (seen_at stack (colon_due place done np name ne))), tt)
+  on_colon_due stack place done np name ne start n Colon = (refl, tt)
+  on_colon_due stack place done np name ne start n _ = tt
+
+  -- after a value of which all was seen
+  closed_array : (S D E : List Timed) (X : List Timed) (o c : Timed) → X ≡ D ++ (E ++ []) → S ++ (o ∷ (X ++ c ∷ [])) ≡ ((S ++ (o ∷ D)) ++ E) ++ c ∷ []
+  closed_array S D E X o c e = rw e (simp (append_assoc, append-nil))
+
+  closed_object : (S D E : List Timed) (X : List Timed) (o p c : Timed) → X ≡ D ++ (p ∷ (E ++ [])) → S ++ (o ∷ (X ++ c ∷ [])) ≡ ((S ++ (o ∷ (D ++ p ∷ []))) ++ E) ++ c ∷ []
+  closed_object S D E X o p c e = rw e (simp (append_assoc, append-nil))
+
+  on_after : (stack : List Frame) (t : Tree) (start n : ℕ) (c : Class) → Tell (seen_at stack (value_done t)) n (emitted ValueDone (inner_of (levels_of stack)) (after_move (inner_of (levels_of stack)) c) value words start n) (after_value stack t n c)
+  on_after [] t start n White = (sym (append-nil (events t)), tt)
+  on_after (in_array place done ∷ stack) t start n White = (sym (append-nil (seen_at (in_array place done ∷ stack) (value_done t))), tt)
+  on_after (in_array place done ∷ stack) t start n Comma = (simp (append_assoc, append-nil), tt)
+  on_after (in_array place done ∷ stack) t start n CloseArray =
+      (closed_array (stack_timed stack) (done_elements done) (events t) _ (timed (place + 1) place What.OpenArray) (timed (n + 1) n What.CloseArray) (back_elements-events done (element t end_of_array)), tt)
+  on_after (in_object place done np name ne ∷ stack) t start n White = (sym (append-nil (seen_at (in_object place done np name ne ∷ stack) (value_done t))), tt)
+  on_after (in_object place done np name ne ∷ stack) t start n Comma = (simp (append_assoc, append-nil), tt)
+  on_after (in_object place done np name ne ∷ stack) t start n CloseObject =
+      (closed_object (stack_timed stack) (done_members done) (events t) _ (timed (place + 1) place What.OpenObject) (timed ne np (What.Name (known_of name))) (timed (n + 1) n What.CloseObject) (back_members-events done (member np name ne t end_of_object)), tt)
+  on_after _ t start n _ = tt
+
+  -- a number is complete with the byte that follows it
+  number_told : (stack : List Frame) (place : ℕ) (so_far : List ℕ) (n : ℕ) (es : List Event) (o : Option Partial) → Tell (seen_at stack (value_done (number place so_far n))) n es o → Tell (stack_timed stack ++ []) n (event_at place (What.Number (value_of so_far)) ∷ es) o
+  number_told stack place so_far n es None h = tt
+  number_told stack place so_far n es (Some s) h = (h.0 ∙ simp (append_assoc, append-nil), h.1)
+
+  number_from : (stack : List Frame) (place : ℕ) (so_far : List ℕ) (n : ℕ) (c : Class)
+      → Tell (stack_timed stack ++ []) n (event_at place (What.Number (value_of so_far)) ∷ emitted ValueDone (inner_of (levels_of stack)) (after_move (inner_of (levels_of stack)) c) value words place n) (after_value stack (number place so_far n) n c)
+  number_from stack place so_far n c =
+      number_told stack place so_far n (emitted ValueDone (inner_of (levels_of stack)) (after_move (inner_of (levels_of stack)) c) value words place n) (after_value stack (number place so_far n) n c) (on_after stack (number place so_far n) place n c)
+
+  on_number_after : (stack : List Frame) (place : ℕ) (so_far : List ℕ) (n : ℕ) (c : Class) → value ≡ value_of so_far
+      → Tell (stack_timed stack ++ []) n (emitted NumberOn (inner_of (levels_of stack)) (after_move (inner_of (levels_of stack)) c) value words place n) (after_value stack (number place so_far n) n c)
+  on_number_after [] place so_far n White v = rw v (number_from [] place so_far n White)
+  on_number_after (in_array p done ∷ stack) place so_far n White v = rw v (number_from (in_array p done ∷ stack) place so_far n White)
+  on_number_after (in_array p done ∷ stack) place so_far n Comma v = rw v (number_from (in_array p done ∷ stack) place so_far n Comma)
+  on_number_after (in_array p done ∷ stack) place so_far n CloseArray v = rw v (number_from (in_array p done ∷ stack) place so_far n CloseArray)
+  on_number_after (in_object p done np name ne ∷ stack) place so_far n White v = rw v (number_from (in_object p done np name ne ∷ stack) place so_far n White)
+  on_number_after (in_object p done np name ne ∷ stack) place so_far n Comma v = rw v (number_from (in_object p done np name ne ∷ stack) place so_far n Comma)
+  on_number_after (in_object p done np name ne ∷ stack) place so_far n CloseObject v = rw v (number_from (in_object p done np name ne ∷ stack) place so_far n CloseObject)
+  on_number_after _ place so_far n _ v = tt
+
+  on_number : (stack : List Frame) (place : ℕ) (so_far : List ℕ) (n b : ℕ) (c : Class) (o : Option NumberState) (may_end : Bool) → (turn_of o may_end ≡ NumberTurn.Ends → value ≡ value_of so_far)
+      → Tell (stack_timed stack ++ []) n (emitted NumberOn (inner_of (levels_of stack)) (number_move (turn_of o may_end) (after_move (inner_of (levels_of stack)) c)) value words place n) (step_number stack place so_far n b o (if may_end then after_value stack (number place so_far n) n c else None))
+  on_number stack place so_far n b c (Some next) may_end v = (sym (append-nil (stack_timed stack ++ [])), tt)
+  on_number stack place so_far n b c None true v = on_number_after stack place so_far n c (v refl)
+  on_number stack place so_far n b c None false v = tt
+
+  on_string : (stack : List Frame) (inner : Option Level) (place : ℕ) (so_far : List ℕ) (state : StringState) (n : ℕ) (s : StringStep) → words ≡ words_of so_far
+      → Tell (stack_timed stack ++ []) n (emitted (StringOn state) inner (value_string_move (string_move s)) value words place n) (step_string stack place so_far n s)
+  on_string stack inner place so_far state n string_ends x = rw x (simp append-nil, tt)
+  on_string stack inner place so_far state n (string_goes [] next) x = (sym (append-nil (stack_timed stack ++ [])), tt)
+  on_string stack inner place so_far state n (string_goes (c ∷ more) next) x = (sym (append-nil (stack_timed stack ++ [])), tt)
+  on_string stack inner place so_far state n string_refuses x = tt
+
+  on_name_string : (stack : List Frame) (inner : Option Level) (place : ℕ) (done : List Member) (np : ℕ) (so_far : List ℕ) (state : StringState) (n : ℕ) (s : StringStep) → words ≡ words_of so_far
+      → Tell (seen_at stack (name_on place done np so_far state)) n (emitted (NameOn state) inner (name_string_move (string_move s)) value words np n) (step_name stack place done np so_far n s)
+  on_name_string stack inner place done np so_far state n string_ends x = rw x (simp append_assoc, tt)
+  on_name_string stack inner place done np so_far state n (string_goes [] next) x = (sym (append-nil (seen_at stack (name_on place done np so_far state))), tt)
+  on_name_string stack inner place done np so_far state n (string_goes (c ∷ more) next) x = (sym (append-nil (seen_at stack (name_on place done np so_far state))), tt)
+  on_name_string stack inner place done np so_far state n string_refuses x = tt
+
+  word_ended : (stack : List Frame) (inner : Option Level) (which : Constant) (place count n : ℕ) → n + 1 ≡ place + length (letters_of which) → (t : Bool)
+      → Tell (stack_timed stack ++ []) n (emitted (ConstantOn which count) inner (if t then Go ValueDone else Refuse) value words place n) (if t then to stack (value_done (constant which place)) else None)
+  word_ended stack inner which place count n e true = (simp append-nil (ap (λ m. stack_timed stack ++ timed m place (what_of which) ∷ []) (sym e)), tt)
+  word_ended stack inner which place count n e false = tt
+
+  word_goes : (stack : List Frame) (inner : Option Level) (which : Constant) (place count next n : ℕ) (left : List ℕ) → ConstantAt (constant_on which place left) (n + 1) → (t : Bool)
+      → Tell (stack_timed stack ++ []) n (emitted (ConstantOn which count) inner (if t then Go (ConstantOn which next) else Refuse) value words place n) (if t then to stack (constant_on which place left) else None)
+  word_goes stack inner which place count next n left w true = (sym (append-nil (stack_timed stack ++ [])), w)
+  word_goes stack inner which place count next n left w false = tt
+
+  on_constant : (stack : List Frame) (inner : Option Level) (which : Constant) (place : ℕ) (left : List ℕ) (n b count : ℕ) → left ≡ drop count (letters_of which) → count < length (letters_of which) → ConstantAt (constant_on which place left) n
+      → Tell (stack_timed stack ++ []) n (emitted (ConstantOn which count) inner (constant_move which count b) value words place n) (step_constant stack which place left n b)
+  on_constant stack inner which place [] n b count l c w = absurd (omega (arith, w.1))
+  on_constant stack inner which place (a ∷ []) n b count l c w =
+      let k = drop-cons (letters_of which) count 0 c in
+      let ea : a ≡ get_or (letters_of which) count 0 = cc in
+      let er : [] ≡ drop (suc count) (letters_of which) = cc in
+      let full : (count + 1 == length (letters_of which)) ≡ true = eq-eqb _ _ (omega (arith, length-drop (suc count) (letters_of which), ap length er)) in
+      rw (full, ← ea) (word_ended stack inner which place count n (omega (arith, w.0)) (b == a))
+  on_constant stack inner which place (a ∷ x ∷ left) n b count l c w =
+      let k = drop-cons (letters_of which) count 0 c in
+      let ea : a ≡ get_or (letters_of which) count 0 = cc in
+      let er : x ∷ left ≡ drop (suc count) (letters_of which) = cc in
+      let more : count + 1 < length (letters_of which) = omega (arith, length-drop (suc count) (letters_of which), ap length er) in
+      let full : (count + 1 == length (letters_of which)) ≡ false = grind (arith, nat_tests) in
+      rw (full, ← ea) (word_goes stack inner which place count (count + 1) n (x ∷ left) (omega (arith, w.0), omega arith) (b == a))
+
+  -- ---- any leaf
+
+  tells : (stack : List Frame) (leaf : Leaf) (mode : Mode) (turn : NumberTurn) (start n b : ℕ) → LeafAs leaf mode → Turns (under_leaf leaf) b turn → HasValue (under_leaf leaf) turn value → HasWords (under_leaf leaf) words → BegunAs leaf start → ConstantAt leaf n
+      → Tell (seen_at stack leaf) n (emitted mode (inner_of (levels_with leaf (levels_of stack))) (move_of mode turn (inner_of (levels_with leaf (levels_of stack))) b) value words start n) (step_leaf stack leaf n b)
+  tells stack value_due mode turn start n b a u v x g w = rw a (on_value_due stack (inner_of (levels_of stack)) start n b (class_of b))
+  tells stack (value_done t) mode turn start n b a u v x g w = rw a (on_after stack t start n (class_of b))
+  tells stack (array_opened place) mode turn start n b a u v x g w = rw a (on_array_opened stack place start n b (class_of b))
+  tells stack (object_opened place) mode turn start n b a u v x g w = rw a (on_object_opened stack place start n b (class_of b))
+  tells stack (constant_on which place left) mode turn start n b a u v x g w = rw (a.1, g) (on_constant stack (inner_of (levels_of stack)) which place left n b a.0 a.2 a.3 w)
+  tells stack (number_on place so_far state) mode turn start n b a u v x g w = rw (a, u, g) (on_number stack place so_far n b (class_of b) (number_next state (class_of b)) (number_may_end state) (λ e. v (u ∙ e)))
+  tells stack (string_on place so_far state) mode turn start n b a u v x g w = rw (a, g) (on_string stack (inner_of (levels_of stack)) place so_far state n (string_next state b) x)
+  tells stack (name_due place done) mode turn start n b a u v x g w = rw a (on_name_due stack place done start n (class_of b))
+  tells stack (name_on place done np so_far state) mode turn start n b a u v x g w = rw (a, g) (on_name_string stack (Some Object) place done np so_far state n (string_next state b) x)
+  tells stack (colon_due place done np name ne) mode turn start n b a u v x g w = rw a (on_colon_due stack place done np name ne start n (class_of b))
+
+-- ---- where what is under way began
+
+abbrev pub Began : ℕ → Option Partial → Type 0
+Began start None = Unit {0}
+Began start (Some s) = BegunAs s.leaf start
+
+begin_began : (stack : List Frame) (n b : ℕ) (c : Class) → Began n (begin_value stack n b c)
+begin_began stack n b OpenArray = tt
+begin_began stack n b OpenObject = tt
+begin_began stack n b (Letter which) = refl
+begin_began stack n b Quote = refl
+begin_began stack n b Minus = refl
+begin_began stack n b ZeroDigit = refl
+begin_began stack n b FirstDigit = refl
+begin_began stack n b Plus = tt
+begin_began stack n b Point = tt
+begin_began stack n b Exponent = tt
+begin_began stack n b White = tt
+begin_began stack n b CloseArray = tt
+begin_began stack n b CloseObject = tt
+begin_began stack n b Comma = tt
+begin_began stack n b Colon = tt
+begin_began stack n b Other = tt
+
+due_began : (stack : List Frame) (n b : ℕ) (c : Class) → Began n (step_value_due stack n b c)
+due_began stack n b White = tt
+due_began stack n b c = begin_began stack n b c
+
+array_began : (stack : List Frame) (place n b : ℕ) (c : Class) → Began n (step_array_opened stack place n b c)
+array_began stack place n b White = tt
+array_began stack place n b CloseArray = tt
+array_began stack place n b c = begin_began (in_array place [] ∷ stack) n b c
+
+object_began : (stack : List Frame) (place n : ℕ) (c : Class) → Began n (step_object_opened stack place n c)
+object_began stack place n White = tt
+object_began stack place n CloseObject = tt
+object_began stack place n Quote = refl
+object_began stack place n _ = tt
+
+name_began : (stack : List Frame) (place : ℕ) (done : List Member) (n : ℕ) (c : Class) → Began n (step_name_due stack place done n c)
+name_began stack place done n White = tt
+name_began stack place done n Quote = refl
+name_began stack place done n _ = tt
+
+colon_began : (stack : List Frame) (place : ℕ) (done : List Member) (np : ℕ) (name : List ℕ) (ne n : ℕ) (c : Class) → Began n (step_colon_due stack place done np name ne c)
+colon_began stack place done np name ne n White = tt
+colon_began stack place done np name ne n Colon = tt
+colon_began stack place done np name ne n _ = tt
+
+after_began : (start : ℕ) (stack : List Frame) (t : Tree) (n : ℕ) (c : Class) → Began start (after_value stack t n c)
+after_began start [] t n White = tt
+after_began start (in_array place done ∷ stack) t n White = tt
+after_began start (in_array place done ∷ stack) t n Comma = tt
+after_began start (in_array place done ∷ stack) t n CloseArray = tt
+after_began start (in_object place done np name ne ∷ stack) t n White = tt
+after_began start (in_object place done np name ne ∷ stack) t n Comma = tt
+after_began start (in_object place done np name ne ∷ stack) t n CloseObject = tt
+after_began start _ t n _ = tt
+
+word_began : (stack : List Frame) (which : Constant) (place : ℕ) (left : List ℕ) (n b : ℕ) → Began place (step_constant stack which place left n b)
+word_began stack which place [] n b = after_began place stack (constant which place) n (class_of b)
+word_began stack which place (a ∷ []) n b = go (b == a)
+  where
+    go : (t : Bool) → Began place (if t then to stack (value_done (constant which place)) else None)
+    go true = tt
+    go false = tt
+word_began stack which place (a ∷ c ∷ left) n b = go (b == a)
+  where
+    go : (t : Bool) → Began place (if t then to stack (constant_on which place (c ∷ left)) else None)
+    go true = refl
+    go false = tt
+
+number_began : (stack : List Frame) (place : ℕ) (so_far : List ℕ) (n b : ℕ) (c : Class) (o : Option NumberState) (may_end : Bool) → Began place (step_number stack place so_far n b o (if may_end then after_value stack (number place so_far n) n c else None))
+number_began stack place so_far n b c (Some next) may_end = refl
+number_began stack place so_far n b c None true = after_began place stack (number place so_far n) n c
+number_began stack place so_far n b c None false = tt
+
+text_began : (stack : List Frame) (place : ℕ) (so_far : List ℕ) (n : ℕ) (s : StringStep) → Began place (step_string stack place so_far n s)
+text_began stack place so_far n string_ends = tt
+text_began stack place so_far n (string_goes more next) = refl
+text_began stack place so_far n string_refuses = tt
+
+name_text_began : (stack : List Frame) (place : ℕ) (done : List Member) (np : ℕ) (so_far : List ℕ) (n : ℕ) (s : StringStep) → Began np (step_name stack place done np so_far n s)
+name_text_began stack place done np so_far n string_ends = tt
+name_text_began stack place done np so_far n (string_goes more next) = refl
+name_text_began stack place done np so_far n string_refuses = tt
+
+began : (stack : List Frame) (leaf : Leaf) (mode : Mode) (start n b : ℕ) → LeafAs leaf mode → BegunAs leaf start → Began (start_after mode start n) (step_leaf stack leaf n b)
+began stack value_due mode start n b a g = rw a (due_began stack n b (class_of b))
+began stack (value_done t) mode start n b a g = rw a (after_began n stack t n (class_of b))
+began stack (array_opened place) mode start n b a g = rw a (array_began stack place n b (class_of b))
+began stack (object_opened place) mode start n b a g = rw a (object_began stack place n (class_of b))
+began stack (constant_on which place left) mode start n b a g = rw (a.1, g) (word_began stack which place left n b)
+began stack (number_on place so_far state) mode start n b a g = rw (a, g) (number_began stack place so_far n b (class_of b) (number_next state (class_of b)) (number_may_end state))
+began stack (string_on place so_far state) mode start n b a g = rw (a, g) (text_began stack place so_far n (string_next state b))
+began stack (name_due place done) mode start n b a g = rw a (name_began stack place done n (class_of b))
+began stack (name_on place done np so_far state) mode start n b a g = rw (a, g) (name_text_began stack place done np so_far n (string_next state b))
+began stack (colon_due place done np name ne) mode start n b a g = rw a (colon_began stack place done np name ne n (class_of b))
+
+-- ---- a whole text
+
+-- the state after a byte at n has seen this, and then the events, and what is under way began at `start`
+abbrev pub Tells : List Timed → ℕ → ℕ → List Event → Option Broken → Type 0
+Tells before start n es None = Unit {0}
+Tells before start n es (Some s) = (seen s ≡ before ++ all_at (n + 1) es) × EdgeAt s start (n + 1)
+
+marked_tells : (marked : Bool) (before : List Timed) (start n : ℕ) (es : List Event) (o : Option Partial) → Tell before n es o → Began start o → Tells (mark_events marked ++ before) start n es (with_mark marked o)
+marked_tells marked before start n es None h g = tt
+marked_tells marked before start n es (Some s) h g =
+    (ap (λ xs. mark_events marked ++ xs) h.0 ∙ sym (append_assoc (mark_events marked) before (all_at (n + 1) es)), (g, h.1))
+
+module _ (value : Option Exact) (words : Words) where
+  text_due_events : (inner : Option Level) (c : Class) (start n : ℕ) → emitted TextDue inner (due_move c) value words start n ≡ emitted ValueDue inner (due_move c) value words start n
+  text_due_events inner OpenArray start n = refl
+  text_due_events inner OpenObject start n = refl
+  text_due_events inner White start n = refl
+  text_due_events inner _ start n = refl
+
+  due_tells : (start n b : ℕ) (t : Bool) → n ≡ 0
+      → Tells [] n n (emitted TextDue None (if t then Go MarkOne else due_move (class_of b)) value words start n) (if t then Some mark_one else with_mark false (step_value_due [] n b (class_of b)))
+  due_tells start n b true e = (refl, omega arith)
+  due_tells start n b false e =
+      let P : List Event → Type 0 = λ es. Tells [] n n es (with_mark false (step_value_due [] n b (class_of b))) in
+      subst P (sym (text_due_events None (class_of b) start n)) (marked_tells false [] n n _ (step_value_due [] n b (class_of b)) (on_value_due value words [] None start n b (class_of b)) (due_began [] n b (class_of b)))
+
+  one_tells : (start n : ℕ) (t : Bool) → n ≡ 1 → Tells [] n n (emitted MarkOne None (if t then Go MarkTwo else Refuse) value words start n) (if t then Some mark_two else None)
+  one_tells start n true e = (refl, omega arith)
+  one_tells start n false e = tt
+
+  two_tells : (start n : ℕ) (t : Bool) → n ≡ 2 → Tells [] n n (emitted MarkTwo None (if t then Go ValueDue else Refuse) value words start n) (if t then Some (begun true (record { stack = []; leaf = value_due })) else None)
+  two_tells start n true e = (ap (λ k. timed (k + 1) 0 What.Mark ∷ []) (sym e), (tt, tt))
+  two_tells start n false e = tt
+
+  -- what a byte tells, from what the reader keeps
+  pub step_tells : (state : Broken) (mode : Mode) (turn : NumberTurn) (levels : List Level) (start n b : ℕ) → StandsAs state mode levels → Turns (under_of state) b turn → HasValue (under_of state) turn value → HasWords (under_of state) words → EdgeAt state start n
+      → Tells (seen state) (start_after mode start n) n (emitted mode (inner_of levels) (move_of mode turn (inner_of levels) b) value words start n) (step state n b)
+  step_tells text_due mode turn levels start n b a t v x e = rw (a.0, a.1) (due_tells start n b (b == mark_first) e)
+  step_tells mark_one mode turn levels start n b a t v x e = rw (a.0, a.1) (one_tells start n (b == mark_second) e)
+  step_tells mark_two mode turn levels start n b a t v x e = rw (a.0, a.1) (two_tells start n (b == mark_third) e)
+  step_tells (begun marked s) mode turn levels start n b a t v x e =
+      rw (a.1) (marked_tells marked (partial_timed s) (start_after mode start n) n _ (step_leaf s.stack s.leaf n b)
+      (tells value words s.stack s.leaf mode turn start n b a.0 t v x e.0 e.1) (began s.stack s.leaf mode start n b a.0 e.0))
+
+in_time-all_at : (m : ℕ) (es : List Event) → InTime m (all_at m es)
+in_time-all_at m [] = tt
+in_time-all_at m (e ∷ es) = (omega arith, in_time-all_at m es)
+
+pub told-all_at : (m : ℕ) (es : List Event) → told (all_at m es) ≡ es
+told-all_at m [] = refl
+told-all_at m (e ∷ es) = ap (λ xs. e ∷ xs) (told-all_at m es)
+
+-- and the state that it leads to
+pub timely_on : (before : List Timed) (start n : ℕ) (es : List Event) (s : Broken) → InTime n before → Tells before start n es (Some s) → IsTimely s start (n + 1)
+timely_on before start n es s i h =
+    let P : List Timed → Type 0 = λ xs. InTime (n + 1) xs in
+    record { seen_by = subst P (sym h.0) (in_time-append (n + 1) before (all_at (n + 1) es) (in_time_on n (n + 1) before (omega arith) i) (in_time-all_at (n + 1) es)); edge = h.1 }
+
+one_few : (o : Option Event) → length (option_to_list o) ≤ 1
+one_few None = omega arith
+one_few (Some e) = omega arith
+
+-- a byte completes two events at the most
+pub emitted_few : (mode : Mode) (inner : Option Level) (move : Move) (value : Option Exact) (words : Words) (start n : ℕ) → length (emitted mode inner move value words start n) ≤ 2
+emitted_few mode inner move value words start n = go (ended mode move)
+  where
+    go : (t : Bool) → length ((if t then event_at start (What.Number value) ∷ [] else []) ++ option_to_list (made_event mode inner move words start n)) ≤ 2
+    go true = omega (arith, one_few (made_event mode inner move words start n))
+    go false = omega (arith, one_few (made_event mode inner move words start n))

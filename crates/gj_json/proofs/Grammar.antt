@@ -1,0 +1,13 @@
+-- Which bytes are spelled as what.
+pub mod ClassOfBytes
+pub mod SpelledForms
+pub mod SpelledTexts
+pub mod WideCharacterEnds
+pub mod Utf8Characters
+pub mod SpelledCharacters
+pub mod OneCharacter
+pub mod NumberPrefixes
+pub mod CharacterPrefixes
+pub mod NonemptyTokens
+pub mod SpelledFlats
+pub mod SpelledTokens

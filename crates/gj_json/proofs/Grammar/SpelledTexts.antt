@@ -1,0 +1,483 @@
+-- Numbers and texts, a byte at a time.
+use Rattle.std.proofs.Common.{zero, suc, ◌-◌, ◌%◌, ◌<◌, ◌≡◌, ℕ, ◌+◌, ◌*◌, ◌==◌, ◌≤◌, ◌⊎◌, ◌≢◌, ◌&&◌, inl, inr, Bool, true, false, if◌then◌else◌, List, [], ◌∷◌, ◌++◌, length, Option, Some, None, refl, sym, ap, subst, arith, append_assoc, nat_le}
+use Rattle.std.proofs.lemmas.Bool.Decides.{nat_tests, eqb_tells}
+use Rattle.std.specs.List.{AllByRecursion}
+use Rattle.std.proofs.lemmas.List.{append-nil}
+use Rattle.gj_json.specs.Bytes.{backslash, decimal_point, letter_u, lower_e, minus_sign, plus_sign, quote as quote_byte, space, upper_e, zero_digit as zero_byte}
+use Rattle.gj_json.specs.Bytes.{IsDigit, IsFirstDigit}
+use Rattle.gj_json.specs.declared.mode.Bounds.{Bounds}
+use Rattle.gj_json.specs.declared.mode.Bounds.TheVariants.{Any, AfterE0, AfterED, AfterF0, AfterF4}
+use Rattle.gj_json.specs.Grammar.{Then, Exactly, Ends}
+use Rattle.gj_number.specs.Grammar.{IsNatural, IsDigits, IsFraction, IsSign, IsExponent, IsUnsigned, IsNumber}
+use Rattle.gj_json.specs.Characters.{IsPlain, IsUnicode, SpellsContent, SpellsCharacter, escape_of, hex_of, Lead, lead, lead_of, IsTail, IsUtf8, low_of, high_of}
+use Rattle.gj_json.proofs.Grammar.SpelledForms
+use Rattle.gj_json.specs.declared.class.Class.{Class}
+use Rattle.gj_json.specs.declared.class.Class.TheVariants.{Minus as minus, Plus as plus, Point as point, Exponent as exponent, ZeroDigit as zero_digit, FirstDigit as first_digit}
+use Rattle.gj_json.specs.Internal.ByteClasses.{class_of, Means}
+use Rattle.gj_json.proofs.Grammar.ClassOfBytes.{means, class_is}
+use Rattle.gj_json.specs.Internal.NumberStates.{NumberState}
+use Rattle.gj_json.specs.Internal.NumberStates.{after_minus, after_zero, in_digits, after_point, in_fraction, after_exponent, after_sign, in_exponent}
+use Rattle.gj_json.specs.declared.mode.StringState.{StringState}
+use Rattle.gj_json.specs.declared.mode.StringState.TheVariants.{Plain as plain, Escape as escape, HexDue as hex_due, HexOne as hex_one, HexTwo as hex_two, HexThree as hex_three, InCharacter as in_character}
+use Rattle.gj_json.specs.Internal.TextMachine.{number_first, number_next, number_may_end, StringStep, string_ends, string_goes, string_refuses, string_next, plain_step, escape_step, hex_step, hex_end, lead_step, tail_step, within}
+use Rattle.gj_json.proofs.Machine.Completions.{NumberRest, StringRest, StringOn}
+
+-- ---- numbers
+
+is_zero : (b : ℕ) → b ≡ zero_byte → class_of b ≡ zero_digit
+is_zero b e = class_is zero_digit b e (λ n. cc)
+
+is_first : (b : ℕ) → IsFirstDigit b → class_of b ≡ first_digit
+is_first b e = class_is first_digit b e (λ n. cc)
+
+-- a digit, in either class
+pub digit_class : (b : ℕ) → IsDigit b → (class_of b ≡ zero_digit) ⊎ (class_of b ≡ first_digit)
+digit_class b h = elim (eqb_tells b zero_byte) [ inl e ↦ inl (is_zero b e.1) | inr e ↦ inr (is_first b (omega arith, omega arith)) ]
+
+-- digits lead from one state to another
+digit_goes : (s t : NumberState) (b : ℕ) → number_next s zero_digit ≡ Some t → number_next s first_digit ≡ Some t → IsDigit b → number_next s (class_of b) ≡ Some t
+digit_goes s t b z f h = elim (digit_class b h) [ inl e ↦ rw e z | inr e ↦ rw e f ]
+
+digits_on : (s : NumberState) (digits rest : List ℕ) → number_next s zero_digit ≡ Some s → number_next s first_digit ≡ Some s → AllByRecursion IsDigit digits → NumberRest s rest → NumberRest s (digits ++ rest)
+digits_on s [] rest z f h r = r
+digits_on s (b ∷ digits) rest z f h r = (s, digit_goes s s b z f h.0, digits_on s digits rest z f h.1 r)
+
+-- one digit and more, from s over t
+some_digits_on : (s t : NumberState) (digits rest : List ℕ) → number_next s zero_digit ≡ Some t → number_next s first_digit ≡ Some t → number_next t zero_digit ≡ Some t → number_next t first_digit ≡ Some t → IsDigits digits → NumberRest t rest → NumberRest s (digits ++ rest)
+some_digits_on s t [] rest z f y g h r = absurd h
+some_digits_on s t (b ∷ digits) rest z f y g h r = (t, digit_goes s t b z f h.0, digits_on t digits rest y g h.1 r)
+
+sign_on : (sign digits : List ℕ) → IsSign sign → IsDigits digits → NumberRest after_exponent (sign ++ digits)
+sign_on sign digits h d = elim h [
+  | inl e ↦ rw e (some_plain after_exponent refl refl)
+  | inr k ↦ elim k [
+    | inl e ↦ rw e (after_sign, rw (class_is plus plus_sign refl (λ n. cc)) refl, some_plain after_sign refl refl)
+    | inr e ↦ rw e (after_sign, rw (class_is minus minus_sign refl (λ n. cc)) refl, some_plain after_sign refl refl)
+  ]
+]
+  where
+    some_plain : (s : NumberState) → number_next s zero_digit ≡ Some in_exponent → number_next s first_digit ≡ Some in_exponent → NumberRest s digits
+    some_plain s z f = rw (← append-nil digits) (some_digits_on s in_exponent digits [] z f refl refl d refl)
+
+exponent_on : (s : NumberState) (bytes : List ℕ) → number_may_end s ≡ true → number_next s exponent ≡ Some after_exponent → IsExponent bytes → NumberRest s bytes
+exponent_on s bytes m x h = elim h [
+  | inl e ↦ rw e m
+  | inr g ↦ rw (g.3) (after_exponent, rw (class_is exponent g.0 g.4 (λ n. cc)) x, sign_on g.1 g.2 g.5 g.6)
+]
+
+fraction_on : (s : NumberState) (fraction tail : List ℕ) → number_may_end s ≡ true → number_next s exponent ≡ Some after_exponent → number_next s point ≡ Some after_point → IsFraction fraction → IsExponent tail → NumberRest s (fraction ++ tail)
+fraction_on s fraction tail m x p h k = elim h [
+  | inl e ↦ rw e (exponent_on s tail m x k)
+  | inr g ↦ rw (g.1) (after_point, rw (class_is point decimal_point refl (λ n. cc)) p, some_digits_on after_point in_fraction g.0 tail refl refl refl refl g.2 (exponent_on in_fraction tail refl refl k))
+]
+
+natural_on : (b : ℕ) (natural tail : List ℕ) → IsNatural (b ∷ natural) → NumberRest after_zero tail → NumberRest in_digits tail
+    → (state : NumberState) × (number_next after_minus (class_of b) ≡ Some state) × (number_first (class_of b) ≡ Some state) × NumberRest state (natural ++ tail)
+natural_on b natural tail h z d = elim h [
+  | inl e ↦ (after_zero, rw (is_zero b e.0) refl, rw (is_zero b e.0) refl, rw (e.1) z)
+  | inr e ↦ (in_digits, rw (is_first b e.0) refl, rw (is_first b e.0) refl, digits_on in_digits natural tail refl refl e.1 d)
+]
+
+-- a number has a byte at least
+no_unsigned : IsUnsigned [] → ⊥
+no_unsigned u = empty u.0 u.3 u.4
+  where
+    empty : (natural : List ℕ) → [] ≡ natural ++ (u.1 ++ u.2) → IsNatural natural → ⊥
+    empty [] e n = n
+    empty (d ∷ natural) e n = cc
+
+pub no_number : IsNumber [] → ⊥
+no_number h = elim h [ inl e ↦ no_unsigned e | inr e ↦ cc ]
+
+unsigned_on : (b : ℕ) (bytes : List ℕ) → IsUnsigned (b ∷ bytes) → (state : NumberState) × (number_next after_minus (class_of b) ≡ Some state) × (number_first (class_of b) ≡ Some state) × NumberRest state bytes
+unsigned_on b bytes h = go h.0 h.3 h.4
+  where
+    go : (natural : List ℕ) → b ∷ bytes ≡ natural ++ (h.1 ++ h.2) → IsNatural natural → (state : NumberState) × (number_next after_minus (class_of b) ≡ Some state) × (number_first (class_of b) ≡ Some state) × NumberRest state bytes
+    go [] e n = absurd n
+    go (d ∷ natural) e n =
+        let f : b ≡ d = cc in
+        let g : bytes ≡ natural ++ (h.1 ++ h.2) = cc in
+        rw (f, g) (natural_on d natural (h.1 ++ h.2) n (fraction_on after_zero h.1 h.2 refl refl refl h.5 h.6) (fraction_on in_digits h.1 h.2 refl refl refl h.5 h.6))
+
+pub number_on : (b : ℕ) (bytes : List ℕ) → IsNumber (b ∷ bytes) → (state : NumberState) × (number_first (class_of b) ≡ Some state) × NumberRest state bytes
+number_on b bytes h = elim h [
+  | inl e ↦ (let g = unsigned_on b bytes e in (g.0, g.2, g.3))
+  | inr e ↦ signed e.0 (cc) (cc) e.2
+]
+  where
+    signed : (unsigned : List ℕ) → b ≡ minus_sign → bytes ≡ unsigned → IsUnsigned unsigned → (state : NumberState) × (number_first (class_of b) ≡ Some state) × NumberRest state bytes
+    signed [] e f g = absurd (no_unsigned g)
+    signed (d ∷ ds) e f g =
+        let k = unsigned_on d ds g in
+        (after_minus, rw (class_is minus b e (λ n. cc)) refl, rw f (k.0, k.1, k.3))
+
+-- what a state's rest says
+abbrev Says : NumberState → List ℕ → Type 0
+Says after_minus bytes = IsUnsigned bytes
+Says after_zero bytes = (fraction : List ℕ) × (exponent : List ℕ) × (bytes ≡ fraction ++ exponent) × IsFraction fraction × IsExponent exponent
+Says in_digits bytes = (digits : List ℕ) × (fraction : List ℕ) × (exponent : List ℕ) × (bytes ≡ digits ++ (fraction ++ exponent)) × AllByRecursion IsDigit digits × IsFraction fraction × IsExponent exponent
+Says after_point bytes = (digits : List ℕ) × (exponent : List ℕ) × (bytes ≡ digits ++ exponent) × IsDigits digits × IsExponent exponent
+Says in_fraction bytes = (digits : List ℕ) × (exponent : List ℕ) × (bytes ≡ digits ++ exponent) × AllByRecursion IsDigit digits × IsExponent exponent
+Says after_exponent bytes = (sign : List ℕ) × (digits : List ℕ) × (bytes ≡ sign ++ digits) × IsSign sign × IsDigits digits
+Says after_sign bytes = IsDigits bytes
+Says in_exponent bytes = AllByRecursion IsDigit bytes
+
+end_says : (s : NumberState) → number_may_end s ≡ true → Says s []
+end_says after_zero e = ([], [], refl, inl refl, inl refl)
+end_says in_digits e = ([], [], [], refl, tt, inl refl, inl refl)
+end_says in_fraction e = ([], [], refl, tt, inl refl)
+end_says in_exponent e = tt
+end_says _ e = cc
+
+as_state : (bytes : List ℕ) (s next : NumberState) → Some s ≡ Some next → Says next bytes → Says s bytes
+as_state bytes s next e h = let f : next ≡ s = cc in let P : NumberState → Type 0 = λ x. Says x bytes in subst P f h
+
+zero_is : (b : ℕ) → b ≡ zero_byte → IsDigit b
+zero_is b m = (omega arith, omega arith)
+
+first_is : (b : ℕ) → IsFirstDigit b → IsDigit b
+first_is b m = (omega arith, omega arith)
+
+-- one digit more
+more_digits : (b : ℕ) (bytes : List ℕ) → IsDigit b → Says in_digits bytes → Says in_digits (b ∷ bytes)
+more_digits b bytes d k = (b ∷ k.0, k.1, k.2, ap (λ xs. b ∷ xs) k.3, (d, k.4), k.5, k.6)
+
+more_fraction : (b : ℕ) (bytes : List ℕ) → IsDigit b → Says in_fraction bytes → Says in_fraction (b ∷ bytes)
+more_fraction b bytes d k = (b ∷ k.0, k.1, ap (λ xs. b ∷ xs) k.2, (d, k.3), k.4)
+
+first_fraction : (b : ℕ) (bytes : List ℕ) → IsDigit b → Says in_fraction bytes → Says after_point (b ∷ bytes)
+first_fraction b bytes d k = (b ∷ k.0, k.1, ap (λ xs. b ∷ xs) k.2, (d, k.3), k.4)
+
+exponent_says : (b : ℕ) (bytes : List ℕ) → (b ≡ lower_e) ⊎ (b ≡ upper_e) → Says after_exponent bytes → IsExponent (b ∷ bytes)
+exponent_says b bytes m k = inr (b, k.0, k.1, ap (λ xs. b ∷ xs) k.2, m, k.3, k.4)
+
+step_says : (s : NumberState) (c : Class) (b : ℕ) (bytes : List ℕ) (next : NumberState) → Means c b → number_next s c ≡ Some next → Says next bytes → Says s (b ∷ bytes)
+step_says after_minus zero_digit b bytes next m e h = let k = as_state bytes after_zero next e h in (b ∷ [], k.0, k.1, ap (λ xs. b ∷ xs) k.2, inl (m, refl), k.3, k.4)
+step_says after_minus first_digit b bytes next m e h = let k = as_state bytes in_digits next e h in (b ∷ k.0, k.1, k.2, ap (λ xs. b ∷ xs) k.3, inr (m, k.4), k.5, k.6)
+step_says after_zero point b bytes next m e h = let k = as_state bytes after_point next e h in (b ∷ k.0, k.1, ap (λ xs. b ∷ xs) k.2, inr (k.0, ap (λ x. x ∷ k.0) m, k.3), k.4)
+step_says after_zero exponent b bytes next m e h = ([], b ∷ bytes, refl, inl refl, exponent_says b bytes m (as_state bytes after_exponent next e h))
+step_says in_digits zero_digit b bytes next m e h = more_digits b bytes (zero_is b m) (as_state bytes in_digits next e h)
+step_says in_digits first_digit b bytes next m e h = more_digits b bytes (first_is b m) (as_state bytes in_digits next e h)
+step_says in_digits point b bytes next m e h = let k = as_state bytes after_point next e h in ([], b ∷ k.0, k.1, ap (λ xs. b ∷ xs) k.2, tt, inr (k.0, ap (λ x. x ∷ k.0) m, k.3), k.4)
+step_says in_digits exponent b bytes next m e h = ([], [], b ∷ bytes, refl, tt, inl refl, exponent_says b bytes m (as_state bytes after_exponent next e h))
+step_says after_point zero_digit b bytes next m e h = first_fraction b bytes (zero_is b m) (as_state bytes in_fraction next e h)
+step_says after_point first_digit b bytes next m e h = first_fraction b bytes (first_is b m) (as_state bytes in_fraction next e h)
+step_says in_fraction zero_digit b bytes next m e h = more_fraction b bytes (zero_is b m) (as_state bytes in_fraction next e h)
+step_says in_fraction first_digit b bytes next m e h = more_fraction b bytes (first_is b m) (as_state bytes in_fraction next e h)
+step_says in_fraction exponent b bytes next m e h = ([], b ∷ bytes, refl, tt, exponent_says b bytes m (as_state bytes after_exponent next e h))
+step_says after_exponent zero_digit b bytes next m e h = ([], b ∷ bytes, refl, inl refl, (zero_is b m, as_state bytes in_exponent next e h))
+step_says after_exponent first_digit b bytes next m e h = ([], b ∷ bytes, refl, inl refl, (first_is b m, as_state bytes in_exponent next e h))
+step_says after_exponent minus b bytes next m e h = (b ∷ [], bytes, refl, inr (inr (ap (λ x. x ∷ []) m)), as_state bytes after_sign next e h)
+step_says after_exponent plus b bytes next m e h = (b ∷ [], bytes, refl, inr (inl (ap (λ x. x ∷ []) m)), as_state bytes after_sign next e h)
+step_says after_sign zero_digit b bytes next m e h = (zero_is b m, as_state bytes in_exponent next e h)
+step_says after_sign first_digit b bytes next m e h = (first_is b m, as_state bytes in_exponent next e h)
+step_says in_exponent zero_digit b bytes next m e h = (zero_is b m, as_state bytes in_exponent next e h)
+step_says in_exponent first_digit b bytes next m e h = (first_is b m, as_state bytes in_exponent next e h)
+step_says _ _ b bytes next m e h = cc
+
+rest_says : (bytes : List ℕ) (s : NumberState) → NumberRest s bytes → Says s bytes
+rest_says [] s h = end_says s h
+rest_says (b ∷ bytes) s h = step_says s (class_of b) b bytes h.0 (means b) h.1 (rest_says bytes h.0 h.2)
+
+pub number_back : (c : Class) (b : ℕ) (bytes : List ℕ) (state : NumberState) → Means c b → number_first c ≡ Some state → NumberRest state bytes → IsNumber (b ∷ bytes)
+number_back minus b bytes state m e r = inr (bytes, ap (λ x. x ∷ bytes) m, rest_says bytes after_minus (let P : NumberState → Type 0 = λ s. NumberRest s bytes in let f : state ≡ after_minus = cc in subst P f r))
+number_back zero_digit b bytes state m e r = inl (step_says after_minus zero_digit b bytes state m e (rest_says bytes state r))
+number_back first_digit b bytes state m e r = inl (step_says after_minus first_digit b bytes state m e (rest_says bytes state r))
+number_back _ b bytes state m e r = cc
+
+-- ---- texts
+
+pub quote_on : (b : ℕ) → b ≡ quote_byte → string_next plain b ≡ string_ends
+unfolding plain_step
+quote_on b h = rw h refl
+
+pub plain_on : (b : ℕ) → IsPlain b → plain_step b ≡ string_goes (b ∷ []) plain
+unfolding plain_step
+plain_on b h =
+    let e : (b == quote_byte) ≡ false = grind (arith, nat_tests) in
+    let f : (nat_le space b && nat_le b 127) ≡ true = grind (arith, nat_tests) in
+    let g : (b == backslash) ≡ false = grind (arith, nat_tests) in
+    rw (e, g, f) refl
+
+-- what a step from a character's end says of its byte
+abbrev pub SaidPlain : ℕ → StringStep → Type 0
+SaidPlain b string_ends = b ≡ quote_byte
+SaidPlain b (string_goes more next) = (IsPlain b × (more ≡ b ∷ []) × (next ≡ plain)) ⊎ ((b ≡ backslash) × (more ≡ []) × (next ≡ escape)) ⊎ ((first : Lead) × (lead_of b ≡ Some first) × (more ≡ []) × (next ≡ in_character first.more first.bounds first.value))
+SaidPlain b string_refuses = Unit {0}
+
+pub said_plain : (b : ℕ) → SaidPlain b (plain_step b)
+unfolding plain_step
+said_plain b = first (b == quote_byte) refl
+  where
+    fourth : (o : Option Lead) → lead_of b ≡ o → SaidPlain b (lead_step o)
+    fourth (Some first) e = inr (inr (first, e, refl, refl))
+    fourth None e = tt
+
+    third : (b ≢ quote_byte) → (b ≢ backslash) → (t : Bool) → (nat_le space b && nat_le b 127) ≡ t → SaidPlain b (if t then string_goes (b ∷ []) plain else lead_step (lead_of b))
+    third d r true e = inl (((grind (arith, nat_tests)), (grind (arith, nat_tests)), d, r), refl, refl)
+    third d r false e = fourth (lead_of b) refl
+
+    second : (b ≢ quote_byte) → (t : Bool) → (b == backslash) ≡ t → SaidPlain b (if t then string_goes [] escape else (if nat_le space b && nat_le b 127 then string_goes (b ∷ []) plain else lead_step (lead_of b)))
+    second d true e = inr (inl ((grind (arith, nat_tests)), refl, refl))
+    second d false e = third d (grind (arith, nat_tests)) (nat_le space b && nat_le b 127) refl
+
+    first : (t : Bool) → (b == quote_byte) ≡ t → SaidPlain b (if t then string_ends else (if b == backslash then string_goes [] escape else (if nat_le space b && nat_le b 127 then string_goes (b ∷ []) plain else lead_step (lead_of b))))
+    first true e = grind (arith, nat_tests)
+    first false e = second (grind (arith, nat_tests)) (b == backslash) refl
+
+-- the bytes of the character under way lead to the state
+abbrev pub Leads : List ℕ → StringState → Type 0
+Leads bytes plain = bytes ≡ []
+Leads bytes escape = bytes ≡ backslash ∷ []
+Leads bytes hex_due = bytes ≡ backslash ∷ letter_u ∷ []
+Leads bytes (hex_one v) = (b0 : ℕ) × (bytes ≡ backslash ∷ letter_u ∷ b0 ∷ []) × (hex_of b0 ≡ Some v)
+Leads bytes (hex_two v) = (b0 : ℕ) × (b1 : ℕ) × (d0 : ℕ) × (d1 : ℕ) × (bytes ≡ backslash ∷ letter_u ∷ b0 ∷ b1 ∷ []) × (hex_of b0 ≡ Some d0) × (hex_of b1 ≡ Some d1) × (v ≡ d0 * 16 + d1)
+-- whatever ends the character
+Leads bytes (in_character more bounds value) = (c : ℕ) (tail : List ℕ) → IsTail more bounds value c tail → SpellsCharacter c (bytes ++ tail)
+Leads bytes (hex_three v) =
+    (b0 : ℕ) × (b1 : ℕ) × (b2 : ℕ) × (d0 : ℕ) × (d1 : ℕ) × (d2 : ℕ) × (bytes ≡ backslash ∷ letter_u ∷ b0 ∷ b1 ∷ b2 ∷ [])
+    × (hex_of b0 ≡ Some d0) × (hex_of b1 ≡ Some d1) × (hex_of b2 ≡ Some d2) × (v ≡ (d0 * 16 + d1) * 16 + d2)
+
+-- a step goes on in a character, or ends it
+abbrev pub Led : List ℕ → ℕ → StringStep → Type 0
+Led bytes b string_ends = (bytes ≡ []) × (b ≡ quote_byte)
+Led bytes b (string_goes [] next) = Leads (bytes ++ b ∷ []) next
+Led bytes b (string_goes (c ∷ []) next) = (next ≡ plain) × SpellsCharacter c (bytes ++ b ∷ [])
+Led bytes b (string_goes (c ∷ d ∷ more) next) = ⊥
+Led bytes b string_refuses = Unit {0}
+
+led_plain : (b : ℕ) (s : StringStep) → SaidPlain b s → Led [] b s
+led_plain b string_ends h = (refl, h)
+led_plain b (string_goes more next) h = elim h [
+  | inl g ↦ rw (g.1, g.2) (refl, inl (g.0, refl))
+  | inr k ↦ elim k [
+    | inl g ↦ rw (g.1, g.2, g.0) refl
+    | inr g ↦ rw (g.2, g.3) (λ c tail t. inr (inr (inr (b, tail, g.0, refl, g.1, t))))
+  ]
+]
+led_plain b string_refuses h = tt
+
+led : (bytes : List ℕ) (state : StringState) (b : ℕ) → Leads bytes state → Led bytes b (string_next state b)
+led bytes plain b h = rw h (led_plain b (plain_step b) (said_plain b))
+led bytes escape b h = rw h (first (b == letter_u) refl)
+  where
+    second : (b ≢ letter_u) → (o : Option ℕ) → escape_of b ≡ o → Led (backslash ∷ []) b (escape_step o)
+    second d (Some c) e = (refl, inr (inl (b, refl, d, e)))
+    second d None e = tt
+
+    first : (t : Bool) → (b == letter_u) ≡ t → Led (backslash ∷ []) b (if t then string_goes [] hex_due else escape_step (escape_of b))
+    first true e = let f : b ≡ letter_u = grind (arith, nat_tests) in rw f refl
+    first false e = second (grind (arith, nat_tests)) (escape_of b) refl
+led bytes hex_due b h = rw h (go (hex_of b) refl)
+  where
+    go : (o : Option ℕ) → hex_of b ≡ o → Led (backslash ∷ letter_u ∷ []) b (hex_step (λ d. string_goes [] (hex_one d)) o)
+    go (Some d) e = (b, refl, e)
+    go None e = tt
+led bytes (hex_one v) b h = go (hex_of b) refl
+  where
+    go : (o : Option ℕ) → hex_of b ≡ o → Led bytes b (hex_step (λ d. string_goes [] (hex_two (v * 16 + d))) o)
+    go (Some d) e = (h.0, b, v, d, ap (λ xs. xs ++ b ∷ []) h.1, h.2, e, refl)
+    go None e = tt
+led bytes (hex_two v) b h = go (hex_of b) refl
+  where
+    go : (o : Option ℕ) → hex_of b ≡ o → Led bytes b (hex_step (λ d. string_goes [] (hex_three (v * 16 + d))) o)
+    go (Some d) e = (h.0, h.1, b, h.2, h.3, d, ap (λ xs. xs ++ b ∷ []) h.4, h.5, h.6, e, ap (λ w. w * 16 + d) h.7)
+    go None e = tt
+led bytes (hex_three v) b h = go (hex_of b) refl
+  where
+    go : (o : Option ℕ) → hex_of b ≡ o → Led bytes b (hex_step (λ d. hex_end (v * 16 + d)) o)
+    go (Some d) e = (refl, inr (inr (inl (h.0, h.1, h.2, b, h.3, h.4, h.5, d, ap (λ xs. xs ++ b ∷ []) h.6, h.7, h.8, h.9, e, ap (λ w. w * 16 + d) h.10))))
+    go None e = tt
+led bytes (in_character more bounds value) b h = go (within bounds b) refl
+  where
+    inner : (low_of bounds ≤ b) × (b ≤ high_of bounds) → (k : ℕ) → more ≡ k → Led bytes b (tail_step k (value * 64 + b % 64))
+    inner r zero e = (refl, (let g = rw e at h in g (value * 64 + b % 64) (b ∷ []) (b, refl, r.0, r.1, refl)))
+    inner r (suc k) e = λ c tail t. rw (append_assoc bytes (b ∷ []) tail) (let g = rw e at h in g c (b ∷ tail) (b, tail, refl, r.0, r.1, t))
+
+    go : (t : Bool) → (within bounds b) ≡ t → Led bytes b (if t then tail_step more (value * 64 + b % 64) else string_refuses)
+    go true e = inner ((grind (arith, nat_tests)), (grind (arith, nat_tests))) more refl
+    go false e = tt
+
+-- what begins by the bytes of a character under way
+pub content_from : (bytes before content : List ℕ) (state : StringState) → Leads before state → StringRest state content bytes → SpellsContent content (before ++ bytes)
+content_from [] before content state l h =
+    let e : before ≡ [] = (let P : StringState → Type 0 = λ s. Leads before s in let k : Leads before plain = subst P h.1 l in k) in
+    rw (h.0, e) refl
+content_from (b ∷ bytes) before content state l h =
+    let P : StringStep → Type 0 = λ s. Led before b s in
+    go (λ first rest s k r. content_from bytes first rest s k r) h.0 h.1 h.2 h.4 (subst P h.3 (led before state b l)) h.5
+  where
+    go : ((first rest : List ℕ) (s : StringState) → Leads first s → StringRest s rest bytes → SpellsContent rest (first ++ bytes)) → (more : List ℕ) (next : StringState) (later : List ℕ)
+        → content ≡ more ++ later → Led before b (string_goes more next) → StringRest next later bytes → SpellsContent content (before ++ b ∷ bytes)
+    go ih [] next later f d r = rw f (rw (← append_assoc before (b ∷ []) bytes) (ih (before ++ b ∷ []) later next d r))
+    go ih (c ∷ []) next later f d r =
+        let Q : StringState → Type 0 = λ s. StringRest s later bytes in
+        rw f (before ++ b ∷ [], bytes, sym (append_assoc before (b ∷ []) bytes), d.1, ih [] later plain refl (subst Q d.0 r))
+    go ih (c ∷ x ∷ more) next later f d r = absurd d
+
+pub content_back : (bytes content : List ℕ) → StringRest plain content bytes → SpellsContent content bytes
+content_back bytes content h = content_from bytes [] content plain refl h
+
+pub backslash_on : plain_step backslash ≡ string_goes [] escape
+unfolding plain_step
+backslash_on = refl
+
+escape_on : (e c : ℕ) → e ≢ letter_u → escape_of e ≡ Some c → string_next escape e ≡ string_goes (c ∷ []) plain
+escape_on e c d h = let f : (e == letter_u) ≡ false = grind (arith, nat_tests) in rw (f, h) refl
+
+unicode_on : (c : ℕ) (first rest content : List ℕ) → IsUnicode c first → StringRest plain content rest → StringRest plain (c ∷ content) (first ++ rest)
+unicode_on c first rest content (b0, b1, b2, b3, d0, d1, d2, d3, e, h0, h1, h2, h3, v) r =
+    rw e (
+      [],
+      escape,
+      c ∷ content,
+      backslash_on,
+      refl,
+      (
+        [],
+        hex_due,
+        c ∷ content,
+        refl,
+        refl,
+        (
+          [],
+          hex_one d0,
+          c ∷ content,
+          rw h0 refl,
+          refl,
+          (
+            [],
+            hex_two (d0 * 16 + d1),
+            c ∷ content,
+            rw h1 refl,
+            refl,
+            (
+              [],
+              hex_three ((d0 * 16 + d1) * 16 + d2),
+              c ∷ content,
+              rw h2 refl,
+              refl,
+              (c ∷ [], plain, content, rw (h3, v) refl, refl, r),
+            ),
+          ),
+        ),
+      ),
+    )
+
+lead_large : (b : ℕ) (first : Lead) → lead_of b ≡ Some first → 0xC1 < b
+unfolding lead_of
+lead_large b first e = go (nat_le b 0xC1) refl e
+  where
+    go : (t : Bool) → nat_le b 0xC1 ≡ t → (if t then None else (if nat_le b 0xDF then lead 0 Any (b - 0xC0) else if b == 0xE0 then lead 1 AfterE0 0 else if nat_le b 0xEC then lead 1 Any (b - 0xE0) else if b == 0xED then lead 1 AfterED 13 else if nat_le b 0xEF then lead 1 Any (b - 0xE0) else if b == 0xF0 then lead 2 AfterF0 0 else if nat_le b 0xF3 then lead 2 Any (b - 0xF0) else if b == 0xF4 then lead 2 AfterF4 4 else None)) ≡ Some first → 0xC1 < b
+    go true f e = cc
+    go false f e = grind (arith, nat_tests)
+
+pub lead_on : (b : ℕ) (first : Lead) → lead_of b ≡ Some first → plain_step b ≡ string_goes [] (in_character first.more first.bounds first.value)
+unfolding plain_step
+lead_on b first e =
+    let l : 0xC1 < b = lead_large b first e in
+    let f : (b == quote_byte) ≡ false = grind (arith, nat_tests) in
+    let g : (b == backslash) ≡ false = grind (arith, nat_tests) in
+    let h : (nat_le space b && nat_le b 127) ≡ false = grind (arith, nat_tests) in
+    rw (f, g, h, e) refl
+
+tail_on : (more : ℕ) (bounds : Bounds) (value c : ℕ) (bytes rest content : List ℕ) → IsTail more bounds value c bytes → StringRest plain content rest → StringRest (in_character more bounds value) (c ∷ content) (bytes ++ rest)
+tail_on zero bounds value c bytes rest content h r =
+    let e : within bounds h.0 ≡ true = (let p : low_of bounds ≤ h.0 = h.2 in let q : h.0 ≤ high_of bounds = h.3 in grind (arith, nat_tests)) in
+    rw (h.1) (c ∷ [], plain, content, rw (e, h.4) refl, refl, r)
+tail_on (suc more) bounds value c bytes rest content h r =
+    let e : within bounds h.0 ≡ true = (let p : low_of bounds ≤ h.0 = h.3 in let q : h.0 ≤ high_of bounds = h.4 in grind (arith, nat_tests)) in
+    rw (h.2) ([], in_character more Any (value * 64 + h.0 % 64), c ∷ content, rw e refl, refl, tail_on more Any (value * 64 + h.0 % 64) c h.1 rest content h.5 r)
+
+utf8_on : (c : ℕ) (first rest content : List ℕ) → IsUtf8 c first → StringRest plain content rest → StringRest plain (c ∷ content) (first ++ rest)
+utf8_on c first rest content h r =
+    rw (h.3) ([], in_character h.2.more h.2.bounds h.2.value, c ∷ content, lead_on h.0 h.2 h.4, refl, tail_on h.2.more h.2.bounds h.2.value c h.1 rest content h.5 r)
+
+character_on : (c : ℕ) (first rest content : List ℕ) → SpellsCharacter c first → StringRest plain content rest → StringRest plain (c ∷ content) (first ++ rest)
+character_on c first rest content h r = elim h [
+  | inl g ↦ rw (g.1) (c ∷ [], plain, content, plain_on c g.0, refl, r)
+  | inr k ↦ elim k [
+    | inl g ↦ rw (g.1) ([], escape, c ∷ content, backslash_on, refl, (c ∷ [], plain, content, escape_on g.0 c g.2 g.3, refl, r))
+    | inr j ↦ elim j [
+      | inl g ↦ unicode_on c first rest content g r
+      | inr g ↦ utf8_on c first rest content g r
+    ]
+  ]
+]
+
+pub content_on : (bytes content : List ℕ) → SpellsContent content bytes → StringRest plain content bytes
+content_on bytes [] h = rw h (refl, refl)
+content_on bytes (c ∷ content) h = rw (h.2) (character_on c h.0 h.1 content h.3 (content_on h.1 content h.4))
+
+-- ---- the same, with what follows
+
+-- the next byte ends a text, or goes on in it
+pub string_on_step : {state : StringState} {content : List ℕ} {end : ℕ} {K : ℕ → List ℕ → Type 0} {n b : ℕ} {rest : List ℕ} → Then (StringOn state content end) K n (b ∷ rest)
+    → ((string_next state b ≡ string_ends) × (content ≡ []) × (end ≡ n + 1) × K (n + 1) rest)
+    ⊎ ((more : List ℕ) × (next : StringState) × (later : List ℕ) × (string_next state b ≡ string_goes more next) × (content ≡ more ++ later) × Then (StringOn next later end) K (n + 1) rest)
+string_on_step {state} {content} {end} {K} {n} {b} {rest} h = go g.first g.joined g.before g.after
+  where
+    Tail : ℕ → List ℕ → Type 0
+    Tail = Then (Then (Exactly (quote_byte ∷ [])) (Ends end)) K
+
+    g : Then (λ here inner. StringRest state content inner) (Then (Then (Exactly (quote_byte ∷ [])) (Ends end)) K) n (b ∷ rest)
+    g = SpelledForms.then_left h
+
+    go : (inner : List ℕ) → b ∷ rest ≡ inner ++ g.rest → StringRest state content inner → Then (Then (Exactly (quote_byte ∷ [])) (Ends end)) K (n + length inner) g.rest
+        → ((string_next state b ≡ string_ends) × (content ≡ []) × (end ≡ n + 1) × K (n + 1) rest)
+        ⊎ ((more : List ℕ) × (next : StringState) × (later : List ℕ) × (string_next state b ≡ string_goes more next) × (content ≡ more ++ later) × Then (StringOn next later end) K (n + 1) rest)
+    go [] e t k =
+        let k2 : Then (Then (Exactly (quote_byte ∷ [])) (Ends end)) K n (b ∷ rest) = SpelledForms.moved (Then (Then (Exactly (quote_byte ∷ [])) (Ends end)) K) (omega arith) (sym e) k in
+        let j = SpelledForms.byte_on (SpelledForms.then_left k2) in
+        let i = SpelledForms.ends_on j.1 in
+        inl (rw t.1 (quote_on b j.0), t.0, i.0, i.1)
+    go (c ∷ inner) e t k =
+        let f : b ≡ c = cc in
+        let next : string_next state b ≡ string_goes t.0 t.1 = rw f t.3 in
+        inr (t.0, t.1, t.2, next, t.4, SpelledForms.then_right (SpelledForms.joins inner g.rest (cc) t.5 (SpelledForms.moved (Then (Then (Exactly (quote_byte ∷ [])) (Ends end)) K) (omega arith) refl k)))
+
+escape_never : (t : Bool) (o : Option ℕ) → (if t then string_goes [] hex_due else escape_step o) ≡ string_ends → ⊥
+escape_never true o e = cc
+escape_never false (Some c) e = cc
+escape_never false None e = cc
+
+tail_never : (t : Bool) (more value : ℕ) → (if t then tail_step more value else string_refuses) ≡ string_ends → ⊥
+tail_never true zero value e = cc
+tail_never true (suc more) value e = cc
+tail_never false more value e = cc
+
+hex_never : (goes : ℕ → StringStep) → ((d : ℕ) → goes d ≡ string_ends → ⊥) → (o : Option ℕ) → hex_step goes o ≡ string_ends → ⊥
+hex_never goes h (Some d) e = h d e
+hex_never goes h None e = cc
+
+pub ended_plain : (state : StringState) (b : ℕ) → string_next state b ≡ string_ends → (state ≡ plain) × (b ≡ quote_byte)
+ended_plain plain b e = (refl, let P : StringStep → Type 0 = λ t. SaidPlain b t in subst P e (said_plain b))
+ended_plain escape b e = absurd (escape_never (b == letter_u) (escape_of b) e)
+ended_plain hex_due b e = absurd (hex_never _ (λ d k. cc) (hex_of b) e)
+ended_plain (hex_one v) b e = absurd (hex_never _ (λ d k. cc) (hex_of b) e)
+ended_plain (hex_two v) b e = absurd (hex_never _ (λ d k. cc) (hex_of b) e)
+ended_plain (hex_three v) b e = absurd (hex_never _ (λ d k. cc) (hex_of b) e)
+ended_plain (in_character more bounds value) b e = absurd (tail_never (within bounds b) more (value * 64 + b % 64) e)
+
+pub string_back_end : {state : StringState} {K : ℕ → List ℕ → Type 0} {n b : ℕ} {rest : List ℕ} → string_next state b ≡ string_ends → K (n + 1) rest → Then (StringOn state [] (n + 1)) K n (b ∷ rest)
+string_back_end {state} {K} {n} {b} {rest} e k =
+    let p = ended_plain state b e in
+    let tail : Then (Then (Exactly (quote_byte ∷ [])) (Ends (n + 1))) K n (b ∷ rest) = SpelledForms.then_right (SpelledForms.byte_more p.1 (SpelledForms.ends_here k)) in
+    SpelledForms.then_right (SpelledForms.joins [] (b ∷ rest) refl (refl, p.0) (SpelledForms.moved (Then (Then (Exactly (quote_byte ∷ [])) (Ends (n + 1))) K) (omega arith) refl tail))
+
+pub string_back_more : {state next : StringState} {more later : List ℕ} {end : ℕ} {K : ℕ → List ℕ → Type 0} {n b : ℕ} {rest : List ℕ} → string_next state b ≡ string_goes more next → Then (StringOn next later end) K (n + 1) rest
+    → Then (StringOn state (more ++ later) end) K n (b ∷ rest)
+string_back_more {state} {next} {more} {later} {end} {K} {n} {b} {rest} e h =
+    let g : Then (λ here inner. StringRest next later inner) (Then (Then (Exactly (quote_byte ∷ [])) (Ends end)) K) (n + 1) rest = SpelledForms.then_left h in
+    SpelledForms.then_right (SpelledForms.joins (b ∷ g.first) g.rest (ap (λ xs. b ∷ xs) g.joined) (more, next, later, e, refl, g.before) (SpelledForms.moved (Then (Then (Exactly (quote_byte ∷ [])) (Ends end)) K) (omega arith) refl g.after))
+
+-- the next byte goes on in a number, or stands behind it
+pub number_on_step : (state : NumberState) (more : List ℕ) {end : ℕ} {K : ℕ → List ℕ → Type 0} {n b : ℕ} {rest : List ℕ} → NumberRest state more → Then (Exactly more) (Then (Ends end) K) n (b ∷ rest)
+    → ((more ≡ []) × (number_may_end state ≡ true) × (end ≡ n) × K n (b ∷ rest))
+    ⊎ ((next : NumberState) × (later : List ℕ) × (more ≡ b ∷ later) × (number_next state (class_of b) ≡ Some next) × NumberRest next later × Then (Exactly later) (Then (Ends end) K) (n + 1) rest)
+number_on_step state [] {end} {K} {n} {b} {rest} r h =
+    let k = SpelledForms.ends_on (SpelledForms.exactly_done h) in
+    inl (refl, r, k.0, k.1)
+number_on_step state (c ∷ later) {end} {K} {n} {b} {rest} r h =
+    let k = SpelledForms.exactly_on h in
+    inr (r.0, later, ap (λ x. x ∷ later) (sym k.0), rw (k.0) r.1, r.2, k.1)

@@ -1,0 +1,21 @@
+-- The machine that reads a text byte by byte: what it completes to, and that it takes exactly the bytes that a text may have.
+pub mod Completions
+pub mod StepsOfCompletions
+pub mod CompletionsOfSteps
+pub mod CompletedEnds
+pub mod MachineTexts
+pub mod CompletableStates
+pub mod DepthLimits
+pub mod BytesUnderWay
+pub mod ReachedStates
+pub mod StateDepths
+pub mod LongestPrefixes
+pub mod EmptyRests
+pub mod LeftParts
+pub mod TakenBytes
+pub mod RightEdges
+pub mod SpelledSteps
+pub mod ValuePaths
+pub mod ReadValues
+pub mod ReadBrokenTexts
+pub mod BrokenTexts

@@ -1,0 +1,189 @@
+-- Which number or string is under way behind a byte.
+use Rattle.std.proofs.Common.{◌≡◌, ℕ, ◌==◌, Bool, true, false, if◌then◌else◌, List, [], ◌∷◌, Option, Some, None, refl}
+use Rattle.gj_json.specs.Bytes.{mark_first, mark_second, mark_third}
+use Rattle.gj_json.specs.declared.class.Class.{Class}
+use Rattle.gj_json.specs.declared.class.Class.TheVariants.{White, OpenArray, CloseArray, OpenObject, CloseObject, Comma, Colon, Quote, Minus, Plus, Point, Exponent, ZeroDigit, FirstDigit, Letter, Other}
+use Rattle.gj_json.specs.declared.constant.Constant.{Constant}
+use Rattle.gj_json.specs.declared.levels.Level.{Level}
+use Rattle.gj_json.specs.declared.mode.Mode.{Mode}
+use Rattle.gj_json.specs.declared.mode.StringState.{StringState}
+use Rattle.gj_json.specs.Internal.ByteClasses.{class_of}
+use Rattle.gj_json.specs.Internal.TextMachine.{Broken, text_due, mark_one, mark_two, begun, with_mark, step, Frame, in_array, in_object, Member, Leaf, Partial, value_due, value_done, array_opened, object_opened, constant_on, number_on, string_on, name_due, name_on, colon_due, to, step_leaf, begin_value, after_value, step_value_due, step_array_opened, step_object_opened, step_name_due, step_colon_due, step_constant, step_number, step_string, step_name, string_next, StringStep, string_ends, string_goes, string_refuses, number_next, number_may_end}
+use Rattle.gj_json.specs.Internal.NumberStates.{NumberState}
+use Rattle.gj_json.specs.Internal.ReaderState.{LeafAs, StandsAs}
+use Rattle.gj_json.specs.Internal.ToldEvents.{in_number, text_state}
+use Rattle.gj_json.specs.Tree.{Tree, constant, number as number_tree}
+use Rattle.gj_json.specs.Internal.UnderWay.{Under, nothing, number, text, under_leaf, under_of, ComesFrom}
+
+abbrev pub Came : Under → ℕ → Option Partial → Type 0
+Came before b None = Unit {0}
+Came before b (Some s) = ComesFrom before b (under_leaf s.leaf)
+
+begin_came : (stack : List Frame) (n b : ℕ) (c : Class) → class_of b ≡ c → Came nothing b (begin_value stack n b c)
+begin_came stack n b OpenArray e = tt
+begin_came stack n b OpenObject e = tt
+begin_came stack n b (Letter which) e = tt
+begin_came stack n b Quote e = (refl, refl)
+begin_came stack n b Minus e = (refl, rw e refl)
+begin_came stack n b ZeroDigit e = (refl, rw e refl)
+begin_came stack n b FirstDigit e = (refl, rw e refl)
+begin_came stack n b Plus e = tt
+begin_came stack n b Point e = tt
+begin_came stack n b Exponent e = tt
+begin_came stack n b White e = tt
+begin_came stack n b CloseArray e = tt
+begin_came stack n b CloseObject e = tt
+begin_came stack n b Comma e = tt
+begin_came stack n b Colon e = tt
+begin_came stack n b Other e = tt
+
+due_came : (stack : List Frame) (n b : ℕ) (c : Class) → class_of b ≡ c → Came nothing b (step_value_due stack n b c)
+due_came stack n b White e = tt
+due_came stack n b c e = begin_came stack n b c e
+
+array_came : (stack : List Frame) (place n b : ℕ) (c : Class) → class_of b ≡ c → Came nothing b (step_array_opened stack place n b c)
+array_came stack place n b White e = tt
+array_came stack place n b CloseArray e = tt
+array_came stack place n b c e = begin_came (in_array place [] ∷ stack) n b c e
+
+object_came : (stack : List Frame) (place n b : ℕ) (c : Class) → Came nothing b (step_object_opened stack place n c)
+object_came stack place n b White = tt
+object_came stack place n b CloseObject = tt
+object_came stack place n b Quote = (refl, refl)
+object_came stack place n b _ = tt
+
+name_came : (stack : List Frame) (place : ℕ) (done : List Member) (n b : ℕ) (c : Class) → Came nothing b (step_name_due stack place done n c)
+name_came stack place done n b White = tt
+name_came stack place done n b Quote = (refl, refl)
+name_came stack place done n b _ = tt
+
+colon_came : (stack : List Frame) (place : ℕ) (done : List Member) (np : ℕ) (name : List ℕ) (ne n b : ℕ) (c : Class) → Came nothing b (step_colon_due stack place done np name ne c)
+colon_came stack place done np name ne n b White = tt
+colon_came stack place done np name ne n b Colon = tt
+colon_came stack place done np name ne n b _ = tt
+
+after_came : (before : Under) (b : ℕ) (stack : List Frame) (t : Tree) (n : ℕ) (c : Class) → Came before b (after_value stack t n c)
+after_came before b [] t n White = tt
+after_came before b (in_array place done ∷ stack) t n White = tt
+after_came before b (in_array place done ∷ stack) t n Comma = tt
+after_came before b (in_array place done ∷ stack) t n CloseArray = tt
+after_came before b (in_object place done np name ne ∷ stack) t n White = tt
+after_came before b (in_object place done np name ne ∷ stack) t n Comma = tt
+after_came before b (in_object place done np name ne ∷ stack) t n CloseObject = tt
+after_came before b _ t n _ = tt
+
+word_came : (stack : List Frame) (which : Constant) (place : ℕ) (left : List ℕ) (n b : ℕ) → Came nothing b (step_constant stack which place left n b)
+word_came stack which place [] n b = after_came nothing b stack (constant which place) n (class_of b)
+word_came stack which place (a ∷ []) n b = go (b == a)
+  where
+    go : (t : Bool) → Came nothing b (if t then to stack (value_done (constant which place)) else None)
+    go true = tt
+    go false = tt
+word_came stack which place (a ∷ c ∷ left) n b = go (b == a)
+  where
+    go : (t : Bool) → Came nothing b (if t then to stack (constant_on which place (c ∷ left)) else None)
+    go true = tt
+    go false = tt
+
+number_came : (stack : List Frame) (place : ℕ) (so_far : List ℕ) (state : NumberState) (n b : ℕ) (c : Class) (o : Option NumberState) (may_end : Bool) → number_next state (class_of b) ≡ o
+    → Came (number so_far state) b (step_number stack place so_far n b o (if may_end then after_value stack (number_tree place so_far n) n c else None))
+number_came stack place so_far state n b c (Some next) may_end e = (refl, e)
+number_came stack place so_far state n b c None true e = after_came (number so_far state) b stack (number_tree place so_far n) n c
+number_came stack place so_far state n b c None false e = tt
+
+string_came : (stack : List Frame) (place : ℕ) (so_far : List ℕ) (state : StringState) (n b : ℕ) (s : StringStep) → string_next state b ≡ s → Came (text so_far state) b (step_string stack place so_far n s)
+string_came stack place so_far state n b string_ends e = tt
+string_came stack place so_far state n b (string_goes more next) e = (more, refl, e)
+string_came stack place so_far state n b string_refuses e = tt
+
+name_string_came : (stack : List Frame) (place : ℕ) (done : List Member) (np : ℕ) (so_far : List ℕ) (state : StringState) (n b : ℕ) (s : StringStep) → string_next state b ≡ s → Came (text so_far state) b (step_name stack place done np so_far n s)
+name_string_came stack place done np so_far state n b string_ends e = tt
+name_string_came stack place done np so_far state n b (string_goes more next) e = (more, refl, e)
+name_string_came stack place done np so_far state n b string_refuses e = tt
+
+came : (stack : List Frame) (leaf : Leaf) (n b : ℕ) → Came (under_leaf leaf) b (step_leaf stack leaf n b)
+came stack value_due n b = due_came stack n b (class_of b) refl
+came stack (value_done t) n b = after_came nothing b stack t n (class_of b)
+came stack (array_opened place) n b = array_came stack place n b (class_of b) refl
+came stack (object_opened place) n b = object_came stack place n b (class_of b)
+came stack (constant_on which place left) n b = word_came stack which place left n b
+came stack (number_on place so_far state) n b = number_came stack place so_far state n b (class_of b) (number_next state (class_of b)) (number_may_end state) refl
+came stack (string_on place so_far state) n b = string_came stack place so_far state n b (string_next state b) refl
+came stack (name_due place done) n b = name_came stack place done n b (class_of b)
+came stack (name_on place done np so_far state) n b = name_string_came stack place done np so_far state n b (string_next state b) refl
+came stack (colon_due place done np name ne) n b = colon_came stack place done np name ne n b (class_of b)
+
+-- ---- a whole text
+
+abbrev pub CameTo : Under → ℕ → Option Broken → Type 0
+CameTo before b None = Unit {0}
+CameTo before b (Some s) = ComesFrom before b (under_of s)
+
+marked_came : (before : Under) (b : ℕ) (marked : Bool) (o : Option Partial) → Came before b o → CameTo before b (with_mark marked o)
+marked_came before b marked None h = tt
+marked_came before b marked (Some s) h = h
+
+pub step_came : (s : Broken) (n b : ℕ) → CameTo (under_of s) b (step s n b)
+step_came text_due n b = go (b == mark_first)
+  where
+    go : (t : Bool) → CameTo nothing b (if t then Some mark_one else with_mark false (step_value_due [] n b (class_of b)))
+    go true = tt
+    go false = marked_came nothing b false (step_value_due [] n b (class_of b)) (due_came [] n b (class_of b) refl)
+step_came mark_one n b = go (b == mark_second)
+  where
+    go : (t : Bool) → CameTo nothing b (if t then Some mark_two else None)
+    go true = tt
+    go false = tt
+step_came mark_two n b = go (b == mark_third)
+  where
+    go : (t : Bool) → CameTo nothing b (if t then Some (begun true (record { stack = []; leaf = value_due })) else None)
+    go true = tt
+    go false = tt
+step_came (begun marked s) n b = marked_came (under_leaf s.leaf) b marked (step_leaf s.stack s.leaf n b) (came s.stack s.leaf n b)
+
+-- ---- the mode tells whether a number is under way
+
+abbrev pub is_number : Under → Bool
+is_number (number so_far state) = true
+is_number _ = false
+
+leaf_mode : (leaf : Leaf) (mode : Mode) → LeafAs leaf mode → in_number mode ≡ is_number (under_leaf leaf)
+leaf_mode value_due mode a = rw a refl
+leaf_mode (value_done t) mode a = rw a refl
+leaf_mode (array_opened place) mode a = rw a refl
+leaf_mode (object_opened place) mode a = rw a refl
+leaf_mode (constant_on which place left) mode a = rw (a.1) refl
+leaf_mode (number_on place so_far state) mode a = rw a refl
+leaf_mode (string_on place so_far state) mode a = rw a refl
+leaf_mode (name_due place done) mode a = rw a refl
+leaf_mode (name_on place done np so_far state) mode a = rw a refl
+leaf_mode (colon_due place done np name ne) mode a = rw a refl
+
+pub mode_under : (s : Broken) (mode : Mode) (levels : List Level) → StandsAs s mode levels → in_number mode ≡ is_number (under_of s)
+mode_under text_due mode levels a = rw (a.0) refl
+mode_under mark_one mode levels a = rw (a.0) refl
+mode_under mark_two mode levels a = rw (a.0) refl
+mode_under (begun marked s) mode levels a = leaf_mode s.leaf mode a.0
+
+-- and which character of a string
+abbrev pub state_under : Under → Option StringState
+state_under (text so_far state) = Some state
+state_under _ = None
+
+leaf_state : (leaf : Leaf) (mode : Mode) → LeafAs leaf mode → text_state mode ≡ state_under (under_leaf leaf)
+leaf_state value_due mode a = rw a refl
+leaf_state (value_done t) mode a = rw a refl
+leaf_state (array_opened place) mode a = rw a refl
+leaf_state (object_opened place) mode a = rw a refl
+leaf_state (constant_on which place left) mode a = rw (a.1) refl
+leaf_state (number_on place so_far state) mode a = rw a refl
+leaf_state (string_on place so_far state) mode a = rw a refl
+leaf_state (name_due place done) mode a = rw a refl
+leaf_state (name_on place done np so_far state) mode a = rw a refl
+leaf_state (colon_due place done np name ne) mode a = rw a refl
+
+pub mode_state : (s : Broken) (mode : Mode) (levels : List Level) → StandsAs s mode levels → text_state mode ≡ state_under (under_of s)
+mode_state text_due mode levels a = rw (a.0) refl
+mode_state mark_one mode levels a = rw (a.0) refl
+mode_state mark_two mode levels a = rw (a.0) refl
+mode_state (begun marked s) mode levels a = leaf_state s.leaf mode a.0

@@ -1,0 +1,44 @@
+-- Words of bits keep as many levels as their counts say.
+use Rattle.std.proofs.Common.{◌≡◌, ◌≢◌, ℕ, zero, suc, ◌+◌, ◌*◌, ◌≤◌, ◌<◌, ◌/◌, ◌%◌, List, ◌∷◌, ◌++◌, length, get_or, set, refl, ap, arith, add-one}
+use Rattle.std.proofs.lemmas.List.{get_or-set_same, get_or-set_other, length-append}
+use Rattle.std.specs.Prelude.{slice_set}
+use Rattle.gj_json.specs.declared.levels.Levels.{Levels}
+use Rattle.gj_json.specs.declared.levels.Level.{Level}
+use Rattle.gj_json.specs.declared.levels.Level.TheVariants.{Array, Object}
+use Rattle.gj_json.specs.declared.levels.TheConstants.{WORD}
+use Rattle.gj_json.specs.declared.limits.TheConstants.{MOST_LEVELS}
+use Rattle.gj_json.specs.Internal.OpenLevels.{level_of, bit_of, levels_at, full_levels, levels_in}
+
+length-levels_at : (count bits : ℕ) → length (levels_at count bits) ≡ count
+length-levels_at zero bits = refl
+length-levels_at (suc count) bits = ap suc (length-levels_at count (bits / 2))
+
+length-full : (n : ℕ) (words : List ℕ) → length (full_levels n words) ≡ n * WORD
+length-full zero words = refl
+length-full (suc n) words = omega (arith, length-append (levels_at WORD (get_or words n 0)) (full_levels n words), length-levels_at WORD (get_or words n 0), length-full n words)
+
+pub length-levels : (l : Levels) → length (levels_in l) ≡ l.count + l.full * WORD
+unfolding levels_in
+length-levels l = omega (arith, length-append (levels_at l.count l.inner) (full_levels l.full l.outer), length-levels_at l.count l.inner, length-full l.full l.outer)
+
+pub few_levels : (l : Levels) → length (levels_in l) ≤ MOST_LEVELS
+few_levels l = omega (arith, l.some, l.few, length-levels l)
+
+set_above : (words : List ℕ) (n m word : ℕ) → n ≤ m → full_levels n (set words m word) ≡ full_levels n words
+set_above words zero m word l = refl
+set_above words (suc n) m word l =
+    let d : n ≢ m = omega arith in
+    rw (get_or-set_other words m n word 0 d) (ap (λ ls. levels_at WORD (get_or words n 0) ++ ls) (set_above words n m word (omega arith)))
+
+-- one more full word
+full_more : (words : List ℕ) (n word : ℕ) → n < length words → full_levels (n + 1) (slice_set words n word) ≡ levels_at WORD word ++ full_levels n words
+full_more words n word l = rw (add-one, get_or-set_same words n word 0 l) (ap (λ ls. levels_at WORD word ++ ls) (set_above words n n word (omega arith)))
+
+bit_level : (level : Level) → level_of (bit_of level % 2) ≡ level
+bit_level Array = refl
+bit_level Object = refl
+
+-- a level is pushed where the word of the innermost levels is full
+pub pushed_full : (level : Level) (bit inner count full : ℕ) (words : List ℕ) → bit ≡ bit_of level → count ≡ WORD → full < length words
+    → levels_at 1 bit ++ full_levels (full + 1) (slice_set words full inner) ≡ level ∷ (levels_at count inner ++ full_levels full words)
+pushed_full level bit inner count full words b e l = rw (b, bit_level level, full_more words full inner l, e) refl

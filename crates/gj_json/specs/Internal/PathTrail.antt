@@ -1,0 +1,130 @@
+-- The steps to the right edge of a text, the innermost first, and what a byte does to them.
+use Rattle.std.specs.Prelude.{◌≡◌, ℕ, zero, suc, ◌+◌, ◌==◌, ◌≤◌, ◌<◌, ◌^◌, ◌&&◌, if◌then◌else◌, Bool, true, false, List, [], ◌∷◌, length, get_or, Option, Some, None}
+use Rattle.gj_json.specs.declared.path.PathStep.{PathStep}
+use Rattle.gj_json.specs.declared.path.PathStep.TheVariants.{Index}
+use Rattle.gj_json.specs.declared.path.Path.{Path}
+use Rattle.gj_json.specs.declared.names.Known.{Known}
+use Rattle.gj_json.specs.declared.mode.Mode.{Mode}
+use Rattle.gj_json.specs.declared.mode.Mode.TheVariants.{ConstantOn, NumberOn, StringOn, NameOn}
+use Rattle.gj_json.specs.declared.class.Class.{Class}
+use Rattle.gj_json.specs.declared.class.Class.TheVariants.{OpenArray, CloseArray, OpenObject, CloseObject, Comma}
+use Rattle.gj_json.specs.declared.trail.Turn.{Turn}
+use Rattle.gj_json.specs.declared.trail.Turn.TheVariants.{Stays, Opens, Closes, Advances, Names}
+use Rattle.gj_json.specs.declared.limits.TheConstants.{MOST_LEVELS}
+use Rattle.gj_json.specs.Bytes.{quote}
+use Rattle.gj_json.specs.Internal.ByteClasses.{class_of}
+use Rattle.gj_json.specs.Names.{known_of}
+use Rattle.gj_json.specs.Internal.TextMachine.{Frame, in_array, in_object, Leaf, array_opened, object_opened, name_due, name_on, colon_due, Broken, begun}
+
+-- ---- the steps of a path, the innermost first
+
+abbrev pub steps_back : ℕ → List PathStep → List PathStep
+steps_back zero steps = []
+steps_back (suc n) steps = get_or steps n (Index 0) ∷ steps_back n steps
+
+abbrev pub inner_steps : Path → List PathStep
+inner_steps path = steps_back path.count path.steps
+
+abbrev pub inner_step : List PathStep → Option PathStep
+inner_step [] = None
+inner_step (step ∷ steps) = Some step
+
+abbrev pub outer_steps : List PathStep → List PathStep
+outer_steps [] = []
+outer_steps (step ∷ steps) = steps
+
+abbrev pub with_inner : PathStep → List PathStep → List PathStep
+with_inner step [] = []
+with_inner step (old ∷ steps) = step ∷ steps
+
+abbrev pub advanced : List PathStep → List PathStep
+advanced (Index i ∷ steps) = Index (i + 1) ∷ steps
+advanced steps = steps
+
+-- ---- what a byte does
+
+abbrev pub class_turn : Class → Turn
+class_turn OpenArray = Opens
+class_turn OpenObject = Opens
+class_turn CloseArray = Closes
+class_turn CloseObject = Closes
+class_turn Comma = Advances
+class_turn _ = Stays
+
+-- where this is the name under way
+abbrev pub turn_of : Mode → Known → ℕ → Turn
+turn_of (ConstantOn which count) known b = Stays
+turn_of (StringOn state) known b = Stays
+turn_of (NameOn state) known b = if b == quote then Names known else Stays
+turn_of _ known b = class_turn (class_of b)
+
+abbrev pub followed : Turn → List PathStep → List PathStep
+followed Stays steps = steps
+followed Opens steps = Index 0 ∷ steps
+followed Closes steps = outer_steps steps
+followed Advances steps = advanced steps
+followed (Names known) steps = with_inner (PathStep.Member known) steps
+
+-- the innermost step can be kept
+abbrev pub IsSmall : List PathStep → Type 0
+IsSmall (Index i ∷ steps) = i < 2 ^ 64
+IsSmall _ = Unit {0}
+
+pub record Fits (steps : List PathStep) : Type 0 where
+  pub few : length steps ≤ MOST_LEVELS
+  pub small : IsSmall steps
+
+-- ---- what the steps are, by the state of the machine
+
+abbrev pub frame_step : Frame → PathStep
+frame_step (in_array place done) = Index (length done)
+frame_step (in_object place done np name ne) = PathStep.Member (known_of name)
+
+abbrev pub stack_steps : List Frame → List PathStep
+stack_steps [] = []
+stack_steps (frame ∷ stack) = frame_step frame ∷ stack_steps stack
+
+-- some step into a container that the leaf itself has open
+pub record Inside (stack : List Frame) (steps : List PathStep) : Type 0 where
+  pub inner : PathStep
+  pub small : IsSmall (inner ∷ [])
+  pub are : steps ≡ inner ∷ stack_steps stack
+
+abbrev pub LeafTrail : List Frame → Leaf → List PathStep → Type 0
+LeafTrail stack (array_opened place) steps = steps ≡ Index 0 ∷ stack_steps stack
+LeafTrail stack (object_opened place) steps = Inside stack steps
+LeafTrail stack (name_due place done) steps = Inside stack steps
+LeafTrail stack (name_on place done np so_far state) steps = Inside stack steps
+LeafTrail stack (colon_due place done np name ne) steps = steps ≡ PathStep.Member (known_of name) ∷ stack_steps stack
+LeafTrail stack _ steps = steps ≡ stack_steps stack
+
+-- how many elements have ended in the arrays that are open
+abbrev pub frame_count : Frame → ℕ
+frame_count (in_array place done) = length done
+frame_count (in_object place done np name ne) = 0
+
+abbrev pub stack_count : List Frame → ℕ
+stack_count [] = 0
+stack_count (frame ∷ stack) = frame_count frame + stack_count stack
+
+-- these are the steps of the state that n bytes lead to
+abbrev pub TrailAt : ℕ → Broken → List PathStep → Type 0
+TrailAt n (begun marked s) steps = LeafTrail s.stack s.leaf steps × (stack_count s.stack ≤ n)
+TrailAt n _ steps = steps ≡ []
+
+-- ---- which of them lead to the value
+
+-- a value that is no array and no object is under way
+abbrev pub is_value : Mode → Bool
+is_value (ConstantOn which count) = true
+is_value NumberOn = true
+is_value (StringOn state) = true
+is_value _ = false
+
+-- and it begins with the last byte
+abbrev pub begins : Mode → ℕ → ℕ → Bool
+begins mode start offset = is_value mode && (start + 1 == offset)
+
+abbrev pub kept_steps : Bool → List PathStep → List PathStep
+kept_steps true steps = steps
+kept_steps false steps = outer_steps steps

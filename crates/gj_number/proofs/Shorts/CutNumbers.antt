@@ -1,0 +1,45 @@
+-- What a cut number is.
+use Rattle.std.proofs.Common.{◌≡◌, ℕ, ◌+◌, ◌-◌, ◌*◌, ◌/◌, ◌^◌, ◌<◌, ◌≤◌, true, false, Some, None, refl, sym, ◌∙◌, ap, arith, ltb}
+use Rattle.std.proofs.lemmas.Bool.Decides.{nat_tests}
+use Rattle.std.proofs.Math.Nat.{mul-le-mul_right, pow-le-pow_right, div-eq_of_lt}
+use Rattle.std.proofs.lemmas.Nat.{pow-add}
+use Rattle.gj_number.specs.Exact.{cut_limit}
+use Rattle.gj_number.specs.Internal.KeptParts.{limited_cut}
+use Rattle.gj_number.proofs.Value.NormalForm.{ten_above_zero}
+
+pub limited_below : (magnitude : ℕ) → magnitude < cut_limit → limited_cut magnitude ≡ Some magnitude
+limited_below magnitude h = let e : ltb magnitude cut_limit ≡ true = grind (arith, nat_tests) in rw e refl
+
+pub limited_above : (magnitude : ℕ) → cut_limit ≤ magnitude → limited_cut magnitude ≡ None
+limited_above magnitude h = let e : ltb magnitude cut_limit ≡ false = grind (arith, nat_tests) in rw e refl
+
+-- digits that are moved up far
+pub raised_far : (digits up : ℕ) → 0 < digits → 17 ≤ up → limited_cut (digits * 10 ^ up) ≡ None
+raised_far digits up some far =
+    let l : 10 ^ 17 ≤ 10 ^ up = pow-le-pow_right {n = 10} (omega arith) far in
+    let m = mul-le-mul_right (10 ^ up) some in
+    limited_above (digits * 10 ^ up) (omega arith)
+
+together : (up : ℕ) → up < 17 → 10 ^ (17 - up) * 10 ^ up ≡ cut_limit
+together up h = let e : 17 - up + up ≡ 17 = omega arith in sym (pow-add 10 (17 - up) up) ∙ ap (λ n. 10 ^ n) e
+
+pub raised_above : (digits up : ℕ) → up < 17 → 10 ^ (17 - up) ≤ digits → limited_cut (digits * 10 ^ up) ≡ None
+raised_above digits up h large =
+    let m = mul-le-mul_right (10 ^ up) large in
+    let t = together up h in
+    limited_above (digits * 10 ^ up) (omega arith)
+
+pub raised_small : (digits up : ℕ) → up < 17 → digits < 10 ^ (17 - up) → digits * 10 ^ up < cut_limit
+raised_small digits up h small =
+    let step : digits + 1 ≤ 10 ^ (17 - up) = omega arith in
+    let m = mul-le-mul_right (10 ^ up) step in
+    let t = together up h in
+    let p = ten_above_zero up in
+    omega arith
+
+-- digits that are moved down past the last
+pub lowered_far : (digits down : ℕ) → digits < 10 ^ 30 → 30 ≤ down → limited_cut (digits / 10 ^ down) ≡ Some 0
+lowered_far digits down small far =
+    let l : 10 ^ 30 ≤ 10 ^ down = pow-le-pow_right {n = 10} (omega arith) far in
+    let e : digits / 10 ^ down ≡ 0 = div-eq_of_lt (omega arith) in
+    rw e refl

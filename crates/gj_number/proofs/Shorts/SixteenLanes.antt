@@ -1,0 +1,330 @@
+-- Sixteen lanes.
+use Rattle.std.proofs.Common.{min, All, append-nil, ◌/◌, ◌⊎◌, cond, length-drop, zero, suc, ◌≡◌, ℕ, ◌+◌, ◌-◌, ◌*◌, ◌%◌, ◌^◌, ◌<◌, ◌≤◌, ◌++◌, Bool, List, [], ◌∷◌, length, map, take, drop, get_or, replicate, fold, Fits, leb, ltb, T, true, false, not, ◌&&◌, ◌||◌, inl, inr, refl, sym, ◌∙◌, ap, subst, arith, w8}
+use mir.Val.{zeroes}
+use Rattle.gj_number.specs.declared.lanes.TheConstants.{PLACES, OTHERS}
+use lib.Lanes.{zip2, Each1, chunk, pair_sums, products, mask_l}
+use lib.Count.{count_trailing_zeros}
+use Rattle.std.specs.List.{AllByRecursion}
+use Rattle.std.proofs.Math.Numerals.{one-add}
+use Rattle.std.proofs.lemmas.Bool.Decides.{leb_tells}
+use Rattle.std.proofs.Math.Nat.{div-one, zero-div, pow-suc, div-div-eq-div-mul}
+use Rattle.std.proofs.Math.Seq.{take-append-add}
+use Rattle.std.proofs.lemmas.List.{take-map, take-take, length-take-le, length-map, get_or-map, get_or-take, get_or-drop, drop-map, drop-take, map-append, take-append-le}
+use Rattle.std.proofs.lemmas.List.Elements.{All-from_recursion, All-nil}
+use Rattle.std.proofs.lemmas.List.Sums.{prefix_len-le-length, prefix_len_stops}
+use Rattle.std.proofs.lemmas.Simd.{zip2_splat, leading_from_mask_l, trailing_mask_l, chunk-fits, Each1-replicate, swz_l, SwzOk, SwzOk-from_Each1, Each1-chunk, length-chunk}
+use Rattle.std.proofs.lemmas.Bool.{cases_lt}
+use Rattle.gj_number.specs.Bytes.{decimal_point, IsDigit}
+use Rattle.gj_number.specs.Internal.DigitRuns.{IsRun, SpellsOn, SpellsUnsigned}
+use Rattle.gj_number.specs.Value.{with_digit}
+use Rattle.gj_number.proofs.Shorts.NumberPrefixes.{digit_byte}
+use Rattle.gj_number.proofs.Shorts.RunEnds.{digit_at, run_found}
+use Rattle.gj_number.proofs.Shorts.PiecePrefixes.{rest_is}
+use Rattle.gj_number.proofs.Literals.RunsOfDigits.{parts_digits}
+use Rattle.gj_number.specs.Internal.DigitLanes.{lane_of, with_value, by_fours, leading}
+
+-- ---- four digits
+
+four : (a b c d : ℕ) → a < 10 → b < 10 → c < 10 → d < 10 → (((a * 10 + b * 1) + (c * 0 + d * 0)) * 100 % 2 ^ 32 + ((a * 0 + b * 0) + (c * 10 + d * 1))) % 2 ^ 32 ≡ ((a * 10 + b) * 10 + c) * 10 + d
+four a b c d A B C D = omega arith
+
+abbrev pub dotted : List ℕ → List ℕ → List ℕ
+dotted xs ys = pair_sums (pair_sums (products xs ys))
+
+pub fours_is : (xs : List ℕ) → length xs ≡ 16 → Each1 (λ x. x < 10) xs
+    → zip2 (λ x y. (x + y) % 2 ^ 32) (zip2 (λ x y. x * y % 2 ^ 32) (dotted xs (10 ∷ 1 ∷ 0 ∷ 0 ∷ 10 ∷ 1 ∷ 0 ∷ 0 ∷ 10 ∷ 1 ∷ 0 ∷ 0 ∷ 10 ∷ 1 ∷ 0 ∷ 0 ∷ [])) (100 ∷ 100 ∷ 100 ∷ 100 ∷ []))
+    (dotted xs (0 ∷ 0 ∷ 10 ∷ 1 ∷ 0 ∷ 0 ∷ 10 ∷ 1 ∷ 0 ∷ 0 ∷ 10 ∷ 1 ∷ 0 ∷ 0 ∷ 10 ∷ 1 ∷ [])) ≡ by_fours xs
+fours_is (a ∷ b ∷ c ∷ d ∷ x ∷ f ∷ g ∷ h ∷ p ∷ q ∷ r ∷ s ∷ t ∷ u ∷ v ∷ w ∷ []) len all =
+    λ i. four a b c d all.0 all.1.0 all.1.1.0 all.1.1.1.0 i ∷ four x f g h all.1.1.1.1.0 all.1.1.1.1.1.0 all.1.1.1.1.1.1.0 all.1.1.1.1.1.1.1.0 i ∷ four p q r s all.1.1.1.1.1.1.1.1.0 all.1.1.1.1.1.1.1.1.1.0 all.1.1.1.1.1.1.1.1.1.1.0 all.1.1.1.1.1.1.1.1.1.1.1.0 i ∷ four t u v w all.1.1.1.1.1.1.1.1.1.1.1.1.0 all.1.1.1.1.1.1.1.1.1.1.1.1.1.0 all.1.1.1.1.1.1.1.1.1.1.1.1.1.1.0 all.1.1.1.1.1.1.1.1.1.1.1.1.1.1.1.0 i ∷ []
+fours_is _ len all = absurd (omega arith)
+
+-- ---- moved to the end
+
+-- what holds of each number below n
+abbrev Below : (ℕ → Type 0) → ℕ → Type 0
+Below P zero = Unit {0}
+Below P (suc n) = Below P n × P n
+
+below_at : (P : ℕ → Type 0) (n k : ℕ) → Below P n → k < n → P k
+below_at P zero k h l = absurd (omega arith)
+below_at P (suc n) k h l = elim (cases_lt k n) [ inl m ↦ below_at P n k h.0 m | inr m ↦ let e : n ≡ k = omega arith in subst P e h.1 ]
+
+abbrev every : (ℕ → Bool) → List ℕ → Bool
+every p [] = true
+every p (x ∷ xs) = p x && every p xs
+
+every_each : (p : ℕ → Bool) (xs : List ℕ) → T (every p xs) → Each1 (λ x. T (p x)) xs
+every_each p [] h = tt
+every_each p (x ∷ xs) h = go (every_each p xs) (p x) h
+  where
+    go : (T (every p xs) → Each1 (λ y. T (p y)) xs) → (b : Bool) → T (b && every p xs) → T b × Each1 (λ y. T (p y)) xs
+    go rest true k = (tt, rest k)
+    go rest false k = absurd k
+
+-- each place is one of a lane, or none
+pub places_ok : (count : ℕ) → count ≤ 16 → SwzOk w8 16 16 0 (chunk 0 16 (chunk count (32 - count) PLACES))
+places_ok count h =
+    let P : ℕ → Type 0 = λ j. T (zeroes 16 w8 j || ltb j 16) in
+    let all : Each1 P PLACES = every_each (λ j. zeroes 16 w8 j || ltb j 16) PLACES tt in
+    let rest = Each1-chunk P count (32 - count) PLACES all in
+    let long : length (chunk 0 16 (chunk count (32 - count) PLACES)) ≡ 16 = length-chunk 0 16 _ (omega (arith, length-chunk count (32 - count) PLACES (omega arith))) in
+    SwzOk-from_Each1 w8 16 1 16 0 _ refl (omega arith) (Each1-chunk P 0 16 _ rest)
+
+pub moved_is : (xs : List ℕ) → length xs ≡ 16 → (count : ℕ) → count ≤ 16 → swz_l w8 16 xs 0 (chunk 0 16 (chunk count (32 - count) PLACES)) ≡ replicate (16 - count) 0 ++ take count xs
+moved_is (a ∷ b ∷ c ∷ d ∷ x ∷ f ∷ g ∷ h ∷ p ∷ q ∷ r ∷ s ∷ t ∷ u ∷ v ∷ w ∷ []) len count few =
+    let xs : List ℕ = a ∷ b ∷ c ∷ d ∷ x ∷ f ∷ g ∷ h ∷ p ∷ q ∷ r ∷ s ∷ t ∷ u ∷ v ∷ w ∷ [] in
+    let P : ℕ → Type 0 = λ k. swz_l w8 16 xs 0 (chunk 0 16 (chunk k (32 - k) PLACES)) ≡ replicate (16 - k) 0 ++ take k xs in
+    let all : Below P 17 = (((((((((((((((((tt, refl), refl), refl), refl), refl), refl), refl), refl), refl), refl), refl), refl), refl), refl), refl), refl), refl) in
+    below_at P 17 count all (omega arith)
+moved_is _ len count few = absurd (omega arith)
+
+-- ---- a lane taken out
+
+pub others_ok : (at : ℕ) → at < 16 → SwzOk w8 16 16 0 (chunk 0 16 (chunk (16 * at) (256 - 16 * at) OTHERS))
+others_ok at h =
+    let P : ℕ → Type 0 = λ j. T (zeroes 16 w8 j || ltb j 16) in
+    let all : Each1 P OTHERS = every_each (λ j. zeroes 16 w8 j || ltb j 16) OTHERS tt in
+    let rest = Each1-chunk P (16 * at) (256 - 16 * at) OTHERS all in
+    let long : length (chunk 0 16 (chunk (16 * at) (256 - 16 * at) OTHERS)) ≡ 16 = length-chunk 0 16 _ (omega (arith, length-chunk (16 * at) (256 - 16 * at) OTHERS (omega arith))) in
+    SwzOk-from_Each1 w8 16 1 16 0 _ refl (omega arith) (Each1-chunk P 0 16 _ rest)
+
+pub others_is : (xs : List ℕ) → length xs ≡ 16 → (at : ℕ) → at < 16 → swz_l w8 16 xs 0 (chunk 0 16 (chunk (16 * at) (256 - 16 * at) OTHERS)) ≡ take at xs ++ (drop (at + 1) xs ++ 0 ∷ [])
+others_is (a ∷ b ∷ c ∷ d ∷ x ∷ f ∷ g ∷ h ∷ p ∷ q ∷ r ∷ s ∷ t ∷ u ∷ v ∷ w ∷ []) len at few =
+    let xs : List ℕ = a ∷ b ∷ c ∷ d ∷ x ∷ f ∷ g ∷ h ∷ p ∷ q ∷ r ∷ s ∷ t ∷ u ∷ v ∷ w ∷ [] in
+    let P : ℕ → Type 0 = λ k. swz_l w8 16 xs 0 (chunk 0 16 (chunk (16 * k) (256 - 16 * k) OTHERS)) ≡ take k xs ++ (drop (k + 1) xs ++ 0 ∷ []) in
+    let all : Below P 16 = ((((((((((((((((tt, refl), refl), refl), refl), refl), refl), refl), refl), refl), refl), refl), refl), refl), refl), refl), refl) in
+    below_at P 16 at all few
+others_is _ len at few = absurd (omega arith)
+
+-- ---- the digits at the start
+
+leading_small : (xs : List ℕ) → Each1 (λ x. x < 10) (take (leading xs) xs)
+leading_small [] = tt
+leading_small (x ∷ xs) = elim (leb_tells 10 x) [
+  | inl e ↦ rw (e.0) tt
+  | inr e ↦ rw (e.0, one-add) (omega arith, leading_small xs)
+]
+
+each_on : (xs ys : List ℕ) → Each1 (λ x. x < 10) xs → Each1 (λ x. x < 10) ys → Each1 (λ x. x < 10) (xs ++ ys)
+each_on [] ys h k = k
+each_on (x ∷ xs) ys h k = (h.0, each_on xs ys h.1 k)
+
+fold_zeros : (n : ℕ) (xs : List ℕ) → fold with_value 0 (replicate n 0 ++ xs) ≡ fold with_value 0 xs
+fold_zeros zero xs = refl
+fold_zeros (suc n) xs = fold_zeros n xs
+
+-- lanes of digits are digits, and spell what the bytes do
+lanes_spell : (n : ℕ) (xs : List ℕ) → Each1 (Fits w8) xs → Each1 (λ x. x < 10) (map lane_of xs) → AllByRecursion IsDigit xs × (fold with_value n (map lane_of xs) ≡ fold with_digit n xs)
+lanes_spell n [] fits h = (tt, refl)
+lanes_spell n (x ∷ xs) fits h =
+    let byte = fits.0.fits in
+    let d = digit_byte x byte (omega arith) in
+    let rest = lanes_spell (with_digit n x) xs fits.1 h.1 in
+    ((d.0, rest.0), rw (d.1) rest.1)
+
+-- the lanes moved to the end are digits
+pub moved_small : (lanes : List ℕ) (count : ℕ) → count ≡ leading lanes → Each1 (λ x. x < 10) (replicate (16 - count) 0 ++ take count lanes)
+moved_small lanes count e = each_on (replicate (16 - count) 0) (take count lanes) (Each1-replicate (λ x. x < 10) (16 - count) 0 (omega arith)) (rw e (leading_small lanes))
+
+pub first_spell : (piece lanes : List ℕ) (count value : ℕ) → 16 ≤ length piece → ((k : ℕ) → Fits w8 (get_or piece k 0)) → lanes ≡ map lane_of (take 16 piece) → count ≡ leading lanes → count ≤ 16
+    → value ≡ fold with_value 0 (replicate (16 - count) 0 ++ take count lanes) → SpellsOn piece 0 count value
+first_spell piece lanes count value long fits e c few v =
+    let small : Each1 (λ x. x < 10) (take count lanes) = rw c (leading_small lanes) in
+    let front : take count lanes ≡ map lane_of (take count piece) = ap (take count) e ∙ take-map lane_of count (take 16 piece) ∙ ap (map lane_of) (take-take count 16 piece few) in
+    let P : List ℕ → Type 0 = λ xs. Each1 (λ x. x < 10) xs in
+    let k = lanes_spell 0 (take count piece) (chunk-fits w8 0 count piece fits) (subst P front small) in
+    record {
+      within = omega arith;
+      digits = All-from_recursion IsDigit (take count piece) k.0;
+      value_is = v ∙ fold_zeros (16 - count) (take count lanes) ∙ ap (fold with_value 0) front ∙ k.1;
+    }
+
+-- ---- what the code finds
+
+pub lanes_are : (piece : List ℕ) → 16 ≤ length piece → zip2 (λ a b. (a + (256 - b)) % 256) (take 16 piece) (replicate 16 48) ≡ map lane_of (take 16 piece)
+lanes_are piece long = zip2_splat (λ a b. (a + (256 - b)) % 256) (take 16 piece) 16 48 (length-take-le 16 piece long)
+
+pub leading_none : (lanes : List ℕ) (mask : ℕ) → length lanes ≡ 16 → mask ≡ mask_l (map (leb 10) lanes) → mask ≡ 0 → 16 ≡ leading lanes
+leading_none lanes mask long e none = sym (leading_from_mask_l (leb 10) lanes (sym e ∙ none) ∙ long)
+
+pub leading_some : (lanes : List ℕ) (mask : ℕ) → length lanes ≡ 16 → mask ≡ mask_l (map (leb 10) lanes) → (mask ≡ 0 → ⊥) → count_trailing_zeros 64 mask ≡ leading lanes
+leading_some lanes mask long e some = ap (count_trailing_zeros 64) e ∙ trailing_mask_l (leb 10) 64 lanes (omega arith) (omega arith)
+
+pub leading_le : (lanes : List ℕ) → length lanes ≡ 16 → leading lanes ≤ 16
+leading_le lanes long = let k = prefix_len-le-length (λ x. not (leb 10 x)) lanes in omega arith
+
+-- after the digits at the start stands a byte that is none
+pub lane_ends : (piece : List ℕ) (n : ℕ) → 16 ≤ length piece → n ≡ leading (map lane_of (take 16 piece)) → n < 16 → IsDigit (get_or piece n 0) → ⊥
+lane_ends piece n long e few d =
+    let lanes = map lane_of (take 16 piece) in
+    let t : length (take 16 piece) ≡ 16 = length-take-le 16 piece long in
+    let l : length lanes ≡ 16 = length-map (take 16 piece) lane_of ∙ t in
+    let stops : not (leb 10 (get_or lanes n 0)) ≡ false = rw e (prefix_len_stops (λ x. not (leb 10 x)) lanes 0 (omega arith)) in
+    let here : get_or lanes n 0 ≡ lane_of (get_or piece n 0) = get_or-map lane_of (take 16 piece) n 0 0 (omega arith) ∙ ap lane_of (get_or-take 16 piece n 0 few) in
+    let low = d.0 in
+    let high = d.1 in
+    elim (leb_tells 10 (get_or lanes n 0)) [
+      | inl h ↦ (let k = h.1 in omega arith)
+      | inr h ↦ (let f : not false ≡ false = rw (h.0) at stops in cc)
+    ]
+
+pub run_whole : (piece lanes : List ℕ) (n count : ℕ) → 16 ≤ length piece → lanes ≡ map lane_of (take 16 piece) → n ≡ leading lanes → n ≤ 16 → All IsDigit (take n piece) → IsRun piece count → n ≡ min count 16
+run_whole piece lanes n count long e f few digits r =
+    let ends : n < 16 → IsDigit (get_or piece n 0) → ⊥ = λ l. lane_ends piece n long (f ∙ ap leading e) l in
+    let w = r.within in
+    elim (cases_lt count 16) [
+      | inl l ↦ (let k = run_found piece n count (omega arith) digits (λ m. ends (omega arith)) r in omega arith)
+      | inr m ↦ elim (cases_lt n 16) [ inl l ↦ absurd (ends l (digit_at piece count n (omega arith) (omega arith) r.digits)) | inr k ↦ omega arith ]
+    ]
+
+-- digits in more lanes
+pub digits_on : (piece lanes : List ℕ) (at count : ℕ) → at + 16 ≤ length piece → ((k : ℕ) → Fits w8 (get_or piece k 0)) → lanes ≡ map lane_of (take 16 (take (length piece - at) (drop at piece))) → count ≡ leading lanes → count ≤ 16
+    → All IsDigit (take at piece) → All IsDigit (take (at + count) piece)
+digits_on piece lanes at count long fits e c few front =
+    let rest = drop at piece in
+    let fits_on : (k : ℕ) → Fits w8 (get_or rest k 0) = λ k. rw (get_or-drop at piece k 0) (fits (at + k)) in
+    let same : lanes ≡ map lane_of (take 16 rest) = e ∙ ap (λ xs. map lane_of (take 16 xs)) (rest_is piece at) in
+    let spelled = first_spell rest lanes count _ (omega (arith, length-drop at piece)) fits_on same c few refl in
+    parts_digits piece at count front spelled.digits
+
+-- ---- digits, a byte, and digits
+
+mask_rest : (ms : List Bool) (k : ℕ) → mask_l ms / 2 ^ k ≡ mask_l (drop k ms)
+mask_rest ms zero = div-one (mask_l ms)
+mask_rest [] (suc k) = zero-div (2 ^ suc k)
+mask_rest (m ∷ ms) (suc k) =
+    let e : 2 ^ suc k ≡ 2 * 2 ^ k = pow-suc 2 k ∙ omega arith in
+    let h : mask_l (m ∷ ms) / 2 ≡ mask_l ms = half m (mask_l ms) in
+    ap (λ n. mask_l (m ∷ ms) / n) e ∙ sym (div-div-eq-div-mul (mask_l (m ∷ ms)) 2 (2 ^ k)) ∙ ap (λ n. n / 2 ^ k) h ∙ mask_rest ms k
+  where
+    half : (m : Bool) (n : ℕ) → (cond m 1 0 + 2 * n) / 2 ≡ n
+    half true n = omega arith
+    half false n = omega arith
+
+pub mask_after : (lanes : List ℕ) (k : ℕ) → mask_l (map (leb 10) lanes) / 2 ^ k ≡ mask_l (map (leb 10) (drop k lanes))
+mask_after lanes k = mask_rest (map (leb 10) lanes) k ∙ ap mask_l (drop-map (leb 10) k lanes)
+
+two_lanes : (lanes : List ℕ) (n f : ℕ) → length lanes ≡ 16 → n < 16 → n + 1 + f ≤ 16 → take (n + f) (take n lanes ++ (drop (n + 1) lanes ++ 0 ∷ [])) ≡ take n lanes ++ take f (drop (n + 1) lanes)
+two_lanes lanes n f long few fits =
+    let l : length (take n lanes) ≡ n = length-take-le n lanes (omega arith) in
+    let P : ℕ → Type 0 = λ k. take (k + f) (take n lanes ++ (drop (n + 1) lanes ++ 0 ∷ [])) ≡ take n lanes ++ take f (drop (n + 1) lanes) in
+    subst P l (take-append-add (take n lanes) (drop (n + 1) lanes ++ 0 ∷ []) f ∙ ap (λ xs. take n lanes ++ xs) (take-append-le f (drop (n + 1) lanes) (0 ∷ []) (omega (arith, length-drop (n + 1) lanes))))
+
+-- the lanes after the byte that is no digit are those of the bytes there
+lanes_after : (piece : List ℕ) (n f : ℕ) → n + 1 + f ≤ 16 → take f (drop (n + 1) (map lane_of (take 16 piece))) ≡ map lane_of (take f (drop (n + 1) piece))
+lanes_after piece n f fits =
+    let k : 16 ≡ n + 1 + (16 - (n + 1)) = omega arith in
+    let e : drop (n + 1) (take 16 piece) ≡ take (16 - (n + 1)) (drop (n + 1) piece) = ap (λ m. drop (n + 1) (take m piece)) k ∙ drop-take (n + 1) (16 - (n + 1)) piece in
+    ap (take f) (drop-map lane_of (n + 1) (take 16 piece) ∙ ap (map lane_of) e) ∙ take-map lane_of f (take (16 - (n + 1)) (drop (n + 1) piece)) ∙ ap (map lane_of) (take-take f (16 - (n + 1)) (drop (n + 1) piece) (omega arith))
+
+each_both : (xs ys : List ℕ) → Each1 (Fits w8) xs → Each1 (Fits w8) ys → Each1 (Fits w8) (xs ++ ys)
+each_both [] ys h k = k
+each_both (x ∷ xs) ys h k = (h.0, each_both xs ys h.1 k)
+
+digits_apart : (xs ys : List ℕ) → AllByRecursion IsDigit (xs ++ ys) → AllByRecursion IsDigit xs × AllByRecursion IsDigit ys
+digits_apart [] ys h = (tt, h)
+digits_apart (x ∷ xs) ys h = let k = digits_apart xs ys h.1 in ((h.0, k.0), k.1)
+
+leading_less : (lanes : List ℕ) → (mask_l (map (leb 10) lanes) ≡ 0 → ⊥) → leading lanes < length lanes
+leading_less [] h = absurd (h refl)
+leading_less (x ∷ xs) h = elim (leb_tells 10 x) [
+  | inl e ↦ rw (e.0) (omega arith)
+  | inr e ↦ rw (e.0) (let k = leading_less xs (λ z. h (rw (e.0, z) refl)) in omega arith)
+]
+
+pub first_other : (lanes : List ℕ) (mask : ℕ) → length lanes ≡ 16 → mask ≡ mask_l (map (leb 10) lanes) → (mask ≡ 0 → ⊥) → (count_trailing_zeros 64 mask ≡ leading lanes) × (count_trailing_zeros 64 mask < 16)
+first_other lanes mask long e some =
+    let t : count_trailing_zeros 64 mask ≡ leading lanes = leading_some lanes mask long e some in
+    let l = leading_less lanes (λ z. some (e ∙ z)) in
+    (t, omega arith)
+
+pub next_other : (lanes : List ℕ) (mask k : ℕ) → length lanes ≡ 16 → k ≤ 16 → mask ≡ mask_l (map (leb 10) lanes) → (mask / 2 ^ k ≡ 0 → ⊥)
+    → (count_trailing_zeros 64 (mask / 2 ^ k) ≡ leading (drop k lanes)) × (k + count_trailing_zeros 64 (mask / 2 ^ k) < 16)
+next_other lanes mask k long few e some =
+    let f : mask / 2 ^ k ≡ mask_l (map (leb 10) (drop k lanes)) = ap (λ n. n / 2 ^ k) e ∙ mask_after lanes k in
+    let l : length (drop k lanes) ≡ 16 - k = omega (arith, length-drop k lanes) in
+    let t : count_trailing_zeros 64 (mask / 2 ^ k) ≡ leading (drop k lanes) = ap (count_trailing_zeros 64) f ∙ trailing_mask_l (leb 10) 64 (drop k lanes) (omega arith) (omega arith) in
+    let m = leading_less (drop k lanes) (λ z. some (f ∙ z)) in
+    (t, omega arith)
+
+pub next_small : (lanes : List ℕ) (k n : ℕ) → n ≡ leading (drop k lanes) → Each1 (λ x. x < 10) (take n (drop k lanes))
+next_small lanes k n e = rw e (leading_small (drop k lanes))
+
+module _ (piece lanes : List ℕ) (long : 16 ≤ length piece) (fits : (k : ℕ) → Fits w8 (get_or piece k 0)) (e : lanes ≡ map lane_of (take 16 piece)) where
+  pub lanes_long : length lanes ≡ 16
+  lanes_long = ap length e ∙ length-map (take 16 piece) lane_of ∙ length-take-le 16 piece long
+
+  -- the lanes of both runs, as digits
+  two_small : (n f : ℕ) → n ≡ leading lanes → Each1 (λ x. x < 10) (take f (drop (n + 1) lanes)) → Each1 (λ x. x < 10) (take n lanes ++ take f (drop (n + 1) lanes))
+  two_small n f c small = each_on (take n lanes) (take f (drop (n + 1) lanes)) (rw c (leading_small lanes)) small
+
+  pub two_moved_small : (n f : ℕ) → n ≡ leading lanes → n < 16 → n + 1 + f ≤ 16 → Each1 (λ x. x < 10) (take f (drop (n + 1) lanes)) → Each1 (λ x. x < 10) (replicate (16 - (n + f)) 0 ++ take (n + f) (take n lanes ++ (drop (n + 1) lanes ++ 0 ∷ [])))
+  two_moved_small n f c few within small =
+      each_on (replicate (16 - (n + f)) 0) _ (Each1-replicate (λ x. x < 10) (16 - (n + f)) 0 (omega arith)) (rw (two_lanes lanes n f lanes_long few within) (two_small n f c small))
+
+  pub two_spell : (n f value bytes : ℕ) → n ≡ leading lanes → n < 16 → n + 1 + f ≤ 16 → Each1 (λ x. x < 10) (take f (drop (n + 1) lanes)) → value ≡ fold with_value 0 (replicate (16 - (n + f)) 0 ++ take (n + f) (take n lanes ++ (drop (n + 1) lanes ++ 0 ∷ [])))
+      → ((f ≡ 0) × (bytes ≡ n)) ⊎ ((0 < f) × (get_or piece n 0 ≡ decimal_point) × (bytes ≡ n + 1 + f)) → SpellsUnsigned piece n f bytes value
+  two_spell n f value bytes c few within small v shape =
+      let first : take n lanes ≡ map lane_of (take n piece) = ap (take n) e ∙ take-map lane_of n (take 16 piece) ∙ ap (map lane_of) (take-take n 16 piece (omega arith)) in
+      let second : take f (drop (n + 1) lanes) ≡ map lane_of (take f (drop (n + 1) piece)) = ap (λ xs. take f (drop (n + 1) xs)) e ∙ lanes_after piece n f within in
+      let both : take n lanes ++ take f (drop (n + 1) lanes) ≡ map lane_of (take n piece ++ take f (drop (n + 1) piece)) = (λ i. first i ++ second i) ∙ sym (map-append lane_of (take n piece) (take f (drop (n + 1) piece))) in
+      let P : List ℕ → Type 0 = λ xs. Each1 (λ x. x < 10) xs in
+      let bytes_fit : Each1 (Fits w8) (take n piece ++ take f (drop (n + 1) piece)) = each_both (take n piece) (take f (drop (n + 1) piece)) (chunk-fits w8 0 n piece fits) (chunk-fits w8 (n + 1) f piece fits) in
+      let k = lanes_spell 0 (take n piece ++ take f (drop (n + 1) piece)) bytes_fit (subst P both (two_small n f c small)) in
+      let apart = digits_apart (take n piece) (take f (drop (n + 1) piece)) k.0 in
+      record {
+        natural_digits = All-from_recursion IsDigit (take n piece) apart.0;
+        fraction_digits = All-from_recursion IsDigit (take f (drop (n + 1) piece)) apart.1;
+        value_is = v ∙ fold_zeros (16 - (n + f)) _ ∙ ap (fold with_value 0) (two_lanes lanes n f lanes_long few within ∙ both) ∙ k.1;
+        shape = shape;
+      }
+
+-- the runs as the code finds them, by the bits of the lanes that are no digits
+module _ (piece lanes : List ℕ) (long : 16 ≤ length piece) (fits : (k : ℕ) → Fits w8 (get_or piece k 0)) (e : lanes ≡ map lane_of (take 16 piece)) (mask : ℕ) (m : mask ≡ mask_l (map (leb 10) lanes)) (some : mask ≡ 0 → ⊥) where
+  abbrev natural : ℕ
+  natural = count_trailing_zeros 64 mask
+
+  abbrev fraction : ℕ
+  fraction = count_trailing_zeros 64 (mask / 2 ^ (natural + 1))
+
+  found : (natural ≡ leading lanes) × (natural < 16)
+  found = first_other lanes mask (lanes_long piece lanes long fits e) m some
+
+  pub natural_few : natural < 16
+  natural_few = found.1
+
+  pub natural_ends : IsDigit (get_or piece natural 0) → ⊥
+  natural_ends = lane_ends piece natural long (found.0 ∙ ap leading e) found.1
+
+  pub natural_small : Each1 (λ x. x < 10) (replicate (16 - natural) 0 ++ take natural lanes)
+  natural_small = moved_small lanes natural found.0
+
+  pub natural_spell : (value : ℕ) → value ≡ fold with_value 0 (replicate (16 - natural) 0 ++ take natural lanes) → SpellsUnsigned piece natural 0 natural value
+  natural_spell value v =
+      let l = found.1 in
+      let k = first_spell piece lanes natural value long fits e found.0 (omega arith) v in
+      record {
+        natural_digits = k.digits;
+        fraction_digits = All-nil IsDigit;
+        value_is = k.value_is ∙ ap (fold with_digit 0) (sym (append-nil (take natural piece)));
+        shape = inl (refl, refl);
+      }
+
+  module _ (more : mask / 2 ^ (natural + 1) ≡ 0 → ⊥) where
+    next : (fraction ≡ leading (drop (natural + 1) lanes)) × (natural + 1 + fraction < 16)
+    next = let l = found.1 in next_other lanes mask (natural + 1) (lanes_long piece lanes long fits e) (omega arith) m more
+
+    pub both_few : natural + 1 + fraction < 16
+    both_few = next.1
+
+    small : Each1 (λ x. x < 10) (take fraction (drop (natural + 1) lanes))
+    small = next_small lanes (natural + 1) fraction next.0
+
+    pub both_small : Each1 (λ x. x < 10) (replicate (16 - (natural + fraction)) 0 ++ take (natural + fraction) (take natural lanes ++ (drop (natural + 1) lanes ++ 0 ∷ [])))
+    both_small = let l = next.1 in two_moved_small piece lanes long fits e natural fraction found.0 found.1 (omega arith) small
+
+    pub both_spell : (value : ℕ) → value ≡ fold with_value 0 (replicate (16 - (natural + fraction)) 0 ++ take (natural + fraction) (take natural lanes ++ (drop (natural + 1) lanes ++ 0 ∷ []))) → get_or piece natural 0 ≡ decimal_point → (fraction ≡ 0 → ⊥)
+        → SpellsUnsigned piece natural fraction (natural + 1 + fraction) value
+    both_spell value v point digits =
+        let l = next.1 in
+        two_spell piece lanes long fits e natural fraction value (natural + 1 + fraction) found.0 found.1 (omega arith) small v (inr (omega arith, point, refl))

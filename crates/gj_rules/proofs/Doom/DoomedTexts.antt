@@ -1,0 +1,321 @@
+-- What the first events of a text show of it, and what the rules keep of them.
+use Rattle.std.proofs.Common.{◌≡◌, ℕ, zero, suc, ◌+◌, ◌≤◌, Bool, true, false, ◌||◌, if◌then◌else◌, List, [], ◌∷◌, ◌++◌, map, inl, inr, Option, Some, None, is_some, refl, sym, ap, subst, ◌∙◌}
+use Rattle.std.proofs.lemmas.Bool.{or_left, or_right, or_cases}
+use Rattle.gj_json.specs.declared.constant.Constant.TheVariants.{Null, True, False}
+use Rattle.gj_json.specs.declared.event.Event.{Event}
+use Rattle.gj_json.specs.declared.event.What.{What}
+use Rattle.gj_json.specs.declared.event.What.TheVariants as W
+use Rattle.gj_json.specs.declared.names.Known.{Known}
+use Rattle.gj_json.specs.declared.names.Known.TheVariants.{Coordinates, Geometries, Geometry, Properties, Features}
+use Rattle.gj_json.specs.declared.names.Word.{Word}
+use Rattle.gj_json.specs.Events as E
+use Rattle.gj_json.specs.Events.{events_by, by}
+use Rattle.gj_json.specs.Names.{word_of}
+use Rattle.gj_number.specs.Value.{value_of}
+use Rattle.gj_json.specs.Text.{IsText}
+use Rattle.gj_json.specs.Tree.{Tree, constant, number, string, array, object, Members, Text, depth}
+use Rattle.gj_coords.specs.declared.fault.Fault.{Fault}
+use Rattle.gj_coords.specs.declared.fault.Rule.{Rule}
+use Rattle.gj_coords.specs.declared.fault.Rule.TheVariants.{G1, G3, G5, G6, G7, G8}
+use Rattle.gj_coords.specs.declared.simple.Simple.{Simple}
+use Rattle.gj_coords.specs.declared.warnings.Warnings.{Warnings}
+use Rattle.gj_coords.specs.Fault.{lesser, least, fault_at}
+use Rattle.gj_rules.specs.Levels.{most_levels}
+use Rattle.gj_rules.specs.Internal.FrameMeaning.{Found, Frame, Shapes, Shown}
+use Rattle.gj_rules.specs.declared.role.Role.{Role}
+use Rattle.gj_rules.specs.declared.mode.Mode.TheVariants.{Names, Done}
+use Rattle.gj_rules.specs.declared.rules.Rules.{Rules}
+use Rattle.gj_rules.specs.declared.shown.Slot.{Slot}
+use Rattle.gj_rules.specs.declared.shown.TypeValue.{TypeValue}
+use Rattle.gj_rules.specs.Doomed.{names, first_type, repeats, any_of, type_fails, members_fail, unmarked_fails, is_doomed}
+use Rattle.gj_rules.specs.Faults.{faults, text_faults}
+use Rattle.gj_rules.specs.Internal.FrameCalls as F
+use Rattle.gj_rules.specs.Internal.RulesState.{core_of}
+use Rattle.gj_rules.specs.Internal.LostObjects.{slot_fails, geometry_forbids, feature_forbids, features_forbid, simple_fails, feature_fails, fails_as, type_lost, is_lost, core_lost}
+use Rattle.gj_rules.specs.Members.{mentions}
+use Rattle.gj_rules.specs.Role.{is_allowed}
+use Rattle.gj_rules.specs.Rules.{StandsFor}
+use Rattle.gj_rules.specs.Internal.ShownMembers as S
+use Rattle.gj_rules.specs.Internal.EventSteps.{State, step, run, start, skip}
+use Rattle.gj_rules.specs.Internal.Summaries.{shape_for}
+use Rattle.gj_rules.specs.Internal.TextKept.{marked_kept}
+use Rattle.gj_rules.specs.Internal.LabelledEvents.{Told, plain, event_of, told, members_told, mark_told}
+use Rattle.gj_rules.proofs.Objects.ClosedFrames.{all_closed}
+use Rattle.gj_rules.proofs.Texts.FramesInUse.{front_text}
+use Rattle.gj_rules.proofs.Objects.GrowingFaults.{Keeps, lesser_first, lesser_second}
+use Rattle.gj_rules.proofs.Texts.ValuesByEvents.{st, due_root, had_found, frame_role}
+use Rattle.gj_rules.proofs.Doom.InsideValues.{root}
+use Rattle.gj_rules.proofs.Doom.OutermostMembers.{own}
+use Rattle.gj_rules.proofs.Objects.SettledObjects.{none_set}
+use Rattle.gj_rules.proofs.Doom.RootObject.{Shows, Here, Cut, End, word_in, last_of, members_run, members_cut}
+use Rattle.gj_rules.proofs.Objects.JoinedFindings.{members_shown}
+use Rattle.gj_rules.proofs.Texts.TimedEvents.{text-timed}
+
+-- ---- what is lost has a fault at its close
+
+lesser_or : (p q : Bool) (x y : Option Fault) → Keeps p (is_some x) → Keeps q (is_some y) → Keeps (p || q) (is_some (lesser x y))
+lesser_or true q x y f g e = lesser_first x y (f refl)
+lesser_or false q x y f g e = lesser_second x y (g e)
+
+forbidden_kept : (o : Option Slot) → Keeps (is_some o) (is_some (S.forbidden_slot o))
+forbidden_kept None e = e
+forbidden_kept (Some slot) e = refl
+
+due_kept : (place : ℕ) (rule : Rule) (o : Option Slot) → Keeps (slot_fails o) (is_some (S.due_slot place rule o))
+due_kept place rule None e = refl
+due_kept place rule (Some slot) e = e
+
+fault_kept : (o : Option Slot) → Keeps (slot_fails o) (is_some (S.slot_fault o))
+fault_kept None e = e
+fault_kept (Some slot) e = e
+
+shape_kept : (simple : Simple) (place : ℕ) (shapes : Shapes) (o : Option Slot) → Keeps (is_some (shape_for simple shapes)) (is_some (S.due_shape simple place shapes o))
+shape_kept simple place shapes None e = refl
+shape_kept simple place shapes (Some slot) e = e
+
+geometry_kept : (f : Shown) → Keeps (geometry_forbids f) (is_some (S.geometry_forbids f))
+geometry_kept f =
+    lesser_or (is_some f.geometry) _ (S.forbidden_slot f.geometry) _ (forbidden_kept f.geometry)
+    (lesser_or (is_some f.properties) _ (S.forbidden_slot f.properties) _ (forbidden_kept f.properties) (forbidden_kept f.features))
+
+simple_kept : (simple : Simple) (f : Shown) → Keeps (simple_fails simple f) (is_some (S.as_simple simple f))
+simple_kept simple f = lesser_or (geometry_forbids f) _ (S.geometry_forbids f) _ (geometry_kept f) (shape_kept simple f.place f.shapes f.coordinates)
+
+feature_kept : (f : Shown) → Keeps (feature_fails f) (is_some (S.as_feature f))
+feature_kept f =
+    lesser_or (feature_forbids f) _ (S.feature_forbids f) _
+    (lesser_or (is_some f.coordinates) _ (S.forbidden_slot f.coordinates) _ (forbidden_kept f.coordinates)
+    (lesser_or (is_some f.geometries) _ (S.forbidden_slot f.geometries) _ (forbidden_kept f.geometries) (forbidden_kept f.features)))
+    (lesser_or (slot_fails f.geometry) _ (S.due_slot f.place G6 f.geometry) _ (due_kept f.place G6 f.geometry)
+    (lesser_or (slot_fails f.properties) _ (S.due_slot f.place G7 f.properties) _ (due_kept f.place G7 f.properties) (fault_kept f.id)))
+
+features_kept : (f : Shown) → Keeps (features_forbid f) (is_some (S.features_forbid f))
+features_kept f =
+    lesser_or (is_some f.coordinates || is_some f.geometries) _ (lesser (S.forbidden_slot f.coordinates) (S.forbidden_slot f.geometries)) _
+    (lesser_or (is_some f.coordinates) _ (S.forbidden_slot f.coordinates) _ (forbidden_kept f.coordinates) (forbidden_kept f.geometries))
+    (lesser_or (is_some f.geometry) _ (S.forbidden_slot f.geometry) _ (forbidden_kept f.geometry) (forbidden_kept f.properties))
+
+typed_kept : (word : Word) (place : ℕ) (f : Shown) → Keeps (fails_as word f) (is_some (if is_allowed Role.Root word then S.as_type word f else Some (fault_at place G3)))
+typed_kept Word.Point place f = simple_kept Simple.Point f
+typed_kept Word.MultiPoint place f = simple_kept Simple.MultiPoint f
+typed_kept Word.LineString place f = simple_kept Simple.LineString f
+typed_kept Word.MultiLineString place f = simple_kept Simple.MultiLineString f
+typed_kept Word.Polygon place f = simple_kept Simple.Polygon f
+typed_kept Word.MultiPolygon place f = simple_kept Simple.MultiPolygon f
+typed_kept Word.GeometryCollection place f = lesser_or (geometry_forbids f) _ (S.geometry_forbids f) _ (geometry_kept f) (due_kept f.place G5 f.geometries)
+typed_kept Word.Feature place f = feature_kept f
+typed_kept Word.FeatureCollection place f = lesser_or (features_forbid f) _ (S.features_forbid f) _ (features_kept f) (due_kept f.place G8 f.features)
+typed_kept Word.Other place f = λ e. refl
+
+rest_kept : (o : Option TypeValue) (f : Shown) → f.role ≡ Role.Root → Keeps (type_lost o f) (is_some (S.rest_by o f))
+rest_kept None f r e = refl
+rest_kept (Some value) f r e =
+    subst (λ (role : Role). is_some (if is_allowed role value.word then S.as_type value.word f else Some (fault_at value.place G3)) ≡ true) (sym r) (typed_kept value.word value.place f e)
+
+settled_lost : (f : Shown) → f.role ≡ Role.Root → Keeps (is_lost f) (is_some (S.settled f))
+settled_lost f r =
+    lesser_or (is_some f.repeated) _ f.repeated _ (λ e. e)
+    (lesser_or (slot_fails f.bbox) _ (S.slot_fault f.bbox) _ (fault_kept f.bbox) (rest_kept f.type_value f r))
+
+-- ---- the members
+
+abbrev blank : ℕ → Frame
+blank place = F.blank Role.Root place
+
+blank_shows : (place : ℕ) → Shows [] (blank place).shown
+blank_shows place = record { mentioned = record { each = λ n k. ap is_some (none_set Role.Root place n) }; typed = refl; shaped = λ e. refl; role = refl }
+
+-- the object with these members has a fault, where its last frame is lost
+lost_faults : (place close : ℕ) (ms : Members) → is_lost (S.members_taken ms (blank place).shown) ≡ true → faults Role.Root (object place ms close) ≡ [] → ⊥
+lost_faults place close ms e none =
+    let last : Frame = F.members_taken ms (blank place) in
+    let lost : is_lost last.shown ≡ true = ap is_lost (members_shown ms (blank place)) ∙ e in
+    let some : is_some (F.settled last).fault ≡ true = settled_lost last.shown (frame_role ms (blank place)) lost in
+    let same : (F.settled last).fault ≡ least (faults Role.Root (object place ms close)) = ap (λ (x : Found). x.fault) (all_closed Role.Root place close ms) in
+    let nothing : is_some (F.settled last).fault ≡ false = ap is_some same ∙ ap (λ xs. is_some (least xs)) none in
+    cc
+
+closed_faults : (place close : ℕ) (ms : Members) → is_some (F.settled (F.members_taken ms (blank place))).fault ≡ true → faults Role.Root (object place ms close) ≡ [] → ⊥
+closed_faults place close ms some none =
+    let last : Frame = F.members_taken ms (blank place) in
+    let same : (F.settled last).fault ≡ least (faults Role.Root (object place ms close)) = ap (λ (x : Found). x.fault) (all_closed Role.Root place close ms) in
+    let nothing : is_some (F.settled last).fault ≡ false = ap is_some same ∙ ap (λ xs. is_some (least xs)) none in
+    cc
+
+-- the names that are there
+three : (x y z : Known) (a b c : Bool) (found : List Known) → a ≡ mentions found x → b ≡ mentions found y → c ≡ mentions found z → any_of (x ∷ y ∷ z ∷ []) found ≡ true → (a || (b || c)) ≡ true
+three x y z a b c found p q r e = go (mentions found x) (mentions found y) (mentions found z) p q r e
+  where
+    go : (l m n : Bool) → a ≡ l → b ≡ m → c ≡ n → (l || (m || (n || false))) ≡ true → (a || (b || c)) ≡ true
+    go true m n p q r e = or_left a (b || c) p
+    go false true n p q r e = or_right a (b || c) (or_left b c q)
+    go false false true p q r e = or_right a (b || c) (or_right b c r)
+    go false false false p q r e = cc
+
+four : (x y z w : Known) (a b c d : Bool) (found : List Known) → a ≡ mentions found x → b ≡ mentions found y → c ≡ mentions found z → d ≡ mentions found w
+    → any_of (x ∷ y ∷ z ∷ w ∷ []) found ≡ true → ((a || b) || (c || d)) ≡ true
+four x y z w a b c d found p q r s e = go (mentions found x) (mentions found y) (mentions found z) (mentions found w) p q r s e
+  where
+    go : (l m n o : Bool) → a ≡ l → b ≡ m → c ≡ n → d ≡ o → (l || (m || (n || (o || false)))) ≡ true → ((a || b) || (c || d)) ≡ true
+    go true m n o p q r s e = or_left (a || b) (c || d) (or_left a b p)
+    go false true n o p q r s e = or_left (a || b) (c || d) (or_right a b q)
+    go false false true o p q r s e = or_right (a || b) (c || d) (or_left c d r)
+    go false false false true p q r s e = or_right (a || b) (c || d) (or_right c d s)
+    go false false false false p q r s e = cc
+
+forbidden_lost : (word : Word) (g : Shown) (found : List Known) → is_some g.coordinates ≡ mentions found Coordinates → is_some g.geometries ≡ mentions found Geometries → is_some g.geometry ≡ mentions found Geometry
+    → is_some g.properties ≡ mentions found Properties → is_some g.features ≡ mentions found Features → type_fails (Some word) found ≡ true → fails_as word g ≡ true
+forbidden_lost Word.Other g found a b c d h e = refl
+forbidden_lost Word.Feature g found a b c d h e = or_left (feature_forbids g) _ (three Coordinates Geometries Features (is_some g.coordinates) (is_some g.geometries) (is_some g.features) found a b h e)
+forbidden_lost Word.FeatureCollection g found a b c d h e =
+    or_left (features_forbid g) _ (four Coordinates Geometries Geometry Properties (is_some g.coordinates) (is_some g.geometries) (is_some g.geometry) (is_some g.properties) found a b c d e)
+forbidden_lost _ g found a b c d h e = or_left (geometry_forbids g) _ (three Geometry Properties Features (is_some g.geometry) (is_some g.properties) (is_some g.features) found c d h e)
+
+type_is_lost : (o : Option TypeValue) (g : Shown) (found : List Known) → is_some g.coordinates ≡ mentions found Coordinates → is_some g.geometries ≡ mentions found Geometries → is_some g.geometry ≡ mentions found Geometry
+    → is_some g.properties ≡ mentions found Properties → is_some g.features ≡ mentions found Features → type_fails (word_in o) found ≡ true → type_lost o g ≡ true
+type_is_lost None g found a b c d h e = cc
+type_is_lost (Some value) g found a b c d h e = forbidden_lost value.word g found a b c d h e
+
+-- where the names and the first type show a fault, what was shown is lost
+shown_lost : (place : ℕ) (g : Shown) (shown : List What) → Here [] (blank place).shown g shown → members_fail shown ≡ true → is_lost g ≡ true
+shown_lost place g shown h e = elim (or_cases (repeats [] (names shown)) (type_fails (first_type shown) (names shown)) e) [
+  | inl again ↦ or_left (is_some g.repeated) _ (h.repeated ∙ again)
+  | inr typed ↦
+      or_right (is_some g.repeated) _ (or_right (slot_fails g.bbox) _
+      (type_is_lost g.type_value g (names shown) (h.slots Coordinates refl) (h.slots Geometries refl) (h.slots Geometry refl) (h.slots Properties refl) (h.slots Features refl)
+      (ap (λ (o : Option Word). type_fails o (names shown)) h.type_word ∙ typed)))
+]
+
+-- ---- the text's value
+
+-- from a state before a value that comes to these faults
+pub record Answers (v : Tree) (events : List Event) (s : State) : Type 0 where
+  pub sound : core_lost s.core ≡ true → faults Role.Root v ≡ [] → ⊥
+  pub early : is_doomed events ≡ true → core_lost s.core ≡ true
+
+done_answer : (xs : List Told) (k : ℕ) (g : Frame) (a : Found) → (run xs (st k Done g [] a)).core.answer ≡ a
+done_answer [] k g a = refl
+done_answer (x ∷ xs) zero g a = done_answer xs zero g a
+done_answer (x ∷ xs) (suc k) g a = done_answer xs (skip (event_of x).what (suc k)) g a
+
+-- a value that is no object
+no_object : (v : Tree) (xs : List Told) (place k : ℕ) (g : Frame) (events : List Event) (w : Warnings) → (faults Role.Root v ≡ [] → ⊥)
+    → Answers v events (run xs (st k Done g [] (record { fault = Some (fault_at place G1); warned = w })))
+no_object v xs place k g events w some = record {
+  sound = λ e. some;
+  early = λ e. or_left _ _ (ap (λ (x : Found). is_some x.fault) (done_answer xs k g (record { fault = Some (fault_at place G1); warned = w })));
+}
+
+-- no event of the value has come
+before_value : (v : Tree) (had : Warnings) → Answers v [] (due_root had)
+before_value v had = record { sound = λ e. cc; early = λ e. cc }
+
+abbrev object_st : ℕ → Warnings → State
+object_st place had = st 0 Names (blank place) [] (had_found had)
+
+object_answers : (place close : ℕ) (ms : Members) (had : Warnings) (done rest : List Told) → members_told ms ++ last_of close ∷ [] ≡ done ++ rest
+    → Answers (object place ms close) (map event_of (plain (place + 1) place W.OpenObject ∷ done)) (run done (object_st place had))
+object_answers place close ms had done rest e = elim (members_cut ms [] (blank place) (had_found had) close done rest (blank_shows place) e) [
+  | inl c ↦ cut c
+  | inr c ↦ end c
+]
+  where
+    s : State
+    s = run done (object_st place had)
+
+    last : Frame
+    last = F.members_taken ms (blank place)
+
+    value : Tree
+    value = object place ms close
+
+    cut : Cut [] (blank place).shown (S.members_taken ms (blank place).shown) (had_found had) (own 1 done) s → Answers value (map event_of (plain (place + 1) place W.OpenObject ∷ done)) s
+    cut c =
+        let still : is_some s.core.answer.fault ≡ false = ap (λ (x : Found). is_some x.fault) c.still in record {
+          sound = λ l. lost_faults place close ms (c.onward (subst (λ (b : Bool). (b || is_lost (root s)) ≡ true) still l));
+          early = λ d. or_right (is_some s.core.answer.fault) (is_lost (root s)) (shown_lost place (root s) (own 1 done) c.here d);
+        }
+
+    end : End [] (blank place) ms close done → Answers value (map event_of (plain (place + 1) place W.OpenObject ∷ done)) s
+    end c =
+        let last_state : State = run (last_of close ∷ []) (st 0 Names last [] (had_found had)) in
+        let comes : s ≡ last_state =
+        ap (λ (ts : List Told). run ts (object_st place had)) c.whole
+        ∙ (run_end (members_told ms) (last_of close ∷ []) (object_st place had) ∙ ap (λ (z : State). run (last_of close ∷ []) z) (members_run ms [] (blank place) (had_found had) (blank_shows place))) in
+        let lost : core_lost last_state.core ≡ (is_some (F.settled last).fault || is_lost last.shown) = refl in
+        let shown : is_lost last.shown ≡ is_lost (S.members_taken ms (blank place).shown) = ap is_lost (members_shown ms (blank place)) in
+        subst (λ (z : State). Answers value (map event_of (plain (place + 1) place W.OpenObject ∷ done)) z) (sym comes)
+        (record {
+          sound = λ l. elim (or_cases (is_some (F.settled last).fault) (is_lost last.shown) l) [
+            | inl some ↦ closed_faults place close ms some
+            | inr some ↦ lost_faults place close ms (sym shown ∙ some)
+          ];
+          early = λ d. or_right (is_some (F.settled last).fault) (is_lost last.shown) (shown ∙ shown_lost place (S.members_taken ms (blank place).shown) (own 1 done) c.here d);
+        })
+      where
+        run_end : (xs ys : List Told) (z : State) → run (xs ++ ys) z ≡ run ys (run xs z)
+        run_end [] ys z = refl
+        run_end (x ∷ xs) ys z = run_end xs ys (step x z)
+
+-- the first event of a value, and those behind it
+value_answers : (v : Tree) (had : Warnings) (done rest : List Told) → told v ≡ done ++ rest → Answers v (map event_of done) (run done (due_root had))
+value_answers v had [] rest e = before_value v had
+value_answers (constant Null place) had (x ∷ d) rest e =
+    let f : plain (place + 4) place W.Null ≡ x = cc in
+    subst (λ (z : Told). Answers (constant Null place) (map event_of (z ∷ d)) (run (z ∷ d) (due_root had))) f (no_object (constant Null place) d place 0 _ _ had (λ n. cc))
+value_answers (constant True place) had (x ∷ d) rest e =
+    let f : plain (place + 4) place W.True ≡ x = cc in
+    subst (λ (z : Told). Answers (constant True place) (map event_of (z ∷ d)) (run (z ∷ d) (due_root had))) f (no_object (constant True place) d place 0 _ _ had (λ n. cc))
+value_answers (constant False place) had (x ∷ d) rest e =
+    let f : plain (place + 5) place W.False ≡ x = cc in
+    subst (λ (z : Told). Answers (constant False place) (map event_of (z ∷ d)) (run (z ∷ d) (due_root had))) f (no_object (constant False place) d place 0 _ _ had (λ n. cc))
+value_answers (number place literal end) had (x ∷ d) rest e =
+    let f : plain (end + 1) place (W.Number (value_of literal)) ≡ x = cc in
+    subst (λ (z : Told). Answers (number place literal end) (map event_of (z ∷ d)) (run (z ∷ d) (due_root had))) f (no_object (number place literal end) d place 0 _ _ had (λ n. cc))
+value_answers (string place content end) had (x ∷ d) rest e =
+    let f : plain end place (W.Text (word_of content)) ≡ x = cc in
+    subst (λ (z : Told). Answers (string place content end) (map event_of (z ∷ d)) (run (z ∷ d) (due_root had))) f (no_object (string place content end) d place 0 _ _ had (λ n. cc))
+value_answers (array place es close) had (x ∷ d) rest e =
+    let f : plain (place + 1) place W.OpenArray ≡ x = cc in
+    subst (λ (z : Told). Answers (array place es close) (map event_of (z ∷ d)) (run (z ∷ d) (due_root had))) f (no_object (array place es close) d place 1 _ _ had (λ n. cc))
+value_answers (object place ms close) had (x ∷ d) rest e =
+    let f : plain (place + 1) place W.OpenObject ≡ x = cc in
+    let g : members_told ms ++ last_of close ∷ [] ≡ d ++ rest = cc in
+    subst (λ (z : Told). Answers (object place ms close) (map event_of (z ∷ d)) (run (z ∷ d) (due_root had))) f (object_answers place close ms had d rest g)
+
+-- no value begins with a mark
+unmarked : (v : Tree) (done rest : List Told) → told v ≡ done ++ rest → unmarked_fails (map event_of done) ≡ true → is_doomed (map event_of done) ≡ true
+unmarked v [] rest e h = h
+unmarked (constant Null place) (x ∷ d) rest e h = let f : plain (place + 4) place W.Null ≡ x = cc in subst (λ (z : Told). is_doomed (map event_of (z ∷ d)) ≡ true) f refl
+unmarked (constant True place) (x ∷ d) rest e h = let f : plain (place + 4) place W.True ≡ x = cc in subst (λ (z : Told). is_doomed (map event_of (z ∷ d)) ≡ true) f refl
+unmarked (constant False place) (x ∷ d) rest e h = let f : plain (place + 5) place W.False ≡ x = cc in subst (λ (z : Told). is_doomed (map event_of (z ∷ d)) ≡ true) f refl
+unmarked (number place literal end) (x ∷ d) rest e h = let f : plain (end + 1) place (W.Number (value_of literal)) ≡ x = cc in subst (λ (z : Told). is_doomed (map event_of (z ∷ d)) ≡ true) f refl
+unmarked (string place content end) (x ∷ d) rest e h = let f : plain end place (W.Text (word_of content)) ≡ x = cc in subst (λ (z : Told). is_doomed (map event_of (z ∷ d)) ≡ true) f refl
+unmarked (array place es close) (x ∷ d) rest e h = let f : plain (place + 1) place W.OpenArray ≡ x = cc in subst (λ (z : Told). is_doomed (map event_of (z ∷ d)) ≡ true) f refl
+unmarked (object place ms close) (x ∷ d) rest e h =
+    let f : plain (place + 1) place W.OpenObject ≡ x = cc in
+    let k : unmarked_fails (map event_of (plain (place + 1) place W.OpenObject ∷ d)) ≡ true = subst (λ (z : Told). unmarked_fails (map event_of (z ∷ d)) ≡ true) (sym f) h in
+    subst (λ (z : Told). is_doomed (map event_of (z ∷ d)) ≡ true) f k
+
+marked_answers : (marked : Bool) (v : Tree) (done rest : List Told) → mark_told marked ++ told v ≡ done ++ rest → Answers v (map event_of done) (run done start)
+marked_answers false v done rest e = value_answers v (marked_kept false) done rest e
+marked_answers true v [] rest e = record { sound = λ l. cc; early = λ l. cc }
+marked_answers true v (x ∷ d) rest e =
+    let f : plain 3 0 W.Mark ≡ x = cc in
+    let g : told v ≡ d ++ rest = cc in
+    let a = value_answers v (marked_kept true) d rest g in
+    subst (λ (z : Told). Answers v (map event_of (z ∷ d)) (run (z ∷ d) start)) f
+    (record { sound = a.sound; early = λ h. a.early (unmarked v d rest g h) })
+
+-- ---- the rules
+
+pub answers : (rules : Rules) (text : Text) (bytes : List ℕ) (n : ℕ) → IsText text bytes → depth text.value ≤ most_levels → StandsFor rules (events_by n text)
+    → (core_lost (core_of rules) ≡ true → text_faults text ≡ [] → ⊥) × (is_doomed (events_by n text) ≡ true → core_lost (core_of rules) ≡ true)
+answers rules text bytes n t d h =
+    let front = front_text text bytes n t in
+    let e : map event_of front.done ≡ events_by n text = front.complete ∙ ap (λ (xs : List E.Timed). by n xs) (text-timed text) in
+    let k = h text front.done front.rest front.split e d in
+    let a = marked_answers text.marked text.value front.done front.rest front.split in (
+      λ l. a.sound (ap core_lost (sym k.0) ∙ l),
+      λ l. ap core_lost k.0 ∙ a.early (ap is_doomed e ∙ l),
+    )

@@ -1,0 +1,152 @@
+-- What stands directly in the text's object, of the events of its members.
+use Rattle.std.proofs.Common.{◌≡◌, ℕ, zero, suc, ◌+◌, Bool, true, false, List, [], ◌∷◌, ◌++◌, map, Option, Some, None, refl, sym, ap, ◌∙◌, append_assoc, append-nil}
+use Rattle.std.proofs.lemmas.List.{map-append}
+use Rattle.gj_json.specs.declared.constant.Constant.TheVariants.{Null, True, False}
+use Rattle.gj_json.specs.declared.event.Event.{Event}
+use Rattle.gj_json.specs.declared.names.Known.{Known}
+use Rattle.gj_json.specs.declared.names.Known.TheVariants.{TypeName}
+use Rattle.gj_json.specs.declared.names.Word.{Word}
+use Rattle.gj_json.specs.declared.event.What.{What}
+use Rattle.gj_json.specs.declared.event.What.TheVariants as W
+use Rattle.gj_json.specs.Events.{what_of}
+use Rattle.gj_json.specs.Names.{word_of}
+use Rattle.gj_json.specs.Tree as Tree
+use Rattle.gj_json.specs.Tree.{Tree, constant, number, string, array, object, end_of_array, element, Members, end_of_object, member}
+use Rattle.gj_number.specs.Value.{value_of}
+use Rattle.gj_rules.specs.Doomed.{outermost, at_level, levels_after, names, first_type, type_named}
+use Rattle.gj_rules.specs.Members.{same, type_of}
+use Rattle.gj_rules.specs.Internal.LabelledEvents.{Told, plain, event_of, told, elements_told, members_told}
+use Rattle.gj_rules.proofs.Texts.ValuesByEvents.{up, down}
+
+abbrev pub own : ℕ → List Told → List What
+own n xs = outermost n (map event_of xs)
+
+mutual
+  deep_value : (v : Tree) (k : ℕ) (rest : List Told) → own (suc (suc k)) (told v ++ rest) ≡ own (suc (suc k)) rest
+  deep_value (constant Null place) k rest = refl
+  deep_value (constant True place) k rest = refl
+  deep_value (constant False place) k rest = refl
+  deep_value (number place literal end) k rest = refl
+  deep_value (string place content end) k rest = refl
+  deep_value (array place es close) k rest =
+      let last : Told = plain (close + 1) close W.CloseArray in
+      ap (λ n. own n ((elements_told es ++ last ∷ []) ++ rest)) (up (suc k))
+      ∙ (ap (λ (ts : List Told). own (suc (suc (suc k))) ts) (append_assoc (elements_told es) (last ∷ []) rest)
+      ∙ (deep_elements es (suc k) (last ∷ rest) ∙ ap (λ n. own n rest) (down (suc k))))
+  deep_value (object place ms close) k rest =
+      let last : Told = plain (close + 1) close W.CloseObject in
+      ap (λ n. own n ((members_told ms ++ last ∷ []) ++ rest)) (up (suc k))
+      ∙ (ap (λ (ts : List Told). own (suc (suc (suc k))) ts) (append_assoc (members_told ms) (last ∷ []) rest)
+      ∙ (deep_members ms (suc k) (last ∷ rest) ∙ ap (λ n. own n rest) (down (suc k))))
+
+  deep_elements : (es : Tree.Elements) (k : ℕ) (rest : List Told) → own (suc (suc k)) (elements_told es ++ rest) ≡ own (suc (suc k)) rest
+  deep_elements end_of_array k rest = refl
+  deep_elements (element v more) k rest =
+      ap (λ (ts : List Told). own (suc (suc k)) ts) (append_assoc (told v) (elements_told more) rest)
+      ∙ (deep_value v k (elements_told more ++ rest) ∙ deep_elements more k rest)
+
+  deep_members : (ms : Members) (k : ℕ) (rest : List Told) → own (suc (suc k)) (members_told ms ++ rest) ≡ own (suc (suc k)) rest
+  deep_members end_of_object k rest = refl
+  deep_members (member place name end v more) k rest =
+      ap (λ (ts : List Told). own (suc (suc k)) ts) (append_assoc (told v) (members_told more) rest)
+      ∙ (deep_value v k (members_told more ++ rest) ∙ deep_members more k rest)
+
+-- of the events of a value
+abbrev pub first_what : Tree → What
+first_what (constant which place) = what_of which
+first_what (number place literal end) = W.Number (value_of literal)
+first_what (string place content end) = W.Text (word_of content)
+first_what (array place es close) = W.OpenArray
+first_what (object place ms close) = W.OpenObject
+
+-- the first stands directly in the object
+pub own_value : (v : Tree) (rest : List Told) → own 1 (told v ++ rest) ≡ first_what v ∷ own 1 rest
+own_value (constant Null place) rest = refl
+own_value (constant True place) rest = refl
+own_value (constant False place) rest = refl
+own_value (number place literal end) rest = refl
+own_value (string place content end) rest = refl
+own_value (array place es close) rest =
+    let last : Told = plain (close + 1) close W.CloseArray in
+    ap (λ (ts : List Told). W.OpenArray ∷ own 2 ts) (append_assoc (elements_told es) (last ∷ []) rest)
+    ∙ ap (λ (ws : List What). W.OpenArray ∷ ws) (deep_elements es 0 (last ∷ rest))
+own_value (object place ms close) rest =
+    let last : Told = plain (close + 1) close W.CloseObject in
+    ap (λ (ts : List Told). W.OpenObject ∷ own 2 ts) (append_assoc (members_told ms) (last ∷ []) rest)
+    ∙ ap (λ (ws : List What). W.OpenObject ∷ ws) (deep_members ms 0 (last ∷ rest))
+
+-- ---- a part of a value
+
+level_append : (n : ℕ) (w : What) (xs ys : List What) → at_level n w (xs ++ ys) ≡ at_level n w xs ++ ys
+level_append zero w xs ys = refl
+level_append (suc zero) w xs ys = refl
+level_append (suc (suc k)) w xs ys = refl
+
+own_append : (n : ℕ) (xs ys : List Event) → (m : ℕ) × (outermost n (xs ++ ys) ≡ outermost n xs ++ outermost m ys)
+own_append n [] ys = (n, refl)
+own_append n (x ∷ xs) ys =
+    let k = own_append (levels_after x.what n) xs ys in
+    (k.0, ap (λ (ws : List What). at_level n x.what ws) k.1 ∙ level_append n x.what (outermost (levels_after x.what n) xs) (outermost k.0 ys))
+
+no_front : (xs ys : List What) → xs ++ ys ≡ [] → xs ≡ []
+no_front [] ys e = refl
+no_front (x ∷ xs) ys e = cc
+
+-- of a part of a value that is not empty, the first event alone stands directly in the object
+pub own_part : (v : Tree) (x : Told) (done : List Told) (rest : List Told) → told v ≡ (x ∷ done) ++ rest → own 1 (x ∷ done) ≡ first_what v ∷ []
+own_part v x done rest e =
+    let k = own_append 1 (map event_of (x ∷ done)) (map event_of rest) in
+    let whole : first_what v ∷ [] ≡ own 1 (x ∷ done) ++ outermost k.0 (map event_of rest) =
+    sym (own_value v []) ∙ (ap (λ (ts : List Told). own 1 ts) (append-nil (told v) ∙ e)
+    ∙ (ap (λ (es : List Event). outermost 1 es) (map-append event_of (x ∷ done) rest) ∙ k.1)) in
+    let later : List What = outermost (levels_after (event_of x).what 1) (map event_of done) in
+    let none : later ≡ [] = no_front later (outermost k.0 (map event_of rest)) (let f : first_what v ∷ [] ≡ (event_of x).what ∷ (later ++ outermost k.0 (map event_of rest)) = whole in cc) in
+    let first : (event_of x).what ≡ first_what v = (let f : first_what v ∷ [] ≡ (event_of x).what ∷ (later ++ outermost k.0 (map event_of rest)) = whole in cc) in
+    ap (λ (w : What). w ∷ later) first ∙ ap (λ (ws : List What). first_what v ∷ ws) none
+
+-- ---- the names and the first type
+
+pub names_value : (v : Tree) (xs : List What) → names (first_what v ∷ xs) ≡ names xs
+names_value (constant Null place) xs = refl
+names_value (constant True place) xs = refl
+names_value (constant False place) xs = refl
+names_value (number place literal end) xs = refl
+names_value (string place content end) xs = refl
+names_value (array place es close) xs = refl
+names_value (object place ms close) xs = refl
+
+type_value_is : (v : Tree) → type_named (first_what v) ≡ type_of v
+type_value_is (constant Null place) = refl
+type_value_is (constant True place) = refl
+type_value_is (constant False place) = refl
+type_value_is (number place literal end) = refl
+type_value_is (string place content end) = refl
+type_value_is (array place es close) = refl
+type_value_is (object place ms close) = refl
+
+type_after_value : (v : Tree) (xs : List What) → first_type (first_what v ∷ xs) ≡ first_type xs
+type_after_value (constant Null place) xs = refl
+type_after_value (constant True place) xs = refl
+type_after_value (constant False place) xs = refl
+type_after_value (number place literal end) xs = refl
+type_after_value (string place content end) xs = refl
+type_after_value (array place es close) xs = refl
+type_after_value (object place ms close) xs = refl
+
+-- the word of the first, where there is one
+abbrev pub or_word : Option Word → Option Word → Option Word
+or_word None other = other
+or_word (Some word) other = Some word
+
+-- of a member `name` with this value
+abbrev pub typed_by : Bool → Tree → Option Word
+typed_by true v = Some (type_of v)
+typed_by false v = None
+
+pub first_type_member : (name : Known) (v : Tree) (xs : List What) → first_type (W.Name name ∷ (first_what v ∷ xs)) ≡ or_word (typed_by (same TypeName name) v) (first_type xs)
+first_type_member TypeName v xs = ap (λ (w : Word). Some w) (type_value_is v)
+first_type_member _ v xs = type_after_value v xs
+
+pub first_type_name : (name : Known) → first_type (W.Name name ∷ []) ≡ None
+first_type_name TypeName = refl
+first_type_name _ = refl

@@ -1,0 +1,282 @@
+-- What all members do to what an object has shown.
+use Rattle.std.proofs.Common.{◌≡◌, ℕ, Bool, true, false, if◌then◌else◌, List, ◌∷◌, Option, Some, None, is_some, refl, sym, ap, subst, ◌∙◌}
+use Rattle.gj_json.specs.declared.names.Known.{Known}
+use Rattle.gj_json.specs.declared.names.Known.TheVariants.{TypeName, Coordinates, Geometries, Geometry, Properties, Features, Bbox, Id, Crs, Other}
+use Rattle.gj_coords.specs.declared.fault.Fault.{Fault}
+use Rattle.gj_rules.specs.declared.role.Role.{Role}
+use Rattle.gj_rules.specs.declared.shown.Slot.{Slot}
+use Rattle.gj_rules.specs.declared.shown.TypeValue.{TypeValue}
+use Rattle.gj_rules.specs.Internal.FrameMeaning.{Shown}
+use Rattle.gj_coords.specs.Fault.{lesser, least}
+use Rattle.gj_rules.specs.Internal.ShownMembers.{slot_of, with_slot, joined_to, uses, named, named_known, due_known, due_after}
+use Rattle.gj_rules.specs.Internal.FrameMeaning.{Shapes}
+use Rattle.gj_rules.specs.Internal.Summaries.{shapes_of}
+use Rattle.gj_json.specs.Tree.{Tree, Members, end_of_object, member}
+use Rattle.gj_rules.specs.Faults.{First, first, judge}
+use Rattle.gj_coords.specs.Items.{place_of}
+use Rattle.gj_rules.specs.Members.{is_known, same, type_of, first_type, repeated, again, mentions}
+use Rattle.gj_json.specs.Names.{known_of}
+use Rattle.gj_rules.specs.Internal.ShownMembers.{filled, member_taken, members_taken}
+use Rattle.gj_coords.specs.LeastLaws.{lesser-none, lesser_assoc, least-append}
+use Rattle.gj_rules.proofs.Objects.OneMember.{same_is, slot-other, slot-own, or_slot, slot_from}
+
+-- ---- what no member changes
+
+pub record IsSameObject (old new : Shown) : Type 0 where
+  pub place : new.place ≡ old.place
+  pub role : new.role ≡ old.role
+
+with_slot_object : (m : Known) (s : Slot) (f : Shown) → IsSameObject f (with_slot m s f)
+with_slot_object TypeName s f = record { place = refl; role = refl }
+with_slot_object _ s f = record { place = refl; role = refl }
+
+pub joined_object : (m : Known) (x : Option Fault) (o : Option Slot) (f : Shown) → IsSameObject f (joined_to m x o f)
+joined_object m x None f = record { place = refl; role = refl }
+joined_object m x (Some slot) f = with_slot_object m (record { name_at = slot.name_at; fault = lesser slot.fault x }) f
+
+pub filled_object : (m : Known) (v : Tree) (f : Shown) → IsSameObject f (filled m v f)
+filled_object TypeName v f = record { place = refl; role = refl }
+filled_object Other v f = record { place = refl; role = refl }
+filled_object Crs v f = record { place = refl; role = refl }
+filled_object Coordinates v f = record { place = refl; role = refl }
+filled_object Geometries v f = joined_object Geometries (least (judge Geometries v)) f.geometries f
+filled_object Geometry v f = joined_object Geometry (least (judge Geometry v)) f.geometry f
+filled_object Properties v f = joined_object Properties (least (judge Properties v)) f.properties f
+filled_object Features v f = joined_object Features (least (judge Features v)) f.features f
+filled_object Bbox v f = joined_object Bbox (least (judge Bbox v)) f.bbox f
+filled_object Id v f = joined_object Id (least (judge Id v)) f.id f
+
+pub named_object : (m : Known) (place : ℕ) (f : Shown) (k : Bool) (o : Option Slot) → IsSameObject f (if k then named_known m place o f else f)
+named_object m place f true (Some slot) = record { place = refl; role = refl }
+named_object m place f true None = with_slot_object m (record { name_at = place; fault = None }) f
+named_object m place f false o = record { place = refl; role = refl }
+
+pub member_object : (m : Known) (place : ℕ) (v : Tree) (f : Shown) → IsSameObject f (member_taken place m v f)
+member_object m place v f =
+    let a = filled_object (due_after m f) v (named m place f) in
+    let b = named_object m place f (is_known m) (slot_of m f) in
+    record { place = a.place ∙ b.place; role = a.role ∙ b.role }
+
+pub members_object : (ms : Members) (f : Shown) → IsSameObject f (members_taken ms f)
+members_object end_of_object f = record { place = refl; role = refl }
+members_object (member place name end value more) f =
+    let a = members_object more (member_taken place (known_of name) value f) in
+    let b = member_object (known_of name) place value f in
+    record { place = a.place ∙ b.place; role = a.role ∙ b.role }
+
+-- ---- the slots
+
+or_none : (o : Option Slot) → or_slot o None ≡ o
+or_none None = refl
+or_none (Some s) = refl
+
+slots_step : (n name : Known) (place : ℕ) (value : Tree) (f : Shown) (b : Bool) (rest : Option First) → is_known n ≡ true → same n name ≡ b
+    → or_slot (slot_of n (member_taken place name value f)) (slot_from (uses f.role n) rest) ≡ or_slot (slot_of n f) (slot_from (uses f.role n) (if b then Some (record { name_at = place; value = value; faults = judge n value }) else rest))
+slots_step n name place value f false rest k e = ap (λ o. or_slot o (slot_from (uses f.role n) rest)) (slot-other n name place value f k e)
+slots_step n name place value f true rest k e =
+    subst (λ m. or_slot (slot_of n (member_taken place m value f)) (slot_from (uses f.role n) rest) ≡ or_slot (slot_of n f) (slot_from (uses f.role n) (Some (record { name_at = place; value = value; faults = judge n value })))) (same_is n name e)
+    (ap (λ o. or_slot o (slot_from (uses f.role n) rest)) (slot-own n place value f k) ∙ twice (slot_of n f) (record { name_at = place; value = value; faults = judge n value }) (uses f.role n) rest)
+  where
+    twice : (o : Option Slot) (x : First) (u : Bool) (rest : Option First) → or_slot (or_slot o (slot_from u (Some x))) (slot_from u rest) ≡ or_slot o (slot_from u (Some x))
+    twice None x u rest = refl
+    twice (Some s) x u rest = refl
+
+pub slots_after : (n : Known) (ms : Members) (f : Shown) → is_known n ≡ true → slot_of n (members_taken ms f) ≡ or_slot (slot_of n f) (slot_from (uses f.role n) (first n ms))
+slots_after n end_of_object f k = sym (or_none (slot_of n f))
+slots_after n (member place name end value more) f k =
+    slots_after n more (member_taken place (known_of name) value f) k
+    ∙ (ap (λ p. or_slot (slot_of n (member_taken place (known_of name) value f)) (slot_from (uses p n) (first n more))) (member_object (known_of name) place value f).role
+    ∙ slots_step n (known_of name) place value f (same n (known_of name)) (first n more) k refl)
+
+-- ---- the type
+
+abbrev pub type_from : Option Slot → Option TypeValue → Option TypeValue → Option TypeValue
+type_from (Some slot) had found = had
+type_from None had None = had
+type_from None had (Some value) = Some value
+
+with_slot_type : (m : Known) (s : Slot) (f : Shown) → (with_slot m s f).type_value ≡ f.type_value
+with_slot_type TypeName s f = refl
+with_slot_type _ s f = refl
+
+joined_type : (m : Known) (x : Option Fault) (o : Option Slot) (f : Shown) → (joined_to m x o f).type_value ≡ f.type_value
+joined_type m x None f = refl
+joined_type m x (Some slot) f = with_slot_type m (record { name_at = slot.name_at; fault = lesser slot.fault x }) f
+
+filled_type : (m : Known) (v : Tree) (f : Shown) → same TypeName m ≡ false → (filled m v f).type_value ≡ f.type_value
+filled_type TypeName v f e = cc
+filled_type Other v f e = refl
+filled_type Crs v f e = refl
+filled_type Coordinates v f e = refl
+filled_type Geometries v f e = joined_type Geometries (least (judge Geometries v)) f.geometries f
+filled_type Geometry v f e = joined_type Geometry (least (judge Geometry v)) f.geometry f
+filled_type Properties v f e = joined_type Properties (least (judge Properties v)) f.properties f
+filled_type Features v f e = joined_type Features (least (judge Features v)) f.features f
+filled_type Bbox v f e = joined_type Bbox (least (judge Bbox v)) f.bbox f
+filled_type Id v f e = joined_type Id (least (judge Id v)) f.id f
+
+named_type : (m : Known) (place : ℕ) (f : Shown) (k : Bool) (o : Option Slot) → (if k then named_known m place o f else f).type_value ≡ f.type_value
+named_type m place f true (Some slot) = refl
+named_type m place f true None = with_slot_type m (record { name_at = place; fault = None }) f
+named_type m place f false o = refl
+
+due_no_type : (m : Known) (f : Shown) (k u : Bool) (o : Option Slot) → uses f.role m ≡ u → same TypeName m ≡ false → same TypeName (if k then due_known m o f.role else Other) ≡ false
+due_no_type m f true u (Some slot) i e = refl
+due_no_type m f true true None i e = rw i e
+due_no_type m f true false None i e = rw i refl
+due_no_type m f false u o i e = refl
+
+type_other : (m : Known) (place : ℕ) (v : Tree) (f : Shown) → same TypeName m ≡ false → (member_taken place m v f).type_value ≡ f.type_value
+type_other m place v f e = filled_type (due_after m f) v (named m place f) (due_no_type m f (is_known m) (uses f.role m) (slot_of m f) refl e) ∙ named_type m place f (is_known m) (slot_of m f)
+
+uses_type : (p : Role) → uses p TypeName ≡ true
+uses_type Role.Root = refl
+uses_type _ = refl
+
+-- the first `type` sets it
+type_own : (place : ℕ) (v : Tree) (f : Shown) (o : Option Slot) (u : Bool) (more : Option TypeValue) → uses f.role TypeName ≡ true → f.type_name ≡ o
+    → type_from (slot_of TypeName (filled (due_known TypeName o f.role) v (named_known TypeName place o f))) (filled (due_known TypeName o f.role) v (named_known TypeName place o f)).type_value more
+    ≡ type_from o f.type_value (Some (record { place = place_of v; word = type_of v }))
+type_own place v f (Some slot) u more i e = rw e refl
+type_own place v f None u more i e = rw i refl
+
+type_step : (name : Known) (place : ℕ) (value : Tree) (f : Shown) (b : Bool) (rest : Option TypeValue) → same TypeName name ≡ b
+    → type_from (slot_of TypeName (member_taken place name value f)) (member_taken place name value f).type_value rest ≡ type_from f.type_name f.type_value (if b then Some (record { place = place_of value; word = type_of value }) else rest)
+type_step name place value f false rest e = rw (slot-other TypeName name place value f refl e, type_other name place value f e) refl
+type_step name place value f true rest e =
+    subst (λ m. type_from (slot_of TypeName (member_taken place m value f)) (member_taken place m value f).type_value rest ≡ type_from f.type_name f.type_value (Some (record { place = place_of value; word = type_of value }))) (same_is TypeName name e)
+    (type_own place value f f.type_name true rest (uses_type f.role) refl)
+
+pub type_after : (ms : Members) (f : Shown) → (members_taken ms f).type_value ≡ type_from f.type_name f.type_value (first_type ms)
+type_after end_of_object f = none f.type_name
+  where
+    none : (o : Option Slot) → f.type_value ≡ type_from o f.type_value None
+    none None = refl
+    none (Some s) = refl
+type_after (member place name end value more) f = type_after more (member_taken place (known_of name) value f) ∙ type_step (known_of name) place value f (same TypeName (known_of name)) (first_type more) refl
+
+-- ---- the shapes
+
+abbrev pub shapes_from : Bool → Option Slot → Shapes → Option First → Shapes
+shapes_from used (Some slot) had found = had
+shapes_from used None had None = had
+shapes_from used None had (Some first) = if used then shapes_of first.value else had
+
+with_slot_shapes : (m : Known) (s : Slot) (f : Shown) → (with_slot m s f).shapes ≡ f.shapes
+with_slot_shapes TypeName s f = refl
+with_slot_shapes _ s f = refl
+
+joined_shapes : (m : Known) (x : Option Fault) (o : Option Slot) (f : Shown) → (joined_to m x o f).shapes ≡ f.shapes
+joined_shapes m x None f = refl
+joined_shapes m x (Some slot) f = with_slot_shapes m (record { name_at = slot.name_at; fault = lesser slot.fault x }) f
+
+filled_shapes : (m : Known) (v : Tree) (f : Shown) → same Coordinates m ≡ false → (filled m v f).shapes ≡ f.shapes
+filled_shapes Coordinates v f e = cc
+filled_shapes TypeName v f e = refl
+filled_shapes Other v f e = refl
+filled_shapes Crs v f e = refl
+filled_shapes Geometries v f e = joined_shapes Geometries (least (judge Geometries v)) f.geometries f
+filled_shapes Geometry v f e = joined_shapes Geometry (least (judge Geometry v)) f.geometry f
+filled_shapes Properties v f e = joined_shapes Properties (least (judge Properties v)) f.properties f
+filled_shapes Features v f e = joined_shapes Features (least (judge Features v)) f.features f
+filled_shapes Bbox v f e = joined_shapes Bbox (least (judge Bbox v)) f.bbox f
+filled_shapes Id v f e = joined_shapes Id (least (judge Id v)) f.id f
+
+named_shapes : (m : Known) (place : ℕ) (f : Shown) (k : Bool) (o : Option Slot) → (if k then named_known m place o f else f).shapes ≡ f.shapes
+named_shapes m place f true (Some slot) = refl
+named_shapes m place f true None = with_slot_shapes m (record { name_at = place; fault = None }) f
+named_shapes m place f false o = refl
+
+due_no_shapes : (m : Known) (f : Shown) (k u : Bool) (o : Option Slot) → uses f.role m ≡ u → same Coordinates m ≡ false → same Coordinates (if k then due_known m o f.role else Other) ≡ false
+due_no_shapes m f true u (Some slot) i e = refl
+due_no_shapes m f true true None i e = rw i e
+due_no_shapes m f true false None i e = rw i refl
+due_no_shapes m f false u o i e = refl
+
+shapes_other : (m : Known) (place : ℕ) (v : Tree) (f : Shown) → same Coordinates m ≡ false → (member_taken place m v f).shapes ≡ f.shapes
+shapes_other m place v f e = filled_shapes (due_after m f) v (named m place f) (due_no_shapes m f (is_known m) (uses f.role m) (slot_of m f) refl e) ∙ named_shapes m place f (is_known m) (slot_of m f)
+
+shapes_own : (place : ℕ) (v : Tree) (f : Shown) (o : Option Slot) (u : Bool) (more : Option First) → uses f.role Coordinates ≡ u → f.coordinates ≡ o
+    → shapes_from u (slot_of Coordinates (filled (due_known Coordinates o f.role) v (named_known Coordinates place o f))) (filled (due_known Coordinates o f.role) v (named_known Coordinates place o f)).shapes more
+    ≡ shapes_from u o f.shapes (Some (record { name_at = place; value = v; faults = judge Coordinates v }))
+shapes_own place v f (Some slot) u more i e = rw e refl
+shapes_own place v f None true more i e = rw i refl
+shapes_own place v f None false more i e = rw i refl
+
+shapes_step : (name : Known) (place : ℕ) (value : Tree) (f : Shown) (b : Bool) (rest : Option First) → same Coordinates name ≡ b
+    → shapes_from (uses f.role Coordinates) (slot_of Coordinates (member_taken place name value f)) (member_taken place name value f).shapes rest
+    ≡ shapes_from (uses f.role Coordinates) f.coordinates f.shapes (if b then Some (record { name_at = place; value = value; faults = judge Coordinates value }) else rest)
+shapes_step name place value f false rest e = rw (slot-other Coordinates name place value f refl e, shapes_other name place value f e) refl
+shapes_step name place value f true rest e =
+    subst (λ m. shapes_from (uses f.role Coordinates) (slot_of Coordinates (member_taken place m value f)) (member_taken place m value f).shapes rest
+    ≡ shapes_from (uses f.role Coordinates) f.coordinates f.shapes (Some (record { name_at = place; value = value; faults = judge Coordinates value }))) (same_is Coordinates name e)
+    (shapes_own place value f f.coordinates (uses f.role Coordinates) rest refl refl)
+
+pub shapes_after : (ms : Members) (f : Shown) → (members_taken ms f).shapes ≡ shapes_from (uses f.role Coordinates) f.coordinates f.shapes (first Coordinates ms)
+shapes_after end_of_object f = none f.coordinates
+  where
+    none : (o : Option Slot) → f.shapes ≡ shapes_from (uses f.role Coordinates) o f.shapes None
+    none None = refl
+    none (Some s) = refl
+shapes_after (member place name end value more) f =
+    shapes_after more (member_taken place (known_of name) value f)
+    ∙ (ap (λ p. shapes_from (uses p Coordinates) (slot_of Coordinates (member_taken place (known_of name) value f)) (member_taken place (known_of name) value f).shapes (first Coordinates more)) (member_object (known_of name) place value f).role
+    ∙ shapes_step (known_of name) place value f (same Coordinates (known_of name)) (first Coordinates more) refl)
+
+-- ---- repeated names
+
+with_slot_repeated : (m : Known) (s : Slot) (f : Shown) → (with_slot m s f).repeated ≡ f.repeated
+with_slot_repeated TypeName s f = refl
+with_slot_repeated _ s f = refl
+
+joined_repeated : (m : Known) (x : Option Fault) (o : Option Slot) (f : Shown) → (joined_to m x o f).repeated ≡ f.repeated
+joined_repeated m x None f = refl
+joined_repeated m x (Some slot) f = with_slot_repeated m (record { name_at = slot.name_at; fault = lesser slot.fault x }) f
+
+filled_repeated : (m : Known) (v : Tree) (f : Shown) → (filled m v f).repeated ≡ f.repeated
+filled_repeated TypeName v f = refl
+filled_repeated Other v f = refl
+filled_repeated Crs v f = refl
+filled_repeated Coordinates v f = refl
+filled_repeated Geometries v f = joined_repeated Geometries (least (judge Geometries v)) f.geometries f
+filled_repeated Geometry v f = joined_repeated Geometry (least (judge Geometry v)) f.geometry f
+filled_repeated Properties v f = joined_repeated Properties (least (judge Properties v)) f.properties f
+filled_repeated Features v f = joined_repeated Features (least (judge Features v)) f.features f
+filled_repeated Bbox v f = joined_repeated Bbox (least (judge Bbox v)) f.bbox f
+filled_repeated Id v f = joined_repeated Id (least (judge Id v)) f.id f
+
+named_repeated : (m : Known) (place : ℕ) (f : Shown) (k : Bool) (o : Option Slot) → (if k then named_known m place o f else f).repeated ≡ lesser f.repeated (least (again k (is_some o) place))
+named_repeated m place f true (Some slot) = refl
+named_repeated m place f true None = with_slot_repeated m (record { name_at = place; fault = None }) f ∙ sym (lesser-none f.repeated)
+named_repeated m place f false o = sym (lesser-none f.repeated)
+
+-- the names of the slots that are set
+pub record Mentions (before : List Known) (f : Shown) : Type 0 where
+  pub each : (n : Known) → is_known n ≡ true → is_some (slot_of n f) ≡ mentions before n
+
+again_same : (k : Bool) (o : Option Slot) (b : Bool) (place : ℕ) → (k ≡ true → is_some o ≡ b) → again k (is_some o) place ≡ again k b place
+again_same true o b place h = ap (λ x. again true x place) (h refl)
+again_same false o b place h = refl
+
+pub mentions_step : (before : List Known) (n name : Known) (place : ℕ) (value : Tree) (f : Shown) (b : Bool) → Mentions before f → is_known n ≡ true → same n name ≡ b
+    → is_some (slot_of n (member_taken place name value f)) ≡ (if b then true else mentions before n)
+mentions_step before n name place value f false h k e = ap is_some (slot-other n name place value f k e) ∙ h.each n k
+mentions_step before n name place value f true h k e =
+    subst (λ m. is_some (slot_of n (member_taken place m value f)) ≡ true) (same_is n name e)
+    (ap is_some (slot-own n place value f k) ∙ set (slot_of n f) (uses f.role n) (record { name_at = place; value = value; faults = judge n value }))
+  where
+    set : (o : Option Slot) (u : Bool) (x : First) → is_some (or_slot o (slot_from u (Some x))) ≡ true
+    set None u x = refl
+    set (Some s) u x = refl
+
+pub repeated_after : (ms : Members) (before : List Known) (f : Shown) → Mentions before f → (members_taken ms f).repeated ≡ lesser f.repeated (least (repeated before ms))
+repeated_after end_of_object before f h = sym (lesser-none f.repeated)
+repeated_after (member place name end value more) before f h =
+    let found : List Fault = again (is_known (known_of name)) (mentions before (known_of name)) place in
+    repeated_after more ((known_of name) ∷ before) (member_taken place (known_of name) value f) (record { each = λ n k. mentions_step before n (known_of name) place value f (same n (known_of name)) h k refl })
+    ∙ (ap (λ x. lesser x (least (repeated ((known_of name) ∷ before) more)))
+    (filled_repeated (due_after (known_of name) f) value (named (known_of name) place f)
+    ∙ (named_repeated (known_of name) place f (is_known (known_of name)) (slot_of (known_of name) f)
+    ∙ ap (λ xs. lesser f.repeated (least xs)) (again_same (is_known (known_of name)) (slot_of (known_of name) f) (mentions before (known_of name)) place (h.each (known_of name)))))
+    ∙ (lesser_assoc f.repeated (least found) (least (repeated ((known_of name) ∷ before) more))
+    ∙ ap (λ x. lesser f.repeated x) (sym (least-append found (repeated ((known_of name) ∷ before) more)))))

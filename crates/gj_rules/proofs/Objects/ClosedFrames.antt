@@ -1,0 +1,151 @@
+-- At its close a frame tells what is found in its object.
+use Rattle.std.proofs.Common.{◌≡◌, ℕ, Bool, true, false, if◌then◌else◌, Option, Some, None, refl, ap, ◌∙◌}
+use Rattle.gj_json.specs.declared.names.Known.{Known}
+use Rattle.gj_json.specs.declared.names.Known.TheVariants.{Coordinates, Geometries, Geometry, Features, Bbox}
+use Rattle.gj_json.specs.declared.names.Word.{Word}
+use Rattle.gj_json.specs.Names.{known_of}
+use Rattle.gj_json.specs.Tree.{Tree, Members, end_of_object, member, object}
+use Rattle.gj_coords.specs.declared.kind.Kind.TheVariants.{W7}
+use Rattle.gj_coords.specs.declared.simple.Simple.{Simple}
+use Rattle.gj_coords.specs.declared.warnings.Warnings.{Warnings}
+use Rattle.gj_coords.specs.Fault.{least}
+use Rattle.gj_coords.specs.Internal.KeptWarnings.{no_warnings, warnings_of, joined, added}
+use Rattle.gj_coords.specs.WarningLaws.{joined_none_first}
+use Rattle.gj_rules.specs.Internal.FrameMeaning.{Found}
+use Rattle.gj_rules.specs.Internal.FrameMeaning.{Frame}
+use Rattle.gj_rules.specs.declared.role.Role.{Role}
+use Rattle.gj_rules.specs.declared.shown.Slot.{Slot}
+use Rattle.gj_rules.specs.declared.shown.TypeValue.{TypeValue}
+use Rattle.gj_rules.specs.Faults.{First, FirstMembers, faults, first}
+use Rattle.gj_rules.specs.Internal.FrameCalls.{blank, warned_as, warned_by, settled, members_taken}
+use Rattle.gj_rules.specs.Members.{same, first_type}
+use Rattle.gj_rules.specs.Role.{is_allowed}
+use Rattle.gj_rules.specs.Internal.ShownMembers as S
+use Rattle.gj_rules.specs.Internal.Summaries.{no_shapes, warned_for}
+use Rattle.gj_rules.specs.Internal.TextKept.{or_none, and_kept, simple_kept, typed_kept, by_type_kept, kept, first_kept}
+use Rattle.gj_rules.specs.TextWarnings.{crs_warnings, first_value}
+use Rattle.gj_rules.proofs.Objects.GatheredMembers.{gathered_from, gathered_after, own_after}
+use Rattle.gj_rules.proofs.Objects.AllMembers.{shapes_from}
+use Rattle.gj_rules.proofs.Objects.SettledObjects.{shown_for, shown_after, parts_of, closed}
+use Rattle.gj_rules.proofs.Objects.JoinedFindings.{members_shown}
+
+-- ---- the value of the first `coordinates`
+
+abbrev value_in : Option First → Option Tree
+value_in None = None
+value_in (Some first) = Some first.value
+
+value_step : (b : Bool) (x : First) (o : Option First) (p : Option Tree) → value_in o ≡ p → value_in (if b then Some x else o) ≡ (if b then Some x.value else p)
+value_step true x o p e = refl
+value_step false x o p e = e
+
+value_is : (n : Known) (ms : Members) → value_in (first n ms) ≡ first_value n ms
+value_is n end_of_object = refl
+value_is n (member place name end value more) = value_step (same n (known_of name)) _ (first n more) (first_value n more) (value_is n more)
+
+-- ---- what hangs on the type
+
+-- the six types have five sorts of warnings
+abbrev like : Simple → Simple
+like Simple.LineString = Simple.MultiPoint
+like simple = simple
+
+shape_warned : (simple : Simple) (o : Option First) → warned_for simple (shapes_from true None no_shapes o) ≡ simple_kept (like simple) (value_in o)
+shape_warned Simple.Point None = refl
+shape_warned Simple.Point (Some x) = refl
+shape_warned Simple.MultiPoint None = refl
+shape_warned Simple.MultiPoint (Some x) = refl
+shape_warned Simple.LineString None = refl
+shape_warned Simple.LineString (Some x) = refl
+shape_warned Simple.MultiLineString None = refl
+shape_warned Simple.MultiLineString (Some x) = refl
+shape_warned Simple.Polygon None = refl
+shape_warned Simple.Polygon (Some x) = refl
+shape_warned Simple.MultiPolygon None = refl
+shape_warned Simple.MultiPolygon (Some x) = refl
+
+any_is : (o : Option Warnings) → and_kept no_warnings o ≡ or_none o
+any_is None = refl
+any_is (Some w) = joined_none_first w
+
+-- the frame that an object leaves, of which the first members have these warnings
+abbrev left : Role → ℕ → Option Slot → FirstMembers → Warnings → Option Warnings → Option Warnings → Option Warnings → Frame
+left role place t p own geometries geometry features = record {
+  shown = shown_for role place t p;
+  gathered = record {
+    own = own;
+    geometries = gathered_from (S.uses role Geometries) None no_warnings geometries;
+    geometry = gathered_from (S.uses role Geometry) None no_warnings geometry;
+    features = gathered_from (S.uses role Features) None no_warnings features;
+  };
+}
+
+typed_is : (role : Role) (word : Word) (place : ℕ) (t : Option Slot) (p : FirstMembers) (own : Warnings) (a b c : Option Warnings)
+    → (if is_allowed role word then warned_as word (left role place t p own a b c) else no_warnings)
+    ≡ (if is_allowed role word then typed_kept word role place (value_in p.coordinates) (or_none a) (or_none b) (or_none c) else no_warnings)
+typed_is role Word.Other place t p own a b c = refl
+typed_is Role.Root Word.Feature place t p own a b c = any_is b
+typed_is Role.Feature Word.Feature place t p own a b c = any_is b
+typed_is Role.Root Word.FeatureCollection place t p own a b c = any_is c
+typed_is Role.Root Word.GeometryCollection place t p own a b c = any_is a
+typed_is Role.Geometry Word.GeometryCollection place t p own a b c = any_is a
+typed_is Role.Part Word.GeometryCollection place t p own a b c = ap (λ (w : Warnings). added w W7 place) (any_is a)
+typed_is role Word.Feature place t p own a b c = refl
+typed_is role Word.FeatureCollection place t p own a b c = refl
+typed_is Role.Feature word place t p own a b c = refl
+typed_is Role.Root Word.Point place t p own a b c = shape_warned Simple.Point p.coordinates
+typed_is role Word.Point place t p own a b c = shape_warned Simple.Point p.coordinates
+typed_is Role.Root Word.MultiPoint place t p own a b c = shape_warned Simple.MultiPoint p.coordinates
+typed_is role Word.MultiPoint place t p own a b c = shape_warned Simple.MultiPoint p.coordinates
+typed_is Role.Root Word.LineString place t p own a b c = shape_warned Simple.LineString p.coordinates
+typed_is role Word.LineString place t p own a b c = shape_warned Simple.LineString p.coordinates
+typed_is Role.Root Word.MultiLineString place t p own a b c = shape_warned Simple.MultiLineString p.coordinates
+typed_is role Word.MultiLineString place t p own a b c = shape_warned Simple.MultiLineString p.coordinates
+typed_is Role.Root Word.Polygon place t p own a b c = shape_warned Simple.Polygon p.coordinates
+typed_is role Word.Polygon place t p own a b c = shape_warned Simple.Polygon p.coordinates
+typed_is Role.Root Word.MultiPolygon place t p own a b c = shape_warned Simple.MultiPolygon p.coordinates
+typed_is role Word.MultiPolygon place t p own a b c = shape_warned Simple.MultiPolygon p.coordinates
+
+by_type_is : (role : Role) (place : ℕ) (t : Option Slot) (p : FirstMembers) (own : Warnings) (a b c : Option Warnings) (o : Option TypeValue)
+    → warned_by o (left role place t p own a b c) ≡ by_type_kept o role place (value_in p.coordinates) (or_none a) (or_none b) (or_none c)
+by_type_is role place t p own a b c None = refl
+by_type_is role place t p own a b c (Some value) = typed_is role value.word place t p own a b c
+
+-- ---- the object
+
+-- a frame is its fields
+fields_are : (f g : Frame) → f.shown ≡ g.shown → f.gathered.own ≡ g.gathered.own → f.gathered.geometries ≡ g.gathered.geometries
+    → f.gathered.geometry ≡ g.gathered.geometry → f.gathered.features ≡ g.gathered.features → f ≡ g
+fields_are f g a b c d e = λ i. record { shown = a i; gathered = record { own = b i; geometries = c i; geometry = d i; features = e i } }
+
+-- the warnings of an object that hang on no type
+abbrev own_kept : Members → Warnings
+own_kept ms = joined (warnings_of (crs_warnings ms)) (or_none (first_kept Bbox ms))
+
+left_after : (role : Role) (place : ℕ) (ms : Members)
+    → members_taken ms (blank role place)
+    ≡ left role place (S.members_taken ms (S.blank role place)).type_name (parts_of ms) (own_kept ms) (first_kept Geometries ms) (first_kept Geometry ms) (first_kept Features ms)
+left_after role place ms =
+    let f : Frame = blank role place in
+    fields_are (members_taken ms f) _
+    (members_shown ms f ∙ shown_after role place ms)
+    (own_after ms f ∙ joined_none_first (own_kept ms))
+    (gathered_after Geometries tt ms f)
+    (gathered_after Geometry tt ms f)
+    (gathered_after Features tt ms f)
+
+abbrev pub found_in : Role → ℕ → ℕ → Members → Found
+found_in role place close ms = record { fault = least (faults role (object place ms close)); warned = or_none (kept role (object place ms close)) }
+
+pub all_closed : (role : Role) (place close : ℕ) (ms : Members) → settled (members_taken ms (blank role place)) ≡ found_in role place close ms
+all_closed role place close ms =
+    let own : Warnings = own_kept ms in
+    let p : FirstMembers = parts_of ms in
+    let f : (members_taken ms (blank role place)).shown ≡ S.members_taken ms (S.blank role place) = members_shown ms (blank role place) in
+    let a : S.settled (members_taken ms (blank role place)).shown ≡ least (faults role (object place ms close)) = ap S.settled f ∙ closed role place close ms in
+    let e = left_after role place ms in
+    let b : (settled (members_taken ms (blank role place))).warned ≡ or_none (kept role (object place ms close)) =
+    ap (λ (g : Frame). joined g.gathered.own (warned_by g.shown.type_value g)) e
+    ∙ (ap (joined own) (by_type_is role place (S.members_taken ms (S.blank role place)).type_name p own (first_kept Geometries ms) (first_kept Geometry ms) (first_kept Features ms) (first_type ms))
+    ∙ ap (λ (o : Option Tree). joined own (by_type_kept (first_type ms) role place o (or_none (first_kept Geometries ms)) (or_none (first_kept Geometry ms)) (or_none (first_kept Features ms)))) (value_is Coordinates ms)) in
+    λ i. record { fault = a i; warned = b i }

@@ -1,0 +1,46 @@
+-- Where no value that a summary takes is due.
+use Rattle.std.proofs.Common.{◌≡◌, ℕ, zero, suc, ◌<◌, false, List, [], refl, arith}
+use Rattle.gj_json.specs.declared.event.What.{What}
+use Rattle.gj_json.specs.declared.names.Known.TheVariants.{Coordinates, Bbox}
+use Rattle.gj_coords.specs.declared.coordinates.Coordinates as C
+use Rattle.gj_coords.specs.declared.bbox.Bbox as B
+use Rattle.gj_rules.specs.Internal.FrameMeaning.{Found, Frame}
+use Rattle.gj_rules.specs.declared.mode.Mode.{Mode}
+use Rattle.gj_rules.specs.declared.mode.Mode.TheVariants.{RootDue, Names, Due, Elements, Done}
+use Rattle.gj_rules.specs.declared.rules.Rules.{Rules}
+use Rattle.gj_rules.specs.Internal.RulesState.{core_of, top_of, Holds, HoldsIn}
+use Rattle.gj_rules.specs.Internal.EventSteps.{Core, names_step, core_step, is_feeding, skip}
+
+holds : (k : ℕ) (m : Mode) (c : C.Coordinates) (b : B.Bbox) → is_feeding 0 m ≡ false → HoldsIn k m c b []
+holds (suc k) m c b e = tt
+holds zero RootDue c b e = tt
+holds zero Names c b e = tt
+holds zero (Due Coordinates) c b e = cc
+holds zero (Due Bbox) c b e = cc
+holds zero (Due _) c b e = tt
+holds zero (Elements role) c b e = tt
+holds zero Done c b e = tt
+
+pub rests : (rules : Rules) → is_feeding 0 rules.mode ≡ false → Holds rules []
+rests rules e = holds rules.skipped rules.mode rules.coordinates rules.bbox e
+
+skip_at : (k : ℕ) (what : What) (place : ℕ) (m : Mode) (f : Frame) (o : List Frame) (a : Found) (s : Core)
+    → s ≡ record { skipped = k; mode = m; top = f; outer = o; answer = a } → 0 < k
+    → record s { skipped = skip what k } ≡ core_step (record { place = place; what = what }) s
+skip_at zero what place m f o a s e h = absurd (omega arith)
+skip_at (suc k) what place m f o a s e h = rw e refl
+
+pub skips : (rules : Rules) (what : What) (place : ℕ) → 0 < rules.skipped
+    → record (core_of rules) { skipped = skip what rules.skipped } ≡ core_step (record { place = place; what = what }) (core_of rules)
+skips rules what place h = skip_at rules.skipped what place rules.mode (top_of rules) (core_of rules).outer (core_of rules).answer (core_of rules) refl h
+
+-- where a name or the end of an object is due
+named_at : (k : ℕ) (m : Mode) (what : What) (place : ℕ) (f : Frame) (o : List Frame) (a : Found) (s : Core)
+    → s ≡ record { skipped = k; mode = m; top = f; outer = o; answer = a } → k ≡ 0 → m ≡ Names
+    → names_step what place s ≡ core_step (record { place = place; what = what }) s
+named_at k m what place f o a s e p q = rw (e, p, q) refl
+
+pub names : (rules : Rules) (what : What) (place : ℕ) → rules.skipped ≡ 0 → rules.mode ≡ Names
+    → names_step what place (core_of rules) ≡ core_step (record { place = place; what = what }) (core_of rules)
+names rules what place p q =
+    named_at rules.skipped rules.mode what place (top_of rules) (core_of rules).outer (core_of rules).answer (core_of rules) refl p q

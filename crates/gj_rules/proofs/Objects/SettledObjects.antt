@@ -1,0 +1,239 @@
+-- At its close an object has shown its least fault.
+use Rattle.std.proofs.Common.{◌≡◌, ℕ, Bool, true, false, if◌then◌else◌, List, [], ◌++◌, Option, Some, None, is_some, refl, sym, ap, ◌∙◌}
+use Rattle.gj_json.specs.declared.names.Known.{Known}
+use Rattle.gj_json.specs.declared.names.Known.TheVariants.{TypeName, Coordinates, Geometries, Geometry, Properties, Features, Bbox, Id}
+use Rattle.gj_json.specs.declared.names.Word.{Word}
+use Rattle.gj_coords.specs.declared.fault.Fault.{Fault}
+use Rattle.gj_coords.specs.declared.fault.Rule.{Rule}
+use Rattle.gj_coords.specs.declared.fault.Rule.TheVariants.{G3, G5, G6, G7, G8}
+use Rattle.gj_rules.specs.declared.role.Role.{Role}
+use Rattle.gj_rules.specs.declared.shown.Slot.{Slot}
+use Rattle.gj_rules.specs.declared.shown.TypeValue.{TypeValue}
+use Rattle.gj_rules.specs.Internal.FrameMeaning.{Shown}
+use Rattle.gj_coords.specs.Fault.{lesser, least, fault_at}
+use Rattle.gj_rules.specs.Internal.ShownMembers as F
+use Rattle.gj_json.specs.Tree.{Tree, Members, object}
+use Rattle.gj_rules.specs.Faults as R
+use Rattle.gj_rules.specs.Members.{one, first_type, repeated}
+use Rattle.gj_rules.specs.Role.{is_allowed}
+use Rattle.gj_coords.specs.declared.simple.Simple.{Simple}
+use Rattle.gj_rules.specs.Faults.{First, FirstMembers, faults}
+use Rattle.gj_rules.specs.Internal.ShownMembers.{members_taken}
+use Rattle.gj_coords.specs.LeastLaws.{least-append}
+use Rattle.gj_rules.proofs.Objects.OneMember.{slot_from}
+use Rattle.gj_rules.proofs.Objects.AllMembers.{members_object, slots_after, type_from, type_after, shapes_from, shapes_after, repeated_after}
+use Rattle.gj_rules.specs.Internal.FrameMeaning.{Shapes}
+use Rattle.gj_rules.specs.Internal.Summaries.{no_shapes, shape_for}
+use Rattle.gj_coords.specs.Shape.{coordinates_faults}
+use Rattle.gj_rules.specs.Internal.Summaries.{shapes_of}
+
+-- what an object has shown at its end
+abbrev pub shown_for : Role → ℕ → Option Slot → FirstMembers → Shown
+shown_for role place type_name p = record {
+  place = place;
+  role = role;
+  repeated = least p.repeated;
+  type_value = p.type_value;
+  shapes = shapes_from (F.uses role Coordinates) None no_shapes p.coordinates;
+  type_name = type_name;
+  coordinates = slot_from (F.uses role Coordinates) p.coordinates;
+  geometries = slot_from (F.uses role Geometries) p.geometries;
+  geometry = slot_from (F.uses role Geometry) p.geometry;
+  properties = slot_from (F.uses role Properties) p.properties;
+  features = slot_from (F.uses role Features) p.features;
+  bbox = slot_from (F.uses role Bbox) p.bbox;
+  id = slot_from (F.uses role Id) p.id;
+}
+
+forbidden_is : (u : Bool) (o : Option First) → F.forbidden_slot (slot_from u o) ≡ least (R.forbidden o)
+forbidden_is u None = refl
+forbidden_is u (Some first) = refl
+
+due_is : (place : ℕ) (rule : Rule) (o : Option First) → F.due_slot place rule (slot_from true o) ≡ least (R.due place rule o)
+due_is place rule None = refl
+due_is place rule (Some first) = refl
+
+optional_is : (o : Option First) → F.slot_fault (slot_from true o) ≡ least (R.optional o)
+optional_is None = refl
+optional_is (Some first) = refl
+
+-- joined in front of what is known of the rest
+also : (x : Option Fault) (xs : List Fault) (y : Option Fault) (ys : List Fault) → x ≡ least xs → y ≡ least ys → lesser x y ≡ least (xs ++ ys)
+also x xs y ys e f = ap (λ z. lesser z y) e ∙ (ap (λ z. lesser (least xs) z) f ∙ sym (least-append xs ys))
+
+-- u, v, w and x say which of the values the role looks at
+geometry_forbids_is : (u v w : Bool) (p : FirstMembers)
+    → lesser (F.forbidden_slot (slot_from u p.geometry)) (lesser (F.forbidden_slot (slot_from v p.properties)) (F.forbidden_slot (slot_from w p.features)))
+    ≡ least (R.geometry_forbids p)
+geometry_forbids_is u v w p =
+    also _ (R.forbidden p.geometry) _ _ (forbidden_is u p.geometry)
+    (also _ (R.forbidden p.properties) _ _ (forbidden_is v p.properties) (forbidden_is w p.features))
+
+feature_forbids_is : (u v w : Bool) (p : FirstMembers)
+    → lesser (F.forbidden_slot (slot_from u p.coordinates)) (lesser (F.forbidden_slot (slot_from v p.geometries)) (F.forbidden_slot (slot_from w p.features)))
+    ≡ least (R.feature_forbids p)
+feature_forbids_is u v w p =
+    also _ (R.forbidden p.coordinates) _ _ (forbidden_is u p.coordinates)
+    (also _ (R.forbidden p.geometries) _ _ (forbidden_is v p.geometries) (forbidden_is w p.features))
+
+features_forbid_is : (u v w x : Bool) (p : FirstMembers)
+    → lesser (lesser (F.forbidden_slot (slot_from u p.coordinates)) (F.forbidden_slot (slot_from v p.geometries)))
+    (lesser (F.forbidden_slot (slot_from w p.geometry)) (F.forbidden_slot (slot_from x p.properties)))
+    ≡ least (R.features_forbid p)
+features_forbid_is u v w x p =
+    also _ (R.forbidden p.coordinates ++ R.forbidden p.geometries) _ _
+    (also _ (R.forbidden p.coordinates) _ _ (forbidden_is u p.coordinates) (forbidden_is v p.geometries))
+    (also _ (R.forbidden p.geometry) _ _ (forbidden_is w p.geometry) (forbidden_is x p.properties))
+
+-- ---- of each type
+
+shape_is : (simple : Simple) (v : Tree) → shape_for simple (shapes_of v) ≡ least (coordinates_faults simple v)
+shape_is Simple.Point v = refl
+shape_is Simple.MultiPoint v = refl
+shape_is Simple.LineString v = refl
+shape_is Simple.MultiLineString v = refl
+shape_is Simple.Polygon v = refl
+shape_is Simple.MultiPolygon v = refl
+
+due_shape_is : (simple : Simple) (place : ℕ) (o : Option First)
+    → F.due_shape simple place (shapes_from true None no_shapes o) (slot_from true o) ≡ least (R.due_coordinates simple place o)
+due_shape_is simple place None = refl
+due_shape_is simple place (Some first) = shape_is simple first.value
+
+simple_is : (simple : Simple) (u v w : Bool) (place : ℕ) (p : FirstMembers)
+    → lesser (lesser (F.forbidden_slot (slot_from u p.geometry)) (lesser (F.forbidden_slot (slot_from v p.properties)) (F.forbidden_slot (slot_from w p.features))))
+    (F.due_shape simple place (shapes_from true None no_shapes p.coordinates) (slot_from true p.coordinates))
+    ≡ least (R.as_simple simple place p)
+simple_is simple u v w place p =
+    also _ (R.geometry_forbids p) _ _ (geometry_forbids_is u v w p) (due_shape_is simple place p.coordinates)
+
+collection_is : (u v w : Bool) (place : ℕ) (p : FirstMembers)
+    → lesser (lesser (F.forbidden_slot (slot_from u p.geometry)) (lesser (F.forbidden_slot (slot_from v p.properties)) (F.forbidden_slot (slot_from w p.features))))
+    (F.due_slot place G5 (slot_from true p.geometries))
+    ≡ least (R.as_collection place p)
+collection_is u v w place p =
+    also _ (R.geometry_forbids p) _ _ (geometry_forbids_is u v w p) (due_is place G5 p.geometries)
+
+feature_is : (u v w : Bool) (place : ℕ) (p : FirstMembers)
+    → lesser (lesser (F.forbidden_slot (slot_from u p.coordinates)) (lesser (F.forbidden_slot (slot_from v p.geometries)) (F.forbidden_slot (slot_from w p.features))))
+    (lesser (F.due_slot place G6 (slot_from true p.geometry)) (lesser (F.due_slot place G7 (slot_from true p.properties)) (F.slot_fault (slot_from true p.id))))
+    ≡ least (R.as_feature place p)
+feature_is u v w place p =
+    also _ (R.feature_forbids p) _ _ (feature_forbids_is u v w p)
+    (also _ (R.due place G6 p.geometry) _ _ (due_is place G6 p.geometry)
+    (also _ (R.due place G7 p.properties) _ _ (due_is place G7 p.properties) (optional_is p.id)))
+
+features_is : (u v w x : Bool) (place : ℕ) (p : FirstMembers)
+    → lesser (lesser (lesser (F.forbidden_slot (slot_from u p.coordinates)) (F.forbidden_slot (slot_from v p.geometries)))
+    (lesser (F.forbidden_slot (slot_from w p.geometry)) (F.forbidden_slot (slot_from x p.properties))))
+    (F.due_slot place G8 (slot_from true p.features))
+    ≡ least (R.as_features place p)
+features_is u v w x place p =
+    also _ (R.features_forbid p) _ _ (features_forbid_is u v w x p) (due_is place G8 p.features)
+
+-- at each role, for each type that is allowed there
+typed_is : (role : Role) (word : Word) (at : ℕ) (place : ℕ) (t : Option Slot) (p : FirstMembers)
+    → (if is_allowed role word then F.as_type word (shown_for role place t p) else Some (fault_at at G3))
+    ≡ least (if is_allowed role word then R.as_type word place p else one at G3)
+typed_is role Word.Other at place t p = refl
+typed_is Role.Root Word.Feature at place t p = feature_is true true true place p
+typed_is Role.Feature Word.Feature at place t p = feature_is false false false place p
+typed_is Role.Root Word.FeatureCollection at place t p = features_is true true true true place p
+typed_is Role.Root Word.GeometryCollection at place t p = collection_is true true true place p
+typed_is Role.Geometry Word.GeometryCollection at place t p = collection_is false false false place p
+typed_is Role.Part Word.GeometryCollection at place t p = collection_is false false false place p
+typed_is role Word.Feature at place t p = refl
+typed_is role Word.FeatureCollection at place t p = refl
+typed_is Role.Feature word at place t p = refl
+typed_is Role.Root Word.Point at place t p = simple_is Simple.Point true true true place p
+typed_is role Word.Point at place t p = simple_is Simple.Point false false false place p
+typed_is Role.Root Word.MultiPoint at place t p = simple_is Simple.MultiPoint true true true place p
+typed_is role Word.MultiPoint at place t p = simple_is Simple.MultiPoint false false false place p
+typed_is Role.Root Word.LineString at place t p = simple_is Simple.LineString true true true place p
+typed_is role Word.LineString at place t p = simple_is Simple.LineString false false false place p
+typed_is Role.Root Word.MultiLineString at place t p = simple_is Simple.MultiLineString true true true place p
+typed_is role Word.MultiLineString at place t p = simple_is Simple.MultiLineString false false false place p
+typed_is Role.Root Word.Polygon at place t p = simple_is Simple.Polygon true true true place p
+typed_is role Word.Polygon at place t p = simple_is Simple.Polygon false false false place p
+typed_is Role.Root Word.MultiPolygon at place t p = simple_is Simple.MultiPolygon true true true place p
+typed_is role Word.MultiPolygon at place t p = simple_is Simple.MultiPolygon false false false place p
+
+rest_is : (role : Role) (place : ℕ) (t : Option Slot) (p : FirstMembers) (o : Option TypeValue)
+    → F.rest_by o (shown_for role place t p) ≡ least (R.by_type o role place p)
+rest_is role place t p None = refl
+rest_is role place t p (Some value) = typed_is role value.word value.place place t p
+
+uses_bbox : (role : Role) → F.uses role Bbox ≡ true
+uses_bbox Role.Root = refl
+uses_bbox _ = refl
+
+pub settled_is : (role : Role) (place : ℕ) (t : Option Slot) (p : FirstMembers) → F.settled (shown_for role place t p) ≡ least (R.object_faults role place p)
+settled_is role place t p =
+    also _ p.repeated _ _ refl
+    (also _ (R.optional p.bbox) _ _ (ap (λ u. F.slot_fault (slot_from u p.bbox)) (uses_bbox role) ∙ optional_is p.bbox) (rest_is role place t p p.type_value))
+
+abbrev pub parts_of : Members → FirstMembers
+parts_of members = record {
+  repeated = repeated [] members;
+  type_value = first_type members;
+  coordinates = R.first Coordinates members;
+  geometries = R.first Geometries members;
+  geometry = R.first Geometry members;
+  properties = R.first Properties members;
+  features = R.first Features members;
+  bbox = R.first Bbox members;
+  id = R.first Id members;
+}
+
+pub none_set : (role : Role) (place : ℕ) (n : Known) → F.slot_of n (F.blank role place) ≡ None
+none_set role place TypeName = refl
+none_set role place _ = refl
+
+-- what is shown is its fields
+fields_are : (f : Shown) (place : ℕ) (role : Role) (repeated : Option Fault) (type_value : Option TypeValue) (shapes : Shapes) (type_name coordinates geometries geometry properties features bbox id : Option Slot)
+    → f.place ≡ place → f.role ≡ role → f.repeated ≡ repeated → f.type_value ≡ type_value → f.shapes ≡ shapes → f.type_name ≡ type_name → f.coordinates ≡ coordinates
+    → f.geometries ≡ geometries → f.geometry ≡ geometry → f.properties ≡ properties → f.features ≡ features → f.bbox ≡ bbox → f.id ≡ id
+    → f ≡ record {
+      place = place;
+      role = role;
+      repeated = repeated;
+      type_value = type_value;
+      shapes = shapes;
+      type_name = type_name;
+      coordinates = coordinates;
+      geometries = geometries;
+      geometry = geometry;
+      properties = properties;
+      features = features;
+      bbox = bbox;
+      id = id;
+    }
+fields_are f place role repeated type_value shapes type_name coordinates geometries geometry properties features bbox id a b c d n e g h i j k l m =
+    rw (← a, ← b, ← c, ← d, ← n, ← e, ← g, ← h, ← i, ← j, ← k, ← l, ← m) refl
+
+kind_is : (o : Option TypeValue) → type_from None None o ≡ o
+kind_is None = refl
+kind_is (Some value) = refl
+
+-- what is shown after all members, from its fields
+pub shown_after : (role : Role) (place : ℕ) (members : Members)
+    → members_taken members (F.blank role place) ≡ shown_for role place (members_taken members (F.blank role place)).type_name (parts_of members)
+shown_after role place members =
+    let f : Shown = F.blank role place in
+    let same = members_object members f in
+    fields_are (members_taken members f) _ _ _ _ _ _ _ _ _ _ _ _ _
+    same.place same.role
+    (repeated_after members [] f (record { each = λ n k. ap is_some (none_set role place n) }))
+    (type_after members f ∙ kind_is (first_type members))
+    (shapes_after members f)
+    refl
+    (slots_after Coordinates members f refl)
+    (slots_after Geometries members f refl)
+    (slots_after Geometry members f refl)
+    (slots_after Properties members f refl)
+    (slots_after Features members f refl)
+    (slots_after Bbox members f refl)
+    (slots_after Id members f refl)
+
+pub closed : (role : Role) (place close : ℕ) (members : Members) → F.settled (members_taken members (F.blank role place)) ≡ least (faults role (object place members close))
+closed role place close members = ap F.settled (shown_after role place members) ∙ settled_is role place (members_taken members (F.blank role place)).type_name (parts_of members)

@@ -1,0 +1,12 @@
+-- The rules over the events of a text, and the places that they tell.
+pub mod TimedEvents
+pub mod ValuesByEvents
+pub mod EventOrder
+pub mod FramesInUse
+pub mod RoleDepths
+pub mod OneEventMore
+pub mod IgnoredValues
+pub mod LinterEvents
+pub mod OneFlatMore
+pub mod PlacesOfFaults
+pub mod PlacesOfWarnings

@@ -1,0 +1,384 @@
+-- From each state in which a value is due, the value's events lead to what the definitions say of it, and what a call
+-- needs to know of the state holds before each of them.
+use Rattle.std.proofs.Common.{◌≡◌, ℕ, zero, suc, ◌+◌, ◌-◌, ◌*◌, ◌<◌, ◌≤◌, Bool, true, false, if◌then◌else◌, List, [], ◌∷◌, ◌++◌, map, length, Option, Some, None, refl, sym, ap, subst, ◌∙◌, arith, append_assoc}
+use Rattle.std.proofs.lemmas.List.{map-append}
+use Rattle.gj_json.specs.declared.constant.Constant.TheVariants.{Null, True, False}
+use Rattle.gj_json.specs.declared.event.Event.{Event}
+use Rattle.gj_json.specs.declared.names.Known.{Known}
+use Rattle.gj_json.specs.declared.names.Known.TheVariants.{Coordinates, Geometries, Geometry, Features, Bbox, Other}
+use Rattle.gj_json.specs.declared.event.What.{What}
+use Rattle.gj_json.specs.Events.{value_events}
+use Rattle.gj_json.specs.Names.{known_of}
+use Rattle.gj_json.specs.Tree as Tree
+use Rattle.gj_json.specs.Tree.{Tree, constant, number, string, array, object, end_of_array, element, Members, end_of_object, member, Text, depth, elements_depth, members_depth}
+use Rattle.gj_coords.specs.declared.fault.Fault.{Fault}
+use Rattle.gj_coords.specs.declared.fault.Rule.TheVariants.{G1}
+use Rattle.gj_coords.specs.Fault.{least, fault_at}
+use Rattle.gj_coords.specs.declared.warnings.Warnings.{Warnings}
+use Rattle.gj_coords.specs.Internal.KeptWarnings as Noted
+use Rattle.gj_rules.specs.Levels.{most_levels, most_skipped}
+use Rattle.gj_rules.specs.Internal.FrameMeaning.{Found}
+use Rattle.gj_rules.specs.Internal.FrameMeaning.{Frame}
+use Rattle.gj_rules.specs.Internal.FrameMeaning.{Shown}
+use Rattle.gj_rules.specs.declared.shown.Slot.{Slot}
+use Rattle.gj_rules.specs.declared.role.Role.{Role}
+use Rattle.gj_rules.specs.declared.mode.Mode.{Mode}
+use Rattle.gj_rules.specs.declared.mode.Mode.TheVariants.{RootDue, Names, Due, Elements, Done}
+use Rattle.gj_rules.specs.Faults.{faults, all_faults, text_faults}
+use Rattle.gj_rules.specs.Internal.FrameCalls.{blank, named, due_after, joined, taken_in, taken_any, settled, filled, member_taken, members_taken}
+use Rattle.gj_rules.specs.Internal.ShownMembers.{slot_of, due_known, uses}
+use Rattle.gj_rules.specs.Internal.TextKept.{marked_kept, kept, all_kept, and_kept, text_kept}
+use Rattle.gj_rules.specs.Members.{is_known}
+use Rattle.gj_rules.specs.Internal.RulesState.{HasRoom}
+use Rattle.gj_rules.specs.Internal.EventSteps.{Feed, idle, due_feed, feed_behind, State, step, run, start, member_of, mode_behind}
+use Rattle.gj_rules.specs.Internal.LabelledEvents.{Told, plain, event_of, told, elements_told, members_told, mark_told, text_told}
+use Rattle.gj_coords.specs.LeastLaws.{least-append}
+use Rattle.gj_rules.proofs.Objects.JoinedFindings.{taken_none, taken_twice, members_shown}
+use Rattle.gj_rules.proofs.Objects.AllMembers.{named_object, member_object, members_object}
+use Rattle.gj_rules.proofs.Objects.ClosedFrames.{all_closed}
+use Rattle.gj_rules.proofs.Texts.TimedEvents.{told-events}
+
+-- ---- what a call needs to know
+
+-- the value that a summary takes goes on so
+pub record Fits (feed : Feed) (rest : List Told) : Type 0 where
+  pub next : Event
+  pub later : List Event
+  pub more : List Event
+  pub left : feed.left ≡ next ∷ later
+  pub split : feed.taken ++ feed.left ≡ value_events feed.value
+  pub comes : map event_of rest ≡ feed.left ++ more
+  pub deep : depth feed.value ≤ most_levels
+
+-- before the event x and those behind it
+abbrev pub GoodAt : ℕ → Mode → Told → List Told → State → Type 0
+GoodAt (suc k) m x xs s = suc k < most_skipped
+GoodAt zero (Due Coordinates) x xs s = Fits s.feed (x ∷ xs)
+GoodAt zero (Due Bbox) x xs s = Fits s.feed (x ∷ xs)
+GoodAt zero _ x xs s = HasRoom (event_of x).what s.core.outer
+
+abbrev pub Good : Told → List Told → State → Type 0
+Good x xs s = GoodAt s.core.skipped s.core.mode x xs s
+
+-- the events lead from the state to the answer z, and each state before one of them is good
+abbrev pub Leads : List Told → State → Found → Type 0
+Leads [] s z = s.core.answer ≡ z
+Leads (x ∷ xs) s z = Good x xs s × Leads xs (step x s) z
+
+-- With no value under way. From here on k is the number of skipped levels, m the mode, f the innermost frame, o the
+-- frames around it, a the answer so far, and n the level of the object with that frame.
+abbrev pub st : ℕ → Mode → Frame → List Frame → Found → State
+st skipped mode top outer answer = record { core = record { skipped = skipped; mode = mode; top = top; outer = outer; answer = answer }; feed = idle }
+
+-- ---- what is not looked into
+
+pub up : (k : ℕ) → suc k + 1 ≡ suc (suc k)
+up k = omega arith
+
+pub down : (k : ℕ) → suc (suc k) - 1 ≡ suc k
+down k = omega arith
+
+mutual
+  skip_value : (v : Tree) (rest : List Told) (k : ℕ) (m : Mode) (f : Frame) (o : List Frame) (a z : Found) → k + depth v ≤ most_levels
+      → Leads rest (st (suc k) m f o a) z → Leads (told v ++ rest) (st (suc k) m f o a) z
+  skip_value (constant Null place) rest k m f o a z d h = (omega arith, h)
+  skip_value (constant True place) rest k m f o a z d h = (omega arith, h)
+  skip_value (constant False place) rest k m f o a z d h = (omega arith, h)
+  skip_value (number place literal end) rest k m f o a z d h = (omega arith, h)
+  skip_value (string place content end) rest k m f o a z d h = (omega arith, h)
+  skip_value (array place es close) rest k m f o a z d h = (
+    omega arith,
+    rw (append_assoc (elements_told es) (plain (close + 1) close What.CloseArray ∷ []) rest)
+        (subst (λ n. Leads (elements_told es ++ plain (close + 1) close What.CloseArray ∷ rest) (st n m f o a) z) (sym (up k))
+        (skip_elements es (plain (close + 1) close What.CloseArray ∷ rest) (suc k) m f o a z (omega arith)
+        (omega arith, subst (λ n. Leads rest (st n m f o a) z) (sym (down k)) h))),
+  )
+  skip_value (object place ms close) rest k m f o a z d h = (
+    omega arith,
+    rw (append_assoc (members_told ms) (plain (close + 1) close What.CloseObject ∷ []) rest)
+        (subst (λ n. Leads (members_told ms ++ plain (close + 1) close What.CloseObject ∷ rest) (st n m f o a) z) (sym (up k))
+        (skip_members ms (plain (close + 1) close What.CloseObject ∷ rest) (suc k) m f o a z (omega arith)
+        (omega arith, subst (λ n. Leads rest (st n m f o a) z) (sym (down k)) h))),
+  )
+
+  skip_elements : (es : Tree.Elements) (rest : List Told) (k : ℕ) (m : Mode) (f : Frame) (o : List Frame) (a z : Found) → k + elements_depth es ≤ most_levels
+      → Leads rest (st (suc k) m f o a) z → Leads (elements_told es ++ rest) (st (suc k) m f o a) z
+  skip_elements end_of_array rest k m f o a z d h = h
+  skip_elements (element v more) rest k m f o a z d h =
+      rw (append_assoc (told v) (elements_told more) rest)
+      (skip_value v (elements_told more ++ rest) k m f o a z (omega arith) (skip_elements more rest k m f o a z (omega arith) h))
+
+  skip_members : (ms : Members) (rest : List Told) (k : ℕ) (m : Mode) (f : Frame) (o : List Frame) (a z : Found) → k + members_depth ms ≤ most_levels
+      → Leads rest (st (suc k) m f o a) z → Leads (members_told ms ++ rest) (st (suc k) m f o a) z
+  skip_members end_of_object rest k m f o a z d h = h
+  skip_members (member place name end v more) rest k m f o a z d h = (
+    omega arith,
+    rw (append_assoc (told v) (members_told more) rest)
+        (skip_value v (members_told more ++ rest) k m f o a z (omega arith) (skip_members more rest k m f o a z (omega arith) h)),
+  )
+
+-- the rest of an array or an object that is not looked into
+array_skipped : (es : Tree.Elements) (close : ℕ) (rest : List Told) (m : Mode) (f : Frame) (o : List Frame) (a z : Found) → elements_depth es ≤ most_levels
+    → Leads rest (st 0 m f o a) z → Leads ((elements_told es ++ plain (close + 1) close What.CloseArray ∷ []) ++ rest) (st 1 m f o a) z
+array_skipped es close rest m f o a z d h =
+    rw (append_assoc (elements_told es) (plain (close + 1) close What.CloseArray ∷ []) rest)
+    (skip_elements es (plain (close + 1) close What.CloseArray ∷ rest) 0 m f o a z (omega arith) (omega arith, h))
+
+object_skipped : (ms : Members) (close : ℕ) (rest : List Told) (m : Mode) (f : Frame) (o : List Frame) (a z : Found) → members_depth ms ≤ most_levels
+    → Leads rest (st 0 m f o a) z → Leads ((members_told ms ++ plain (close + 1) close What.CloseObject ∷ []) ++ rest) (st 1 m f o a) z
+object_skipped ms close rest m f o a z d h =
+    rw (append_assoc (members_told ms) (plain (close + 1) close What.CloseObject ∷ []) rest)
+    (skip_members ms (plain (close + 1) close What.CloseObject ∷ rest) 0 m f o a z (omega arith) (omega arith, h))
+
+-- ---- what a summary takes
+
+abbrev pub feeding : Known → Tree → List Event → List Event → Frame → List Frame → Found → State
+feeding name v taken left f o a = record { core = record { skipped = 0; mode = Due name; top = f; outer = o; answer = a }; feed = record { value = v; taken = taken; left = left } }
+
+-- a name whose value a summary takes
+abbrev pub IsFed : Known → Type 0
+IsFed Coordinates = Unit {0}
+IsFed Bbox = Unit {0}
+IsFed _ = ⊥
+
+fits : (v : Tree) (taken : List Event) (x : Told) (xs rest : List Told) → depth v ≤ most_levels → taken ++ map event_of (x ∷ xs) ≡ value_events v
+    → Fits (record { value = v; taken = taken; left = map event_of (x ∷ xs) }) ((x ∷ xs) ++ rest)
+fits v taken x xs rest d e = record { deep = d; next = event_of x; later = map event_of xs; more = map event_of rest; left = refl; split = e; comes = map-append event_of (x ∷ xs) rest }
+
+pub one_more : (v : Tree) (taken : List Event) (x : Told) (xs : List Told) → taken ++ map event_of (x ∷ xs) ≡ value_events v → (taken ++ event_of x ∷ []) ++ map event_of xs ≡ value_events v
+one_more v taken x xs e = append_assoc taken (event_of x ∷ []) (map event_of xs) ∙ e
+
+feed_all : (name : Known) → IsFed name → (v : Tree) (taken : List Event) (x : Told) (xs rest : List Told) (f : Frame) (o : List Frame) (a z : Found) → depth v ≤ most_levels → taken ++ map event_of (x ∷ xs) ≡ value_events v
+    → Leads rest (st 0 Names (filled name v f) o a) z → Leads ((x ∷ xs) ++ rest) (feeding name v taken (map event_of (x ∷ xs)) f o a) z
+feed_all Coordinates i v taken x [] rest f o a z d e h = (fits v taken x [] rest d e, h)
+feed_all Coordinates i v taken x (y ∷ ys) rest f o a z d e h =
+    (fits v taken x (y ∷ ys) rest d e, feed_all Coordinates i v (taken ++ event_of x ∷ []) y ys rest f o a z d (one_more v taken x (y ∷ ys) e) h)
+feed_all Bbox i v taken x [] rest f o a z d e h = (fits v taken x [] rest d e, h)
+feed_all Bbox i v taken x (y ∷ ys) rest f o a z d e h =
+    (fits v taken x (y ∷ ys) rest d e, feed_all Bbox i v (taken ++ event_of x ∷ []) y ys rest f o a z d (one_more v taken x (y ∷ ys) e) h)
+feed_all _ i v taken x xs rest f o a z d e h = absurd i
+
+-- a value has an event
+pub some_told : (v : Tree) → (x : Told) × (xs : List Told) × (told v ≡ x ∷ xs)
+some_told (constant which place) = (_, _, refl)
+some_told (number place literal end) = (_, _, refl)
+some_told (string place content end) = (_, _, refl)
+some_told (array place es close) = (_, _, refl)
+some_told (object place ms close) = (_, _, refl)
+
+feed_told : (name : Known) → IsFed name → (v : Tree) (x : Told) (xs rest : List Told) (f : Frame) (o : List Frame) (a z : Found) → depth v ≤ most_levels → told v ≡ x ∷ xs
+    → Leads rest (st 0 Names (filled name v f) o a) z → Leads (told v ++ rest) (feeding name v [] (value_events v) f o a) z
+feed_told name i v x xs rest f o a z d e h =
+    subst (λ (es : List Event). Leads (told v ++ rest) (feeding name v [] es f o a) z) (told-events v)
+    (subst (λ (ts : List Told). Leads (ts ++ rest) (feeding name v [] (map event_of ts) f o a) z) (sym e)
+    (feed_all name i v [] x xs rest f o a z d (ap (λ (ts : List Told). map event_of ts) (sym e) ∙ told-events v) h))
+
+feed_value : (name : Known) → IsFed name → (v : Tree) (rest : List Told) (f : Frame) (o : List Frame) (a z : Found) → depth v ≤ most_levels
+    → Leads rest (st 0 Names (filled name v f) o a) z → Leads (told v ++ rest) (feeding name v [] (value_events v) f o a) z
+feed_value name i v rest f o a z d h = let s = some_told v in feed_told name i v s.0 s.1 rest f o a z d s.2 h
+
+-- ---- what has a role
+
+-- how much of two levels an object with the role may lack for its frame
+abbrev pub credit : Role → ℕ
+credit Role.Root = 1
+credit Role.Feature = 1
+credit Role.Geometry = 2
+credit Role.Part = 2
+
+credit_small : (r : Role) → credit r ≤ 2
+credit_small Role.Root = omega arith
+credit_small Role.Feature = omega arith
+credit_small Role.Geometry = omega arith
+credit_small Role.Part = omega arith
+
+-- the object with the innermost frame is at level n
+abbrev pub IsWithin : ℕ → List Frame → Role → Type 0
+IsWithin n o r = 2 * (length o + 1) ≤ n + credit r
+
+abbrev pub MayHold : Role → Known → Type 0
+MayHold r Geometry = credit r ≤ 1
+MayHold r Features = credit r ≤ 1
+MayHold r _ = Unit {0}
+
+uses_hold : (r : Role) (name : Known) → uses r name ≡ true → MayHold r name
+uses_hold Role.Root Geometry e = omega arith
+uses_hold Role.Root Features e = omega arith
+uses_hold Role.Feature Geometry e = omega arith
+uses_hold Role.Feature Features e = cc
+uses_hold Role.Geometry Geometry e = cc
+uses_hold Role.Geometry Features e = cc
+uses_hold Role.Part Geometry e = cc
+uses_hold Role.Part Features e = cc
+uses_hold _ _ e = tt
+
+due_holds : (name : Known) (r : Role) (k u : Bool) (o : Option Slot) → uses r name ≡ u → MayHold r (if k then due_known name o r else Other)
+due_holds name r true u (Some slot) e = tt
+due_holds name r true true None e = rw e (uses_hold r name e)
+due_holds name r true false None e = rw e tt
+due_holds name r false u o e = tt
+
+-- the roles of elements
+abbrev pub IsListed : Role → Type 0
+IsListed Role.Part = Unit {0}
+IsListed Role.Feature = Unit {0}
+IsListed _ = ⊥
+
+pub known_list : (r : Role) → IsListed r → is_known (member_of r) ≡ true
+known_list Role.Part h = refl
+known_list Role.Feature h = refl
+known_list _ h = absurd h
+
+pub mode_listed : (r : Role) → IsListed r → mode_behind r ≡ Elements r
+mode_listed Role.Part h = refl
+mode_listed Role.Feature h = refl
+mode_listed _ h = absurd h
+
+-- the members change no role
+pub frame_role : (ms : Members) (f : Frame) → (members_taken ms f).shown.role ≡ f.shown.role
+frame_role ms f = ap (λ (s : Shown). s.role) (members_shown ms f) ∙ (members_object ms f.shown).role
+
+-- the end of an object that has a role, below another
+abbrev pub behind : ℕ → Role → Found → Frame → List Frame → Found → State
+behind close r found f o a =
+    record { core = record { skipped = 0; mode = mode_behind r; top = taken_in (member_of r) found f; outer = o; answer = a }; feed = feed_behind (plain (close + 1) close What.CloseObject) (mode_behind r) }
+
+pub behind_idle : (close : ℕ) (r : Role) (found : Found) (f : Frame) (o : List Frame) (a : Found) → behind close r found f o a ≡ st 0 (mode_behind r) (taken_in (member_of r) found f) o a
+behind_idle close Role.Root found f o a = refl
+behind_idle close Role.Geometry found f o a = refl
+behind_idle close Role.Part found f o a = refl
+behind_idle close Role.Feature found f o a = refl
+
+close_below : (r : Role) (place close : ℕ) (ms : Members) (rest : List Told) (f : Frame) (o : List Frame) (a z : Found)
+    → Leads rest (st 0 (mode_behind r) (taken_any (member_of r) (least (faults r (object place ms close))) (kept r (object place ms close)) f) o a) z
+    → Leads (plain (close + 1) close What.CloseObject ∷ rest) (st 0 Names (members_taken ms (blank r place)) (f ∷ o) a) z
+close_below r place close ms rest f o a z h =
+    let inner : Frame = members_taken ms (blank r place) in
+    let e : inner.shown.role ≡ r = frame_role ms (blank r place) in (
+      tt,
+      subst (λ (q : Role). Leads rest (behind close q (settled inner) f o a) z) (sym e)
+          (subst (λ (s : State). Leads rest s z) (sym (behind_idle close r (settled inner) f o a))
+          (subst (λ (x : Found). Leads rest (st 0 (mode_behind r) (taken_in (member_of r) x f) o a) z) (sym (all_closed r place close ms)) h)),
+    )
+
+-- the value behind a name is due
+abbrev pub due_st : Known → Tree → Frame → List Frame → Found → State
+due_st name v f o a = record { core = record { skipped = 0; mode = Due name; top = f; outer = o; answer = a }; feed = due_feed name v }
+
+mutual
+  -- the value of a first member, in an object at level n
+  lead_due : (v : Tree) (name : Known) (rest : List Told) (f : Frame) (o : List Frame) (a z : Found) (n : ℕ) (r : Role)
+      → n + depth v ≤ most_levels → IsWithin n o r → f.shown.role ≡ r → MayHold r name → Leads rest (st 0 Names (filled name v f) o a) z → Leads (told v ++ rest) (due_st name v f o a) z
+  lead_due v Coordinates rest f o a z n r d w e m h = feed_value Coordinates tt v rest f o a z (omega arith) h
+  lead_due v Bbox rest f o a z n r d w e m h = feed_value Bbox tt v rest f o a z (omega arith) h
+  lead_due (constant Null place) name rest f o a z n r d w e m h = (tt, h)
+  lead_due (constant True place) name rest f o a z n r d w e m h = (tt, h)
+  lead_due (constant False place) name rest f o a z n r d w e m h = (tt, h)
+  lead_due (number place literal end) name rest f o a z n r d w e m h = (tt, h)
+  lead_due (string place content end) name rest f o a z n r d w e m h = (tt, h)
+  lead_due (array place es close) Geometries rest f o a z n r d w e m h = (
+    tt,
+    rw (append_assoc (elements_told es) (plain (close + 1) close What.CloseArray ∷ []) rest)
+        (lead_elements es Role.Part tt (plain (close + 1) close What.CloseArray ∷ rest) f o a z (n + 1) (omega arith) (omega (arith, credit_small r)) (tt, h)),
+  )
+  lead_due (array place es close) Features rest f o a z n r d w e m h = (
+    tt,
+    rw (append_assoc (elements_told es) (plain (close + 1) close What.CloseArray ∷ []) rest)
+        (lead_elements es Role.Feature tt (plain (close + 1) close What.CloseArray ∷ rest) f o a z (n + 1) (omega arith) (omega (arith, m)) (tt, h)),
+  )
+  lead_due (array place es close) name rest f o a z n r d w e m h = (tt, array_skipped es close rest Names (filled name (array place es close) f) o a z (omega arith) h)
+  lead_due (object place ms close) Geometry rest f o a z n r d w e m h = (
+    omega (arith, credit_small r),
+    rw (append_assoc (members_told ms) (plain (close + 1) close What.CloseObject ∷ []) rest)
+        (lead_members ms (plain (close + 1) close What.CloseObject ∷ rest) (blank Role.Geometry place) (f ∷ o) a z (n + 1) Role.Geometry (omega arith) (omega (arith, m)) refl
+        (close_below Role.Geometry place close ms rest f o a z h)),
+  )
+  lead_due (object place ms close) name rest f o a z n r d w e m h = (omega (arith, credit_small r), object_skipped ms close rest Names (filled name (object place ms close) f) o a z (omega arith) h)
+
+  -- an element of an array of values with a role, where the array is at level n
+  lead_element : (v : Tree) (r : Role) → IsListed r → (rest : List Told) (f : Frame) (o : List Frame) (a z : Found) (n : ℕ)
+      → n + depth v ≤ most_levels → 2 * (length o + 2) ≤ n + 1 + credit r → Leads rest (st 0 (Elements r) (taken_any (member_of r) (least (faults r v)) (kept r v) f) o a) z → Leads (told v ++ rest) (st 0 (Elements r) f o a) z
+  lead_element (constant Null place) Role.Part i rest f o a z n d w h = (tt, h)
+  lead_element (constant Null place) Role.Feature i rest f o a z n d w h = (tt, h)
+  lead_element (constant Null place) _ i rest f o a z n d w h = absurd i
+  lead_element (constant True place) r i rest f o a z n d w h = (tt, h)
+  lead_element (constant False place) r i rest f o a z n d w h = (tt, h)
+  lead_element (number place literal end) r i rest f o a z n d w h = (tt, h)
+  lead_element (string place content end) r i rest f o a z n d w h = (tt, h)
+  lead_element (array place es close) r i rest f o a z n d w h = (tt, array_skipped es close rest (Elements r) (joined (member_of r) (Some (fault_at place G1)) f) o a z (omega arith) h)
+  lead_element (object place ms close) r i rest f o a z n d w h = (
+    omega (arith, credit_small r),
+    rw (append_assoc (members_told ms) (plain (close + 1) close What.CloseObject ∷ []) rest)
+        (lead_members ms (plain (close + 1) close What.CloseObject ∷ rest) (blank r place) (f ∷ o) a z (n + 1) r (omega arith) (omega arith) refl
+        (close_below r place close ms rest f o a z
+        (subst (λ (m : Mode). Leads rest (st 0 m (taken_any (member_of r) (least (faults r (object place ms close))) (kept r (object place ms close)) f) o a) z) (sym (mode_listed r i)) h))),
+  )
+
+  lead_elements : (es : Tree.Elements) (r : Role) → IsListed r → (rest : List Told) (f : Frame) (o : List Frame) (a z : Found) (n : ℕ)
+      → n + elements_depth es ≤ most_levels → 2 * (length o + 2) ≤ n + 1 + credit r
+      → Leads rest (st 0 (Elements r) (taken_any (member_of r) (least (all_faults r es)) (all_kept r es) f) o a) z → Leads (elements_told es ++ rest) (st 0 (Elements r) f o a) z
+  lead_elements end_of_array r i rest f o a z n d w h = subst (λ (g : Frame). Leads rest (st 0 (Elements r) g o a) z) (taken_none (member_of r) f) h
+  lead_elements (element v more) r i rest f o a z n d w h =
+      rw (append_assoc (told v) (elements_told more) rest)
+      (lead_element v r i (elements_told more ++ rest) f o a z n (omega arith) w
+      (lead_elements more r i rest (taken_any (member_of r) (least (faults r v)) (kept r v) f) o a z n (omega arith) w
+      (subst (λ (g : Frame). Leads rest (st 0 (Elements r) g o a) z)
+      (ap (λ (x : Option Fault). taken_any (member_of r) x (all_kept r (element v more)) f) (least-append (faults r v) (all_faults r more))
+      ∙ sym (taken_twice (member_of r) f (least (faults r v)) (least (all_faults r more)) (kept r v) (all_kept r more) (known_list r i))) h)))
+
+  -- the members of an object at level n
+  lead_members : (ms : Members) (rest : List Told) (f : Frame) (o : List Frame) (a z : Found) (n : ℕ) (r : Role)
+      → n + members_depth ms ≤ most_levels → IsWithin n o r → f.shown.role ≡ r → Leads rest (st 0 Names (members_taken ms f) o a) z → Leads (members_told ms ++ rest) (st 0 Names f o a) z
+  lead_members end_of_object rest f o a z n r d w e h = h
+  lead_members (member place name end v more) rest f o a z n r d w e h = (
+    tt,
+    rw (append_assoc (told v) (members_told more) rest)
+        (lead_due v (due_after (known_of name) f) (members_told more ++ rest) (named (known_of name) place f) o a z n r (omega arith) w
+        ((named_object (known_of name) place f.shown (is_known (known_of name)) (slot_of (known_of name) f.shown)).role ∙ e)
+        (subst (λ (q : Role). MayHold r (if is_known (known_of name) then due_known (known_of name) (slot_of (known_of name) f.shown) q else Other)) (sym e)
+        (due_holds (known_of name) r (is_known (known_of name)) (uses r (known_of name)) (slot_of (known_of name) f.shown) refl))
+        (lead_members more rest (member_taken place (known_of name) v f) o a z n r (omega arith) w ((member_object (known_of name) place v f.shown).role ∙ e) h)),
+  )
+
+-- ---- the text
+
+-- what is found in a text, given what was found before its value
+abbrev pub found_behind : Warnings → Tree → Found
+found_behind had v = record { fault = least (faults Role.Root v); warned = and_kept had (kept Role.Root v) }
+
+abbrev pub had_found : Warnings → Found
+had_found had = record { fault = None; warned = had }
+
+-- before the value of the text
+abbrev pub due_root : Warnings → State
+due_root had = st 0 RootDue (blank Role.Root 0) [] (had_found had)
+
+lead_root : (v : Tree) (had : Warnings) → depth v ≤ most_levels → Leads (told v) (due_root had) (found_behind had v)
+lead_root (constant Null place) had d = (tt, refl)
+lead_root (constant True place) had d = (tt, refl)
+lead_root (constant False place) had d = (tt, refl)
+lead_root (number place literal end) had d = (tt, refl)
+lead_root (string place content end) had d = (tt, refl)
+lead_root (array place es close) had d =
+    let found : Found = found_behind had (array place es close) in
+    (tt, skip_elements es (plain (close + 1) close What.CloseArray ∷ []) 0 Done (blank Role.Root 0) [] found found (omega arith) (omega arith, refl))
+lead_root (object place ms close) had d = (
+  omega arith,
+  lead_members ms (plain (close + 1) close What.CloseObject ∷ []) (blank Role.Root place) [] (had_found had) (found_behind had (object place ms close)) 1 Role.Root (omega arith) (omega arith) refl
+      (tt, ap (λ (x : Found). record { fault = x.fault; warned = Noted.joined had x.warned }) (all_closed Role.Root place close ms)),
+)
+
+lead_marked : (marked : Bool) (v : Tree) → depth v ≤ most_levels → Leads (mark_told marked ++ told v) start (found_behind (marked_kept marked) v)
+lead_marked true v d = (tt, lead_root v (marked_kept true) d)
+lead_marked false v d = lead_root v (marked_kept false) d
+
+-- what is found in a text
+abbrev pub text_found : Text → Found
+text_found text = record { fault = least (text_faults text); warned = text_kept text }
+
+pub lead_text : (text : Text) → depth text.value ≤ most_levels → Leads (text_told text) start (text_found text)
+lead_text text d = lead_marked text.marked text.value d
+
+pub leads_at : (done rest : List Told) (s : State) (z : Found) → Leads (done ++ rest) s z → Leads rest (run done s) z
+leads_at [] rest s z h = h
+leads_at (x ∷ xs) rest s z h = leads_at xs rest (step x s) z h.1

@@ -1,0 +1,14 @@
+-- What the proofs and the private functions of this crate need.
+pub mod FrameMeaning
+pub mod Summaries
+pub mod FrameReading
+pub mod TextKept
+pub mod ShownMembers
+pub mod GatheredWarnings
+pub mod FrameCalls
+pub mod LabelledEvents
+pub mod EventSteps
+pub mod LostObjects
+pub mod RulesState
+pub mod OpenRecord
+pub mod OpenSequence

@@ -1,0 +1,44 @@
+-- What a frame means: what of it counts.
+use Rattle.std.specs.Prelude.{ℕ, Option}
+use Rattle.gj_coords.specs.declared.fault.Fault.{Fault}
+use Rattle.gj_coords.specs.declared.warnings.Warnings.{Warnings}
+use Rattle.gj_rules.specs.declared.role.Role.{Role}
+use Rattle.gj_rules.specs.declared.shown.Slot.{Slot}
+use Rattle.gj_rules.specs.declared.shown.TypeValue.{TypeValue}
+
+pub record Found : Type 0 where
+  pub fault : Option Fault
+  pub warned : Warnings
+
+pub record Shapes : Type 0 where
+  pub point : Found
+  pub multi_point : Found
+  pub line_string : Option Fault
+  pub multi_line_string : Found
+  pub polygon : Found
+  pub multi_polygon : Found
+
+pub record Shown : Type 0 where
+  pub place : ℕ
+  pub role : Role
+  pub repeated : Option Fault
+  pub type_value : Option TypeValue
+  pub shapes : Shapes
+  pub type_name : Option Slot
+  pub coordinates : Option Slot
+  pub geometries : Option Slot
+  pub geometry : Option Slot
+  pub properties : Option Slot
+  pub features : Option Slot
+  pub bbox : Option Slot
+  pub id : Option Slot
+
+pub record Gathered : Type 0 where
+  pub own : Warnings
+  pub geometries : Warnings
+  pub geometry : Warnings
+  pub features : Warnings
+
+pub record Frame : Type 0 where
+  pub shown : Shown
+  pub gathered : Gathered

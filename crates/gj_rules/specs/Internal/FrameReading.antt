@@ -1,0 +1,95 @@
+-- As what a frame is read. What was kept of an object that has closed is left in it, and does not show here: a
+-- member counts where it is present, what a coordinates value shows where it was set, warnings where there are some.
+use Rattle.std.specs.Prelude.{ℕ, Bool, true, false, Option, Some, None}
+use Rattle.gj_coords.specs.declared.fault.Fault.{Fault}
+use Rattle.gj_coords.specs.declared.fault.Rule.TheVariants.{G10}
+use Rattle.gj_coords.specs.Fault.{fault_at}
+use Rattle.gj_coords.specs.declared.simple.Simple.{Simple}
+use Rattle.gj_coords.specs.declared.simple_faults.SimpleFaults.{SimpleFaults}
+use Rattle.gj_coords.specs.declared.warned.Warned.{Warned}
+use Rattle.gj_coords.specs.declared.warnings.Warnings.{Warnings}
+use Rattle.gj_coords.specs.Internal.KeptWarnings.{no_warnings}
+use Rattle.gj_coords.specs.Internal.GatheredWarnings.{all_in}
+use Rattle.gj_rules.specs.declared.found.Found as D
+use Rattle.gj_rules.specs.declared.frame.Frame as DF
+use Rattle.gj_rules.specs.declared.gathered.Gathered as DG
+use Rattle.gj_rules.specs.declared.lazy_warned.LazyWarned.{LazyWarned}
+use Rattle.gj_rules.specs.declared.shapes.Shapes as DS
+use Rattle.gj_rules.specs.declared.shown.Shown as DW
+use Rattle.gj_rules.specs.declared.shown.Present.{Present}
+use Rattle.gj_rules.specs.declared.shown.Slot.{Slot}
+use Rattle.gj_rules.specs.Internal.FrameMeaning.{Found, Shapes, Shown, Gathered, Frame}
+use Rattle.gj_rules.specs.Internal.Summaries.{no_shapes}
+
+abbrev pub found_in : D.Found → Found
+found_in x = record { fault = x.fault; warned = all_in x.warned }
+
+-- by the faults and the warnings for each type
+abbrev pub shapes_by : SimpleFaults → (Simple → Warnings) → Shapes
+shapes_by faults warned = record {
+  point = record { fault = faults.point; warned = warned Simple.Point };
+  multi_point = record { fault = faults.multi_point; warned = warned Simple.MultiPoint };
+  line_string = faults.line_string;
+  multi_line_string = record { fault = faults.multi_line_string; warned = warned Simple.MultiLineString };
+  polygon = record { fault = faults.polygon; warned = warned Simple.Polygon };
+  multi_polygon = record { fault = faults.multi_polygon; warned = warned Simple.MultiPolygon };
+}
+
+abbrev pub warned_in : DS.Shapes → Simple → Warnings
+warned_in x Simple.Point = all_in x.point
+warned_in x Simple.MultiPoint = all_in x.multi_point
+warned_in x Simple.LineString = all_in x.multi_point
+warned_in x Simple.MultiLineString = all_in x.multi_line_string
+warned_in x Simple.Polygon = all_in x.polygon
+warned_in x Simple.MultiPolygon = all_in x.multi_polygon
+
+abbrev pub shapes_in : DS.Shapes → Shapes
+shapes_in x = shapes_by x.faults (warned_in x)
+
+-- those that were set
+abbrev pub shapes_if : Bool → DS.Shapes → Shapes
+shapes_if true shapes = shapes_in shapes
+shapes_if false shapes = no_shapes
+
+abbrev pub none_present : Present
+none_present = record { type_name = false; coordinates = false; geometries = false; geometry = false; properties = false; features = false; bbox = false; id = false }
+
+abbrev pub slot_in : Bool → Slot → Option Slot
+slot_in true slot = Some slot
+slot_in false slot = None
+
+-- the fault of the least repeated name
+abbrev pub repeated_in : Option ℕ → Option Fault
+repeated_in None = None
+repeated_in (Some place) = Some (fault_at place G10)
+
+abbrev pub shown_in : DW.Shown → Shown
+shown_in x = record {
+  place = x.place;
+  role = x.role;
+  repeated = repeated_in x.repeated;
+  type_value = x.type_value;
+  shapes = shapes_if x.shaped x.shapes;
+  type_name = slot_in x.present.type_name x.type_name;
+  coordinates = slot_in x.present.coordinates x.coordinates;
+  geometries = slot_in x.present.geometries x.geometries;
+  geometry = slot_in x.present.geometry x.geometry;
+  properties = slot_in x.present.properties x.properties;
+  features = slot_in x.present.features x.features;
+  bbox = slot_in x.present.bbox x.bbox;
+  id = slot_in x.present.id x.id;
+}
+
+abbrev pub warnings_if : Bool → Warned → Warnings
+warnings_if true warned = all_in warned
+warnings_if false warned = no_warnings
+
+-- those that count
+abbrev pub counted_in : LazyWarned → Warnings
+counted_in x = warnings_if x.counts x.warned
+
+abbrev pub gathered_in : DG.Gathered → Gathered
+gathered_in x = record { own = counted_in x.own; geometries = counted_in x.geometries; geometry = counted_in x.geometry; features = counted_in x.features }
+
+abbrev pub frame_in : DF.Frame → Frame
+frame_in x = record { shown = shown_in x.shown; gathered = gathered_in x.gathered }

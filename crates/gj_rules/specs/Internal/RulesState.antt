@@ -1,0 +1,110 @@
+-- What the rules keep, and what their calls do to it.
+use Rattle.std.specs.Prelude.{ℕ, zero, ◌≡◌, ◌+◌, ◌<◌, List, [], ◌∷◌, length, reverse, take, slice_index_or, map, false, None, ◌≤◌, ◌++◌}
+use Rattle.gj_json.specs.declared.event.Event.{Event}
+use Rattle.gj_json.specs.declared.names.Known.TheVariants as Known
+use Rattle.gj_json.specs.declared.event.What.{What}
+use Rattle.gj_json.specs.Tree.{Tree, depth}
+use Rattle.gj_json.specs.Events.{value_events}
+use Rattle.gj_coords.specs.declared.coordinates.Coordinates.{Coordinates}
+use Rattle.gj_coords.specs.declared.bbox.Bbox.{Bbox}
+use Rattle.gj_coords.specs.Internal.GatheredWarnings.{no_warned}
+use Rattle.gj_rules.specs.declared.frame.Frame as D
+use Rattle.gj_rules.specs.Internal.FrameMeaning.{Frame}
+use Rattle.gj_rules.specs.Internal.FrameReading.{frame_in, found_in, none_present}
+use Rattle.gj_rules.specs.declared.mode.Mode.{Mode}
+use Rattle.gj_rules.specs.declared.mode.Mode.TheVariants.{RootDue, Due, Done}
+use Rattle.gj_rules.specs.declared.role.Role.{Role}
+use Rattle.gj_rules.specs.declared.rules.Rules.{Rules}
+use Rattle.gj_rules.specs.declared.rules.TheConstants.{MOST_AROUND}
+use Rattle.gj_coords.specs.SimpleFaults.{by_simple}
+use Rattle.gj_rules.specs.Levels.{most_levels}
+use Rattle.gj_rules.specs.Internal.EventSteps.{Core, State, ended}
+use Rattle.gj_rules.specs.Internal.Summaries.{StandsForCoordinates, StandsForBbox}
+
+-- at an index where no frame lies: there is always one at that of the innermost object
+unfoldable pub no_frame : D.Frame
+no_frame = record {
+  shown = record {
+    place = 0;
+    role = Role.Root;
+    repeated = None;
+    type_value = None;
+    shapes = record {
+      faults = by_simple (λ simple. None);
+      point = no_warned;
+      multi_point = no_warned;
+      multi_line_string = no_warned;
+      polygon = no_warned;
+      multi_polygon = no_warned;
+    };
+    shaped = false;
+    present = none_present;
+    type_name = record { name_at = 0; fault = None };
+    coordinates = record { name_at = 0; fault = None };
+    geometries = record { name_at = 0; fault = None };
+    geometry = record { name_at = 0; fault = None };
+    properties = record { name_at = 0; fault = None };
+    features = record { name_at = 0; fault = None };
+    bbox = record { name_at = 0; fault = None };
+    id = record { name_at = 0; fault = None };
+  };
+  gathered = record {
+    own = record { warned = no_warned; counts = false };
+    geometries = record { warned = no_warned; counts = false };
+    geometry = record { warned = no_warned; counts = false };
+    features = record { warned = no_warned; counts = false };
+  };
+}
+
+-- the frame of the innermost open object with a role
+abbrev pub top_of : Rules → Frame
+top_of rules = frame_in (slice_index_or rules.frames rules.around no_frame)
+
+abbrev pub core_of : Rules → Core
+core_of rules = record {
+  skipped = rules.skipped;
+  mode = rules.mode;
+  top = top_of rules;
+  outer = map frame_in (reverse (take rules.around rules.frames));
+  answer = found_in rules.answer;
+}
+
+-- the summary of the value that is under way has taken these events of it
+abbrev pub HoldsIn : ℕ → Mode → Coordinates → Bbox → List Event → Type 0
+HoldsIn zero (Due Known.Coordinates) coordinates bbox taken = StandsForCoordinates coordinates taken
+HoldsIn zero (Due Known.Bbox) coordinates bbox taken = StandsForBbox bbox taken
+HoldsIn _ _ coordinates bbox taken = Unit {0}
+
+abbrev pub Holds : Rules → List Event → Type 0
+Holds rules taken = HoldsIn rules.skipped rules.mode rules.coordinates rules.bbox taken
+
+abbrev pub Stands : Rules → State → Type 0
+Stands rules s = (core_of rules ≡ s.core) × Holds rules s.feed.taken
+
+-- ---- what the calls of the rules do
+
+-- the number of frames in use
+abbrev pub frames_by : Mode → List Frame → ℕ
+frames_by RootDue outer = 0
+frames_by Done outer = 0
+frames_by _ outer = length outer + 1
+
+-- an object that opens has room for its frame
+abbrev pub HasRoom : What → List Frame → Type 0
+HasRoom What.OpenObject outer = length outer < MOST_AROUND
+HasRoom _ outer = Unit {0}
+
+-- the summary took one event more of its value
+abbrev pub Fed : Rules → Tree → List Event → List Event → Rules → Type 0
+Fed old value taken [] new = core_of new ≡ ended value (core_of old)
+Fed old value taken (next ∷ more) new = (core_of new ≡ core_of old) × Holds new taken
+
+-- the event was one more of the value that a summary takes
+abbrev pub Feeds : Rules → Event → Rules → Type 0
+Feeds old event new =
+    (value : Tree) (taken left : List Event) → depth value ≤ most_levels → Holds old taken → (taken ++ event ∷ []) ++ left ≡ value_events value
+    → Fed old value (taken ++ event ∷ []) left new
+
+-- the events were more of the value that a summary takes
+abbrev pub FeedsMany : Rules → List Event → Rules → Type 0
+FeedsMany old events new = (value : Tree) (taken left : List Event) → depth value ≤ most_levels → Holds old taken → (taken ++ events) ++ left ≡ value_events value → Fed old value (taken ++ events) left new
