@@ -1,0 +1,13 @@
+-- What was read is a number, since it may end there, and its value is that of these bytes.
+use Rattle.std.proofs.Common.{take, [], sym}
+use Rattle.gj_json.proofs.reader.Reader.take_any_number.Goals as goal
+
+pub end_number-requires-clause-number : goal.end_number-requires-clause-number
+end_number-requires-clause-number g c =
+    (c.may_end.ensures.number (take c.push_piece-count.result c.args.piece.now) (c.push_piece-count.ensures.stands [] c.new-literal.ensures.stands)).0 c.if-not-may_end.false
+
+pub end_number-requires-clause-value : goal.end_number-requires-clause-value
+end_number-requires-clause-value g c =
+    let stands = c.push_piece-count.ensures.stands [] c.new-literal.ensures.stands in
+    let number = (c.may_end.ensures.number (take c.push_piece-count.result c.args.piece.now) stands).0 c.if-not-may_end.false in
+    sym (c.value.ensures.value (take c.push_piece-count.result c.args.piece.now) stands number)
