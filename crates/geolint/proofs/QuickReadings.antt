@@ -8,55 +8,80 @@ use Rattle.std.specs.Io.KnownBytes.{Consumes, IsAtEnd}
 use Rattle.gj_json.specs.Limits.{Allowed}
 use Rattle.gj_json.specs.Refusal.{IsRefusal}
 use Rattle.gj_json.specs.declared.fault.JsonFault.{JsonFault}
+use Rattle.gj_coords.specs.Internal.KeptWarnings.{warnings_of}
+use Rattle.gj_coords.specs.Warnings.{Warning}
+use Rattle.gj_coords.specs.WarningsStand.{StandsFor as WarningsStandFor}
 use Rattle.gj_coords.specs.declared.warnings.Warnings.{Warnings}
 use Rattle.gj_rules.specs.declared.verdict.Verdict.{Verdict}
 use Rattle.gj_rules.specs.declared.verdict.Verdict.TheVariants.{Valid, Broken, NotJson}
-use Rattle.gj_rules.specs.Verdict.{IsVerdict, NeverValid}
-use Rattle.geolint.specs.Quick.{IsQuick, JudgesQuickly, ShowNoFault, StopsAtOnce, valid_in}
+use Rattle.gj_rules.specs.TextWarnings.{text_warnings}
+use Rattle.gj_rules.specs.Verdict.{valid, IsJudgement, IsVerdict, NeverValid}
+use Rattle.geolint.specs.Quick.{JudgesQuickly, SaysValid, ShowNoFault, StopsAtOnce, valid_in}
 
 -- each input has one verdict
 abbrev pub HasOne : Type 0
 HasOne = (limits : Allowed) (bytes : List ℕ) (first second : Verdict) → IsVerdict limits bytes first → IsVerdict limits bytes second → first ≡ second
 
-other : HasOne → (limits : Allowed) (bytes : List ℕ) (verdict : Verdict) → IsVerdict limits bytes verdict → valid_in verdict ≡ None → (warnings : Warnings) → IsVerdict limits bytes (Valid warnings) → ⊥
-other one limits bytes verdict is none warnings valid =
-    let same : verdict ≡ Valid warnings = one limits bytes verdict (Valid warnings) is valid in
-    let some : valid_in verdict ≡ Some warnings = ap valid_in same in
+-- what a `Warnings` tells of the list is told by the verdict
+told_valid : (limits : Allowed) (bytes : List ℕ) (warnings : List Warning) → IsJudgement limits bytes (valid warnings) → IsVerdict limits bytes (Valid (warnings_of warnings))
+told_valid limits bytes warnings is = (is.0, is.1, is.2, ap warnings_of is.3)
+
+other : HasOne → (limits : Allowed) (bytes : List ℕ) (verdict : Verdict) → IsVerdict limits bytes verdict → valid_in verdict ≡ None → (warnings : List Warning) → IsJudgement limits bytes (valid warnings) → ⊥
+other one limits bytes verdict is none warnings is_valid =
+    let same : verdict ≡ Valid (warnings_of warnings) = one limits bytes verdict (Valid (warnings_of warnings)) is (told_valid limits bytes warnings is_valid) in
+    let some : valid_in verdict ≡ Some (warnings_of warnings) = ap valid_in same in
     cc
 
-read_to_end : HasOne → (limits : Allowed) (all read rest : List ℕ) (verdict : Verdict) → all ≡ read ++ rest → rest ≡ [] → IsVerdict limits read verdict → IsQuick limits all rest (valid_in verdict)
-read_to_end one limits all read rest verdict split ended is = go verdict (subst (λ (bytes : List ℕ). IsVerdict limits bytes verdict) (sym same) is)
-  where
-    same : all ≡ read
-    same = split ∙ ap (λ (ys : List ℕ). read ++ ys) ended ∙ append-nil read
+-- an input that is not valid, read to its end
+at_end : HasOne → (limits : Allowed) (old new : Option (List ℕ)) (read : List ℕ) (verdict : Verdict)
+    → Consumes old new read → IsAtEnd new → IsVerdict limits read verdict → valid_in verdict ≡ None → JudgesQuickly limits old new None
+at_end one limits None new read verdict took ended is none = tt
+at_end one limits (Some all) None read verdict took ended is none = took
+at_end one limits (Some all) (Some rest) read verdict took ended is none =
+    let same : all ≡ read = took ∙ ap (λ (ys : List ℕ). read ++ ys) ended ∙ append-nil read in
+    record {
+      read = read;
+      split = took;
+      lasting = λ more_is_left. absurd (more_is_left ended);
+      of_all = other one limits all verdict (subst (λ (bytes : List ℕ). IsVerdict limits bytes verdict) (sym same) is) none;
+    }
 
-    go : (v : Verdict) → IsVerdict limits all v → IsQuick limits all rest (valid_in v)
-    go (Valid warnings) v = (ended, v)
-    go (Broken fault) v = record { read = read; split = split; lasting = λ more_is_left. absurd (more_is_left ended); of_all = other one limits all (Broken fault) v refl }
-    go (NotJson fault) v = record { read = read; split = split; lasting = λ more_is_left. absurd (more_is_left ended); of_all = other one limits all (NotJson fault) v refl }
+abbrev pub QuicklySays : Allowed → Option (List ℕ) → Option (List ℕ) → Option Warnings → Type 0
+QuicklySays limits old new told = (warnings : Option (List Warning)) × SaysValid told warnings × JudgesQuickly limits old new warnings
 
 -- the reader has come to its end
 pub quick-end : HasOne → (limits : Allowed) (old new : Option (List ℕ)) (read : List ℕ) (verdict : Verdict)
-    → Consumes old new read → IsAtEnd new → IsVerdict limits read verdict → JudgesQuickly limits old new (valid_in verdict)
-quick-end one limits None new read verdict took ended is = tt
-quick-end one limits (Some all) None read verdict took ended is = took
-quick-end one limits (Some all) (Some rest) read verdict took ended is = read_to_end one limits all read rest verdict took ended is
+    → Consumes old new read → IsAtEnd new → IsVerdict limits read verdict → QuicklySays limits old new (valid_in verdict)
+quick-end one limits old new read (Valid told) took ended is = (Some (text_warnings is.0), is.3, go old new took ended)
+  where
+    go : (from to : Option (List ℕ)) → Consumes from to read → IsAtEnd to → JudgesQuickly limits from to (Some (text_warnings is.0))
+    go None to took ended = tt
+    go (Some all) None took ended = took
+    go (Some all) (Some rest) took ended =
+        let same : all ≡ read = took ∙ ap (λ (ys : List ℕ). read ++ ys) ended ∙ append-nil read in
+        (ended, subst (λ (bytes : List ℕ). IsJudgement limits bytes (valid (text_warnings is.0))) (sym same) (is.0, is.1, is.2, refl))
+quick-end one limits old new read (Broken fault) took ended is = (None, tt, at_end one limits old new read (Broken fault) took ended is refl)
+quick-end one limits old new read (NotJson fault) took ended is = (None, tt, at_end one limits old new read (NotJson fault) took ended is refl)
 
 -- no bytes make it valid
-pub quick-lasting : (limits : Allowed) (old new : Option (List ℕ)) (read : List ℕ) → Consumes old new read → NeverValid limits read → JudgesQuickly limits old new None
-quick-lasting limits None new read took never = tt
-quick-lasting limits (Some all) None read took never = took
-quick-lasting limits (Some all) (Some rest) read took never = record {
+never_quick : (limits : Allowed) (old new : Option (List ℕ)) (read : List ℕ) → Consumes old new read → NeverValid limits read → JudgesQuickly limits old new None
+never_quick limits None new read took never = tt
+never_quick limits (Some all) None read took never = took
+never_quick limits (Some all) (Some rest) read took never = record {
   read = read;
   split = took;
   lasting = λ more_is_left. never;
-  of_all = λ warnings valid. never rest warnings (subst (λ (bytes : List ℕ). IsVerdict limits bytes (Valid warnings)) took valid);
+  of_all = λ warnings is. never rest (warnings_of warnings) (told_valid limits (read ++ rest) warnings (subst (λ (bytes : List ℕ). IsJudgement limits bytes (valid warnings)) took is));
 }
+
+pub quick-lasting : (limits : Allowed) (old new : Option (List ℕ)) (read : List ℕ) → Consumes old new read → NeverValid limits read → QuicklySays limits old new None
+quick-lasting limits old new read took never = (None, tt, never_quick limits old new read took never)
 
 -- what is refused
 pub refused_never : HasOne → (here limits : Allowed) (bytes : List ℕ) (fault : JsonFault) → here ≡ limits → ((more : List ℕ) → IsRefusal here (bytes ++ more) fault) → NeverValid limits bytes
-refused_never one here limits bytes fault same refused more warnings valid =
-    other one limits (bytes ++ more) (NotJson fault) (subst (λ (l : Allowed). IsRefusal l (bytes ++ more) fault) same (refused more)) refl warnings valid
+refused_never one here limits bytes fault same refused more warnings is_valid =
+    let e : NotJson fault ≡ Valid warnings = one limits (bytes ++ more) (NotJson fault) (Valid warnings) (subst (λ (l : Allowed). IsRefusal l (bytes ++ more) fault) same (refused more)) is_valid in
+    cc
 
 -- a count of reads, one read later
 pub one_read : (begin here there offset : ℕ) (read : List ℕ) → length read ≡ offset → there ≡ u64_saturate (here + 1) → here ≤ begin + offset → there ≤ begin + (length read + 1)
@@ -83,3 +108,12 @@ stops limits (Some all) (Some rest) before last reads now_read took clean few sh
   few = few;
   short = short;
 }
+
+-- what is right for each list that the warnings of a valid text stand for
+pub for_some : (P : Option (List Warning) → Type 0) (answer : Option Warnings) (told : Warnings) → answer ≡ Some told
+    → ((warnings : List Warning) → WarningsStandFor told warnings → P (Some warnings)) → (warnings : Option (List Warning)) → SaysValid answer warnings → P warnings
+for_some P answer told same right warnings says = go warnings (subst (λ (v : Option Warnings). SaysValid v warnings) same says)
+  where
+    go : (o : Option (List Warning)) → SaysValid (Some told) o → P o
+    go (Some all) h = right all h
+    go None h = elim h [ ]

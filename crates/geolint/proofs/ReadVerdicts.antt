@@ -9,14 +9,13 @@ use Rattle.std.proofs.KnownBytes.{Consumes-trans}
 use Rattle.gj_json.specs.Limits.{Allowed}
 use Rattle.gj_json.specs.Refusal.{IsRefusal}
 use Rattle.gj_json.specs.declared.fault.JsonFault.{JsonFault}
-use Rattle.gj_rules.specs.declared.verdict.Verdict.TheVariants.{NotJson}
-use Rattle.gj_rules.specs.Verdict.{IsVerdict}
+use Rattle.gj_rules.specs.Verdict.{refused, IsJudgement}
 use Rattle.geolint.specs.Judged.{JudgesBy}
 
 -- the reader has come to its end
 pub Judges-end : {V : Type 0} (Is : Allowed → List ℕ → V → Type 0) (limits : Allowed) (old new : Option (List ℕ)) (read : List ℕ) (verdict : V)
     → Consumes old new read → IsAtEnd new → Is limits read verdict → JudgesBy Is limits old new verdict
-Judges-end Is limits None new read verdict took ended is = tt
+Judges-end Is limits None new read verdict took ended is = (read, is)
 Judges-end Is limits (Some all) None read verdict took ended is = took
 Judges-end Is limits (Some all) (Some rest) read verdict took ended is =
     let nothing_more : all ≡ read = took ∙ ap (λ (ys : List ℕ). read ++ ys) ended ∙ append-nil read in
@@ -31,7 +30,7 @@ Judges-end Is limits (Some all) (Some rest) read verdict took ended is =
 -- the verdict lasts, whatever follows
 pub Judges-lasting : {V : Type 0} (Is : Allowed → List ℕ → V → Type 0) (limits : Allowed) (old new : Option (List ℕ)) (read : List ℕ) (verdict : V)
     → Consumes old new read → ((more : List ℕ) → Is limits (read ++ more) verdict) → JudgesBy Is limits old new verdict
-Judges-lasting Is limits None new read verdict took lasts = tt
+Judges-lasting Is limits None new read verdict took lasts = (read, subst (λ (bytes : List ℕ). Is limits bytes verdict) (append-nil read) (lasts []))
 Judges-lasting Is limits (Some all) None read verdict took lasts = took
 Judges-lasting Is limits (Some all) (Some rest) read verdict took lasts =
     let here : Is limits read verdict = subst (λ (bytes : List ℕ). Is limits bytes verdict) (append-nil read) (lasts []) in
@@ -49,9 +48,9 @@ Consumes-none a b c read piece n none first second =
     let same = subst (λ (k : ℕ). Consumes b c (take k piece)) none second in
     subst (Consumes a c) (append-nil read) (Consumes-trans a b c read [] first same)
 
-pub IsVerdict-of_refusal : (here limits : Allowed) (bytes : List ℕ) (fault : JsonFault) → here ≡ limits
-    → ((more : List ℕ) → IsRefusal here (bytes ++ more) fault) → (more : List ℕ) → IsVerdict limits (bytes ++ more) (NotJson fault)
-IsVerdict-of_refusal here limits bytes fault same refused more = subst (λ (l : Allowed). IsRefusal l (bytes ++ more) fault) same (refused more)
+pub IsJudgement-of_refusal : (here limits : Allowed) (bytes : List ℕ) (fault : JsonFault) → here ≡ limits
+    → ((more : List ℕ) → IsRefusal here (bytes ++ more) fault) → (more : List ℕ) → IsJudgement limits (bytes ++ more) (refused fault)
+IsJudgement-of_refusal here limits bytes fault same is more = subst (λ (l : Allowed). IsRefusal l (bytes ++ more) fault) same (is more)
 
 -- a count of bytes that stops at the greatest `u64`, one read later
 pub given_more : (begin here there offset count : ℕ) → there ≡ u64_saturate (here + count) → (here < 2 ^ 64 - 1 → here ≡ begin + offset)

@@ -1,8 +1,7 @@
 -- What the reading of an input gives, of which `Is` says what is right under given limits.
-use Rattle.std.specs.Prelude.{◌≡◌, ℕ, List, [], ◌++◌, Option, Some, None, ⊤}
+use Rattle.std.specs.Prelude.{◌≡◌, ℕ, List, [], ◌++◌, Option, Some, None}
 use Rattle.gj_json.specs.Limits.{Allowed}
-use Rattle.gj_rules.specs.declared.verdict.Verdict.{Verdict}
-use Rattle.gj_rules.specs.Verdict.{IsVerdict}
+use Rattle.gj_rules.specs.Verdict.{Judgement, IsJudgement}
 
 -- a reader had all these bytes, and when it was left it had the rest
 pub record IsJudged {V : Type 0} (Is : Allowed → List ℕ → V → Type 0) (limits : Allowed) (all rest : List ℕ) (verdict : V) : Type 0 where
@@ -13,12 +12,12 @@ pub record IsJudged {V : Type 0} (Is : Allowed → List ℕ → V → Type 0) (l
   pub lasting : (rest ≡ [] → ⊥) → (more : List ℕ) → Is limits (read ++ more) verdict
   pub of_all : Is limits all verdict
 
--- the same, where the reader tells its bytes
+-- the same, where the reader tells its bytes; otherwise it is right of some bytes
 abbrev pub JudgesBy : {V : Type 0} → (Allowed → List ℕ → V → Type 0) → Allowed → Option (List ℕ) → Option (List ℕ) → V → Type 0
-JudgesBy Is limits None new verdict = ⊤
+JudgesBy Is limits None new verdict = (bytes : List ℕ) × Is limits bytes verdict
 JudgesBy Is limits (Some all) None verdict = ⊥
 JudgesBy Is limits (Some all) (Some rest) verdict = IsJudged Is limits all rest verdict
 
 -- a text
-abbrev pub JudgesRead : Allowed → Option (List ℕ) → Option (List ℕ) → Verdict → Type 0
-JudgesRead = JudgesBy IsVerdict
+abbrev pub JudgesRead : Allowed → Option (List ℕ) → Option (List ℕ) → Judgement → Type 0
+JudgesRead = JudgesBy IsJudgement

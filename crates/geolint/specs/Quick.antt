@@ -3,10 +3,12 @@ use Rattle.std.specs.Prelude.{◌≡◌, ◌⊎◌, ℕ, ◌+◌, ◌≤◌, Boo
 use Rattle.std.specs.Io.KnownBytes.{Appends, Consumes, Keeps}
 use Rattle.gj_json.specs.Limits.{Allowed}
 use Rattle.gj_json.specs.Text.{IsViableWithin}
+use Rattle.gj_coords.specs.Warnings.{Warning}
+use Rattle.gj_coords.specs.WarningsStand.{StandsFor as WarningsStandFor}
 use Rattle.gj_coords.specs.declared.warnings.Warnings.{Warnings}
 use Rattle.gj_rules.specs.declared.verdict.Verdict.{Verdict}
 use Rattle.gj_rules.specs.declared.verdict.Verdict.TheVariants.{Valid}
-use Rattle.gj_rules.specs.Verdict.{IsVerdict, NeverValid}
+use Rattle.gj_rules.specs.Verdict.{valid, IsJudgement, NeverValid}
 use Rattle.gj_rules.specs.Doomed.{BeginNoGeoJson}
 use Rattle.geolint.specs.declared.fault.RunFault.{RunFault}
 use Rattle.geolint.specs.declared.fault.RunFault.TheVariants.{Read, Write}
@@ -24,24 +26,30 @@ abbrev pub valid_in : Verdict → Option Warnings
 valid_in (Valid warnings) = Some warnings
 valid_in _ = None
 
+-- they are those of this list, or there are none on either side
+abbrev pub SaysValid : Option Warnings → Option (List Warning) → Type 0
+SaysValid (Some told) (Some warnings) = WarningsStandFor told warnings
+SaysValid None None = ⊤
+SaysValid _ _ = ⊥
+
 -- a reader had all these bytes, and when it was left it had the rest: they are no valid text
 pub record IsNotValid (limits : Allowed) (all rest : List ℕ) : Type 0 where
   pub read : List ℕ
   pub split : all ≡ read ++ rest
   -- where it was left before its end, no bytes behind those that were read make them one
   pub lasting : (rest ≡ [] → ⊥) → NeverValid limits read
-  pub of_all : (warnings : Warnings) → IsVerdict limits all (Valid warnings) → ⊥
+  pub of_all : (warnings : List Warning) → IsJudgement limits all (valid warnings) → ⊥
 
 -- a valid text was read to its end
-abbrev pub IsQuick : Allowed → List ℕ → List ℕ → Option Warnings → Type 0
-IsQuick limits all rest (Some warnings) = (rest ≡ []) × IsVerdict limits all (Valid warnings)
+abbrev pub IsQuick : Allowed → List ℕ → List ℕ → Option (List Warning) → Type 0
+IsQuick limits all rest (Some warnings) = (rest ≡ []) × IsJudgement limits all (valid warnings)
 IsQuick limits all rest None = IsNotValid limits all rest
 
 -- the same, where the reader tells its bytes
-abbrev pub JudgesQuickly : Allowed → Option (List ℕ) → Option (List ℕ) → Option Warnings → Type 0
-JudgesQuickly limits None new valid = ⊤
-JudgesQuickly limits (Some all) None valid = ⊥
-JudgesQuickly limits (Some all) (Some rest) valid = IsQuick limits all rest valid
+abbrev pub JudgesQuickly : Allowed → Option (List ℕ) → Option (List ℕ) → Option (List Warning) → Type 0
+JudgesQuickly limits None new warnings = ⊤
+JudgesQuickly limits (Some all) None warnings = ⊥
+JudgesQuickly limits (Some all) (Some rest) warnings = IsQuick limits all rest warnings
 
 -- ---- its end
 
@@ -67,12 +75,12 @@ StopsAtOnce limits (Some all) (Some rest) reads now_read = IsLeft limits all res
 
 -- ---- the report
 
-abbrev pub quick_report : Option Warnings → List ℕ
+abbrev pub quick_report : Option (List Warning) → List ℕ
 quick_report (Some warnings) = valid_report warnings
 quick_report None = not_valid_line
 
-abbrev pub quick_outcome : Bool → Option Warnings → Outcome
-quick_outcome strict (Some warnings) = outcome_of strict (Valid warnings)
+abbrev pub quick_outcome : Bool → Option (List Warning) → Outcome
+quick_outcome strict (Some warnings) = outcome_of strict (valid warnings)
 quick_outcome strict None = Fail
 
 -- ---- the run
@@ -81,9 +89,10 @@ quick_outcome strict None = Fail
 abbrev pub QuickRuns : Options → Option (List ℕ) → Option (List ℕ) → Option (List ℕ) → Option (List ℕ) → Result Outcome RunFault → Type 0
 -- the whole report went out
 QuickRuns options had left held holds (Ok outcome) =
-    (valid : Option Warnings) × JudgesQuickly options.limits had left valid × Appends held holds (quick_report valid) × (outcome ≡ quick_outcome options.strict valid)
+    (warnings : Option (List Warning)) × JudgesQuickly options.limits had left warnings × Appends held holds (quick_report warnings)
+    × (outcome ≡ quick_outcome options.strict warnings)
 -- a front of it did
 QuickRuns options had left held holds (Err (Write fault)) =
-    (valid : Option Warnings) × JudgesQuickly options.limits had left valid × IsFrontOut held holds (quick_report valid) fault.written
+    (warnings : Option (List Warning)) × JudgesQuickly options.limits had left warnings × IsFrontOut held holds (quick_report warnings) fault.written
 -- so many bytes came, and nothing went out
 QuickRuns options had left held holds (Err (Read fault)) = (read : List ℕ) × Consumes had left read × (length read ≡ fault.offset) × Keeps held holds

@@ -1,17 +1,15 @@
--- What a run does: it judges what the reader gives, and writes the report of the verdict, with the path where it is sought.
-use Rattle.std.specs.Prelude.{◌≡◌, ◌⊎◌, ℕ, Bool, ◌&&◌, not, if◌then◌else◌, List, length, Option, None, Result, Ok, Err, ◌+◌, ◌-◌, ◌^◌, ◌<◌}
+-- What a run does: it judges what the reader gives, and writes the report, with the path where it is sought.
+use Rattle.std.specs.Prelude.{◌≡◌, ◌⊎◌, ℕ, Bool, if◌then◌else◌, List, [], ◌∷◌, length, Option, None, Result, Ok, Err, ◌+◌, ◌-◌, ◌^◌, ◌<◌}
 use Rattle.std.specs.Io.KnownBytes.{Appends, Consumes, Keeps}
 use Rattle.gj_json.specs.Limits.{Allowed}
 use Rattle.gj_json.specs.declared.path.Path.{Path}
 use Rattle.gj_coords.specs.declared.fault.Fault.{Fault}
-use Rattle.gj_coords.specs.Internal.KeptWarnings.{none_in}
 use Rattle.geolint.specs.declared.fault.RunFault.{RunFault}
 use Rattle.geolint.specs.declared.fault.RunFault.TheVariants.{Read, Write}
 use Rattle.geolint.specs.declared.options.Options.{Options}
 use Rattle.geolint.specs.declared.options.Outcome.{Outcome}
 use Rattle.geolint.specs.declared.options.Outcome.TheVariants.{Pass, Fail}
-use Rattle.gj_rules.specs.declared.verdict.Verdict.{Verdict}
-use Rattle.gj_rules.specs.declared.verdict.Verdict.TheVariants.{Valid, Broken, NotJson}
+use Rattle.gj_rules.specs.Verdict.{Judgement, valid, broken, refused}
 use Rattle.geolint.specs.Counts.{one_more}
 use Rattle.geolint.specs.Judged.{JudgesRead}
 use Rattle.geolint.specs.Located.{Locates}
@@ -19,10 +17,11 @@ use Rattle.geolint.specs.Report.{report}
 use Rattle.geolint.specs.Written.{IsFrontOut}
 
 -- a valid text passes; where the run is strict, only one without a warning
-abbrev pub outcome_of : Bool → Verdict → Outcome
-outcome_of strict (Valid warnings) = if strict && not (none_in warnings) then Fail else Pass
-outcome_of strict (Broken fault) = Fail
-outcome_of strict (NotJson fault) = Fail
+abbrev pub outcome_of : Bool → Judgement → Outcome
+outcome_of strict (valid []) = Pass
+outcome_of strict (valid (warning ∷ more)) = if strict then Fail else Pass
+outcome_of strict (broken fault) = Fail
+outcome_of strict (refused fault) = Fail
 
 -- a failed read ends a run, by a read fault
 abbrev pub CountsReadFault : ℕ → ℕ → Result Outcome RunFault → Type 0
@@ -58,9 +57,9 @@ WriteFaultOf held holds bytes (Write fault) = IsFrontOut held holds bytes fault.
 abbrev pub Seeks : Allowed → Option (List ℕ) → Option (List ℕ) → (before after : ℕ) → Option Path → Fault → Type 0
 Seeks limits had left before after path fault = ((after ≡ before) × Locates limits fault.place had left path) ⊎ ((after ≡ one_more before) × (path ≡ None))
 
--- For another verdict none is sought, and the second reader is not read: `read` and `now_read` are its counts of reads.
-abbrev pub SeeksFor : Verdict → Allowed → Option (List ℕ) → Option (List ℕ) → (before after : ℕ) → (read now_read : ℕ) → Option Path → Type 0
-SeeksFor (Broken fault) limits had left before after read now_read path = Seeks limits had left before after path fault
+-- For another input none is sought, and the second reader is not read: `read` and `now_read` are its counts of reads.
+abbrev pub SeeksFor : Judgement → Allowed → Option (List ℕ) → Option (List ℕ) → (before after : ℕ) → (read now_read : ℕ) → Option Path → Type 0
+SeeksFor (broken fault) limits had left before after read now_read path = Seeks limits had left before after path fault
 SeeksFor _ limits had left before after read now_read path = (path ≡ None) × (now_read ≡ read)
 
 -- where the first reader failed, the second is not read
@@ -70,20 +69,20 @@ SparesAtReadFault read now_read (Err (Read fault)) = now_read ≡ read
 SparesAtReadFault read now_read (Err (Write fault)) = Unit {0}
 
 -- `had` and `left` are what the reader has to give before and after, `held` and `holds` what the writer has taken; `Found` says
--- which path the report of a verdict has
-abbrev pub RunsBy : (Verdict → Option Path → Type 0) → Options → Option (List ℕ) → Option (List ℕ) → Option (List ℕ) → Option (List ℕ)
+-- which path the report has
+abbrev pub RunsBy : (Judgement → Option Path → Type 0) → Options → Option (List ℕ) → Option (List ℕ) → Option (List ℕ) → Option (List ℕ)
     → Result Outcome RunFault → Type 0
--- the whole report of the verdict went out
+-- the whole report went out
 RunsBy Found options had left held holds (Ok outcome) =
-    (verdict : Verdict) × (path : Option Path) × JudgesRead options.limits had left verdict × Found verdict path
-    × Appends held holds (report verdict path) × (outcome ≡ outcome_of options.strict verdict)
+    (judgement : Judgement) × (path : Option Path) × JudgesRead options.limits had left judgement × Found judgement path
+    × Appends held holds (report judgement path) × (outcome ≡ outcome_of options.strict judgement)
 -- a front of it did
 RunsBy Found options had left held holds (Err (Write fault)) =
-    (verdict : Verdict) × (path : Option Path) × JudgesRead options.limits had left verdict × Found verdict path
-    × IsFrontOut held holds (report verdict path) fault.written
+    (judgement : Judgement) × (path : Option Path) × JudgesRead options.limits had left judgement × Found judgement path
+    × IsFrontOut held holds (report judgement path) fault.written
 -- so many bytes came, and nothing went out
 RunsBy Found options had left held holds (Err (Read fault)) = (read : List ℕ) × Consumes had left read × (length read ≡ fault.offset) × Keeps held holds
 
 -- no path is sought
 abbrev pub Runs : Options → Option (List ℕ) → Option (List ℕ) → Option (List ℕ) → Option (List ℕ) → Result Outcome RunFault → Type 0
-Runs = RunsBy (λ verdict path. path ≡ None)
+Runs = RunsBy (λ judgement path. path ≡ None)

@@ -4,8 +4,8 @@ use Rattle.std.specs.Fmt.{decimal}
 use Rattle.std.specs.Io.KnownBytes.{Appends, Consumes, Keeps}
 use Rattle.gj_json.specs.Limits.{Allowed}
 use Rattle.gj_rules.specs.declared.sequence.verdict.SeqVerdict.{SeqVerdict}
-use Rattle.gj_rules.specs.declared.verdict.Verdict.TheVariants.{Valid}
-use Rattle.gj_rules.specs.Sequence.{IsSequenceVerdict}
+use Rattle.gj_rules.specs.Sequence.{IsSequenceVerdict, SequenceJudgement, all_valid, failing, SequenceSays}
+use Rattle.gj_rules.specs.Verdict.{valid}
 use Rattle.geolint.specs.declared.fault.RunFault.{RunFault}
 use Rattle.geolint.specs.declared.fault.RunFault.TheVariants.{Read, Write}
 use Rattle.geolint.specs.declared.options.Options.{Options}
@@ -31,14 +31,14 @@ abbrev pub count_line : ℕ → List ℕ
 count_line count = codes "records " ++ (decimal count ++ codes "\n")
 
 -- how many records there are, and the warnings of all of them; or the first record that is not valid, and what it is
-abbrev pub sequence_report : SeqVerdict → List ℕ
-sequence_report (SeqVerdict.Valid count warnings) = codes "valid\n" ++ (count_line count ++ warning_lines warnings)
-sequence_report (SeqVerdict.Record number verdict) = record_line number ++ report verdict None
+abbrev pub sequence_report : SequenceJudgement → List ℕ
+sequence_report (all_valid count warnings) = codes "valid\n" ++ (count_line count ++ warning_lines warnings)
+sequence_report (failing number judgement) = record_line number ++ report judgement None
 
 -- a sequence passes where its records are valid; where the run is strict, only without a warning
-abbrev pub sequence_outcome : Bool → SeqVerdict → Outcome
-sequence_outcome strict (SeqVerdict.Valid count warnings) = outcome_of strict (Valid warnings)
-sequence_outcome strict (SeqVerdict.Record number verdict) = Fail
+abbrev pub sequence_outcome : Bool → SequenceJudgement → Outcome
+sequence_outcome strict (all_valid count warnings) = outcome_of strict (valid warnings)
+sequence_outcome strict (failing number judgement) = Fail
 
 -- ---- the run
 
@@ -46,10 +46,11 @@ sequence_outcome strict (SeqVerdict.Record number verdict) = Fail
 abbrev pub SequenceRuns : Options → Option (List ℕ) → Option (List ℕ) → Option (List ℕ) → Option (List ℕ) → Result Outcome RunFault → Type 0
 -- the whole report went out
 SequenceRuns options had left held holds (Ok outcome) =
-    (verdict : SeqVerdict) × JudgesSequence options.limits had left verdict × Appends held holds (sequence_report verdict)
-    × (outcome ≡ sequence_outcome options.strict verdict)
+    (verdict : SeqVerdict) × (judgement : SequenceJudgement) × JudgesSequence options.limits had left verdict × SequenceSays verdict judgement
+    × Appends held holds (sequence_report judgement) × (outcome ≡ sequence_outcome options.strict judgement)
 -- a front of it did
 SequenceRuns options had left held holds (Err (Write fault)) =
-    (verdict : SeqVerdict) × JudgesSequence options.limits had left verdict × IsFrontOut held holds (sequence_report verdict) fault.written
+    (verdict : SeqVerdict) × (judgement : SequenceJudgement) × JudgesSequence options.limits had left verdict × SequenceSays verdict judgement
+    × IsFrontOut held holds (sequence_report judgement) fault.written
 -- so many bytes came, and nothing went out
 SequenceRuns options had left held holds (Err (Read fault)) = (read : List ℕ) × Consumes had left read × (length read ≡ fault.offset) × Keeps held holds

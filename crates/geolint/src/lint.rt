@@ -1,5 +1,6 @@
 ghost use Rattle.std.specs.Prelude.{◌≡◌, ℕ, List, ◌+◌, ◌<◌, ◌≤◌, length, IfOk, IfErr};
 ghost use Rattle.std.specs.Io.KnownBytes.{Consumes};
+ghost use Rattle.gj_rules.specs.Verdict.{Judgement, Says};
 ghost use Rattle.geolint.specs.Counts.{CountsFailure};
 ghost use Rattle.geolint.specs.Judged.{JudgesRead};
 
@@ -22,8 +23,8 @@ pub fn lint_reader<S: Source>(reader: &mut S, limits: Limits) -> Result<Verdict,
         → S.bytes_given reader.new ≡ S.bytes_given reader.old + fault.offset) }
     ensures offset { IfErr result (λ fault.
         (read : List ℕ) × Consumes (S.remaining reader.old) (S.remaining reader.new) read × (length read ≡ fault.offset)) }
-    ensures verdict { IfOk result (λ verdict.
-        JudgesRead limits (S.remaining reader.old) (S.remaining reader.new) verdict) }
+    ensures verdict { IfOk result (λ verdict. (judgement : Judgement) × Says verdict judgement
+        × JudgesRead limits (S.remaining reader.old) (S.remaining reader.new) judgement) }
 {
     let _most = limits.bytes();
     let mut linter = Linter::new(limits);

@@ -1,8 +1,9 @@
 //! A run that asks only whether an input is valid: it reads no further than it must to say no.
-ghost use Rattle.std.specs.Prelude.{◌≡◌, ℕ, List, ◌+◌, ◌<◌, ◌≤◌, length, MatchResult, IfOk, OnOk, IfErr};
+ghost use Rattle.std.specs.Prelude.{◌≡◌, ℕ, List, ◌+◌, ◌<◌, ◌≤◌, length, Option, MatchResult, IfOk, OnOk, IfErr};
 ghost use Rattle.std.specs.Io.KnownBytes.{Consumes, Appends};
+ghost use Rattle.gj_coords.specs.Warnings.{Warning};
 ghost use Rattle.geolint.specs.Counts.{CountsFailure, one_more};
-ghost use Rattle.geolint.specs.Quick.{JudgesQuickly, StopsAtOnce, QuickRuns, valid_in, quick_report, quick_outcome};
+ghost use Rattle.geolint.specs.Quick.{SaysValid, JudgesQuickly, StopsAtOnce, QuickRuns, valid_in, quick_report, quick_outcome};
 ghost use Rattle.geolint.specs.Run.{CountsReadFault, CountsWriteFault, CountsOffset, WriteFaultOf};
 ghost use Rattle.geolint.specs.Written.{IsFrontOut};
 
@@ -33,8 +34,8 @@ pub fn lint_quickly<S: Source>(
         → S.bytes_given reader.new ≡ S.bytes_given reader.old + fault.offset) }
     ensures offset { IfErr result (λ fault.
         (read : List ℕ) × Consumes (S.remaining reader.old) (S.remaining reader.new) read × (length read ≡ fault.offset)) }
-    ensures valid { IfOk result (λ valid.
-        JudgesQuickly limits (S.remaining reader.old) (S.remaining reader.new) valid) }
+    ensures valid { IfOk result (λ valid. (warnings : Option (List Warning)) × SaysValid valid warnings
+        × JudgesQuickly limits (S.remaining reader.old) (S.remaining reader.new) warnings) }
 {
     let _most = limits.bytes();
     one_verdict();
@@ -100,9 +101,11 @@ fn report_quickly<W: Sink>(
 ) -> Result<Outcome, RunFault>
     ensures writes { MatchResult result (λ outcome. W.failed_writes writer.new ≡ W.failed_writes writer.old)
         (λ fault. W.failed_writes writer.new ≡ one_more (W.failed_writes writer.old)) }
-    ensures outcome { IfOk result (λ outcome. outcome ≡ quick_outcome strict valid) }
-    ensures whole { OnOk result (Appends (W.taken writer.old) (W.taken writer.new) (quick_report valid)) }
-    ensures fault { IfErr result (λ fault. WriteFaultOf (W.taken writer.old) (W.taken writer.new) (quick_report valid) fault) }
+    ensures outcome { (warnings : Option (List Warning)) → SaysValid valid warnings → IfOk result (λ outcome. outcome ≡ quick_outcome strict warnings) }
+    ensures whole { (warnings : Option (List Warning)) → SaysValid valid warnings →
+        OnOk result (Appends (W.taken writer.old) (W.taken writer.new) (quick_report warnings)) }
+    ensures fault { (warnings : Option (List Warning)) → SaysValid valid warnings → IfErr result (λ fault.
+        WriteFaultOf (W.taken writer.old) (W.taken writer.new) (quick_report warnings) fault) }
 {
     match write_quickly(valid, writer) {
         Ok(()) => Ok(quick_outcome(valid, strict)),
@@ -111,9 +114,10 @@ fn report_quickly<W: Sink>(
 }
 
 fn write_quickly<W: Sink>(valid: Option<Warnings>, writer: &mut W) -> Result<(), WriteFault>
-    ensures whole { OnOk result (Appends (W.taken writer.old) (W.taken writer.new) (quick_report valid)) }
-    ensures front { IfErr result (λ fault.
-        IsFrontOut (W.taken writer.old) (W.taken writer.new) (quick_report valid) fault.written) }
+    ensures whole { (warnings : Option (List Warning)) → SaysValid valid warnings →
+        OnOk result (Appends (W.taken writer.old) (W.taken writer.new) (quick_report warnings)) }
+    ensures front { (warnings : Option (List Warning)) → SaysValid valid warnings → IfErr result (λ fault.
+        IsFrontOut (W.taken writer.old) (W.taken writer.new) (quick_report warnings) fault.written) }
     ensures failed { CountsFailure (W.failed_writes writer.old) (W.failed_writes writer.new) result }
 {
     match valid {
@@ -123,7 +127,7 @@ fn write_quickly<W: Sink>(valid: Option<Warnings>, writer: &mut W) -> Result<(),
 }
 
 fn quick_outcome(valid: Option<Warnings>, strict: bool) -> Outcome
-    ensures { result ≡ quick_outcome strict valid }
+    ensures { (warnings : Option (List Warning)) → SaysValid valid warnings → result ≡ quick_outcome strict warnings }
 {
     match valid {
         Some(warnings) => outcome_of(Verdict::Valid(warnings), strict),

@@ -1,8 +1,10 @@
 //! The report of a verdict.
 ghost use Rattle.std.specs.Prelude.{◌≡◌, ◌+◌, ◌≤◌, length, OnOk, IfErr};
 ghost use Rattle.std.specs.Io.KnownBytes.{Appends};
+ghost use Rattle.gj_rules.specs.Sequence.{SequenceJudgement, SequenceSays};
+ghost use Rattle.gj_rules.specs.Verdict.{Judgement, Says};
 ghost use Rattle.geolint.specs.Counts.{CountsFailure};
-ghost use Rattle.geolint.specs.Report.{cause_text, rule_text, refusal_line, broken_line, not_valid_line, report};
+ghost use Rattle.geolint.specs.Report.{refusal_line, broken_line, not_valid_line, report};
 ghost use Rattle.geolint.specs.Room.{written_in, Adds};
 ghost use Rattle.geolint.specs.Sequence.{sequence_report};
 ghost use Rattle.geolint.specs.Written.{IsFrontOut};
@@ -18,8 +20,8 @@ use crate::report::sequence::push_sequence_report;
 use crate::report::warnings::push_valid;
 use crate::room::Room;
 use crate::sink::Sink;
-use gj_coords::{Fault, Rule};
-use gj_json::{Cause, JsonFault, Path};
+use gj_coords::Fault;
+use gj_json::{JsonFault, Path};
 use gj_rules::{SeqVerdict, Verdict};
 use itoa::Buffer;
 
@@ -40,52 +42,19 @@ fn write_bytes<W: Sink>(bytes: &[u8], writer: &mut W) -> Result<(), WriteFault>
     Ok(())
 }
 
-fn text_of(cause: Cause) -> &'static [u8]
-    ensures { result.now ≡ cause_text cause }
-{
-    match cause {
-        Cause::Syntax => b"syntax",
-        Cause::Truncated => b"truncated",
-        Cause::Depth => b"too deep",
-        Cause::Length => b"too long",
-    }
-}
-
 fn push_refusal(fault: JsonFault, room: &mut Room)
     requires { length (written_in room.old) + MOST_LINE ≤ CAPACITY }
     ensures { Adds room.old room.new (refusal_line fault) }
 {
     let mut digits = Buffer::new();
     let place = digits.format(fault.place).as_bytes();
-    room.push_all(&[b"not JSON at ", place, b": ", text_of(fault.cause), b"\n"]);
-}
-
-fn text_of_rule(rule: Rule) -> &'static [u8]
-    ensures { result.now ≡ rule_text rule }
-{
-    match rule {
-        Rule::G1 => b"not an object",
-        Rule::G2 => b"type missing",
-        Rule::G3 => b"type not allowed here",
-        Rule::G4 => b"coordinates missing",
-        Rule::G5 => b"geometries missing",
-        Rule::G6 => b"geometry missing",
-        Rule::G7 => b"properties missing",
-        Rule::G8 => b"features missing",
-        Rule::G9 => b"member forbidden by section 7.1",
-        Rule::G10 => b"name repeated",
-        Rule::G11 => b"coordinates of the wrong shape",
-        Rule::G12 => b"position of fewer than two elements",
-        Rule::G13 => b"line of fewer than two elements",
-        Rule::G14 => b"ring of fewer than four elements",
-        Rule::G15 => b"ring not closed",
-        Rule::G16 => b"number beyond the profile",
-        Rule::G17 => b"not an array",
-        Rule::G18 => b"properties neither object nor null",
-        Rule::G19 => b"id neither string nor number",
-        Rule::G20 => b"bbox or its element of the wrong kind",
-        Rule::G21 => b"bbox length odd or below 4",
-    }
+    room.push_all(&[
+        b"not JSON at ",
+        place,
+        b": ",
+        fault.cause.text().as_bytes(),
+        b"\n",
+    ]);
 }
 
 /// The line of a broken rule.
@@ -98,14 +67,14 @@ fn push_fault(fault: Fault, room: &mut Room)
     let number = number_digits.format(fault.rule.number()).as_bytes();
     let mut place_digits = Buffer::new();
     let place = place_digits.format(fault.place).as_bytes();
-    let text = text_of_rule(fault.rule);
+    let text = fault.rule.text().as_bytes();
     room.push_all(&[b"broken G", number, b" at ", place, b": ", text, b"\n"]);
 }
 
 /// The report of a verdict.
 fn push_report(verdict: Verdict, path: Option<Path>, room: &mut Room)
     requires { length (written_in room.old) ≤ MOST_LINE }
-    ensures { Adds room.old room.new (report verdict path) }
+    ensures { (judgement : Judgement) → Says verdict judgement → Adds room.old room.new (report judgement path) }
 {
     match verdict {
         Verdict::Valid(warnings) => push_valid(&warnings, room),
@@ -126,9 +95,10 @@ pub fn write_report<W: Sink>(
     path: Option<Path>,
     writer: &mut W,
 ) -> Result<(), WriteFault>
-    ensures whole { OnOk result (Appends (W.taken writer.old) (W.taken writer.new) (report verdict path)) }
-    ensures front { IfErr result (λ fault.
-        IsFrontOut (W.taken writer.old) (W.taken writer.new) (report verdict path) fault.written) }
+    ensures whole { (judgement : Judgement) → Says verdict judgement →
+        OnOk result (Appends (W.taken writer.old) (W.taken writer.new) (report judgement path)) }
+    ensures front { (judgement : Judgement) → Says verdict judgement → IfErr result (λ fault.
+        IsFrontOut (W.taken writer.old) (W.taken writer.new) (report judgement path) fault.written) }
     ensures failed { CountsFailure (W.failed_writes writer.old) (W.failed_writes writer.new) result }
 {
     let mut room = Room::new();
@@ -141,9 +111,10 @@ pub fn write_report<W: Sink>(
 ///
 /// What went out is as `write_report` has it.
 pub fn write_seq_report<W: Sink>(verdict: SeqVerdict, writer: &mut W) -> Result<(), WriteFault>
-    ensures whole { OnOk result (Appends (W.taken writer.old) (W.taken writer.new) (sequence_report verdict)) }
-    ensures front { IfErr result (λ fault.
-        IsFrontOut (W.taken writer.old) (W.taken writer.new) (sequence_report verdict) fault.written) }
+    ensures whole { (judgement : SequenceJudgement) → SequenceSays verdict judgement →
+        OnOk result (Appends (W.taken writer.old) (W.taken writer.new) (sequence_report judgement)) }
+    ensures front { (judgement : SequenceJudgement) → SequenceSays verdict judgement → IfErr result (λ fault.
+        IsFrontOut (W.taken writer.old) (W.taken writer.new) (sequence_report judgement) fault.written) }
     ensures failed { CountsFailure (W.failed_writes writer.old) (W.failed_writes writer.new) result }
 {
     let mut room = Room::new();

@@ -1,5 +1,6 @@
 ghost use Rattle.std.specs.Prelude.{◌≡◌, ℕ, ◌+◌, ◌≤◌, true, false, MatchResult, IfOk, OnOk, IfErr};
 ghost use Rattle.std.specs.Io.KnownBytes.{Appends};
+ghost use Rattle.gj_rules.specs.Verdict.{Judgement, Says};
 ghost use Rattle.geolint.specs.Counts.{one_more};
 ghost use Rattle.geolint.specs.Judged.{JudgesRead};
 ghost use Rattle.geolint.specs.Quick.{QuickRuns, StopsAtOnce};
@@ -65,7 +66,7 @@ pub fn run_with_path<S: Source, T: Source, W: Sink>(
     ensures reads { CountsReadFault (S.failed_reads first.old) (S.failed_reads first.new) result }
     ensures given { CountsOffset (S.bytes_given first.old) (S.bytes_given first.new) result }
     ensures writes { CountsWriteFault (W.failed_writes writer.old) (W.failed_writes writer.new) result }
-    ensures runs { options.quick ≡ false → RunsBy (λ verdict. SeeksFor verdict options.limits (T.remaining second.old) (T.remaining second.new)
+    ensures runs { options.quick ≡ false → RunsBy (λ judgement. SeeksFor judgement options.limits (T.remaining second.old) (T.remaining second.new)
         (T.failed_reads second.old) (T.failed_reads second.new) (T.reads second.old) (T.reads second.new))
         options (S.remaining first.old) (S.remaining first.new) (W.taken writer.old) (W.taken writer.new) result }
     ensures quick { options.quick ≡ true → QuickRuns options (S.remaining first.old) (S.remaining first.new)
@@ -87,7 +88,8 @@ fn judge<S: Source>(reader: &mut S, limits: Limits) -> Result<Verdict, RunFault>
     ensures few { S.reads reader.new ≤ S.reads reader.old + (limits.bytes + 1) }
     ensures reads { MatchResult result (λ verdict. S.failed_reads reader.new ≡ S.failed_reads reader.old)
         (λ fault. S.failed_reads reader.new ≡ one_more (S.failed_reads reader.old)) }
-    ensures verdict { IfOk result (λ verdict. JudgesRead limits (S.remaining reader.old) (S.remaining reader.new) verdict) }
+    ensures verdict { IfOk result (λ verdict. (judgement : Judgement) × Says verdict judgement
+        × JudgesRead limits (S.remaining reader.old) (S.remaining reader.new) judgement) }
     ensures fault { IfErr result (λ fault. ReadFaultOf (S.remaining reader.old) (S.remaining reader.new)
         (S.bytes_given reader.old) (S.bytes_given reader.new) fault) }
 {
@@ -106,9 +108,11 @@ fn report<W: Sink>(
 ) -> Result<Outcome, RunFault>
     ensures writes { MatchResult result (λ outcome. W.failed_writes writer.new ≡ W.failed_writes writer.old)
         (λ fault. W.failed_writes writer.new ≡ one_more (W.failed_writes writer.old)) }
-    ensures outcome { IfOk result (λ outcome. outcome ≡ outcome_of strict verdict) }
-    ensures whole { OnOk result (Appends (W.taken writer.old) (W.taken writer.new) (report_of verdict path)) }
-    ensures fault { IfErr result (λ fault. WriteFaultOf (W.taken writer.old) (W.taken writer.new) (report_of verdict path) fault) }
+    ensures outcome { (judgement : Judgement) → Says verdict judgement → IfOk result (λ outcome. outcome ≡ outcome_of strict judgement) }
+    ensures whole { (judgement : Judgement) → Says verdict judgement →
+        OnOk result (Appends (W.taken writer.old) (W.taken writer.new) (report_of judgement path)) }
+    ensures fault { (judgement : Judgement) → Says verdict judgement → IfErr result (λ fault.
+        WriteFaultOf (W.taken writer.old) (W.taken writer.new) (report_of judgement path) fault) }
 {
     match write_report(verdict, path, writer) {
         Ok(()) => Ok(outcome_of(verdict, strict)),
@@ -119,7 +123,7 @@ fn report<W: Sink>(
 /// The path to the value that breaks a rule, where one is broken and the reader leads there.
 fn sought_path<T: Source>(verdict: Verdict, reader: &mut T, limits: Limits) -> Option<Path>
     ensures few { T.reads reader.new ≤ T.reads reader.old + (limits.bytes + 1) }
-    ensures sought { SeeksFor verdict limits (T.remaining reader.old) (T.remaining reader.new)
+    ensures sought { (judgement : Judgement) → Says verdict judgement → SeeksFor judgement limits (T.remaining reader.old) (T.remaining reader.new)
         (T.failed_reads reader.old) (T.failed_reads reader.new) (T.reads reader.old) (T.reads reader.new) result }
 {
     match verdict {
@@ -141,7 +145,7 @@ fn path_to<T: Source>(fault: Fault, reader: &mut T, limits: Limits) -> Option<Pa
 
 /// Whether an input with this verdict passes: where the run is strict, only without a warning.
 pub fn outcome_of(verdict: Verdict, strict: bool) -> Outcome
-    ensures { result ≡ outcome_of strict verdict }
+    ensures { (judgement : Judgement) → Says verdict judgement → result ≡ outcome_of strict judgement }
 {
     match verdict {
         Verdict::Valid(warnings) if !strict || warnings.is_empty() => Outcome::Pass,

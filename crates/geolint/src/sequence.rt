@@ -1,6 +1,7 @@
 //! A run over a text sequence (RFC 8142).
 ghost use Rattle.std.specs.Prelude.{◌≡◌, ℕ, List, ◌+◌, ◌<◌, ◌≤◌, length, MatchResult, IfOk, OnOk, IfErr};
 ghost use Rattle.std.specs.Io.KnownBytes.{Consumes, Appends};
+ghost use Rattle.gj_rules.specs.Sequence.{SequenceJudgement, SequenceSays};
 ghost use Rattle.geolint.specs.Counts.{CountsFailure, one_more};
 ghost use Rattle.geolint.specs.Run.{CountsReadFault, CountsWriteFault, CountsOffset, WriteFaultOf};
 ghost use Rattle.geolint.specs.Sequence.{JudgesSequence, SequenceRuns, sequence_report, sequence_outcome};
@@ -29,6 +30,7 @@ pub fn lint_sequence<S: Source>(reader: &mut S, limits: Limits) -> Result<SeqVer
         (read : List ℕ) × Consumes (S.remaining reader.old) (S.remaining reader.new) read × (length read ≡ fault.offset)) }
     ensures verdict { IfOk result (λ verdict.
         JudgesSequence limits (S.remaining reader.old) (S.remaining reader.new) verdict) }
+    ensures said { IfOk result (λ verdict. (judgement : SequenceJudgement) × SequenceSays verdict judgement) }
 {
     let _most = limits.bytes();
     one_sequence_verdict();
@@ -79,9 +81,11 @@ fn report_sequence<W: Sink>(
 ) -> Result<Outcome, RunFault>
     ensures writes { MatchResult result (λ outcome. W.failed_writes writer.new ≡ W.failed_writes writer.old)
         (λ fault. W.failed_writes writer.new ≡ one_more (W.failed_writes writer.old)) }
-    ensures outcome { IfOk result (λ outcome. outcome ≡ sequence_outcome strict verdict) }
-    ensures whole { OnOk result (Appends (W.taken writer.old) (W.taken writer.new) (sequence_report verdict)) }
-    ensures fault { IfErr result (λ fault. WriteFaultOf (W.taken writer.old) (W.taken writer.new) (sequence_report verdict) fault) }
+    ensures outcome { (judgement : SequenceJudgement) → SequenceSays verdict judgement → IfOk result (λ outcome. outcome ≡ sequence_outcome strict judgement) }
+    ensures whole { (judgement : SequenceJudgement) → SequenceSays verdict judgement →
+        OnOk result (Appends (W.taken writer.old) (W.taken writer.new) (sequence_report judgement)) }
+    ensures fault { (judgement : SequenceJudgement) → SequenceSays verdict judgement → IfErr result (λ fault.
+        WriteFaultOf (W.taken writer.old) (W.taken writer.new) (sequence_report judgement) fault) }
 {
     match write_seq_report(verdict, writer) {
         Ok(()) => Ok(sequence_outcome(verdict, strict)),
@@ -91,7 +95,7 @@ fn report_sequence<W: Sink>(
 
 /// Whether a sequence with this verdict passes.
 fn sequence_outcome(verdict: SeqVerdict, strict: bool) -> Outcome
-    ensures { result ≡ sequence_outcome strict verdict }
+    ensures { (judgement : SequenceJudgement) → SequenceSays verdict judgement → result ≡ sequence_outcome strict judgement }
 {
     match verdict {
         SeqVerdict::Valid { warnings, .. } => outcome_of(Verdict::Valid(warnings), strict),

@@ -1,5 +1,5 @@
--- A verdict in plain numbers.
-use Rattle.std.specs.Prelude.{◌≡◌, ℕ, List, [], ◌∷◌, Option, Some, None, if◌then◌else◌}
+-- What an input is, in plain numbers.
+use Rattle.std.specs.Prelude.{◌≡◌, ℕ, List, [], ◌∷◌, Option, Some, None}
 use Rattle.gj_json.specs.Limits.{Allowed}
 use Rattle.gj_json.specs.declared.fault.JsonFault.{JsonFault}
 use Rattle.gj_json.specs.declared.fault.Cause.{Cause}
@@ -7,12 +7,9 @@ use Rattle.gj_json.specs.declared.fault.Cause.TheVariants.{Syntax, Truncated, De
 use Rattle.gj_coords.specs.declared.fault.Fault.{Fault}
 use Rattle.gj_coords.specs.declared.kind.Kind.{Kind}
 use Rattle.gj_coords.specs.declared.kind.Kind.TheVariants.{W1, W2, W3, W4, W5, W6, W7, W8, W9}
-use Rattle.gj_coords.specs.declared.warnings.Warnings.{Warnings}
 use Rattle.gj_coords.specs.Fault.{number_of}
-use Rattle.gj_coords.specs.Internal.KeptWarnings.{count_in, first_in, none_in}
-use Rattle.gj_rules.specs.declared.verdict.Verdict.{Verdict}
-use Rattle.gj_rules.specs.declared.verdict.Verdict.TheVariants.{Valid, Broken, NotJson}
-use Rattle.gj_rules.specs.Verdict.{IsVerdict}
+use Rattle.gj_coords.specs.Warnings.{Warning, count_of, first_of}
+use Rattle.gj_rules.specs.Verdict.{Judgement, valid, broken, refused, IsJudgement}
 use Rattle.geolint_c.specs.declared.report.Report.{Report}
 use Rattle.geolint_c.specs.declared.report.Warned.{Warned}
 
@@ -28,11 +25,11 @@ place_or_zero None = 0
 place_or_zero (Some place) = place
 
 -- how many warnings of a kind there are, and the least place
-abbrev pub warned_of : Warnings → Kind → Warned
-warned_of warnings kind = record { count = count_in kind warnings; first = place_or_zero (first_in kind warnings) }
+abbrev pub warned_of : List Warning → Kind → Warned
+warned_of warnings kind = record { count = count_of kind warnings; first = place_or_zero (first_of kind warnings) }
 
 -- of each kind, in the order of their numbers
-abbrev pub all_warned : Warnings → List Warned
+abbrev pub all_warned : List Warning → List Warned
 all_warned warnings =
     warned_of warnings W1 ∷ warned_of warnings W2 ∷ warned_of warnings W3 ∷ warned_of warnings W4 ∷ warned_of warnings W5
     ∷ warned_of warnings W6 ∷ warned_of warnings W7 ∷ warned_of warnings W8 ∷ warned_of warnings W9 ∷ []
@@ -44,9 +41,14 @@ abbrev pub nothing_warned : List Warned
 nothing_warned =
     no_warning ∷ no_warning ∷ no_warning ∷ no_warning ∷ no_warning ∷ no_warning ∷ no_warning ∷ no_warning ∷ no_warning ∷ []
 
-abbrev pub valid_report : Warnings → Report
+-- 1 where there is a warning
+abbrev pub is_warned : List Warning → ℕ
+is_warned [] = 0
+is_warned (warning ∷ more) = 1
+
+abbrev pub valid_report : List Warning → Report
 valid_report warnings =
-    record { status = 0; verdict = 1; rule = 0; cause = 0; place = 0; warned = if none_in warnings then 0 else 1; warnings = all_warned warnings }
+    record { status = 0; verdict = 1; rule = 0; cause = 0; place = 0; warned = is_warned warnings; warnings = all_warned warnings }
 
 abbrev pub broken_report : Fault → Report
 broken_report fault =
@@ -56,14 +58,14 @@ abbrev pub refusal_report : JsonFault → Report
 refusal_report fault =
     record { status = 0; verdict = 3; rule = 0; cause = cause_number fault.cause; place = fault.place; warned = 0; warnings = nothing_warned }
 
-abbrev pub report_of : Verdict → Report
-report_of (Valid warnings) = valid_report warnings
-report_of (Broken fault) = broken_report fault
-report_of (NotJson fault) = refusal_report fault
+abbrev pub report_of : Judgement → Report
+report_of (valid warnings) = valid_report warnings
+report_of (broken fault) = broken_report fault
+report_of (refused fault) = refusal_report fault
 
--- the report is that of the verdict of these bytes
+-- the report is that of what these bytes are
 abbrev pub Reports : Allowed → List ℕ → Report → Type 0
-Reports limits bytes report = (verdict : Verdict) × IsVerdict limits bytes verdict × (report ≡ report_of verdict)
+Reports limits bytes report = (judgement : Judgement) × IsJudgement limits bytes judgement × (report ≡ report_of judgement)
 
 -- no verdict, and why there is none
 abbrev pub no_report : ℕ → Report

@@ -1,6 +1,10 @@
 //! A verdict in plain numbers.
-ghost use Rattle.std.specs.Prelude.{◌≡◌};
-ghost use Rattle.geolint_c.specs.Report.{cause_number, warned_of, all_warned, report_of, nothing_warned, valid_report, broken_report, refusal_report, no_report};
+ghost use Rattle.std.specs.Prelude.{◌≡◌, ℕ, List};
+ghost use Rattle.gj_json.specs.Limits.{Allowed};
+ghost use Rattle.gj_coords.specs.Warnings.{Warning};
+ghost use Rattle.gj_coords.specs.WarningsStand.{StandsFor};
+ghost use Rattle.gj_rules.specs.Verdict.{IsVerdict};
+ghost use Rattle.geolint_c.specs.Report.{cause_number, warned_of, all_warned, is_warned, Reports, nothing_warned, valid_report, broken_report, refusal_report, no_report};
 
 use crate::status::DONE;
 use gj_coords::{Fault, Kind, Warnings};
@@ -51,7 +55,7 @@ fn cause_number(cause: Cause) -> u32
 }
 
 fn warned_of(warnings: &Warnings, kind: Kind) -> Warned
-    ensures { result ≡ warned_of warnings.now kind }
+    ensures { (all : List Warning) → StandsFor warnings.now all → result ≡ warned_of all kind }
 {
     let first = match warnings.first(kind) {
         Some(place) => place,
@@ -64,7 +68,7 @@ fn warned_of(warnings: &Warnings, kind: Kind) -> Warned
 }
 
 fn all_warned(warnings: &Warnings) -> [Warned; 9]
-    ensures { result ≡ all_warned warnings.now }
+    ensures { (all : List Warning) → StandsFor warnings.now all → result ≡ all_warned all }
 {
     [
         warned_of(warnings, Kind::W1),
@@ -85,8 +89,15 @@ fn nothing_warned() -> [Warned; 9]
     [Warned { count: 0, first: 0 }; 9]
 }
 
+/// 1 where there is a warning, otherwise 0.
+fn is_warned(warnings: &Warnings) -> u64
+    ensures { (all : List Warning) → StandsFor warnings.now all → result ≡ is_warned all }
+{
+    if warnings.is_empty() { 0 } else { 1 }
+}
+
 fn report_of_valid(warnings: &Warnings) -> Report
-    ensures { result ≡ valid_report warnings.now }
+    ensures { (all : List Warning) → StandsFor warnings.now all → result ≡ valid_report all }
 {
     Report {
         status: DONE,
@@ -94,7 +105,7 @@ fn report_of_valid(warnings: &Warnings) -> Report
         rule: 0,
         cause: 0,
         place: 0,
-        warned: if warnings.is_empty() { 0 } else { 1 },
+        warned: is_warned(warnings),
         warnings: all_warned(warnings),
     }
 }
@@ -129,7 +140,7 @@ fn report_of_refusal(fault: JsonFault) -> Report
 
 /// The verdict in plain numbers.
 pub fn report_of(verdict: &Verdict) -> Report
-    ensures { result ≡ report_of verdict.now }
+    ensures { (limits : Allowed) (bytes : List ℕ) → IsVerdict limits bytes verdict.now → Reports limits bytes result }
 {
     match verdict {
         Verdict::Valid(warnings) => report_of_valid(warnings),

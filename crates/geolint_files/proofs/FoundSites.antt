@@ -10,7 +10,8 @@ use Rattle.geolint_files.specs.declared.sites.Site.{Site}
 use Rattle.geolint_files.specs.declared.sites.Spot.{Spot}
 use Rattle.geolint_files.specs.declared.sites.Finder.{Finder}
 use Rattle.geolint_files.specs.declared.sites.Sites.{Sites}
-use Rattle.geolint_files.specs.Sites.{IsSpot, AreRight, RightBy, Reaches}
+use Rattle.geolint_files.specs.Sites.{IsSpot, AreRight, RightBy}
+use Rattle.geolint_files.specs.Internal.SecondReading.{Reaches}
 
 pub each-set : (P : Site → Type 0) (sites : List Site) (i : ℕ) (site : Site) → ((k : ℕ) (other : Site) → k < length sites → P (get_or sites k other)) → P site
     → (k : ℕ) (other : Site) → k < length (set sites i site) → P (get_or (set sites i site) k other)

@@ -4,3 +4,5 @@ mod DecidedFiles
 mod JoinedElements
 mod WorstOutcome
 mod FoundSites
+mod SoughtPlaces
+mod FileCounts

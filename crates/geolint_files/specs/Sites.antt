@@ -1,9 +1,8 @@
 -- The lines and columns of places that a second reading finds.
-use Rattle.std.specs.Prelude.{◌≡◌, ◌<◌, ◌≤◌, ℕ, List, length, take, get_or, true, Option, Some, None, ⊤, ◌++◌}
+use Rattle.std.specs.Prelude.{◌≡◌, ◌<◌, ◌≤◌, ◌-◌, ◌^◌, ℕ, List, length, take, map, get_or, Bool, true, ◌&&◌, nat_eq, Option, Some, None, ⊤}
+use Rattle.std.specs.List.{Contains, list_any}
 use Rattle.std.specs.Io.Iter.{u64_saturate}
 use Rattle.gj_places.specs.Lines.{line_of, column_of}
-use Rattle.gj_places.specs.Counting.{StandsFor}
-use Rattle.geolint_files.specs.declared.sites.Finder.{Finder}
 use Rattle.geolint_files.specs.declared.sites.Site.{Site}
 use Rattle.geolint_files.specs.declared.sites.Sites.{Sites}
 use Rattle.geolint_files.specs.declared.sites.Spot.{Spot}
@@ -23,16 +22,20 @@ abbrev pub RightBy : Option (List ℕ) → List Site → Type 0
 RightBy None sites = ⊤
 RightBy (Some text) sites = AreRight text sites
 
--- Internal: behind a text and some bytes of the next piece
-pub record Reaches (finder : Finder) (sites : Sites) (text piece : List ℕ) : Type 0 where
-  pub offset : finder.offset ≡ u64_saturate (length text)
-  pub counted : finder.counted ≤ length piece
-  pub lines : finder.next < sites.count → StandsFor finder.lines (text ++ take finder.counted piece)
-  pub right : AreRight (text ++ piece) sites.sites
+-- ---- which places are found
 
--- Internal: the bytes that the locator has change nothing of the count
-pub record IsLocated (old new : Finder) : Type 0 where
-  pub lines : new.lines ≡ old.lines
-  pub offset : new.offset ≡ old.offset
-  pub counted : new.counted ≡ old.counted
-  pub next : new.next ≡ old.next
+-- the places that are sought, in the order in which they came
+abbrev pub sought : Sites → List ℕ
+sought sites = take sites.count (map (λ (site : Site). site.place) sites.sites)
+
+abbrev pub is_found_at : ℕ → Site → Bool
+is_found_at place site = site.is_found && nat_eq site.place place
+
+-- each sought place that is in the text or at its end was found, as far as a u64 goes
+abbrev pub AllFound : List ℕ → Sites → Type 0
+AllFound text sites = (place : ℕ) → Contains (sought sites) place → place ≤ length text → place < 2 ^ 64 - 1 → list_any (is_found_at place) sites.sites ≡ true
+
+-- the same, where the reader told its bytes
+abbrev pub FoundBy : Option (List ℕ) → Sites → Type 0
+FoundBy None sites = ⊤
+FoundBy (Some text) sites = AllFound text sites

@@ -112,13 +112,16 @@ fn style_of(rt: &HostRuntime, is_terminal: bool) -> Style {
 }
 
 impl<'a> Run<'a> {
-    ghost use Rattle.std.specs.Prelude.{◌≡◌, ◌++◌, ◌∷◌, [], List, IfOk, OnOk};
+    ghost use Rattle.std.specs.Prelude.{◌≡◌, ◌++◌, ◌∷◌, [], List, Option, Some, None, IfOk, OnOk};
+    ghost use Rattle.geolint_files.specs.declared.judge.Finding.{Finding};
+    ghost use Rattle.geolint_files.specs.Internal.FileCounts.{Counts};
     ghost use Rattle.geolint_files.specs.declared.outcome.Outcome.{Outcome};
     ghost use Rattle.geolint_files.specs.declared.outcome.Outcome.TheVariants.{Unread};
     ghost use Rattle.geolint_files.specs.Finding.{outcome_of, passes, worst};
 
     fn new(rt: &HostRuntime, options: Options, linter: &'a mut Linter) -> Result<Run<'a>, Failure>
-        ensures { IfOk result (λ run. run.outcome ≡ worst []) }
+        ensures outcome { IfOk result (λ run. run.outcome ≡ worst []) }
+        ensures summary { IfOk result (λ run. Counts run.summary []) }
     {
         let is_terminal = rt.stdout().is_terminal();
         Ok(Run {
@@ -165,7 +168,8 @@ impl<'a> Run<'a> {
 
     /// Writes what is told, and begins a new line.
     fn write(&mut self) -> Result<(), Failure>
-        ensures { self.new.outcome ≡ self.old.outcome }
+        ensures outcome { self.new.outcome ≡ self.old.outcome }
+        ensures summary { self.new.summary ≡ self.old.summary }
     {
         self.out.write_all(self.line.as_slice())?;
         self.line.clear();
@@ -326,8 +330,9 @@ impl<'a> Run<'a> {
         before: &Option<Metadata>,
         reading: Reading,
     ) -> Result<(), Failure>
-        ensures { (outcomes : List Outcome) → self.old.outcome ≡ worst outcomes
+        ensures outcome { (outcomes : List Outcome) → self.old.outcome ≡ worst outcomes
             → self.new.outcome ≡ worst (outcomes ++ outcome_of (passes self.old.options.strict self.old.options.allowed finding) ∷ []) }
+        ensures summary { (files : List (Option Finding)) → Counts self.old.summary files → Counts self.new.summary (files ++ Some finding ∷ []) }
     {
         let sites = self.find_sites(&finding, file, before, reading);
         self.tell(name, finding, Some(&sites))
@@ -359,8 +364,9 @@ impl<'a> Run<'a> {
 
     /// Tells a file that was judged.
     fn tell(&mut self, name: &[u8], finding: Finding, sites: Option<&Sites>) -> Result<(), Failure>
-        ensures { (outcomes : List Outcome) → self.old.outcome ≡ worst outcomes
+        ensures outcome { (outcomes : List Outcome) → self.old.outcome ≡ worst outcomes
             → self.new.outcome ≡ worst (outcomes ++ outcome_of (passes self.old.options.strict self.old.options.allowed finding) ∷ []) }
+        ensures summary { (files : List (Option Finding)) → Counts self.old.summary files → Counts self.new.summary (files ++ Some finding ∷ []) }
     {
         self.progress.clear();
         let passes = self.options.passes(&finding);
@@ -379,7 +385,8 @@ impl<'a> Run<'a> {
 
     /// What is told of a file, in the form that is asked for.
     fn put(&mut self, report: &Report<'_>) -> Result<(), AllocError>
-        ensures { self.new.outcome ≡ self.old.outcome }
+        ensures outcome { self.new.outcome ≡ self.old.outcome }
+        ensures summary { self.new.summary ≡ self.old.summary }
     {
         let alloc = self.rt.alloc();
         match self.options.format {
@@ -393,7 +400,8 @@ impl<'a> Run<'a> {
 
     /// Tells a file that could not be opened or read. On standard error each is told.
     fn tell_unread(&mut self, name: &[u8], error: &io::Error) -> Result<(), Failure>
-        ensures { (outcomes : List Outcome) → self.old.outcome ≡ worst outcomes → self.new.outcome ≡ worst (outcomes ++ Unread ∷ []) }
+        ensures outcome { (outcomes : List Outcome) → self.old.outcome ≡ worst outcomes → self.new.outcome ≡ worst (outcomes ++ Unread ∷ []) }
+        ensures summary { (files : List (Option Finding)) → Counts self.old.summary files → Counts self.new.summary (files ++ None ∷ []) }
     {
         self.progress.clear();
         self.outcome.add(Outcome::Unread);
@@ -413,7 +421,8 @@ impl<'a> Run<'a> {
     }
 
     fn put_unread(&mut self, name: &[u8], reason: &str) -> Result<(), AllocError>
-        ensures { self.new.outcome ≡ self.old.outcome }
+        ensures outcome { self.new.outcome ≡ self.old.outcome }
+        ensures summary { self.new.summary ≡ self.old.summary }
     {
         let alloc = self.rt.alloc();
         match self.options.format {
@@ -426,7 +435,8 @@ impl<'a> Run<'a> {
 
     /// On a terminal each file is shown when it is judged.
     fn show(&mut self) -> Result<(), Failure>
-        ensures { self.new.outcome ≡ self.old.outcome }
+        ensures outcome { self.new.outcome ≡ self.old.outcome }
+        ensures summary { self.new.summary ≡ self.old.summary }
     {
         if self.is_terminal {
             self.out.flush()?;

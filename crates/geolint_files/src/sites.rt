@@ -58,13 +58,18 @@ pub struct Sites {
 }
 
 impl Sites {
-    ghost use Rattle.std.specs.Prelude.{◌≡◌, ◌<◌, ◌++◌, [], ℕ, List, IfSome, get_or};
+    ghost use Rattle.std.specs.Prelude.{◌≡◌, ◌<◌, ◌≤◌, ◌+◌, ◌-◌, ◌^◌, ◌++◌, ◌∷◌, [], ℕ, List, length, IfSome, OnOk, get_or, true, false};
+    ghost use Rattle.std.specs.Option.{IsNone};
+    ghost use Rattle.std.specs.List.{Contains};
+    ghost use Rattle.std.specs.List.Sorted.{IsNonDecreasing};
     ghost use Rattle.geolint_files.specs.declared.sites.Site.{Site};
-    ghost use Rattle.geolint_files.specs.Sites.{IsSpot, AreRight, RightBy, Reaches};
+    ghost use Rattle.geolint_files.specs.Sites.{IsSpot, AreRight, RightBy, sought, AllFound, FoundBy};
+    ghost use Rattle.geolint_files.specs.Internal.SecondReading.{Reaches, Seeks, Settles};
 
     /// Where no place is sought.
     pub fn none() -> Sites
-        ensures { (text : List ℕ) → AreRight text result.sites }
+        ensures right { (text : List ℕ) → AreRight text result.sites }
+        ensures sought { sought result ≡ [] }
     {
         Sites {
             sites: [Site::of(0); MOST_PLACES],
@@ -75,7 +80,8 @@ impl Sites {
 
     /// Seeks one place more, which is not before the others.
     pub fn seek(&mut self, place: u64)
-        ensures { (text : List ℕ) → AreRight text self.old.sites → AreRight text self.new.sites }
+        ensures right { (text : List ℕ) → AreRight text self.old.sites → AreRight text self.new.sites }
+        ensures sought { length (sought self.old) < 10 → sought self.new ≡ sought self.old ++ place ∷ [] }
     {
         if self.count < MOST_PLACES {
             self.sites[self.count] = Site::of(place);
@@ -95,7 +101,8 @@ impl Sites {
 
     /// Where the place stands, if it was found.
     pub fn at(&self, place: u64) -> Option<&Site>
-        ensures { IfSome result (λ site. (site.now.place ≡ place) × ((text : List ℕ) → AreRight text self.now.sites → IsSpot text place site.now.spot)) }
+        ensures missed { IsNone result → (text : List ℕ) → AllFound text self.now → Contains (sought self.now) place → place < 2 ^ 64 - 1 → length text < place }
+        ensures spot { IfSome result (λ site. (site.now.place ≡ place) × ((text : List ℕ) → AreRight text self.now.sites → IsSpot text place site.now.spot)) }
     {
         for site in &self.sites {
             if site.is_found && site.place == place {
@@ -119,7 +126,9 @@ impl Sites {
         limits: Limits,
         is_sequence: bool,
     ) -> io::Result<()>
-        ensures { AreRight [] self.old.sites → RightBy (R.remaining reader.old) self.new.sites }
+        ensures right { AreRight [] self.old.sites → RightBy (R.remaining reader.old) self.new.sites }
+        ensures found { AreRight [] self.old.sites → IsNonDecreasing (sought self.old) → OnOk result (FoundBy (R.remaining reader.old) self.new) }
+        ensures sought { sought self.new ≡ sought self.old }
     {
         let mut finder = Finder::new(limits, is_sequence);
         let mut piece = [0; PIECE];
@@ -139,19 +148,24 @@ impl Sites {
 
     /// Takes the next bytes of the file.
     fn take(&mut self, finder: &mut Finder, piece: &[u8])
-        ensures { (text : List ℕ) → Reaches finder.old self.old text [] → Reaches finder.new self.new (text ++ piece.now) [] }
+        ensures reaches { (text : List ℕ) → Reaches finder.old self.old text [] → Reaches finder.new self.new (text ++ piece.now) [] }
+        ensures seeks { (text : List ℕ) → Reaches finder.old self.old text [] → IsNonDecreasing (sought self.old)
+            → Seeks finder.old self.old (length text) → Seeks finder.new self.new (length (text ++ piece.now)) }
+        ensures sought { sought self.new ≡ sought self.old }
     {
-        for _ in 0..MOST_PLACES {
-            if !self.reach(finder, piece) {
-                break;
-            }
-        }
+        while self.reach(finder, piece) {}
         self.pass(finder, piece);
     }
 
     /// Takes the bytes up to the next place, where it is among these: whether it is.
     fn reach(&mut self, finder: &mut Finder, piece: &[u8]) -> bool
-        ensures { (text : List ℕ) → Reaches finder.old self.old text piece.now → Reaches finder.new self.new text piece.now }
+        ensures reaches { (text : List ℕ) → Reaches finder.old self.old text piece.now → Reaches finder.new self.new text piece.now }
+        ensures reached { result ≡ true → (text : List ℕ) → Reaches finder.old self.old text piece.now → IsNonDecreasing (sought self.old)
+            → Seeks finder.old self.old (length text + finder.old.counted) → Seeks finder.new self.new (length text + finder.new.counted) }
+        ensures passed { result ≡ false → (text : List ℕ) → Reaches finder.old self.old text piece.now → IsNonDecreasing (sought self.old)
+            → Seeks finder.old self.old (length text + finder.old.counted) → Seeks finder.new self.new (length text + length piece.now) }
+        ensures sought { sought self.new ≡ sought self.old }
+        ensures next { result ≡ true → (finder.old.next < 10) × (finder.new.next ≡ finder.old.next + 1) }
     {
         let i = finder.next;
         let end = finder.offset.saturating_add(piece.len() as u64);
@@ -178,7 +192,9 @@ impl Sites {
 
     /// Takes the rest of the bytes.
     fn pass(&mut self, finder: &mut Finder, piece: &[u8])
-        ensures { (text : List ℕ) → Reaches finder.old self.old text piece.now → Reaches finder.new self.new (text ++ piece.now) [] }
+        ensures reaches { (text : List ℕ) → Reaches finder.old self.old text piece.now → Reaches finder.new self.new (text ++ piece.now) [] }
+        ensures seeks { (passed : ℕ) → Seeks finder.old self.old passed → Seeks finder.new self.new passed }
+        ensures sought { sought self.new ≡ sought self.old }
     {
         let rest = rest_of(piece, finder.counted);
         if finder.next >= self.count {
@@ -195,7 +211,10 @@ impl Sites {
 
     /// The place behind the last byte has a line and a column too.
     fn end(&mut self, finder: &Finder)
-        ensures { (text : List ℕ) → Reaches finder.now self.old text [] → AreRight text self.new.sites }
+        ensures right { (text : List ℕ) → Reaches finder.now self.old text [] → AreRight text self.new.sites }
+        ensures found { (text : List ℕ) → Reaches finder.now self.old text [] → IsNonDecreasing (sought self.old)
+            → Seeks finder.now self.old (length text) → AllFound text self.new }
+        ensures sought { sought self.new ≡ sought self.old }
     {
         let i = finder.next;
         if i < self.count
@@ -210,7 +229,7 @@ impl Sites {
     fn settle(&mut self, i: usize, spot: Spot, path: Option<Path>)
         requires { i < 10 }
         ensures right { (text : List ℕ) (other : Site) → AreRight text self.old.sites → IsSpot text (get_or self.old.sites i other).place spot → AreRight text self.new.sites }
-        ensures count { self.new.count ≡ self.old.count }
+        ensures settles { Settles self.old self.new i }
     {
         let place = self.sites[i].place;
         self.sites[i] = Site {
@@ -259,10 +278,12 @@ fn record_limits(limits: Limits) -> Limits {
 impl Finder {
     ghost use Rattle.std.specs.Prelude.{◌≡◌, []};
     ghost use Rattle.geolint_files.specs.declared.sites.Sites.{Sites};
-    ghost use Rattle.geolint_files.specs.Sites.{AreRight, Reaches, IsLocated};
+    ghost use Rattle.geolint_files.specs.Sites.{AreRight};
+    ghost use Rattle.geolint_files.specs.Internal.SecondReading.{Reaches, IsLocated};
 
     fn new(limits: Limits, is_sequence: bool) -> Finder
         ensures begins { (sites : Sites) → AreRight [] sites.sites → Reaches result sites [] [] }
+        ensures next { result.next ≡ 0 }
     {
         Finder {
             locator: Locator::new(limits),

@@ -1,4 +1,6 @@
 //! How many files are what.
+ghost use Rattle.std.specs.Prelude.{◌≡◌};
+ghost use Rattle.geolint_files.specs.Internal.FileCounts.{slot_of};
 
 use crate::judge::Finding;
 use crate::line::put_all;
@@ -21,7 +23,17 @@ pub struct Summary {
 }
 
 impl Summary {
-    pub fn new() -> Summary {
+    ghost use Rattle.std.specs.Prelude.{◌≡◌, ◌<◌, ◌++◌, ◌∷◌, [], List, Option, Some, None, false, not};
+    ghost use Rattle.std.specs.List.{count_by};
+    ghost use Rattle.std.specs.Io.Iter.{u64_saturate};
+    ghost use Rattle.gj_coords.specs.Internal.KeptWarnings.{none_in};
+    ghost use Rattle.geolint_files.specs.declared.judge.Finding.{Finding};
+    ghost use Rattle.geolint_files.specs.Counts.{is_cause, same, warns, tells};
+    ghost use Rattle.geolint_files.specs.Internal.FileCounts.{Counts, Adds, slot_of};
+
+    pub fn new() -> Summary
+        ensures { Counts result [] }
+    {
         Summary {
             valid: 0,
             warned: 0,
@@ -34,15 +46,11 @@ impl Summary {
     }
 
     /// One file more of which this is found.
-    pub fn add_file(&mut self, finding: &Finding) {
+    pub fn add_file(&mut self, finding: &Finding)
+        ensures { (files : List (Option Finding)) → Counts self.old files → Counts self.new (files ++ Some finding.now ∷ []) }
+    {
         match finding.fault() {
-            Some(told) => {
-                match told.code {
-                    Code::Cause(_) => self.refused = self.refused.saturating_add(1),
-                    _ => self.broken = self.broken.saturating_add(1),
-                }
-                self.count(told.code);
-            }
+            Some(told) => self.add_fault(told.code),
             None => match finding.warnings() {
                 None => self.not_valid = self.not_valid.saturating_add(1),
                 Some(warnings) => self.add_valid(&warnings),
@@ -50,7 +58,19 @@ impl Summary {
         }
     }
 
-    fn add_valid(&mut self, warnings: &Warnings) {
+    fn add_fault(&mut self, code: Code)
+        ensures { Adds self.old self.new false false (not (is_cause code)) (is_cause code) false (λ other. same other code) }
+    {
+        match code {
+            Code::Cause(_) => self.refused = self.refused.saturating_add(1),
+            _ => self.broken = self.broken.saturating_add(1),
+        }
+        self.count(code);
+    }
+
+    fn add_valid(&mut self, warnings: &Warnings)
+        ensures { Adds self.old self.new (none_in warnings.now) (not (none_in warnings.now)) false false false (λ code. warns code warnings.now) }
+    {
         if warnings.is_empty() {
             self.valid = self.valid.saturating_add(1);
         } else {
@@ -63,19 +83,33 @@ impl Summary {
         }
     }
 
-    pub fn add_unread(&mut self) {
+    /// One file more that was not read.
+    pub fn add_unread(&mut self)
+        ensures { (files : List (Option Finding)) → Counts self.old files → Counts self.new (files ++ None ∷ []) }
+    {
         self.unread = self.unread.saturating_add(1);
     }
 
     /// One file more of which this is told.
-    fn count(&mut self, code: Code) {
-        if let Some(count) = self.counts.get_mut(slot(code)) {
-            *count = count.saturating_add(1);
+    fn count(&mut self, code: Code)
+        ensures { Adds self.old self.new false false false false false (λ other. same other code) }
+    {
+        let slot = slot(code);
+        if slot < self.counts.len() {
+            self.counts[slot] = self.counts[slot].saturating_add(1);
         }
     }
 
-    fn of(&self, code: Code) -> u64 {
-        self.counts.get(slot(code)).copied().unwrap_or(0)
+    /// Of how many files this is told.
+    fn of(&self, code: Code) -> u64
+        ensures { slot_of code < 34 → (files : List (Option Finding)) → Counts self.now files → result ≡ u64_saturate (count_by (tells code) files) }
+    {
+        let slot = slot(code);
+        if slot < self.counts.len() {
+            self.counts[slot]
+        } else {
+            0
+        }
     }
 
     /// Puts the counts, and how many files each rule is told of.
@@ -128,12 +162,15 @@ fn put_files_of(count: u64, text: &[u8], line: &mut Vec<u8>) -> Result<(), Alloc
     put_all(line, &[digits.format(count).as_bytes(), text])
 }
 
-fn slot(code: Code) -> usize {
+/// Where the count of a code lies.
+fn slot(code: Code) -> usize
+    ensures { result ≡ slot_of code }
+{
     let number = (code.number() as usize).saturating_sub(1);
     match code {
         Code::Rule(_) => number,
-        Code::Kind(_) => number.saturating_add(21),
-        Code::Cause(_) => number.saturating_add(30),
+        Code::Kind(_) => number + 21,
+        Code::Cause(_) => number + 30,
         Code::NotValid => usize::MAX,
     }
 }

@@ -25,6 +25,8 @@ pub mod ListLaws
 pub mod WholeGather
 pub mod SixReaders
 pub mod KeptWarningLaws
+pub mod WarningLaws
+pub mod LeastLaws
 pub mod GatheredWarningLaws
 pub mod PositionWarnings
 pub mod WindingLaws

@@ -1,5 +1,7 @@
 pub mod Fault
 pub mod Warnings
+pub mod Texts
+pub mod WarningsStand
 pub mod Items
 pub mod Ring
 pub mod Shape
@@ -10,6 +12,4 @@ pub mod BoxWarnings
 pub mod SimpleFaults
 pub mod Coordinates
 pub mod Bbox
-pub mod LeastLaws
-pub mod WarningLaws
 pub mod Internal

@@ -1,6 +1,4 @@
 //! The value of `bbox` (RFC 7946, section 5).
-#[cfg(test)]
-mod tests;
 
 ghost use Rattle.std.specs.Prelude.{◌≡◌};
 ghost use Rattle.gj_coords.specs.Internal.BoxGather.{unlike_number};
@@ -157,7 +155,7 @@ impl Bbox {
     ghost use Rattle.gj_coords.specs.Box.{bbox_faults};
     ghost use Rattle.gj_coords.specs.Bbox.{StandsFor};
     ghost use Rattle.gj_coords.specs.BoxWarnings.{bbox_warnings};
-    ghost use Rattle.gj_coords.specs.Internal.KeptWarnings.{StandsFor as WarningsStandFor};
+    ghost use Rattle.gj_coords.specs.WarningsStand.{StandsFor as WarningsStandFor};
 
     /// No event has come.
     pub fn new() -> Bbox

@@ -1,6 +1,4 @@
 //! The value of `coordinates` under the six types.
-#[cfg(test)]
-mod tests;
 
 use crate::array::Stage;
 use crate::depth::{Depth, depth_of, is_past};
@@ -43,7 +41,8 @@ impl Coordinates {
     ghost use Rattle.gj_coords.specs.Fault.{least};
     ghost use Rattle.gj_coords.specs.Shape.{coordinates_faults};
     ghost use Rattle.gj_coords.specs.Coordinates.{StandsFor};
-    ghost use Rattle.gj_coords.specs.Internal.KeptWarnings.{StandsFor as WarningsStandFor, joined, no_warnings};
+    ghost use Rattle.gj_coords.specs.Internal.KeptWarnings.{joined, no_warnings};
+    ghost use Rattle.gj_coords.specs.WarningsStand.{StandsFor as WarningsStandFor};
     ghost use Rattle.gj_coords.specs.declared.array.Stage.TheVariants.{Due};
     ghost use Rattle.gj_coords.specs.SimpleFaults.{least_faults};
     ghost use Rattle.gj_coords.specs.Internal.GatheredWarnings.{all_in};

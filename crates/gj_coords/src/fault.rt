@@ -1,6 +1,9 @@
 //! What is wrong with a text, and where.
 ghost use Rattle.std.specs.Prelude.{◌≡◌};
 ghost use Rattle.gj_coords.specs.Fault.{number_of, comes_first, lesser};
+ghost use Rattle.gj_coords.specs.Texts.{rule_text};
+
+use std::fmt;
 
 /// The rules that a GeoJSON text may break. In brackets stands the section of RFC 7946, and behind the colon what is at the
 /// place of the fault.
@@ -79,6 +82,41 @@ impl Rule {
             Rule::G20 => 20,
             Rule::G21 => 21,
         }
+    }
+
+    /// What the rule is called in a report.
+    pub fn text(self) -> &'static str
+        ensures { result.now ≡ rule_text self }
+    {
+        match self {
+            Rule::G1 => "not an object",
+            Rule::G2 => "type missing",
+            Rule::G3 => "type not allowed here",
+            Rule::G4 => "coordinates missing",
+            Rule::G5 => "geometries missing",
+            Rule::G6 => "geometry missing",
+            Rule::G7 => "properties missing",
+            Rule::G8 => "features missing",
+            Rule::G9 => "member forbidden by section 7.1",
+            Rule::G10 => "name repeated",
+            Rule::G11 => "coordinates of the wrong shape",
+            Rule::G12 => "position of fewer than two elements",
+            Rule::G13 => "line of fewer than two elements",
+            Rule::G14 => "ring of fewer than four elements",
+            Rule::G15 => "ring not closed",
+            Rule::G16 => "number beyond the profile",
+            Rule::G17 => "not an array",
+            Rule::G18 => "properties neither object nor null",
+            Rule::G19 => "id neither string nor number",
+            Rule::G20 => "bbox or its element of the wrong kind",
+            Rule::G21 => "bbox length odd or below 4",
+        }
+    }
+}
+
+impl fmt::Display for Rule {
+    fn fmt<W: fmt::Write>(&self, f: &mut fmt::Formatter<W>) -> fmt::Result {
+        f.write_str(self.text())
     }
 }
 

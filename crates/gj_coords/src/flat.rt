@@ -38,6 +38,7 @@ fn third_value(third: &Option<Numbered>) -> Option<Decimal>
 }
 
 /// Its exact values.
+#[inline(always)]
 pub fn values(flat: &Flat) -> Values
     ensures { result ≡ flat_values flat.now }
 {

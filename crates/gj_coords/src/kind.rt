@@ -1,6 +1,9 @@
 //! The kinds of warning.
 ghost use Rattle.std.specs.Prelude.{◌≡◌};
+ghost use Rattle.gj_coords.specs.Texts.{kind_text};
 ghost use Rattle.gj_coords.specs.Warnings.{kind_number};
+
+use std::fmt;
 
 /// What a warning is given for. In brackets stands the section of RFC 7946, and behind the colon what is at the place of the
 /// warning.
@@ -42,5 +45,28 @@ impl Kind {
             Kind::W8 => 8,
             Kind::W9 => 9,
         }
+    }
+
+    /// What the kind is called in a report.
+    pub fn text(self) -> &'static str
+        ensures { result.now ≡ kind_text self }
+    {
+        match self {
+            Kind::W1 => "byte order mark",
+            Kind::W2 => "ring runs the wrong way",
+            Kind::W3 => "more than three numbers in a position",
+            Kind::W4 => "more than seven decimal places",
+            Kind::W5 => "position out of range",
+            Kind::W6 => "empty coordinates",
+            Kind::W7 => "collection in a collection",
+            Kind::W8 => "bbox south above north",
+            Kind::W9 => "crs is no longer used",
+        }
+    }
+}
+
+impl fmt::Display for Kind {
+    fn fmt<W: fmt::Write>(&self, f: &mut fmt::Formatter<W>) -> fmt::Result {
+        f.write_str(self.text())
     }
 }

@@ -22,8 +22,6 @@ mod part;
 mod position;
 mod position_warned;
 mod ring;
-#[cfg(test)]
-mod sample;
 mod second_level;
 mod several;
 mod simple;

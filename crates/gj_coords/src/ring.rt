@@ -166,8 +166,18 @@ impl Positions {
                 self.closes = first.same_flat(position);
                 self.winding.add_next(&corner);
             }
-            None => self.add_sound(&flat::values(position), Some(corner)),
+            None => self.begin_flat(position, corner),
         }
+    }
+
+    /// Adds the first position that has no fault, told as one: its values are written where they are kept.
+    #[inline(never)]
+    fn begin_flat(&mut self, position: &Flat, corner: Corner)
+        ensures { self.old.first ≡ None → self.new ≡ sound_joined self.old (flat_values position.now) (Some corner) }
+    {
+        self.first = Some(flat::values(position));
+        self.closes = true;
+        self.winding.add(Some(corner));
     }
 
     /// Adds a position without a fault after others without one.

@@ -8,7 +8,7 @@ ghost use Rattle.gj_json.specs.Events.{value_events};
 ghost use Rattle.gj_coords.specs.declared.simple.Simple.{Simple};
 ghost use Rattle.gj_coords.specs.Fault.{least};
 ghost use Rattle.gj_coords.specs.Shape.{coordinates_faults};
-ghost use Rattle.gj_coords.specs.Internal.KeptWarnings.{StandsFor as WarningsStandFor};
+ghost use Rattle.gj_coords.specs.WarningsStand.{StandsFor as WarningsStandFor};
 ghost use Rattle.gj_coords.specs.CoordinateWarnings.{coordinates_warnings};
 ghost use Rattle.gj_coords.specs.Internal.ValueMachine.{Answers};
 ghost use Rattle.gj_coords.specs.Internal.SixReaders.{type_answer};

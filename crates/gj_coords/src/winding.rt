@@ -1,6 +1,4 @@
 //! How a linear ring runs (RFC 7946, section 3.1.6).
-#[cfg(test)]
-mod tests;
 
 ghost use Rattle.std.specs.Prelude.{◌≡◌, ◌+ℤ◌, ◌-ℤ◌, ◌*ℤ◌, Some};
 ghost use Rattle.std.specs.Int.{int_wrap, w128};

@@ -11,3 +11,4 @@ pub mod CharacterPrefixes
 pub mod NonemptyTokens
 pub mod SpelledFlats
 pub mod SpelledTokens
+pub mod SpelledPairs

@@ -8,6 +8,7 @@ pub mod Limits
 pub mod Refusal
 pub mod Longest
 pub mod Names
+pub mod Texts
 pub mod Events
 pub mod Open
 pub mod Path

@@ -4,7 +4,7 @@ use crate::names::{Known, Word};
 use gj_number::Decimal;
 
 /// What stands at a place of a text (RFC 8259, sections 3 to 7).
-#[derive(Clone, Copy, Default, PartialEq, Eq)]
+#[derive(Clone, Copy, Debug, Default, PartialEq, Eq)]
 pub enum What {
     /// `{`.
     #[default]
@@ -34,7 +34,7 @@ pub enum What {
 /// A part of a text: what it is, and where its first byte stands.
 ///
 /// A string and a name are told at their closing quote, a number at the byte behind it or at the end of the text.
-#[derive(Clone, Copy, Default, PartialEq, Eq)]
+#[derive(Clone, Copy, Debug, Default, PartialEq, Eq)]
 pub struct Event {
     /// How many bytes of the text stand before it.
     pub place: u64,

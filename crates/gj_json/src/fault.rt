@@ -1,4 +1,8 @@
 //! Why and where a reader refuses an input.
+ghost use Rattle.std.specs.Prelude.{◌≡◌};
+ghost use Rattle.gj_json.specs.Texts.{cause_text};
+
+use std::fmt;
 
 /// Why an input is refused. Length comes before the other causes, whatever the byte is.
 #[derive(Clone, Copy, Debug, PartialEq, Eq)]
@@ -13,10 +17,36 @@ pub enum Cause {
     Length,
 }
 
+impl Cause {
+    /// What the cause is called in a report.
+    pub fn text(self) -> &'static str
+        ensures { result.now ≡ cause_text self }
+    {
+        match self {
+            Cause::Syntax => "syntax",
+            Cause::Truncated => "truncated",
+            Cause::Depth => "too deep",
+            Cause::Length => "too long",
+        }
+    }
+}
+
+impl fmt::Display for Cause {
+    fn fmt<W: fmt::Write>(&self, f: &mut fmt::Formatter<W>) -> fmt::Result {
+        f.write_str(self.text())
+    }
+}
+
 /// Where and why an input is refused.
 #[derive(Clone, Copy, Debug, PartialEq, Eq)]
 pub struct JsonFault {
     /// How many bytes of the input stand before the refused one.
     pub place: u64,
     pub cause: Cause,
+}
+
+impl fmt::Display for JsonFault {
+    fn fmt<W: fmt::Write>(&self, f: &mut fmt::Formatter<W>) -> fmt::Result {
+        write!(f, "not JSON at {}: {}", self.place, self.cause)
+    }
 }

@@ -1,15 +1,16 @@
 //! Reads the array of ordinary numbers that a piece starts with.
 
-ghost use Rattle.std.specs.Prelude.{◌≡◌, ◌+◌, ◌^◌, ◌<◌, ◌≤◌, length, take, get_or};
+ghost use Rattle.std.specs.Prelude.{◌≡◌, ◌+◌, ◌^◌, ◌<◌, ◌≤◌, length, take, drop, get_or, IfSome};
 ghost use Rattle.std.specs.List.{AllByRecursion};
 ghost use Rattle.std.specs.Option.{option_to_list};
+ghost use Rattle.gj_number.specs.Short.{exact_of, StartsWithPair};
 ghost use Rattle.gj_json.specs.Bytes.{IsWhite, open_bracket, comma};
 ghost use Rattle.gj_json.specs.Flat.{IsFlat};
 ghost use Rattle.gj_json.specs.Internal.FlatParts.{cut, IsItem, IsMore};
 
 use crate::flat::{Flat, Numbered};
 use crate::runs::white_run;
-use gj_number::read_short;
+use gj_number::{Pair, Short, read_pair, read_short};
 
 /// The index after the white space at this one. Mostly there is none, or one space.
 #[inline(always)]
@@ -65,10 +66,46 @@ fn read_item(piece: &[u8], at: usize, start: u64, number: &mut Numbered) -> usiz
     end
 }
 
+/// How long a piece must be at the least for its pair to be looked for: the bracket and what a pair is read with.
+const PAIR_ROOM: usize = 41;
+
+/// The pair after the first byte of a piece, where the piece has room for it.
+#[inline(always)]
+fn pair_after_bracket(piece: &[u8], first: &mut Short, second: &mut Short) -> Option<Pair>
+    requires { 0 < length piece.now }
+    ensures { IfSome result (λ pair.
+        StartsWithPair (drop 1 piece.now) (exact_of first.new) (exact_of second.new) pair.comma pair.second pair.end) }
+{
+    if piece.len() < PAIR_ROOM {
+        return None;
+    }
+    read_pair(&piece[1..], first, second)
+}
+
 /// Reads the array of two or three ordinary numbers that stands whole at the start of a piece, which begins at the place
-/// `start`: how many bytes it has, or 0.
+/// `start`: how many bytes it has, or 0. Mostly it is a pair.
 #[inline(always)]
 pub fn read_flat(piece: &[u8], start: u64, flat: &mut Flat) -> usize
+    requires some { 0 < length piece.now }
+    requires bracket { get_or piece.now 0 0 ≡ open_bracket }
+    requires small { start + length piece.now ≤ 2 ^ 60 }
+    ensures within { result ≤ length piece.now }
+    ensures flat { 0 < result → IsFlat flat.new start (take result piece.now) }
+{
+    let Some(pair) = pair_after_bracket(piece, &mut flat.first.value, &mut flat.second.value) else {
+        return read_any_flat(piece, start, flat);
+    };
+    flat.place = start;
+    flat.first.place = start + 1;
+    flat.second.place = start + 1 + pair.second as u64;
+    flat.third = None;
+    flat.close = start + 1 + pair.end as u64;
+    pair.end + 2
+}
+
+/// The same of numbers of any length, with white space around them.
+#[inline(always)]
+fn read_any_flat(piece: &[u8], start: u64, flat: &mut Flat) -> usize
     requires some { 0 < length piece.now }
     requires bracket { get_or piece.now 0 0 ≡ open_bracket }
     requires small { start + length piece.now ≤ 2 ^ 60 }

@@ -29,7 +29,6 @@ mod sink;
 mod strings;
 mod tokens;
 mod told;
-mod trail;
 mod wide;
 
 pub use event::{Event, What};

@@ -95,10 +95,9 @@ impl Locator {
         ensures refusal { MatchResult result (λ done. refusal_of self.new ≡ None) (λ fault. refusal_of self.new ≡ Some fault) }
         ensures again { (fault : JsonFault) → refusal_of self.old ≡ Some fault → (self.new ≡ self.old) × (result ≡ Err fault) }
     {
-        let turn = self.reader.next_turn(byte);
         match self.reader.take_next(byte, &mut NoEvents) {
-            Ok(()) => {
-                self.trail.follow(turn);
+            Ok(made) => {
+                self.trail.follow(made);
                 Ok(())
             }
             Err(fault) => Err(fault),
@@ -121,6 +120,3 @@ impl Locator {
         path
     }
 }
-
-#[cfg(test)]
-mod tests;

@@ -2,6 +2,7 @@
 
 use crate::constant::Constant;
 use crate::levels::Level;
+use crate::names::{Known, Word};
 
 /// What a byte does to a number under way.
 #[derive(Clone, Copy, PartialEq, Eq)]
@@ -66,13 +67,29 @@ pub enum Mode {
     ColonDue,
 }
 
+/// What a byte ends. A number ends before a byte, whatever that does.
+#[derive(Clone, Copy, PartialEq, Eq)]
+pub enum Ending {
+    Nothing,
+    /// A byte order mark.
+    Mark,
+    Literal(Constant),
+    /// A string that is a value.
+    Text(Word),
+    Name(Known),
+    /// An element or a member that a comma follows.
+    Item,
+}
+
 /// What a byte does.
 #[derive(Clone, Copy, PartialEq, Eq)]
 pub enum Move {
     Refuse,
-    Go(Mode),
+    /// It leads to this mode, and ends this.
+    Go(Mode, Ending),
     Open(Level),
-    Close,
+    /// It closes the innermost level, which is this.
+    Close(Level),
 }
 
 /// What a byte does to a string under way.

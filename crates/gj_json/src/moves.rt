@@ -6,14 +6,18 @@ ghost use Rattle.gj_json.specs.Internal.ByteClasses.{class_of};
 ghost use Rattle.gj_json.specs.Grammar.{letters_of};
 ghost use Rattle.gj_json.specs.Internal.Transitions.{begin_move, due_move, array_move, name_move, object_move, name_due_move, colon_move, after_move, constant_move, value_string_move, name_string_move, string_move, move_of, IsMode, IsMove, IsStringState};
 ghost use Rattle.gj_json.specs.Internal.TextMachine.{string_next};
+ghost use Rattle.gj_json.specs.Internal.KeptContent.{words_in};
+ghost use Rattle.gj_json.specs.Internal.ReaderStep.{opened};
+ghost use Rattle.gj_json.specs.declared.mode.Ending.TheVariants.{Nothing};
 ghost use Rattle.gj_json.specs.declared.mode.Mode.TheVariants.{MarkOne};
 ghost use Rattle.gj_json.specs.declared.mode.Move.TheVariants.{Go, Refuse};
 ghost use Rattle.gj_json.specs.declared.mode.NumberTurn.TheVariants.{Ends};
 
 use crate::class::{Class, classify};
 use crate::constant::Constant;
+use crate::content::Content;
 use crate::levels::Level;
-use crate::mode::{Mode, Move, StringMove, StringState};
+use crate::mode::{Ending, Mode, Move, StringMove, StringState};
 use crate::strings::next_string;
 
 /// U+FEFF in UTF-8.
@@ -31,9 +35,12 @@ fn begin(class: Class) -> Move
     match class {
         Class::OpenArray => Move::Open(Level::Array),
         Class::OpenObject => Move::Open(Level::Object),
-        Class::Quote => Move::Go(Mode::StringOn(StringState::Plain)),
-        Class::Minus | Class::ZeroDigit | Class::FirstDigit => Move::Go(Mode::NumberOn),
-        Class::Letter(which) => Move::Go(Mode::ConstantOn(which, 1)),
+        Class::Quote => Move::Go(Mode::StringOn(StringState::Plain), Ending::Nothing),
+        Class::Minus | Class::ZeroDigit | Class::FirstDigit => Move::Go(
+            Mode::NumberOn,
+            Ending::Nothing,
+        ),
+        Class::Letter(which) => Move::Go(Mode::ConstantOn(which, 1), Ending::Nothing),
         _ => Move::Refuse,
     }
 }
@@ -44,32 +51,45 @@ fn begin_name(class: Class) -> Move
     ensures mode { IsMove result }
 {
     match class {
-        Class::Quote => Move::Go(Mode::NameOn(StringState::Plain)),
+        Class::Quote => Move::Go(Mode::NameOn(StringState::Plain), Ending::Nothing),
         _ => Move::Refuse,
     }
 }
 
+/// What a byte after a value does.
 #[inline(always)]
-fn after_value(inner: Option<Level>, class: Class) -> Move
-    ensures value { result ≡ after_move inner class }
+#[tactic(auto, unfolding(crate::specs::Internal::ByteClasses::class_of))]
+pub fn after_value(inner: Option<Level>, byte: u8) -> Move
+    ensures value { result ≡ after_move inner (class_of byte) }
     ensures mode { IsMove result }
 {
-    match class {
-        Class::White => Move::Go(Mode::ValueDone),
-        Class::Comma => match inner {
-            Some(Level::Array) => Move::Go(Mode::ValueDue),
-            Some(Level::Object) => Move::Go(Mode::NameDue),
+    match byte {
+        b',' => match inner {
+            Some(Level::Object) => Move::Go(Mode::NameDue, Ending::Item),
+            Some(Level::Array) => Move::Go(Mode::ValueDue, Ending::Item),
             None => Move::Refuse,
         },
-        Class::CloseArray => match inner {
-            Some(Level::Array) => Move::Close,
+        b'}' => match inner {
+            Some(Level::Object) => Move::Close(Level::Object),
             _ => Move::Refuse,
         },
-        Class::CloseObject => match inner {
-            Some(Level::Object) => Move::Close,
+        b']' => match inner {
+            Some(Level::Array) => Move::Close(Level::Array),
             _ => Move::Refuse,
         },
+        b' ' | b'\t' | b'\n' | b'\r' => Move::Go(Mode::ValueDone, Ending::Nothing),
         _ => Move::Refuse,
+    }
+}
+
+/// The mode after the bracket that opens a level.
+#[inline(always)]
+pub fn opened_mode(level: Level) -> Mode
+    ensures { result ≡ opened level }
+{
+    match level {
+        Level::Array => Mode::ArrayOpened,
+        Level::Object => Mode::ObjectOpened,
     }
 }
 
@@ -91,9 +111,9 @@ fn next_letter(which: Constant, count: u8, byte: u8) -> Move
     let all = letters(which);
     if byte == all[count as usize] {
         if count as usize + 1 == all.len() {
-            Move::Go(Mode::ValueDone)
+            Move::Go(Mode::ValueDone, Ending::Literal(which))
         } else {
-            Move::Go(Mode::ConstantOn(which, count + 1))
+            Move::Go(Mode::ConstantOn(which, count + 1), Ending::Nothing)
         }
     } else {
         Move::Refuse
@@ -101,22 +121,22 @@ fn next_letter(which: Constant, count: u8, byte: u8) -> Move
 }
 
 fn next_of_text(byte: u8) -> Move
-    ensures value { result ≡ (if byte == mark_first then Go MarkOne else due_move (class_of byte)) }
+    ensures value { result ≡ (if byte == mark_first then Go MarkOne Nothing else due_move (class_of byte)) }
     ensures mode { IsMove result }
 {
     if byte == MARK_FIRST {
-        return Move::Go(Mode::MarkOne);
+        return Move::Go(Mode::MarkOne, Ending::Nothing);
     }
     value_due(classify(byte))
 }
 
-fn expect(byte: u8, expected: u8, mode: Mode) -> Move
+fn expect(byte: u8, expected: u8, mode: Mode, ending: Ending) -> Move
     requires { IsMode mode }
-    ensures value { result ≡ (if byte == expected then Go mode else Refuse) }
+    ensures value { result ≡ (if byte == expected then Go mode ending else Refuse) }
     ensures mode { IsMove result }
 {
     if byte == expected {
-        Move::Go(mode)
+        Move::Go(mode, ending)
     } else {
         Move::Refuse
     }
@@ -128,7 +148,7 @@ fn value_due(class: Class) -> Move
     ensures mode { IsMove result }
 {
     match class {
-        Class::White => Move::Go(Mode::ValueDue),
+        Class::White => Move::Go(Mode::ValueDue, Ending::Nothing),
         class => begin(class),
     }
 }
@@ -139,8 +159,8 @@ fn array_opened(class: Class) -> Move
     ensures mode { IsMove result }
 {
     match class {
-        Class::White => Move::Go(Mode::ArrayOpened),
-        Class::CloseArray => Move::Close,
+        Class::White => Move::Go(Mode::ArrayOpened, Ending::Nothing),
+        Class::CloseArray => Move::Close(Level::Array),
         class => begin(class),
     }
 }
@@ -151,8 +171,8 @@ fn object_opened(class: Class) -> Move
     ensures mode { IsMove result }
 {
     match class {
-        Class::White => Move::Go(Mode::ObjectOpened),
-        Class::CloseObject => Move::Close,
+        Class::White => Move::Go(Mode::ObjectOpened, Ending::Nothing),
+        Class::CloseObject => Move::Close(Level::Object),
         class => begin_name(class),
     }
 }
@@ -163,7 +183,7 @@ fn name_due(class: Class) -> Move
     ensures mode { IsMove result }
 {
     match class {
-        Class::White => Move::Go(Mode::NameDue),
+        Class::White => Move::Go(Mode::NameDue, Ending::Nothing),
         class => begin_name(class),
     }
 }
@@ -174,57 +194,59 @@ fn colon_due(class: Class) -> Move
     ensures mode { IsMove result }
 {
     match class {
-        Class::White => Move::Go(Mode::ColonDue),
-        Class::Colon => Move::Go(Mode::ValueDue),
+        Class::White => Move::Go(Mode::ColonDue, Ending::Nothing),
+        Class::Colon => Move::Go(Mode::ValueDue, Ending::Nothing),
         _ => Move::Refuse,
     }
 }
 
-fn in_string(state: StringState, byte: u8) -> Move
+/// In a string or a name, of which this is the content so far.
+fn in_string(state: StringState, content: &Content, byte: u8) -> Move
     requires { IsStringState state }
-    ensures value { result ≡ value_string_move (string_move (string_next state byte)) }
+    ensures value { result ≡ value_string_move (words_in content.now) (string_move (string_next state byte)) }
     ensures mode { IsMove result }
 {
     match next_string(state, byte) {
-        StringMove::Ends => Move::Go(Mode::ValueDone),
-        StringMove::Goes(next) => Move::Go(Mode::StringOn(next)),
-        StringMove::Reads(_) => Move::Go(Mode::StringOn(StringState::Plain)),
+        StringMove::Ends => Move::Go(Mode::ValueDone, Ending::Text(content.word())),
+        StringMove::Goes(next) => Move::Go(Mode::StringOn(next), Ending::Nothing),
+        StringMove::Reads(_) => Move::Go(Mode::StringOn(StringState::Plain), Ending::Nothing),
         StringMove::Refuses => Move::Refuse,
     }
 }
 
-fn in_name(state: StringState, byte: u8) -> Move
+fn in_name(state: StringState, content: &Content, byte: u8) -> Move
     requires { IsStringState state }
-    ensures value { result ≡ name_string_move (string_move (string_next state byte)) }
+    ensures value { result ≡ name_string_move (words_in content.now) (string_move (string_next state byte)) }
     ensures mode { IsMove result }
 {
     match next_string(state, byte) {
-        StringMove::Ends => Move::Go(Mode::ColonDue),
-        StringMove::Goes(next) => Move::Go(Mode::NameOn(next)),
-        StringMove::Reads(_) => Move::Go(Mode::NameOn(StringState::Plain)),
+        StringMove::Ends => Move::Go(Mode::ColonDue, Ending::Name(content.known())),
+        StringMove::Goes(next) => Move::Go(Mode::NameOn(next), Ending::Nothing),
+        StringMove::Reads(_) => Move::Go(Mode::NameOn(StringState::Plain), Ending::Nothing),
         StringMove::Refuses => Move::Refuse,
     }
 }
 
-/// What a byte does in a mode, where `inner` is the innermost level that is open, and a number under way has ended.
+/// What a byte does in a mode, where `inner` is the innermost level that is open, a number under way has ended, and this is
+/// the content of the string or the name under way.
 #[inline(always)]
-pub fn next(mode: Mode, inner: Option<Level>, byte: u8) -> Move
+pub fn next(mode: Mode, inner: Option<Level>, content: &Content, byte: u8) -> Move
     requires { IsMode mode }
-    ensures value { result ≡ move_of mode Ends inner byte }
+    ensures value { result ≡ move_of mode Ends inner (words_in content.now) byte }
     ensures mode { IsMove result }
 {
     match mode {
         Mode::TextDue => next_of_text(byte),
-        Mode::MarkOne => expect(byte, MARK_SECOND, Mode::MarkTwo),
-        Mode::MarkTwo => expect(byte, MARK_THIRD, Mode::ValueDue),
+        Mode::MarkOne => expect(byte, MARK_SECOND, Mode::MarkTwo, Ending::Nothing),
+        Mode::MarkTwo => expect(byte, MARK_THIRD, Mode::ValueDue, Ending::Mark),
         Mode::ValueDue => value_due(classify(byte)),
-        Mode::ValueDone | Mode::NumberOn => after_value(inner, classify(byte)),
+        Mode::ValueDone | Mode::NumberOn => after_value(inner, byte),
         Mode::ArrayOpened => array_opened(classify(byte)),
         Mode::ObjectOpened => object_opened(classify(byte)),
         Mode::ConstantOn(which, count) => next_letter(which, count, byte),
-        Mode::StringOn(state) => in_string(state, byte),
+        Mode::StringOn(state) => in_string(state, content, byte),
         Mode::NameDue => name_due(classify(byte)),
-        Mode::NameOn(state) => in_name(state, byte),
+        Mode::NameOn(state) => in_name(state, content, byte),
         Mode::ColonDue => colon_due(classify(byte)),
     }
 }

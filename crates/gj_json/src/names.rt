@@ -2,6 +2,9 @@
 
 ghost use Rattle.std.specs.Prelude.{◌≡◌};
 ghost use Rattle.gj_json.specs.Names.{known_of, word_of};
+ghost use Rattle.gj_json.specs.Texts.{name_text};
+
+use std::fmt;
 
 /// The names of members that RFC 7946 gives a meaning (sections 3 to 6), `crs`, to which an earlier form of GeoJSON gave
 /// one (section 4), and all others.
@@ -28,6 +31,32 @@ pub enum Known {
     /// Any other name: that of a foreign member (6.1).
     #[default]
     Other,
+}
+
+impl Known {
+    /// The name as a path tells it: `*` for a foreign one.
+    pub fn text(self) -> &'static str
+        ensures { result.now ≡ name_text self }
+    {
+        match self {
+            Known::TypeName => "type",
+            Known::Coordinates => "coordinates",
+            Known::Geometries => "geometries",
+            Known::Geometry => "geometry",
+            Known::Properties => "properties",
+            Known::Features => "features",
+            Known::Bbox => "bbox",
+            Known::Id => "id",
+            Known::Crs => "crs",
+            Known::Other => "*",
+        }
+    }
+}
+
+impl fmt::Display for Known {
+    fn fmt<W: fmt::Write>(&self, f: &mut fmt::Formatter<W>) -> fmt::Result {
+        f.write_str(self.text())
+    }
 }
 
 /// The nine types of GeoJSON (RFC 7946, section 1.4), and all other strings.

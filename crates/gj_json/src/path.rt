@@ -1,12 +1,12 @@
 //! The way from the root of a text to one of its values.
 
-ghost use Rattle.std.specs.Prelude.{◌≡◌, ◌≤◌, ◌<◌, ◌^◌, [], ◌∷◌, length, slice_get};
+ghost use Rattle.std.specs.Prelude.{◌≡◌, ◌≤◌, ◌<◌, [], ◌∷◌, length, slice_get};
 ghost use Rattle.gj_json.specs.declared.limits.TheConstants.{MOST_LEVELS};
 ghost use Rattle.gj_json.specs.declared.path.PathStep.TheVariants.{Index};
 
 use crate::limits::MOST_LEVELS;
+use crate::mode::{Ending, Move};
 use crate::names::Known;
-use crate::trail::Turn;
 
 /// A step from an array to one of its elements, or from an object to the value of one of its members (RFC 8259, sections 4
 /// and 5).
@@ -114,16 +114,16 @@ impl Path {
         }
     }
 
-    /// Follows a byte that was taken.
-    pub(crate) fn follow(&mut self, turn: Turn)
-        ensures { Fits (followed turn (inner_steps self.old)) → inner_steps self.new ≡ followed turn (inner_steps self.old) }
+    /// Follows a byte that was taken and made this move.
+    pub(crate) fn follow(&mut self, made: Move)
+        ensures { Fits (followed made (inner_steps self.old)) → inner_steps self.new ≡ followed made (inner_steps self.old) }
     {
-        match turn {
-            Turn::Stays => {}
-            Turn::Opens => self.open(),
-            Turn::Closes => self.close(),
-            Turn::Advances => self.advance(),
-            Turn::Names(known) => self.set_inner(PathStep::Member(known)),
+        match made {
+            Move::Go(_, Ending::Name(known)) => self.set_inner(PathStep::Member(known)),
+            Move::Go(_, Ending::Item) => self.advance(),
+            Move::Open(_) => self.open(),
+            Move::Close(_) => self.close(),
+            _ => {}
         }
     }
 }

@@ -1,5 +1,5 @@
 //! The reader: it takes the bytes of a text and tells its events (RFC 8259).
-ghost use Rattle.std.specs.Prelude.{◌≡◌, ℕ, ◌+◌, ◌≤◌, ◌++◌, ◌∷◌, [], List, length, take, IfOk, IsTrue, MatchResult, Some, None, Ok, Err};
+ghost use Rattle.std.specs.Prelude.{◌≡◌, ℕ, ◌+◌, ◌^◌, ◌≤◌, ◌++◌, ◌∷◌, [], List, length, take, IfOk, IsTrue, MatchResult, Some, None, Ok, Err};
 ghost use Rattle.gj_json.specs.Internal.Transitions.{IsMode};
 ghost use Rattle.gj_json.specs.Internal.OpenLevels.{levels_in};
 
@@ -8,7 +8,7 @@ use crate::event::Event;
 use crate::fault::{Cause, JsonFault};
 use crate::levels::Levels;
 use crate::limits::{Limits, MOST_LEVELS};
-use crate::mode::Mode;
+use crate::mode::{Mode, Move};
 use crate::sink::{EventPair, EventSink};
 use crate::told::last_event;
 use arrayvec::ArrayVec;
@@ -45,6 +45,7 @@ impl Reader {
     ghost use Rattle.gj_json.specs.Refusal.{IsRefusal};
     ghost use Rattle.gj_json.specs.Reader.{StandsFor, limits_of, refusal_of, offset_of, levels_of, Answers, Completed, HearsBy, FinishAnswers};
     ghost use Rattle.gj_json.specs.Internal.FedReader.{HearsTwo};
+    ghost use Rattle.gj_json.specs.Internal.ReaderStep.{Moves};
 
     /// A reader of a text under these limits, before its first byte.
     pub fn new(limits: Limits) -> Self
@@ -107,20 +108,23 @@ impl Reader {
     {
         let mut told = EventPair::new();
         match self.take_next(byte, &mut told) {
-            Ok(()) => Ok(told.events),
+            Ok(_) => Ok(told.events),
             Err(fault) => Err(fault),
         }
     }
 
-    /// Takes the next byte, as [`Reader::push`] does, and tells the sink the events that it completes.
+    /// Takes the next byte, as [`Reader::push`] does, tells the sink the events that it completes, and answers the
+    /// move that it makes.
     pub(crate) fn take_next<S: EventSink>(
         &mut self,
         byte: u8,
         sink: &mut S,
-    ) -> Result<(), JsonFault>
+    ) -> Result<Move, JsonFault>
         ensures stands { (bytes : List ℕ) → StandsFor self.old bytes → StandsFor self.new (bytes ++ byte ∷ []) }
         ensures answer { (bytes : List ℕ) → StandsFor self.old bytes → Answers (limits_of self.old) (bytes ++ byte ∷ []) result }
         ensures told { (bytes : List ℕ) (events : List Event) → StandsFor self.old bytes → S.heard sink.old events → IfOk result (λ done. HearsTwo (S.heard sink.new) events bytes byte) }
+        ensures moves { IfOk result (λ made. Moves self.old byte made) }
+        ensures small { IfOk result (λ made. self.old.limits.bytes ≤ 2 ^ 60) }
         ensures limits { limits_of self.new ≡ limits_of self.old }
         ensures on { offset_of self.old ≤ offset_of self.new }
         ensures refusal { MatchResult result (λ done. refusal_of self.new ≡ None) (λ fault. refusal_of self.new ≡ Some fault) }
@@ -195,9 +199,7 @@ mod flats;
 mod ignored;
 mod level;
 mod pieces;
+mod place;
 mod runs;
 mod steps;
-#[cfg(test)]
-mod tests;
 mod tokens;
-mod turns;

@@ -1,11 +1,12 @@
 //! Bytes in a row that complete nothing and open or close nothing.
 
-ghost use Rattle.std.specs.Prelude.{◌≡◌, ◌≤◌, ◌++◌, ℕ, List, length, take};
-ghost use Rattle.std.specs.List.{AllByRecursion};
+ghost use Rattle.std.specs.Prelude.{◌≡◌, ◌≤◌, ◌<◌, ◌++◌, ℕ, List, if◌then◌else◌, get_or, length, take};
+ghost use Rattle.std.specs.List.{AllByRecursion, prefix_len};
 ghost use Rattle.gj_json.specs.Internal.Transitions.{IsStringState};
-ghost use Rattle.gj_json.specs.Internal.QuietBytes.{IsQuiet, Reads, is_between};
+ghost use Rattle.gj_json.specs.Internal.QuietBytes.{IsQuiet, Reads, StopsString, awaits_token, is_between, is_plain, is_white};
 ghost use Rattle.gj_json.specs.Runs.{IsLongestUtf8, plain_run_of};
 ghost use Rattle.gj_json.specs.Internal.KeptContent.{IsAscii, Holds};
+ghost use Rattle.gj_json.specs.declared.mode.StringState.TheVariants.{Plain};
 
 use crate::characters::characters_run;
 use crate::content::Content;
@@ -18,6 +19,7 @@ use crate::strings::next_string;
 pub fn quiet_run(mode: Mode, piece: &[u8]) -> usize
     ensures within { result ≤ length piece.now }
     ensures quiet { AllByRecursion (IsQuiet mode) (take result piece.now) }
+    ensures longest { result ≡ (if awaits_token mode then prefix_len is_white piece.now else 0) }
 {
     match mode {
         Mode::ValueDue => white_run(piece),
@@ -41,6 +43,7 @@ pub struct StringRun {
 fn plain_front(state: StringState, piece: &[u8]) -> usize
     ensures within { result ≤ length piece.now }
     ensures ascii { AllByRecursion IsAscii (take result piece.now) }
+    ensures longest { state ≡ Plain → result ≡ prefix_len is_plain piece.now }
     ensures reads { Reads state (take result piece.now) (take result piece.now) state }
 {
     match state {
@@ -90,6 +93,7 @@ pub fn string_run(content: &mut Content, state: StringState, piece: &[u8]) -> St
     requires { IsStringState state }
     ensures within { result.count ≤ length piece.now }
     ensures state { IsStringState result.state }
+    ensures longest { result.count < length piece.now → StopsString result.state (get_or piece.now result.count 0) }
     ensures reads { (characters : List ℕ) × Reads state (take result.count piece.now) characters result.state × ((so_far : List ℕ) → Holds content.old so_far → Holds content.new (so_far ++ characters)) }
 {
     let mut count = 0;

@@ -1,33 +1,18 @@
-//! Which events a byte completes.
+//! The events of a byte, by the move that it makes.
 
 ghost use Rattle.std.specs.Prelude.{◌≡◌, ◌++◌, List};
-ghost use Rattle.gj_json.specs.Internal.ToldEvents.{ended, value_ended, gone, opening_of, closing_of, made_event, emitted, is_on as is_on_of, last_event as last_event_of};
-ghost use Rattle.gj_json.specs.Internal.KeptContent.{words_in};
+ghost use Rattle.std.specs.Option.{option_to_list};
+ghost use Rattle.gj_json.specs.Internal.ToldEvents.{ending_event, move_event, opening_of, closing_of, is_on as is_on_of, last_event as last_event_of};
+ghost use Rattle.gj_json.specs.Internal.PathTrail.{is_value as is_value_of};
 ghost use Rattle.gj_json.specs.Events.{what_of as what_of_constant};
 ghost use Rattle.gj_json.specs.declared.event.Event.{Event};
 
 use crate::constant::Constant;
-use crate::content::Content;
 use crate::event::{Event, What};
 use crate::levels::Level;
-use crate::mode::{Mode, Move};
+use crate::mode::{Ending, Mode, Move};
 use crate::sink::EventSink;
 use gj_number::Decimal;
-
-/// Whether a number under way has ended before the byte of this move.
-#[inline(always)]
-fn has_ended(mode: Mode, made: Move) -> bool
-    ensures { result ≡ ended mode made }
-{
-    match mode {
-        Mode::NumberOn => match made {
-            Move::Refuse => false,
-            Move::Go(Mode::NumberOn) => false,
-            _ => true,
-        },
-        _ => false,
-    }
-}
 
 /// Whether a literal name, a number, a string or a name is under way.
 #[inline(always)]
@@ -40,6 +25,16 @@ pub fn is_on(mode: Mode) -> bool
     }
 }
 
+/// Whether a value that is no array and no object is under way.
+pub fn is_value(mode: Mode) -> bool
+    ensures { result ≡ is_value_of mode }
+{
+    match mode {
+        Mode::ConstantOn(_, _) | Mode::NumberOn | Mode::StringOn(_) => true,
+        _ => false,
+    }
+}
+
 pub fn what_of(which: Constant) -> What
     ensures { result ≡ what_of_constant which }
 {
@@ -47,43 +42,6 @@ pub fn what_of(which: Constant) -> What
         Constant::Null => What::Null,
         Constant::True => What::True,
         Constant::False => What::False,
-    }
-}
-
-#[inline(always)]
-fn ended_value(mode: Mode, content: &Content, start: u64) -> Option<Event>
-    ensures { result ≡ value_ended mode (words_in content.now) start }
-{
-    let what = match mode {
-        Mode::ConstantOn(which, _) => what_of(which),
-        Mode::StringOn(_) => What::Text(content.word()),
-        _ => return None,
-    };
-    Some(Event { place: start, what })
-}
-
-/// The event that a move to the mode `next` completes.
-#[inline(always)]
-fn event_of_going(mode: Mode, next: Mode, content: &Content, start: u64) -> Option<Event>
-    ensures { result ≡ gone mode next (words_in content.now) start }
-{
-    match next {
-        Mode::ValueDone => ended_value(mode, content, start),
-        Mode::ColonDue => match mode {
-            Mode::NameOn(_) => Some(Event {
-                place: start,
-                what: What::Name(content.known()),
-            }),
-            _ => None,
-        },
-        Mode::ValueDue => match mode {
-            Mode::MarkTwo => Some(Event {
-                place: 0,
-                what: What::Mark,
-            }),
-            _ => None,
-        },
-        _ => None,
     }
 }
 
@@ -105,57 +63,49 @@ pub fn closing(level: Level) -> What
     }
 }
 
-/// The event that the byte at `offset` completes, beside the number that it ends.
+/// The event of what a byte ends that began at `start`.
 #[inline(always)]
-fn event_of(
-    mode: Mode,
-    inner: Option<Level>,
-    made: Move,
-    content: &Content,
-    start: u64,
-    offset: u64,
-) -> Option<Event>
-    ensures { result ≡ made_event mode inner made (words_in content.now) start offset }
+fn event_of_ending(ending: Ending, start: u64) -> Option<Event>
+    ensures { result ≡ ending_event ending start }
 {
-    match made {
-        Move::Refuse => None,
-        Move::Go(next) => event_of_going(mode, next, content, start),
-        Move::Open(level) => Some(Event {
-            place: offset,
-            what: opening(level),
-        }),
-        Move::Close => match inner {
-            Some(level) => Some(Event {
-                place: offset,
-                what: closing(level),
-            }),
-            None => None,
-        },
-    }
+    let what = match ending {
+        Ending::Nothing | Ending::Item => return None,
+        Ending::Mark => {
+            return Some(Event {
+                place: 0,
+                what: What::Mark,
+            });
+        }
+        Ending::Literal(which) => what_of(which),
+        Ending::Text(word) => What::Text(word),
+        Ending::Name(known) => What::Name(known),
+    };
+    Some(Event { place: start, what })
 }
 
-/// Tells the events that the byte at `offset` completes, by what the reader kept before it and the move that it makes:
-/// `value` is that of the number under way, `content` that of the string.
+/// The event of the byte at `offset` that makes this move, where what was under way began at `start`.
 #[inline(always)]
-pub fn tell_events<S: EventSink>(
-    sink: &mut S,
-    mode: Mode,
-    inner: Option<Level>,
-    made: Move,
-    value: Option<Decimal>,
-    content: &Content,
-    start: u64,
-    offset: u64,
-)
-    ensures { (events : List Event) → S.heard sink.old events → S.heard sink.new (events ++ emitted mode inner made value (words_in content.now) start offset) }
+fn event_of(made: Move, start: u64, offset: u64) -> Option<Event>
+    ensures { result ≡ move_event made start offset }
 {
-    if has_ended(mode, made) {
-        sink.tell(Event {
-            place: start,
-            what: What::Number(value),
-        });
-    }
-    if let Some(event) = event_of(mode, inner, made, content, start, offset) {
+    let what = match made {
+        Move::Refuse => return None,
+        Move::Go(_, ending) => return event_of_ending(ending, start),
+        Move::Open(level) => opening(level),
+        Move::Close(level) => closing(level),
+    };
+    Some(Event {
+        place: offset,
+        what,
+    })
+}
+
+/// Tells what the byte at `offset` ends, opens or closes by this move.
+#[inline(always)]
+pub fn tell_move<S: EventSink>(sink: &mut S, made: Move, start: u64, offset: u64)
+    ensures { (events : List Event) → S.heard sink.old events → S.heard sink.new (events ++ option_to_list (move_event made start offset)) }
+{
+    if let Some(event) = event_of(made, start, offset) {
         sink.tell(event);
     }
 }

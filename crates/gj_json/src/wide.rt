@@ -1,8 +1,8 @@
 //! Unescaped characters of up to three bytes, found sixteen bytes at a time.
 
-ghost use Rattle.std.specs.Prelude.{◌≡◌, ◌<◌, length};
+ghost use Rattle.std.specs.Prelude.{◌≡◌, ◌<◌, ◌≤◌, ◌+◌, ◌⊎◌, length};
 ghost use Rattle.std.specs.Simd.Lanes.{mask_l};
-ghost use Rattle.gj_json.specs.Internal.WideCharacters.{is_tail, ends_of, NoneEnds};
+ghost use Rattle.gj_json.specs.Internal.WideCharacters.{is_tail, ends_of, EndsThere, NoneEnds};
 
 use crate::lanes::LANES;
 use std::simd::prelude::*;
@@ -33,12 +33,13 @@ fn ends(before: u8x16, here: u8x16, next: u8x16) -> u64
     (stops | (goes_on & !tails | !goes_on & tails) | narrow).to_bitmask()
 }
 
-/// At which byte after the first such characters end. The piece may end before that.
+/// At which byte after the first such characters end. The piece may end soon after it instead.
 #[inline(always)]
 pub fn end_of_wide(piece: &[u8]) -> usize
     requires some { 1 < length piece.now }
     ensures within { (0 < result) × (result < length piece.now) }
     ensures none { NoneEnds piece.now result }
+    ensures end { EndsThere piece.now result ⊎ (length piece.now ≤ result + 16) }
 {
     let mut at = 1;
     while piece.len() - at > LANES {

@@ -8,3 +8,5 @@ pub mod SixteenLanes
 pub mod NumberPrefixes
 pub mod OrdinaryNumbers
 pub mod WrittenExponents
+pub mod NumberPairs
+pub mod PointedNumbers

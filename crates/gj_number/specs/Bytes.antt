@@ -29,6 +29,18 @@ zero_digit = 48
 abbrev pub nine_digit : ℕ
 nine_digit = 57
 
+-- `,`
+abbrev pub comma : ℕ
+comma = 44
+
+-- ` `
+abbrev pub space : ℕ
+space = 32
+
+-- `]`
+abbrev pub close_bracket : ℕ
+close_bracket = 93
+
 abbrev pub IsDigit : ℕ → Type 0
 IsDigit b = (zero_digit ≤ b) × (b ≤ nine_digit)
 

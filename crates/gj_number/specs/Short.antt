@@ -1,6 +1,6 @@
 -- Ordinary numbers: which bytes are one, which decimal one is, and what it says of a piece that it starts with one.
-use Rattle.std.specs.Prelude.{◌≡◌, ℕ, ◌+◌, ◌<◌, ◌≤◌, Bool, ◌==◌, if◌then◌else◌, pos, ◌-ℤ◌, Some, List, ◌++◌, length, take, get_or}
-use Rattle.gj_number.specs.Bytes.{IsNumberByte}
+use Rattle.std.specs.Prelude.{◌≡◌, ℕ, ◌+◌, ◌-◌, ◌<◌, ◌≤◌, ◌⊎◌, Bool, ◌==◌, if◌then◌else◌, pos, ◌-ℤ◌, Some, List, ◌++◌, length, take, drop, get_or}
+use Rattle.gj_number.specs.Bytes.{comma, space, close_bracket, IsNumberByte}
 use Rattle.gj_number.specs.Grammar.{IsNumber, IsNatural, BeginsNumber}
 use Rattle.gj_number.specs.Exact.{Exact, zero_exact}
 use Rattle.gj_number.specs.Value.{Denotes, SpellsSign, SpellsFraction, value_of, stripped, tens_in}
@@ -31,6 +31,25 @@ pub record StartsOrdinary (piece : List ℕ) (n : ℕ) : Type 0 where
   pub ordinary : IsOrdinary (take n piece)
   pub after : IsNumberByte (get_or piece n 0) → ⊥
 
+-- The same of a number with a point, with one to three digits before it and at most eleven after it, and of the byte
+-- after the number.
+pub record StartsUsual (piece : List ℕ) (n behind : ℕ) : Type 0 where
+  pub number : StartsOrdinary piece n
+  pub few : length number.ordinary.natural ≤ 3
+  pub some_after : 0 < length number.ordinary.fraction
+  pub few_after : length number.ordinary.fraction ≤ 11
+  pub ends : get_or piece n 0 ≡ behind
+
+-- The piece starts with two of them, with a comma between them, one space after it or none, and a closing bracket after
+-- the second.
+pub record StartsUsualPair (piece : List ℕ) : Type 0 where
+  pub comma_at : ℕ
+  pub second_at : ℕ
+  pub length_other : ℕ
+  pub one : StartsUsual piece comma_at comma
+  pub between : (second_at ≡ comma_at + 1) ⊎ ((second_at ≡ comma_at + 2) × (get_or piece (comma_at + 1) 0 ≡ space))
+  pub other : StartsUsual (drop second_at piece) length_other close_bracket
+
 -- ---- the decimal
 
 -- the decimal of at most eighteen digits, of which so many stand after the point
@@ -49,3 +68,13 @@ pub record StartsWithNumber (piece : List ℕ) (e : Exact) (n : ℕ) : Type 0 wh
   pub denotes : Denotes (take n piece) e
   pub value : value_of (take n piece) ≡ Some e
   pub ends : BeginsNumber (take (n + 1) piece) → ⊥
+
+-- The piece starts with two numbers that denote these decimals: a comma after the first, with one space behind it or none,
+-- and a closing bracket after the second, at these indices.
+pub record StartsWithPair (piece : List ℕ) (first second : Exact) (comma_at second_at end : ℕ) : Type 0 where
+  pub one : StartsWithNumber piece first comma_at
+  pub comma : get_or piece comma_at 0 ≡ comma
+  pub between : (second_at ≡ comma_at + 1) ⊎ ((second_at ≡ comma_at + 2) × (get_or piece (comma_at + 1) 0 ≡ space))
+  pub ordered : second_at ≤ end
+  pub other : StartsWithNumber (drop second_at piece) second (end - second_at)
+  pub closing : get_or piece end 0 ≡ close_bracket

@@ -1,10 +1,11 @@
 //! Sixteen bytes at once.
 ghost use Rattle.std.specs.Prelude.{◌≡◌, ℕ, min, ◌-◌, ◌+◌, ◌*◌, ◌<◌, ◌≤◌, ◌++◌, List, [], ◌∷◌, length, map, take, drop, nat_le, replicate, IfSome, All, get_or};
 ghost use Rattle.std.specs.List.{fold};
+ghost use Rattle.std.specs.Option.{IsSome};
 ghost use Rattle.std.specs.Simd.Lanes.{Each1, mask_l};
 ghost use Rattle.gj_number.specs.Bytes.{IsDigit};
 ghost use Rattle.gj_number.specs.Internal.DigitLanes.{lane_of, with_value, by_fours, leading};
-ghost use Rattle.gj_number.specs.Internal.DigitRuns.{IsRun, SpellsOn, SpellsUnsigned};
+ghost use Rattle.gj_number.specs.Internal.DigitRuns.{IsRun, IsPointed, SpellsOn, SpellsUnsigned};
 
 use std::simd::prelude::*;
 
@@ -33,6 +34,44 @@ static OTHERS: [u8; 256] = [
     128, 0, 1, 2, 3, 4, 5, 6, 7, 8, 9, 10, 11, 13, 14, 15, 128, 0, 1, 2, 3, 4, 5, 6, 7, 8, 9, 10,
     11, 12, 14, 15, 128, 0, 1, 2, 3, 4, 5, 6, 7, 8, 9, 10, 11, 12, 13, 15, 128, 0, 1, 2, 3, 4, 5,
     6, 7, 8, 9, 10, 11, 12, 13, 14, 128,
+];
+
+/// Rows of sixteen places, from one to three digits before a point and up to fifteen after it: in row
+/// `16 * (natural - 1) + fraction` those of so many digits, after places of no lane.
+static POINTED: [u8; 768] = [
+    128, 128, 128, 128, 128, 128, 128, 128, 128, 128, 128, 128, 128, 128, 128, 0, 128, 128, 128,
+    128, 128, 128, 128, 128, 128, 128, 128, 128, 128, 128, 0, 2, 128, 128, 128, 128, 128, 128, 128,
+    128, 128, 128, 128, 128, 128, 0, 2, 3, 128, 128, 128, 128, 128, 128, 128, 128, 128, 128, 128,
+    128, 0, 2, 3, 4, 128, 128, 128, 128, 128, 128, 128, 128, 128, 128, 128, 0, 2, 3, 4, 5, 128,
+    128, 128, 128, 128, 128, 128, 128, 128, 128, 0, 2, 3, 4, 5, 6, 128, 128, 128, 128, 128, 128,
+    128, 128, 128, 0, 2, 3, 4, 5, 6, 7, 128, 128, 128, 128, 128, 128, 128, 128, 0, 2, 3, 4, 5, 6,
+    7, 8, 128, 128, 128, 128, 128, 128, 128, 0, 2, 3, 4, 5, 6, 7, 8, 9, 128, 128, 128, 128, 128,
+    128, 0, 2, 3, 4, 5, 6, 7, 8, 9, 10, 128, 128, 128, 128, 128, 0, 2, 3, 4, 5, 6, 7, 8, 9, 10, 11,
+    128, 128, 128, 128, 0, 2, 3, 4, 5, 6, 7, 8, 9, 10, 11, 12, 128, 128, 128, 0, 2, 3, 4, 5, 6, 7,
+    8, 9, 10, 11, 12, 13, 128, 128, 0, 2, 3, 4, 5, 6, 7, 8, 9, 10, 11, 12, 13, 14, 128, 0, 2, 3, 4,
+    5, 6, 7, 8, 9, 10, 11, 12, 13, 14, 15, 128, 0, 2, 3, 4, 5, 6, 7, 8, 9, 10, 11, 12, 13, 14, 15,
+    128, 128, 128, 128, 128, 128, 128, 128, 128, 128, 128, 128, 128, 128, 0, 1, 128, 128, 128, 128,
+    128, 128, 128, 128, 128, 128, 128, 128, 128, 0, 1, 3, 128, 128, 128, 128, 128, 128, 128, 128,
+    128, 128, 128, 128, 0, 1, 3, 4, 128, 128, 128, 128, 128, 128, 128, 128, 128, 128, 128, 0, 1, 3,
+    4, 5, 128, 128, 128, 128, 128, 128, 128, 128, 128, 128, 0, 1, 3, 4, 5, 6, 128, 128, 128, 128,
+    128, 128, 128, 128, 128, 0, 1, 3, 4, 5, 6, 7, 128, 128, 128, 128, 128, 128, 128, 128, 0, 1, 3,
+    4, 5, 6, 7, 8, 128, 128, 128, 128, 128, 128, 128, 0, 1, 3, 4, 5, 6, 7, 8, 9, 128, 128, 128,
+    128, 128, 128, 0, 1, 3, 4, 5, 6, 7, 8, 9, 10, 128, 128, 128, 128, 128, 0, 1, 3, 4, 5, 6, 7, 8,
+    9, 10, 11, 128, 128, 128, 128, 0, 1, 3, 4, 5, 6, 7, 8, 9, 10, 11, 12, 128, 128, 128, 0, 1, 3,
+    4, 5, 6, 7, 8, 9, 10, 11, 12, 13, 128, 128, 0, 1, 3, 4, 5, 6, 7, 8, 9, 10, 11, 12, 13, 14, 128,
+    0, 1, 3, 4, 5, 6, 7, 8, 9, 10, 11, 12, 13, 14, 15, 128, 0, 1, 3, 4, 5, 6, 7, 8, 9, 10, 11, 12,
+    13, 14, 15, 128, 0, 1, 3, 4, 5, 6, 7, 8, 9, 10, 11, 12, 13, 14, 15, 128, 128, 128, 128, 128,
+    128, 128, 128, 128, 128, 128, 128, 128, 0, 1, 2, 128, 128, 128, 128, 128, 128, 128, 128, 128,
+    128, 128, 128, 0, 1, 2, 4, 128, 128, 128, 128, 128, 128, 128, 128, 128, 128, 128, 0, 1, 2, 4,
+    5, 128, 128, 128, 128, 128, 128, 128, 128, 128, 128, 0, 1, 2, 4, 5, 6, 128, 128, 128, 128, 128,
+    128, 128, 128, 128, 0, 1, 2, 4, 5, 6, 7, 128, 128, 128, 128, 128, 128, 128, 128, 0, 1, 2, 4, 5,
+    6, 7, 8, 128, 128, 128, 128, 128, 128, 128, 0, 1, 2, 4, 5, 6, 7, 8, 9, 128, 128, 128, 128, 128,
+    128, 0, 1, 2, 4, 5, 6, 7, 8, 9, 10, 128, 128, 128, 128, 128, 0, 1, 2, 4, 5, 6, 7, 8, 9, 10, 11,
+    128, 128, 128, 128, 0, 1, 2, 4, 5, 6, 7, 8, 9, 10, 11, 12, 128, 128, 128, 0, 1, 2, 4, 5, 6, 7,
+    8, 9, 10, 11, 12, 13, 128, 128, 0, 1, 2, 4, 5, 6, 7, 8, 9, 10, 11, 12, 13, 14, 128, 0, 1, 2, 4,
+    5, 6, 7, 8, 9, 10, 11, 12, 13, 14, 15, 128, 0, 1, 2, 4, 5, 6, 7, 8, 9, 10, 11, 12, 13, 14, 15,
+    128, 0, 1, 2, 4, 5, 6, 7, 8, 9, 10, 11, 12, 13, 14, 15, 128, 0, 1, 2, 4, 5, 6, 7, 8, 9, 10, 11,
+    12, 13, 14, 15,
 ];
 
 /// A bit for each lane that is 10 or more.
@@ -75,6 +114,18 @@ fn without_lane(lanes: u8x16, at: usize) -> u8x16
     lanes.swizzle_dyn(u8x16::from_slice(&OTHERS[16 * at..]))
 }
 
+/// The digits before a point and after it, moved to the end, after zeros.
+#[inline(always)]
+fn without_point(lanes: u8x16, natural: usize, fraction: usize) -> u8x16
+    requires some { 0 < natural }
+    requires few { natural ≤ 3 }
+    requires within { natural + 1 + fraction ≤ 16 }
+    ensures { result ≡ replicate (16 - (natural + fraction)) 0
+        ++ take (natural + fraction) (take natural lanes ++ (drop (natural + 1) lanes ++ 0 ∷ [])) }
+{
+    lanes.swizzle_dyn(u8x16::from_slice(&POINTED[256 * (natural - 1) + 16 * fraction..]))
+}
+
 /// Each four of sixteen digits as one number.
 #[inline(always)]
 fn fours_of(digits: u8x16) -> u32x4
@@ -93,6 +144,22 @@ fn number_of(digits: u8x16) -> u64
 {
     let [first, second, third, fourth] = fours_of(digits).to_array();
     (first as u64 * 10_000 + second as u64) * 100_000_000 + (third as u64 * 10_000 + fourth as u64)
+}
+
+/// The two numbers that twice sixteen digits spell.
+#[inline(always)]
+pub(crate) fn numbers_of(first: u8x16, second: u8x16) -> (u64, u64)
+    requires first { Each1 (λ digit. digit < 10) first }
+    requires second { Each1 (λ digit. digit < 10) second }
+    ensures first { result.0 ≡ fold with_value 0 first }
+    ensures second { result.1 ≡ fold with_value 0 second }
+{
+    let (upper, lower) = fours_of(first).deinterleave(fours_of(second));
+    let [a, b, c, d] = (upper * u32x4::splat(10_000) + lower).to_array();
+    (
+        a as u64 * 100_000_000 + b as u64,
+        c as u64 * 100_000_000 + d as u64,
+    )
 }
 
 /// The first sixteen bytes of a piece, each less the byte of the digit 0: the lanes of digits are below 10.
@@ -177,5 +244,52 @@ pub(crate) fn unsigned_prefix(piece: &[u8]) -> Option<Unsigned>
         fraction,
         length: natural + 1 + fraction,
         value: number_of(moved_to_end(without_lane(lanes, natural), natural + fraction)),
+    })
+}
+
+/// A number with a point and without its sign: how many digits stand before the point and after it, and all of them,
+/// after zeros.
+#[derive(Clone, Copy)]
+pub(crate) struct Pointed {
+    pub natural: usize,
+    pub fraction: usize,
+    pub digits: u8x16,
+}
+
+/// The number with one to three digits before its point, and digits after it, that the first sixteen bytes of a piece
+/// begin with, and in which it ends.
+#[inline(always)]
+pub(crate) fn pointed_prefix(piece: &[u8]) -> Option<Pointed>
+    requires { 16 ≤ length piece.now }
+    ensures some { IfSome result (λ found. 0 < found.natural) }
+    ensures few { IfSome result (λ found. found.natural + 1 + found.fraction < 16) }
+    ensures digits { IfSome result (λ found. Each1 (λ digit. digit < 10) found.digits) }
+    ensures spells { IfSome result (λ found.
+        SpellsUnsigned piece.now found.natural found.fraction (found.natural + 1 + found.fraction) (fold with_value 0 found.digits)) }
+    ensures point { IfSome result (λ found. IsDigit (get_or piece.now found.natural 0) → ⊥) }
+    ensures ends { IfSome result (λ found. IsDigit (get_or piece.now (found.natural + 1 + found.fraction) 0) → ⊥) }
+    ensures taken { (natural fraction : ℕ) → IsPointed piece.now natural fraction → IsSome result }
+{
+    let lanes = lanes_of(piece);
+    let others = from_ten(lanes);
+    if others == 0 {
+        return None;
+    }
+    let natural = others.trailing_zeros() as usize;
+    if natural == 0 || natural > 3 || piece[natural] != b'.' {
+        return None;
+    }
+    let rest = others >> (natural + 1);
+    if rest == 0 {
+        return None;
+    }
+    let fraction = rest.trailing_zeros() as usize;
+    if fraction == 0 {
+        return None;
+    }
+    Some(Pointed {
+        natural,
+        fraction,
+        digits: without_point(lanes, natural, fraction),
     })
 }

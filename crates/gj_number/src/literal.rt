@@ -4,9 +4,6 @@ ghost use Rattle.gj_number.specs.Bytes.{IsDigit};
 ghost use Rattle.gj_number.specs.Grammar.{IsNumber, BeginsNumber};
 ghost use Rattle.gj_number.specs.Value.{value_of};
 
-#[cfg(test)]
-mod tests;
-
 use crate::decimal::Decimal;
 use crate::digits::Digits;
 use crate::exponent::Exponent;

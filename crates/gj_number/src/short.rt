@@ -3,6 +3,7 @@ ghost use Rattle.std.specs.Prelude.{◌≡◌, ◌≢◌, ◌↔◌, ◌*◌, �
 ghost use Rattle.gj_number.specs.Exact.{SameValue, signed, cut_limit, cut_magnitude, cut_of, cut_places, places_of};
 ghost use Rattle.gj_number.specs.Internal.KeptParts.{limited_cut};
 
+pub(crate) mod pair;
 pub(crate) mod prefix;
 
 use crate::decimal::{Decimal, with_sign};

@@ -1,11 +1,12 @@
 -- What a frame keeps of an open object, and what it tells at its close.
 pub mod WarningsInTurn
-pub mod NoShapes
+pub mod AskedShapes
 pub mod MemberSlots
 pub mod OneMember
 pub mod AllMembers
 pub mod SettledObjects
 pub mod JoinedFindings
+pub mod CleanFrames
 pub mod GatheredMembers
 pub mod ClosedFrames
 pub mod WarningsKept

@@ -5,3 +5,5 @@ pub mod BytesOfSequences
 pub mod DecidingBytes
 pub mod SequenceSteps
 pub mod OneVerdict
+pub mod PlacesTold
+pub mod SaidSequences

@@ -12,3 +12,5 @@ pub mod LostObjects
 pub mod RulesState
 pub mod OpenRecord
 pub mod OpenSequence
+pub mod JudgementLaws
+pub mod ToldPlaces

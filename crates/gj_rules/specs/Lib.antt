@@ -4,8 +4,8 @@ pub mod Faults
 pub mod TextWarnings
 pub mod Judged
 pub mod Levels
-pub mod Places
 pub mod Verdict
+pub mod Places
 pub mod Doomed
 pub mod Sequence
 pub mod Rules

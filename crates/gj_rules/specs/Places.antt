@@ -1,12 +1,11 @@
--- The places that a verdict tells.
+-- The places that are told of an input.
 use Rattle.std.specs.Prelude.{◌≡◌, ℕ, Some}
+use Rattle.gj_coords.specs.Warnings.{first_of}
 use Rattle.gj_coords.specs.declared.kind.Kind.{Kind}
-use Rattle.gj_coords.specs.Internal.KeptWarnings.{first_in}
-use Rattle.gj_rules.specs.declared.verdict.Verdict.{Verdict}
-use Rattle.gj_rules.specs.declared.verdict.Verdict.TheVariants.{Valid, Broken, NotJson}
+use Rattle.gj_rules.specs.Verdict.{Judgement, valid, broken, refused}
 
--- the first place of a kind of warning, that of the broken rule, or that of the refusal
-abbrev pub IsPlaceIn : ℕ → Verdict → Type 0
-IsPlaceIn place (Valid warnings) = (kind : Kind) × (first_in kind warnings ≡ Some place)
-IsPlaceIn place (Broken fault) = place ≡ fault.place
-IsPlaceIn place (NotJson fault) = place ≡ fault.place
+-- the least place of a kind of warning, that of the broken rule, or that of the refusal
+abbrev pub IsPlaceIn : ℕ → Judgement → Type 0
+IsPlaceIn place (valid warnings) = (kind : Kind) × (first_of kind warnings ≡ Some place)
+IsPlaceIn place (broken fault) = place ≡ fault.place
+IsPlaceIn place (refused fault) = place ≡ fault.place

@@ -8,11 +8,13 @@ use Rattle.gj_json.specs.declared.fault.Cause.{Cause}
 use Rattle.gj_json.specs.declared.fault.Cause.TheVariants.{Syntax, Truncated, Depth, Length}
 use Rattle.gj_coords.specs.Fault.{fault_at}
 use Rattle.gj_coords.specs.Internal.KeptWarnings.{no_warnings, joined, shifted}
+use Rattle.gj_coords.specs.Warnings.{Warning}
+use Rattle.gj_coords.specs.WarningsStand.{StandsFor as WarningsStandFor}
 use Rattle.gj_coords.specs.declared.warnings.Warnings.{Warnings}
 use Rattle.gj_rules.specs.declared.sequence.verdict.SeqVerdict.{SeqVerdict}
 use Rattle.gj_rules.specs.declared.verdict.Verdict.{Verdict}
 use Rattle.gj_rules.specs.declared.verdict.Verdict.TheVariants.{Valid, Broken, NotJson}
-use Rattle.gj_rules.specs.Verdict.{IsVerdict}
+use Rattle.gj_rules.specs.Verdict.{Judgement, Says, IsVerdict}
 
 -- ---- records
 
@@ -151,6 +153,19 @@ IsJudgedBy false levels records (SeqVerdict.Record number verdict) = IsFirstFail
 
 abbrev pub IsSequenceVerdict : Allowed → List ℕ → SeqVerdict → Type 0
 IsSequenceVerdict limits bytes verdict = IsJudgedBy (is_stray bytes) limits.depth (records_of limits bytes) verdict
+
+-- ---- what is told of it
+
+-- so many records, all of them valid, with a list of all their warnings; or the record that is not valid, and what it is
+pub data SequenceJudgement : Type 0 where
+  all_valid : (records : ℕ) → (warnings : List Warning) → SequenceJudgement
+  failing : (number : ℕ) → (judgement : Judgement) → SequenceJudgement
+
+-- a verdict says the same, and of the warnings what a `Warnings` tells
+abbrev pub SequenceSays : SeqVerdict → SequenceJudgement → Type 0
+SequenceSays (SeqVerdict.Valid count told) (all_valid records warnings) = (count ≡ records) × WarningsStandFor told warnings
+SequenceSays (SeqVerdict.Record told verdict) (failing number judgement) = (told ≡ number) × Says verdict judgement
+SequenceSays _ _ = ⊥
 
 -- ---- what the bytes of a sequence decide
 

@@ -1,23 +1,50 @@
 -- What an input is, as a whole: a GeoJSON text (RFC 7946), a JSON text that breaks a rule, or no JSON text (RFC 8259).
 use Rattle.std.specs.Prelude.{◌≡◌, ℕ, List, [], ◌++◌, Option, Some, None}
+use Rattle.gj_json.specs.declared.fault.JsonFault.{JsonFault}
 use Rattle.gj_json.specs.Limits.{Allowed}
 use Rattle.gj_json.specs.Refusal.{IsRefusal, IsAdmitted}
 use Rattle.gj_json.specs.Tree.{Text}
 use Rattle.gj_coords.specs.Fault.{least}
+use Rattle.gj_coords.specs.Warnings.{Warning}
+use Rattle.gj_coords.specs.WarningsStand.{StandsFor as WarningsStandFor}
 use Rattle.gj_coords.specs.declared.fault.Fault.{Fault}
 use Rattle.gj_coords.specs.declared.warnings.Warnings.{Warnings}
-use Rattle.gj_coords.specs.Internal.KeptWarnings.{StandsFor as WarningsStandFor}
 use Rattle.gj_rules.specs.Faults.{text_faults}
 use Rattle.gj_rules.specs.TextWarnings.{text_warnings}
 use Rattle.gj_rules.specs.declared.verdict.Verdict.{Verdict}
 use Rattle.gj_rules.specs.declared.verdict.Verdict.TheVariants.{Valid, Broken, NotJson}
 
--- valid: an admitted text without a fault, with what is reported of all its warnings; broken: an admitted text, of whose faults this is the least by place and then
--- by rule; not JSON: no admitted text, by this refusal, wherever a rule may be broken too
+-- valid, with the list of all its warnings; broken, by this fault; no JSON text, by this refusal
+pub data Judgement : Type 0 where
+  valid : (warnings : List Warning) → Judgement
+  broken : (fault : Fault) → Judgement
+  refused : (fault : JsonFault) → Judgement
+
+-- an admitted text without a fault, and this holds of all its warnings
+abbrev pub IsValidWith : Allowed → List ℕ → (List Warning → Type 0) → Type 0
+IsValidWith limits bytes Holds = (text : Text) × IsAdmitted limits text bytes × (text_faults text ≡ []) × Holds (text_warnings text)
+
+-- an admitted text, of whose faults this is the least by place and then by rule
+abbrev pub IsBrokenBy : Allowed → List ℕ → Fault → Type 0
+IsBrokenBy limits bytes fault = (text : Text) × IsAdmitted limits text bytes × (least (text_faults text) ≡ Some fault)
+
+-- what the input is; a refusal comes before every rule
+abbrev pub IsJudgement : Allowed → List ℕ → Judgement → Type 0
+IsJudgement limits bytes (valid warnings) = IsValidWith limits bytes (λ all. warnings ≡ all)
+IsJudgement limits bytes (broken fault) = IsBrokenBy limits bytes fault
+IsJudgement limits bytes (refused fault) = IsRefusal limits bytes fault
+
+-- a verdict says the same, and of the warnings what a `Warnings` tells
+abbrev pub Says : Verdict → Judgement → Type 0
+Says (Valid told) (valid warnings) = WarningsStandFor told warnings
+Says (Broken told) (broken fault) = told ≡ fault
+Says (NotJson told) (refused fault) = told ≡ fault
+Says _ _ = ⊥
+
+-- the verdict that says what the input is
 abbrev pub IsVerdict : Allowed → List ℕ → Verdict → Type 0
-IsVerdict limits bytes (Valid warnings) =
-    (text : Text) × IsAdmitted limits text bytes × (text_faults text ≡ []) × WarningsStandFor warnings (text_warnings text)
-IsVerdict limits bytes (Broken fault) = (text : Text) × IsAdmitted limits text bytes × (least (text_faults text) ≡ Some fault)
+IsVerdict limits bytes (Valid told) = IsValidWith limits bytes (WarningsStandFor told)
+IsVerdict limits bytes (Broken fault) = IsBrokenBy limits bytes fault
 IsVerdict limits bytes (NotJson fault) = IsRefusal limits bytes fault
 
 -- no input that begins with these bytes is valid

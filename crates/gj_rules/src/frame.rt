@@ -28,7 +28,7 @@ impl Frame {
     ghost use Rattle.gj_json.specs.Events.{value_events};
     ghost use Rattle.gj_rules.specs.Levels.{most_levels};
     ghost use Rattle.gj_rules.specs.Internal.FrameReading.{frame_in, found_in};
-    ghost use Rattle.gj_rules.specs.Internal.Summaries.{StandsForCoordinates, shapes_of};
+    ghost use Rattle.gj_rules.specs.Internal.Summaries.{StandsForCoordinates, shapes_of, asked};
     ghost use Rattle.gj_rules.specs.Internal.FrameCalls.{blank, joined, warned, taken_in, named, due_after, type_set, shapes_set};
 
     /// Of an object that opens at this place.
@@ -98,7 +98,7 @@ impl Frame {
 
     /// Sets what is found in the value of the first `coordinates`.
     pub fn set_shapes(&mut self, summary: &Coordinates)
-        ensures { (value : Tree) → depth value ≤ most_levels → StandsForCoordinates summary.now (value_events value) → frame_in self.new ≡ shapes_set (shapes_of value) (frame_in self.old) }
+        ensures { (value : Tree) → depth value ≤ most_levels → StandsForCoordinates summary.now (value_events value) → frame_in self.new ≡ shapes_set (asked (frame_in self.old).shown.type_value (shapes_of value)) (frame_in self.old) }
     {
         self.shown.set_shapes(summary);
     }

@@ -1,5 +1,5 @@
 //! The warnings that are kept of an open object with a role.
-ghost use Rattle.std.specs.Prelude.{◌≡◌};
+ghost use Rattle.std.specs.Prelude.{◌≡◌, IsTrue};
 
 use crate::lazy_warned::LazyWarned;
 use gj_coords::{Kind, Warned};
@@ -43,6 +43,15 @@ impl Gathered {
         self.geometries.clear();
         self.geometry.clear();
         self.features.clear();
+    }
+
+    /// Whether a few looks show that there is none, as mostly there is.
+    #[inline]
+    pub fn is_nothing(&self) -> bool
+        ensures { IsTrue result → gathered_in self.now ≡ none_gathered }
+    {
+        let members = self.geometries.is_nothing() && self.features.is_nothing();
+        self.own.is_nothing() && (self.geometry.is_nothing() && members)
     }
 
     /// Adds warnings of the value of the first member `name`.

@@ -7,8 +7,7 @@ ghost use Rattle.gj_json.specs.Text.{IsText};
 ghost use Rattle.gj_json.specs.Open.{open_at};
 ghost use Rattle.gj_rules.specs.Judged.{judged_at};
 ghost use Rattle.gj_rules.specs.Places.{IsPlaceIn};
-ghost use Rattle.gj_rules.specs.Verdict.{IsVerdict};
-ghost use Rattle.gj_rules.specs.declared.verdict.Verdict.{Verdict};
+ghost use Rattle.gj_rules.specs.Verdict.{Judgement, IsJudgement};
 
 /// Of the arrays and objects that are open in a front of a text, at most half and one have a role:
 /// but for `geometry`, once on the way from the text's object, an array stands between two of them.
@@ -17,7 +16,8 @@ pub fn judged_levels()
     ensures half { (text : Text) (bytes : List ℕ) (n : ℕ) → IsText text bytes → judged_at n text ≤ open_at n text / 2 + 1 }
 {}
 
-/// Each place that a verdict tells stands in the input, or at its end.
+/// Each place that is told of an input stands in it, or at its end.
 pub fn places_within()
-    ensures { (limits : Allowed) (bytes : List ℕ) (verdict : Verdict) (place : ℕ) → IsVerdict limits bytes verdict → IsPlaceIn place verdict → place ≤ length bytes }
+    ensures { (limits : Allowed) (bytes : List ℕ) (judgement : Judgement) (place : ℕ) → IsJudgement limits bytes judgement →
+        IsPlaceIn place judgement → place ≤ length bytes }
 {}

@@ -1,5 +1,5 @@
 //! Warnings that are cleared by a flag.
-ghost use Rattle.std.specs.Prelude.{◌≡◌, true};
+ghost use Rattle.std.specs.Prelude.{◌≡◌, true, IsTrue};
 
 use gj_coords::{Kind, Warned};
 
@@ -31,6 +31,14 @@ impl LazyWarned {
         ensures { counted_in self.new ≡ no_warnings }
     {
         self.counts = false;
+    }
+
+    /// Whether it is none, as mostly it is.
+    #[inline]
+    pub fn is_nothing(&self) -> bool
+        ensures { IsTrue result → counted_in self.now ≡ no_warnings }
+    {
+        !self.counts
     }
 
     /// Makes them count.

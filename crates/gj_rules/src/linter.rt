@@ -1,8 +1,5 @@
 //! An input that comes in pieces, judged.
 
-#[cfg(test)]
-mod tests;
-
 ghost use Rattle.std.specs.Prelude.{◌≡◌, ℕ, ◌≤◌, ◌^◌, ◌++◌, [], List, length, take, None, Some, IsTrue};
 ghost use Rattle.gj_json.specs.declared.fault.JsonFault.{JsonFault};
 ghost use Rattle.gj_json.specs.declared.limits.TheConstants.{MOST_LEVELS};

@@ -1,18 +1,17 @@
 //! The rules and the warnings of RFC 7946, found from the events of a text.
-ghost use Rattle.std.specs.Prelude.{◌≡◌, ℕ, ◌<◌, ◌≤◌, [], List, true, false, None, IsTrue};
+ghost use Rattle.std.specs.Prelude.{◌≡◌, ℕ, ◌<◌, ◌≤◌, ◌^◌, [], List, length, true, false, None, IsTrue};
 ghost use Rattle.gj_rules.specs.declared.rules.TheConstants.{MOST_AROUND};
 
 mod doomed;
 mod flats;
 mod kinds;
 mod steps;
-#[cfg(test)]
-mod tests;
 
 use crate::found::Found;
 use crate::frame::Frame;
 use crate::mode::Mode;
 use crate::role::Role;
+use gj_coords::laws::kept_warnings;
 use gj_coords::{Bbox, Coordinates, Fault, Warned, Warnings};
 use gj_json::{Event, EventSink, Flat, Known, MOST_LEVELS, What};
 use std::mem::size_of;
@@ -51,7 +50,9 @@ impl Rules {
     ghost use Rattle.gj_coords.specs.Fault.{least};
     ghost use Rattle.gj_coords.specs.Internal.KeptWarnings.{none_in};
     ghost use Rattle.gj_coords.specs.Internal.GatheredWarnings.{all_in};
+    ghost use Rattle.gj_coords.specs.WarningsStand.{StandsFor as WarningsStandFor};
     ghost use Rattle.gj_rules.specs.Faults.{text_faults};
+    ghost use Rattle.gj_rules.specs.TextWarnings.{text_warnings};
     ghost use Rattle.gj_rules.specs.Internal.TextKept.{text_kept};
     ghost use Rattle.gj_rules.specs.Judged.{judged_at};
     ghost use Rattle.gj_rules.specs.Internal.FrameReading.{found_in};
@@ -109,10 +110,13 @@ impl Rules {
         self.answer.fault
     }
 
-    /// The warnings of the text whose events were told.
+    /// The warnings of the text whose events were told: those that the definition lists, for a text of fewer than 2^64 events.
     pub fn warnings(&self) -> Warnings
-        ensures { (text : Text) → depth text.value ≤ most_levels → StandsFor self.now (all_events text) → result ≡ text_kept text }
+        ensures kept { (text : Text) → depth text.value ≤ most_levels → StandsFor self.now (all_events text) → result ≡ text_kept text }
+        ensures stands { (text : Text) → depth text.value ≤ most_levels → StandsFor self.now (all_events text) →
+            length (all_events text) < 2 ^ 64 → WarningsStandFor result (text_warnings text) }
     {
+        kept_warnings();
         self.answer.warned.all()
     }
 

@@ -2,8 +2,6 @@
 ghost use Rattle.std.specs.Prelude.{◌≡◌, ℕ, ◌+◌, ◌<◌, ◌≤◌, ◌^◌, ◌++◌, ◌∷◌, [], List, length, take, false, true};
 
 mod open_record;
-#[cfg(test)]
-mod tests;
 mod verdict;
 
 use crate::linter::Progress;

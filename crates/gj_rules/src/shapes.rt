@@ -6,9 +6,10 @@ ghost use Rattle.gj_coords.specs.Internal.CoordinatesKept.{coordinates_kept};
 ghost use Rattle.gj_coords.specs.Internal.GatheredWarnings.{all_in};
 ghost use Rattle.gj_rules.specs.Levels.{most_levels};
 ghost use Rattle.gj_rules.specs.Internal.FrameReading.{shapes_by};
-ghost use Rattle.gj_rules.specs.Internal.Summaries.{StandsForCoordinates};
+ghost use Rattle.gj_rules.specs.Internal.Summaries.{StandsForCoordinates, simple_of};
 
 use gj_coords::{Coordinates, Fault, Simple, SimpleFaults, Warned};
+use gj_json::Word;
 
 /// What is found in a `coordinates` value for each of the six simple types.
 ///
@@ -24,6 +25,22 @@ pub struct Shapes {
     pub multi_polygon: Warned,
 }
 
+/// As which an object of a type has its coordinates, where it has some.
+#[inline]
+pub fn simple_of(word: Word) -> Option<Simple>
+    ensures { result ≡ simple_of word }
+{
+    match word {
+        Word::Point => Some(Simple::Point),
+        Word::MultiPoint => Some(Simple::MultiPoint),
+        Word::LineString => Some(Simple::LineString),
+        Word::MultiLineString => Some(Simple::MultiLineString),
+        Word::Polygon => Some(Simple::Polygon),
+        Word::MultiPolygon => Some(Simple::MultiPolygon),
+        _ => None,
+    }
+}
+
 /// Sets the warnings of the value whose events the summary took, as the coordinates of this type.
 #[tactic(auto, using(crate::proofs::Objects::WarningsInTurn::to_none))]
 fn set_warned(warned: &mut Warned, summary: &Coordinates, simple: Simple)
@@ -34,8 +51,8 @@ fn set_warned(warned: &mut Warned, summary: &Coordinates, simple: Simple)
 }
 
 impl Shapes {
-    ghost use Rattle.gj_rules.specs.Internal.FrameReading.{shapes_in};
-    ghost use Rattle.gj_rules.specs.Internal.Summaries.{no_shapes, shape_for, warned_for, shapes_of};
+    ghost use Rattle.gj_rules.specs.Internal.FrameReading.{shapes_in, one_in};
+    ghost use Rattle.gj_rules.specs.Internal.Summaries.{no_shapes, shape_for, warned_for, shapes_of, found_as};
 
     /// Of no value.
     pub fn none() -> Self
@@ -66,6 +83,19 @@ impl Shapes {
             self.multi_polygon.clear();
         } else {
             self.set_all_warned(summary);
+        }
+    }
+
+    /// Sets what is found in it for one type alone, which stands where that for a Point does.
+    #[inline]
+    pub fn set_one(&mut self, simple: Simple, summary: &Coordinates)
+        ensures { (value : Tree) → depth value ≤ most_levels → StandsForCoordinates summary.now (value_events value) → one_in self.new ≡ found_as simple value }
+    {
+        self.faults.point = summary.fault(simple);
+        if summary.is_quiet() {
+            self.point.clear();
+        } else {
+            set_warned(&mut self.point, summary, simple);
         }
     }
 

@@ -7,8 +7,8 @@ mod settle;
 mod sound;
 
 use crate::role::Role;
-use crate::shapes::Shapes;
-use gj_coords::{Coordinates, Fault, lesser_fault};
+use crate::shapes::{Shapes, simple_of};
+use gj_coords::{Coordinates, Fault, Simple, lesser_fault};
 use gj_json::{Known, Word};
 
 /// The first member of a name.
@@ -60,6 +60,17 @@ impl Present {
     }
 }
 
+/// For which types it is kept what is found in the first `coordinates`.
+#[derive(Clone, Copy, PartialEq, Eq)]
+pub enum Shaped {
+    /// For none: none has come, or none whose type asks for it.
+    No,
+    /// For the object's type, which had come before.
+    One,
+    /// For each, since the type had not come.
+    Each,
+}
+
 /// A slot that counts only where a member of its name is present.
 #[inline]
 fn slot_if(present: bool, slot: &Slot) -> Option<Slot>
@@ -71,7 +82,7 @@ fn slot_if(present: bool, slot: &Slot) -> Option<Slot>
 /// What an open object with a role has shown so far.
 ///
 /// Its `type` may come last. So the first member of each known name is kept with the least fault of
-/// its value, and of `coordinates` what is found for each type.
+/// its value, and of `coordinates` what is found for each type where the type has not come before them.
 #[derive(Clone, Copy)]
 pub struct Shown {
     pub place: u64,
@@ -80,8 +91,8 @@ pub struct Shown {
     pub repeated: Option<u64>,
     pub type_value: Option<TypeValue>,
     pub shapes: Shapes,
-    /// Whether `shapes` were set: before that they do not count.
-    pub shaped: bool,
+    /// What of `shapes` was set: the rest does not count.
+    pub shaped: Shaped,
     /// Which of the slots count.
     pub present: Present,
     pub type_name: Slot,
@@ -100,7 +111,7 @@ impl Shown {
     ghost use Rattle.gj_json.specs.Events.{value_events};
     ghost use Rattle.gj_rules.specs.Levels.{most_levels};
     ghost use Rattle.gj_rules.specs.Internal.FrameReading.{shown_in};
-    ghost use Rattle.gj_rules.specs.Internal.Summaries.{StandsForCoordinates, shapes_of};
+    ghost use Rattle.gj_rules.specs.Internal.Summaries.{StandsForCoordinates, shapes_of, asked, asked_as};
     ghost use Rattle.gj_rules.specs.Internal.ShownMembers.{blank, slot_of, with_slot, joined, named, due_after, repeated_at, used, type_set, shapes_set};
 
     /// Of an object that opens at this place.
@@ -117,7 +128,7 @@ impl Shown {
             repeated: None,
             type_value: None,
             shapes: Shapes::none(),
-            shaped: false,
+            shaped: Shaped::No,
             present: Present::none(),
             type_name: slot,
             coordinates: slot,
@@ -139,7 +150,7 @@ impl Shown {
         self.role = role;
         self.repeated = None;
         self.type_value = None;
-        self.shaped = false;
+        self.shaped = Shaped::No;
         self.present = Present::none();
     }
 
@@ -231,12 +242,31 @@ impl Shown {
         self.type_value = Some(TypeValue { place, word });
     }
 
-    /// Sets what is found in the value of the first `coordinates`.
+    /// Sets what is found in the value of the first `coordinates`: for the object's type, or for each where it has not come.
     pub fn set_shapes(&mut self, summary: &Coordinates)
-        ensures { (value : Tree) → depth value ≤ most_levels → StandsForCoordinates summary.now (value_events value) → shown_in self.new ≡ shapes_set (shapes_of value) (shown_in self.old) }
+        ensures { (value : Tree) → depth value ≤ most_levels → StandsForCoordinates summary.now (value_events value) → shown_in self.new ≡ shapes_set (asked (shown_in self.old).type_value (shapes_of value)) (shown_in self.old) }
     {
-        self.shapes.set(summary);
-        self.shaped = true;
+        match self.type_value {
+            Some(value) => self.set_shape(simple_of(value.word), summary),
+            None => {
+                self.shapes.set(summary);
+                self.shaped = Shaped::Each;
+            }
+        }
+    }
+
+    /// Sets it for one type.
+    #[inline]
+    fn set_shape(&mut self, simple: Option<Simple>, summary: &Coordinates)
+        ensures { (value : Tree) → depth value ≤ most_levels → StandsForCoordinates summary.now (value_events value) → shown_in self.new ≡ shapes_set (asked_as simple (shapes_of value)) (shown_in self.old) }
+    {
+        match simple {
+            Some(simple) => {
+                self.shapes.set_one(simple, summary);
+                self.shaped = Shaped::One;
+            }
+            None => self.shaped = Shaped::No,
+        }
     }
 
     /// Takes a name, and answers as the first member of which name its value is to be judged:

@@ -1,5 +1,5 @@
 //! The verdict of an input.
-ghost use Rattle.std.specs.Prelude.{◌≡◌, ℕ, List};
+ghost use Rattle.std.specs.Prelude.{◌≡◌, ◌↔◌, ℕ, List};
 ghost use Rattle.gj_json.specs.Limits.{Allowed};
 
 use gj_coords::{Fault, Warnings};
@@ -16,13 +16,15 @@ pub enum Verdict {
     NotJson(JsonFault),
 }
 
-ghost use Rattle.gj_rules.specs.Verdict.{IsVerdict};
+ghost use Rattle.gj_rules.specs.Verdict.{Judgement, IsJudgement, Says, IsVerdict};
 
-/// Under any limits each input has one verdict, and no other. It does nothing: its contract is a law
-/// of the definitions.
+/// Under any limits each input has one verdict, and no other: the one that says what the input is. It does nothing: its
+/// contract is a law of the definitions.
 pub fn one_verdict()
     ensures some { (limits : Allowed) (bytes : List ℕ) → (verdict : Verdict) × IsVerdict limits bytes verdict }
     ensures one { (limits : Allowed) (bytes : List ℕ) (first second : Verdict) → IsVerdict limits bytes first → IsVerdict limits bytes second → first ≡ second }
+    ensures said { (limits : Allowed) (bytes : List ℕ) (verdict : Verdict) →
+        IsVerdict limits bytes verdict ↔ ((judgement : Judgement) × IsJudgement limits bytes judgement × Says verdict judgement) }
 {
     one_text();
     one_refusal();

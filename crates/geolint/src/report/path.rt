@@ -1,30 +1,13 @@
 //! The line with the path of the value that breaks a rule.
 ghost use Rattle.std.specs.Prelude.{◌≡◌, ◌+◌, ◌*◌, ◌≤◌, length};
 ghost use Rattle.gj_json.specs.Path.{steps_of};
-ghost use Rattle.geolint.specs.Report.{name_text, step_text, steps_text, path_line_if};
+ghost use Rattle.geolint.specs.Report.{step_text, steps_text, path_line_if};
 ghost use Rattle.geolint.specs.Room.{written_in, Adds};
 ghost use Rattle.geolint.specs.declared.room.TheConstants.{CAPACITY, MOST_LINE, MOST_STEP, MOST_STEPS};
 
 use crate::room::Room;
-use gj_json::{Known, Path, PathStep};
+use gj_json::{Path, PathStep};
 use itoa::Buffer;
-
-fn text_of_name(name: Known) -> &'static [u8]
-    ensures { result.now ≡ name_text name }
-{
-    match name {
-        Known::TypeName => b"type",
-        Known::Coordinates => b"coordinates",
-        Known::Geometries => b"geometries",
-        Known::Geometry => b"geometry",
-        Known::Properties => b"properties",
-        Known::Features => b"features",
-        Known::Bbox => b"bbox",
-        Known::Id => b"id",
-        Known::Crs => b"crs",
-        Known::Other => b"*",
-    }
-}
 
 fn push_step(step: PathStep, room: &mut Room)
     requires { length (written_in room.old) + MOST_STEP ≤ CAPACITY }
@@ -37,7 +20,7 @@ fn push_step(step: PathStep, room: &mut Room)
             let place = digits.format(index).as_bytes();
             room.push_all(&[b"[", place, b"]"]);
         }
-        PathStep::Member(name) => room.push_all(&[b".", text_of_name(name)]),
+        PathStep::Member(name) => room.push_all(&[b".", name.text().as_bytes()]),
     }
 }
 

@@ -1,6 +1,8 @@
 //! The report of a sequence.
-ghost use Rattle.std.specs.Prelude.{◌≡◌, ◌+◌, ◌*◌, ◌≤◌, [], length};
-ghost use Rattle.gj_rules.specs.declared.sequence.verdict.SeqVerdict.{SeqVerdict};
+ghost use Rattle.std.specs.Prelude.{◌≡◌, ◌+◌, ◌*◌, ◌≤◌, [], List, length};
+ghost use Rattle.gj_coords.specs.Warnings.{Warning};
+ghost use Rattle.gj_coords.specs.WarningsStand.{StandsFor as WarningsStandFor};
+ghost use Rattle.gj_rules.specs.Sequence.{SequenceJudgement, all_valid, SequenceSays};
 ghost use Rattle.geolint.specs.Room.{written_in, Adds};
 ghost use Rattle.geolint.specs.Sequence.{record_line, count_line, sequence_report};
 ghost use Rattle.geolint.specs.declared.room.TheConstants.{CAPACITY, MOST_LINE};
@@ -37,7 +39,7 @@ fn push_count(count: u64, room: &mut Room)
 /// The report of a sequence of so many records, all of them valid.
 fn push_valid_sequence(records: u64, warnings: &Warnings, room: &mut Room)
     requires { length (written_in room.old) + 11 * MOST_LINE ≤ CAPACITY }
-    ensures { Adds room.old room.new (sequence_report (SeqVerdict.Valid records warnings.now)) }
+    ensures { (all : List Warning) → WarningsStandFor warnings.now all → Adds room.old room.new (sequence_report (all_valid records all)) }
 {
     room.push(b"valid\n");
     push_count(records, room);
@@ -47,7 +49,7 @@ fn push_valid_sequence(records: u64, warnings: &Warnings, room: &mut Room)
 /// The report of the verdict of a sequence.
 pub fn push_sequence_report(verdict: SeqVerdict, room: &mut Room)
     requires { written_in room.old ≡ [] }
-    ensures { written_in room.new ≡ sequence_report verdict }
+    ensures { (judgement : SequenceJudgement) → SequenceSays verdict judgement → written_in room.new ≡ sequence_report judgement }
 {
     match verdict {
         SeqVerdict::Valid { records, warnings } => push_valid_sequence(records, &warnings, room),

@@ -1,6 +1,7 @@
 use super::*;
 use crate::testing::{ArraySink, Ending};
-use gj_coords::{Kind, Warnings};
+use gj_coords::{Kind, Rule, Warnings};
+use gj_json::Cause;
 
 fn refused(place: u64, cause: Cause) -> Verdict {
     Verdict::NotJson(JsonFault { place, cause })

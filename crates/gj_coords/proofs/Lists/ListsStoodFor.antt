@@ -6,9 +6,10 @@ use Rattle.gj_coords.specs.declared.kind.Kind.{Kind}
 use Rattle.gj_coords.specs.declared.noted.Noted.{Noted}
 use Rattle.gj_coords.specs.declared.warnings.Warnings.{Warnings}
 use Rattle.gj_coords.specs.Warnings.{Warning, warning_at, same_kind, places_of, greatest_count, first_of, least_place}
-use Rattle.gj_coords.specs.Internal.KeptWarnings.{noted_as, noted_of, joined_noted, kept, warnings_of, StandsFor, joined, added, replaced, all_zero}
+use Rattle.gj_coords.specs.Internal.KeptWarnings.{noted_as, noted_of, joined_noted, kept, warnings_of, joined, added, replaced, all_zero}
+use Rattle.gj_coords.specs.WarningsStand.{StandsFor}
 use Rattle.gj_coords.specs.Internal.KeptWarningLaws.{some_least}
-use Rattle.gj_coords.specs.WarningLaws.{kept_by_kind, added_is, warnings_of-append}
+use Rattle.gj_coords.specs.Internal.WarningLaws.{kept_by_kind, added_is, warnings_of-append}
 
 -- what is written for the kind alone
 pub added_by_replacing : (a : Warnings) (kind : Kind) (place : ℕ) → replaced a kind (joined_noted (kept a kind) (noted_as 1 place)) ≡ added a kind place

@@ -7,9 +7,10 @@ use Rattle.gj_coords.specs.declared.kind.Kind.{Kind}
 use Rattle.gj_coords.specs.declared.noted.Noted.{Noted}
 use Rattle.gj_coords.specs.declared.warnings.Warnings.{Warnings}
 use Rattle.gj_coords.specs.Warnings.{Warning, warning_at, shifted_by, same_kind, places_of, greatest_count, least_place, lesser_place}
-use Rattle.gj_coords.specs.Internal.KeptWarnings.{noted_as, noted_of, shifted_noted, kept, warnings_of, StandsFor, shifted}
+use Rattle.gj_coords.specs.Internal.KeptWarnings.{noted_as, noted_of, shifted_noted, kept, warnings_of, shifted}
+use Rattle.gj_coords.specs.WarningsStand.{StandsFor}
 use Rattle.gj_coords.specs.Internal.KeptWarningLaws.{some_least}
-use Rattle.gj_coords.specs.WarningLaws.{kept_by_kind, by_kind_alike}
+use Rattle.gj_coords.specs.Internal.WarningLaws.{kept_by_kind, by_kind_alike}
 use Rattle.gj_coords.proofs.Lists.ListsStoodFor.{kept_of}
 
 abbrev on : ℕ → Option ℕ → Option ℕ

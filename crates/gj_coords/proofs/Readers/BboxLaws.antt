@@ -17,7 +17,7 @@ use Rattle.gj_coords.specs.Internal.PositionGather.{value_in}
 use Rattle.gj_coords.specs.Ring.{exact_value}
 use Rattle.gj_coords.specs.Winding.{cut_value}
 use Rattle.gj_coords.specs.Internal.KeptWarnings.{warnings_of, no_warnings, added}
-use Rattle.gj_coords.specs.WarningLaws.{added_is, warnings_of_none, joined_none_first}
+use Rattle.gj_coords.specs.Internal.WarningLaws.{added_is, warnings_of_none, joined_none_first}
 use Rattle.gj_coords.specs.declared.fault.Rule.TheVariants.{G21}
 use Rattle.gj_coords.specs.Fault.{fault_at, least}
 use Rattle.gj_coords.specs.Items.{items, elements_of, place_of}
@@ -30,7 +30,7 @@ use Rattle.gj_coords.specs.Internal.BoxGather.{unlike_number, latitude_added, is
 use Rattle.gj_coords.specs.Bbox.{StandsFor}
 use Rattle.gj_coords.specs.Internal.ElementLaws.{element_answers}
 use Rattle.gj_coords.specs.Internal.ArrayLaws.{array_answers}
-use Rattle.gj_coords.specs.LeastLaws.{least_if}
+use Rattle.gj_coords.specs.Internal.LeastLaws.{least_if}
 use Rattle.gj_coords.specs.Internal.ElementCountLaws.{gathered_count, gathered_place, gathered_fault, both_least}
 use Rattle.gj_coords.proofs.Readers.RestsOfValues.{ended_at_end, answer_at_end}
 

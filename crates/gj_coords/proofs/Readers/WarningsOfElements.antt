@@ -24,7 +24,7 @@ use Rattle.gj_coords.specs.Internal.KeptWarnings.{warnings_of, no_warnings, join
 use Rattle.gj_coords.specs.Internal.GatheredWarnings.{all_in, noted_when}
 use Rattle.gj_coords.specs.Internal.PositionsGather.{role_behind, runs_wrong, ring_noted}
 use Rattle.gj_coords.specs.Internal.RingLaws.{is_some_lesser, empty_front}
-use Rattle.gj_coords.specs.WarningLaws.{joined_none_first, warnings_of_none, joined_step}
+use Rattle.gj_coords.specs.Internal.WarningLaws.{joined_none_first, warnings_of_none, joined_step}
 use Rattle.gj_coords.specs.Internal.GatheredWarningLaws.{none_more, noted_when_is, taken_is}
 use Rattle.gj_coords.proofs.Readers.EventCounts.{total, total_below}
 

@@ -11,7 +11,7 @@ use Rattle.gj_coords.specs.Internal.KeptWarnings.{warnings_of, no_warnings}
 use Rattle.gj_coords.specs.Internal.GatheredWarnings.{no_warned, all_in}
 use Rattle.gj_coords.specs.Internal.Findings.{Judgement, empty_found, found_in}
 use Rattle.gj_coords.specs.Internal.WholeGather.{whole_gathering}
-use Rattle.gj_coords.specs.WarningLaws.{joined_none_first, added_is}
+use Rattle.gj_coords.specs.Internal.WarningLaws.{joined_none_first, added_is}
 use Rattle.gj_coords.proofs.Readers.WarningsOfElements.{IsShort}
 
 module _ {G A B : Type 0} (r : Gathering G A B) (j : Judgement B) (meaning : Tree → A) where

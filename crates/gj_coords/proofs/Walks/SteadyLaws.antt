@@ -19,7 +19,7 @@ use Rattle.gj_coords.specs.declared.third_level.ThirdLevel.{ThirdLevel}
 use Rattle.gj_coords.specs.Fault.{fault_at, lesser}
 use Rattle.gj_coords.specs.Internal.SentEvents.{event_at}
 use Rattle.gj_coords.specs.Internal.ElementReader.{due}
-use Rattle.gj_coords.specs.LeastLaws.{lesser-none}
+use Rattle.gj_coords.specs.Internal.LeastLaws.{lesser-none}
 use Rattle.gj_coords.specs.Internal.ElementCount.{one_counted}
 use Rattle.gj_coords.specs.Internal.PositionGather.{pushed, precise_with, number_added, array_counted, sound_noted}
 use Rattle.gj_coords.specs.Internal.PositionsGather.{position_added}

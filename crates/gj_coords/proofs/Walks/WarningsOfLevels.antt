@@ -27,7 +27,7 @@ use Rattle.gj_coords.specs.Internal.CoordinatesKept.{third_answer, second_answer
 use Rattle.gj_coords.specs.Internal.PositionLaws.{position_head}
 use Rattle.gj_coords.specs.Internal.PositionWarnings.{place_head, position_warned}
 use Rattle.gj_coords.specs.Internal.RingWarnings.{added_warned, ring_turns}
-use Rattle.gj_coords.specs.WarningLaws.{joined_none_first, added_is}
+use Rattle.gj_coords.specs.Internal.WarningLaws.{joined_none_first, added_is}
 use Rattle.gj_coords.specs.Internal.GatheredWarningLaws.{taken_is}
 use Rattle.gj_coords.proofs.Readers.EventCounts.{length_below}
 use Rattle.gj_coords.proofs.Readers.WarningsOfElements.{IsShort, elements_short, none_of, always, sound_positions, gathered_warned, from_none, ring_warnings, ring_warned, gathered_rings}

@@ -11,7 +11,7 @@ use Rattle.gj_coords.specs.Fault.{fault_at, lesser, least}
 use Rattle.gj_coords.specs.Shape.{Shape, few}
 use Rattle.gj_coords.specs.Internal.Gathering.{Gathering, gathered}
 use Rattle.gj_coords.specs.Internal.ElementCount.{tally_at, counted, one_counted, few_in}
-use Rattle.gj_coords.specs.LeastLaws.{lesser-none, lesser_step, least-append, least_if}
+use Rattle.gj_coords.specs.Internal.LeastLaws.{lesser-none, lesser_step, least-append, least_if}
 
 -- the tests of a count that stops at four
 counted_test : (c n needed : ℕ) → needed ≤ 4 → nat_lt (one_counted c + n) needed ≡ nat_lt (c + suc n) needed

@@ -9,7 +9,7 @@ use Rattle.gj_coords.specs.declared.warnings.Warnings.{Warnings}
 use Rattle.gj_coords.specs.Internal.KeptWarnings.{noted_as, nothing_noted, is_nothing, joined_noted, kept, warnings_of, joined, added, with_noted}
 use Rattle.gj_coords.specs.CoordinateWarnings.{warned_if}
 use Rattle.gj_coords.specs.Internal.KeptWarningLaws.{nothing_at_zero, joined_noted_none, joined_noted_assoc}
-use Rattle.gj_coords.specs.WarningLaws.{by_kind_alike, joined_none_last, warnings_of_none, added_is}
+use Rattle.gj_coords.specs.Internal.WarningLaws.{by_kind_alike, joined_none_last, warnings_of_none, added_is}
 use Rattle.gj_coords.specs.Internal.GatheredWarnings.{warnings_in, all_in, noted_when, some_noted, taken_some, taken}
 
 -- no warnings more

@@ -1,6 +1,6 @@
 -- What a `Warnings` keeps of a list of warnings, and how two of them are joined. The laws of `warnings_of`, `joined` and
 -- `added` are in `WarningLaws`: cite those, and unfold none of the three.
-use Rattle.std.specs.Prelude.{◌≡◌, ℕ, ◌+◌, min, ◌==◌, Bool, ◌&&◌, if◌then◌else◌, List, Option, Some, None, unwrap_or}
+use Rattle.std.specs.Prelude.{ℕ, ◌+◌, min, ◌==◌, Bool, ◌&&◌, if◌then◌else◌, List, Option, Some, None, unwrap_or}
 use Rattle.gj_coords.specs.declared.kind.Kind.{Kind}
 use Rattle.gj_coords.specs.declared.noted.Noted.{Noted}
 use Rattle.gj_coords.specs.declared.warnings.Counts.{Counts}
@@ -80,10 +80,6 @@ first_in kind warnings = if (kept warnings kind).count == 0 then None else Some 
 -- what is kept of a list of warnings
 unfoldable pub warnings_of : List Warning → Warnings
 warnings_of warnings = by_kind (λ kind. noted_of kind warnings)
-
--- the value is what is kept of the list
-abbrev pub StandsFor : Warnings → List Warning → Type 0
-StandsFor self warnings = self ≡ warnings_of warnings
 
 -- what is kept of no warning
 unfoldable pub no_warnings : Warnings

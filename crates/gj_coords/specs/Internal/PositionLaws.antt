@@ -23,7 +23,7 @@ use Rattle.gj_coords.specs.Shape.{few, unheld, held_number, any_number, position
 use Rattle.gj_coords.specs.Internal.SentEvents.{event_at, head}
 use Rattle.gj_coords.specs.Internal.Gathering.{gathered}
 use Rattle.gj_coords.specs.Internal.PositionGather.{no_values, pushed, same_values, number_fault, value_in, numbers_start, number_added, numbers_gathering, position_answer}
-use Rattle.gj_coords.specs.LeastLaws.{lesser-none, lesser_step}
+use Rattle.gj_coords.specs.Internal.LeastLaws.{lesser-none, lesser_step}
 use Rattle.gj_coords.specs.Internal.ElementCountLaws.{gathered_place, few_gathered, both_least}
 
 -- ---- the least fault

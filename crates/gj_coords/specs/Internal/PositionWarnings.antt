@@ -26,7 +26,7 @@ use Rattle.gj_coords.specs.Internal.GatheredWarnings.{all_in, noted_when}
 use Rattle.gj_coords.specs.Internal.PositionGather.{value_in, precise_with, numbers_start, number_added, numbers_gathering, position_answer, corner_in, position_noted, sound_noted, judged_noted}
 use Rattle.gj_coords.specs.Internal.ElementCountLaws.{gathered_count}
 use Rattle.gj_coords.specs.Internal.PositionLaws.{among_first, not_among_first, pushed_count, pushed_full, value_head, position_fault, position_head}
-use Rattle.gj_coords.specs.WarningLaws.{joined_step, added_is}
+use Rattle.gj_coords.specs.Internal.WarningLaws.{joined_step, added_is}
 use Rattle.gj_coords.specs.Internal.GatheredWarningLaws.{none_more, noted_when_is, with_nothing, with_one_more, some_noted_is}
 use Rattle.gj_coords.specs.Internal.WindingLaws.{answered_corner}
 

@@ -1,7 +1,6 @@
 -- Which events a step of the machine completes.
-use Rattle.std.proofs.Common.{◌≤◌, ◌≡◌, ℕ, suc, ◌+◌, ◌==◌, ◌<◌, Bool, true, false, if◌then◌else◌, List, [], ◌∷◌, ◌++◌, length, drop, Option, Some, None, refl, sym, ap, subst, ◌∙◌, arith, append_assoc, eq-eqb, get_or, length-drop, drop-cons}
+use Rattle.std.proofs.Common.{◌≤◌, ◌≡◌, ℕ, suc, ◌+◌, ◌==◌, ◌<◌, Bool, true, false, if◌then◌else◌, List, [], ◌∷◌, ◌++◌, length, drop, Option, Some, None, refl, sym, ap, subst, ◌∙◌, arith, append_assoc, eq-eqb, get_or, length-append, length-drop, drop-cons}
 use Rattle.std.proofs.lemmas.Bool.Decides.{nat_tests}
-use Rattle.gj_json.specs.Bytes.{mark_first, mark_second, mark_third}
 use Rattle.gj_json.specs.Bytes.{mark_first, mark_second, mark_third}
 use Rattle.gj_json.specs.declared.class.Class.{Class}
 use Rattle.gj_json.specs.declared.class.Class.TheVariants.{White, OpenArray, CloseArray, OpenObject, CloseObject, Comma, Colon, Quote, Minus, Plus, Point, Exponent, ZeroDigit, FirstDigit, Letter, Other}
@@ -15,10 +14,10 @@ use Rattle.gj_json.specs.Names.{Words, words_of}
 use Rattle.gj_json.specs.Internal.UnderWay.{under_leaf, under_of, Turns, HasValue, HasWords}
 use Rattle.gj_json.specs.declared.mode.StringState.{StringState}
 use Rattle.gj_json.specs.declared.levels.Level.{Level}
-use Rattle.gj_json.specs.declared.levels.Level.TheVariants.{Array, Object}
 use Rattle.gj_json.specs.declared.mode.Mode.{Mode}
 use Rattle.gj_json.specs.declared.mode.Move.{Move}
-use Rattle.gj_json.specs.declared.mode.Mode.TheVariants.{TextDue, MarkOne, MarkTwo, ValueDue, ValueDone, ArrayOpened, ObjectOpened, ConstantOn, NumberOn, StringOn, NameDue, NameOn, ColonDue}
+use Rattle.gj_json.specs.declared.mode.Mode.TheVariants.{MarkOne, MarkTwo, ValueDue, ValueDone, ConstantOn, NumberOn}
+use Rattle.gj_json.specs.declared.mode.Ending.{Ending}
 use Rattle.gj_json.specs.declared.mode.Move.TheVariants.{Refuse, Go}
 use Rattle.gj_json.specs.Tree.{Tree, constant, number, end_of_array, element, end_of_object, member}
 use Rattle.gj_json.specs.Grammar.{letters_of}
@@ -32,7 +31,7 @@ use Rattle.gj_json.specs.declared.event.What.{What}
 use Rattle.gj_json.specs.Internal.ReaderState.{levels_of, levels_with, LeafAs, StandsAs}
 use Rattle.gj_json.specs.Events.{Timed, timed, events, mark_events, what_of}
 use Rattle.std.specs.Option.{option_to_list}
-use Rattle.gj_json.specs.Internal.ToldEvents.{event_at, ended, made_event, emitted, start_after}
+use Rattle.gj_json.specs.Internal.ToldEvents.{event_at, move_event, number_events, emitted, start_after}
 use Rattle.gj_json.specs.Internal.OpenLevels.{inner_of}
 use Rattle.gj_json.proofs.Events.EventTimes.{told, in_time-append, in_time_on}
 use Rattle.gj_json.specs.Internal.SeenEvents.{InTime, stack_timed, leaf_timed, partial_timed, seen, done_elements, done_members, ConstantAt, BegunAs, EdgeAt, IsTimely}
@@ -51,74 +50,56 @@ abbrev pub Tell : List Timed → ℕ → List Event → Option Partial → Type 
 Tell before n es None = Unit {0}
 Tell before n es (Some s) = (partial_timed s ≡ before ++ all_at (n + 1) es) × ConstantAt s.leaf (n + 1)
 
-begin_events : Class → ℕ → List Event
-begin_events OpenArray n = event_at n What.OpenArray ∷ []
-begin_events OpenObject n = event_at n What.OpenObject ∷ []
-begin_events _ n = []
+-- what a byte ends, opens or closes
+abbrev made : Move → ℕ → ℕ → List Event
+made move start n = option_to_list (move_event move start n)
 
 word_at : (which : Constant) (n : ℕ) → (n + 1 + length (letters_after which) ≡ n + length (letters_of which)) × (0 < length (letters_after which))
 word_at Null n = (omega arith, omega arith)
 word_at True n = (omega arith, omega arith)
 word_at False n = (omega arith, omega arith)
 
-on_begin : (stack : List Frame) (before : List Timed) (n b : ℕ) (c : Class) → before ≡ stack_timed stack → Tell before n (begin_events c n) (begin_value stack n b c)
-unfolding begin_events
-on_begin stack before n b OpenArray e = (ap (λ xs. xs ++ timed (n + 1) n What.OpenArray ∷ []) (sym e), tt)
-on_begin stack before n b OpenObject e = (ap (λ xs. xs ++ timed (n + 1) n What.OpenObject ∷ []) (sym e), tt)
-on_begin stack before n b (Letter which) e = (ap (λ xs. xs ++ []) (sym e), word_at which n)
-on_begin stack before n b Quote e = (ap (λ xs. xs ++ []) (sym e), tt)
-on_begin stack before n b Minus e = (ap (λ xs. xs ++ []) (sym e), tt)
-on_begin stack before n b ZeroDigit e = (ap (λ xs. xs ++ []) (sym e), tt)
-on_begin stack before n b FirstDigit e = (ap (λ xs. xs ++ []) (sym e), tt)
-on_begin stack before n b Plus e = tt
-on_begin stack before n b Point e = tt
-on_begin stack before n b Exponent e = tt
-on_begin stack before n b White e = tt
-on_begin stack before n b CloseArray e = tt
-on_begin stack before n b CloseObject e = tt
-on_begin stack before n b Comma e = tt
-on_begin stack before n b Colon e = tt
-on_begin stack before n b Other e = tt
+on_begin : (stack : List Frame) (before : List Timed) (start n b : ℕ) (c : Class) → before ≡ stack_timed stack → Tell before n (made (begin_move c) start n) (begin_value stack n b c)
+on_begin stack before start n b OpenArray e = (ap (λ xs. xs ++ timed (n + 1) n What.OpenArray ∷ []) (sym e), tt)
+on_begin stack before start n b OpenObject e = (ap (λ xs. xs ++ timed (n + 1) n What.OpenObject ∷ []) (sym e), tt)
+on_begin stack before start n b (Letter which) e = (ap (λ xs. xs ++ []) (sym e), word_at which n)
+on_begin stack before start n b Quote e = (ap (λ xs. xs ++ []) (sym e), tt)
+on_begin stack before start n b Minus e = (ap (λ xs. xs ++ []) (sym e), tt)
+on_begin stack before start n b ZeroDigit e = (ap (λ xs. xs ++ []) (sym e), tt)
+on_begin stack before start n b FirstDigit e = (ap (λ xs. xs ++ []) (sym e), tt)
+on_begin stack before start n b Plus e = tt
+on_begin stack before start n b Point e = tt
+on_begin stack before start n b Exponent e = tt
+on_begin stack before start n b White e = tt
+on_begin stack before start n b CloseArray e = tt
+on_begin stack before start n b CloseObject e = tt
+on_begin stack before start n b Comma e = tt
+on_begin stack before start n b Colon e = tt
+on_begin stack before start n b Other e = tt
+
+on_value_due : (stack : List Frame) (start n b : ℕ) (c : Class) → Tell (seen_at stack value_due) n (made (due_move c) start n) (step_value_due stack n b c)
+on_value_due stack start n b White = (sym (append-nil (stack_timed stack ++ [])), tt)
+on_value_due stack start n b c = on_begin stack (seen_at stack value_due) start n b c (append-nil (stack_timed stack))
 
 module _ (value : Option Exact) (words : Words) where
-  due_begins : (inner : Option Level) (c : Class) (start n : ℕ) → emitted ValueDue inner (begin_move c) value words start n ≡ begin_events c n
-  unfolding begin_events
-  due_begins inner OpenArray start n = refl
-  due_begins inner OpenObject start n = refl
-  due_begins inner _ start n = refl
-
-  opened_begins : (inner : Option Level) (c : Class) (start n : ℕ) → emitted ArrayOpened inner (begin_move c) value words start n ≡ begin_events c n
-  unfolding begin_events
-  opened_begins inner OpenArray start n = refl
-  opened_begins inner OpenObject start n = refl
-  opened_begins inner _ start n = refl
-
-  on_value_due : (stack : List Frame) (inner : Option Level) (start n b : ℕ) (c : Class) → Tell (seen_at stack value_due) n (emitted ValueDue inner (due_move c) value words start n) (step_value_due stack n b c)
-  on_value_due stack inner start n b White = (sym (append-nil (stack_timed stack ++ [])), tt)
-  on_value_due stack inner start n b c =
-      let P : List Event → Type 0 = λ es. Tell (seen_at stack value_due) n es (step_value_due stack n b c) in
-      subst P (sym (due_begins inner c start n)) (on_begin stack (seen_at stack value_due) n b c (append-nil (stack_timed stack)))
-
-  on_array_opened : (stack : List Frame) (place start n b : ℕ) (c : Class) → Tell (seen_at stack (array_opened place)) n (emitted ArrayOpened (Some Array) (array_move c) value words start n) (step_array_opened stack place n b c)
+  on_array_opened : (stack : List Frame) (place start n b : ℕ) (c : Class) → Tell (seen_at stack (array_opened place)) n (made (array_move c) start n) (step_array_opened stack place n b c)
   on_array_opened stack place start n b White = (sym (append-nil (stack_timed stack ++ timed (place + 1) place What.OpenArray ∷ [])), tt)
   on_array_opened stack place start n b CloseArray = (sym (append_assoc (stack_timed stack) (timed (place + 1) place What.OpenArray ∷ []) (timed (n + 1) n What.CloseArray ∷ [])), tt)
-  on_array_opened stack place start n b c =
-      let P : List Event → Type 0 = λ es. Tell (seen_at stack (array_opened place)) n es (step_array_opened stack place n b c) in
-      subst P (sym (opened_begins (Some Array) c start n)) (on_begin (in_array place [] ∷ stack) (seen_at stack (array_opened place)) n b c refl)
+  on_array_opened stack place start n b c = on_begin (in_array place [] ∷ stack) (seen_at stack (array_opened place)) start n b c refl
 
-  on_object_opened : (stack : List Frame) (place start n b : ℕ) (c : Class) → Tell (seen_at stack (object_opened place)) n (emitted ObjectOpened (Some Object) (object_move c) value words start n) (step_object_opened stack place n c)
+  on_object_opened : (stack : List Frame) (place start n b : ℕ) (c : Class) → Tell (seen_at stack (object_opened place)) n (made (object_move c) start n) (step_object_opened stack place n c)
   on_object_opened stack place start n b White = (sym (append-nil (stack_timed stack ++ timed (place + 1) place What.OpenObject ∷ [])), tt)
   on_object_opened stack place start n b CloseObject = (sym (append_assoc (stack_timed stack) (timed (place + 1) place What.OpenObject ∷ []) (timed (n + 1) n What.CloseObject ∷ [])), tt)
   on_object_opened stack place start n b Quote = (sym (append-nil (stack_timed stack ++ timed (place + 1) place What.OpenObject ∷ [])), tt)
   on_object_opened stack place start n b _ = tt
 
-  on_name_due : (stack : List Frame) (place : ℕ) (done : List Member) (start n : ℕ) (c : Class) → Tell (seen_at stack (name_due place done)) n (emitted NameDue (Some Object) (name_due_move c) value words start n) (step_name_due stack place done n c)
+  on_name_due : (stack : List Frame) (place : ℕ) (done : List Member) (start n : ℕ) (c : Class) → Tell (seen_at stack (name_due place done)) n (made (name_due_move c) start n) (step_name_due stack place done n c)
   on_name_due stack place done start n White = (sym (append-nil (stack_timed stack ++ timed (place + 1) place What.OpenObject ∷ done_members done)), tt)
   on_name_due stack place done start n Quote = (sym (append-nil (stack_timed stack ++ timed (place + 1) place What.OpenObject ∷ done_members done)), tt)
   on_name_due stack place done start n _ = tt
 
   on_colon_due : (stack : List Frame) (place : ℕ) (done : List Member) (np : ℕ) (name : List ℕ) (ne start n : ℕ) (c : Class)
-      → Tell (seen_at stack (colon_due place done np name ne)) n (emitted ColonDue (Some Object) (colon_move c) value words start n) (step_colon_due stack place done np name ne c)
+      → Tell (seen_at stack (colon_due place done np name ne)) n (made (colon_move c) start n) (step_colon_due stack place done np name ne c)
   on_colon_due stack place done np name ne start n White = (sym (append-nil (seen_at stack (colon_due place done np name ne))), tt)
   on_colon_due stack place done np name ne start n Colon = (refl, tt)
   on_colon_due stack place done np name ne start n _ = tt
@@ -130,7 +111,7 @@ module _ (value : Option Exact) (words : Words) where
   closed_object : (S D E : List Timed) (X : List Timed) (o p c : Timed) → X ≡ D ++ (p ∷ (E ++ [])) → S ++ (o ∷ (X ++ c ∷ [])) ≡ ((S ++ (o ∷ (D ++ p ∷ []))) ++ E) ++ c ∷ []
   closed_object S D E X o p c e = rw e (simp (append_assoc, append-nil))
 
-  on_after : (stack : List Frame) (t : Tree) (start n : ℕ) (c : Class) → Tell (seen_at stack (value_done t)) n (emitted ValueDone (inner_of (levels_of stack)) (after_move (inner_of (levels_of stack)) c) value words start n) (after_value stack t n c)
+  on_after : (stack : List Frame) (t : Tree) (start n : ℕ) (c : Class) → Tell (seen_at stack (value_done t)) n (made (after_move (inner_of (levels_of stack)) c) start n) (after_value stack t n c)
   on_after [] t start n White = (sym (append-nil (events t)), tt)
   on_after (in_array place done ∷ stack) t start n White = (sym (append-nil (seen_at (in_array place done ∷ stack) (value_done t))), tt)
   on_after (in_array place done ∷ stack) t start n Comma = (simp (append_assoc, append-nil), tt)
@@ -147,82 +128,66 @@ module _ (value : Option Exact) (words : Words) where
   number_told stack place so_far n es None h = tt
   number_told stack place so_far n es (Some s) h = (h.0 ∙ simp (append_assoc, append-nil), h.1)
 
-  number_from : (stack : List Frame) (place : ℕ) (so_far : List ℕ) (n : ℕ) (c : Class)
-      → Tell (stack_timed stack ++ []) n (event_at place (What.Number (value_of so_far)) ∷ emitted ValueDone (inner_of (levels_of stack)) (after_move (inner_of (levels_of stack)) c) value words place n) (after_value stack (number place so_far n) n c)
-  number_from stack place so_far n c =
-      number_told stack place so_far n (emitted ValueDone (inner_of (levels_of stack)) (after_move (inner_of (levels_of stack)) c) value words place n) (after_value stack (number place so_far n) n c) (on_after stack (number place so_far n) place n c)
-
-  on_number_after : (stack : List Frame) (place : ℕ) (so_far : List ℕ) (n : ℕ) (c : Class) → value ≡ value_of so_far
-      → Tell (stack_timed stack ++ []) n (emitted NumberOn (inner_of (levels_of stack)) (after_move (inner_of (levels_of stack)) c) value words place n) (after_value stack (number place so_far n) n c)
-  on_number_after [] place so_far n White v = rw v (number_from [] place so_far n White)
-  on_number_after (in_array p done ∷ stack) place so_far n White v = rw v (number_from (in_array p done ∷ stack) place so_far n White)
-  on_number_after (in_array p done ∷ stack) place so_far n Comma v = rw v (number_from (in_array p done ∷ stack) place so_far n Comma)
-  on_number_after (in_array p done ∷ stack) place so_far n CloseArray v = rw v (number_from (in_array p done ∷ stack) place so_far n CloseArray)
-  on_number_after (in_object p done np name ne ∷ stack) place so_far n White v = rw v (number_from (in_object p done np name ne ∷ stack) place so_far n White)
-  on_number_after (in_object p done np name ne ∷ stack) place so_far n Comma v = rw v (number_from (in_object p done np name ne ∷ stack) place so_far n Comma)
-  on_number_after (in_object p done np name ne ∷ stack) place so_far n CloseObject v = rw v (number_from (in_object p done np name ne ∷ stack) place so_far n CloseObject)
-  on_number_after _ place so_far n _ v = tt
-
   on_number : (stack : List Frame) (place : ℕ) (so_far : List ℕ) (n b : ℕ) (c : Class) (o : Option NumberState) (may_end : Bool) → (turn_of o may_end ≡ NumberTurn.Ends → value ≡ value_of so_far)
-      → Tell (stack_timed stack ++ []) n (emitted NumberOn (inner_of (levels_of stack)) (number_move (turn_of o may_end) (after_move (inner_of (levels_of stack)) c)) value words place n) (step_number stack place so_far n b o (if may_end then after_value stack (number place so_far n) n c else None))
+      → Tell (stack_timed stack ++ []) n (emitted NumberOn (turn_of o may_end) (number_move (turn_of o may_end) (after_move (inner_of (levels_of stack)) c)) value place n) (step_number stack place so_far n b o (if may_end then after_value stack (number place so_far n) n c else None))
   on_number stack place so_far n b c (Some next) may_end v = (sym (append-nil (stack_timed stack ++ [])), tt)
-  on_number stack place so_far n b c None true v = on_number_after stack place so_far n c (v refl)
+  on_number stack place so_far n b c None true v = rw (v refl) (number_told stack place so_far n _ (after_value stack (number place so_far n) n c) (on_after stack (number place so_far n) place n c))
   on_number stack place so_far n b c None false v = tt
 
-  on_string : (stack : List Frame) (inner : Option Level) (place : ℕ) (so_far : List ℕ) (state : StringState) (n : ℕ) (s : StringStep) → words ≡ words_of so_far
-      → Tell (stack_timed stack ++ []) n (emitted (StringOn state) inner (value_string_move (string_move s)) value words place n) (step_string stack place so_far n s)
-  on_string stack inner place so_far state n string_ends x = rw x (simp append-nil, tt)
-  on_string stack inner place so_far state n (string_goes [] next) x = (sym (append-nil (stack_timed stack ++ [])), tt)
-  on_string stack inner place so_far state n (string_goes (c ∷ more) next) x = (sym (append-nil (stack_timed stack ++ [])), tt)
-  on_string stack inner place so_far state n string_refuses x = tt
+  on_string : (stack : List Frame) (place : ℕ) (so_far : List ℕ) (state : StringState) (n : ℕ) (s : StringStep) → words ≡ words_of so_far
+      → Tell (stack_timed stack ++ []) n (made (value_string_move words (string_move s)) place n) (step_string stack place so_far n s)
+  on_string stack place so_far state n string_ends x = rw x (simp append-nil, tt)
+  on_string stack place so_far state n (string_goes [] next) x = (sym (append-nil (stack_timed stack ++ [])), tt)
+  on_string stack place so_far state n (string_goes (c ∷ more) next) x = (sym (append-nil (stack_timed stack ++ [])), tt)
+  on_string stack place so_far state n string_refuses x = tt
 
-  on_name_string : (stack : List Frame) (inner : Option Level) (place : ℕ) (done : List Member) (np : ℕ) (so_far : List ℕ) (state : StringState) (n : ℕ) (s : StringStep) → words ≡ words_of so_far
-      → Tell (seen_at stack (name_on place done np so_far state)) n (emitted (NameOn state) inner (name_string_move (string_move s)) value words np n) (step_name stack place done np so_far n s)
-  on_name_string stack inner place done np so_far state n string_ends x = rw x (simp append_assoc, tt)
-  on_name_string stack inner place done np so_far state n (string_goes [] next) x = (sym (append-nil (seen_at stack (name_on place done np so_far state))), tt)
-  on_name_string stack inner place done np so_far state n (string_goes (c ∷ more) next) x = (sym (append-nil (seen_at stack (name_on place done np so_far state))), tt)
-  on_name_string stack inner place done np so_far state n string_refuses x = tt
+  on_name_string : (stack : List Frame) (place : ℕ) (done : List Member) (np : ℕ) (so_far : List ℕ) (state : StringState) (n : ℕ) (s : StringStep) → words ≡ words_of so_far
+      → Tell (seen_at stack (name_on place done np so_far state)) n (made (name_string_move words (string_move s)) np n) (step_name stack place done np so_far n s)
+  on_name_string stack place done np so_far state n string_ends x = rw x (simp append_assoc, tt)
+  on_name_string stack place done np so_far state n (string_goes [] next) x = (sym (append-nil (seen_at stack (name_on place done np so_far state))), tt)
+  on_name_string stack place done np so_far state n (string_goes (c ∷ more) next) x = (sym (append-nil (seen_at stack (name_on place done np so_far state))), tt)
+  on_name_string stack place done np so_far state n string_refuses x = tt
 
-  word_ended : (stack : List Frame) (inner : Option Level) (which : Constant) (place count n : ℕ) → n + 1 ≡ place + length (letters_of which) → (t : Bool)
-      → Tell (stack_timed stack ++ []) n (emitted (ConstantOn which count) inner (if t then Go ValueDone else Refuse) value words place n) (if t then to stack (value_done (constant which place)) else None)
-  word_ended stack inner which place count n e true = (simp append-nil (ap (λ m. stack_timed stack ++ timed m place (what_of which) ∷ []) (sym e)), tt)
-  word_ended stack inner which place count n e false = tt
+  word_ended : (stack : List Frame) (which : Constant) (place count n : ℕ) → n + 1 ≡ place + length (letters_of which) → (t : Bool)
+      → Tell (stack_timed stack ++ []) n (made (if t then Go ValueDone (Ending.Literal which) else Refuse) place n) (if t then to stack (value_done (constant which place)) else None)
+  word_ended stack which place count n e true = (simp append-nil (ap (λ m. stack_timed stack ++ timed m place (what_of which) ∷ []) (sym e)), tt)
+  word_ended stack which place count n e false = tt
 
-  word_goes : (stack : List Frame) (inner : Option Level) (which : Constant) (place count next n : ℕ) (left : List ℕ) → ConstantAt (constant_on which place left) (n + 1) → (t : Bool)
-      → Tell (stack_timed stack ++ []) n (emitted (ConstantOn which count) inner (if t then Go (ConstantOn which next) else Refuse) value words place n) (if t then to stack (constant_on which place left) else None)
-  word_goes stack inner which place count next n left w true = (sym (append-nil (stack_timed stack ++ [])), w)
-  word_goes stack inner which place count next n left w false = tt
+  word_goes : (stack : List Frame) (which : Constant) (place count next n : ℕ) (left : List ℕ) → ConstantAt (constant_on which place left) (n + 1) → (t : Bool)
+      → Tell (stack_timed stack ++ []) n (made (if t then Go (ConstantOn which next) Ending.Nothing else Refuse) place n) (if t then to stack (constant_on which place left) else None)
+  word_goes stack which place count next n left w true = (sym (append-nil (stack_timed stack ++ [])), w)
+  word_goes stack which place count next n left w false = tt
 
-  on_constant : (stack : List Frame) (inner : Option Level) (which : Constant) (place : ℕ) (left : List ℕ) (n b count : ℕ) → left ≡ drop count (letters_of which) → count < length (letters_of which) → ConstantAt (constant_on which place left) n
-      → Tell (stack_timed stack ++ []) n (emitted (ConstantOn which count) inner (constant_move which count b) value words place n) (step_constant stack which place left n b)
-  on_constant stack inner which place [] n b count l c w = absurd (omega (arith, w.1))
-  on_constant stack inner which place (a ∷ []) n b count l c w =
+  on_constant : (stack : List Frame) (which : Constant) (place : ℕ) (left : List ℕ) (n b count : ℕ) → left ≡ drop count (letters_of which) → count < length (letters_of which) → ConstantAt (constant_on which place left) n
+      → Tell (stack_timed stack ++ []) n (made (constant_move which count b) place n) (step_constant stack which place left n b)
+  on_constant stack which place [] n b count l c w = absurd (omega (arith, w.1))
+  on_constant stack which place (a ∷ []) n b count l c w =
       let k = drop-cons (letters_of which) count 0 c in
       let ea : a ≡ get_or (letters_of which) count 0 = cc in
       let er : [] ≡ drop (suc count) (letters_of which) = cc in
       let full : (count + 1 == length (letters_of which)) ≡ true = eq-eqb _ _ (omega (arith, length-drop (suc count) (letters_of which), ap length er)) in
-      rw (full, ← ea) (word_ended stack inner which place count n (omega (arith, w.0)) (b == a))
-  on_constant stack inner which place (a ∷ x ∷ left) n b count l c w =
+      rw (full, ← ea) (word_ended stack which place count n (omega (arith, w.0)) (b == a))
+  on_constant stack which place (a ∷ x ∷ left) n b count l c w =
       let k = drop-cons (letters_of which) count 0 c in
       let ea : a ≡ get_or (letters_of which) count 0 = cc in
       let er : x ∷ left ≡ drop (suc count) (letters_of which) = cc in
       let more : count + 1 < length (letters_of which) = omega (arith, length-drop (suc count) (letters_of which), ap length er) in
       let full : (count + 1 == length (letters_of which)) ≡ false = grind (arith, nat_tests) in
-      rw (full, ← ea) (word_goes stack inner which place count (count + 1) n (x ∷ left) (omega (arith, w.0), omega arith) (b == a))
+      rw (full, ← ea) (word_goes stack which place count (count + 1) n (x ∷ left) (omega (arith, w.0), omega arith) (b == a))
 
   -- ---- any leaf
 
   tells : (stack : List Frame) (leaf : Leaf) (mode : Mode) (turn : NumberTurn) (start n b : ℕ) → LeafAs leaf mode → Turns (under_leaf leaf) b turn → HasValue (under_leaf leaf) turn value → HasWords (under_leaf leaf) words → BegunAs leaf start → ConstantAt leaf n
-      → Tell (seen_at stack leaf) n (emitted mode (inner_of (levels_with leaf (levels_of stack))) (move_of mode turn (inner_of (levels_with leaf (levels_of stack))) b) value words start n) (step_leaf stack leaf n b)
-  tells stack value_due mode turn start n b a u v x g w = rw a (on_value_due stack (inner_of (levels_of stack)) start n b (class_of b))
+      → Tell (seen_at stack leaf) n (emitted mode turn (move_of mode turn (inner_of (levels_with leaf (levels_of stack))) words b) value start n) (step_leaf stack leaf n b)
+  tells stack value_due mode turn start n b a u v x g w = rw a (on_value_due stack start n b (class_of b))
   tells stack (value_done t) mode turn start n b a u v x g w = rw a (on_after stack t start n (class_of b))
   tells stack (array_opened place) mode turn start n b a u v x g w = rw a (on_array_opened stack place start n b (class_of b))
   tells stack (object_opened place) mode turn start n b a u v x g w = rw a (on_object_opened stack place start n b (class_of b))
-  tells stack (constant_on which place left) mode turn start n b a u v x g w = rw (a.1, g) (on_constant stack (inner_of (levels_of stack)) which place left n b a.0 a.2 a.3 w)
+  tells stack (constant_on which place left) mode turn start n b a u v x g w = rw (a.1, g) (on_constant stack which place left n b a.0 a.2 a.3 w)
   tells stack (number_on place so_far state) mode turn start n b a u v x g w = rw (a, u, g) (on_number stack place so_far n b (class_of b) (number_next state (class_of b)) (number_may_end state) (λ e. v (u ∙ e)))
-  tells stack (string_on place so_far state) mode turn start n b a u v x g w = rw (a, g) (on_string stack (inner_of (levels_of stack)) place so_far state n (string_next state b) x)
+  tells stack (string_on place so_far state) mode turn start n b a u v x g w = rw (a, g) (on_string stack place so_far state n (string_next state b) x)
   tells stack (name_due place done) mode turn start n b a u v x g w = rw a (on_name_due stack place done start n (class_of b))
-  tells stack (name_on place done np so_far state) mode turn start n b a u v x g w = rw (a, g) (on_name_string stack (Some Object) place done np so_far state n (string_next state b) x)
+  tells stack (name_on place done np so_far state) mode turn start n b a u v x g w = rw (a, g) (on_name_string stack place done np so_far state n (string_next state b) x)
   tells stack (colon_due place done np name ne) mode turn start n b a u v x g w = rw a (on_colon_due stack place done np name ne start n (class_of b))
 
 -- ---- where what is under way began
@@ -337,33 +302,25 @@ marked_tells marked before start n es (Some s) h g =
     (ap (λ xs. mark_events marked ++ xs) h.0 ∙ sym (append_assoc (mark_events marked) before (all_at (n + 1) es)), (g, h.1))
 
 module _ (value : Option Exact) (words : Words) where
-  text_due_events : (inner : Option Level) (c : Class) (start n : ℕ) → emitted TextDue inner (due_move c) value words start n ≡ emitted ValueDue inner (due_move c) value words start n
-  text_due_events inner OpenArray start n = refl
-  text_due_events inner OpenObject start n = refl
-  text_due_events inner White start n = refl
-  text_due_events inner _ start n = refl
-
   due_tells : (start n b : ℕ) (t : Bool) → n ≡ 0
-      → Tells [] n n (emitted TextDue None (if t then Go MarkOne else due_move (class_of b)) value words start n) (if t then Some mark_one else with_mark false (step_value_due [] n b (class_of b)))
+      → Tells [] n n (made (if t then Go MarkOne Ending.Nothing else due_move (class_of b)) start n) (if t then Some mark_one else with_mark false (step_value_due [] n b (class_of b)))
   due_tells start n b true e = (refl, omega arith)
-  due_tells start n b false e =
-      let P : List Event → Type 0 = λ es. Tells [] n n es (with_mark false (step_value_due [] n b (class_of b))) in
-      subst P (sym (text_due_events None (class_of b) start n)) (marked_tells false [] n n _ (step_value_due [] n b (class_of b)) (on_value_due value words [] None start n b (class_of b)) (due_began [] n b (class_of b)))
+  due_tells start n b false e = marked_tells false [] n n _ (step_value_due [] n b (class_of b)) (on_value_due [] start n b (class_of b)) (due_began [] n b (class_of b))
 
-  one_tells : (start n : ℕ) (t : Bool) → n ≡ 1 → Tells [] n n (emitted MarkOne None (if t then Go MarkTwo else Refuse) value words start n) (if t then Some mark_two else None)
+  one_tells : (start n : ℕ) (t : Bool) → n ≡ 1 → Tells [] n n (made (if t then Go MarkTwo Ending.Nothing else Refuse) start n) (if t then Some mark_two else None)
   one_tells start n true e = (refl, omega arith)
   one_tells start n false e = tt
 
-  two_tells : (start n : ℕ) (t : Bool) → n ≡ 2 → Tells [] n n (emitted MarkTwo None (if t then Go ValueDue else Refuse) value words start n) (if t then Some (begun true (record { stack = []; leaf = value_due })) else None)
+  two_tells : (start n : ℕ) (t : Bool) → n ≡ 2 → Tells [] n n (made (if t then Go ValueDue Ending.Mark else Refuse) start n) (if t then Some (begun true (record { stack = []; leaf = value_due })) else None)
   two_tells start n true e = (ap (λ k. timed (k + 1) 0 What.Mark ∷ []) (sym e), (tt, tt))
   two_tells start n false e = tt
 
   -- what a byte tells, from what the reader keeps
   pub step_tells : (state : Broken) (mode : Mode) (turn : NumberTurn) (levels : List Level) (start n b : ℕ) → StandsAs state mode levels → Turns (under_of state) b turn → HasValue (under_of state) turn value → HasWords (under_of state) words → EdgeAt state start n
-      → Tells (seen state) (start_after mode start n) n (emitted mode (inner_of levels) (move_of mode turn (inner_of levels) b) value words start n) (step state n b)
-  step_tells text_due mode turn levels start n b a t v x e = rw (a.0, a.1) (due_tells start n b (b == mark_first) e)
-  step_tells mark_one mode turn levels start n b a t v x e = rw (a.0, a.1) (one_tells start n (b == mark_second) e)
-  step_tells mark_two mode turn levels start n b a t v x e = rw (a.0, a.1) (two_tells start n (b == mark_third) e)
+      → Tells (seen state) (start_after mode start n) n (emitted mode turn (move_of mode turn (inner_of levels) words b) value start n) (step state n b)
+  step_tells text_due mode turn levels start n b a t v x e = rw (a.0) (due_tells start n b (b == mark_first) e)
+  step_tells mark_one mode turn levels start n b a t v x e = rw (a.0) (one_tells start n (b == mark_second) e)
+  step_tells mark_two mode turn levels start n b a t v x e = rw (a.0) (two_tells start n (b == mark_third) e)
   step_tells (begun marked s) mode turn levels start n b a t v x e =
       rw (a.1) (marked_tells marked (partial_timed s) (start_after mode start n) n _ (step_leaf s.stack s.leaf n b)
       (tells value words s.stack s.leaf mode turn start n b a.0 t v x e.0 e.1) (began s.stack s.leaf mode start n b a.0 e.0))
@@ -387,9 +344,11 @@ one_few None = omega arith
 one_few (Some e) = omega arith
 
 -- a byte completes two events at the most
-pub emitted_few : (mode : Mode) (inner : Option Level) (move : Move) (value : Option Exact) (words : Words) (start n : ℕ) → length (emitted mode inner move value words start n) ≤ 2
-emitted_few mode inner move value words start n = go (ended mode move)
+pub emitted_few : (mode : Mode) (turn : NumberTurn) (move : Move) (value : Option Exact) (start n : ℕ) → length (emitted mode turn move value start n) ≤ 2
+emitted_few mode turn move value start n = omega (arith, numbers mode turn, one_few (move_event move start n), length-append (number_events mode turn value start) (made move start n))
   where
-    go : (t : Bool) → length ((if t then event_at start (What.Number value) ∷ [] else []) ++ option_to_list (made_event mode inner move words start n)) ≤ 2
-    go true = omega (arith, one_few (made_event mode inner move words start n))
-    go false = omega (arith, one_few (made_event mode inner move words start n))
+    numbers : (mode : Mode) (turn : NumberTurn) → length (number_events mode turn value start) ≤ 1
+    numbers NumberOn NumberTurn.Ends = omega arith
+    numbers NumberOn NumberTurn.Goes = omega arith
+    numbers NumberOn NumberTurn.Refuses = omega arith
+    numbers _ turn = omega arith

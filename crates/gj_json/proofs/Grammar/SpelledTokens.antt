@@ -43,7 +43,7 @@ leads_joined a b c [] ys h g = let P : Mode → Type 0 = λ m. Leads m ys c in s
 leads_joined a b c (x ∷ xs) ys h g = (h.0, h.1, leads_joined h.0 b c xs ys h.2 g)
 
 colon_by : LeadsBy ColonDue colon_byte ValueDue
-colon_by = record { moves = λ turn inner. rw (class_is colon_class colon_byte refl (λ e. cc)) refl; on = refl; nothing = λ inner value words start n. refl }
+colon_by = record { moves = λ turn inner words. rw (class_is colon_class colon_byte refl (λ e. cc)) refl; on = refl }
 
 -- a colon, and white space around it
 pub colon_cut : (piece : List ℕ) (a c : ℕ) → a ≡ prefix_len is_white piece → a < length piece → get_or piece a 0 ≡ colon_byte → a + 1 ≤ c → c ≤ length piece → AllByRecursion IsWhite (cut piece (a + 1) c) → Leads ColonDue (take c piece) ValueDue

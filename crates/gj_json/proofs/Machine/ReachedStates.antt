@@ -40,9 +40,9 @@ Next next depth = (mode : Mode) × (levels : List Level) × StandsAs next mode l
 
 moved : (levels : List Level) (move : Move) (next : Broken) (depth : ℕ) → length levels + 1 ≤ depth → ((more : ℕ) → Follows (depth + more) levels move (Some next)) → Next next depth
 moved levels Refuse next depth l h = let e : Some next ≡ None = h 0 in cc
-moved levels (Go mode) next depth l h = (mode, levels, (h 0).0, λ more. (h more).1)
+moved levels (Go mode ending) next depth l h = (mode, levels, (h 0).0, λ more. (h more).1)
 moved levels (Open level) next depth l h = (opened level, level ∷ levels, (h 0).0, λ more. (h more).1 (omega arith))
-moved levels Close next depth l h = (ValueDone, outer_of levels, (h 0).0, λ more. (h more).1)
+moved levels (Close level) next depth l h = (ValueDone, outer_of levels, (h 0).0, λ more. (h more).1)
 
 reached_on : (s next : Broken) (n b : ℕ) → IsReached s n → step s n b ≡ Some next → IsReached next (n + 1)
 reached_on s next n b k e =
@@ -51,14 +51,14 @@ reached_on s next n b k e =
     let value = own_value (under_of s) in
     let words = own_words (under_of s) in
     let deep = k.depth + (length k.levels + 1) in
-    let P : Option Broken → ℕ → Type 0 = λ o d. Follows d k.levels (move_of k.mode turn (inner_of k.levels) b) o in
+    let P : Option Broken → ℕ → Type 0 = λ o d. Follows d k.levels (move_of k.mode turn (inner_of k.levels) words b) o in
     let follows : (more : ℕ) → P (Some next) (deep + more) = λ more.
     let Q : ℕ → Type 0 = λ d. FitsBroken d s in
     let f : FitsBroken (deep + more) s = subst Q (omega arith) (k.fits (length k.levels + 1 + more)) in
     let R : Option Broken → Type 0 = λ o. P o (deep + more) in
-    subst R e (moves (deep + more) s k.mode turn k.levels n b k.kept turns f) in
-    let g = moved k.levels (move_of k.mode turn (inner_of k.levels) b) next deep (omega arith) follows in
-    let es = emitted k.mode (inner_of k.levels) (move_of k.mode turn (inner_of k.levels) b) value words k.start n in
+    subst R e (moves (deep + more) s k.mode turn words k.levels n b k.kept turns f) in
+    let g = moved k.levels (move_of k.mode turn (inner_of k.levels) words b) next deep (omega arith) follows in
+    let es = emitted k.mode turn (move_of k.mode turn (inner_of k.levels) words b) value k.start n in
     let T : Option Broken → Type 0 = λ o. Tells (seen s) (start_after k.mode k.start n) n es o in
     let t : T (Some next) = subst T e (step_tells value words s k.mode turn k.levels k.start n b k.kept turns (own_has (under_of s) turn) (own_has_words (under_of s)) k.timely.edge) in
     record {

@@ -17,21 +17,23 @@ use Rattle.gj_json.specs.Tree.{Text}
 use Rattle.gj_json.specs.Text.{IsText, IsViableWithin}
 use Rattle.gj_json.specs.Refusal.{IsRefusal, Stops, RefusedFor, IsByByte}
 use Rattle.gj_json.specs.Internal.OpenLevels.{levels_in}
-use Rattle.gj_json.specs.Internal.KeptContent.{known_in, words_in}
+use Rattle.gj_json.specs.Internal.KeptContent.{words_in}
 use Rattle.gj_json.specs.Internal.TextMachine.{Frame, in_array, in_object, Leaf, value_due, value_done, array_opened, object_opened, constant_on, number_on, string_on, name_due, name_on, colon_due, Broken, text_due, mark_one, mark_two, begun, step, run}
 use Rattle.gj_json.specs.Internal.ReaderState.{levels_of, levels_with, StandsAs, StandsWell, StandsRefused}
 use Rattle.gj_json.specs.Internal.UnderWay.{under_of}
 use Rattle.gj_json.specs.Reader.{StandsFor}
 use Rattle.gj_json.specs.Internal.FedReader.{Skips}
 use Rattle.gj_json.specs.Path.{steps_of, path_at}
-use Rattle.gj_json.specs.Internal.PathTrail.{inner_steps, turn_of, followed, IsSmall, Fits, LeafTrail, stack_steps, stack_count, TrailAt, begins, kept_steps}
+use Rattle.gj_json.specs.Internal.PathTrail.{inner_steps, followed, IsSmall, Fits, LeafTrail, stack_steps, stack_count, TrailAt, begins, kept_steps}
 use Rattle.gj_json.specs.Locator.{StandsFor as LocatorStandsFor}
 use Rattle.gj_json.proofs.Machine.Completions.{Goes, TextFrom}
 use Rattle.gj_json.proofs.Readers.CallsInTurn.{live_offset, refused_offset, refused_within, refused_stands, taken_within, skip_feeds, skipped, answers_ok, answers_err}
 use Rattle.gj_json.proofs.Readers.LevelWords.{few_levels}
 use Rattle.gj_json.proofs.Readers.NumberUnderWay.{words_by}
 use Rattle.gj_json.proofs.Paths.PathsOfStates.{path_leads}
-use Rattle.gj_json.proofs.Readers.ReadBytes.{run-push, open_of, well_of}
+use Rattle.gj_json.proofs.Readers.ReadBytes.{run-push, open_of, well_of, says}
+use Rattle.gj_json.specs.declared.mode.Move.{Move}
+use Rattle.gj_json.specs.Internal.ReaderStep.{Moves}
 use Rattle.gj_json.proofs.Paths.PathSteps.{outward, from_back}
 use Rattle.gj_json.proofs.Machine.MachineTexts.{text_goes_on}
 use Rattle.gj_json.proofs.Paths.TrailSteps.{TrailTo, step_trail}
@@ -85,22 +87,23 @@ trail_fits (begun marked s) mode levels steps n a e m l = leaf_fits s.stack s.le
 all_taken : (bytes : List ℕ) (n : ℕ) → n ≡ length bytes → take n bytes ≡ bytes
 all_taken bytes n e = rw e (take-length bytes)
 
-pub trail_on : (old new : Locator) (b : ℕ) (bytes : List ℕ) → old.reader.fault ≡ None → new.reader.fault ≡ None → LocatorStandsFor old bytes → StandsFor new.reader (bytes ++ b ∷ []) → new.reader.limits.bytes ≤ 2 ^ 60
-    → (let steps = followed (turn_of old.reader.mode (known_in old.reader.content) b) (inner_steps old.trail) in Fits steps → inner_steps new.trail ≡ steps) → LocatorStandsFor new (bytes ++ b ∷ [])
+pub trail_on : (old new : Locator) (b : ℕ) (made : Move) (bytes : List ℕ) → Moves old.reader b made → old.reader.fault ≡ None → new.reader.fault ≡ None → LocatorStandsFor old bytes → StandsFor new.reader (bytes ++ b ∷ []) → new.reader.limits.bytes ≤ 2 ^ 60
+    → (let steps = followed made (inner_steps old.trail) in Fits steps → inner_steps new.trail ≡ steps) → LocatorStandsFor new (bytes ++ b ∷ [])
 unfolding LocatorStandsFor
-trail_on old new b bytes live goes h k most f = (k, λ state r. trail state r)
+trail_on old new b made bytes m live goes h k most f = (k, λ state r. trail state r)
   where
     trail : (state : Broken) → run (take new.reader.offset (bytes ++ b ∷ [])) ≡ Some state → TrailAt new.reader.offset state (inner_steps new.trail)
     trail state r =
         let o = open_of old.reader bytes live h.0 in
         let w = well_of new.reader (bytes ++ b ∷ []) goes k in
-        let steps : List PathStep = followed (turn_of old.reader.mode (known_in old.reader.content) b) (inner_steps old.trail) in
+        let steps : List PathStep = followed made (inner_steps old.trail) in
         let before : TrailAt old.reader.offset o.well.state (inner_steps old.trail) = h.1 o.well.state (rw (all_taken bytes old.reader.offset o.well.at) o.well.runs) in
         let s : run (bytes ++ b ∷ []) ≡ Some state = rw (all_taken (bytes ++ b ∷ []) new.reader.offset w.at) at r in
         let t : step o.well.state (length bytes) b ≡ Some state = sym (run-push bytes b o.well.state o.well.runs) ∙ s in
         let c : TrailTo (length bytes) steps (step o.well.state (length bytes) b) =
-        step_trail o.well.state old.reader.mode (levels_in old.reader.levels) (words_in old.reader.content) (length bytes) b (inner_steps old.trail) o.well.kept (words_by (under_of o.well.state) old.reader.literal old.reader.content o.keeps)
-        (subst (λ n. TrailAt n o.well.state (inner_steps old.trail)) o.well.at before) in
+        rw (m.is)
+        (step_trail o.well.state old.reader.mode m.turn (levels_in old.reader.levels) (words_in old.reader.content) (length bytes) b (inner_steps old.trail) o.well.kept (says old.reader b bytes m.turn m.value m.says o).0
+        (words_by (under_of o.well.state) old.reader.literal old.reader.content o.keeps) (subst (λ n. TrailAt n o.well.state (inner_steps old.trail)) o.well.at before)) in
         let d : TrailTo (length bytes) steps (Some state) = subst (λ (x : Option Broken). TrailTo (length bytes) steps x) t c in
         let n : length bytes + 1 ≡ new.reader.offset = omega (arith, w.at, length-append bytes (b ∷ [])) in
         let e : TrailAt new.reader.offset state steps = subst (λ m. TrailAt m state steps) n d in

@@ -13,7 +13,9 @@ use Rattle.gj_json.specs.declared.levels.Levels.{Levels}
 use Rattle.gj_json.specs.declared.levels.Level.TheVariants.{Array, Object}
 use Rattle.gj_json.specs.declared.mode.Mode.{Mode}
 use Rattle.gj_json.specs.declared.mode.Mode.TheVariants.{ValueDone, ValueDue, ArrayOpened, NameDue, ColonDue}
+use Rattle.gj_json.specs.declared.mode.Ending.{Ending}
 use Rattle.gj_json.specs.declared.mode.Move.TheVariants.{Go, Close}
+use Rattle.gj_json.proofs.Readers.StepsAlike.{no_number}
 use Rattle.gj_json.specs.declared.mode.NumberTurn.{NumberTurn}
 use Rattle.gj_json.specs.declared.mode.StringState.{StringState}
 use Rattle.gj_json.specs.declared.mode.StringState.TheVariants.{Plain as plain}
@@ -33,9 +35,9 @@ use Rattle.gj_json.specs.Internal.QuietBytes.{Reads}
 use Rattle.gj_json.specs.Internal.ReaderStep.{opened}
 use Rattle.gj_json.specs.Internal.SeenEvents.{seen, partial_timed, stack_timed, done_members, EdgeAt}
 use Rattle.gj_json.specs.Internal.ReaderState.{StandsWell, StandsAs, FitsLeaf, FitsName, FitsBroken, levels_of}
-use Rattle.gj_json.specs.Internal.WholeTokens.{bracket_of, closing_event, names, may_begin, IsString, Lands}
+use Rattle.gj_json.specs.Internal.WholeTokens.{bracket_of, names, may_begin, IsString, Lands}
 use Rattle.gj_json.specs.Tree.{Tree, constant, string, depth}
-use Rattle.gj_json.specs.Internal.ToldEvents.{emitted, event_at, opening_of, closing_of, is_on, in_number, text_state}
+use Rattle.gj_json.specs.Internal.ToldEvents.{ending_event, event_at, opening_of, closing_of, is_on, in_number, text_state}
 use Rattle.gj_json.specs.Internal.UnderWay.{nothing, under_leaf, under_of}
 use Rattle.gj_json.proofs.Grammar.CharacterPrefixes.{StringTo}
 use Rattle.gj_json.proofs.Grammar.ClassOfBytes.{class_is}
@@ -272,17 +274,17 @@ name_passed old new piece n live due room w q p =
 
 -- ---- a comma and a colon
 
-module _ (old new : Reader) (b : ℕ) (next : Mode) (live : old.fault ≡ None) (p : Passed 1 next old new) (room : old.offset < old.limits.bytes) (moves : (turn : NumberTurn) → move_of old.mode turn (inner_of (levels_in old.levels)) b ≡ Go next) (on : is_on old.mode ≡ is_on next)
-    (tells : (words : Words) (value : Option Exact) → emitted old.mode (inner_of (levels_in old.levels)) (Go next) value words old.start old.offset ≡ []) (number : in_number next ≡ false) (text : text_state next ≡ None) where
+module _ (old new : Reader) (b : ℕ) (next : Mode) (ending : Ending) (live : old.fault ≡ None) (p : Passed 1 next old new) (room : old.offset < old.limits.bytes) (moves : (turn : NumberTurn) (words : Words) → move_of old.mode turn (inner_of (levels_in old.levels)) words b ≡ Go next ending)
+    (on : is_on old.mode ≡ is_on next) (idle : in_number old.mode ≡ false) (tells : ending_event ending old.start ≡ None) (number : in_number next ≡ false) (text : text_state next ≡ None) where
   byte_after : (bytes : List ℕ) → StandsWell old.limits old.mode (levels_in old.levels) old.start old.offset bytes → After old.limits (levels_in old.levels) old.start next old.offset (old.offset + 1) bytes (b ∷ []) []
   byte_after bytes k =
       let turn = own_turn (under_of k.state) b in
       let t = own_turns (under_of k.state) b in
-      let w = byte_well old.limits (levels_in old.levels) old.start old.mode next old.offset bytes b k turn t room (moves turn) on in
+      let w = byte_well old.limits (levels_in old.levels) old.start old.mode next ending old.offset bytes b k turn t room (moves turn (own_words (under_of k.state))) on in
       record {
         well = w.0;
         keeps = λ literal content. keeps_none (under_of w.0.state) literal content (sym (mode_under w.0.state next (levels_in old.levels) w.0.kept) ∙ number) (sym (mode_state w.0.state next (levels_in old.levels) w.0.kept) ∙ text);
-        more = byte_completes old.limits (levels_in old.levels) old.start old.mode next old.offset bytes b k turn t (moves turn) (tells (own_words (under_of k.state)) (own_value (under_of k.state)));
+        more = byte_completes old.limits (levels_in old.levels) old.start old.mode next ending old.offset bytes b k turn t (moves turn (own_words (under_of k.state))) (no_number old.mode turn (own_value (under_of k.state)) old.start idle) tells;
       }
 
   byte_passed : FeedsLevel old new (b ∷ [])
@@ -292,23 +294,23 @@ first_byte : (piece : List ℕ) (b : ℕ) → 0 < length piece → get_or piece 
 first_byte [] b w e = absurd (omega arith)
 first_byte (x ∷ xs) b w e = ap (λ y. y ∷ []) e
 
-comma_move : (old : Reader) (level : Level) (next : Mode) → old.mode ≡ ValueDone → inner_of (levels_in old.levels) ≡ Some level → after_move (Some level) comma_class ≡ Go next → (turn : NumberTurn) → move_of old.mode turn (inner_of (levels_in old.levels)) comma_byte ≡ Go next
-comma_move old level next m i e turn = rw (m, i, class_is comma_class comma_byte refl (λ e. cc)) e
+comma_move : (old : Reader) (level : Level) (next : Mode) → old.mode ≡ ValueDone → inner_of (levels_in old.levels) ≡ Some level → after_move (Some level) comma_class ≡ Go next Ending.Item → (turn : NumberTurn) (words : Words) → move_of old.mode turn (inner_of (levels_in old.levels)) words comma_byte ≡ Go next Ending.Item
+comma_move old level next m i e turn words = rw (m, i, class_is comma_class comma_byte refl (λ e. cc)) e
 
 pub comma_in_array : (old new : Reader) (piece : List ℕ) → old.fault ≡ None → old.mode ≡ ValueDone → inner_of (levels_in old.levels) ≡ Some Array → 0 < length piece → old.offset + length piece ≤ old.limits.bytes → get_or piece 0 0 ≡ comma_byte → Passed 1 ValueDue old new → FeedsLevel old new (take 1 piece)
 comma_in_array old new piece live m i w room e p =
     let Q : List ℕ → Type 0 = λ xs. FeedsLevel old new xs in
-    subst Q (sym (first_byte piece comma_byte w e)) (byte_passed old new comma_byte ValueDue live p (omega arith) (comma_move old Array ValueDue m i refl) (rw m refl) (λ words value. rw m refl) refl refl)
+    subst Q (sym (first_byte piece comma_byte w e)) (byte_passed old new comma_byte ValueDue Ending.Item live p (omega arith) (comma_move old Array ValueDue m i refl) (rw m refl) (rw m refl) refl refl refl)
 
 pub comma_in_object : (old new : Reader) (piece : List ℕ) → old.fault ≡ None → old.mode ≡ ValueDone → inner_of (levels_in old.levels) ≡ Some Object → 0 < length piece → old.offset + length piece ≤ old.limits.bytes → get_or piece 0 0 ≡ comma_byte → Passed 1 NameDue old new → FeedsLevel old new (take 1 piece)
 comma_in_object old new piece live m i w room e p =
     let Q : List ℕ → Type 0 = λ xs. FeedsLevel old new xs in
-    subst Q (sym (first_byte piece comma_byte w e)) (byte_passed old new comma_byte NameDue live p (omega arith) (comma_move old Object NameDue m i refl) (rw m refl) (λ words value. rw m refl) refl refl)
+    subst Q (sym (first_byte piece comma_byte w e)) (byte_passed old new comma_byte NameDue Ending.Item live p (omega arith) (comma_move old Object NameDue m i refl) (rw m refl) (rw m refl) refl refl refl)
 
 pub colon_passed : (old new : Reader) (piece : List ℕ) → old.fault ≡ None → old.mode ≡ ColonDue → 0 < length piece → old.offset + length piece ≤ old.limits.bytes → get_or piece 0 0 ≡ colon_byte → Passed 1 ValueDue old new → FeedsLevel old new (take 1 piece)
 colon_passed old new piece live m w room e p =
     let Q : List ℕ → Type 0 = λ xs. FeedsLevel old new xs in
-    subst Q (sym (first_byte piece colon_byte w e)) (byte_passed old new colon_byte ValueDue live p (omega arith) (λ turn. rw (m, class_is colon_class colon_byte refl (λ e. cc)) refl) (rw m refl) (λ words value. rw m refl) refl refl)
+    subst Q (sym (first_byte piece colon_byte w e)) (byte_passed old new colon_byte ValueDue Ending.Nothing live p (omega arith) (λ turn words. rw (m, class_is colon_class colon_byte refl (λ e. cc)) refl) (rw m refl) (rw m refl) refl refl refl)
 
 -- ---- one token after another
 
@@ -382,10 +384,9 @@ opened_leaves : (m n : ℕ) (level : Level) (place : ℕ) → 0 < m → n ≡ m 
 opened_leaves zero n level place w e = absurd (omega arith)
 opened_leaves (suc k) n level place w e = rw e (open_counts k level place)
 
-closed_leaves : (m n : ℕ) (levels : List Level) (place : ℕ) → 0 < m → 0 < length levels → n + 1 ≡ m → Leaves m (closing_event (inner_of levels) place) n
-closed_leaves zero n levels place w v e = absurd (omega arith)
-closed_leaves (suc k) n [] place w v e = absurd (omega arith)
-closed_leaves (suc k) n (level ∷ levels) place w v e = let f : n ≡ k = omega arith in rw f (close_counts k level place)
+closed_leaves : (m n : ℕ) (level : Level) (place : ℕ) → 0 < m → n + 1 ≡ m → Leaves m (event_at place (closing_of level) ∷ []) n
+closed_leaves zero n level place w e = absurd (omega arith)
+closed_leaves (suc k) n level place w e = let f : n ≡ k = omega arith in rw f (close_counts k level place)
 
 outer_length : (levels : List Level) → 0 < length levels → length (outer_of levels) + 1 ≡ length levels
 outer_length [] w = absurd (omega arith)
@@ -408,14 +409,14 @@ opened_level floor old new piece level some is live due room deep w p =
     open_taken {before = λ events. events ≡ []} {after = λ events. Leaves (above floor old) events (above floor new)} old new piece level some is live (may_begin_due old.mode due) room deep p
     (λ events e. (let P : List Event → Type 0 = λ xs. Leaves (above floor old) (xs ++ event_at old.offset (opening_of level) ∷ []) (above floor new) in subst P (sym e) leaves))
 
-pub closed_level : (floor : ℕ) (old new : Reader) (piece : List ℕ) → 0 < length piece → old.fault ≡ None → old.mode ≡ ValueDone → old.offset + length piece ≤ old.limits.bytes → after_move (inner_of (levels_in old.levels)) (class_of (get_or piece 0 0)) ≡ Close
+pub closed_level : (floor : ℕ) (old new : Reader) (piece : List ℕ) (level : Level) → 0 < length piece → old.fault ≡ None → old.mode ≡ ValueDone → old.offset + length piece ≤ old.limits.bytes → after_move (inner_of (levels_in old.levels)) (class_of (get_or piece 0 0)) ≡ Close level
     → floor < length (levels_in old.levels) → Lands 1 ValueDone (outer_of (levels_in old.levels)) old new → FeedsWithin floor old new (take 1 piece)
-closed_level floor old new piece some live done room made w p =
+closed_level floor old new piece level some live done room made w p =
     let ls = levels_in old.levels in
     let n : above floor new + 1 ≡ above floor old = omega (arith, ap length p.levels_are, outer_length ls (omega arith)) in
-    let leaves = closed_leaves (above floor old) (above floor new) ls (old.offset + 1 - 1) (omega arith) (omega arith) n in
-    end_closes {before = λ events. events ≡ []} {after = λ events. Leaves (above floor old) events (above floor new)} old new piece some live done room made p
-    (λ events e. (let P : List Event → Type 0 = λ xs. Leaves (above floor old) (xs ++ closing_event (inner_of ls) (old.offset + 1 - 1)) (above floor new) in subst P (sym e) leaves))
+    let leaves = closed_leaves (above floor old) (above floor new) level (old.offset + 1 - 1) (omega arith) n in
+    end_closes {before = λ events. events ≡ []} {after = λ events. Leaves (above floor old) events (above floor new)} old new piece level some live done room made p
+    (λ events e. (let P : List Event → Type 0 = λ xs. Leaves (above floor old) (xs ++ event_at (old.offset + 1 - 1) (closing_of level) ∷ []) (above floor new) in subst P (sym e) leaves))
 
 -- ---- a number, and the byte behind it, within levels that are open
 
@@ -423,9 +424,9 @@ number_leaves : (m n place : ℕ) (value : Option Exact) → 0 < m → n ≡ m �
 number_leaves zero n place value w e = absurd (omega arith)
 number_leaves (suc k) n place value w e = sym e
 
-ended_leaves : (m n : ℕ) (levels : List Level) (first last : ℕ) (value : Option Exact) → 0 < m → 0 < length levels → n + 1 ≡ m → Leaves m (event_at first (What.Number value) ∷ closing_event (inner_of levels) last) n
-ended_leaves zero n levels first last value w v e = absurd (omega arith)
-ended_leaves (suc k) n levels first last value w v e = closed_leaves (suc k) n levels last w v e
+ended_leaves : (m n : ℕ) (level : Level) (first last : ℕ) (value : Option Exact) → 0 < m → n + 1 ≡ m → Leaves m (event_at first (What.Number value) ∷ event_at last (closing_of level) ∷ []) n
+ended_leaves zero n level first last value w e = absurd (omega arith)
+ended_leaves (suc k) n level first last value w e = closed_leaves (suc k) n level last w e
 
 module _ (floor : ℕ) (old new : Reader) (piece : List ℕ) (n : ℕ) (live : old.fault ≡ None) (due : awaits old.mode ≡ true) (room : old.offset + length piece ≤ old.limits.bytes) (w : n < length piece) (digits : IsNumber (take n piece))
     (above_floor : floor < length (levels_in old.levels)) where
@@ -435,18 +436,18 @@ module _ (floor : ℕ) (old new : Reader) (piece : List ℕ) (n : ℕ) (live : o
   abbrev Left : List Event → Type 0
   Left events = Leaves (above floor old) events (above floor new)
 
-  pub number_within : (next : Mode) → after_move (inner_of (levels_in old.levels)) (class_of (get_or piece n 0)) ≡ Go next → Passed (n + 1) next old new → FeedsWithin floor old new (take (n + 1) piece)
-  number_within next made p =
+  pub number_within : (next : Mode) (ending : Ending) → after_move (inner_of (levels_in old.levels)) (class_of (get_or piece n 0)) ≡ Go next ending → Passed (n + 1) next old new → FeedsWithin floor old new (take (n + 1) piece)
+  number_within next ending made p =
       let same : above floor new ≡ above floor old = ap (λ (l : Levels). length (levels_in l) - floor) p.levels in
       let leaves : Left (event_at old.offset (What.Number value) ∷ []) = number_leaves (above floor old) (above floor new) old.offset value (omega arith) same in
-      number_then old new piece n value live due room w digits refl {before = λ events. events ≡ []} {after = Left} next made p
+      number_then old new piece n value live due room w digits refl {before = λ events. events ≡ []} {after = Left} next ending made p
       (λ events e. (let P : List Event → Type 0 = λ xs. Left (xs ++ event_at old.offset (What.Number value) ∷ []) in subst P (sym e) leaves))
 
-  pub ended_within : after_move (inner_of (levels_in old.levels)) (class_of (get_or piece n 0)) ≡ Close → Lands (n + 1) ValueDone (outer_of (levels_in old.levels)) old new → FeedsWithin floor old new (take (n + 1) piece)
-  ended_within made p =
+  pub ended_within : (level : Level) → after_move (inner_of (levels_in old.levels)) (class_of (get_or piece n 0)) ≡ Close level → Lands (n + 1) ValueDone (outer_of (levels_in old.levels)) old new → FeedsWithin floor old new (take (n + 1) piece)
+  ended_within level made p =
       let ls = levels_in old.levels in
       let last = old.offset + (n + 1) - 1 in
       let less : above floor new + 1 ≡ above floor old = omega (arith, ap length p.levels_are, outer_length ls (omega arith)) in
-      let leaves : Left (event_at old.offset (What.Number value) ∷ closing_event (inner_of ls) last) = ended_leaves (above floor old) (above floor new) ls old.offset last value (omega arith) (omega arith) less in
-      number_closed old new piece n value live due room w digits refl {before = λ events. events ≡ []} {after = Left} made p
-      (λ events e. (let P : List Event → Type 0 = λ xs. Left (xs ++ event_at old.offset (What.Number value) ∷ closing_event (inner_of ls) last) in subst P (sym e) leaves))
+      let leaves : Left (event_at old.offset (What.Number value) ∷ event_at last (closing_of level) ∷ []) = ended_leaves (above floor old) (above floor new) level old.offset last value (omega arith) less in
+      number_closed old new piece n value live due room w digits refl {before = λ events. events ≡ []} {after = Left} level made p
+      (λ events e. (let P : List Event → Type 0 = λ xs. Left (xs ++ event_at old.offset (What.Number value) ∷ event_at last (closing_of level) ∷ []) in subst P (sym e) leaves))

@@ -1,5 +1,5 @@
 -- White space and digits leave some modes as they are, and bytes of a string its mode.
-use Rattle.std.proofs.Common.{◌≡◌, ℕ, ◌+◌, ◌-◌, ◌<◌, Bool, true, false, cond, List, [], ◌∷◌, ◌++◌, length, take, drop, take-add, get_or, Option, None, refl, sym, ap, subst, ◌∙◌, append_assoc, append-nil, arith}
+use Rattle.std.proofs.Common.{◌≡◌, ℕ, ◌+◌, ◌-◌, ◌<◌, Bool, true, false, cond, List, [], ◌∷◌, ◌++◌, length, take, drop, take-add, get_or, None, refl, sym, ap, subst, ◌∙◌, append_assoc, append-nil, arith}
 use Rattle.std.proofs.lemmas.List.{take_more}
 use Rattle.std.specs.List.{AllByRecursion, prefix_len}
 use Rattle.std.proofs.Math.Numerals.{one-add}
@@ -8,14 +8,10 @@ use Rattle.gj_json.specs.Bytes.{IsWhite}
 use Rattle.gj_json.specs.Characters.{IsPlain}
 use Rattle.gj_json.specs.declared.class.Class.TheVariants.{White as white}
 use Rattle.gj_json.specs.declared.mode.Mode.{Mode}
-use Rattle.gj_json.specs.declared.mode.Mode.TheVariants.{TextDue, MarkOne, MarkTwo, ValueDue, ValueDone, ArrayOpened, ObjectOpened, ConstantOn, NumberOn, StringOn, NameDue, NameOn, ColonDue}
-use Rattle.gj_json.specs.declared.levels.Level.{Level}
-use Rattle.gj_json.specs.declared.mode.Move.TheVariants.{Go}
+use Rattle.gj_json.specs.declared.mode.Mode.TheVariants.{ValueDue, ValueDone, ArrayOpened, ObjectOpened, NumberOn, StringOn, NameDue, NameOn, ColonDue}
 use Rattle.gj_json.specs.declared.mode.StringState.{StringState}
 use Rattle.gj_json.specs.Internal.TextMachine.{string_next, string_goes}
-use Rattle.gj_json.specs.Internal.ToldEvents.{emitted, in_number, text_state}
-use Rattle.gj_number.specs.Exact.{Exact}
-use Rattle.gj_json.specs.Names.{Words}
+use Rattle.gj_json.specs.Internal.ToldEvents.{in_number, text_state}
 use Rattle.gj_json.proofs.Pieces.PieceRests.{rest_of}
 use Rattle.gj_json.specs.declared.mode.StringState.TheVariants.{Plain}
 use Rattle.gj_json.specs.Internal.ByteClasses.{class_of}
@@ -61,12 +57,12 @@ class_white : (b : ℕ) → is_white b ≡ true → class_of b ≡ white
 class_white b e = class_is white b (white_is b e) (λ e. cc)
 
 quiet_white : (mode : Mode) → PassesWhite mode → (b : ℕ) → is_white b ≡ true → IsQuiet mode b
-quiet_white ValueDue h b e = λ turn inner. rw (class_white b e) refl
-quiet_white ValueDone h b e = λ turn inner. rw (class_white b e) refl
-quiet_white ArrayOpened h b e = λ turn inner. rw (class_white b e) refl
-quiet_white ObjectOpened h b e = λ turn inner. rw (class_white b e) refl
-quiet_white NameDue h b e = λ turn inner. rw (class_white b e) refl
-quiet_white ColonDue h b e = λ turn inner. rw (class_white b e) refl
+quiet_white ValueDue h b e = record { moves = λ turn inner words. rw (class_white b e) refl; on = refl }
+quiet_white ValueDone h b e = record { moves = λ turn inner words. rw (class_white b e) refl; on = refl }
+quiet_white ArrayOpened h b e = record { moves = λ turn inner words. rw (class_white b e) refl; on = refl }
+quiet_white ObjectOpened h b e = record { moves = λ turn inner words. rw (class_white b e) refl; on = refl }
+quiet_white NameDue h b e = record { moves = λ turn inner words. rw (class_white b e) refl; on = refl }
+quiet_white ColonDue h b e = record { moves = λ turn inner words. rw (class_white b e) refl; on = refl }
 quiet_white _ h b e = absurd h
 
 pub plain_run : (xs : List ℕ) → Reads Plain (take (prefix_len is_plain xs) xs) (take (prefix_len is_plain xs) xs) Plain × AllByRecursion IsAscii (take (prefix_len is_plain xs) xs)
@@ -92,25 +88,9 @@ reads_byte a b c piece cs more at w h g =
     let Q : List ℕ → Type 0 = λ xs. Reads a xs (cs ++ more) c in
     subst Q (sym (take_more piece at 0 w)) (joined a b c (take at piece) (get_or piece at 0 ∷ []) cs more h (c, more, [], g, sym (append-nil more), (refl, refl)))
 
--- a move to the same mode completes nothing
-quiet_events : (mode : Mode) (inner : Option Level) (value : Option Exact) (words : Words) (start n : ℕ) → emitted mode inner (Go mode) value words start n ≡ []
-quiet_events TextDue inner value words start n = refl
-quiet_events MarkOne inner value words start n = refl
-quiet_events MarkTwo inner value words start n = refl
-quiet_events ValueDue inner value words start n = refl
-quiet_events ValueDone inner value words start n = refl
-quiet_events ArrayOpened inner value words start n = refl
-quiet_events ObjectOpened inner value words start n = refl
-quiet_events (ConstantOn which count) inner value words start n = refl
-quiet_events NumberOn inner value words start n = refl
-quiet_events (StringOn state) inner value words start n = refl
-quiet_events NameDue inner value words start n = refl
-quiet_events (NameOn state) inner value words start n = refl
-quiet_events ColonDue inner value words start n = refl
-
 pub quiet_leads : (mode : Mode) (xs : List ℕ) → AllByRecursion (IsQuiet mode) xs → Leads mode xs mode
 quiet_leads mode [] h = refl
-quiet_leads mode (x ∷ xs) h = (mode, record { moves = h.0; on = refl; nothing = quiet_events mode }, quiet_leads mode xs h.1)
+quiet_leads mode (x ∷ xs) h = (mode, h.0, quiet_leads mode xs h.1)
 
 -- a mode in which no number is under way
 pub other_mode : (mode : Mode) → (mode ≡ NumberOn → ⊥) → in_number mode ≡ false

@@ -1,5 +1,5 @@
 -- Bytes that complete nothing, in a row.
-use Rattle.std.proofs.Common.{inl, inr, ◌≡◌, ℕ, ◌+◌, ◌≤◌, ◌<◌, true, List, [], ◌∷◌, ◌++◌, length, Option, Some, None, refl, sym, ap, subst, ◌∙◌, arith, append_assoc, append-nil}
+use Rattle.std.proofs.Common.{inl, inr, ◌≡◌, ℕ, ◌+◌, ◌≤◌, ◌<◌, true, false, List, [], ◌∷◌, ◌++◌, length, Option, Some, None, refl, sym, ap, subst, ◌∙◌, arith, append_assoc, append-nil}
 use Rattle.gj_json.specs.declared.event.Event.{Event}
 use Rattle.gj_json.specs.declared.levels.Level.{Level}
 use Rattle.gj_json.specs.declared.mode.Mode.{Mode}
@@ -22,7 +22,6 @@ use Rattle.gj_json.specs.declared.mode.Mode.TheVariants.{NumberOn, StringOn, Nam
 use Rattle.gj_json.specs.Internal.KeptContent.{Holds}
 use Rattle.gj_json.specs.Names.{Words}
 use Rattle.gj_json.specs.Internal.FedReader.{GoesOn}
-use Rattle.gj_number.specs.Exact.{Exact}
 use Rattle.gj_json.proofs.Grammar.OneCharacter.{OneCharacter, one_character}
 use Rattle.gj_json.specs.declared.mode.Move.TheVariants.{Go}
 use Rattle.gj_json.specs.declared.mode.NumberTurn.{NumberTurn}
@@ -30,12 +29,15 @@ use Rattle.gj_json.specs.Internal.NumberStates.{NumberState, number_state}
 use Rattle.gj_json.specs.Internal.UnderWay.{Under, nothing, number, text, under_of, ComesFrom, Keeps, Turns}
 use Rattle.gj_json.proofs.Machine.BytesUnderWay.{is_number, state_under, CameTo, step_came, mode_under, mode_state}
 use Rattle.gj_json.proofs.Readers.NumberUnderWay.{own_turn, own_turns, own_value, own_has, own_words, own_has_words, goes_on, came_number, came_text, number_front}
-use Rattle.gj_json.specs.Internal.ToldEvents.{emitted, is_on, start_after, text_state}
+use Rattle.gj_json.specs.Internal.ToldEvents.{ending_event, number_events, emitted, in_number, is_on, start_after, text_state}
 use Rattle.gj_json.proofs.Machine.Completions.{Goes}
 use Rattle.gj_json.proofs.Readers.Simulation.{moves}
 use Rattle.gj_json.proofs.Events.EventsOfSteps.{Tells}
 use Rattle.gj_json.proofs.Readers.ReadBytes.{passed, told_by_step, completed_from}
-use Rattle.gj_json.proofs.Paths.TrailRuns.{Lasts, nothing_lasts, byte_and_more, text_lasts, number_lasts, quiet_lasts, no_text_at}
+use Rattle.gj_json.proofs.Paths.TrailRuns.{Lasts, nothing_lasts, byte_and_more, byte_lasts}
+use Rattle.gj_json.proofs.Readers.StepsAlike.{no_number}
+use Rattle.gj_json.specs.declared.mode.Ending.{Ending}
+use Rattle.gj_json.specs.declared.mode.Ending.TheVariants.{Nothing}
 
 -- where nothing is under way, it does not matter where that began
 leaf_start : (leaf : Leaf) (mode next : Mode) (start n : ℕ) → is_on mode ≡ is_on next → LeafAs leaf next → BegunAs leaf (start_after mode start n) → BegunAs leaf start
@@ -65,48 +67,53 @@ no_more offset n bytes b run c d = λ T rest t.
 
 -- a mode in which a string, or a name, is under way
 record IsTextMode (on : StringState → Mode) : Type 0 where
-  pub moves : (state next : StringState) (more : List ℕ) (b : ℕ) (turn : NumberTurn) (inner : Option Level) → string_next state b ≡ string_goes more next → move_of (on state) turn inner b ≡ Go (on next)
+  pub moves : (state next : StringState) (more : List ℕ) (b : ℕ) (turn : NumberTurn) (inner : Option Level) (words : Words) → string_next state b ≡ string_goes more next → move_of (on state) turn inner words b ≡ Go (on next) Nothing
   pub is_text : (state : StringState) → is_on (on state) ≡ true
-  pub nothing : (state next : StringState) (inner : Option Level) (value : Option Exact) (words : Words) (start n : ℕ) → emitted (on state) inner (Go (on next)) value words start n ≡ []
+  pub number : (state : StringState) → in_number (on state) ≡ false
   pub state : (state : StringState) → text_state (on state) ≡ Some state
 
 string_mode : IsTextMode StringOn
 string_mode = record {
-  moves = λ state next more b turn inner e. let o : OneCharacter (string_goes more next) = (let p = one_character state b in rw e at p) in rw e (move more next o);
+  moves = λ state next more b turn inner words e. let o : OneCharacter (string_goes more next) = (let p = one_character state b in rw e at p) in rw e (move words more next o);
   is_text = λ state. refl;
-  nothing = λ state next inner value words start n. refl;
+  number = λ state. refl;
   state = λ state. refl;
 }
   where
-    move : (more : List ℕ) (next : StringState) → OneCharacter (string_goes more next) → value_string_move (string_move (string_goes more next)) ≡ Go (StringOn next)
-    move [] next o = refl
-    move (c ∷ []) next o = rw o refl
-    move (c ∷ d ∷ more) next o = absurd o
+    move : (words : Words) (more : List ℕ) (next : StringState) → OneCharacter (string_goes more next) → value_string_move words (string_move (string_goes more next)) ≡ Go (StringOn next) Nothing
+    move words [] next o = refl
+    move words (c ∷ []) next o = rw o refl
+    move words (c ∷ d ∷ more) next o = absurd o
 
 name_mode : IsTextMode NameOn
 name_mode = record {
-  moves = λ state next more b turn inner e. let o : OneCharacter (string_goes more next) = (let p = one_character state b in rw e at p) in rw e (move more next o);
+  moves = λ state next more b turn inner words e. let o : OneCharacter (string_goes more next) = (let p = one_character state b in rw e at p) in rw e (move words more next o);
   is_text = λ state. refl;
-  nothing = λ state next inner value words start n. refl;
+  number = λ state. refl;
   state = λ state. refl;
 }
   where
-    move : (more : List ℕ) (next : StringState) → OneCharacter (string_goes more next) → name_string_move (string_move (string_goes more next)) ≡ Go (NameOn next)
-    move [] next o = refl
-    move (c ∷ []) next o = rw o refl
-    move (c ∷ d ∷ more) next o = absurd o
+    move : (words : Words) (more : List ℕ) (next : StringState) → OneCharacter (string_goes more next) → name_string_move words (string_move (string_goes more next)) ≡ Go (NameOn next) Nothing
+    move words [] next o = refl
+    move words (c ∷ []) next o = rw o refl
+    move words (c ∷ d ∷ more) next o = absurd o
+
+-- a byte of a number may not lead on so
+free_of_number : (mode : Mode) (b : ℕ) (next : Mode) → LeadsBy mode b next → in_number mode ≡ false
+free_of_number NumberOn b next q = let e = q.moves NumberTurn.Refuses None (own_words nothing) in cc
+free_of_number _ b next q = refl
 
 module _ (limits : Allowed) (levels : List Level) (start : ℕ) where
   -- a byte that leads to another mode, by what it does to the number under way
-  pub byte_well : (mode next : Mode) (offset : ℕ) (bytes : List ℕ) (b : ℕ) (k : StandsWell limits mode levels start offset bytes) (turn : NumberTurn) → Turns (under_of k.state) b turn → offset < limits.bytes
-      → move_of mode turn (inner_of levels) b ≡ Go next → is_on mode ≡ is_on next → (w : StandsWell limits next levels start (offset + 1) (bytes ++ b ∷ [])) × ComesFrom (under_of k.state) b (under_of w.state)
+  pub byte_well : (mode next : Mode) (ending : Ending) (offset : ℕ) (bytes : List ℕ) (b : ℕ) (k : StandsWell limits mode levels start offset bytes) (turn : NumberTurn) → Turns (under_of k.state) b turn → offset < limits.bytes
+      → move_of mode turn (inner_of levels) (own_words (under_of k.state)) b ≡ Go next ending → is_on mode ≡ is_on next → (w : StandsWell limits next levels start (offset + 1) (bytes ++ b ∷ [])) × ComesFrom (under_of k.state) b (under_of w.state)
   unfolding passed
-  byte_well mode next offset bytes b k turn t room m on =
-      go (step k.state (length bytes) b) refl (rw m at (moves limits.depth k.state mode turn levels (length bytes) b k.kept t k.fits))
+  byte_well mode next ending offset bytes b k turn t room m on =
+      go (step k.state (length bytes) b) refl (rw m at (moves limits.depth k.state mode turn (own_words (under_of k.state)) levels (length bytes) b k.kept t k.fits))
       (told_by_step limits mode levels start offset bytes b k turn (own_value (under_of k.state)) (own_words (under_of k.state)) t (own_has (under_of k.state) turn) (own_has_words (under_of k.state))) (step_came k.state (length bytes) b)
     where
       es : List Event
-      es = emitted mode (inner_of levels) (move_of mode turn (inner_of levels) b) (own_value (under_of k.state)) (own_words (under_of k.state)) start offset
+      es = emitted mode turn (move_of mode turn (inner_of levels) (own_words (under_of k.state)) b) (own_value (under_of k.state)) start offset
 
       go : (o : Option Broken) → step k.state (length bytes) b ≡ o → Goes (λ s. StandsAs s next levels × FitsBroken limits.depth s) o
           → Tells (seen k.state) (start_after mode start offset) offset es o → CameTo (under_of k.state) b o → (w : StandsWell limits next levels start (offset + 1) (bytes ++ b ∷ [])) × ComesFrom (under_of k.state) b (under_of w.state)
@@ -125,10 +132,10 @@ module _ (limits : Allowed) (levels : List Level) (start : ℕ) where
             c,
           )
 
-  pub byte_completes : (mode next : Mode) (offset : ℕ) (bytes : List ℕ) (b : ℕ) (k : StandsWell limits mode levels start offset bytes) (turn : NumberTurn) → Turns (under_of k.state) b turn
-      → move_of mode turn (inner_of levels) b ≡ Go next → emitted mode (inner_of levels) (Go next) (own_value (under_of k.state)) (own_words (under_of k.state)) start offset ≡ [] → Completed offset (offset + 1) (bytes ++ b ∷ []) []
-  byte_completes mode next offset bytes b k turn t m n =
-      let e : emitted mode (inner_of levels) (move_of mode turn (inner_of levels) b) (own_value (under_of k.state)) (own_words (under_of k.state)) start offset ≡ [] = rw m n in
+  pub byte_completes : (mode next : Mode) (ending : Ending) (offset : ℕ) (bytes : List ℕ) (b : ℕ) (k : StandsWell limits mode levels start offset bytes) (turn : NumberTurn) → Turns (under_of k.state) b turn
+      → move_of mode turn (inner_of levels) (own_words (under_of k.state)) b ≡ Go next ending → number_events mode turn (own_value (under_of k.state)) start ≡ [] → ending_event ending start ≡ None → Completed offset (offset + 1) (bytes ++ b ∷ []) []
+  byte_completes mode next ending offset bytes b k turn t m n q =
+      let e : emitted mode turn (move_of mode turn (inner_of levels) (own_words (under_of k.state)) b) (own_value (under_of k.state)) start offset ≡ [] = rw (m, n, q) refl in
       let P : List Event → Type 0 = λ es. Completed offset (offset + 1) (bytes ++ b ∷ []) es in
       subst P e (completed_from limits mode levels start offset bytes b k turn (own_value (under_of k.state)) (own_words (under_of k.state)) t (own_has (under_of k.state) turn) (own_has_words (under_of k.state)))
 
@@ -137,8 +144,8 @@ module _ (limits : Allowed) (levels : List Level) (start : ℕ) where
   quiet_byte mode next offset bytes b k room q =
       let turn = own_turn (under_of k.state) b in
       let t = own_turns (under_of k.state) b in (
-        (byte_well mode next offset bytes b k turn t room (q.moves turn (inner_of levels)) q.on).0,
-        byte_completes mode next offset bytes b k turn t (q.moves turn (inner_of levels)) (q.nothing (inner_of levels) (own_value (under_of k.state)) (own_words (under_of k.state)) start offset),
+        (byte_well mode next Nothing offset bytes b k turn t room (q.moves turn (inner_of levels) (own_words (under_of k.state))) q.on).0,
+        byte_completes mode next Nothing offset bytes b k turn t (q.moves turn (inner_of levels) (own_words (under_of k.state))) (no_number mode turn (own_value (under_of k.state)) start (free_of_number mode b next q)) refl,
       )
 
   -- the number under way behind the bytes
@@ -161,18 +168,16 @@ module _ (limits : Allowed) (levels : List Level) (start : ℕ) where
       let more : BeginsNumber ((so_far ++ b ∷ []) ++ run) = rw (append_assoc so_far (b ∷ []) run) h in
       let goes : BeginsNumber (so_far ++ b ∷ []) = number_front (so_far ++ b ∷ []) run more in
       let t : Turns (under_of k.state) b NumberTurn.Goes = rw u (goes_on so_far b state n goes) in
-      let w = byte_well NumberOn NumberOn offset bytes b k NumberTurn.Goes t (omega arith) refl refl in
+      let w = byte_well NumberOn NumberOn Nothing offset bytes b k NumberTurn.Goes t (omega arith) refl refl in
       let c : ComesFrom (number so_far state) b (under_of w.0.state) = rw u at w.1 in
       let next = came_number so_far state b n (under_of w.0.state) (sym (mode_under w.0.state NumberOn levels w.0.kept)) c in
-      let d = byte_completes NumberOn NumberOn offset bytes b k NumberTurn.Goes t refl refl in
+      let d = byte_completes NumberOn NumberOn Nothing offset bytes b k NumberTurn.Goes t refl refl refl in
       let g = digits_well run (so_far ++ b ∷ []) next.0 (offset + 1) (bytes ++ b ∷ []) w.0 next.1 next.2 more (omega arith) in
       let e : offset + 1 + length run ≡ offset + length (b ∷ run) = omega arith in
       let P : ℕ → Type 0 = λ to. AfterDigits offset to bytes (b ∷ run) (bytes ++ (b ∷ run)) (so_far ++ (b ∷ run)) in
       let Q : List ℕ → Type 0 = λ xs. AfterDigits (offset + 1) (offset + 1 + length run) (bytes ++ b ∷ []) run ((bytes ++ b ∷ []) ++ run) xs in
       let j : AfterDigits (offset + 1) (offset + 1 + length run) (bytes ++ b ∷ []) run ((bytes ++ b ∷ []) ++ run) (so_far ++ (b ∷ run)) = subst Q (append_assoc so_far (b ∷ []) run) g in
-      let D : Under → Type 0 = λ u. ComesFrom (number so_far state) b u in
-      let came : ComesFrom (number so_far state) b (number (so_far ++ b ∷ []) next.0) = subst D next.1 c in
-      let l = byte_and_more offset (offset + 1 + length run) bytes b run w.0.state w.0.runs (number_lasts limits levels start offset bytes b k state next.0 came.1) j.lasts in
+      let l = byte_and_more offset (offset + 1 + length run) bytes b run w.0.state w.0.runs (byte_lasts limits NumberOn NumberOn levels start offset bytes b k NumberTurn.Goes t refl) j.lasts in
       subst P e (earlier offset (offset + 1 + length run) bytes b run (so_far ++ (b ∷ run)) d l j)
     where
       earlier : (offset to : ℕ) (bytes : List ℕ) (b : ℕ) (run so_far : List ℕ) → Completed offset (offset + 1) (bytes ++ b ∷ []) [] → Lasts offset to bytes (b ∷ run) → AfterDigits (offset + 1) to (bytes ++ b ∷ []) run ((bytes ++ b ∷ []) ++ run) so_far
@@ -212,18 +217,18 @@ module _ (limits : Allowed) (levels : List Level) (start : ℕ) where
   text_well on i (b ∷ run) so_far characters state last offset bytes k u h room =
       let turn = own_turn (under_of k.state) b in
       let t = own_turns (under_of k.state) b in
-      let m = i.moves state h.0 h.1 b turn (inner_of levels) h.3 in
-      let w = byte_well (on state) (on h.0) offset bytes b k turn t (omega arith) m (i.is_text state ∙ sym (i.is_text h.0)) in
+      let m = i.moves state h.0 h.1 b turn (inner_of levels) (own_words (under_of k.state)) h.3 in
+      let w = byte_well (on state) (on h.0) Nothing offset bytes b k turn t (omega arith) m (i.is_text state ∙ sym (i.is_text h.0)) in
       let C : Under → Type 0 = λ v. ComesFrom v b (under_of w.0.state) in
       let c : ComesFrom (text so_far state) b (under_of w.0.state) = subst C u w.1 in
       let next = came_text so_far h.1 state h.0 b h.3 (under_of w.0.state) (sym (mode_state w.0.state (on h.0) levels w.0.kept) ∙ i.state h.0) c in
-      let d = byte_completes (on state) (on h.0) offset bytes b k turn t m (i.nothing state h.0 (inner_of levels) (own_value (under_of k.state)) (own_words (under_of k.state)) start offset) in
+      let d = byte_completes (on state) (on h.0) Nothing offset bytes b k turn t m (no_number (on state) turn (own_value (under_of k.state)) start (i.number state)) refl in
       let g = text_well on i run (so_far ++ h.1) h.2 h.0 last (offset + 1) (bytes ++ b ∷ []) w.0 next h.5 (omega arith) in
       let e : offset + 1 + length run ≡ offset + length (b ∷ run) = omega arith in
       let P : ℕ → Type 0 = λ to. AfterText on offset to bytes (b ∷ run) (bytes ++ (b ∷ run)) (so_far ++ characters) last in
       let Q : List ℕ → Type 0 = λ xs. AfterText on (offset + 1) (offset + 1 + length run) (bytes ++ b ∷ []) run ((bytes ++ b ∷ []) ++ run) xs last in
       let j : AfterText on (offset + 1) (offset + 1 + length run) (bytes ++ b ∷ []) run ((bytes ++ b ∷ []) ++ run) (so_far ++ characters) last = subst Q (append_assoc so_far h.1 h.2 ∙ ap (λ xs. so_far ++ xs) (sym h.4)) g in
-      let l = byte_and_more offset (offset + 1 + length run) bytes b run w.0.state w.0.runs (text_lasts limits (on state) levels start offset bytes b k so_far h.1 state h.0 u h.3) j.lasts in
+      let l = byte_and_more offset (offset + 1 + length run) bytes b run w.0.state w.0.runs (byte_lasts limits (on state) (on h.0) levels start offset bytes b k turn t m) j.lasts in
       subst P e (earlier offset (offset + 1 + length run) bytes b run (so_far ++ characters) d l j)
     where
       earlier : (offset to : ℕ) (bytes : List ℕ) (b : ℕ) (run so_far : List ℕ) → Completed offset (offset + 1) (bytes ++ b ∷ []) [] → Lasts offset to bytes (b ∷ run) → AfterText on (offset + 1) to (bytes ++ b ∷ []) run ((bytes ++ b ∷ []) ++ run) so_far last
@@ -258,9 +263,9 @@ module _ (limits : Allowed) (levels : List Level) (start : ℕ) where
       let Q : Mode → Type 0 = λ x. StandsOpen limits x levels new after start (offset + length run) (bytes ++ run) × Completed offset (offset + length run) (bytes ++ run) [] × Lasts offset (offset + length run) bytes run in
       subst Q (sym m.1) (text_mode_run NameOn name_mode run characters first last old new before after offset bytes (subst P m.0 k) h holds room)
 
-  pub quiet_run : (run : List ℕ) (mode last : Mode) (offset : ℕ) (bytes : List ℕ) → StandsWell limits mode levels start offset bytes → offset + length run ≤ limits.bytes → Leads mode run last → text_state last ≡ None
+  pub quiet_run : (run : List ℕ) (mode last : Mode) (offset : ℕ) (bytes : List ℕ) → StandsWell limits mode levels start offset bytes → offset + length run ≤ limits.bytes → Leads mode run last
       → StandsWell limits last levels start (offset + length run) (bytes ++ run) × Completed offset (offset + length run) (bytes ++ run) [] × Lasts offset (offset + length run) bytes run
-  quiet_run [] mode last offset bytes k room q none =
+  quiet_run [] mode last offset bytes k room q =
       let e : offset ≡ offset + 0 = omega arith in
       let P : ℕ → Type 0 = λ n. StandsWell limits last levels start n (bytes ++ []) in
       let Q : ℕ → Type 0 = λ n. Completed offset n (bytes ++ []) [] in
@@ -268,10 +273,11 @@ module _ (limits : Allowed) (levels : List Level) (start : ℕ) where
       let L : ℕ → Type 0 = λ n. Lasts offset n bytes [] in
       let j = subst R q k in
       (subst P e (rw (append-nil bytes) j), subst Q e (λ T rest t. sym (append-nil (events_by offset T))), subst L e (nothing_lasts offset bytes))
-  quiet_run (b ∷ run) mode last offset bytes k room q none =
+  quiet_run (b ∷ run) mode last offset bytes k room q =
       let w = quiet_byte mode q.0 offset bytes b k (omega arith) q.1 in
-      let g = quiet_run run q.0 last (offset + 1) (bytes ++ b ∷ []) w.0 (omega arith) q.2 none in
-      let f = quiet_lasts limits mode q.0 levels start offset bytes b k q.1 (no_text_at mode (b ∷ run) last q none) in
+      let g = quiet_run run q.0 last (offset + 1) (bytes ++ b ∷ []) w.0 (omega arith) q.2 in
+      let turn = own_turn (under_of k.state) b in
+      let f = byte_lasts limits mode q.0 levels start offset bytes b k turn (own_turns (under_of k.state) b) (q.1.moves turn (inner_of levels) (own_words (under_of k.state))) in
       let e : offset + 1 + length run ≡ offset + length (b ∷ run) = omega arith in
       let P : ℕ → Type 0 = λ n. StandsWell limits last levels start n (bytes ++ (b ∷ run)) in
       let Q : ℕ → Type 0 = λ n. Completed offset n (bytes ++ (b ∷ run)) [] in

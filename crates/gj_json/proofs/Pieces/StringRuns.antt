@@ -17,6 +17,8 @@ use Rattle.gj_json.specs.declared.mode.Mode.{Mode}
 use Rattle.gj_json.specs.declared.mode.Mode.TheVariants.{TextDue, MarkOne, MarkTwo, ValueDue, ValueDone, ArrayOpened, ObjectOpened, ConstantOn, NumberOn, StringOn, NameDue, NameOn, ColonDue}
 use Rattle.gj_json.specs.declared.mode.Move.{Move}
 use Rattle.gj_json.specs.declared.mode.Move.TheVariants.{Refuse, Go}
+use Rattle.gj_json.specs.declared.mode.Ending.TheVariants.{Nothing}
+use Rattle.gj_json.specs.Names.{words_of}
 use Rattle.gj_json.specs.declared.mode.NumberTurn.{NumberTurn}
 use Rattle.gj_json.specs.declared.mode.StringState.{StringState}
 use Rattle.gj_json.specs.declared.mode.StringState.TheVariants.{Plain, Escape, HexDue, HexOne, HexTwo, HexThree, InCharacter}
@@ -62,7 +64,7 @@ begun_in (StringOn state) = StringOn (InCharacter 0 Any 2)
 begun_in (NameOn state) = NameOn (InCharacter 0 Any 2)
 begun_in mode = mode
 
-in_text_c2 : (mode : Mode) → is_between mode ≡ true → (turn : NumberTurn) (inner : Option Level) → move_of mode turn inner character_byte ≡ Go (begun_in mode)
+in_text_c2 : (mode : Mode) → is_between mode ≡ true → (turn : NumberTurn) (inner : Option Level) → move_of mode turn inner (words_of []) character_byte ≡ Go (begun_in mode) Nothing
 in_text_c2 (StringOn Plain) e turn inner = rw lead_c2 refl
 in_text_c2 (NameOn Plain) e turn inner = rw lead_c2 refl
 in_text_c2 _ e turn inner = cc
@@ -125,7 +127,7 @@ escaped_c2 (HexTwo value) h = rw hex_c2 refl
 escaped_c2 (HexThree value) h = rw hex_c2 refl
 escaped_c2 (InCharacter more bounds value) h = bounds_c2 more bounds value
 
-elsewhere_c2 : (mode : Mode) (under : Under) (inner : Option Level) → is_between mode ≡ false → in_number mode ≡ is_number under → move_of mode (own_turn under character_byte) inner character_byte ≡ Refuse
+elsewhere_c2 : (mode : Mode) (under : Under) (inner : Option Level) → is_between mode ≡ false → in_number mode ≡ is_number under → move_of mode (own_turn under character_byte) inner (words_of []) character_byte ≡ Refuse
 elsewhere_c2 TextDue under inner e n = rw class_c2 refl
 elsewhere_c2 MarkOne under inner e n = refl
 elsewhere_c2 MarkTwo under inner e n = refl
@@ -143,19 +145,19 @@ elsewhere_c2 ColonDue under inner e n = rw class_c2 refl
 -- ---- so the byte tells where a run goes on
 
 module _ (reader : Reader) (bytes : List ℕ) (live : reader.fault ≡ None) (h : StandsFor reader bytes) where
-  follows : (move : Move) → ((u : Under) → in_number reader.mode ≡ is_number u → move_of reader.mode (own_turn u character_byte) (inner_of (levels_in reader.levels)) character_byte ≡ move)
+  follows : (move : Move) → ((u : Under) → in_number reader.mode ≡ is_number u → move_of reader.mode (own_turn u character_byte) (inner_of (levels_in reader.levels)) (words_of []) character_byte ≡ move)
       → (state : Broken) × (run bytes ≡ Some state) × Follows reader.limits.depth (levels_in reader.levels) move (step state (length bytes) character_byte)
   follows move m =
       let w = well_of reader bytes live h in
       let u = under_of w.state in
       let P : Move → Type 0 = λ k. Follows reader.limits.depth (levels_in reader.levels) k (step w.state (length bytes) character_byte) in
-      let f : P (move_of reader.mode (own_turn u character_byte) (inner_of (levels_in reader.levels)) character_byte) =
-      moves reader.limits.depth w.state reader.mode (own_turn u character_byte) (levels_in reader.levels) (length bytes) character_byte w.kept (own_turns u character_byte) w.fits in
+      let f : P (move_of reader.mode (own_turn u character_byte) (inner_of (levels_in reader.levels)) (words_of []) character_byte) =
+      moves reader.limits.depth w.state reader.mode (own_turn u character_byte) (words_of []) (levels_in reader.levels) (length bytes) character_byte w.kept (own_turns u character_byte) w.fits in
       (w.state, w.runs, subst P (m u (mode_under w.state reader.mode (levels_in reader.levels) w.kept)) f)
 
   pub viable_between : is_between reader.mode ≡ true → IsViable (bytes ++ character_byte ∷ [])
   viable_between e =
-      let f = follows (Go (begun_in reader.mode)) (λ u n. in_text_c2 reader.mode e (own_turn u character_byte) (inner_of (levels_in reader.levels))) in
+      let f = follows (Go (begun_in reader.mode) Nothing) (λ u n. in_text_c2 reader.mode e (own_turn u character_byte) (inner_of (levels_in reader.levels))) in
       reach (begun_in reader.mode) f.0 f.1 (step f.0 (length bytes) character_byte) refl f.2
     where
       reach : (next : Mode) (state : Broken) → run bytes ≡ Some state → (o : Option Broken) → step state (length bytes) character_byte ≡ o → Goes (λ s. StandsAs s next (levels_in reader.levels) × FitsBroken reader.limits.depth s) o

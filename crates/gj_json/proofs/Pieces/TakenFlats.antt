@@ -14,6 +14,7 @@ use Rattle.gj_json.specs.declared.levels.Level.{Level}
 use Rattle.gj_json.specs.declared.levels.Level.TheVariants.{Array}
 use Rattle.gj_json.specs.declared.mode.Mode.{Mode}
 use Rattle.gj_json.specs.declared.mode.Mode.TheVariants.{ValueDone, ValueDue}
+use Rattle.gj_json.specs.declared.mode.Ending.{Ending}
 use Rattle.gj_json.specs.declared.mode.Move.TheVariants.{Go}
 use Rattle.gj_json.specs.declared.reader.Reader.{Reader}
 use Rattle.gj_json.specs.Limits.{Allowed}
@@ -39,7 +40,7 @@ use Rattle.gj_json.proofs.Machine.BytesUnderWay.{mode_under, mode_state}
 use Rattle.gj_json.proofs.Machine.Completions.{Goes, TextFrom}
 use Rattle.gj_json.proofs.Readers.CallsInTurn.{live_offset, feeds_all_on, skip_feeds}
 use Rattle.gj_json.proofs.Machine.ValuePaths.{Leads, at, due_begins, array_begins, then_leads, byte_leads, white_leads, array_white, run_from-append}
-use Rattle.gj_json.proofs.Readers.NumberUnderWay.{own_turn, own_turns, keeps_none}
+use Rattle.gj_json.proofs.Readers.NumberUnderWay.{own_turn, own_turns, own_words, keeps_none}
 use Rattle.gj_json.proofs.Events.PastEvents.{events_seen}
 use Rattle.gj_json.proofs.Pieces.QuietRuns.{byte_well, byte_completes}
 use Rattle.gj_json.proofs.Machine.ReachedStates.{reached}
@@ -163,12 +164,12 @@ module _ (limits : Allowed) (levels : List Level) (start : ℕ) where
   comma_well mode offset bytes k m i room =
       let turn = own_turn (under_of k.state) comma in
       let t = own_turns (under_of k.state) comma in
-      let move : move_of mode turn (inner_of levels) comma ≡ Go ValueDue = rw (m, i, class_is comma_class comma refl (λ e. cc)) refl in
-      let w = byte_well limits levels start mode ValueDue offset bytes comma k turn t room move (rw m refl) in
+      let move : move_of mode turn (inner_of levels) (own_words (under_of k.state)) comma ≡ Go ValueDue Ending.Item = rw (m, i, class_is comma_class comma refl (λ e. cc)) refl in
+      let w = byte_well limits levels start mode ValueDue Ending.Item offset bytes comma k turn t room move (rw m refl) in
       record {
         well = w.0;
         keeps = λ literal content. keeps_none (under_of w.0.state) literal content (sym (mode_under w.0.state ValueDue levels w.0.kept)) (sym (mode_state w.0.state ValueDue levels w.0.kept));
-        more = byte_completes limits levels start mode ValueDue offset bytes comma k turn t move (rw m refl);
+        more = byte_completes limits levels start mode ValueDue Ending.Item offset bytes comma k turn t move (rw m refl) refl;
       }
 
 -- ---- from reader to reader
@@ -263,7 +264,7 @@ from_mid old new n k all mode next sound room e p = record {
 
 pub all_quiet : (xs : List ℕ) → AllByRecursion IsWhite xs → AllByRecursion (IsQuiet ValueDue) xs
 all_quiet [] h = tt
-all_quiet (x ∷ xs) h = ((λ turn inner. rw (class_is white_class x h.0 (λ e. cc)) refl), all_quiet xs h.1)
+all_quiet (x ∷ xs) h = (record { moves = λ turn inner words. rw (class_is white_class x h.0 (λ e. cc)) refl; on = refl }, all_quiet xs h.1)
 
 pub comma_taken : {before after : List Event → Type 0} (old new : Reader) (flat : Flat) (piece : List ℕ) (n k : ℕ) → old.fault ≡ None → awaits old.mode ≡ true → length (levels_in old.levels) < old.limits.depth → old.offset + length piece ≤ old.limits.bytes → n ≤ length piece
     → IsFlat flat old.offset (take n piece) → 0 < k → k ≤ length (take (length piece - n) (drop n piece)) → get_or (take (length piece - n) (drop n piece)) 0 0 ≡ comma → AllByRecursion IsWhite (cut (take (length piece - n) (drop n piece)) 1 k)

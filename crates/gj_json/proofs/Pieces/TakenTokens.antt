@@ -1,6 +1,6 @@
 -- Whole tokens: where they lead the machine, and what they leave of a reader. Between two tokens a reader keeps nothing but
 -- the mode, the levels and the offset.
-use Rattle.std.proofs.Common.{inl, inr, ◌⊎◌, ◌≡◌, ℕ, ◌+◌, ◌-◌, ◌≤◌, ◌<◌, Bool, true, false, List, [], ◌∷◌, ◌++◌, get_or, length, take, drop, Option, Some, None, refl, sym, ap, subst, ◌∙◌, arith, append_assoc, append-nil}
+use Rattle.std.proofs.Common.{◌≡◌, ℕ, ◌+◌, ◌-◌, ◌≤◌, ◌<◌, Bool, true, false, List, [], ◌∷◌, ◌++◌, get_or, length, take, drop, Option, Some, None, refl, sym, ap, subst, ◌∙◌, arith, append_assoc, append-nil}
 use Rattle.std.proofs.lemmas.List.{length-append, length-take-le, map-append, take_more}
 use Rattle.gj_json.specs.Bytes.{quote as quote_byte, open_bracket, open_brace}
 use Rattle.gj_json.specs.Internal.ByteClasses.{class_of}
@@ -14,7 +14,10 @@ use Rattle.gj_json.specs.declared.levels.Level.{Level}
 use Rattle.gj_json.specs.declared.levels.Level.TheVariants.{Array, Object}
 use Rattle.gj_json.specs.declared.mode.Mode.{Mode}
 use Rattle.gj_json.specs.declared.mode.Mode.TheVariants.{TextDue, ValueDue, ValueDone, ArrayOpened, NumberOn, StringOn, NameDue, NameOn, ColonDue}
+use Rattle.gj_json.specs.declared.mode.Ending.{Ending}
+use Rattle.gj_json.specs.declared.mode.Move.{Move}
 use Rattle.gj_json.specs.declared.mode.Move.TheVariants.{Refuse, Go, Open, Close}
+use Rattle.gj_json.proofs.Readers.StepsAlike.{no_number}
 use Rattle.gj_json.specs.declared.mode.NumberTurn.{NumberTurn}
 use Rattle.gj_json.specs.declared.mode.StringState.{StringState}
 use Rattle.gj_json.specs.declared.mode.StringState.TheVariants.{Plain}
@@ -36,8 +39,8 @@ use Rattle.gj_json.specs.Reader.{Completed}
 use Rattle.gj_json.specs.Internal.SeenEvents.{seen, InTime, BegunAs, EdgeAt, partial_timed, stack_timed, done_members}
 use Rattle.gj_json.specs.Internal.ReaderState.{StandsWell, StandsAs, LeafAs, FitsName, FitsBroken, levels_of}
 use Rattle.gj_json.specs.Internal.ReaderStep.{opened}
-use Rattle.gj_json.specs.Internal.ToldEvents.{emitted, event_at, opening_of, is_on, in_number, text_state, start_after}
-use Rattle.gj_json.specs.Internal.WholeTokens.{IsQuoted, Lands, names, may_begin, bracket_of, closing_event}
+use Rattle.gj_json.specs.Internal.ToldEvents.{ending_event, emitted, event_at, opening_of, closing_of, is_on, in_number, text_state, start_after}
+use Rattle.gj_json.specs.Internal.WholeTokens.{IsQuoted, Lands, names, may_begin, bracket_of}
 use Rattle.gj_json.specs.Internal.UnderWay.{Turns, HasValue, under_of, number}
 use Rattle.gj_number.specs.Exact.{Exact}
 use Rattle.gj_number.specs.Grammar.{IsNumber}
@@ -139,7 +142,7 @@ passed_lands count mode old new p = record { limits = p.limits; fault = p.fault;
 module _ (limits : Allowed) (levels : List Level) (start : ℕ) where
   byte_moved : (mode next : Mode) (after : List Level) (offset : ℕ) (bytes : List ℕ) (b : ℕ) (k : StandsWell limits mode levels start offset bytes) (turn : NumberTurn) (value : Option Exact) (es : List Event) → Turns (under_of k.state) b turn
       → HasValue (under_of k.state) turn value → offset < limits.bytes → Goes (λ s. StandsAs s next after × FitsBroken limits.depth s) (step k.state (length bytes) b)
-      → emitted mode (inner_of levels) (move_of mode turn (inner_of levels) b) value (own_words (under_of k.state)) start offset ≡ es → Moved limits next after offset (offset + 1) bytes (b ∷ []) es
+      → emitted mode turn (move_of mode turn (inner_of levels) (own_words (under_of k.state)) b) value start offset ≡ es → Moved limits next after offset (offset + 1) bytes (b ∷ []) es
   byte_moved mode next after offset bytes b k turn value es t v room g e = record {
     start = start_after mode start offset;
     well = go (step k.state (length bytes) b) refl g (told_by_step limits mode levels start offset bytes b k turn value (own_words (under_of k.state)) t v (own_has_words (under_of k.state)));
@@ -147,7 +150,7 @@ module _ (limits : Allowed) (levels : List Level) (start : ℕ) where
   }
     where
       found : List Event
-      found = emitted mode (inner_of levels) (move_of mode turn (inner_of levels) b) value (own_words (under_of k.state)) start offset
+      found = emitted mode turn (move_of mode turn (inner_of levels) (own_words (under_of k.state)) b) value start offset
 
       go : (o : Option Broken) → step k.state (length bytes) b ≡ o → Goes (λ s. StandsAs s next after × FitsBroken limits.depth s) o → Tells (seen k.state) (start_after mode start offset) offset found o
           → StandsWell limits next after (start_after mode start offset) (offset + 1) (bytes ++ b ∷ [])
@@ -167,56 +170,43 @@ then_moved limits mode levels from mid to bytes xs ys es c m = record {
 
 -- ---- the byte after a value
 
-abbrev IsNext : Mode → Type 0
-IsNext next = (next ≡ ValueDone) ⊎ ((next ≡ ValueDue) ⊎ (next ≡ NameDue))
+-- it leads to where nothing is under way, and completes nothing itself
+record IsNext (next : Mode) (ending : Ending) : Type 0 where
+  pub free : is_on next ≡ false
+  pub nothing : (start : ℕ) → ending_event ending start ≡ None
 
-after_next : (inner : Option Level) (c : Class) (next : Mode) → after_move inner c ≡ Go next → IsNext next
-after_next inner white next e = let f : ValueDone ≡ next = cc in inl (sym f)
-after_next (Some Array) comma next e = let f : ValueDue ≡ next = cc in inr (inl (sym f))
-after_next (Some Object) comma next e = let f : NameDue ≡ next = cc in inr (inr (sym f))
-after_next None _ next e = cc
-after_next (Some Array) _ next e = cc
-after_next (Some Object) _ next e = cc
+after_next : (inner : Option Level) (c : Class) (next : Mode) (ending : Ending) → after_move inner c ≡ Go next ending → IsNext next ending
+after_next inner c next ending e = go inner c (after_move inner c) refl e
+  where
+    free : (mode : Mode) (end : Ending) → is_on mode ≡ false → ((start : ℕ) → ending_event end start ≡ None) → Go mode end ≡ Go next ending → IsNext next ending
+    free mode end f g e =
+        let m : mode ≡ next = cc in
+        let n : end ≡ ending = cc in
+        record { free = ap is_on (sym m) ∙ f; nothing = λ start. ap (λ x. ending_event x start) (sym n) ∙ g start }
 
-next_free : (next : Mode) → IsNext next → is_on next ≡ false
-next_free next (inl e) = rw e refl
-next_free next (inr (inl e)) = rw e refl
-next_free next (inr (inr e)) = rw e refl
-
-done_goes : (inner : Option Level) (next : Mode) (value : Option Exact) (words : Words) (start n : ℕ) → IsNext next → emitted ValueDone inner (Go next) value words start n ≡ []
-done_goes inner next value words start n (inl e) = rw e refl
-done_goes inner next value words start n (inr (inl e)) = rw e refl
-done_goes inner next value words start n (inr (inr e)) = rw e refl
-
-number_goes : (inner : Option Level) (next : Mode) (value : Option Exact) (words : Words) (start n : ℕ) → IsNext next → emitted NumberOn inner (Go next) value words start n ≡ event_at start (What.Number value) ∷ []
-number_goes inner next value words start n (inl e) = rw e refl
-number_goes inner next value words start n (inr (inl e)) = rw e refl
-number_goes inner next value words start n (inr (inr e)) = rw e refl
-
-done_closes : (inner : Option Level) (value : Option Exact) (words : Words) (start n : ℕ) → emitted ValueDone inner Close value words start n ≡ closing_event inner n
-done_closes None value words start n = refl
-done_closes (Some level) value words start n = refl
-
-number_closes : (inner : Option Level) (value : Option Exact) (words : Words) (start n : ℕ) → emitted NumberOn inner Close value words start n ≡ event_at start (What.Number value) ∷ closing_event inner n
-number_closes None value words start n = refl
-number_closes (Some level) value words start n = refl
+    go : (inner : Option Level) (c : Class) (made : Move) → after_move inner c ≡ made → made ≡ Go next ending → IsNext next ending
+    go inner white made f e = free ValueDone Ending.Nothing refl (λ start. refl) (f ∙ e)
+    go (Some Array) comma made f e = free ValueDue Ending.Item refl (λ start. refl) (f ∙ e)
+    go (Some Object) comma made f e = free NameDue Ending.Item refl (λ start. refl) (f ∙ e)
+    go None _ made f e = cc
+    go (Some Array) _ made f e = cc
+    go (Some Object) _ made f e = cc
 
 module _ (limits : Allowed) (levels : List Level) (start offset : ℕ) (bytes : List ℕ) (b : ℕ) (k : StandsWell limits ValueDone levels start offset bytes) (room : offset < limits.bytes) where
-  done_go : (next : Mode) → after_move (inner_of levels) (class_of b) ≡ Go next → Moved limits next levels offset (offset + 1) bytes (b ∷ []) []
-  done_go next e =
+  done_go : (next : Mode) (ending : Ending) → after_move (inner_of levels) (class_of b) ≡ Go next ending → Moved limits next levels offset (offset + 1) bytes (b ∷ []) []
+  done_go next ending e =
       let u = under_of k.state in
       let turn = own_turn u b in
-      let f = moves limits.depth k.state ValueDone turn levels (length bytes) b k.kept (own_turns u b) k.fits in
+      let f = moves limits.depth k.state ValueDone turn (own_words u) levels (length bytes) b k.kept (own_turns u b) k.fits in
       byte_moved limits levels start ValueDone next levels offset bytes b k turn (own_value u) [] (own_turns u b) (own_has u turn) room (rw e at f)
-      (rw e (done_goes (inner_of levels) next (own_value u) (own_words u) start offset (after_next (inner_of levels) (class_of b) next e)))
+      (rw (e, (after_next (inner_of levels) (class_of b) next ending e).nothing start) refl)
 
-  done_close : after_move (inner_of levels) (class_of b) ≡ Close → Moved limits ValueDone (outer_of levels) offset (offset + 1) bytes (b ∷ []) (closing_event (inner_of levels) offset)
-  done_close e =
+  done_close : (level : Level) → after_move (inner_of levels) (class_of b) ≡ Close level → Moved limits ValueDone (outer_of levels) offset (offset + 1) bytes (b ∷ []) (event_at offset (closing_of level) ∷ [])
+  done_close level e =
       let u = under_of k.state in
       let turn = own_turn u b in
-      let f = moves limits.depth k.state ValueDone turn levels (length bytes) b k.kept (own_turns u b) k.fits in
-      byte_moved limits levels start ValueDone ValueDone (outer_of levels) offset bytes b k turn (own_value u) (closing_event (inner_of levels) offset) (own_turns u b) (own_has u turn) room (rw e at f)
-      (rw e (done_closes (inner_of levels) (own_value u) (own_words u) start offset))
+      let f = moves limits.depth k.state ValueDone turn (own_words u) levels (length bytes) b k.kept (own_turns u b) k.fits in
+      byte_moved limits levels start ValueDone ValueDone (outer_of levels) offset bytes b k turn (own_value u) (event_at offset (closing_of level) ∷ []) (own_turns u b) (own_has u turn) room (rw e at f) (rw e refl)
 
 one_byte : (piece : List ℕ) → 0 < length piece → take 1 piece ≡ get_or piece 0 0 ∷ []
 one_byte piece w = take_more piece 0 0 w
@@ -224,20 +214,20 @@ one_byte piece w = take_more piece 0 0 w
 well_in : (limits : Allowed) (mode other : Mode) (levels : List Level) (start offset : ℕ) (bytes : List ℕ) → mode ≡ other → StandsWell limits mode levels start offset bytes → StandsWell limits other levels start offset bytes
 well_in limits mode other levels start offset bytes e k = let P : Mode → Type 0 = λ m. StandsWell limits m levels start offset bytes in subst P e k
 
-pub end_goes : {heard : List Event → Type 0} (old new : Reader) (piece : List ℕ) (next : Mode) → 0 < length piece → old.fault ≡ None → old.mode ≡ ValueDone → old.offset + length piece ≤ old.limits.bytes → after_move (inner_of (levels_in old.levels)) (class_of (get_or piece 0 0)) ≡ Go next
+pub end_goes : {heard : List Event → Type 0} (old new : Reader) (piece : List ℕ) (next : Mode) (ending : Ending) → 0 < length piece → old.fault ≡ None → old.mode ≡ ValueDone → old.offset + length piece ≤ old.limits.bytes → after_move (inner_of (levels_in old.levels)) (class_of (get_or piece 0 0)) ≡ Go next ending
     → Passed 1 next old new → FeedsAll heard heard old new (take 1 piece)
-end_goes {heard} old new piece next some live done room e p =
+end_goes {heard} old new piece next ending some live done room e p =
     rw (one_byte piece some)
-    (lands_feeds {before = heard} {after = heard} old new (get_or piece 0 0 ∷ []) next (levels_in old.levels) [] live (passed_lands 1 next old new p) (next_free next (after_next (inner_of (levels_in old.levels)) (class_of (get_or piece 0 0)) next e))
-    (λ bytes k. done_go old.limits (levels_in old.levels) old.start old.offset bytes (get_or piece 0 0) (well_in old.limits old.mode ValueDone (levels_in old.levels) old.start old.offset bytes done k) (omega (arith, room, some)) next e) (λ events h. rw append-nil h))
+    (lands_feeds {before = heard} {after = heard} old new (get_or piece 0 0 ∷ []) next (levels_in old.levels) [] live (passed_lands 1 next old new p) ((after_next (inner_of (levels_in old.levels)) (class_of (get_or piece 0 0)) next ending e).free)
+    (λ bytes k. done_go old.limits (levels_in old.levels) old.start old.offset bytes (get_or piece 0 0) (well_in old.limits old.mode ValueDone (levels_in old.levels) old.start old.offset bytes done k) (omega (arith, room, some)) next ending e) (λ events h. rw append-nil h))
 
-pub end_closes : {before after : List Event → Type 0} (old new : Reader) (piece : List ℕ) → 0 < length piece → old.fault ≡ None → old.mode ≡ ValueDone → old.offset + length piece ≤ old.limits.bytes → after_move (inner_of (levels_in old.levels)) (class_of (get_or piece 0 0)) ≡ Close
-    → Lands 1 ValueDone (outer_of (levels_in old.levels)) old new → ((events : List Event) → before events → after (events ++ closing_event (inner_of (levels_in old.levels)) (old.offset + 1 - 1))) → FeedsAll before after old new (take 1 piece)
-end_closes {before} {after} old new piece some live done room e p heard =
+pub end_closes : {before after : List Event → Type 0} (old new : Reader) (piece : List ℕ) (level : Level) → 0 < length piece → old.fault ≡ None → old.mode ≡ ValueDone → old.offset + length piece ≤ old.limits.bytes → after_move (inner_of (levels_in old.levels)) (class_of (get_or piece 0 0)) ≡ Close level
+    → Lands 1 ValueDone (outer_of (levels_in old.levels)) old new → ((events : List Event) → before events → after (events ++ event_at (old.offset + 1 - 1) (closing_of level) ∷ [])) → FeedsAll before after old new (take 1 piece)
+end_closes {before} {after} old new piece level some live done room e p heard =
     let z : old.offset + 1 - 1 ≡ old.offset = omega arith in
     rw (one_byte piece some)
-    (lands_feeds {before = before} {after = after} old new (get_or piece 0 0 ∷ []) ValueDone (outer_of (levels_in old.levels)) (closing_event (inner_of (levels_in old.levels)) old.offset) live p refl
-    (λ bytes k. done_close old.limits (levels_in old.levels) old.start old.offset bytes (get_or piece 0 0) (well_in old.limits old.mode ValueDone (levels_in old.levels) old.start old.offset bytes done k) (omega (arith, room, some)) e)
+    (lands_feeds {before = before} {after = after} old new (get_or piece 0 0 ∷ []) ValueDone (outer_of (levels_in old.levels)) (event_at old.offset (closing_of level) ∷ []) live p refl
+    (λ bytes k. done_close old.limits (levels_in old.levels) old.start old.offset bytes (get_or piece 0 0) (well_in old.limits old.mode ValueDone (levels_in old.levels) old.start old.offset bytes done k) (omega (arith, room, some)) level e)
     (λ events h. let g = heard events h in rw z at g))
 
 -- ---- a string, a name, a literal name
@@ -380,20 +370,18 @@ name_taken {before} {after} old new piece n live due room w p content q heard =
 
 -- ---- an opening bracket
 
-opens : (mode : Mode) → may_begin mode ≡ true → (level : Level) (turn : NumberTurn) (inner : Option Level) → move_of mode turn inner (bracket_of level) ≡ Open level
-opens TextDue w Array turn inner = rw (class_is open_array open_bracket refl (λ e. cc)) refl
-opens TextDue w Object turn inner = rw (class_is open_object open_brace refl (λ e. cc)) refl
-opens ValueDue w Array turn inner = rw (class_is open_array open_bracket refl (λ e. cc)) refl
-opens ValueDue w Object turn inner = rw (class_is open_object open_brace refl (λ e. cc)) refl
-opens ArrayOpened w Array turn inner = rw (class_is open_array open_bracket refl (λ e. cc)) refl
-opens ArrayOpened w Object turn inner = rw (class_is open_object open_brace refl (λ e. cc)) refl
-opens _ w level turn inner = cc
+opens : (mode : Mode) → may_begin mode ≡ true → (level : Level) (turn : NumberTurn) (inner : Option Level) (words : Words) → move_of mode turn inner words (bracket_of level) ≡ Open level
+opens TextDue w Array turn inner words = rw (class_is open_array open_bracket refl (λ e. cc)) refl
+opens TextDue w Object turn inner words = rw (class_is open_object open_brace refl (λ e. cc)) refl
+opens ValueDue w Array turn inner words = rw (class_is open_array open_bracket refl (λ e. cc)) refl
+opens ValueDue w Object turn inner words = rw (class_is open_object open_brace refl (λ e. cc)) refl
+opens ArrayOpened w Array turn inner words = rw (class_is open_array open_bracket refl (λ e. cc)) refl
+opens ArrayOpened w Object turn inner words = rw (class_is open_object open_brace refl (λ e. cc)) refl
+opens _ w level turn inner words = cc
 
-opens_told : (mode : Mode) → may_begin mode ≡ true → (level : Level) (inner : Option Level) (value : Option Exact) (words : Words) (start n : ℕ) → emitted mode inner (Open level) value words start n ≡ event_at n (opening_of level) ∷ []
-opens_told TextDue w level inner value words start n = refl
-opens_told ValueDue w level inner value words start n = refl
-opens_told ArrayOpened w level inner value words start n = refl
-opens_told _ w level inner value words start n = cc
+begins_free : (mode : Mode) → may_begin mode ≡ true → in_number mode ≡ false
+begins_free NumberOn w = cc
+begins_free _ w = refl
 
 opened_free : (level : Level) → is_on (opened level) ≡ false
 opened_free Array = refl
@@ -409,10 +397,10 @@ open_well limits levels start mode offset bytes k w level room deep =
     let b = bracket_of level in
     let u = under_of k.state in
     let turn = own_turn u b in
-    let e = opens mode w level turn (inner_of levels) in
-    let f = moves limits.depth k.state mode turn levels (length bytes) b k.kept (own_turns u b) k.fits in
+    let e = opens mode w level turn (inner_of levels) (own_words u) in
+    let f = moves limits.depth k.state mode turn (own_words u) levels (length bytes) b k.kept (own_turns u b) k.fits in
     byte_moved limits levels start mode (opened level) (level ∷ levels) offset bytes b k turn (own_value u) (event_at offset (opening_of level) ∷ []) (own_turns u b) (own_has u turn) room (fits_in limits.depth (opened level) (level ∷ levels) (step k.state (length bytes) b) deep (rw e at f))
-    (rw e (opens_told mode w level (inner_of levels) (own_value u) (own_words u) start offset))
+    (rw (e, no_number mode turn (own_value u) start (begins_free mode w)) refl)
 
 pub open_taken : {before after : List Event → Type 0} (old new : Reader) (piece : List ℕ) (level : Level) → 0 < length piece → get_or piece 0 0 ≡ bracket_of level → old.fault ≡ None → may_begin old.mode ≡ true → old.offset + length piece ≤ old.limits.bytes → length (levels_in old.levels) < old.limits.depth
     → Lands 1 (opened level) (level ∷ levels_in old.levels) old new → ((events : List Event) → before events → after (events ++ event_at old.offset (opening_of level) ∷ [])) → FeedsAll before after old new (take 1 piece)
@@ -489,21 +477,20 @@ module _ (limits : Allowed) (levels : List Level) (from to : ℕ) (bytes given :
   valued : HasValue (under_of d.well.state) NumberTurn.Ends (value_of given)
   valued = rw (d.under) (λ e. refl)
 
-  number_go : (next : Mode) → after_move (inner_of levels) (class_of b) ≡ Go next → Moved limits next levels from (to + 1) bytes (given ++ b ∷ []) (event_at from (What.Number (value_of given)) ∷ [])
-  number_go next e =
+  number_go : (next : Mode) (ending : Ending) → after_move (inner_of levels) (class_of b) ≡ Go next ending → Moved limits next levels from (to + 1) bytes (given ++ b ∷ []) (event_at from (What.Number (value_of given)) ∷ [])
+  number_go next ending e =
       let u = under_of d.well.state in
-      let f = moves limits.depth d.well.state NumberOn NumberTurn.Ends levels (length (bytes ++ given)) b d.well.kept turns d.well.fits in
+      let f = moves limits.depth d.well.state NumberOn NumberTurn.Ends (own_words u) levels (length (bytes ++ given)) b d.well.kept turns d.well.fits in
       then_moved limits next levels from to (to + 1) bytes given (b ∷ []) _ d.more
       (byte_moved limits levels from NumberOn next levels to (bytes ++ given) b d.well NumberTurn.Ends (value_of given) (event_at from (What.Number (value_of given)) ∷ []) turns valued room (rw e at f)
-      (rw e (number_goes (inner_of levels) next (value_of given) (own_words u) from to (after_next (inner_of levels) (class_of b) next e))))
+      (rw (e, (after_next (inner_of levels) (class_of b) next ending e).nothing from) refl))
 
-  number_close : after_move (inner_of levels) (class_of b) ≡ Close → Moved limits ValueDone (outer_of levels) from (to + 1) bytes (given ++ b ∷ []) (event_at from (What.Number (value_of given)) ∷ closing_event (inner_of levels) to)
-  number_close e =
+  number_close : (level : Level) → after_move (inner_of levels) (class_of b) ≡ Close level → Moved limits ValueDone (outer_of levels) from (to + 1) bytes (given ++ b ∷ []) (event_at from (What.Number (value_of given)) ∷ event_at to (closing_of level) ∷ [])
+  number_close level e =
       let u = under_of d.well.state in
-      let f = moves limits.depth d.well.state NumberOn NumberTurn.Ends levels (length (bytes ++ given)) b d.well.kept turns d.well.fits in
+      let f = moves limits.depth d.well.state NumberOn NumberTurn.Ends (own_words u) levels (length (bytes ++ given)) b d.well.kept turns d.well.fits in
       then_moved limits ValueDone (outer_of levels) from to (to + 1) bytes given (b ∷ []) _ d.more
-      (byte_moved limits levels from NumberOn ValueDone (outer_of levels) to (bytes ++ given) b d.well NumberTurn.Ends (value_of given) (event_at from (What.Number (value_of given)) ∷ closing_event (inner_of levels) to) turns valued room (rw e at f)
-      (rw e (number_closes (inner_of levels) (value_of given) (own_words u) from to)))
+      (byte_moved limits levels from NumberOn ValueDone (outer_of levels) to (bytes ++ given) b d.well NumberTurn.Ends (value_of given) (event_at from (What.Number (value_of given)) ∷ event_at to (closing_of level) ∷ []) turns valued room (rw e at f) (rw e refl))
 
 module _ (old new : Reader) (piece : List ℕ) (n : ℕ) (value : Option Exact) (live : old.fault ≡ None) (due : awaits old.mode ≡ true) (room : old.offset + length piece ≤ old.limits.bytes) (w : n < length piece)
     (digits : IsNumber (take n piece)) (has : value_of (take n piece) ≡ value) where
@@ -522,28 +509,28 @@ module _ (old new : Reader) (piece : List ℕ) (n : ℕ) (value : Option Exact) 
   all_to : old.offset + length (take n piece) + 1 ≡ old.offset + length (take n piece ++ get_or piece n 0 ∷ [])
   all_to = omega (arith, short, long)
 
-  pub number_then : {before after : List Event → Type 0} (next : Mode) → after_move (inner_of (levels_in old.levels)) (class_of (get_or piece n 0)) ≡ Go next → Passed (n + 1) next old new → ((events : List Event) → before events → after (events ++ event_at old.offset (What.Number value) ∷ [])) → FeedsAll before after old new (take (n + 1) piece)
-  number_then {before} {after} next e p heard =
+  pub number_then : {before after : List Event → Type 0} (next : Mode) (ending : Ending) → after_move (inner_of (levels_in old.levels)) (class_of (get_or piece n 0)) ≡ Go next ending → Passed (n + 1) next old new → ((events : List Event) → before events → after (events ++ event_at old.offset (What.Number value) ∷ [])) → FeedsAll before after old new (take (n + 1) piece)
+  number_then {before} {after} next ending e p heard =
       let P : ℕ → Type 0 = λ m. Lands m next (levels_in old.levels) old new in
       let Q : ℕ → List ℕ → Type 0 = λ m bytes. Moved old.limits next (levels_in old.levels) old.offset m bytes (take n piece ++ get_or piece n 0 ∷ []) (event_at old.offset (What.Number (value_of (take n piece))) ∷ []) in
       rw with_byte
       (lands_feeds {before = before} {after = after} old new (take n piece ++ get_or piece n 0 ∷ []) next (levels_in old.levels) (event_at old.offset (What.Number (value_of (take n piece))) ∷ []) live (subst P (sym long) (passed_lands (n + 1) next old new p))
-      (next_free next (after_next (inner_of (levels_in old.levels)) (class_of (get_or piece n 0)) next e))
+      ((after_next (inner_of (levels_in old.levels)) (class_of (get_or piece n 0)) next ending e).free)
       (λ bytes k. let R : ℕ → Type 0 = λ m. Q m bytes in
-      subst R all_to (number_go old.limits (levels_in old.levels) old.offset (old.offset + length (take n piece)) bytes (take n piece) (get_or piece n 0) (read_to bytes k) (omega (arith, short, room, w)) (λ r. let x : Refuse ≡ Go next = sym r ∙ e in cc) next e))
+      subst R all_to (number_go old.limits (levels_in old.levels) old.offset (old.offset + length (take n piece)) bytes (take n piece) (get_or piece n 0) (read_to bytes k) (omega (arith, short, room, w)) (λ r. let x : Refuse ≡ Go next ending = sym r ∙ e in cc) next ending e))
       (λ events h. rw has (heard events h)))
 
-  pub number_closed : {before after : List Event → Type 0} → after_move (inner_of (levels_in old.levels)) (class_of (get_or piece n 0)) ≡ Close → Lands (n + 1) ValueDone (outer_of (levels_in old.levels)) old new
-      → ((events : List Event) → before events → after (events ++ event_at old.offset (What.Number value) ∷ closing_event (inner_of (levels_in old.levels)) (old.offset + (n + 1) - 1))) → FeedsAll before after old new (take (n + 1) piece)
-  number_closed {before} {after} e p heard =
-      let es : ℕ → List Event = λ m. event_at old.offset (What.Number (value_of (take n piece))) ∷ closing_event (inner_of (levels_in old.levels)) m in
+  pub number_closed : {before after : List Event → Type 0} (level : Level) → after_move (inner_of (levels_in old.levels)) (class_of (get_or piece n 0)) ≡ Close level → Lands (n + 1) ValueDone (outer_of (levels_in old.levels)) old new
+      → ((events : List Event) → before events → after (events ++ event_at old.offset (What.Number value) ∷ event_at (old.offset + (n + 1) - 1) (closing_of level) ∷ [])) → FeedsAll before after old new (take (n + 1) piece)
+  number_closed {before} {after} level e p heard =
+      let es : ℕ → List Event = λ m. event_at old.offset (What.Number (value_of (take n piece))) ∷ event_at m (closing_of level) ∷ [] in
       let P : ℕ → Type 0 = λ m. Lands m ValueDone (outer_of (levels_in old.levels)) old new in
       let Q : ℕ → List ℕ → Type 0 = λ m bytes. Moved old.limits ValueDone (outer_of (levels_in old.levels)) old.offset m bytes (take n piece ++ get_or piece n 0 ∷ []) (es (old.offset + length (take n piece))) in
       let z : old.offset + (n + 1) - 1 ≡ old.offset + length (take n piece) = omega (arith, short) in
       rw with_byte
       (lands_feeds {before = before} {after = after} old new (take n piece ++ get_or piece n 0 ∷ []) ValueDone (outer_of (levels_in old.levels)) (es (old.offset + length (take n piece))) live (subst P (sym long) p) refl
       (λ bytes k. let R : ℕ → Type 0 = λ m. Q m bytes in
-      subst R all_to (number_close old.limits (levels_in old.levels) old.offset (old.offset + length (take n piece)) bytes (take n piece) (get_or piece n 0) (read_to bytes k) (omega (arith, short, room, w)) (λ r. let x : Refuse ≡ Close = sym r ∙ e in cc) e))
+      subst R all_to (number_close old.limits (levels_in old.levels) old.offset (old.offset + length (take n piece)) bytes (take n piece) (get_or piece n 0) (read_to bytes k) (omega (arith, short, room, w)) (λ r. let x : Refuse ≡ Close level = sym r ∙ e in cc) level e))
       (λ events h. let g = heard events h in rw (has, ← z) g))
 
 -- ---- one token after another

@@ -26,7 +26,7 @@ use Rattle.gj_json.specs.declared.mode.Mode.TheVariants.{ValueDone}
 use Rattle.gj_json.specs.declared.mode.Move.{Move}
 use Rattle.gj_json.specs.declared.mode.Move.TheVariants.{Refuse, Go, Open, Close}
 use Rattle.gj_json.specs.Internal.OpenLevels.{outer_of}
-use Rattle.gj_json.specs.Internal.ReaderStep.{Applied, PassesTo, RefusesWith, IsRefusedWith, opened, told_on, move_by, told_by, Takes}
+use Rattle.gj_json.specs.Internal.ReaderStep.{Applied, PassesTo, RefusesWith, IsRefusedWith, opened, told_on, move_by, told_by, Moves, Takes}
 use Rattle.gj_json.proofs.Readers.ReadBytes.{pushed, completed, stop, well_viable, well_of, open_of, refuses_on, lasts}
 use Rattle.gj_json.proofs.Events.EventsOfSteps.{emitted_few}
 use Rattle.gj_json.proofs.Pieces.QuietRuns.{quiet_run, digits_run, text_run}
@@ -97,29 +97,43 @@ hears_nothing heard events n m bytes e h = ([], rw append-nil h, nothing n m byt
 -- ---- one byte
 
 -- what a byte did: it was taken, or it was refused
-pub data Outcome (old new : Reader) (result : Result (Unit {0}) JsonFault) : Type 0 where
-  took : result ≡ Ok tt → new.offset ≡ old.offset + 1 → new.fault ≡ old.fault → new.limits ≡ old.limits → Outcome old new result
+pub data Outcome (old new : Reader) (result : Result Move JsonFault) : Type 0 where
+  took : (made : Move) → result ≡ Ok made → new.offset ≡ old.offset + 1 → new.fault ≡ old.fault → new.limits ≡ old.limits → Outcome old new result
   refused : (fault : JsonFault) → result ≡ Err fault → new.offset ≡ old.offset → new.fault ≡ Some fault → new.limits ≡ old.limits → Outcome old new result
 
-passes_outcome : (mode : Mode) (levels : List Level) (old new : Reader) (result : Result (Unit {0}) JsonFault) → PassesTo mode levels old new result → Outcome old new result
-passes_outcome mode levels old new result h = took h.answer h.passes.offset h.passes.fault h.passes.limits
+passes_outcome : (made : Move) (mode : Mode) (levels : List Level) (old new : Reader) (result : Result Move JsonFault) → PassesTo made mode levels old new result → Outcome old new result
+passes_outcome made mode levels old new result h = took made h.answer h.passes.offset h.passes.fault h.passes.limits
 
-refuses_outcome : (cause : Cause) (old new : Reader) (result : Result (Unit {0}) JsonFault) → RefusesWith cause old new result → Outcome old new result
+refuses_outcome : (cause : Cause) (old new : Reader) (result : Result Move JsonFault) → RefusesWith cause old new result → Outcome old new result
 refuses_outcome cause old new result h = refused h.fault h.answer h.refused.offset h.refused.kept h.refused.limits
 
-pub outcome : (made : Move) (old new : Reader) (result : Result (Unit {0}) JsonFault) → length (levels_in old.levels) ≤ old.limits.depth → Applied made old new result → Outcome old new result
+pub outcome : (made : Move) (old new : Reader) (result : Result Move JsonFault) → length (levels_in old.levels) ≤ old.limits.depth → Applied made old new result → Outcome old new result
 outcome Refuse old new result n h = refuses_outcome Syntax old new result h
-outcome (Go mode) old new result n h = passes_outcome mode (levels_in old.levels) old new result h
+outcome (Go mode ending) old new result n h = passes_outcome (Go mode ending) mode (levels_in old.levels) old new result h
 outcome (Open level) old new result n h = elim (eqb_tells (length (levels_in old.levels)) old.limits.depth) [
   | inl u ↦ refuses_outcome Depth old new result (h.0 u.1)
-  | inr u ↦ passes_outcome (opened level) (level ∷ levels_in old.levels) old new result (h.1 (omega (arith, u.1)))
+  | inr u ↦ passes_outcome (Open level) (opened level) (level ∷ levels_in old.levels) old new result (h.1 (omega (arith, u.1)))
 ]
-outcome Close old new result n h = passes_outcome ValueDone (outer_of (levels_in old.levels)) old new result h
+outcome (Close level) old new result n h = passes_outcome (Close level) ValueDone (outer_of (levels_in old.levels)) old new result h
+
+-- the move of a byte that is taken is answered
+taken_is : (made taken : Move) (old new : Reader) → length (levels_in old.levels) ≤ old.limits.depth → Applied made old new (Ok taken) → taken ≡ made
+taken_is Refuse taken old new n h = let e = h.answer in cc
+taken_is (Go mode ending) taken old new n h = let e = h.answer in cc
+taken_is (Open level) taken old new n h = elim (eqb_tells (length (levels_in old.levels)) old.limits.depth) [
+  | inl u ↦ (let r = h.0 u.1 in let e = r.answer in cc)
+  | inr u ↦ (let p = h.1 (omega (arith, u.1)) in let e = p.answer in cc)
+]
+taken_is (Close level) taken old new n h = let e = h.answer in cc
+
+pub byte_moves : {before after : List Event → Type 0} (old new : Reader) (b : ℕ) (result : Result Move JsonFault) → length (levels_in old.levels) ≤ old.limits.depth → Takes before after old new b result → IfOk result (λ made. Moves old b made)
+byte_moves old new b (Ok made) n w = record { turn = w.turn; value = w.value; says = w.says; is = taken_is (move_by old w.turn b) made old new n w.applied }
+byte_moves old new b (Err fault) n w = tt
 
 -- the events of a byte, heard
-byte_hears : {before after : List Event → Type 0} (old new : Reader) (b : ℕ) (bytes : List ℕ) (events : List Event) (result : Result (Unit {0}) JsonFault) → old.fault ≡ None → StandsFor old bytes → Outcome old new result
+byte_hears : {before after : List Event → Type 0} (old new : Reader) (b : ℕ) (bytes : List ℕ) (events : List Event) (result : Result Move JsonFault) → old.fault ≡ None → StandsFor old bytes → Outcome old new result
     → Takes before after old new b result → before events → Hears after events old.offset new.offset (take new.offset (bytes ++ b ∷ []))
-byte_hears {before} {after} old new b bytes events result live h (took r o f l) w k =
+byte_hears {before} {after} old new b bytes events result live h (took made r o f l) w k =
     let es = told_by old w.turn w.value b in
     let n : new.offset ≡ length (bytes ++ b ∷ []) = omega (arith, o, live_offset old bytes live h, length-append bytes (b ∷ [])) in
     let t : take new.offset (bytes ++ b ∷ []) ≡ bytes ++ b ∷ [] = take_all_of (bytes ++ b ∷ []) new.offset n in
@@ -131,11 +145,11 @@ byte_hears {before} {after} old new b bytes events result live h (refused fault 
     let z : after (events ++ []) = rw r at j in
     hears_nothing after events old.offset new.offset (take new.offset (bytes ++ b ∷ [])) o (rw append-nil at z)
 
-pub outcome_on : (old new : Reader) (result : Result (Unit {0}) JsonFault) → Outcome old new result → (new.limits ≡ old.limits) × (old.offset ≤ new.offset)
-outcome_on old new result (took r o f l) = (l, omega (arith, o))
+pub outcome_on : (old new : Reader) (result : Result Move JsonFault) → Outcome old new result → (new.limits ≡ old.limits) × (old.offset ≤ new.offset)
+outcome_on old new result (took made r o f l) = (l, omega (arith, o))
 outcome_on old new result (refused fault r o f l) = (l, omega (arith, o))
 
-pub byte_feeds : {before after : List Event → Type 0} (old new : Reader) (b : ℕ) (result : Result (Unit {0}) JsonFault) → old.fault ≡ None → old.offset < old.limits.bytes → length (levels_in old.levels) ≤ old.limits.depth
+pub byte_feeds : {before after : List Event → Type 0} (old new : Reader) (b : ℕ) (result : Result Move JsonFault) → old.fault ≡ None → old.offset < old.limits.bytes → length (levels_in old.levels) ≤ old.limits.depth
     → Takes before after old new b result → Feeds before after old new (b ∷ [])
 byte_feeds {before} {after} old new b result live room nested w =
     let o = outcome (move_by old w.turn b) old new result nested w.applied in
@@ -156,7 +170,7 @@ skip_well old new given live s bytes w = rw (s.fault, live, s.limits, s.levels, 
 pub skipped : (old new : Reader) (given : List ℕ) (bytes : List ℕ) → SkipsBy old new given → old.offset + length given ≤ old.limits.bytes → StandsOpen old.limits old.mode (levels_in old.levels) old.literal old.content old.start old.offset bytes
     → StandsOpen old.limits new.mode (levels_in old.levels) new.literal new.content old.start (old.offset + length given) (bytes ++ given) × Completed old.offset (old.offset + length given) (bytes ++ given) [] × Lasts old.offset (old.offset + length given) bytes given
 skipped old new given bytes (leading leads other none) room k =
-    let q = quiet_run old.limits (levels_in old.levels) old.start given old.mode new.mode old.offset bytes k.well room leads none in
+    let q = quiet_run old.limits (levels_in old.levels) old.start given old.mode new.mode old.offset bytes k.well room leads in
     (record { well = q.0; keeps = keeps_none (under_of q.0.state) new.literal new.content (sym (mode_under q.0.state new.mode (levels_in old.levels) q.0.kept) ∙ other) (sym (mode_state q.0.state new.mode (levels_in old.levels) q.0.kept) ∙ none) }, q.1, q.2)
 skipped old new given bytes (in_literal from to goes) room k =
     let P : Mode → Type 0 = λ m. StandsOpen old.limits m (levels_in old.levels) old.literal old.content old.start old.offset bytes in
@@ -244,21 +258,21 @@ feeds_more {before} {after} old new given more fault f e = record {
 
 -- ---- what a byte answers
 
-pub ok_live : (old new : Reader) (result : Result (Unit {0}) JsonFault) (x : Unit {0}) → Outcome old new result → result ≡ Ok x → (new.fault ≡ old.fault) × (new.offset ≡ old.offset + 1)
-ok_live old new result x (took r o f l) e = (f, o)
+pub ok_live : (old new : Reader) (result : Result Move JsonFault) (x : Move) → Outcome old new result → result ≡ Ok x → (new.fault ≡ old.fault) × (new.offset ≡ old.offset + 1)
+ok_live old new result x (took made r o f l) e = (f, o)
 ok_live old new result x (refused fault r o f l) e = cc
 
-pub err_kept : (old new : Reader) (result : Result (Unit {0}) JsonFault) (fault : JsonFault) → Outcome old new result → result ≡ Err fault → new.fault ≡ Some fault
-err_kept old new result fault (took r o f l) e = cc
+pub err_kept : (old new : Reader) (result : Result Move JsonFault) (fault : JsonFault) → Outcome old new result → result ≡ Err fault → new.fault ≡ Some fault
+err_kept old new result fault (took made r o f l) e = cc
 err_kept old new result fault (refused other r o f l) e = let k : other ≡ fault = cc in f ∙ ap (λ (x : JsonFault). Some x) k
 
-pub byte_all : {before after : List Event → Type 0} (old new : Reader) (b : ℕ) (result : Result (Unit {0}) JsonFault) (x : Unit {0}) → old.fault ≡ None → old.offset < old.limits.bytes → length (levels_in old.levels) ≤ old.limits.depth
+pub byte_all : {before after : List Event → Type 0} (old new : Reader) (b : ℕ) (result : Result Move JsonFault) (x : Move) → old.fault ≡ None → old.offset < old.limits.bytes → length (levels_in old.levels) ≤ old.limits.depth
     → Takes before after old new b result → result ≡ Ok x → FeedsAll before after old new (b ∷ [])
 byte_all old new b result x live room nested w e =
     let k = ok_live old new result x (outcome (move_by old w.turn b) old new result nested w.applied) e in
     record { feeds = byte_feeds old new b result live room nested w; live = k.0 ∙ live; offset = k.1 }
 
-pub byte_to : {before after : List Event → Type 0} (old new : Reader) (b : ℕ) (result : Result (Unit {0}) JsonFault) (fault : JsonFault) → old.fault ≡ None → old.offset < old.limits.bytes → length (levels_in old.levels) ≤ old.limits.depth
+pub byte_to : {before after : List Event → Type 0} (old new : Reader) (b : ℕ) (result : Result Move JsonFault) (fault : JsonFault) → old.fault ≡ None → old.offset < old.limits.bytes → length (levels_in old.levels) ≤ old.limits.depth
     → Takes before after old new b result → result ≡ Err fault → FeedsTo before after old new (b ∷ []) fault
 byte_to old new b result fault live room nested w e =
     record { feeds = byte_feeds old new b result live room nested w; refused = err_kept old new result fault (outcome (move_by old w.turn b) old new result nested w.applied) e }
@@ -267,18 +281,18 @@ pub completed_at : (m n : ℕ) (bytes : List ℕ) (es fs : List Event) → m ≡
 completed_at m n bytes es fs e f h = rw (f, ← e) h
 
 -- what a byte tells, and whether it is refused
-pub byte_told : {before after : List Event → Type 0} (old new : Reader) (b : ℕ) (bytes : List ℕ) (events : List Event) (result : Result (Unit {0}) JsonFault) → old.fault ≡ None → StandsFor old bytes
+pub byte_told : {before after : List Event → Type 0} (old new : Reader) (b : ℕ) (bytes : List ℕ) (events : List Event) (result : Result Move JsonFault) → old.fault ≡ None → StandsFor old bytes
     → Takes before after old new b result → before events → IfOk result (λ done. HearsTwo after events bytes b)
 byte_told {before} {after} old new b bytes events (Ok done) live h w k = record {
   found = told_by old w.turn w.value b;
   told = w.told events k;
-  few = emitted_few _ _ _ _ _ _ _;
+  few = emitted_few _ _ _ _ _ _;
   completed = completed_at old.offset (length bytes) (bytes ++ b ∷ []) _ _ (live_offset old bytes live h) refl (completed old b bytes w.turn w.value w.says live h);
 }
 byte_told old new b bytes events (Err fault) live h w k = tt
 
-pub byte_refusal : (old new : Reader) (result : Result (Unit {0}) JsonFault) → old.fault ≡ None → Outcome old new result → MatchResult result (λ done. new.fault ≡ None) (λ fault. new.fault ≡ Some fault)
-byte_refusal old new result live (took r o f l) = rw r (f ∙ live)
+pub byte_refusal : (old new : Reader) (result : Result Move JsonFault) → old.fault ≡ None → Outcome old new result → MatchResult result (λ done. new.fault ≡ None) (λ fault. new.fault ≡ Some fault)
+byte_refusal old new result live (took made r o f l) = rw r (f ∙ live)
 byte_refusal old new result live (refused fault r o f l) = rw r f
 
 -- the byte behind the most that are allowed
@@ -315,12 +329,12 @@ byte_taken : (piece : List ℕ) (n : ℕ) → n < length piece → take n piece 
 byte_taken piece n w = sym (take_more piece n 0 w)
 
 -- a front of a piece that was taken, and the byte behind it
-module _ {before middle after : List Event → Type 0} (old mid new : Reader) (piece : List ℕ) (n : ℕ) (result : Result (Unit {0}) JsonFault) (w : n < length piece) (room : old.offset + length piece ≤ old.limits.bytes) (f : FeedsAll before middle old mid (take n piece))
+module _ {before middle after : List Event → Type 0} (old mid new : Reader) (piece : List ℕ) (n : ℕ) (result : Result Move JsonFault) (w : n < length piece) (room : old.offset + length piece ≤ old.limits.bytes) (f : FeedsAll before middle old mid (take n piece))
     (t : Takes middle after mid new (get_or piece n 0) result) where
   mid_room : mid.offset < mid.limits.bytes
   mid_room = let e : mid.limits.bytes ≡ old.limits.bytes = ap (λ (a : Allowed). a.bytes) f.feeds.limits in omega (arith, f.offset, length-take-le n piece (omega arith))
 
-  pub some_all : (x : Unit {0}) → result ≡ Ok x → FeedsAll before after old new (take (n + 1) piece)
+  pub some_all : (x : Move) → result ≡ Ok x → FeedsAll before after old new (take (n + 1) piece)
   some_all x e =
       let g : FeedsAll middle after mid new (get_or piece n 0 ∷ []) = byte_all mid new (get_or piece n 0) result x f.live mid_room mid.nested t e in
       let P : List ℕ → Type 0 = λ xs. FeedsAll before after old new xs in

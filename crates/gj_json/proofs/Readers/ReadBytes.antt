@@ -119,7 +119,7 @@ module _ (limits : Allowed) (mode : Mode) (levels : List Level) (start offset : 
       }
 
   pub told_by_step : (k : Old) (turn : NumberTurn) (value : Option Exact) (words : Words) → Turns (under_of k.state) b turn → HasValue (under_of k.state) turn value → HasWords (under_of k.state) words
-      → Tells (seen k.state) (start_after mode start offset) offset (emitted mode (inner_of levels) (move_of mode turn (inner_of levels) b) value words start offset) (step k.state (length bytes) b)
+      → Tells (seen k.state) (start_after mode start offset) offset (emitted mode turn (move_of mode turn (inner_of levels) words b) value start offset) (step k.state (length bytes) b)
   told_by_step k turn value words t v x = let e : length bytes ≡ offset = sym k.at in rw e (step_tells value words k.state mode turn levels start offset b k.kept t v x k.timely.edge)
 
 -- ---- a byte, from reader to reader
@@ -138,9 +138,9 @@ next_keeps old new b bytes k turn t g w next mode levels e a m =
     keeps_on (under_of k.well.state) (under_of next) old new b turn c k.keeps t g w (mode_under k.well.state old.mode (levels_in old.levels) k.well.kept) (rw m (mode_under next mode levels a))
     (mode_state k.well.state old.mode (levels_in old.levels) k.well.kept) (rw m (mode_state next mode levels a))
 
-passes_on : (old new : Reader) (b : ℕ) (bytes : List ℕ) (mode : Mode) (levels : List Level) (result : Result (Unit {0}) JsonFault) → old.fault ≡ None → PassesTo mode levels old new result
+passes_on : (old new : Reader) (b : ℕ) (bytes : List ℕ) (made : Move) (mode : Mode) (levels : List Level) (result : Result Move JsonFault) → old.fault ≡ None → PassesTo made mode levels old new result
     → (w : StandsWell old.limits mode levels (start_after old.mode old.start old.offset) (old.offset + 1) (bytes ++ b ∷ [])) → Keeps (under_of w.state) new.literal new.content → StandsFor new (bytes ++ b ∷ []) × Answers old.limits (bytes ++ b ∷ []) result
-passes_on old new b bytes mode levels result live p w keeps = (
+passes_on old new b bytes made mode levels result live p w keeps = (
   rw (p.passes.fault, live, p.passes.limits, p.passes.mode_is, p.passes.levels_are, p.passes.start, p.passes.offset) (record { well = w; keeps = keeps }),
   rw (p.answer) (well_viable old.limits.depth (bytes ++ b ∷ []) w.state w.runs w.fits, omega (arith, w.at, w.within)),
 )
@@ -153,47 +153,47 @@ refuses_on old new b bytes cause result w r y f =
     let k : StandsRefused old.limits r.fault old.mode (levels_in old.levels) old.start old.offset (bytes ++ b ∷ []) = record { by_byte = i; refusal = g; place = r.refused.place; taken = bytes; rest = b ∷ []; split = refl; well = w } in
     (rw (r.refused.kept, r.refused.limits, r.refused.mode_is, r.refused.levels_are, r.refused.start, r.refused.offset) k, rw (r.answer) (g, λ more. lasts old.limits (bytes ++ b ∷ []) more r.fault.cause r.fault.place i g))
 
-module _ (old new : Reader) (b : ℕ) (bytes : List ℕ) (result : Result (Unit {0}) JsonFault) (live : old.fault ≡ None) (room : old.offset < old.limits.bytes) (nested : length (levels_in old.levels) ≤ old.limits.depth)
-    (turn : NumberTurn) (goes : result ≡ Ok tt → LiteralGoes old new b turn × ContentGoes old new b) (k : StandsOpen old.limits old.mode (levels_in old.levels) old.literal old.content old.start old.offset bytes) (turns : Turns (under_of k.well.state) b turn) where
+module _ (old new : Reader) (b : ℕ) (bytes : List ℕ) (result : Result Move JsonFault) (live : old.fault ≡ None) (room : old.offset < old.limits.bytes) (nested : length (levels_in old.levels) ≤ old.limits.depth)
+    (turn : NumberTurn) (goes : (made : Move) → result ≡ Ok made → LiteralGoes old new b turn × ContentGoes old new b) (k : StandsOpen old.limits old.mode (levels_in old.levels) old.literal old.content old.start old.offset bytes) (turns : Turns (under_of k.well.state) b turn) where
   abbrev Answer : Type 0
   Answer = StandsFor new (bytes ++ b ∷ []) × Answers old.limits (bytes ++ b ∷ []) result
 
   -- a byte that passes
-  goes_on : (es : List Event) (next : Broken) (mode : Mode) (levels : List Level) → step k.well.state (length bytes) b ≡ Some next → PassesTo mode levels old new result → StandsAs next mode levels → FitsBroken old.limits.depth next
+  goes_on : (made : Move) (es : List Event) (next : Broken) (mode : Mode) (levels : List Level) → step k.well.state (length bytes) b ≡ Some next → PassesTo made mode levels old new result → StandsAs next mode levels → FitsBroken old.limits.depth next
       → Tells (seen k.well.state) (start_after old.mode old.start old.offset) old.offset es (Some next) → Answer
   unfolding passed
-  goes_on es next mode levels e w a f t =
-      passes_on old new b bytes mode levels result live w (passed old.limits old.mode (levels_in old.levels) old.start old.offset bytes b k.well next mode levels es room e a f t)
-      (next_keeps old new b bytes k turn turns (goes w.answer).0 (goes w.answer).1 next mode levels e a w.passes.mode_is)
+  goes_on made es next mode levels e w a f t =
+      passes_on old new b bytes made mode levels result live w (passed old.limits old.mode (levels_in old.levels) old.start old.offset bytes b k.well next mode levels es room e a f t)
+      (next_keeps old new b bytes k turn turns (goes made w.answer).0 (goes made w.answer).1 next mode levels e a w.passes.mode_is)
 
   answered : (made : Move) (es : List Event) (o : Option Broken) → step k.well.state (length bytes) b ≡ o → Applied made old new result → Follows old.limits.depth (levels_in old.levels) made o
       → Follows (old.limits.depth + 1) (levels_in old.levels) made o → Tells (seen k.well.state) (start_after old.mode old.start old.offset) old.offset es o → Answer
   answered Refuse es o e w h g t =
       refuses_on old new b bytes Syntax result k.well w tt (syntax_refused old.limits old.mode (levels_in old.levels) old.start old.offset bytes b k.well room (e ∙ h))
-  answered (Go mode) es None e w h g t = absurd h
-  answered (Go mode) es (Some next) e w h g t = goes_on es next mode (levels_in old.levels) e w h.0 h.1 t
+  answered (Go mode ending) es None e w h g t = absurd h
+  answered (Go mode ending) es (Some next) e w h g t = goes_on (Go mode ending) es next mode (levels_in old.levels) e w h.0 h.1 t
   answered (Open level) es None e w h g t = absurd h
   answered (Open level) es (Some next) e w h g t = elim (eqb_tells (length (levels_in old.levels)) old.limits.depth) [
     | inl u ↦ refuses_on old new b bytes Depth result k.well (w.0 u.1) tt (depth_refused old.limits old.mode (levels_in old.levels) old.start old.offset bytes b k.well next (opened level) level room e h.0 u.1 (g.1 (omega (arith, u.1))))
     | inr u ↦ (let less : length (levels_in old.levels) < old.limits.depth = omega (arith, u.1) in
-        goes_on es next (opened level) (level ∷ levels_in old.levels) e (w.1 less) h.0 (h.1 (omega arith)) t)
+        goes_on (Open level) es next (opened level) (level ∷ levels_in old.levels) e (w.1 less) h.0 (h.1 (omega arith)) t)
   ]
-  answered Close es None e w h g t = absurd h
-  answered Close es (Some next) e w h g t = goes_on es next ValueDone (outer_of (levels_in old.levels)) e w h.0 h.1 t
+  answered (Close level) es None e w h g t = absurd h
+  answered (Close level) es (Some next) e w h g t = goes_on (Close level) es next ValueDone (outer_of (levels_in old.levels)) e w h.0 h.1 t
 
 -- what is under way, by what the literal says
 pub says : (old : Reader) (b : ℕ) (bytes : List ℕ) (turn : NumberTurn) (value : Option Exact) → LiteralSays old b turn value → (k : StandsOpen old.limits old.mode (levels_in old.levels) old.literal old.content old.start old.offset bytes)
     → Turns (under_of k.well.state) b turn × HasValue (under_of k.well.state) turn value
 says old b bytes turn value s k = turns_by (under_of k.well.state) old b turn value s k.keeps (mode_under k.well.state old.mode (levels_in old.levels) k.well.kept)
 
-pub pushed : {before after : List Event → Type 0} (old new : Reader) (b : ℕ) (bytes : List ℕ) (result : Result (Unit {0}) JsonFault) → old.fault ≡ None → old.offset < old.limits.bytes → length (levels_in old.levels) ≤ old.limits.depth
+pub pushed : {before after : List Event → Type 0} (old new : Reader) (b : ℕ) (bytes : List ℕ) (result : Result Move JsonFault) → old.fault ≡ None → old.offset < old.limits.bytes → length (levels_in old.levels) ≤ old.limits.depth
     → Takes before after old new b result → StandsFor old bytes → StandsFor new (bytes ++ b ∷ []) × Answers old.limits (bytes ++ b ∷ []) result
 pushed old new b bytes result live room nested w h =
     let k = open_of old bytes live h in
     let s = says old b bytes w.turn w.value w.says k in
     answered old new b bytes result live room nested w.turn w.goes k s.0 (move_by old w.turn b) (told_by old w.turn w.value b) (step k.well.state (length bytes) b) refl w.applied
-    (moves old.limits.depth k.well.state old.mode w.turn (levels_in old.levels) (length bytes) b k.well.kept s.0 k.well.fits)
-    (moves (old.limits.depth + 1) k.well.state old.mode w.turn (levels_in old.levels) (length bytes) b k.well.kept s.0 (broken_deeper old.limits.depth k.well.state k.well.fits))
+    (moves old.limits.depth k.well.state old.mode w.turn (words_in old.content) (levels_in old.levels) (length bytes) b k.well.kept s.0 k.well.fits)
+    (moves (old.limits.depth + 1) k.well.state old.mode w.turn (words_in old.content) (levels_in old.levels) (length bytes) b k.well.kept s.0 (broken_deeper old.limits.depth k.well.state k.well.fits))
     (told_by_step old.limits old.mode (levels_in old.levels) old.start old.offset bytes b k.well w.turn w.value (words_in old.content) s.0 s.1 (words_by (under_of k.well.state) old.literal old.content k.keeps))
 
 -- ---- the events of a byte
@@ -207,14 +207,14 @@ completed_by limits mode levels start offset bytes b k T rest es (Some s) before
     ∙ ap (λ xs. told (seen k.state) ++ xs) (told-all_at (offset + 1) es) ∙ ap (λ xs. xs ++ es) (sym before)
 
 pub completed_from : (limits : Allowed) (mode : Mode) (levels : List Level) (start offset : ℕ) (bytes : List ℕ) (b : ℕ) (k : StandsWell limits mode levels start offset bytes) (turn : NumberTurn) (value : Option Exact) (words : Words)
-    → Turns (under_of k.state) b turn → HasValue (under_of k.state) turn value → HasWords (under_of k.state) words → Completed offset (offset + 1) (bytes ++ b ∷ []) (emitted mode (inner_of levels) (move_of mode turn (inner_of levels) b) value words start offset)
+    → Turns (under_of k.state) b turn → HasValue (under_of k.state) turn value → HasWords (under_of k.state) words → Completed offset (offset + 1) (bytes ++ b ∷ []) (emitted mode turn (move_of mode turn (inner_of levels) words b) value start offset)
 completed_from limits mode levels start offset bytes b k turn value words d v x = λ T rest t.
     let u : IsText T (bytes ++ (b ∷ rest)) = rw append_assoc at t in
     let c : TextFrom T (length bytes) (b ∷ rest) k.state = (let j = text_goes_on T bytes (b ∷ rest) u in let i : Goes (TextFrom T (length bytes) (b ∷ rest)) (Some k.state) = rw (k.runs) at j in i) in
     let P : ℕ → Type 0 = λ n. TextFrom T n (b ∷ rest) k.state in
     let e : length bytes ≡ offset = sym k.at in
     let R : ℕ → Type 0 = λ n. Goes (TextFrom T (offset + 1) rest) (step k.state n b) in
-    completed_by limits mode levels start offset bytes b k T rest (emitted mode (inner_of levels) (move_of mode turn (inner_of levels) b) value words start offset) (step k.state (length bytes) b)
+    completed_by limits mode levels start offset bytes b k T rest (emitted mode turn (move_of mode turn (inner_of levels) words b) value start offset) (step k.state (length bytes) b)
     (events_seen k.state T offset start (b ∷ rest) k.timely (subst P e c)) (subst R k.at (forward k.state T offset b rest (subst P e c)))
     (told_by_step limits mode levels start offset bytes b k turn value words d v x)
 

@@ -11,6 +11,8 @@ use Rattle.gj_json.specs.declared.levels.Level.{Level}
 use Rattle.gj_json.specs.declared.levels.Level.TheVariants.{Array, Object}
 use Rattle.gj_json.specs.declared.mode.Mode.{Mode}
 use Rattle.gj_json.specs.declared.mode.Mode.TheVariants.{ValueDone, ConstantOn, MarkOne, MarkTwo, ValueDue}
+use Rattle.gj_json.specs.declared.mode.Ending.{Ending}
+use Rattle.gj_json.specs.Names.{Words}
 use Rattle.gj_json.specs.declared.mode.Move.{Move}
 use Rattle.gj_json.specs.declared.mode.Move.TheVariants.{Refuse, Go, Open, Close}
 use Rattle.gj_json.specs.Tree.{Tree, constant, number, end_of_array, element, end_of_object, member, depth}
@@ -30,9 +32,9 @@ use Rattle.gj_json.proofs.Machine.CompletableStates.{elements_joined, members_jo
 -- what the move says of the machine's step
 abbrev pub Simulates : ℕ → List Level → Move → Option Partial → Type 0
 Simulates d levels Refuse o = o ≡ None
-Simulates d levels (Go mode) o = Goes (λ s. PartialAs s mode levels × FitsLeaf d s.stack s.leaf) o
+Simulates d levels (Go mode ending) o = Goes (λ s. PartialAs s mode levels × FitsLeaf d s.stack s.leaf) o
 Simulates d levels (Open level) o = Goes (λ s. PartialAs s (opened level) (level ∷ levels) × (length levels + 1 ≤ d → FitsLeaf d s.stack s.leaf)) o
-Simulates d levels Close o = Goes (λ s. PartialAs s ValueDone (outer_of levels) × FitsLeaf d s.stack s.leaf) o
+Simulates d levels (Close level) o = Goes (λ s. PartialAs s ValueDone (outer_of levels) × FitsLeaf d s.stack s.leaf) o
 
 pub levels_length : (stack : List Frame) → length (levels_of stack) ≡ length stack
 levels_length [] = refl
@@ -104,20 +106,20 @@ on_colon_due d stack place done np name ne n White f = ((refl, refl), f)
 on_colon_due d stack place done np name ne n Colon f = ((refl, refl), f)
 on_colon_due d stack place done np name ne n _ f = refl
 
-on_string : (d : ℕ) (stack : List Frame) (place : ℕ) (so_far : List ℕ) (n : ℕ) (s : StringStep) → OneCharacter s → Fits d stack → Simulates d (levels_of stack) (value_string_move (string_move s)) (step_string stack place so_far n s)
-on_string d stack place so_far n string_ends o f = ((refl, refl), (omega (arith, levels_fit d stack f), f))
-on_string d stack place so_far n (string_goes [] state) o f = ((refl, refl), f)
-on_string d stack place so_far n (string_goes (c ∷ []) state) o f = ((rw o refl, refl), f)
-on_string d stack place so_far n (string_goes (c ∷ e ∷ more) state) o f = absurd o
-on_string d stack place so_far n string_refuses o f = refl
+on_string : (words : Words) (d : ℕ) (stack : List Frame) (place : ℕ) (so_far : List ℕ) (n : ℕ) (s : StringStep) → OneCharacter s → Fits d stack → Simulates d (levels_of stack) (value_string_move words (string_move s)) (step_string stack place so_far n s)
+on_string words d stack place so_far n string_ends o f = ((refl, refl), (omega (arith, levels_fit d stack f), f))
+on_string words d stack place so_far n (string_goes [] state) o f = ((refl, refl), f)
+on_string words d stack place so_far n (string_goes (c ∷ []) state) o f = ((rw o refl, refl), f)
+on_string words d stack place so_far n (string_goes (c ∷ e ∷ more) state) o f = absurd o
+on_string words d stack place so_far n string_refuses o f = refl
 
-on_name_string : (d : ℕ) (stack : List Frame) (place : ℕ) (done : List Member) (np : ℕ) (so_far : List ℕ) (n : ℕ) (s : StringStep) → OneCharacter s → FitsName d stack done
-    → Simulates d (Object ∷ levels_of stack) (name_string_move (string_move s)) (step_name stack place done np so_far n s)
-on_name_string d stack place done np so_far n string_ends o f = ((refl, refl), f)
-on_name_string d stack place done np so_far n (string_goes [] state) o f = ((refl, refl), f)
-on_name_string d stack place done np so_far n (string_goes (c ∷ []) state) o f = ((rw o refl, refl), f)
-on_name_string d stack place done np so_far n (string_goes (c ∷ e ∷ more) state) o f = absurd o
-on_name_string d stack place done np so_far n string_refuses o f = refl
+on_name_string : (words : Words) (d : ℕ) (stack : List Frame) (place : ℕ) (done : List Member) (np : ℕ) (so_far : List ℕ) (n : ℕ) (s : StringStep) → OneCharacter s → FitsName d stack done
+    → Simulates d (Object ∷ levels_of stack) (name_string_move words (string_move s)) (step_name stack place done np so_far n s)
+on_name_string words d stack place done np so_far n string_ends o f = ((refl, refl), f)
+on_name_string words d stack place done np so_far n (string_goes [] state) o f = ((refl, refl), f)
+on_name_string words d stack place done np so_far n (string_goes (c ∷ []) state) o f = ((rw o refl, refl), f)
+on_name_string words d stack place done np so_far n (string_goes (c ∷ e ∷ more) state) o f = absurd o
+on_name_string words d stack place done np so_far n string_refuses o f = refl
 
 on_number : (d : ℕ) (stack : List Frame) (place : ℕ) (so_far : List ℕ) (n b : ℕ) (c : Class) (o : Option NumberState) (may_end : Bool) → Fits d stack
     → Simulates d (levels_of stack) (number_move (turn_of o may_end) (after_move (inner_of (levels_of stack)) c)) (step_number stack place so_far n b o (if may_end then after_value stack (number place so_far n) n c else None))
@@ -125,10 +127,10 @@ on_number d stack place so_far n b c (Some next) may_end f = ((refl, refl), f)
 on_number d stack place so_far n b c None true f = on_after d stack (number place so_far n) n c (omega (arith, levels_fit d stack f), f)
 on_number d stack place so_far n b c None false f = refl
 
-test_go : (d : ℕ) (stack : List Frame) (t : Bool) (mode : Mode) (leaf : Leaf) → LeafAs leaf mode → levels_with leaf (levels_of stack) ≡ levels_of stack → FitsLeaf d stack leaf
-    → Simulates d (levels_of stack) (if t then Go mode else Refuse) (if t then to stack leaf else None)
-test_go d stack true mode leaf a e f = ((a, sym e), f)
-test_go d stack false mode leaf a e f = refl
+test_go : (d : ℕ) (stack : List Frame) (t : Bool) (mode : Mode) (ending : Ending) (leaf : Leaf) → LeafAs leaf mode → levels_with leaf (levels_of stack) ≡ levels_of stack → FitsLeaf d stack leaf
+    → Simulates d (levels_of stack) (if t then Go mode ending else Refuse) (if t then to stack leaf else None)
+test_go d stack true mode ending leaf a e f = ((a, sym e), f)
+test_go d stack false mode ending leaf a e f = refl
 
 on_constant : (d : ℕ) (stack : List Frame) (which : Constant) (place : ℕ) (left : List ℕ) (n b count : ℕ) → left ≡ drop count (letters_of which) → count < length (letters_of which) → Fits d stack
     → Simulates d (levels_of stack) (constant_move which count b) (step_constant stack which place left n b)
@@ -138,7 +140,7 @@ on_constant d stack which place (a ∷ []) n b count l c f =
     let ea : a ≡ get_or (letters_of which) count 0 = cc in
     let er : [] ≡ drop (suc count) (letters_of which) = cc in
     let full : (count + 1 == length (letters_of which)) ≡ true = eq-eqb _ _ (omega (arith, length-drop (suc count) (letters_of which), ap length er)) in
-    rw (full, ← ea) (test_go d stack (b == a) ValueDone (value_done (constant which place)) refl refl (omega (arith, levels_fit d stack f), f))
+    rw (full, ← ea) (test_go d stack (b == a) ValueDone (Ending.Literal which) (value_done (constant which place)) refl refl (omega (arith, levels_fit d stack f), f))
 on_constant d stack which place (a ∷ x ∷ left) n b count l c f =
     let k = drop-cons (letters_of which) count 0 c in
     let ea : a ≡ get_or (letters_of which) count 0 = cc in
@@ -146,50 +148,50 @@ on_constant d stack which place (a ∷ x ∷ left) n b count l c f =
     let more : count + 1 < length (letters_of which) = omega (arith, length-drop (suc count) (letters_of which), ap length er) in
     let s : suc count ≡ count + 1 = omega arith in
     let full : (count + 1 == length (letters_of which)) ≡ false = grind (arith, nat_tests) in
-    rw (full, ← ea) (test_go d stack (b == a) (ConstantOn which (count + 1)) (constant_on which place (x ∷ left)) (count + 1, refl, (rw (← s) er), more) refl f)
+    rw (full, ← ea) (test_go d stack (b == a) (ConstantOn which (count + 1)) Ending.Nothing (constant_on which place (x ∷ left)) (count + 1, refl, (rw (← s) er), more) refl f)
 
-leaf_moves : (d : ℕ) (stack : List Frame) (leaf : Leaf) (mode : Mode) (turn : NumberTurn) (n b : ℕ) → LeafAs leaf mode → Turns (under_leaf leaf) b turn → FitsLeaf d stack leaf
-    → Simulates d (levels_with leaf (levels_of stack)) (move_of mode turn (inner_of (levels_with leaf (levels_of stack))) b) (step_leaf stack leaf n b)
-leaf_moves d stack value_due mode turn n b a w f = rw a (on_value_due d stack n b (class_of b) f)
-leaf_moves d stack (value_done t) mode turn n b a w f = rw a (on_after d stack t n (class_of b) f)
-leaf_moves d stack (array_opened place) mode turn n b a w f = rw a (on_array_opened d stack place n b (class_of b) f)
-leaf_moves d stack (object_opened place) mode turn n b a w f = rw a (on_object_opened d stack place n b (class_of b) f)
-leaf_moves d stack (constant_on which place left) mode turn n b a w f = rw (a.1) (on_constant d stack which place left n b a.0 a.2 a.3 f)
-leaf_moves d stack (number_on place so_far state) mode turn n b a w f = rw (a, w) (on_number d stack place so_far n b (class_of b) (number_next state (class_of b)) (number_may_end state) f)
-leaf_moves d stack (string_on place so_far state) mode turn n b a w f = rw a (on_string d stack place so_far n (string_next state b) (one_character state b) f)
-leaf_moves d stack (name_due place done) mode turn n b a w f = rw a (on_name_due d stack place done n (class_of b) f)
-leaf_moves d stack (name_on place done np so_far state) mode turn n b a w f = rw a (on_name_string d stack place done np so_far n (string_next state b) (one_character state b) f)
-leaf_moves d stack (colon_due place done np name ne) mode turn n b a w f = rw a (on_colon_due d stack place done np name ne n (class_of b) f)
+leaf_moves : (d : ℕ) (stack : List Frame) (leaf : Leaf) (mode : Mode) (turn : NumberTurn) (words : Words) (n b : ℕ) → LeafAs leaf mode → Turns (under_leaf leaf) b turn → FitsLeaf d stack leaf
+    → Simulates d (levels_with leaf (levels_of stack)) (move_of mode turn (inner_of (levels_with leaf (levels_of stack))) words b) (step_leaf stack leaf n b)
+leaf_moves d stack value_due mode turn words n b a w f = rw a (on_value_due d stack n b (class_of b) f)
+leaf_moves d stack (value_done t) mode turn words n b a w f = rw a (on_after d stack t n (class_of b) f)
+leaf_moves d stack (array_opened place) mode turn words n b a w f = rw a (on_array_opened d stack place n b (class_of b) f)
+leaf_moves d stack (object_opened place) mode turn words n b a w f = rw a (on_object_opened d stack place n b (class_of b) f)
+leaf_moves d stack (constant_on which place left) mode turn words n b a w f = rw (a.1) (on_constant d stack which place left n b a.0 a.2 a.3 f)
+leaf_moves d stack (number_on place so_far state) mode turn words n b a w f = rw (a, w) (on_number d stack place so_far n b (class_of b) (number_next state (class_of b)) (number_may_end state) f)
+leaf_moves d stack (string_on place so_far state) mode turn words n b a w f = rw a (on_string words d stack place so_far n (string_next state b) (one_character state b) f)
+leaf_moves d stack (name_due place done) mode turn words n b a w f = rw a (on_name_due d stack place done n (class_of b) f)
+leaf_moves d stack (name_on place done np so_far state) mode turn words n b a w f = rw a (on_name_string words d stack place done np so_far n (string_next state b) (one_character state b) f)
+leaf_moves d stack (colon_due place done np name ne) mode turn words n b a w f = rw a (on_colon_due d stack place done np name ne n (class_of b) f)
 
 -- ---- a whole text
 
 abbrev pub Follows : ℕ → List Level → Move → Option Broken → Type 0
 Follows d levels Refuse o = o ≡ None
-Follows d levels (Go mode) o = Goes (λ s. StandsAs s mode levels × FitsBroken d s) o
+Follows d levels (Go mode ending) o = Goes (λ s. StandsAs s mode levels × FitsBroken d s) o
 Follows d levels (Open level) o = Goes (λ s. StandsAs s (opened level) (level ∷ levels) × (length levels + 1 ≤ d → FitsBroken d s)) o
-Follows d levels Close o = Goes (λ s. StandsAs s ValueDone (outer_of levels) × FitsBroken d s) o
+Follows d levels (Close level) o = Goes (λ s. StandsAs s ValueDone (outer_of levels) × FitsBroken d s) o
 
 marked_follows : (d : ℕ) (levels : List Level) (move : Move) (marked : Bool) (o : Option Partial) → Simulates d levels move o → Follows d levels move (with_mark marked o)
 marked_follows d levels Refuse marked o h = rw h refl
-marked_follows d levels (Go mode) marked None h = h
-marked_follows d levels (Go mode) marked (Some s) h = h
+marked_follows d levels (Go mode ending) marked None h = h
+marked_follows d levels (Go mode ending) marked (Some s) h = h
 marked_follows d levels (Open level) marked None h = h
 marked_follows d levels (Open level) marked (Some s) h = h
-marked_follows d levels Close marked None h = h
-marked_follows d levels Close marked (Some s) h = h
+marked_follows d levels (Close level) marked None h = h
+marked_follows d levels (Close level) marked (Some s) h = h
 
-due_follows : (d n b : ℕ) (t : Bool) → Follows d [] (if t then Go MarkOne else due_move (class_of b)) (if t then Some mark_one else with_mark false (step_value_due [] n b (class_of b)))
+due_follows : (d n b : ℕ) (t : Bool) → Follows d [] (if t then Go MarkOne Ending.Nothing else due_move (class_of b)) (if t then Some mark_one else with_mark false (step_value_due [] n b (class_of b)))
 due_follows d n b true = ((refl, refl), tt)
 due_follows d n b false = marked_follows d [] (due_move (class_of b)) false (step_value_due [] n b (class_of b)) (on_value_due d [] n b (class_of b) tt)
 
-mark_follows : (d : ℕ) (s : Broken) (mode : Mode) (t : Bool) → StandsAs s mode [] → FitsBroken d s → Follows d [] (if t then Go mode else Refuse) (if t then Some s else None)
-mark_follows d s mode true a f = (a, f)
-mark_follows d s mode false a f = refl
+mark_follows : (d : ℕ) (s : Broken) (mode : Mode) (ending : Ending) (t : Bool) → StandsAs s mode [] → FitsBroken d s → Follows d [] (if t then Go mode ending else Refuse) (if t then Some s else None)
+mark_follows d s mode ending true a f = (a, f)
+mark_follows d s mode ending false a f = refl
 
-pub moves : (d : ℕ) (s : Broken) (mode : Mode) (turn : NumberTurn) (levels : List Level) (n b : ℕ) → StandsAs s mode levels → Turns (under_of s) b turn → FitsBroken d s
-    → Follows d levels (move_of mode turn (inner_of levels) b) (step s n b)
-moves d text_due mode turn levels n b a t f = rw (a.0, a.1) (due_follows d n b (b == mark_first))
-moves d mark_one mode turn levels n b a t f = rw (a.0, a.1) (mark_follows d mark_two MarkTwo (b == mark_second) (refl, refl) tt)
-moves d mark_two mode turn levels n b a t f = rw (a.0, a.1) (mark_follows d (begun true (record { stack = []; leaf = value_due })) ValueDue (b == mark_third) (refl, refl) tt)
-moves d (begun marked s) mode turn levels n b a t f =
-    rw (a.1) (marked_follows d (levels_with s.leaf (levels_of s.stack)) (move_of mode turn (inner_of (levels_with s.leaf (levels_of s.stack))) b) marked (step_leaf s.stack s.leaf n b) (leaf_moves d s.stack s.leaf mode turn n b a.0 t f))
+pub moves : (d : ℕ) (s : Broken) (mode : Mode) (turn : NumberTurn) (words : Words) (levels : List Level) (n b : ℕ) → StandsAs s mode levels → Turns (under_of s) b turn → FitsBroken d s
+    → Follows d levels (move_of mode turn (inner_of levels) words b) (step s n b)
+moves d text_due mode turn words levels n b a t f = rw (a.0, a.1) (due_follows d n b (b == mark_first))
+moves d mark_one mode turn words levels n b a t f = rw (a.0, a.1) (mark_follows d mark_two MarkTwo Ending.Nothing (b == mark_second) (refl, refl) tt)
+moves d mark_two mode turn words levels n b a t f = rw (a.0, a.1) (mark_follows d (begun true (record { stack = []; leaf = value_due })) ValueDue Ending.Mark (b == mark_third) (refl, refl) tt)
+moves d (begun marked s) mode turn words levels n b a t f =
+    rw (a.1) (marked_follows d (levels_with s.leaf (levels_of s.stack)) (move_of mode turn (inner_of (levels_with s.leaf (levels_of s.stack))) words b) marked (step_leaf s.stack s.leaf n b) (leaf_moves d s.stack s.leaf mode turn words n b a.0 t f))

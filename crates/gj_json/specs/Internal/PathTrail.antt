@@ -1,18 +1,14 @@
 -- The steps to the right edge of a text, the innermost first, and what a byte does to them.
-use Rattle.std.specs.Prelude.{◌≡◌, ℕ, zero, suc, ◌+◌, ◌==◌, ◌≤◌, ◌<◌, ◌^◌, ◌&&◌, if◌then◌else◌, Bool, true, false, List, [], ◌∷◌, length, get_or, Option, Some, None}
+use Rattle.std.specs.Prelude.{◌≡◌, ℕ, zero, suc, ◌+◌, ◌==◌, ◌≤◌, ◌<◌, ◌^◌, ◌&&◌, Bool, true, false, List, [], ◌∷◌, length, get_or, Option, Some, None}
 use Rattle.gj_json.specs.declared.path.PathStep.{PathStep}
 use Rattle.gj_json.specs.declared.path.PathStep.TheVariants.{Index}
 use Rattle.gj_json.specs.declared.path.Path.{Path}
-use Rattle.gj_json.specs.declared.names.Known.{Known}
 use Rattle.gj_json.specs.declared.mode.Mode.{Mode}
-use Rattle.gj_json.specs.declared.mode.Mode.TheVariants.{ConstantOn, NumberOn, StringOn, NameOn}
-use Rattle.gj_json.specs.declared.class.Class.{Class}
-use Rattle.gj_json.specs.declared.class.Class.TheVariants.{OpenArray, CloseArray, OpenObject, CloseObject, Comma}
-use Rattle.gj_json.specs.declared.trail.Turn.{Turn}
-use Rattle.gj_json.specs.declared.trail.Turn.TheVariants.{Stays, Opens, Closes, Advances, Names}
+use Rattle.gj_json.specs.declared.mode.Mode.TheVariants.{ConstantOn, NumberOn, StringOn}
+use Rattle.gj_json.specs.declared.mode.Ending.TheVariants.{Name, Item}
+use Rattle.gj_json.specs.declared.mode.Move.{Move}
+use Rattle.gj_json.specs.declared.mode.Move.TheVariants.{Go, Open, Close}
 use Rattle.gj_json.specs.declared.limits.TheConstants.{MOST_LEVELS}
-use Rattle.gj_json.specs.Bytes.{quote}
-use Rattle.gj_json.specs.Internal.ByteClasses.{class_of}
 use Rattle.gj_json.specs.Names.{known_of}
 use Rattle.gj_json.specs.Internal.TextMachine.{Frame, in_array, in_object, Leaf, array_opened, object_opened, name_due, name_on, colon_due, Broken, begun}
 
@@ -41,29 +37,14 @@ abbrev pub advanced : List PathStep → List PathStep
 advanced (Index i ∷ steps) = Index (i + 1) ∷ steps
 advanced steps = steps
 
--- ---- what a byte does
+-- ---- what a byte does that makes this move
 
-abbrev pub class_turn : Class → Turn
-class_turn OpenArray = Opens
-class_turn OpenObject = Opens
-class_turn CloseArray = Closes
-class_turn CloseObject = Closes
-class_turn Comma = Advances
-class_turn _ = Stays
-
--- where this is the name under way
-abbrev pub turn_of : Mode → Known → ℕ → Turn
-turn_of (ConstantOn which count) known b = Stays
-turn_of (StringOn state) known b = Stays
-turn_of (NameOn state) known b = if b == quote then Names known else Stays
-turn_of _ known b = class_turn (class_of b)
-
-abbrev pub followed : Turn → List PathStep → List PathStep
-followed Stays steps = steps
-followed Opens steps = Index 0 ∷ steps
-followed Closes steps = outer_steps steps
-followed Advances steps = advanced steps
-followed (Names known) steps = with_inner (PathStep.Member known) steps
+abbrev pub followed : Move → List PathStep → List PathStep
+followed (Go mode (Name known)) steps = with_inner (PathStep.Member known) steps
+followed (Go mode Item) steps = advanced steps
+followed (Open level) steps = Index 0 ∷ steps
+followed (Close level) steps = outer_steps steps
+followed _ steps = steps
 
 -- the innermost step can be kept
 abbrev pub IsSmall : List PathStep → Type 0

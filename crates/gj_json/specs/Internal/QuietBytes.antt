@@ -1,21 +1,26 @@
 -- The bytes that complete nothing and open or close nothing.
-use Rattle.std.specs.Prelude.{◌≡◌, ℕ, ◌==◌, ◌&&◌, ◌||◌, Bool, true, false, not, nat_le, List, [], ◌∷◌, ◌++◌, Option}
+use Rattle.std.specs.Prelude.{◌≡◌, ◌⊎◌, ℕ, ◌==◌, ◌&&◌, ◌||◌, Bool, true, false, not, nat_le, List, [], ◌∷◌, ◌++◌, Option}
 use Rattle.gj_json.specs.Bytes.{space, tab, line_feed, carriage_return, quote, backslash}
 use Rattle.gj_json.specs.declared.levels.Level.{Level}
 use Rattle.gj_json.specs.declared.mode.Mode.{Mode}
-use Rattle.gj_json.specs.declared.mode.Mode.TheVariants.{StringOn, NameOn}
+use Rattle.gj_json.specs.declared.mode.Mode.TheVariants.{ValueDue, ValueDone, ArrayOpened, ObjectOpened, StringOn, NameDue, NameOn, ColonDue}
 use Rattle.gj_json.specs.declared.mode.NumberTurn.{NumberTurn}
-use Rattle.gj_number.specs.Exact.{Exact}
+use Rattle.gj_json.specs.declared.mode.Ending.TheVariants.{Nothing}
 use Rattle.gj_json.specs.declared.mode.Move.TheVariants.{Go}
 use Rattle.gj_json.specs.declared.mode.StringState.{StringState}
 use Rattle.gj_json.specs.declared.mode.StringState.TheVariants.{Plain}
-use Rattle.gj_json.specs.Internal.TextMachine.{string_next, string_goes}
+use Rattle.gj_json.specs.Internal.TextMachine.{string_next, string_ends, string_goes, string_refuses}
 use Rattle.gj_json.specs.Internal.Transitions.{move_of}
 use Rattle.gj_json.specs.Names.{Words}
-use Rattle.gj_json.specs.Internal.ToldEvents.{emitted, is_on}
+use Rattle.gj_json.specs.Internal.ToldEvents.{is_on}
+
+-- the byte leads from one mode to another, completes nothing, and what is under way goes on
+pub record LeadsBy (mode : Mode) (b : ℕ) (next : Mode) : Type 0 where
+  pub moves : (turn : NumberTurn) (inner : Option Level) (words : Words) → move_of mode turn inner words b ≡ Go next Nothing
+  pub on : is_on mode ≡ is_on next
 
 abbrev pub IsQuiet : Mode → ℕ → Type 0
-IsQuiet mode b = (turn : NumberTurn) (inner : Option Level) → move_of mode turn inner b ≡ Go mode
+IsQuiet mode b = LeadsBy mode b mode
 
 abbrev pub is_plain : ℕ → Bool
 is_plain b = nat_le space b && nat_le b 0x7F && not (b == quote) && not (b == backslash)
@@ -23,17 +28,25 @@ is_plain b = nat_le space b && nat_le b 0x7F && not (b == quote) && not (b == ba
 abbrev pub is_white : ℕ → Bool
 is_white b = b == space || b == tab || b == line_feed || b == carriage_return
 
+-- a token may begin, and nothing is under way: white space stands there freely
+abbrev pub awaits_token : Mode → Bool
+awaits_token ValueDue = true
+awaits_token ValueDone = true
+awaits_token ArrayOpened = true
+awaits_token ObjectOpened = true
+awaits_token NameDue = true
+awaits_token ColonDue = true
+awaits_token _ = false
+
+-- the byte ends a string in this state, or may not stand there
+abbrev pub StopsString : StringState → ℕ → Type 0
+StopsString state b = (string_next state b ≡ string_ends) ⊎ (string_next state b ≡ string_refuses)
+
 -- a string or a name is open, and no character is under way in it
 abbrev pub is_between : Mode → Bool
 is_between (StringOn Plain) = true
 is_between (NameOn Plain) = true
 is_between _ = false
-
--- the byte leads from one mode to another, completes nothing, and what is under way goes on
-pub record LeadsBy (mode : Mode) (b : ℕ) (next : Mode) : Type 0 where
-  pub moves : (turn : NumberTurn) (inner : Option Level) → move_of mode turn inner b ≡ Go next
-  pub on : is_on mode ≡ is_on next
-  pub nothing : (inner : Option Level) (value : Option Exact) (words : Words) (start n : ℕ) → emitted mode inner (Go next) value words start n ≡ []
 
 -- and so do these bytes
 abbrev pub Leads : Mode → List ℕ → Mode → Type 0

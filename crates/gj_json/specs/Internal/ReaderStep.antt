@@ -1,5 +1,6 @@
 -- What a byte does to the fields of a reader.
 use Rattle.std.specs.Prelude.{◌≡◌, ℕ, ◌+◌, ◌<◌, List, [], ◌∷◌, ◌++◌, length, Option, Some, Result, Ok, Err}
+use Rattle.std.specs.Option.{option_to_list}
 use Rattle.gj_json.specs.declared.event.Event.{Event}
 use Rattle.gj_json.specs.declared.fault.JsonFault.{JsonFault}
 use Rattle.gj_json.specs.declared.fault.Cause.{Cause}
@@ -15,7 +16,7 @@ use Rattle.gj_json.specs.declared.mode.NumberTurn.{NumberTurn}
 use Rattle.gj_number.specs.Exact.{Exact}
 use Rattle.gj_json.specs.Internal.OpenLevels.{levels_in, inner_of, outer_of}
 use Rattle.gj_json.specs.Internal.Transitions.{move_of}
-use Rattle.gj_json.specs.Internal.ToldEvents.{start_after, emitted}
+use Rattle.gj_json.specs.Internal.ToldEvents.{start_after, move_event, emitted}
 use Rattle.gj_json.specs.Internal.KeptContent.{words_in}
 use Rattle.gj_json.specs.Internal.UnderWay.{LiteralSays, LiteralGoes, ContentGoes}
 
@@ -48,36 +49,48 @@ pub record RefusesWith {A : Type 0} (cause : Cause) (old new : Reader) (result :
   pub answer : result ≡ Err fault
   pub refused : IsRefusedWith cause old new fault
 
-pub record PassesTo (mode : Mode) (levels : List Level) (old new : Reader) (result : Result (Unit {0}) JsonFault) : Type 0 where
-  pub answer : result ≡ Ok tt
+-- a byte was taken that makes this move
+pub record PassesTo (made : Move) (mode : Mode) (levels : List Level) (old new : Reader) (result : Result Move JsonFault) : Type 0 where
+  pub answer : result ≡ Ok made
   pub passes : Passes mode levels old new
 
-abbrev pub Applied : Move → Reader → Reader → Result (Unit {0}) JsonFault → Type 0
+abbrev pub Applied : Move → Reader → Reader → Result Move JsonFault → Type 0
 Applied Refuse old new result = RefusesWith Syntax old new result
-Applied (Go mode) old new result = PassesTo mode (levels_in old.levels) old new result
+Applied (Go mode ending) old new result = PassesTo (Go mode ending) mode (levels_in old.levels) old new result
 Applied (Open level) old new result =
     (length (levels_in old.levels) ≡ old.limits.depth → RefusesWith Depth old new result)
-    × (length (levels_in old.levels) < old.limits.depth → PassesTo (opened level) (level ∷ levels_in old.levels) old new result)
-Applied Close old new result = PassesTo ValueDone (outer_of (levels_in old.levels)) old new result
+    × (length (levels_in old.levels) < old.limits.depth → PassesTo (Open level) (opened level) (level ∷ levels_in old.levels) old new result)
+Applied (Close level) old new result = PassesTo (Close level) ValueDone (outer_of (levels_in old.levels)) old new result
 
 -- a byte that is refused tells nothing
-abbrev pub told_on : Result (Unit {0}) JsonFault → List Event → List Event
-told_on (Ok done) events = events
+abbrev pub told_on : Result Move JsonFault → List Event → List Event
+told_on (Ok made) events = events
 told_on (Err fault) events = []
 
 -- ---- a whole byte, by what it does to the number under way and the value that this has
 
 abbrev pub move_by : Reader → NumberTurn → ℕ → Move
-move_by reader turn b = move_of reader.mode turn (inner_of (levels_in reader.levels)) b
+move_by reader turn b = move_of reader.mode turn (inner_of (levels_in reader.levels)) (words_in reader.content) b
+
+-- what it ends, opens or closes beside the number
+abbrev pub made_by : Reader → NumberTurn → ℕ → List Event
+made_by reader turn b = option_to_list (move_event (move_by reader turn b) reader.start reader.offset)
 
 abbrev pub told_by : Reader → NumberTurn → Option Exact → ℕ → List Event
-told_by reader turn value b = emitted reader.mode (inner_of (levels_in reader.levels)) (move_by reader turn b) value (words_in reader.content) reader.start reader.offset
+told_by reader turn value b = emitted reader.mode turn (move_by reader turn b) value reader.start reader.offset
+
+-- the byte makes this move
+pub record Moves (reader : Reader) (b : ℕ) (made : Move) : Type 0 where
+  pub turn : NumberTurn
+  pub value : Option Exact
+  pub says : LiteralSays reader b turn value
+  pub is : made ≡ move_by reader turn b
 
 -- the reader was given the byte, and its sink has heard of it what was taken
-pub record Takes (before after : List Event → Type 0) (old new : Reader) (b : ℕ) (result : Result (Unit {0}) JsonFault) : Type 0 where
+pub record Takes (before after : List Event → Type 0) (old new : Reader) (b : ℕ) (result : Result Move JsonFault) : Type 0 where
   pub turn : NumberTurn
   pub value : Option Exact
   pub says : LiteralSays old b turn value
-  pub goes : result ≡ Ok tt → LiteralGoes old new b turn × ContentGoes old new b
+  pub goes : (made : Move) → result ≡ Ok made → LiteralGoes old new b turn × ContentGoes old new b
   pub applied : Applied (move_by old turn b) old new result
   pub told : (events : List Event) → before events → after (events ++ told_on result (told_by old turn value b))

@@ -1,4 +1,4 @@
--- Which events a byte completes, from what the reader keeps.
+-- Which events a byte completes, by the move that it makes.
 use Rattle.std.specs.Prelude.{ℕ, List, [], ◌∷◌, ◌++◌, Option, Some, None, Bool, true, false, if◌then◌else◌}
 use Rattle.std.specs.Option.{option_to_list}
 use Rattle.gj_json.specs.declared.event.Event.{Event}
@@ -6,35 +6,18 @@ use Rattle.gj_json.specs.declared.event.What.{What}
 use Rattle.gj_json.specs.declared.levels.Level.{Level}
 use Rattle.gj_json.specs.declared.levels.Level.TheVariants.{Array, Object}
 use Rattle.gj_json.specs.declared.mode.Mode.{Mode}
-use Rattle.gj_json.specs.declared.mode.Mode.TheVariants.{MarkTwo, ValueDue, ValueDone, ConstantOn, NumberOn, StringOn, NameOn, ColonDue}
+use Rattle.gj_json.specs.declared.mode.Mode.TheVariants.{ValueDone, ConstantOn, NumberOn, StringOn, NameOn}
+use Rattle.gj_json.specs.declared.mode.Ending.{Ending}
+use Rattle.gj_json.specs.declared.mode.Ending.TheVariants.{Mark, Literal, Text, Name}
+use Rattle.gj_json.specs.declared.mode.NumberTurn.{NumberTurn}
 use Rattle.gj_json.specs.declared.mode.Move.{Move}
 use Rattle.gj_json.specs.declared.mode.Move.TheVariants.{Refuse, Go, Open, Close}
 use Rattle.gj_json.specs.Events.{what_of}
 use Rattle.gj_number.specs.Exact.{Exact}
 use Rattle.gj_json.specs.declared.mode.StringState.{StringState}
-use Rattle.gj_json.specs.Names.{Words}
 
 abbrev pub event_at : ℕ → What → Event
 event_at place what = record { place = place; what = what }
-
--- a number under way has ended before this byte
-abbrev pub ended : Mode → Move → Bool
-ended NumberOn Refuse = false
-ended NumberOn (Go NumberOn) = false
-ended NumberOn _ = true
-ended _ move = false
-
-abbrev pub value_ended : Mode → Words → ℕ → Option Event
-value_ended (ConstantOn which count) words start = Some (event_at start (what_of which))
-value_ended (StringOn state) words start = Some (event_at start (What.Text words.word))
-value_ended _ words start = None
-
--- the event of a move from one mode to another
-abbrev pub gone : Mode → Mode → Words → ℕ → Option Event
-gone mode ValueDone words start = value_ended mode words start
-gone (NameOn state) ColonDue words start = Some (event_at start (What.Name words.known))
-gone MarkTwo ValueDue words start = Some (event_at 0 What.Mark)
-gone _ _ words start = None
 
 abbrev pub opening_of : Level → What
 opening_of Array = What.OpenArray
@@ -44,16 +27,29 @@ abbrev pub closing_of : Level → What
 closing_of Array = What.CloseArray
 closing_of Object = What.CloseObject
 
-abbrev pub made_event : Mode → Option Level → Move → Words → ℕ → ℕ → Option Event
-made_event mode inner Refuse words start n = None
-made_event mode inner (Go next) words start n = gone mode next words start
-made_event mode inner (Open level) words start n = Some (event_at n (opening_of level))
-made_event mode (Some level) Close words start n = Some (event_at n (closing_of level))
-made_event mode None Close words start n = None
+-- what a byte ends that began at `start`
+abbrev pub ending_event : Ending → ℕ → Option Event
+ending_event Mark start = Some (event_at 0 What.Mark)
+ending_event (Literal which) start = Some (event_at start (what_of which))
+ending_event (Text word) start = Some (event_at start (What.Text word))
+ending_event (Name known) start = Some (event_at start (What.Name known))
+ending_event _ start = None
 
--- all events of the byte at n, where the number under way has this value and the string under way, as a name or a type, is these words
-abbrev pub emitted : Mode → Option Level → Move → Option Exact → Words → ℕ → ℕ → List Event
-emitted mode inner move value words start n = (if ended mode move then event_at start (What.Number value) ∷ [] else []) ++ option_to_list (made_event mode inner move words start n)
+-- the event of the byte at n that makes this move
+abbrev pub move_event : Move → ℕ → ℕ → Option Event
+move_event Refuse start n = None
+move_event (Go mode ending) start n = ending_event ending start
+move_event (Open level) start n = Some (event_at n (opening_of level))
+move_event (Close level) start n = Some (event_at n (closing_of level))
+
+-- the number under way, which has this value, where it has ended before the byte
+abbrev pub number_events : Mode → NumberTurn → Option Exact → ℕ → List Event
+number_events NumberOn NumberTurn.Ends value start = event_at start (What.Number value) ∷ []
+number_events _ turn value start = []
+
+-- all events of the byte at n
+abbrev pub emitted : Mode → NumberTurn → Move → Option Exact → ℕ → ℕ → List Event
+emitted mode turn move value start n = number_events mode turn value start ++ option_to_list (move_event move start n)
 
 -- whether a number is under way
 abbrev pub in_number : Mode → Bool

@@ -1,5 +1,5 @@
 -- Whole tokens, as they are read, and what one leaves of a reader.
-use Rattle.std.specs.Prelude.{◌≡◌, ℕ, ◌+◌, Bool, true, false, List, [], ◌∷◌, ◌++◌, Option, Some, None}
+use Rattle.std.specs.Prelude.{◌≡◌, ℕ, ◌+◌, Bool, true, false, List, [], ◌∷◌, ◌++◌}
 use Rattle.gj_json.specs.Bytes.{quote, open_bracket, open_brace}
 use Rattle.gj_json.specs.Characters.{SpellsCharacter}
 use Rattle.gj_json.specs.declared.levels.Level.{Level}
@@ -8,9 +8,7 @@ use Rattle.gj_json.specs.declared.mode.Mode.{Mode}
 use Rattle.gj_json.specs.declared.mode.Mode.TheVariants.{TextDue, ValueDue, ArrayOpened, NameDue, ObjectOpened}
 use Rattle.gj_json.specs.declared.mode.StringState.TheVariants.{Plain}
 use Rattle.gj_json.specs.declared.reader.Reader.{Reader}
-use Rattle.gj_json.specs.declared.event.Event.{Event}
 use Rattle.gj_json.specs.Internal.OpenLevels.{levels_in}
-use Rattle.gj_json.specs.Internal.ToldEvents.{event_at, closing_of}
 use Rattle.gj_json.specs.Internal.QuietBytes.{Reads}
 
 -- one character of a string, and some of them
@@ -56,8 +54,3 @@ pub record Lands (count : ℕ) (mode : Mode) (levels : List Level) (old new : Re
   pub offset : new.offset ≡ old.offset + count
   pub mode_is : new.mode ≡ mode
   pub levels_are : levels_in new.levels ≡ levels
-
--- the event of the byte that closes this level
-abbrev pub closing_event : Option Level → ℕ → List Event
-closing_event (Some level) place = event_at place (closing_of level) ∷ []
-closing_event None place = []

@@ -1,5 +1,5 @@
 -- Unescaped characters of up to three bytes (RFC 3629, section 4), seen at each byte with the one before and the one after it.
-use Rattle.std.specs.Prelude.{ℕ, ◌+◌, ◌<◌, ◌≡◌, ◌==◌, ◌&&◌, ◌||◌, Bool, false, not, nat_lt, nat_le, List, [], ◌∷◌, get_or}
+use Rattle.std.specs.Prelude.{ℕ, ◌+◌, ◌-◌, ◌<◌, ◌≡◌, ◌==◌, ◌&&◌, ◌||◌, Bool, true, false, not, nat_lt, nat_le, List, [], ◌∷◌, get_or}
 use Rattle.gj_json.specs.Bytes.{space, quote, backslash}
 
 -- a byte of a character, but not its first
@@ -26,6 +26,10 @@ ends_at before here next = is_stop here || (goes_on before here && not (is_tail 
 abbrev pub ends_of : List ℕ → List ℕ → List ℕ → List Bool
 ends_of (p ∷ before) (a ∷ here) (b ∷ next) = ends_at p a b ∷ ends_of before here next
 ends_of _ _ _ = []
+
+-- at the byte of this index
+abbrev pub EndsThere : List ℕ → ℕ → Type 0
+EndsThere piece i = ends_at (get_or piece (i - 1) 0) (get_or piece i 0) (get_or piece (i + 1) 0) ≡ true
 
 -- at none of these bytes, of which the first is behind the first of the piece
 abbrev pub NoneEnds : List ℕ → ℕ → Type 0

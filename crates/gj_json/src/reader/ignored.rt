@@ -27,7 +27,7 @@ impl Reader {
             return Ok(quiet);
         }
         match self.take_byte(piece[quiet], &mut NoEvents) {
-            Ok(()) => Ok(quiet + 1),
+            Ok(_) => Ok(quiet + 1),
             Err(fault) => Err(fault),
         }
     }

@@ -8,11 +8,11 @@ ghost use Rattle.gj_json.specs.Internal.WholeTokens.{bracket_of, names};
 ghost use Rattle.gj_json.specs.declared.mode.Mode.TheVariants.{ValueDone, ColonDue};
 
 use super::Reader;
-use super::tokens::{end_of, opened_mode};
 use crate::constant::Constant;
 use crate::flat::Numbered;
 use crate::levels::Level;
 use crate::mode::{Mode, Move};
+use crate::moves::{after_value, opened_mode};
 use crate::tokens::{constant_run, quoted_run};
 use gj_number::read_short;
 
@@ -127,9 +127,9 @@ impl Reader {
         if count == 0 || count == piece.len() {
             return 0;
         }
-        match end_of(self.levels.inner(), piece[count]) {
-            Move::Go(mode) => self.skip(count + 1, mode),
-            Move::Close => {
+        match after_value(self.levels.inner(), piece[count]) {
+            Move::Go(mode, _) => self.skip(count + 1, mode),
+            Move::Close(_) => {
                 self.levels.pop();
                 self.skip(count + 1, Mode::ValueDone)
             }
@@ -171,8 +171,8 @@ impl Reader {
         ensures floor { floor ≤ length (levels_in self.new.levels) }
         ensures feeds { FeedsWithin floor self.old self.new (take result piece.now) }
     {
-        match end_of(self.levels.inner(), piece[0]) {
-            Move::Close => {
+        match after_value(self.levels.inner(), piece[0]) {
+            Move::Close(_) => {
                 self.levels.pop();
                 self.skip(1, Mode::ValueDone)
             }

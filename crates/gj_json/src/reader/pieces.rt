@@ -98,7 +98,7 @@ impl Reader {
             return Ok(quiet + tokens);
         }
         match self.take_byte(piece[quiet], sink) {
-            Ok(()) => Ok(quiet + 1),
+            Ok(_) => Ok(quiet + 1),
             Err(fault) => Err(fault),
         }
     }

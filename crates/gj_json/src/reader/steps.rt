@@ -5,20 +5,22 @@ ghost use Rattle.gj_number.specs.Grammar.{BeginsNumber};
 ghost use Rattle.gj_number.specs.Literal.{StandsFor as LiteralStandsFor};
 ghost use Rattle.gj_json.specs.Internal.Transitions.{IsMode, IsMove, IsStringState};
 ghost use Rattle.gj_json.specs.Internal.OpenLevels.{levels_in, outer_of};
-ghost use Rattle.gj_json.specs.Internal.ToldEvents.{in_number, text_state};
+ghost use Rattle.gj_json.specs.Internal.ToldEvents.{event_at, in_number, text_state};
+ghost use Rattle.gj_json.specs.declared.event.What.{What};
 ghost use Rattle.gj_json.specs.declared.mode.StringState.TheVariants.{Plain};
 ghost use Rattle.gj_json.specs.declared.mode.Mode.TheVariants.{NumberOn, ValueDone};
 ghost use Rattle.gj_json.specs.declared.mode.NumberTurn.TheVariants.{Ends};
 
 use super::Reader;
+use crate::event::{Event, What};
 use crate::fault::{Cause, JsonFault};
 use crate::levels::Level;
 use crate::limits::MOST_LEVELS;
-use crate::mode::{Mode, Move, StringMove, StringState};
-use crate::moves::next;
+use crate::mode::{Ending, Mode, Move, StringMove, StringState};
+use crate::moves::{after_value, next, opened_mode};
 use crate::sink::EventSink;
 use crate::strings::next_string;
-use crate::told::{is_on, tell_events};
+use crate::told::{is_on, tell_move};
 use gj_number::{Decimal, Literal, Step};
 
 /// The number that the byte begins, where it begins one.
@@ -33,7 +35,7 @@ fn literal_of(byte: u8) -> Literal
 impl Reader {
     ghost use Rattle.gj_json.specs.declared.event.Event.{Event};
     ghost use Rattle.gj_json.specs.Internal.FedReader.{GoesOn};
-    ghost use Rattle.gj_json.specs.Internal.ReaderStep.{Applied, IsRefusedWith, told_on, Passes, opened, move_by, told_by, Takes};
+    ghost use Rattle.gj_json.specs.Internal.ReaderStep.{Applied, IsRefusedWith, told_on, Passes, opened, move_by, made_by, Takes};
 
     pub(super) fn fault_here(&self, cause: Cause) -> JsonFault
         ensures { result ≡ record { place = self.now.offset; cause = cause } }
@@ -78,10 +80,7 @@ impl Reader {
         ensures content { self.new.content ≡ self.old.content }
     {
         self.levels.push(level);
-        self.go(match level {
-            Level::Array => Mode::ArrayOpened,
-            Level::Object => Mode::ObjectOpened,
-        });
+        self.go(opened_mode(level));
     }
 
     fn close(&mut self)
@@ -95,7 +94,7 @@ impl Reader {
     }
 
     #[inline(always)]
-    fn apply(&mut self, made: Move) -> Result<(), JsonFault>
+    fn apply(&mut self, made: Move) -> Result<Move, JsonFault>
         requires live { self.old.fault ≡ None }
         requires room { self.old.offset < self.old.limits.bytes }
         requires sound { IsMove made }
@@ -105,20 +104,19 @@ impl Reader {
     {
         match made {
             Move::Refuse => return Err(self.refuse(Cause::Syntax)),
-            Move::Go(mode) => self.go(mode),
+            Move::Go(mode, _) => self.go(mode),
             Move::Open(level) => {
                 if self.levels.len() == self.limits.depth() {
                     return Err(self.refuse(Cause::Depth));
                 }
                 self.open(level);
             }
-            Move::Close => self.close(),
+            Move::Close(_) => self.close(),
         }
-        Ok(())
+        Ok(made)
     }
 
-    /// Takes a byte that goes on in no number and ends no character of a string, and tells the events that it completes:
-    /// `value` is that of the number that has ended before it.
+    /// Takes a byte that goes on in no number and ends no character of a string, and tells what it ends, opens or closes.
     ///
     /// The mode is handed in so that each caller's is known where it is inlined.
     #[inline(always)]
@@ -126,30 +124,56 @@ impl Reader {
         &mut self,
         mode: Mode,
         byte: u8,
-        value: Option<Decimal>,
         sink: &mut S,
-    ) -> Result<(), JsonFault>
+    ) -> Result<Move, JsonFault>
         requires live { self.old.fault ≡ None }
         requires room { self.old.offset < self.old.limits.bytes }
         requires mode { mode ≡ self.old.mode }
         ensures applied { Applied (move_by self.old Ends byte) self.old self.new result }
         ensures literal { self.new.literal ≡ self.old.literal }
         ensures content { self.new.content ≡ self.old.content }
-        ensures heard { (events : List Event) → S.heard sink.old events → S.heard sink.new (events ++ told_on result (told_by self.old Ends value byte)) }
+        ensures heard { (events : List Event) → S.heard sink.old events → S.heard sink.new (events ++ told_on result (made_by self.old Ends byte)) }
     {
-        let inner = self.levels.inner();
         let start = self.start;
         let offset = self.offset;
-        let made = next(mode, inner, byte);
+        let made = next(mode, self.levels.inner(), &self.content, byte);
         if let Err(fault) = self.apply(made) {
             return Err(fault);
         }
-        tell_events(sink, mode, inner, made, value, &self.content, start, offset);
-        Ok(())
+        tell_move(sink, made, start, offset);
+        Ok(made)
+    }
+
+    /// Takes the byte after the number under way, which has this value, and tells the number before all else.
+    #[inline(always)]
+    fn take_after_number<S: EventSink>(
+        &mut self,
+        byte: u8,
+        value: Option<Decimal>,
+        sink: &mut S,
+    ) -> Result<Move, JsonFault>
+        requires live { self.old.fault ≡ None }
+        requires room { self.old.offset < self.old.limits.bytes }
+        requires number { self.old.mode ≡ NumberOn }
+        ensures applied { Applied (move_by self.old Ends byte) self.old self.new result }
+        ensures heard { (events : List Event) → S.heard sink.old events → S.heard sink.new (events ++ told_on result (event_at self.old.start (What.Number value) ∷ made_by self.old Ends byte)) }
+    {
+        let start = self.start;
+        let offset = self.offset;
+        let made = after_value(self.levels.inner(), byte);
+        if let Err(fault) = self.apply(made) {
+            return Err(fault);
+        }
+        sink.tell(Event {
+            place: start,
+            what: What::Number(value),
+        });
+        tell_move(sink, made, start, offset);
+        Ok(made)
     }
 
     /// Takes a byte while a number is under way.
-    fn take_in_number<S: EventSink>(&mut self, byte: u8, sink: &mut S) -> Result<(), JsonFault>
+    fn take_in_number<S: EventSink>(&mut self, byte: u8, sink: &mut S) -> Result<Move, JsonFault>
         requires live { self.old.fault ≡ None }
         requires room { self.old.offset < self.old.limits.bytes }
         requires number { self.old.mode ≡ NumberOn }
@@ -158,12 +182,12 @@ impl Reader {
         match self.literal.push(byte) {
             Step::Goes => {
                 self.go(Mode::NumberOn);
-                Ok(())
+                Ok(Move::Go(Mode::NumberOn, Ending::Nothing))
             }
             Step::Ends => {
                 if self.literal.may_end() {
                     let value = self.literal.value();
-                    self.take_other(Mode::NumberOn, byte, value, sink)
+                    self.take_after_number(byte, value, sink)
                 } else {
                     Err(self.refuse(Cause::Syntax))
                 }
@@ -180,7 +204,7 @@ impl Reader {
         between: Mode,
         byte: u8,
         sink: &mut S,
-    ) -> Result<(), JsonFault>
+    ) -> Result<Move, JsonFault>
         requires live { self.old.fault ≡ None }
         requires room { self.old.offset < self.old.limits.bytes }
         requires sound { IsStringState state }
@@ -191,9 +215,9 @@ impl Reader {
             StringMove::Reads(character) => {
                 self.content.push(character);
                 self.go(between);
-                Ok(())
+                Ok(Move::Go(between, Ending::Nothing))
             }
-            _ => self.take_other(self.mode, byte, None, sink),
+            _ => self.take_other(self.mode, byte, sink),
         }
     }
 
@@ -204,7 +228,7 @@ impl Reader {
         mode: Mode,
         byte: u8,
         sink: &mut S,
-    ) -> Result<(), JsonFault>
+    ) -> Result<Move, JsonFault>
         requires live { self.old.fault ≡ None }
         requires room { self.old.offset < self.old.limits.bytes }
         requires mode { mode ≡ self.old.mode }
@@ -212,23 +236,24 @@ impl Reader {
         requires text { text_state self.old.mode ≡ None }
         ensures { Takes (S.heard sink.old) (S.heard sink.new) self.old self.new byte result }
     {
-        if let Err(fault) = self.take_other(mode, byte, None, sink) {
-            return Err(fault);
-        }
+        let made = match self.take_other(mode, byte, sink) {
+            Ok(made) => made,
+            Err(fault) => return Err(fault),
+        };
         match self.mode {
             Mode::NumberOn => self.literal = literal_of(byte),
             Mode::StringOn(_) | Mode::NameOn(_) => self.content.clear(),
             _ => {}
         }
-        Ok(())
+        Ok(made)
     }
 
-    /// Takes a byte that the limit on the bytes allows, and tells the events that it completes.
+    /// Takes a byte that the limit on the bytes allows, tells the events that it completes, and answers the move that it makes.
     pub(super) fn take_byte<S: EventSink>(
         &mut self,
         byte: u8,
         sink: &mut S,
-    ) -> Result<(), JsonFault>
+    ) -> Result<Move, JsonFault>
         requires live { self.old.fault ≡ None }
         requires room { self.old.offset < self.old.limits.bytes }
         ensures { Takes (S.heard sink.old) (S.heard sink.new) self.old self.new byte result }

@@ -1,17 +1,15 @@
 //! Whole tokens, from what the reader keeps: one after another, as long as each stands whole in the piece and is of the
 //! usual kind.
 
-ghost use Rattle.std.specs.Prelude.{◌≡◌, ◌+◌, ◌-◌, ◌^◌, ◌≤◌, ◌<◌, ◌++◌, true, List, length, take, get_or, None};
+ghost use Rattle.std.specs.Prelude.{◌≡◌, ◌+◌, ◌-◌, ◌^◌, ◌≤◌, ◌<◌, ◌++◌, ◌∷◌, [], true, List, length, take, get_or, None};
 ghost use Rattle.gj_number.specs.Grammar.{IsNumber};
 ghost use Rattle.gj_number.specs.Value.{value_of};
 ghost use Rattle.gj_json.specs.Internal.QuietBytes.{Leads};
 ghost use Rattle.gj_json.specs.Bytes.{open_bracket, quote};
-ghost use Rattle.gj_json.specs.Internal.ByteClasses.{class_of};
 ghost use Rattle.gj_json.specs.Internal.FlatParts.{awaits};
-ghost use Rattle.gj_json.specs.Internal.OpenLevels.{levels_in, inner_of, outer_of};
-ghost use Rattle.gj_json.specs.Internal.Transitions.{after_move, IsMove};
-ghost use Rattle.gj_json.specs.Internal.ReaderStep.{opened};
-ghost use Rattle.gj_json.specs.Internal.WholeTokens.{bracket_of, closing_event, may_begin, names};
+ghost use Rattle.gj_json.specs.Internal.OpenLevels.{levels_in, outer_of};
+ghost use Rattle.gj_json.specs.Internal.ToldEvents.{event_at, closing_of};
+ghost use Rattle.gj_json.specs.Internal.WholeTokens.{bracket_of, may_begin, names};
 ghost use Rattle.gj_json.specs.declared.mode.Mode.TheVariants.{ValueDone, ValueDue, ColonDue};
 
 use super::Reader;
@@ -21,6 +19,7 @@ use crate::flats::white_end;
 use crate::lanes::white_run;
 use crate::levels::Level;
 use crate::mode::{Mode, Move};
+use crate::moves::{after_value, opened_mode};
 use crate::names::{name_of, type_of};
 use crate::sink::EventSink;
 use crate::tokens::{constant_run, plain_quoted_run};
@@ -29,43 +28,6 @@ use gj_number::{Decimal, Literal, Short, read_short};
 
 /// A piece of fewer bytes is taken byte by byte.
 const SHORTEST: usize = 16;
-
-/// What a byte after a value does.
-#[inline(always)]
-#[tactic(auto, unfolding(crate::specs::Internal::ByteClasses::class_of))]
-pub(super) fn end_of(inner: Option<Level>, byte: u8) -> Move
-    ensures value { result ≡ after_move inner (class_of byte) }
-    ensures sound { IsMove result }
-{
-    match byte {
-        b',' => match inner {
-            Some(Level::Object) => Move::Go(Mode::NameDue),
-            Some(Level::Array) => Move::Go(Mode::ValueDue),
-            None => Move::Refuse,
-        },
-        b'}' => match inner {
-            Some(Level::Object) => Move::Close,
-            _ => Move::Refuse,
-        },
-        b']' => match inner {
-            Some(Level::Array) => Move::Close,
-            _ => Move::Refuse,
-        },
-        b' ' | b'\t' | b'\n' | b'\r' => Move::Go(Mode::ValueDone),
-        _ => Move::Refuse,
-    }
-}
-
-/// The mode after the bracket that opens a level.
-#[inline(always)]
-pub(super) fn opened_mode(level: Level) -> Mode
-    ensures { result ≡ opened level }
-{
-    match level {
-        Level::Array => Mode::ArrayOpened,
-        Level::Object => Mode::ObjectOpened,
-    }
-}
 
 /// How many bytes the colon has that stands at the start of a piece, with the white space around it, or 0.
 #[inline(always)]
@@ -118,7 +80,7 @@ fn numbers_with(byte: u8, count: usize, numbers: u8) -> u8 {
 
 impl Reader {
     ghost use Rattle.gj_json.specs.declared.event.Event.{Event};
-    ghost use Rattle.gj_json.specs.Internal.FedReader.{Skips, FeedsAll};
+    ghost use Rattle.gj_json.specs.Internal.FedReader.{FeedsAll};
     ghost use Rattle.gj_json.specs.Internal.WholeTokens.{Lands};
 
     /// Takes a string of plain characters that is a value: how many bytes, or 0.
@@ -219,22 +181,20 @@ impl Reader {
         self.skip(1, opened_mode(level))
     }
 
-    /// Takes so many bytes, of which the last closes the innermost level.
+    /// Takes so many bytes, of which the last closes the innermost level, which is this.
     #[inline(always)]
-    fn take_close<S: EventSink>(&mut self, count: usize, sink: &mut S) -> usize
+    fn take_close<S: EventSink>(&mut self, level: Level, count: usize, sink: &mut S) -> usize
         requires some { 0 < count }
         requires room { self.old.offset + count ≤ self.old.limits.bytes }
         requires small { self.old.limits.bytes ≤ 2 ^ 60 }
         ensures count { result ≡ count }
         ensures lands { Lands count ValueDone (outer_of (levels_in self.old.levels)) self.old self.new }
-        ensures heard { (events : List Event) → S.heard sink.old events → S.heard sink.new (events ++ closing_event (inner_of (levels_in self.old.levels)) (self.old.offset + count - 1)) }
+        ensures heard { (events : List Event) → S.heard sink.old events → S.heard sink.new (events ++ event_at (self.old.offset + count - 1) (closing_of level) ∷ []) }
     {
-        if let Some(level) = self.levels.inner() {
-            sink.tell(Event {
-                place: self.offset + count as u64 - 1,
-                what: closing(level),
-            });
-        }
+        sink.tell(Event {
+            place: self.offset + count as u64 - 1,
+            what: closing(level),
+        });
         self.levels.pop();
         self.skip(count, Mode::ValueDone)
     }
@@ -263,14 +223,14 @@ impl Reader {
             place: self.offset,
             what: What::Number(value),
         };
-        match end_of(self.levels.inner(), piece[count]) {
-            Move::Go(mode) => {
+        match after_value(self.levels.inner(), piece[count]) {
+            Move::Go(mode, _) => {
                 sink.tell(event);
                 self.skip(count + 1, mode)
             }
-            Move::Close => {
+            Move::Close(level) => {
                 sink.tell(event);
-                self.take_close(count + 1, sink)
+                self.take_close(level, count + 1, sink)
             }
             _ => 0,
         }
@@ -323,9 +283,9 @@ impl Reader {
         ensures within { result ≤ length piece.now }
         ensures feeds { FeedsAll (S.heard sink.old) (S.heard sink.new) self.old self.new (take result piece.now) }
     {
-        match end_of(self.levels.inner(), piece[0]) {
-            Move::Go(mode) => self.skip(1, mode),
-            Move::Close => self.take_close(1, sink),
+        match after_value(self.levels.inner(), piece[0]) {
+            Move::Go(mode, _) => self.skip(1, mode),
+            Move::Close(level) => self.take_close(level, 1, sink),
             _ => 0,
         }
     }

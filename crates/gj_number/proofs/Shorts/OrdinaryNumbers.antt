@@ -2,14 +2,14 @@
 use Rattle.std.proofs.Common.{suc, ◌≡◌, ℕ, ◌+◌, ◌-◌, ◌<◌, ◌≤◌, ◌⊎◌, Bool, true, false, ◌==◌, List, [], ◌∷◌, ◌++◌, length, take, drop, get_or, All, inl, inr, refl, sym, ◌∙◌, ap, subst, arith, append_assoc, length-append}
 use Rattle.std.proofs.Math.Seq.{drop-append_seam, take-append_seam, drop-cons}
 use Rattle.std.proofs.lemmas.Bool.Decides.{nat_tests}
-use Rattle.std.proofs.lemmas.List.{get_or-append-add, take-append-drop, drop-drop, get_or-drop}
+use Rattle.std.proofs.lemmas.List.{get_or-append-add, take-append-drop, drop-drop, get_or-drop, length-take-le}
 use Rattle.std.proofs.lemmas.List.Elements.{All-from_recursion}
 use mir.Val.{bool_byte}
 use Rattle.gj_number.specs.Bytes.{minus_sign, decimal_point, zero_digit, IsDigit, IsNumberByte}
 use Rattle.gj_number.specs.Grammar.{IsNatural, IsDigits}
 use Rattle.gj_number.specs.Value.{SpellsSign, SpellsFraction}
-use Rattle.gj_number.specs.Short.{StartsOrdinary}
-use Rattle.gj_number.specs.Internal.DigitRuns.{IsRun, StartsSigned}
+use Rattle.gj_number.specs.Short.{StartsOrdinary, StartsUsual}
+use Rattle.gj_number.specs.Internal.DigitRuns.{IsRun, IsPointed, StartsSigned}
 use Rattle.gj_number.proofs.Shorts.PiecePrefixes.{rest_is}
 use Rattle.gj_number.proofs.Grammar.FoundParts.{natural_digits, all_digits}
 
@@ -22,6 +22,7 @@ pub record IsLaid (piece : List ℕ) (first natural fraction : ℕ) : Type 0 whe
   pub rest : (IsNumberByte (get_or (drop first piece) natural 0) → ⊥)
       ⊎ ((get_or (drop first piece) natural 0 ≡ decimal_point) × (0 < fraction) × IsRun (drop (natural + 1) (drop first piece)) fraction
       × (IsNumberByte (get_or (drop (natural + 1) (drop first piece)) fraction 0) → ⊥))
+  pub point : 0 < fraction → get_or (drop first piece) natural 0 ≡ decimal_point
 
 after_all : (xs ys : List ℕ) → get_or (xs ++ ys) (length xs) 0 ≡ get_or ys 0 0
 after_all xs ys = let z : length xs ≡ length xs + 0 = omega arith in ap (λ k. get_or (xs ++ ys) k 0) z ∙ get_or-append-add xs ys 0 0
@@ -59,7 +60,7 @@ laid_after natural fraction after more b n f few none = elim f [
       let k = run_of natural ys (All-from_recursion IsDigit natural (natural_digits natural n)) (omega arith) (no_digit b none) in
       let at : get_or (natural ++ ys) (length natural) 0 ≡ b = after_all natural ys in
       let P : ℕ → Type 0 = λ x. IsNumberByte x → ⊥ in
-      record { digits = k; some = some_digit natural n; one = one_zero natural ys n; few = few; rest = inl (subst P (sym at) none) })
+      record { digits = k; some = some_digit natural n; one = one_zero natural ys n; few = few; rest = inl (subst P (sym at) none); point = λ h. absurd (omega (arith, ap length e.1)) })
   | inr e ↦ rw (e.0) (
       let zs : List ℕ = fraction ++ (b ∷ more) in
       let ys : List ℕ = decimal_point ∷ zs in
@@ -76,6 +77,7 @@ laid_after natural fraction after more b n f few none = elim f [
         one = one_zero natural ys n;
         few = few;
         rest = inr (after_all natural ys, some_digits fraction e.1, subst Q (sym d) m, subst R (sym d) (subst P (sym last) none));
+        point = λ h. after_all natural ys;
       })
 ]
 
@@ -103,9 +105,46 @@ laid piece negative n s o =
       one = rw d k.one;
       few = k.few;
       rest = rw d k.rest;
+      point = rw d k.point;
     }
 
+sign_size : (negative minus : Bool) (sign rest : List ℕ) → SpellsSign minus sign → (get_or (sign ++ rest) 0 0 == minus_sign) ≡ negative → (get_or rest 0 0 ≡ minus_sign → ⊥) → length sign ≡ bool_byte negative
+sign_size negative true sign rest s e n = let t : negative ≡ true = sym e ∙ rw s refl in rw (s, t) refl
+sign_size true false sign rest s e n = absurd (n (let f : (get_or rest 0 0 == minus_sign) ≡ true = rw s at e in grind (arith, nat_tests)))
+sign_size false false sign rest s e n = rw s refl
+
+-- how many bytes it has, with a point
+pub laid_length : (piece : List ℕ) (negative : Bool) (n : ℕ) → StartsSigned piece negative → (o : StartsOrdinary piece n) → 0 < length o.ordinary.fraction → n ≡ bool_byte negative + (length o.ordinary.natural + 1 + length o.ordinary.fraction)
+laid_length piece negative n s o some =
+    let x = o.ordinary in
+    let rest : List ℕ = x.natural ++ (x.after_natural ++ (get_or piece n 0 ∷ drop (suc n) piece)) in
+    let whole : piece ≡ x.sign ++ rest = sym (take-append-drop n piece) ∙ (λ i. x.joined i ++ drop-cons piece n 0 o.within i) ∙ simp append_assoc in
+    let e : (get_or (x.sign ++ rest) 0 0 == minus_sign) ≡ negative = ap (λ xs. get_or xs 0 0 == minus_sign) (sym whole) ∙ s in
+    let size = sign_size negative x.negative x.sign rest x.spells_sign e (first_digit x.natural _ x.spells_natural) in
+    let w = o.within in
+    let all : length (x.sign ++ (x.natural ++ x.after_natural)) ≡ n = ap length (sym x.joined) ∙ length-take-le n piece (omega arith) in
+    let last : length x.after_natural ≡ 1 + length x.fraction = elim x.spells_fraction [ inl h ↦ absurd (omega (arith, ap length h.1)) | inr h ↦ (ap length h.0 ∙ omega arith) ] in
+    omega (arith, length-append x.sign (x.natural ++ x.after_natural), length-append x.natural x.after_natural)
+
 -- ---- what the code meets
+
+-- a usual number after its sign
+pub pointed : (piece : List ℕ) (negative : Bool) (n behind : ℕ) → StartsSigned piece negative → (u : StartsUsual piece n behind) → IsPointed (drop (bool_byte negative) piece) (length u.number.ordinary.natural) (length u.number.ordinary.fraction)
+pointed piece negative n behind s u =
+    let l = laid piece negative n s u.number in
+    let a = u.few in
+    let b = u.few_after in
+    let c = u.some_after in
+    let point = l.point u.some_after in
+    record {
+      digits = l.digits;
+      some = l.some;
+      few = u.few;
+      point = point;
+      more = elim l.rest [ inl h ↦ absurd (h (inr (inr (inr (inl point))))) | inr h ↦ h.2 ];
+      some_more = u.some_after;
+      fits = omega arith;
+    }
 
 pub run_rest : (piece : List ℕ) (i count : ℕ) → IsRun (drop i piece) count → IsRun (take (length piece - i) (drop i piece)) count
 run_rest piece i count h = rw (rest_is piece i) h

@@ -1,7 +1,7 @@
 -- Sixteen lanes.
 use Rattle.std.proofs.Common.{min, All, append-nil, ◌/◌, ◌⊎◌, cond, length-drop, zero, suc, ◌≡◌, ℕ, ◌+◌, ◌-◌, ◌*◌, ◌%◌, ◌^◌, ◌<◌, ◌≤◌, ◌++◌, Bool, List, [], ◌∷◌, length, map, take, drop, get_or, replicate, fold, Fits, leb, ltb, T, true, false, not, ◌&&◌, ◌||◌, inl, inr, refl, sym, ◌∙◌, ap, subst, arith, w8}
 use mir.Val.{zeroes}
-use Rattle.gj_number.specs.declared.lanes.TheConstants.{PLACES, OTHERS}
+use Rattle.gj_number.specs.declared.lanes.TheConstants.{PLACES, OTHERS, POINTED}
 use lib.Lanes.{zip2, Each1, chunk, pair_sums, products, mask_l}
 use lib.Count.{count_trailing_zeros}
 use Rattle.std.specs.List.{AllByRecursion}
@@ -12,7 +12,7 @@ use Rattle.std.proofs.Math.Seq.{take-append-add}
 use Rattle.std.proofs.lemmas.List.{take-map, take-take, length-take-le, length-map, get_or-map, get_or-take, get_or-drop, drop-map, drop-take, map-append, take-append-le}
 use Rattle.std.proofs.lemmas.List.Elements.{All-from_recursion, All-nil}
 use Rattle.std.proofs.lemmas.List.Sums.{prefix_len-le-length, prefix_len_stops}
-use Rattle.std.proofs.lemmas.Simd.{zip2_splat, leading_from_mask_l, trailing_mask_l, chunk-fits, Each1-replicate, swz_l, SwzOk, SwzOk-from_Each1, Each1-chunk, length-chunk}
+use Rattle.std.proofs.lemmas.Simd.{zip2_splat, leading_from_mask_l, trailing_mask_l, bit_mask_l, chunk-fits, Each1-replicate, swz_l, SwzOk, SwzOk-from_Each1, Each1-chunk, length-chunk}
 use Rattle.std.proofs.lemmas.Bool.{cases_lt}
 use Rattle.gj_number.specs.Bytes.{decimal_point, IsDigit}
 use Rattle.gj_number.specs.Internal.DigitRuns.{IsRun, SpellsOn, SpellsUnsigned}
@@ -37,6 +37,33 @@ pub fours_is : (xs : List ℕ) → length xs ≡ 16 → Each1 (λ x. x < 10) xs
 fours_is (a ∷ b ∷ c ∷ d ∷ x ∷ f ∷ g ∷ h ∷ p ∷ q ∷ r ∷ s ∷ t ∷ u ∷ v ∷ w ∷ []) len all =
     λ i. four a b c d all.0 all.1.0 all.1.1.0 all.1.1.1.0 i ∷ four x f g h all.1.1.1.1.0 all.1.1.1.1.1.0 all.1.1.1.1.1.1.0 all.1.1.1.1.1.1.1.0 i ∷ four p q r s all.1.1.1.1.1.1.1.1.0 all.1.1.1.1.1.1.1.1.1.0 all.1.1.1.1.1.1.1.1.1.1.0 all.1.1.1.1.1.1.1.1.1.1.1.0 i ∷ four t u v w all.1.1.1.1.1.1.1.1.1.1.1.1.0 all.1.1.1.1.1.1.1.1.1.1.1.1.1.0 all.1.1.1.1.1.1.1.1.1.1.1.1.1.1.0 all.1.1.1.1.1.1.1.1.1.1.1.1.1.1.1.0 i ∷ []
 fours_is _ len all = absurd (omega arith)
+
+-- four digits of four, as one number of sixteen
+joined : (p q r s : ℕ) → p < 10000 → q < 10000 → r < 10000 → s < 10000 → (p * 10000 % 2 ^ 32 + q) % 2 ^ 32 * 100000000 + (r * 10000 % 2 ^ 32 + s) % 2 ^ 32 ≡ ((p * 10000 + q) * 10000 + r) * 10000 + s
+joined p q r s P Q R S = omega arith
+
+small_four : (a b c d : ℕ) → a < 10 → b < 10 → c < 10 → d < 10 → ((a * 10 + b) * 10 + c) * 10 + d < 10000
+small_four a b c d A B C D = omega arith
+
+-- what the code makes of four numbers in a row
+abbrev pub joined_at : List ℕ → ℕ → ℕ
+joined_at fs i = (get_or fs i 0 * 10000 % 2 ^ 32 + get_or fs (i + 1) 0) % 2 ^ 32 * 100000000 + (get_or fs (i + 2) 0 * 10000 % 2 ^ 32 + get_or fs (i + 3) 0) % 2 ^ 32
+
+pub fours_joined : (xs gs : List ℕ) → length xs ≡ 16 → Each1 (λ x. x < 10) xs → joined_at (by_fours xs ++ gs) 0 ≡ fold with_value 0 xs
+fours_joined (a ∷ b ∷ c ∷ d ∷ x ∷ f ∷ g ∷ h ∷ p ∷ q ∷ r ∷ s ∷ t ∷ u ∷ v ∷ w ∷ []) gs len all =
+    let e = joined _ _ _ _ (small_four a b c d all.0 all.1.0 all.1.1.0 all.1.1.1.0) (small_four x f g h all.1.1.1.1.0 all.1.1.1.1.1.0 all.1.1.1.1.1.1.0 all.1.1.1.1.1.1.1.0) (small_four p q r s all.1.1.1.1.1.1.1.1.0 all.1.1.1.1.1.1.1.1.1.0 all.1.1.1.1.1.1.1.1.1.1.0 all.1.1.1.1.1.1.1.1.1.1.1.0)
+    (small_four t u v w all.1.1.1.1.1.1.1.1.1.1.1.1.0 all.1.1.1.1.1.1.1.1.1.1.1.1.1.0 all.1.1.1.1.1.1.1.1.1.1.1.1.1.1.0 all.1.1.1.1.1.1.1.1.1.1.1.1.1.1.1.0) in
+    e ∙ omega arith
+fours_joined _ gs len all = absurd (omega arith)
+
+four_first : (xs gs : List ℕ) → length xs ≡ 16 → joined_at (by_fours xs ++ gs) 4 ≡ joined_at gs 0
+four_first (a ∷ b ∷ c ∷ d ∷ x ∷ f ∷ g ∷ h ∷ p ∷ q ∷ r ∷ s ∷ t ∷ u ∷ v ∷ w ∷ []) gs len = refl
+four_first _ gs len = absurd (omega arith)
+
+pub second_joined : (xs ys : List ℕ) → length xs ≡ 16 → length ys ≡ 16 → Each1 (λ x. x < 10) ys → joined_at (by_fours xs ++ by_fours ys) 4 ≡ fold with_value 0 ys
+second_joined xs ys len more all =
+    let nil : by_fours ys ++ [] ≡ by_fours ys = append-nil (by_fours ys) in
+    four_first xs (by_fours ys) len ∙ ap (λ zs. joined_at zs 0) (sym nil) ∙ fours_joined ys [] more all
 
 -- ---- moved to the end
 
@@ -95,6 +122,48 @@ others_is (a ∷ b ∷ c ∷ d ∷ x ∷ f ∷ g ∷ h ∷ p ∷ q ∷ r ∷ s �
     let all : Below P 16 = ((((((((((((((((tt, refl), refl), refl), refl), refl), refl), refl), refl), refl), refl), refl), refl), refl), refl), refl), refl) in
     below_at P 16 at all few
 others_is _ len at few = absurd (omega arith)
+
+-- ---- both parts of a number with a point, by one row
+
+pub pointed_ok : (at : ℕ) → at ≤ 752 → SwzOk w8 16 16 0 (chunk 0 16 (chunk at (768 - at) POINTED))
+pointed_ok at h =
+    let P : ℕ → Type 0 = λ j. T (zeroes 16 w8 j || ltb j 16) in
+    let all : Each1 P POINTED = every_each (λ j. zeroes 16 w8 j || ltb j 16) POINTED tt in
+    let rest = Each1-chunk P at (768 - at) POINTED all in
+    let long : length (chunk 0 16 (chunk at (768 - at) POINTED)) ≡ 16 = length-chunk 0 16 _ (omega (arith, length-chunk at (768 - at) POINTED (omega arith))) in
+    SwzOk-from_Each1 w8 16 1 16 0 _ refl (omega arith) (Each1-chunk P 0 16 _ rest)
+
+-- what a row of the table leaves of the lanes
+abbrev pub IsRow : List ℕ → ℕ → ℕ → Type 0
+IsRow xs n f = swz_l w8 16 xs 0 (chunk 0 16 (chunk (256 * (n - 1) + 16 * f) (768 - (256 * (n - 1) + 16 * f)) POINTED)) ≡ replicate (16 - (n + f)) 0 ++ take (n + f) (take n xs ++ (drop (n + 1) xs ++ 0 ∷ []))
+
+row_one : (xs : List ℕ) → length xs ≡ 16 → (f : ℕ) → f < 15 → IsRow xs 1 f
+row_one (a ∷ b ∷ c ∷ d ∷ x ∷ y ∷ g ∷ h ∷ p ∷ q ∷ r ∷ s ∷ t ∷ u ∷ v ∷ w ∷ []) len f few =
+    let xs : List ℕ = a ∷ b ∷ c ∷ d ∷ x ∷ y ∷ g ∷ h ∷ p ∷ q ∷ r ∷ s ∷ t ∷ u ∷ v ∷ w ∷ [] in
+    let all : Below (IsRow xs 1) 15 = (((((((((((((((tt, refl), refl), refl), refl), refl), refl), refl), refl), refl), refl), refl), refl), refl), refl), refl) in
+    below_at (IsRow xs 1) 15 f all few
+row_one _ len f few = absurd (omega arith)
+
+row_two : (xs : List ℕ) → length xs ≡ 16 → (f : ℕ) → f < 14 → IsRow xs 2 f
+row_two (a ∷ b ∷ c ∷ d ∷ x ∷ y ∷ g ∷ h ∷ p ∷ q ∷ r ∷ s ∷ t ∷ u ∷ v ∷ w ∷ []) len f few =
+    let xs : List ℕ = a ∷ b ∷ c ∷ d ∷ x ∷ y ∷ g ∷ h ∷ p ∷ q ∷ r ∷ s ∷ t ∷ u ∷ v ∷ w ∷ [] in
+    let all : Below (IsRow xs 2) 14 = ((((((((((((((tt, refl), refl), refl), refl), refl), refl), refl), refl), refl), refl), refl), refl), refl), refl) in
+    below_at (IsRow xs 2) 14 f all few
+row_two _ len f few = absurd (omega arith)
+
+row_three : (xs : List ℕ) → length xs ≡ 16 → (f : ℕ) → f < 13 → IsRow xs 3 f
+row_three (a ∷ b ∷ c ∷ d ∷ x ∷ y ∷ g ∷ h ∷ p ∷ q ∷ r ∷ s ∷ t ∷ u ∷ v ∷ w ∷ []) len f few =
+    let xs : List ℕ = a ∷ b ∷ c ∷ d ∷ x ∷ y ∷ g ∷ h ∷ p ∷ q ∷ r ∷ s ∷ t ∷ u ∷ v ∷ w ∷ [] in
+    let all : Below (IsRow xs 3) 13 = (((((((((((((tt, refl), refl), refl), refl), refl), refl), refl), refl), refl), refl), refl), refl), refl) in
+    below_at (IsRow xs 3) 13 f all few
+row_three _ len f few = absurd (omega arith)
+
+pub pointed_is : (xs : List ℕ) → length xs ≡ 16 → (n f : ℕ) → 0 < n → n ≤ 3 → n + 1 + f ≤ 16 → IsRow xs n f
+pointed_is xs len zero f some few within = absurd (omega arith)
+pointed_is xs len (suc zero) f some few within = row_one xs len f (omega arith)
+pointed_is xs len (suc (suc zero)) f some few within = row_two xs len f (omega arith)
+pointed_is xs len (suc (suc (suc zero))) f some few within = row_three xs len f (omega arith)
+pointed_is xs len (suc (suc (suc (suc n)))) f some few within = absurd (omega arith)
 
 -- ---- the digits at the start
 
@@ -311,7 +380,7 @@ module _ (piece lanes : List ℕ) (long : 16 ≤ length piece) (fits : (k : ℕ)
       }
 
   module _ (more : mask / 2 ^ (natural + 1) ≡ 0 → ⊥) where
-    next : (fraction ≡ leading (drop (natural + 1) lanes)) × (natural + 1 + fraction < 16)
+    pub next : (fraction ≡ leading (drop (natural + 1) lanes)) × (natural + 1 + fraction < 16)
     next = let l = found.1 in next_other lanes mask (natural + 1) (lanes_long piece lanes long fits e) (omega arith) m more
 
     pub both_few : natural + 1 + fraction < 16
@@ -328,3 +397,47 @@ module _ (piece lanes : List ℕ) (long : 16 ≤ length piece) (fits : (k : ℕ)
     both_spell value v point digits =
         let l = next.1 in
         two_spell piece lanes long fits e natural fraction value (natural + 1 + fraction) found.0 found.1 (omega arith) small v (inr (omega arith, point, refl))
+
+-- ---- a byte that is no digit has its bit
+
+module _ (piece lanes : List ℕ) (long : 16 ≤ length piece) (fits : (k : ℕ) → Fits w8 (get_or piece k 0)) (e : lanes ≡ map lane_of (take 16 piece)) (mask : ℕ) (m : mask ≡ mask_l (map (leb 10) lanes)) where
+  lane_at : (i : ℕ) → i < 16 → get_or lanes i 0 ≡ lane_of (get_or piece i 0)
+  lane_at i few =
+      let t : length (take 16 piece) ≡ 16 = length-take-le 16 piece long in
+      ap (λ xs. get_or xs i 0) e ∙ get_or-map lane_of (take 16 piece) i 0 0 (omega arith) ∙ ap lane_of (get_or-take 16 piece i 0 few)
+
+  lane_of_other : (i : ℕ) → i < 16 → (IsDigit (get_or piece i 0) → ⊥) → leb 10 (get_or lanes i 0) ≡ true
+  lane_of_other i few other =
+      let a = lane_at i few in
+      let b : get_or piece i 0 < 256 = (fits i).fits in
+      elim (leb_tells 10 (get_or lanes i 0)) [ inl h ↦ h.0 | inr h ↦ absurd (other (digit_byte (get_or piece i 0) b (let l = h.1 in omega arith)).0) ]
+
+  pub other_bit : (k i : ℕ) → k + i < 16 → (IsDigit (get_or piece (k + i) 0) → ⊥) → mask / 2 ^ k ≡ 0 → ⊥
+  other_bit k i few other none =
+      let ms = map (leb 10) (drop k lanes) in
+      let l = lanes_long piece lanes long fits e in
+      let f : mask / 2 ^ k ≡ mask_l ms = ap (λ n. n / 2 ^ k) m ∙ mask_after lanes k in
+      let w : i < length (drop k lanes) = omega (arith, length-drop k lanes) in
+      let here : get_or ms i false ≡ true = get_or-map (leb 10) (drop k lanes) i 0 false w ∙ ap (leb 10) (get_or-drop k lanes i 0) ∙ lane_of_other (k + i) few other in
+      let zero_bit : 0 / 2 ^ i % 2 ≡ 0 = ap (λ n. n % 2) (zero-div (2 ^ i)) in
+      let b : 0 / 2 ^ i % 2 ≡ 1 = ap (λ n. n / 2 ^ i % 2) (sym none ∙ f) ∙ bit_mask_l ms i ∙ ap (λ t. cond t 1 0) here in
+      omega arith
+
+  other_of_lane : (i : ℕ) → i < 16 → leb 10 (get_or lanes i 0) ≡ true → IsDigit (get_or piece i 0) → ⊥
+  other_of_lane i few t d =
+      let a = lane_at i few in
+      let low = d.0 in
+      let high = d.1 in
+      elim (leb_tells 10 (get_or lanes i 0)) [ inl h ↦ (let k = h.1 in omega arith) | inr h ↦ (let f : false ≡ true = sym h.0 ∙ t in cc) ]
+
+  -- where the digits after so many lanes end
+  pub lanes_end : (k n : ℕ) → k + n < 16 → n ≡ leading (drop k lanes) → IsDigit (get_or piece (k + n) 0) → ⊥
+  lanes_end k n few c d =
+      let l = lanes_long piece lanes long fits e in
+      let w : n < length (drop k lanes) = omega (arith, length-drop k lanes) in
+      let stops : not (leb 10 (get_or (drop k lanes) n 0)) ≡ false = rw c (prefix_len_stops (λ x. not (leb 10 x)) (drop k lanes) 0 (omega arith)) in
+      let there : get_or (drop k lanes) n 0 ≡ get_or lanes (k + n) 0 = get_or-drop k lanes n 0 in
+      elim (leb_tells 10 (get_or lanes (k + n) 0)) [
+        | inl h ↦ other_of_lane (k + n) few h.0 d
+        | inr h ↦ (let f : not false ≡ false = rw (there, h.0) at stops in cc)
+      ]

@@ -26,3 +26,13 @@ pub record SpellsUnsigned (piece : List ℕ) (natural fraction bytes value : ℕ
 -- the piece starts with a minus, or with another byte
 abbrev pub StartsSigned : List ℕ → Bool → Type 0
 StartsSigned piece negative = (get_or piece 0 0 == minus_sign) ≡ negative
+
+-- the piece starts with one to three digits, a point and so many digits after it, after which a byte stands that is none
+pub record IsPointed (piece : List ℕ) (natural fraction : ℕ) : Type 0 where
+  pub digits : IsRun piece natural
+  pub some : 0 < natural
+  pub few : natural ≤ 3
+  pub point : get_or piece natural 0 ≡ decimal_point
+  pub more : IsRun (drop (natural + 1) piece) fraction
+  pub some_more : 0 < fraction
+  pub fits : natural + 1 + fraction < 16

@@ -10,9 +10,6 @@ ghost use Rattle.gj_number.specs.Internal.DigitRuns.{IsRun, SpellsOn, StartsSign
 ghost use Rattle.gj_number.specs.Internal.MovedPoint.{SpellsPlain};
 ghost use Rattle.gj_number.specs.Value.{SpellsExponentSign};
 
-#[cfg(test)]
-mod tests;
-
 use super::Short;
 use crate::lanes::{first_digits, unsigned_prefix};
 use crate::state::{is_behind, may_stand};

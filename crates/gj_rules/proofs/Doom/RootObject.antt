@@ -22,13 +22,14 @@ use Rattle.gj_rules.specs.Internal.LostObjects.{slot_fails, is_lost}
 use Rattle.gj_rules.specs.Members.{is_known, same, mentions, again, type_of}
 use Rattle.gj_rules.specs.Internal.ShownMembers.{slot_of, uses, named, named_known, due_known, due_after, filled, member_taken, members_taken, type_set}
 use Rattle.gj_rules.specs.Internal.EventSteps.{State, step, run}
-use Rattle.gj_rules.specs.Internal.Summaries.{no_shapes, shapes_of}
+use Rattle.gj_rules.specs.Internal.Summaries.{no_shapes, shapes_of, asked}
 use Rattle.gj_rules.specs.Internal.LabelledEvents.{Told, plain, told, members_told}
 use Rattle.gj_json.specs.declared.constant.Constant.TheVariants.{Null, True, False}
 use Rattle.gj_rules.proofs.Objects.GrowingFaults.{Keeps, lesser_first, Worse, worse_same, worse_twice, worse_named, lost_worse, TypeGrows, type_same, Grows, grows_same, grows_joined, grows_shapes}
 use Rattle.gj_rules.proofs.Texts.ValuesByEvents.{st, due_st}
 use Rattle.gj_rules.proofs.Objects.OneMember.{same_is}
-use Rattle.gj_rules.proofs.Objects.AllMembers.{Mentions, mentions_step, member_object, type_from, type_after, shapes_from, shapes_after, repeated_after}
+use Rattle.gj_rules.proofs.Objects.AllMembers.{Mentions, mentions_step, member_object, type_from, type_after, stays_after, typed_after, shapes_from, shapes_one, repeated_after}
+use Rattle.gj_rules.proofs.Objects.AskedShapes.{TypeStays}
 use Rattle.gj_rules.proofs.Doom.InsideValues.{Thru, thru_run, thru_at, root, on_due, array_rest, object_rest}
 use Rattle.gj_rules.proofs.Doom.OutermostMembers.{own, first_what, own_value, own_part, names_value, or_word, typed_by, first_type_member, first_type_name}
 
@@ -50,32 +51,23 @@ type_one : (name : List ℕ) (place end : ℕ) (v : Tree) (f : Shown)
     ≡ type_from f.type_name f.type_value (if same TypeName (known_of name) then Some (record { place = place_of v; word = type_of v }) else None)
 type_one name place end v f = type_after (member place name end v end_of_object) f
 
-typed_is : (t : Option Slot) (o : Option TypeValue) (b : Bool) (x : TypeValue) → is_some o ≡ is_some t
-    → is_some (type_from t o (if b then Some x else None)) ≡ (if b then true else is_some t)
-typed_is (Some slot) o true x e = e
-typed_is (Some slot) o false x e = e
-typed_is None o true x e = refl
-typed_is None o false x e = e
-
 slot_is : (n : Known) (before : List Known) (name : Known) (place : ℕ) (v : Tree) (f : Shown) → Mentions before f → is_known n ≡ true
     → is_some (slot_of n (member_taken place name v f)) ≡ (if same n name then true else is_some (slot_of n f))
 slot_is n before name place v f m k = mentions_step before n name place v f (same n name) m k refl ∙ ap (λ (b : Bool). if same n name then true else b) (sym (m.each n k))
 
-shaped_is : (u b : Bool) (t : Option Slot) (had : Shapes) (x : First) → (if b then true else is_some t) ≡ false → (is_some t ≡ false → had ≡ no_shapes)
-    → shapes_from u t had (if b then Some x else None) ≡ no_shapes
-shaped_is u true t had x e h = cc
-shaped_is u false (Some slot) had x e h = cc
-shaped_is u false None had x e h = h refl
+shaped_is : (u b : Bool) (t : Option Slot) (known : Option TypeValue) (had : Shapes) (x : First) → (if b then true else is_some t) ≡ false → (is_some t ≡ false → had ≡ no_shapes)
+    → shapes_from u t known had (if b then Some x else None) ≡ no_shapes
+shaped_is u true t known had x e h = cc
+shaped_is u false (Some slot) known had x e h = cc
+shaped_is u false None known had x e h = h refl
 
 pub shows_more : (before : List Known) (name : List ℕ) (place end : ℕ) (v : Tree) (f : Shown) → Shows before f → Shows (known_of name ∷ before) (member_taken place (known_of name) v f)
 shows_more before name place end v f h = record {
   mentioned = record { each = λ q k. mentions_step before q (known_of name) place v f (same q (known_of name)) h.mentioned k refl };
-  typed = ap is_some (type_one name place end v f)
-      ∙ (typed_is f.type_name f.type_value (same TypeName (known_of name)) (record { place = place_of v; word = type_of v }) h.typed
-      ∙ sym (slot_is TypeName before (known_of name) place v f h.mentioned refl));
+  typed = typed_after place end name v f h.typed;
   shaped = λ e.
-      shapes_after (member place name end v end_of_object) f
-      ∙ shaped_is (uses f.role Coordinates) (same Coordinates (known_of name)) f.coordinates f.shapes (record { name_at = place; value = v; faults = judge Coordinates v })
+      shapes_one (known_of name) place v f (same Coordinates (known_of name)) refl
+      ∙ shaped_is (uses f.role Coordinates) (same Coordinates (known_of name)) f.coordinates f.type_value f.shapes (record { name_at = place; value = v; faults = judge Coordinates v })
       (sym (slot_is Coordinates before (known_of name) place v f h.mentioned refl) ∙ e) h.shaped;
   role = (member_object (known_of name) place v f).role ∙ h.role;
 }
@@ -84,7 +76,7 @@ shows_more before name place end v f h = record {
 
 filled_grows : (m : Known) (v : Tree) (f : Shown) → (m ≡ TypeName → ⊥) → (m ≡ Coordinates → f.shapes ≡ no_shapes) → Grows f (filled m v f)
 filled_grows TypeName v f t c = absurd (t refl)
-filled_grows Coordinates v f t c = grows_shapes (shapes_of v) f (c refl)
+filled_grows Coordinates v f t c = grows_shapes (asked f.type_value (shapes_of v)) f (c refl)
 filled_grows Geometries v f t c = grows_joined Geometries (least (judge Geometries v)) f
 filled_grows Geometry v f t c = grows_joined Geometry (least (judge Geometry v)) f
 filled_grows Properties v f t c = grows_joined Properties (least (judge Properties v)) f
@@ -130,7 +122,7 @@ due_shapes before n place f h e =
 
 filled_worse : (m : Known) (v : Tree) (f : Shown) (b : Bool) → same TypeName m ≡ b → (m ≡ Coordinates → f.shapes ≡ no_shapes) → Worse f (filled m v f)
 filled_worse TypeName v f b e c = typed_worse (place_of v) (type_of v) f
-filled_worse Coordinates v f b e c = (grows_shapes (shapes_of v) f (c refl)).worse
+filled_worse Coordinates v f b e c = (grows_shapes (asked f.type_value (shapes_of v)) f (c refl)).worse
 filled_worse Geometries v f b e c = (grows_joined Geometries (least (judge Geometries v)) f).worse
 filled_worse Geometry v f b e c = (grows_joined Geometry (least (judge Geometry v)) f).worse
 filled_worse Properties v f b e c = (grows_joined Properties (least (judge Properties v)) f).worse
@@ -140,10 +132,9 @@ filled_worse Id v f b e c = (grows_joined Id (least (judge Id v)) f).worse
 filled_worse Crs v f b e c = worse_same f
 filled_worse Other v f b e c = worse_same f
 
-type_goes : (t : Option Slot) (o x : Option TypeValue) → is_some o ≡ is_some t → TypeGrows o (type_from t o x)
-type_goes t None x e = tt
-type_goes (Some slot) (Some value) x e = refl
-type_goes None (Some value) x e = cc
+type_goes : (o x : Option TypeValue) → TypeStays o x → TypeGrows o x
+type_goes None x h = tt
+type_goes (Some value) x h = h
 
 lost_member : (before : List Known) (name : List ℕ) (place end : ℕ) (v : Tree) (f : Shown) → Shows before f → Keeps (is_lost f) (is_lost (member_taken place (known_of name) v f))
 lost_member before name place end v f h =
@@ -152,8 +143,7 @@ lost_member before name place end v f h =
     (worse_named n place f (is_known n) (slot_of n f) refl)
     (filled_worse (due_after n f) v (named n place f) (same TypeName (due_after n f)) refl (due_shapes before n place f h)) in
     lost_worse f (member_taken place n v f) worse
-    (subst (λ (o : Option TypeValue). TypeGrows f.type_value o) (sym (type_one name place end v f))
-    (type_goes f.type_name f.type_value (if same TypeName n then Some (record { place = place_of v; word = type_of v }) else None) h.typed))
+    (type_goes f.type_value (member_taken place n v f).type_value (stays_after (member place name end v end_of_object) f h.typed))
 
 pub lost_members : (ms : Members) (before : List Known) (f : Shown) → Shows before f → Keeps (is_lost f) (is_lost (members_taken ms f))
 lost_members end_of_object before f h = λ e. e

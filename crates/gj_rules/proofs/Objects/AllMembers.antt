@@ -10,14 +10,15 @@ use Rattle.gj_rules.specs.Internal.FrameMeaning.{Shown}
 use Rattle.gj_coords.specs.Fault.{lesser, least}
 use Rattle.gj_rules.specs.Internal.ShownMembers.{slot_of, with_slot, joined_to, uses, named, named_known, due_known, due_after}
 use Rattle.gj_rules.specs.Internal.FrameMeaning.{Shapes}
-use Rattle.gj_rules.specs.Internal.Summaries.{shapes_of}
+use Rattle.gj_rules.specs.Internal.Summaries.{shapes_of, asked}
 use Rattle.gj_json.specs.Tree.{Tree, Members, end_of_object, member}
 use Rattle.gj_rules.specs.Faults.{First, first, judge}
 use Rattle.gj_coords.specs.Items.{place_of}
 use Rattle.gj_rules.specs.Members.{is_known, same, type_of, first_type, repeated, again, mentions}
 use Rattle.gj_json.specs.Names.{known_of}
 use Rattle.gj_rules.specs.Internal.ShownMembers.{filled, member_taken, members_taken}
-use Rattle.gj_coords.specs.LeastLaws.{lesser-none, lesser_assoc, least-append}
+use Rattle.gj_coords.specs.Internal.LeastLaws.{lesser-none, lesser_assoc, least-append}
+use Rattle.gj_rules.proofs.Objects.AskedShapes.{TypeStays, asked_twice}
 use Rattle.gj_rules.proofs.Objects.OneMember.{same_is, slot-other, slot-own, or_slot, slot_from}
 
 -- ---- what no member changes
@@ -155,12 +156,42 @@ type_after end_of_object f = none f.type_name
     none (Some s) = refl
 type_after (member place name end value more) f = type_after more (member_taken place (known_of name) value f) ∙ type_step (known_of name) place value f (same TypeName (known_of name)) (first_type more) refl
 
+-- the first type stays, where it has come with its name
+abbrev pub IsTyped : Shown → Type 0
+IsTyped f = is_some f.type_value ≡ is_some f.type_name
+
+type_stays : (t : Option Slot) (o x : Option TypeValue) → is_some o ≡ is_some t → TypeStays o (type_from t o x)
+type_stays t None x e = tt
+type_stays (Some slot) (Some value) x e = refl
+type_stays None (Some value) x e = cc
+
+pub stays_after : (ms : Members) (f : Shown) → IsTyped f → TypeStays f.type_value (members_taken ms f).type_value
+stays_after ms f h = subst (λ (o : Option TypeValue). TypeStays f.type_value o) (sym (type_after ms f)) (type_stays f.type_name f.type_value (first_type ms) h)
+
+typed_is : (t : Option Slot) (o : Option TypeValue) (b : Bool) (x : TypeValue) (y : First) → is_some o ≡ is_some t
+    → is_some (type_from t o (if b then Some x else None)) ≡ is_some (or_slot t (slot_from true (if b then Some y else None)))
+typed_is (Some slot) o true x y e = e
+typed_is (Some slot) o false x y e = e
+typed_is None o true x y e = refl
+typed_is None o false x y e = e
+
+pub typed_after : (place end : ℕ) (name : List ℕ) (value : Tree) (f : Shown) → IsTyped f → IsTyped (member_taken place (known_of name) value f)
+typed_after place end name value f h =
+    let x : TypeValue = record { place = place_of value; word = type_of value } in
+    let y : First = record { name_at = place; value = value; faults = judge TypeName value } in
+    let slot = slots_after TypeName (member place name end value end_of_object) f refl in
+    let used = ap (λ (u : Bool). or_slot f.type_name (slot_from u (if same TypeName (known_of name) then Some y else None))) (uses_type f.role) in
+    ap is_some (type_after (member place name end value end_of_object) f)
+    ∙ (typed_is f.type_name f.type_value (same TypeName (known_of name)) x y h
+    ∙ sym (ap is_some (slot ∙ used)))
+
 -- ---- the shapes
 
-abbrev pub shapes_from : Bool → Option Slot → Shapes → Option First → Shapes
-shapes_from used (Some slot) had found = had
-shapes_from used None had None = had
-shapes_from used None had (Some first) = if used then shapes_of first.value else had
+-- the type that has come before is known
+abbrev pub shapes_from : Bool → Option Slot → Option TypeValue → Shapes → Option First → Shapes
+shapes_from used (Some slot) known had found = had
+shapes_from used None known had None = had
+shapes_from used None known had (Some first) = if used then asked known (shapes_of first.value) else had
 
 with_slot_shapes : (m : Known) (s : Slot) (f : Shown) → (with_slot m s f).shapes ≡ f.shapes
 with_slot_shapes TypeName s f = refl
@@ -196,32 +227,53 @@ due_no_shapes m f false u o i e = refl
 shapes_other : (m : Known) (place : ℕ) (v : Tree) (f : Shown) → same Coordinates m ≡ false → (member_taken place m v f).shapes ≡ f.shapes
 shapes_other m place v f e = filled_shapes (due_after m f) v (named m place f) (due_no_shapes m f (is_known m) (uses f.role m) (slot_of m f) refl e) ∙ named_shapes m place f (is_known m) (slot_of m f)
 
-shapes_own : (place : ℕ) (v : Tree) (f : Shown) (o : Option Slot) (u : Bool) (more : Option First) → uses f.role Coordinates ≡ u → f.coordinates ≡ o
-    → shapes_from u (slot_of Coordinates (filled (due_known Coordinates o f.role) v (named_known Coordinates place o f))) (filled (due_known Coordinates o f.role) v (named_known Coordinates place o f)).shapes more
-    ≡ shapes_from u o f.shapes (Some (record { name_at = place; value = v; faults = judge Coordinates v }))
-shapes_own place v f (Some slot) u more i e = rw e refl
-shapes_own place v f None true more i e = rw i refl
-shapes_own place v f None false more i e = rw i refl
+shapes_own : (place : ℕ) (v : Tree) (f : Shown) (o : Option Slot) (u : Bool) → uses f.role Coordinates ≡ u → f.coordinates ≡ o
+    → (filled (due_known Coordinates o f.role) v (named_known Coordinates place o f)).shapes
+    ≡ shapes_from u o f.type_value f.shapes (Some (record { name_at = place; value = v; faults = judge Coordinates v }))
+shapes_own place v f (Some slot) u i e = refl
+shapes_own place v f None true i e = rw i refl
+shapes_own place v f None false i e = rw i refl
 
-shapes_step : (name : Known) (place : ℕ) (value : Tree) (f : Shown) (b : Bool) (rest : Option First) → same Coordinates name ≡ b
-    → shapes_from (uses f.role Coordinates) (slot_of Coordinates (member_taken place name value f)) (member_taken place name value f).shapes rest
-    ≡ shapes_from (uses f.role Coordinates) f.coordinates f.shapes (if b then Some (record { name_at = place; value = value; faults = judge Coordinates value }) else rest)
-shapes_step name place value f false rest e = rw (slot-other Coordinates name place value f refl e, shapes_other name place value f e) refl
-shapes_step name place value f true rest e =
-    subst (λ m. shapes_from (uses f.role Coordinates) (slot_of Coordinates (member_taken place m value f)) (member_taken place m value f).shapes rest
-    ≡ shapes_from (uses f.role Coordinates) f.coordinates f.shapes (Some (record { name_at = place; value = value; faults = judge Coordinates value }))) (same_is Coordinates name e)
-    (shapes_own place value f f.coordinates (uses f.role Coordinates) rest refl refl)
+none_found : (o : Option Slot) (u : Bool) (known : Option TypeValue) (had : Shapes) → had ≡ shapes_from u o known had None
+none_found None u known had = refl
+none_found (Some s) u known had = refl
 
-pub shapes_after : (ms : Members) (f : Shown) → (members_taken ms f).shapes ≡ shapes_from (uses f.role Coordinates) f.coordinates f.shapes (first Coordinates ms)
-shapes_after end_of_object f = none f.coordinates
-  where
-    none : (o : Option Slot) → f.shapes ≡ shapes_from (uses f.role Coordinates) o f.shapes None
-    none None = refl
-    none (Some s) = refl
-shapes_after (member place name end value more) f =
-    shapes_after more (member_taken place (known_of name) value f)
-    ∙ (ap (λ p. shapes_from (uses p Coordinates) (slot_of Coordinates (member_taken place (known_of name) value f)) (member_taken place (known_of name) value f).shapes (first Coordinates more)) (member_object (known_of name) place value f).role
-    ∙ shapes_step (known_of name) place value f (same Coordinates (known_of name)) (first Coordinates more) refl)
+-- after one member
+pub shapes_one : (name : Known) (place : ℕ) (value : Tree) (f : Shown) (b : Bool) → same Coordinates name ≡ b
+    → (member_taken place name value f).shapes
+    ≡ shapes_from (uses f.role Coordinates) f.coordinates f.type_value f.shapes (if b then Some (record { name_at = place; value = value; faults = judge Coordinates value }) else None)
+shapes_one name place value f false e = shapes_other name place value f e ∙ none_found f.coordinates (uses f.role Coordinates) f.type_value f.shapes
+shapes_one name place value f true e =
+    subst (λ m. (member_taken place m value f).shapes
+    ≡ shapes_from (uses f.role Coordinates) f.coordinates f.type_value f.shapes (Some (record { name_at = place; value = value; faults = judge Coordinates value }))) (same_is Coordinates name e)
+    (shapes_own place value f f.coordinates (uses f.role Coordinates) refl refl)
+
+-- a member, and then others: what is asked for in the end is that of the first
+asked_step : (end_type known : Option TypeValue) (u b : Bool) (o : Option Slot) (had : Shapes) (x : First) (rest : Option First) → TypeStays known end_type
+    → asked end_type (shapes_from u (or_slot o (slot_from u (if b then Some x else None))) None (shapes_from u o known had (if b then Some x else None)) rest)
+    ≡ asked end_type (shapes_from u o None had (if b then Some x else rest))
+asked_step t known u true (Some slot) had x rest h = refl
+asked_step t known true true None had x rest h = asked_twice known t (shapes_of x.value) h
+asked_step t known false true None had x rest h = refl
+asked_step t known u false (Some slot) had x rest h = refl
+asked_step t known u false None had x rest h = refl
+
+pub shapes_after : (ms : Members) (f : Shown) → IsTyped f
+    → asked (members_taken ms f).type_value (members_taken ms f).shapes
+    ≡ asked (members_taken ms f).type_value (shapes_from (uses f.role Coordinates) f.coordinates None f.shapes (first Coordinates ms))
+shapes_after end_of_object f h = ap (asked f.type_value) (none_found f.coordinates (uses f.role Coordinates) None f.shapes)
+shapes_after (member place name end value more) f h =
+    let m : Known = known_of name in
+    let g : Shown = member_taken place m value f in
+    let t : Option TypeValue = (members_taken more g).type_value in
+    let u : Bool = uses f.role Coordinates in
+    let x : First = record { name_at = place; value = value; faults = judge Coordinates value } in
+    let found : Option First = if same Coordinates m then Some x else None in
+    shapes_after more g (typed_after place end name value f h)
+    ∙ (ap (λ (p : Role). asked t (shapes_from (uses p Coordinates) g.coordinates None g.shapes (first Coordinates more))) (member_object m place value f).role
+    ∙ (ap (λ (o : Option Slot). asked t (shapes_from u o None g.shapes (first Coordinates more))) (slots_after Coordinates (member place name end value end_of_object) f refl)
+    ∙ (ap (λ (s : Shapes). asked t (shapes_from u (or_slot f.coordinates (slot_from u found)) None s (first Coordinates more))) (shapes_one m place value f (same Coordinates m) refl)
+    ∙ asked_step t f.type_value u (same Coordinates m) f.coordinates f.shapes x (first Coordinates more) (stays_after (member place name end value more) f h))))
 
 -- ---- repeated names
 

@@ -1,5 +1,5 @@
 -- At its close a frame tells what is found in its object.
-use Rattle.std.proofs.Common.{◌≡◌, ℕ, Bool, true, false, if◌then◌else◌, Option, Some, None, refl, ap, ◌∙◌}
+use Rattle.std.proofs.Common.{◌≡◌, ℕ, Bool, true, false, if◌then◌else◌, Option, Some, None, refl, sym, ap, ◌∙◌}
 use Rattle.gj_json.specs.declared.names.Known.{Known}
 use Rattle.gj_json.specs.declared.names.Known.TheVariants.{Coordinates, Geometries, Geometry, Features, Bbox}
 use Rattle.gj_json.specs.declared.names.Word.{Word}
@@ -10,9 +10,9 @@ use Rattle.gj_coords.specs.declared.simple.Simple.{Simple}
 use Rattle.gj_coords.specs.declared.warnings.Warnings.{Warnings}
 use Rattle.gj_coords.specs.Fault.{least}
 use Rattle.gj_coords.specs.Internal.KeptWarnings.{no_warnings, warnings_of, joined, added}
-use Rattle.gj_coords.specs.WarningLaws.{joined_none_first}
+use Rattle.gj_coords.specs.Internal.WarningLaws.{joined_none_first}
 use Rattle.gj_rules.specs.Internal.FrameMeaning.{Found}
-use Rattle.gj_rules.specs.Internal.FrameMeaning.{Frame}
+use Rattle.gj_rules.specs.Internal.FrameMeaning.{Frame, Shapes, Shown}
 use Rattle.gj_rules.specs.declared.role.Role.{Role}
 use Rattle.gj_rules.specs.declared.shown.Slot.{Slot}
 use Rattle.gj_rules.specs.declared.shown.TypeValue.{TypeValue}
@@ -21,12 +21,12 @@ use Rattle.gj_rules.specs.Internal.FrameCalls.{blank, warned_as, warned_by, sett
 use Rattle.gj_rules.specs.Members.{same, first_type}
 use Rattle.gj_rules.specs.Role.{is_allowed}
 use Rattle.gj_rules.specs.Internal.ShownMembers as S
-use Rattle.gj_rules.specs.Internal.Summaries.{no_shapes, warned_for}
+use Rattle.gj_rules.specs.Internal.Summaries.{no_shapes, warned_for, simple_of, asked_as, asked}
 use Rattle.gj_rules.specs.Internal.TextKept.{or_none, and_kept, simple_kept, typed_kept, by_type_kept, kept, first_kept}
 use Rattle.gj_rules.specs.TextWarnings.{crs_warnings, first_value}
 use Rattle.gj_rules.proofs.Objects.GatheredMembers.{gathered_from, gathered_after, own_after}
 use Rattle.gj_rules.proofs.Objects.AllMembers.{shapes_from}
-use Rattle.gj_rules.proofs.Objects.SettledObjects.{shown_for, shown_after, parts_of, closed}
+use Rattle.gj_rules.proofs.Objects.SettledObjects.{shown_with, shown_after, asked_after, parts_of, closed}
 use Rattle.gj_rules.proofs.Objects.JoinedFindings.{members_shown}
 
 -- ---- the value of the first `coordinates`
@@ -50,7 +50,7 @@ abbrev like : Simple → Simple
 like Simple.LineString = Simple.MultiPoint
 like simple = simple
 
-shape_warned : (simple : Simple) (o : Option First) → warned_for simple (shapes_from true None no_shapes o) ≡ simple_kept (like simple) (value_in o)
+shape_warned : (simple : Simple) (o : Option First) → warned_for simple (shapes_from true None None no_shapes o) ≡ simple_kept (like simple) (value_in o)
 shape_warned Simple.Point None = refl
 shape_warned Simple.Point (Some x) = refl
 shape_warned Simple.MultiPoint None = refl
@@ -69,9 +69,9 @@ any_is None = refl
 any_is (Some w) = joined_none_first w
 
 -- the frame that an object leaves, of which the first members have these warnings
-abbrev left : Role → ℕ → Option Slot → FirstMembers → Warnings → Option Warnings → Option Warnings → Option Warnings → Frame
-left role place t p own geometries geometry features = record {
-  shown = shown_for role place t p;
+abbrev left_with : Role → ℕ → Option Slot → Shapes → FirstMembers → Warnings → Option Warnings → Option Warnings → Option Warnings → Frame
+left_with role place t shapes p own geometries geometry features = record {
+  shown = shown_with role place t shapes p;
   gathered = record {
     own = own;
     geometries = gathered_from (S.uses role Geometries) None no_warnings geometries;
@@ -79,6 +79,13 @@ left role place t p own geometries geometry features = record {
     features = gathered_from (S.uses role Features) None no_warnings features;
   };
 }
+
+-- where its type had not come before its coordinates
+abbrev first_shapes : Role → FirstMembers → Shapes
+first_shapes role p = shapes_from (S.uses role Coordinates) None None no_shapes p.coordinates
+
+abbrev left : Role → ℕ → Option Slot → FirstMembers → Warnings → Option Warnings → Option Warnings → Option Warnings → Frame
+left role place t p own geometries geometry features = left_with role place t (first_shapes role p) p own geometries geometry features
 
 typed_is : (role : Role) (word : Word) (place : ℕ) (t : Option Slot) (p : FirstMembers) (own : Warnings) (a b c : Option Warnings)
     → (if is_allowed role word then warned_as word (left role place t p own a b c) else no_warnings)
@@ -111,6 +118,18 @@ by_type_is : (role : Role) (place : ℕ) (t : Option Slot) (p : FirstMembers) (o
 by_type_is role place t p own a b c None = refl
 by_type_is role place t p own a b c (Some value) = typed_is role value.word place t p own a b c
 
+-- only what its type asks for counts
+word_asked : (word : Word) (role : Role) (place : ℕ) (t : Option Slot) (x : Shapes) (p : FirstMembers) (own : Warnings) (a b c : Option Warnings)
+    → warned_as word (left_with role place t x p own a b c) ≡ warned_as word (left_with role place t (asked_as (simple_of word) x) p own a b c)
+word_asked Word.Point role place t x p own a b c = refl
+word_asked _ role place t x p own a b c = refl
+
+warned_asked : (o : Option TypeValue) (role : Role) (place : ℕ) (t : Option Slot) (x : Shapes) (p : FirstMembers) (own : Warnings) (a b c : Option Warnings)
+    → warned_by o (left_with role place t x p own a b c) ≡ warned_by o (left_with role place t (asked o x) p own a b c)
+warned_asked None role place t x p own a b c = refl
+warned_asked (Some value) role place t x p own a b c =
+    ap (λ (w : Warnings). if is_allowed role value.word then w else no_warnings) (word_asked value.word role place t x p own a b c)
+
 -- ---- the object
 
 -- a frame is its fields
@@ -124,7 +143,7 @@ own_kept ms = joined (warnings_of (crs_warnings ms)) (or_none (first_kept Bbox m
 
 left_after : (role : Role) (place : ℕ) (ms : Members)
     → members_taken ms (blank role place)
-    ≡ left role place (S.members_taken ms (S.blank role place)).type_name (parts_of ms) (own_kept ms) (first_kept Geometries ms) (first_kept Geometry ms) (first_kept Features ms)
+    ≡ left_with role place (S.members_taken ms (S.blank role place)).type_name (S.members_taken ms (S.blank role place)).shapes (parts_of ms) (own_kept ms) (first_kept Geometries ms) (first_kept Geometry ms) (first_kept Features ms)
 left_after role place ms =
     let f : Frame = blank role place in
     fields_are (members_taken ms f) _
@@ -144,8 +163,16 @@ all_closed role place close ms =
     let f : (members_taken ms (blank role place)).shown ≡ S.members_taken ms (S.blank role place) = members_shown ms (blank role place) in
     let a : S.settled (members_taken ms (blank role place)).shown ≡ least (faults role (object place ms close)) = ap S.settled f ∙ closed role place close ms in
     let e = left_after role place ms in
+    let s : Shown = S.members_taken ms (S.blank role place) in
+    let geometries = first_kept Geometries ms in
+    let geometry = first_kept Geometry ms in
+    let features = first_kept Features ms in
+    let with_type : warned_by (first_type ms) (left_with role place s.type_name s.shapes p own geometries geometry features) ≡ warned_by (first_type ms) (left role place s.type_name p own geometries geometry features) =
+    warned_asked (first_type ms) role place s.type_name s.shapes p own geometries geometry features
+    ∙ (ap (λ (x : Shapes). warned_by (first_type ms) (left_with role place s.type_name x p own geometries geometry features)) (asked_after role place ms)
+    ∙ sym (warned_asked (first_type ms) role place s.type_name (first_shapes role p) p own geometries geometry features)) in
     let b : (settled (members_taken ms (blank role place))).warned ≡ or_none (kept role (object place ms close)) =
     ap (λ (g : Frame). joined g.gathered.own (warned_by g.shown.type_value g)) e
-    ∙ (ap (joined own) (by_type_is role place (S.members_taken ms (S.blank role place)).type_name p own (first_kept Geometries ms) (first_kept Geometry ms) (first_kept Features ms) (first_type ms))
-    ∙ ap (λ (o : Option Tree). joined own (by_type_kept (first_type ms) role place o (or_none (first_kept Geometries ms)) (or_none (first_kept Geometry ms)) (or_none (first_kept Features ms)))) (value_is Coordinates ms)) in
+    ∙ (ap (joined own) (with_type ∙ by_type_is role place s.type_name p own geometries geometry features (first_type ms))
+    ∙ ap (λ (o : Option Tree). joined own (by_type_kept (first_type ms) role place o (or_none geometries) (or_none geometry) (or_none features))) (value_is Coordinates ms)) in
     λ i. record { fault = a i; warned = b i }

@@ -9,7 +9,7 @@ use Rattle.gj_coords.specs.declared.warnings.Warnings.{Warnings}
 use Rattle.gj_coords.specs.CoordinateWarnings.{warned_if}
 use Rattle.gj_coords.specs.Internal.KeptWarnings.{warnings_of, no_warnings, joined}
 use Rattle.gj_coords.specs.Warnings.{warning_at}
-use Rattle.gj_coords.specs.WarningLaws.{joined_none_first, joined_none_last, joined_assoc, joined_comm, warnings_of_none, warnings_of-append, added_is}
+use Rattle.gj_coords.specs.Internal.WarningLaws.{joined_none_first, joined_none_last, joined_assoc, joined_comm, warnings_of_none, warnings_of-append, added_is}
 use Rattle.gj_rules.specs.Internal.FrameMeaning.{Frame}
 use Rattle.gj_rules.specs.Internal.FrameMeaning.{Gathered}
 use Rattle.gj_rules.specs.declared.role.Role.{Role}

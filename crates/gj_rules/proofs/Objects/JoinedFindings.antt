@@ -7,7 +7,7 @@ use Rattle.gj_json.specs.Tree.{Members, end_of_object, member}
 use Rattle.gj_coords.specs.declared.fault.Fault.{Fault}
 use Rattle.gj_coords.specs.declared.warnings.Warnings.{Warnings}
 use Rattle.gj_coords.specs.Fault.{lesser}
-use Rattle.gj_coords.specs.WarningLaws.{joined_assoc}
+use Rattle.gj_coords.specs.Internal.WarningLaws.{joined_assoc}
 use Rattle.gj_rules.specs.Internal.FrameMeaning.{Frame}
 use Rattle.gj_rules.specs.Internal.FrameMeaning.{Gathered}
 use Rattle.gj_rules.specs.Internal.FrameMeaning.{Shown}

@@ -8,7 +8,7 @@ use Rattle.gj_rules.specs.Internal.FrameMeaning.{Shown}
 use Rattle.gj_coords.specs.Fault.{lesser}
 use Rattle.gj_rules.specs.Internal.ShownMembers.{slot_of, with_slot, joined, joined_to}
 use Rattle.gj_rules.specs.Members.{is_known}
-use Rattle.gj_coords.specs.LeastLaws.{lesser-none, lesser_assoc}
+use Rattle.gj_coords.specs.Internal.LeastLaws.{lesser-none, lesser_assoc}
 
 -- a slot that was set already is what setting it leaves
 pub with_slot-same : (name : Known) (slot : Slot) (f : Shown) → slot_of name f ≡ Some slot → with_slot name slot f ≡ f

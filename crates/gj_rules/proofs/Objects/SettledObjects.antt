@@ -1,5 +1,5 @@
 -- At its close an object has shown its least fault.
-use Rattle.std.proofs.Common.{◌≡◌, ℕ, Bool, true, false, if◌then◌else◌, List, [], ◌++◌, Option, Some, None, is_some, refl, sym, ap, ◌∙◌}
+use Rattle.std.proofs.Common.{◌≡◌, ℕ, Bool, true, false, if◌then◌else◌, List, [], ◌++◌, Option, Some, None, is_some, refl, sym, ap, subst, ◌∙◌}
 use Rattle.gj_json.specs.declared.names.Known.{Known}
 use Rattle.gj_json.specs.declared.names.Known.TheVariants.{TypeName, Coordinates, Geometries, Geometry, Properties, Features, Bbox, Id}
 use Rattle.gj_json.specs.declared.names.Word.{Word}
@@ -19,22 +19,23 @@ use Rattle.gj_rules.specs.Role.{is_allowed}
 use Rattle.gj_coords.specs.declared.simple.Simple.{Simple}
 use Rattle.gj_rules.specs.Faults.{First, FirstMembers, faults}
 use Rattle.gj_rules.specs.Internal.ShownMembers.{members_taken}
-use Rattle.gj_coords.specs.LeastLaws.{least-append}
+use Rattle.gj_coords.specs.Internal.LeastLaws.{least-append}
 use Rattle.gj_rules.proofs.Objects.OneMember.{slot_from}
 use Rattle.gj_rules.proofs.Objects.AllMembers.{members_object, slots_after, type_from, type_after, shapes_from, shapes_after, repeated_after}
 use Rattle.gj_rules.specs.Internal.FrameMeaning.{Shapes}
-use Rattle.gj_rules.specs.Internal.Summaries.{no_shapes, shape_for}
+use Rattle.gj_rules.specs.Internal.Summaries.{no_shapes, shape_for, shape_found, alike, simple_of, asked_as, asked}
+use Rattle.gj_rules.proofs.Objects.AskedShapes.{one_fault}
 use Rattle.gj_coords.specs.Shape.{coordinates_faults}
 use Rattle.gj_rules.specs.Internal.Summaries.{shapes_of}
 
 -- what an object has shown at its end
-abbrev pub shown_for : Role → ℕ → Option Slot → FirstMembers → Shown
-shown_for role place type_name p = record {
+abbrev pub shown_with : Role → ℕ → Option Slot → Shapes → FirstMembers → Shown
+shown_with role place type_name shapes p = record {
   place = place;
   role = role;
   repeated = least p.repeated;
   type_value = p.type_value;
-  shapes = shapes_from (F.uses role Coordinates) None no_shapes p.coordinates;
+  shapes = shapes;
   type_name = type_name;
   coordinates = slot_from (F.uses role Coordinates) p.coordinates;
   geometries = slot_from (F.uses role Geometries) p.geometries;
@@ -44,6 +45,10 @@ shown_for role place type_name p = record {
   bbox = slot_from (F.uses role Bbox) p.bbox;
   id = slot_from (F.uses role Id) p.id;
 }
+
+-- where its type had not come before its coordinates
+abbrev pub shown_for : Role → ℕ → Option Slot → FirstMembers → Shown
+shown_for role place type_name p = shown_with role place type_name (shapes_from (F.uses role Coordinates) None None no_shapes p.coordinates) p
 
 forbidden_is : (u : Bool) (o : Option First) → F.forbidden_slot (slot_from u o) ≡ least (R.forbidden o)
 forbidden_is u None = refl
@@ -96,13 +101,13 @@ shape_is Simple.Polygon v = refl
 shape_is Simple.MultiPolygon v = refl
 
 due_shape_is : (simple : Simple) (place : ℕ) (o : Option First)
-    → F.due_shape simple place (shapes_from true None no_shapes o) (slot_from true o) ≡ least (R.due_coordinates simple place o)
+    → F.due_shape simple place (shapes_from true None None no_shapes o) (slot_from true o) ≡ least (R.due_coordinates simple place o)
 due_shape_is simple place None = refl
 due_shape_is simple place (Some first) = shape_is simple first.value
 
 simple_is : (simple : Simple) (u v w : Bool) (place : ℕ) (p : FirstMembers)
     → lesser (lesser (F.forbidden_slot (slot_from u p.geometry)) (lesser (F.forbidden_slot (slot_from v p.properties)) (F.forbidden_slot (slot_from w p.features))))
-    (F.due_shape simple place (shapes_from true None no_shapes p.coordinates) (slot_from true p.coordinates))
+    (F.due_shape simple place (shapes_from true None None no_shapes p.coordinates) (slot_from true p.coordinates))
     ≡ least (R.as_simple simple place p)
 simple_is simple u v w place p =
     also _ (R.geometry_forbids p) _ _ (geometry_forbids_is u v w p) (due_shape_is simple place p.coordinates)
@@ -217,7 +222,8 @@ kind_is (Some value) = refl
 
 -- what is shown after all members, from its fields
 pub shown_after : (role : Role) (place : ℕ) (members : Members)
-    → members_taken members (F.blank role place) ≡ shown_for role place (members_taken members (F.blank role place)).type_name (parts_of members)
+    → members_taken members (F.blank role place)
+    ≡ shown_with role place (members_taken members (F.blank role place)).type_name (members_taken members (F.blank role place)).shapes (parts_of members)
 shown_after role place members =
     let f : Shown = F.blank role place in
     let same = members_object members f in
@@ -225,7 +231,7 @@ shown_after role place members =
     same.place same.role
     (repeated_after members [] f (record { each = λ n k. ap is_some (none_set role place n) }))
     (type_after members f ∙ kind_is (first_type members))
-    (shapes_after members f)
+    refl
     refl
     (slots_after Coordinates members f refl)
     (slots_after Geometries members f refl)
@@ -235,5 +241,54 @@ shown_after role place members =
     (slots_after Bbox members f refl)
     (slots_after Id members f refl)
 
+-- of the shapes what its type asks for is that of the first coordinates
+pub asked_after : (role : Role) (place : ℕ) (members : Members)
+    → asked (first_type members) (members_taken members (F.blank role place)).shapes
+    ≡ asked (first_type members) (shapes_from (F.uses role Coordinates) None None no_shapes (R.first Coordinates members))
+asked_after role place members =
+    let f : Shown = F.blank role place in
+    subst (λ (t : Option TypeValue). asked t (members_taken members f).shapes ≡ asked t (shapes_from (F.uses role Coordinates) None None no_shapes (R.first Coordinates members)))
+    (type_after members f ∙ kind_is (first_type members)) (shapes_after members f refl)
+
+-- ---- only what its type asks for counts
+
+due_asked : (simple : Simple) (place : ℕ) (x : Shapes) (o : Option Slot) → F.due_shape simple place x o ≡ F.due_shape simple place (alike (shape_found simple x)) o
+due_asked simple place x None = refl
+due_asked simple place x (Some slot) = sym (one_fault simple (shape_found simple x))
+
+simple_asked : (simple : Simple) (role : Role) (place : ℕ) (t : Option Slot) (x : Shapes) (p : FirstMembers)
+    → F.as_simple simple (shown_with role place t x p) ≡ F.as_simple simple (shown_with role place t (alike (shape_found simple x)) p)
+simple_asked simple role place t x p =
+    ap (λ (o : Option Fault). lesser (F.geometry_forbids (shown_with role place t x p)) o) (due_asked simple place x (slot_from (F.uses role Coordinates) p.coordinates))
+
+word_asked : (word : Word) (role : Role) (place : ℕ) (t : Option Slot) (x : Shapes) (p : FirstMembers)
+    → F.as_type word (shown_with role place t x p) ≡ F.as_type word (shown_with role place t (asked_as (simple_of word) x) p)
+word_asked Word.Point role place t x p = simple_asked Simple.Point role place t x p
+word_asked Word.MultiPoint role place t x p = simple_asked Simple.MultiPoint role place t x p
+word_asked Word.LineString role place t x p = simple_asked Simple.LineString role place t x p
+word_asked Word.MultiLineString role place t x p = simple_asked Simple.MultiLineString role place t x p
+word_asked Word.Polygon role place t x p = simple_asked Simple.Polygon role place t x p
+word_asked Word.MultiPolygon role place t x p = simple_asked Simple.MultiPolygon role place t x p
+word_asked _ role place t x p = refl
+
+rest_asked : (o : Option TypeValue) (role : Role) (place : ℕ) (t : Option Slot) (x : Shapes) (p : FirstMembers)
+    → F.rest_by o (shown_with role place t x p) ≡ F.rest_by o (shown_with role place t (asked o x) p)
+rest_asked None role place t x p = refl
+rest_asked (Some value) role place t x p =
+    ap (λ (o : Option Fault). if is_allowed role value.word then o else Some (fault_at value.place G3)) (word_asked value.word role place t x p)
+
+settled_asked : (role : Role) (place : ℕ) (t : Option Slot) (x : Shapes) (p : FirstMembers)
+    → F.settled (shown_with role place t x p) ≡ F.settled (shown_with role place t (asked p.type_value x) p)
+settled_asked role place t x p =
+    ap (λ (o : Option Fault). lesser (least p.repeated) (lesser (F.slot_fault (slot_from (F.uses role Bbox) p.bbox)) o)) (rest_asked p.type_value role place t x p)
+
 pub closed : (role : Role) (place close : ℕ) (members : Members) → F.settled (members_taken members (F.blank role place)) ≡ least (faults role (object place members close))
-closed role place close members = ap F.settled (shown_after role place members) ∙ settled_is role place (members_taken members (F.blank role place)).type_name (parts_of members)
+closed role place close members =
+    let f : Shown = members_taken members (F.blank role place) in
+    let p : FirstMembers = parts_of members in
+    let first : Shapes = shapes_from (F.uses role Coordinates) None None no_shapes p.coordinates in
+    ap F.settled (shown_after role place members)
+    ∙ (settled_asked role place f.type_name f.shapes p
+    ∙ (ap (λ (x : Shapes). F.settled (shown_with role place f.type_name x p)) (asked_after role place members)
+    ∙ (sym (settled_asked role place f.type_name first p)
+    ∙ settled_is role place f.type_name p)))

@@ -4,7 +4,7 @@ use Rattle.std.proofs.Common.{ap, sym, ◌∙◌}
 use Rattle.gj_coords.specs.declared.kind.Kind.{Kind}
 use Rattle.gj_coords.specs.declared.warnings.Warnings.{Warnings}
 use Rattle.gj_coords.specs.Internal.KeptWarnings.{no_warnings, joined, added}
-use Rattle.gj_coords.specs.WarningLaws.{joined_none_first, joined_none_last, joined_assoc, added_is}
+use Rattle.gj_coords.specs.Internal.WarningLaws.{joined_none_first, joined_none_last, joined_assoc, added_is}
 
 -- to none
 pub to_none : (w : Warnings) → joined no_warnings w ≡ w

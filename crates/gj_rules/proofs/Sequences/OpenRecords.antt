@@ -8,7 +8,7 @@ use Rattle.gj_json.specs.Refusal.{Stops, RefusedFor}
 use Rattle.gj_coords.specs.Internal.KeptWarnings.{no_warnings, shifted}
 use Rattle.gj_rules.specs.declared.verdict.Verdict.{Verdict}
 use Rattle.gj_rules.specs.declared.verdict.Verdict.TheVariants.{Valid, Broken, NotJson}
-use Rattle.gj_rules.specs.Places.{IsPlaceIn}
+use Rattle.gj_rules.specs.Internal.ToldPlaces.{TellsPlace}
 use Rattle.gj_rules.specs.Sequence.{separator, last_byte, if_ended, shifted_verdict, own_limits}
 use Rattle.gj_rules.specs.Verdict.{IsVerdict}
 use Rattle.gj_json.specs.declared.reader.Reader.{Reader}
@@ -74,7 +74,7 @@ refused_within Depth limits bytes place h = omega (arith, stop_short limits byte
 refused_within Length limits bytes place h = omega (arith, stop_short limits bytes place h.0)
 refused_within Truncated limits bytes place h = omega (arith, h.0)
 
-pub ended_within : (ended : Bool) (end n place : ℕ) (verdict : Verdict) → end ≤ n → ((p : ℕ) → IsPlaceIn p verdict → p ≤ n) → IsPlaceIn place (if_ended ended end verdict) → place ≤ n
+pub ended_within : (ended : Bool) (end n place : ℕ) (verdict : Verdict) → end ≤ n → ((p : ℕ) → TellsPlace p verdict → p ≤ n) → TellsPlace place (if_ended ended end verdict) → place ≤ n
 ended_within true end n place verdict l h p = h place p
 ended_within false end n place (NotJson fault) l h p = h place p
 ended_within false end n place (Valid w) l h p = omega (arith, p)

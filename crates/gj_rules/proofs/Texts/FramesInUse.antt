@@ -16,7 +16,7 @@ use Rattle.gj_json.specs.Tree.{Tree, constant, number, string, array, object, en
 use Rattle.gj_coords.specs.declared.fault.Fault.{Fault}
 use Rattle.gj_coords.specs.declared.fault.Rule.TheVariants.{G1}
 use Rattle.gj_coords.specs.Fault.{least, fault_at}
-use Rattle.gj_coords.specs.LeastLaws.{least-append}
+use Rattle.gj_coords.specs.Internal.LeastLaws.{least-append}
 use Rattle.gj_coords.specs.declared.warnings.Warnings.{Warnings}
 use Rattle.gj_rules.specs.Internal.FrameMeaning.{Found}
 use Rattle.gj_rules.specs.Internal.FrameMeaning.{Frame}

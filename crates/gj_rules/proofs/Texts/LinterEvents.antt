@@ -106,7 +106,7 @@ text_verdict limits bytes text a None w e f = (text, a, none_least (text_faults 
 text_verdict limits bytes text a (Some fault) w e f = (text, a, sym e)
 
 -- without that of a byte order mark
-fewer_of_value : (text : Text) → length (value_events text.value) ≤ length (all_events text)
+pub fewer_of_value : (text : Text) → length (value_events text.value) ≤ length (all_events text)
 fewer_of_value text =
     rw (length-map (text_events text) (λ x. x.event), length-map (events text.value) (λ x. x.event), length-append (mark_events text.marked) (events text.value)) (omega arith)
 

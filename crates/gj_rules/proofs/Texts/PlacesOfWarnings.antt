@@ -1,5 +1,5 @@
 -- The places that the warnings of a text tell are places of it.
-use Rattle.std.proofs.Common.{◌≡◌, ℕ, ◌≤◌, ◌==◌, Bool, true, false, not, ◌&&◌, if◌then◌else◌, nat_lt, List, [], ◌∷◌, length, take, Option, Some, None, unwrap_or, refl, ap, ◌∙◌, arith}
+use Rattle.std.proofs.Common.{◌≡◌, ℕ, ◌≤◌, ◌==◌, Bool, true, false, not, ◌&&◌, if◌then◌else◌, nat_lt, List, [], ◌∷◌, length, take, Option, Some, None, unwrap_or, refl, ap, sym, ◌∙◌, arith}
 use Rattle.std.specs.List.{AllByRecursion, flat_map}
 use Rattle.gj_json.specs.declared.names.Known.{Known}
 use Rattle.gj_json.specs.declared.names.Known.TheVariants.{TypeName, Coordinates, Geometries, Geometry, Properties, Features, Bbox, Id, Crs, Other}
@@ -9,16 +9,12 @@ use Rattle.gj_json.specs.Text.{IsText}
 use Rattle.gj_json.specs.Tree.{Tree, constant, number, string, array, object, Elements, end_of_array, element, Members, end_of_object, member, Text}
 use Rattle.gj_coords.specs.declared.kind.Kind.{Kind}
 use Rattle.gj_coords.specs.declared.kind.Kind.TheVariants.{W1, W2, W3, W4, W5, W8, W9}
-use Rattle.gj_coords.specs.declared.noted.Noted.{Noted}
 use Rattle.gj_coords.specs.declared.simple.Simple.{Simple}
-use Rattle.gj_coords.specs.declared.warnings.Warnings.{Warnings}
 use Rattle.gj_coords.specs.Items.{elements_of, place_of}
 use Rattle.gj_coords.specs.BoxWarnings.{south_above_north, bbox_warnings}
 use Rattle.gj_coords.specs.CoordinateWarnings.{Concern, warned_if, is_sound, each, is_precise, number_warnings, sound_position_warnings, position_warnings, exterior_warnings, hole_warnings, rings_warnings, polygon_warnings, concern_of, or_empty_warning, coordinates_warnings}
-use Rattle.gj_coords.specs.Internal.KeptWarnings.{noted_of, kept, warnings_of, first_in}
 use Rattle.gj_coords.specs.Ring.{exact_value}
 use Rattle.gj_coords.specs.Shape.{position, ring}
-use Rattle.gj_coords.specs.WarningLaws.{kept_by_kind}
 use Rattle.gj_coords.specs.Warnings.{Warning, same_kind, places_of, least_place, lesser_place, first_of}
 use Rattle.gj_coords.specs.Winding.{in_range, exterior_runs_wrong, hole_runs_wrong}
 use Rattle.gj_rules.specs.declared.role.Role.{Role}
@@ -218,18 +214,10 @@ least_in : (n : ℕ) (places : List ℕ) → PlacesIn n places → unwrap_or (le
 least_in n [] h = omega arith
 least_in n (x ∷ xs) h = lesser_in n x (least_place xs) h.0 (least_in n xs h.1)
 
-some_first : (b : Bool) (first place : ℕ) → (if b then None else Some first) ≡ Some place → place ≡ first
-some_first true first place e = cc
-some_first false first place e = cc
-
-first_noted : (kind : Kind) (warnings : List Warning) (w : Warnings) → w ≡ warnings_of warnings → (kept w kind).first ≡ unwrap_or (first_of kind warnings) 0
-unfolding warnings_of
-first_noted kind warnings w e = ap (λ x. (kept x kind).first) e ∙ ap (λ (x : Noted). x.first) (kept_by_kind (λ k. noted_of k warnings) kind)
-
-pub warnings_within : (text : Text) (bytes : List ℕ) (w : Warnings) (kind : Kind) (place : ℕ) → IsText text bytes → w ≡ warnings_of (TextWarnings.text_warnings text)
-    → first_in kind w ≡ Some place → place ≤ length bytes
-warnings_within text bytes w kind place t e f =
-    let same : place ≡ (kept w kind).first = some_first ((kept w kind).count == 0) (kept w kind).first place f in
-    let first = first_noted kind (TextWarnings.text_warnings text) w e in
+pub warnings_within : (text : Text) (bytes : List ℕ) (warnings : List Warning) (kind : Kind) (place : ℕ) → IsText text bytes → warnings ≡ TextWarnings.text_warnings text
+    → first_of kind warnings ≡ Some place → place ≤ length bytes
+warnings_within text bytes warnings kind place t e f =
+    let first : first_of kind (TextWarnings.text_warnings text) ≡ Some place = ap (first_of kind) (sym e) ∙ f in
+    let there : unwrap_or (first_of kind (TextWarnings.text_warnings text)) 0 ≡ place = ap (λ o. unwrap_or o 0) first in
     let least = least_in (length bytes) (places_of kind (TextWarnings.text_warnings text)) (places_in (length bytes) kind (TextWarnings.text_warnings text) (text_in text bytes t)) in
-    omega (arith, same, first, least)
+    omega (arith, there, least)

@@ -32,7 +32,7 @@ use Rattle.gj_rules.specs.Members.{is_known}
 use Rattle.gj_rules.specs.Internal.RulesState.{HasRoom}
 use Rattle.gj_rules.specs.Internal.EventSteps.{Feed, idle, due_feed, feed_behind, State, step, run, start, member_of, mode_behind}
 use Rattle.gj_rules.specs.Internal.LabelledEvents.{Told, plain, event_of, told, elements_told, members_told, mark_told, text_told}
-use Rattle.gj_coords.specs.LeastLaws.{least-append}
+use Rattle.gj_coords.specs.Internal.LeastLaws.{least-append}
 use Rattle.gj_rules.proofs.Objects.JoinedFindings.{taken_none, taken_twice, members_shown}
 use Rattle.gj_rules.proofs.Objects.AllMembers.{named_object, member_object, members_object}
 use Rattle.gj_rules.proofs.Objects.ClosedFrames.{all_closed}

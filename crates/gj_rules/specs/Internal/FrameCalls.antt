@@ -1,5 +1,5 @@
 -- What the calls of a frame do to it.
-use Rattle.std.specs.Prelude.{ℕ, if◌then◌else◌, Option, Some, None}
+use Rattle.std.specs.Prelude.{ℕ, Bool, true, false, if◌then◌else◌, Option, Some, None}
 use Rattle.gj_json.specs.declared.names.Known.{Known}
 use Rattle.gj_json.specs.declared.names.Word.{Word}
 use Rattle.gj_json.specs.Names.{known_of}
@@ -65,6 +65,10 @@ members_taken (member place name end value more) frame = members_taken more (mem
 
 -- ---- at the close
 
+abbrev pub is_collection : Word → Bool
+is_collection Word.GeometryCollection = true
+is_collection _ = false
+
 -- as a GeometryCollection
 abbrev pub collected : Role → ℕ → Warnings → Warnings
 collected Role.Part place geometries = added geometries W7 place
@@ -85,6 +89,11 @@ warned_as Word.Other f = no_warnings
 abbrev pub warned_by : Option TypeValue → Frame → Warnings
 warned_by None f = no_warnings
 warned_by (Some value) f = if is_allowed f.shown.role value.word then warned_as value.word f else no_warnings
+
+-- a GeometryCollection that is one of another's geometries
+abbrev pub is_nested : Role → Option TypeValue → Bool
+is_nested Role.Part (Some value) = is_collection value.word
+is_nested _ _ = false
 
 abbrev pub settled : Frame → Found
 settled f = record { fault = Shown.settled f.shown; warned = Noted.joined f.gathered.own (warned_by f.shown.type_value f) }

@@ -17,9 +17,10 @@ use Rattle.gj_rules.specs.declared.lazy_warned.LazyWarned.{LazyWarned}
 use Rattle.gj_rules.specs.declared.shapes.Shapes as DS
 use Rattle.gj_rules.specs.declared.shown.Shown as DW
 use Rattle.gj_rules.specs.declared.shown.Present.{Present}
+use Rattle.gj_rules.specs.declared.shown.Shaped.{Shaped}
 use Rattle.gj_rules.specs.declared.shown.Slot.{Slot}
 use Rattle.gj_rules.specs.Internal.FrameMeaning.{Found, Shapes, Shown, Gathered, Frame}
-use Rattle.gj_rules.specs.Internal.Summaries.{no_shapes}
+use Rattle.gj_rules.specs.Internal.Summaries.{no_shapes, alike}
 
 abbrev pub found_in : D.Found → Found
 found_in x = record { fault = x.fault; warned = all_in x.warned }
@@ -46,10 +47,15 @@ warned_in x Simple.MultiPolygon = all_in x.multi_polygon
 abbrev pub shapes_in : DS.Shapes → Shapes
 shapes_in x = shapes_by x.faults (warned_in x)
 
+-- what is found for one type alone
+abbrev pub one_in : DS.Shapes → Found
+one_in x = record { fault = x.faults.point; warned = all_in x.point }
+
 -- those that were set
-abbrev pub shapes_if : Bool → DS.Shapes → Shapes
-shapes_if true shapes = shapes_in shapes
-shapes_if false shapes = no_shapes
+abbrev pub shapes_if : Shaped → DS.Shapes → Shapes
+shapes_if Shaped.No shapes = no_shapes
+shapes_if Shaped.One shapes = alike (one_in shapes)
+shapes_if Shaped.Each shapes = shapes_in shapes
 
 abbrev pub none_present : Present
 none_present = record { type_name = false; coordinates = false; geometries = false; geometry = false; properties = false; features = false; bbox = false; id = false }

@@ -14,6 +14,7 @@ use Rattle.gj_rules.specs.Internal.FrameReading.{frame_in, found_in, none_presen
 use Rattle.gj_rules.specs.declared.mode.Mode.{Mode}
 use Rattle.gj_rules.specs.declared.mode.Mode.TheVariants.{RootDue, Due, Done}
 use Rattle.gj_rules.specs.declared.role.Role.{Role}
+use Rattle.gj_rules.specs.declared.shown.Shaped.{Shaped}
 use Rattle.gj_rules.specs.declared.rules.Rules.{Rules}
 use Rattle.gj_rules.specs.declared.rules.TheConstants.{MOST_AROUND}
 use Rattle.gj_coords.specs.SimpleFaults.{by_simple}
@@ -37,7 +38,7 @@ no_frame = record {
       polygon = no_warned;
       multi_polygon = no_warned;
     };
-    shaped = false;
+    shaped = Shaped.No;
     present = none_present;
     type_name = record { name_at = 0; fault = None };
     coordinates = record { name_at = 0; fault = None };

@@ -19,7 +19,7 @@ use Rattle.gj_coords.specs.Items.{place_of}
 use Rattle.gj_rules.specs.Members.{is_known, type_of}
 use Rattle.gj_rules.specs.Role.{is_allowed}
 use Rattle.gj_rules.specs.Faults.{judge}
-use Rattle.gj_rules.specs.Internal.Summaries.{no_shapes, shape_for, shapes_of}
+use Rattle.gj_rules.specs.Internal.Summaries.{no_shapes, shape_for, shapes_of, asked}
 
 abbrev pub blank : Role → ℕ → Shown
 blank role place = record {
@@ -127,7 +127,7 @@ shapes_set shapes shown = record shown { shapes = shapes }
 -- the value of the first member of a name
 abbrev pub filled : Known → Tree → Shown → Shown
 filled TypeName value shown = type_set (place_of value) (type_of value) shown
-filled Coordinates value shown = shapes_set (shapes_of value) shown
+filled Coordinates value shown = shapes_set (asked shown.type_value (shapes_of value)) shown
 filled name value shown = joined name (least (judge name value)) shown
 
 abbrev pub member_taken : ℕ → Known → Tree → Shown → Shown

@@ -1,7 +1,8 @@
 -- What the summaries of a `coordinates` and of a `bbox` stand for, and what is read off the first.
-use Rattle.std.specs.Prelude.{List, Option, None}
+use Rattle.std.specs.Prelude.{List, Option, Some, None}
 use Rattle.gj_json.specs.declared.event.Event.{Event}
 use Rattle.gj_json.specs.Tree.{Tree}
+use Rattle.gj_json.specs.declared.names.Word.{Word}
 use Rattle.gj_coords.specs.declared.coordinates.Coordinates.{Coordinates}
 use Rattle.gj_coords.specs.declared.bbox.Bbox.{Bbox}
 use Rattle.gj_coords.specs.declared.fault.Fault.{Fault}
@@ -13,6 +14,7 @@ use Rattle.gj_coords.specs.Bbox as TheBbox
 use Rattle.gj_coords.specs.declared.warnings.Warnings.{Warnings}
 use Rattle.gj_coords.specs.Internal.KeptWarnings.{no_warnings}
 use Rattle.gj_coords.specs.Internal.CoordinatesKept.{coordinates_kept}
+use Rattle.gj_rules.specs.declared.shown.TypeValue.{TypeValue}
 use Rattle.gj_rules.specs.Internal.FrameMeaning.{Found}
 use Rattle.gj_rules.specs.Internal.FrameMeaning.{Shapes}
 
@@ -59,3 +61,31 @@ shapes_of value = record {
   polygon = found_as Simple.Polygon value;
   multi_polygon = found_as Simple.MultiPolygon value;
 }
+
+-- ---- where the type is known
+
+abbrev pub shape_found : Simple → Shapes → Found
+shape_found simple shapes = record { fault = shape_for simple shapes; warned = warned_for simple shapes }
+
+-- the same for each type
+abbrev pub alike : Found → Shapes
+alike found = record { point = found; multi_point = found; line_string = found.fault; multi_line_string = found; polygon = found; multi_polygon = found }
+
+-- as which an object of a type has its coordinates, where it has some
+abbrev pub simple_of : Word → Option Simple
+simple_of Word.Point = Some Simple.Point
+simple_of Word.MultiPoint = Some Simple.MultiPoint
+simple_of Word.LineString = Some Simple.LineString
+simple_of Word.MultiLineString = Some Simple.MultiLineString
+simple_of Word.Polygon = Some Simple.Polygon
+simple_of Word.MultiPolygon = Some Simple.MultiPolygon
+simple_of _ = None
+
+abbrev pub asked_as : Option Simple → Shapes → Shapes
+asked_as None shapes = no_shapes
+asked_as (Some simple) shapes = alike (shape_found simple shapes)
+
+-- what an object asks for whose first type is this: that for one type alone, and before its type has come that for each
+abbrev pub asked : Option TypeValue → Shapes → Shapes
+asked None shapes = shapes
+asked (Some value) shapes = asked_as (simple_of value.word) shapes

@@ -1,5 +1,5 @@
 //! What an object with a role comes to at its close.
-ghost use Rattle.std.specs.Prelude.{◌≡◌};
+ghost use Rattle.std.specs.Prelude.{◌≡◌, IsTrue};
 
 use super::Frame;
 use crate::found::Found;
@@ -12,6 +12,7 @@ impl Frame {
     ghost use Rattle.gj_coords.specs.Internal.GatheredWarnings.{all_in};
     ghost use Rattle.gj_rules.specs.Internal.FrameReading.{frame_in, found_in, counted_in};
     ghost use Rattle.gj_rules.specs.Internal.FrameCalls.{collected, warned_as, warned_by, settled};
+    ghost use Rattle.gj_rules.specs.Internal.Summaries.{none_found};
 
     /// Adds those of a GeometryCollection: of its geometries, and that it is one of another's (RFC 7946, section 3.1.8).
     #[tactic(auto, using(crate::proofs::Objects::WarningsInTurn::and_one))]
@@ -54,6 +55,15 @@ impl Frame {
                 self.warn_as(value.word, warned);
             }
         }
+    }
+
+    /// Whether a few looks show that nothing is found in the object, as mostly nothing is.
+    #[inline]
+    pub fn is_clean(&self) -> bool
+        ensures { IsTrue result → settled (frame_in self.now) ≡ none_found }
+    {
+        self.gathered.is_nothing()
+            && (self.shown.is_unwarned() && (!self.shown.is_nested() && self.shown.is_sound()))
     }
 
     /// Sets what is found in the object, at its close.

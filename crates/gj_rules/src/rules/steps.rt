@@ -1,5 +1,5 @@
 //! What an event does that goes to no summary.
-ghost use Rattle.std.specs.Prelude.{◌≡◌, ◌<◌, [], length, false};
+ghost use Rattle.std.specs.Prelude.{◌≡◌, ◌<◌, [], length, false, IsTrue};
 ghost use Rattle.gj_json.specs.declared.event.What.TheVariants as W;
 
 use super::{MOST_AROUND, Rules};
@@ -12,6 +12,7 @@ use gj_json::{Known, What};
 
 impl Rules {
     ghost use Rattle.gj_rules.specs.Internal.FrameCalls.{settled};
+    ghost use Rattle.gj_rules.specs.Internal.Summaries.{none_found};
     ghost use Rattle.gj_rules.specs.Internal.EventSteps.{skip, pushed, popped, root_step, names_step, due_step, begun, element_step, is_feeding};
     ghost use Rattle.gj_rules.specs.Internal.RulesState.{core_of, HasRoom, Holds};
     ghost use Rattle.gj_rules.specs.Levels.{most_skipped};
@@ -32,6 +33,43 @@ impl Rules {
     /// The innermost object with a role closes.
     #[inline(never)]
     fn pop(&mut self)
+        ensures rests { is_feeding 0 self.new.mode ≡ false }
+        ensures core { core_of self.new ≡ popped (core_of self.old).outer (core_of self.old).top.shown.role (settled (core_of self.old).top) (core_of self.old) }
+    {
+        if self.is_top_clean() {
+            self.pop_clean();
+        } else {
+            self.pop_found();
+        }
+    }
+
+    /// Whether a few looks show that nothing is found in it.
+    #[inline]
+    fn is_top_clean(&self) -> bool
+        ensures { IsTrue result → settled (core_of self.now).top ≡ none_found }
+    {
+        self.frames[self.around as usize].is_clean()
+    }
+
+    /// It closes, and nothing is found in it: then nothing changes in the object around it.
+    #[tactic(auto, using(crate::proofs::Objects::WarningsInTurn::with_none))]
+    #[inline]
+    fn pop_clean(&mut self)
+        ensures rests { is_feeding 0 self.new.mode ≡ false }
+        ensures core { core_of self.new ≡ popped (core_of self.old).outer (core_of self.old).top.shown.role none_found (core_of self.old) }
+    {
+        let role = self.role();
+        if self.around > 0 {
+            self.around -= 1;
+            self.mode = Mode::behind(role);
+        } else {
+            self.mode = Mode::Done;
+            self.answer.fault = None;
+        }
+    }
+
+    #[inline(never)]
+    fn pop_found(&mut self)
         ensures rests { is_feeding 0 self.new.mode ≡ false }
         ensures core { core_of self.new ≡ popped (core_of self.old).outer (core_of self.old).top.shown.role (settled (core_of self.old).top) (core_of self.old) }
     {

@@ -1,7 +1,7 @@
 //! The verdict of a text sequence, and a record's verdict as it counts in the input.
 ghost use Rattle.std.specs.Prelude.{◌≡◌, ℕ, ◌+◌, ◌≤◌, ◌^◌, List};
 ghost use Rattle.gj_json.specs.Limits.{Allowed};
-ghost use Rattle.gj_rules.specs.Places.{IsPlaceIn};
+ghost use Rattle.gj_rules.specs.Internal.ToldPlaces.{TellsPlace};
 
 use crate::verdict::{Verdict, one_verdict};
 use gj_coords::{Fault, Warnings};
@@ -17,14 +17,16 @@ pub enum SeqVerdict {
     Record { number: u64, verdict: Verdict },
 }
 
-ghost use Rattle.gj_rules.specs.Sequence.{if_ended, shifted_verdict, valid_warnings, IsSequenceVerdict};
+ghost use Rattle.gj_rules.specs.Sequence.{if_ended, shifted_verdict, valid_warnings, SequenceJudgement, SequenceSays, IsSequenceVerdict};
 
-/// Under any limits each input has one verdict as a sequence, and no other. It does nothing: its
-/// contract is a law of the definitions.
+/// Under any limits each input has one verdict as a sequence, and no other, and its warnings are those of a list. It does
+/// nothing: its contract is a law of the definitions.
 pub fn one_sequence_verdict()
     ensures some { (limits : Allowed) (bytes : List ℕ) → (verdict : SeqVerdict) × IsSequenceVerdict limits bytes verdict }
     ensures one { (limits : Allowed) (bytes : List ℕ) (first second : SeqVerdict) → IsSequenceVerdict limits bytes first →
         IsSequenceVerdict limits bytes second → first ≡ second }
+    ensures said { (limits : Allowed) (bytes : List ℕ) (verdict : SeqVerdict) → IsSequenceVerdict limits bytes verdict →
+        (judgement : SequenceJudgement) × SequenceSays verdict judgement }
 {
     one_verdict();
 }
@@ -46,7 +48,7 @@ pub fn if_ended(verdict: Verdict, ended: bool, end: u64) -> Verdict
 
 /// The verdict with each place so many bytes further on.
 pub fn shifted(verdict: Verdict, by: u64) -> Verdict
-    requires { (place : ℕ) → IsPlaceIn place verdict → place + by ≤ 2 ^ 61 }
+    requires { (place : ℕ) → TellsPlace place verdict → place + by ≤ 2 ^ 61 }
     ensures { result ≡ shifted_verdict by verdict }
 {
     match verdict {

@@ -1,7 +1,7 @@
 //! What an object with a role comes to at its close.
 ghost use Rattle.std.specs.Prelude.{◌≡◌};
 
-use super::{Shown, Slot};
+use super::{Shaped, Shown, Slot};
 use gj_coords::{Fault, Rule, Simple, Warned, lesser_fault};
 use gj_json::{Known, Word};
 
@@ -25,24 +25,26 @@ impl Shown {
     }
 
     /// The fault of the first `coordinates` for one type.
-    #[tactic(auto, using(crate::proofs::Objects::NoShapes::no_fault))]
+    #[tactic(auto, using(crate::proofs::Objects::AskedShapes::no_fault, crate::proofs::Objects::AskedShapes::one_fault))]
     pub(super) fn shape_fault(&self, simple: Simple) -> Option<Fault>
         ensures { result ≡ shape_for simple (shown_in self.now).shapes }
     {
-        if self.shaped {
-            self.shapes.fault(simple)
-        } else {
-            None
+        match self.shaped {
+            Shaped::One => self.shapes.faults.point,
+            Shaped::Each => self.shapes.fault(simple),
+            Shaped::No => None,
         }
     }
 
     /// Adds its warnings for one type.
-    #[tactic(auto, using(crate::proofs::Objects::NoShapes::no_warnings_more))]
+    #[tactic(auto, using(crate::proofs::Objects::AskedShapes::no_warnings_more, crate::proofs::Objects::AskedShapes::one_warned))]
     pub fn warn_shape(&self, simple: Simple, warned: &mut Warned)
         ensures { all_in warned.new ≡ joined (all_in warned.old) (warned_for simple (shown_in self.now).shapes) }
     {
-        if self.shaped {
-            warned.take(self.shapes.warned(simple));
+        match self.shaped {
+            Shaped::One => warned.take(&self.shapes.point),
+            Shaped::Each => warned.take(self.shapes.warned(simple)),
+            Shaped::No => {}
         }
     }
 

@@ -1,13 +1,18 @@
 //! Whether a few looks show that nothing is wrong with an object with a role, as mostly nothing is.
 ghost use Rattle.std.specs.Prelude.{◌≡◌, IsTrue, None};
 
-use super::Shown;
+use super::{Shaped, Shown};
+use crate::role::Role;
 use gj_coords::Simple;
 use gj_json::Word;
 
 impl Shown {
     ghost use Rattle.gj_rules.specs.Internal.FrameReading.{shown_in};
     ghost use Rattle.gj_rules.specs.Internal.ShownMembers.{settled, as_type, as_simple, as_collection, as_feature};
+    ghost use Rattle.gj_coords.specs.declared.simple.Simple.{Simple};
+    ghost use Rattle.gj_coords.specs.Internal.KeptWarnings.{no_warnings};
+    ghost use Rattle.gj_rules.specs.Internal.Summaries.{warned_for};
+    ghost use Rattle.gj_rules.specs.Internal.FrameCalls.{is_nested};
 
     /// Whether it has the members of a geometry with coordinates, and nothing is wrong with any.
     fn is_sound_simple(&self, simple: Simple) -> bool
@@ -65,7 +70,7 @@ impl Shown {
     }
 
     /// Whether a few looks show that nothing is wrong with the object, as mostly nothing is.
-    pub(super) fn is_sound(&self) -> bool
+    pub fn is_sound(&self) -> bool
         ensures { IsTrue result → settled (shown_in self.now) ≡ None }
     {
         if self.repeated.is_some() || self.present.bbox {
@@ -74,6 +79,28 @@ impl Shown {
         match self.type_value {
             Some(value) => self.role.allows(value.word) && self.is_sound_as(value.word),
             None => false,
+        }
+    }
+
+    /// Whether a look shows that its coordinates give no warning, whatever the type.
+    #[tactic(auto, using(crate::proofs::Objects::AskedShapes::no_warnings_for, crate::proofs::Objects::AskedShapes::one_warned))]
+    pub fn is_unwarned(&self) -> bool
+        ensures { IsTrue result → (simple : Simple) → warned_for simple (shown_in self.now).shapes ≡ no_warnings }
+    {
+        match self.shaped {
+            Shaped::No => true,
+            Shaped::One => self.shapes.point.is_nothing(),
+            Shaped::Each => false,
+        }
+    }
+
+    /// Whether it is a GeometryCollection of another's geometries.
+    pub fn is_nested(&self) -> bool
+        ensures { result ≡ is_nested self.now.role self.now.type_value }
+    {
+        match (self.role, self.type_value) {
+            (Role::Part, Some(value)) => value.word == Word::GeometryCollection,
+            _ => false,
         }
     }
 }

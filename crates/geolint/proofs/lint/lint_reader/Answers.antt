@@ -2,8 +2,9 @@ use Rattle.std.proofs.Common.{rules, refl, arith, [], ℕ, ◌++◌, ◌+◌, �
 use Rattle.std.proofs.lemmas.List.{length-take-le}
 use Rattle.std.proofs.KnownBytes.{Consumes-nil, Consumes-trans}
 use Rattle.gj_json.specs.Limits.{Allowed}
-use Rattle.gj_rules.specs.Verdict.{IsVerdict}
-use Rattle.geolint.proofs.ReadVerdicts.{Judges-end, Judges-lasting, Consumes-none, IsVerdict-of_refusal, given_more}
+use Rattle.gj_rules.specs.Internal.JudgementLaws.{said}
+use Rattle.gj_rules.specs.Verdict.{refused, IsJudgement, IsVerdict}
+use Rattle.geolint.proofs.ReadVerdicts.{Judges-end, Judges-lasting, Consumes-none, IsJudgement-of_refusal, given_more}
 use Rattle.gj_rules.specs.Linter.{limits_of}
 use Rattle.geolint.proofs.lint.lint_reader.Goals as goal
 
@@ -14,16 +15,20 @@ returns-in-Ok-eq0-clause-verdict g c =
     let bytes = c.in-Ok-eq0.ensures.bytes in
     let room : 0 < length c.read_piece.new.piece = search rules in
     let verdict = subst (λ (limits : Allowed). IsVerdict limits read c.finish_and_begin.result) c.loop-linter.invariant.limits (c.finish_and_begin.ensures.verdict read stands) in
-    Judges-end IsVerdict _ _ _ read _ (Consumes-none _ _ _ read c.read_piece.new.piece c.in-Ok-eq0.field-0 none took bytes.0) (bytes.1 none room) verdict
+    let (judgement, is, says) = said c.args.limits read c.finish_and_begin.result verdict in
+    (judgement, says, Judges-end IsJudgement _ _ _ read judgement (Consumes-none _ _ _ read c.read_piece.new.piece c.in-Ok-eq0.field-0 none took bytes.0) (bytes.1 none room) is)
 
 pub returns-in-Refused-clause-verdict : goal.returns-in-Refused-clause-verdict
 returns-in-Refused-clause-verdict g c =
     let (read, took, count, stands) = c.loop-linter.invariant.read in
     let piece = take c.in-Ok.count c.read_piece.new.piece in
     let fed = Consumes-trans _ _ _ read piece took c.in-Ok.ensures.bytes.0 in
-    let refused = rw (c.in-Refused.is) at (c.feed.ensures.answer read stands) in
-    Judges-lasting IsVerdict _ _ _ (read ++ piece) _ fed
-    (IsVerdict-of_refusal (limits_of c.loop-linter.linter) c.args.limits (read ++ piece) c.in-Refused.fault c.loop-linter.invariant.limits refused)
+    let is = rw (c.in-Refused.is) at (c.feed.ensures.answer read stands) in (
+      refused c.in-Refused.fault,
+      refl,
+      Judges-lasting IsJudgement _ _ _ (read ++ piece) _ fed
+          (IsJudgement-of_refusal (limits_of c.loop-linter.linter) c.args.limits (read ++ piece) c.in-Refused.fault c.loop-linter.invariant.limits is),
+    )
 
 -- the input is no longer than allowed with the bytes of this read
 within : (g : _) (c : goal.In-Open g) → c.loop-linter.offset + c.in-Ok.count ≤ c.args.limits.bytes

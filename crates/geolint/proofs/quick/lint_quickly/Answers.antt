@@ -9,9 +9,9 @@ use Rattle.gj_rules.specs.Verdict.{IsVerdict}
 use Rattle.gj_rules.specs.Verdict.{NeverValid}
 use Rattle.gj_rules.specs.Doomed.{BeginNoGeoJson}
 use Rattle.gj_coords.specs.declared.warnings.Warnings.{Warnings}
-use Rattle.geolint.specs.Quick.{JudgesQuickly, ShowNoFault}
+use Rattle.geolint.specs.Quick.{ShowNoFault}
 use Rattle.geolint.proofs.ReadVerdicts.{Consumes-none, given_more}
-use Rattle.geolint.proofs.QuickReadings.{quick-end, quick-lasting, refused_never, stops, one_read}
+use Rattle.geolint.proofs.QuickReadings.{QuicklySays, quick-end, quick-lasting, refused_never, stops, one_read}
 use Rattle.gj_rules.specs.Linter.{StandsFor, limits_of}
 use Rattle.geolint.proofs.quick.lint_quickly.Goals as goal
 
@@ -22,7 +22,7 @@ returns-in-Ok-eq0-clause-valid g c =
     let bytes = c.in-Ok-eq0.ensures.bytes in
     let room : 0 < length c.read_piece.new.piece = search rules in
     let verdict = subst (λ (limits : Allowed). IsVerdict limits read c.finish_and_begin.result) c.loop-linter.invariant.limits (c.finish_and_begin.ensures.verdict read stands) in
-    subst (λ (valid : Option Warnings). JudgesQuickly c.args.limits (g.S.Source.remaining c.args.reader.now) (g.S.Source.remaining c.read_piece.new.self) valid) (sym c.valid_in.ensures)
+    subst (QuicklySays c.args.limits (g.S.Source.remaining c.args.reader.now) (g.S.Source.remaining c.read_piece.new.self)) (sym c.valid_in.ensures)
     (quick-end c.one_verdict.ensures.one _ _ _ read _ (Consumes-none _ _ _ read c.read_piece.new.piece c.in-Ok-eq0.field-0 none took bytes.0) (bytes.1 none room) verdict)
 
 pub returns-in-Refused-clause-valid : goal.returns-in-Refused-clause-valid

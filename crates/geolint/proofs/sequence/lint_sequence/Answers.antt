@@ -27,6 +27,18 @@ returns-in-Decided-clause-verdict g c =
     Judges-settled c.one_sequence_verdict.ensures.one (limits_of c.loop-sequence.sequence) c.args.limits _ _ (read ++ piece) _ fed c.loop-sequence.invariant.limits settled
     (subst (λ (limits : Allowed). IsSequenceVerdict limits (read ++ piece) c.finish-in-Decided.result) c.feed.ensures.limits is)
 
+pub returns-in-Ok-eq0-clause-said : goal.returns-in-Ok-eq0-clause-said
+returns-in-Ok-eq0-clause-said g c =
+    let (read, took, count, stands) = c.loop-sequence.invariant.read in
+    c.one_sequence_verdict.ensures.said (limits_of c.loop-sequence.sequence) read c.finish.result (c.finish.ensures read stands)
+
+pub returns-in-Decided-clause-said : goal.returns-in-Decided-clause-said
+returns-in-Decided-clause-said g c =
+    let (read, took, count, stands) = c.loop-sequence.invariant.read in
+    let piece = take c.in-Ok.count c.read_piece.new.piece in
+    c.one_sequence_verdict.ensures.said (limits_of c.feed.new.self) (read ++ piece) c.finish-in-Decided.result
+    (c.finish-in-Decided.ensures (read ++ piece) (c.feed.ensures.stands read stands))
+
 -- the input is no longer than allowed with the bytes of this read
 within : (g : _) (c : goal.In-Open g) → c.loop-sequence.offset + c.in-Ok.count ≤ c.args.limits.bytes
 within g c =

@@ -1,4 +1,4 @@
-use Rattle.gj_coords.specs.LeastLaws.{lesser_assoc, least-append}
+use Rattle.gj_coords.specs.Internal.LeastLaws.{lesser_assoc, least-append}
 use Rattle.gj_coords.proofs.Readers.LeastOfSome.{least_none, least_is_one, least_is_first}
 use Rattle.gj_coords.proofs.laws.least_fault.Goals as goal
 

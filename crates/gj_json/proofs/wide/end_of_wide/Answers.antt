@@ -1,5 +1,5 @@
 -- Vector by vector.
-use Rattle.std.proofs.Common.{arith}
+use Rattle.std.proofs.Common.{arith, inl}
 use Rattle.gj_json.proofs.Pieces.WideRuns.{stops_on, passes_on}
 use Rattle.gj_json.proofs.wide.end_of_wide.Goals as goal
 
@@ -12,6 +12,10 @@ returns-then-found-ne0-clause-within c =
 pub returns-then-found-ne0-clause-none : goal.returns-then-found-ne0-clause-none
 returns-then-found-ne0-clause-none c =
     (stops_on c.args.piece.now c.loop-at.at c.loop-at.invariant.behind (omega arith) _ c.ends-found.ensures (omega arith) c.loop-at.invariant.none).0
+
+pub returns-then-found-ne0-clause-end : goal.returns-then-found-ne0-clause-end
+returns-then-found-ne0-clause-end c =
+    inl (stops_on c.args.piece.now c.loop-at.at c.loop-at.invariant.behind (omega arith) _ c.ends-found.ensures (omega arith) c.loop-at.invariant.none).2
 
 pub loop-at-preserved : goal.loop-at-preserved
 loop-at-preserved c = record {

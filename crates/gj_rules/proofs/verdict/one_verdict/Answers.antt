@@ -14,6 +14,7 @@ use Rattle.gj_rules.specs.declared.verdict.Verdict.{Verdict}
 use Rattle.gj_rules.specs.declared.verdict.Verdict.TheVariants.{Valid, Broken, NotJson}
 use Rattle.gj_rules.specs.Faults.{text_faults}
 use Rattle.gj_rules.specs.Verdict.{IsVerdict, verdict_of}
+use Rattle.gj_rules.specs.Internal.JudgementLaws.{said, says}
 use Rattle.gj_rules.proofs.Texts.LinterEvents.{text_verdict}
 use Rattle.gj_rules.proofs.verdict.one_verdict.Goals as goal
 
@@ -59,3 +60,6 @@ returns-clause-some c = λ limits bytes. elim (c.one_refusal.ensures.either limi
 
 pub returns-clause-one : goal.returns-clause-one
 returns-clause-one c = same c.one_text.ensures c.one_refusal.ensures.at_most_one c.one_refusal.ensures.never_both
+
+pub returns-clause-said : goal.returns-clause-said
+returns-clause-said c = λ limits bytes verdict. (said limits bytes verdict, λ (judgement, is, says_it). says limits bytes verdict judgement is says_it)

@@ -1,4 +1,4 @@
-use Rattle.geolint_files.specs.Sites.{IsLocated}
+use Rattle.geolint_files.specs.Internal.SecondReading.{IsLocated}
 use Rattle.geolint_files.proofs.sites.Finder.locate.Given as goal
 
 abbrev pub invariant-loop-byte : goal.invariant-loop-byte

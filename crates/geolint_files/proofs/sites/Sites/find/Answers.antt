@@ -1,27 +1,72 @@
-use Rattle.std.proofs.Common.{◌++◌, take}
-use Rattle.std.proofs.KnownBytes.{Consumes-trans}
+use Rattle.std.proofs.Common.{arith, rules, ◌≡◌, ◌<◌, ◌∙◌, inl, inr, refl, sym, subst, ℕ, List, [], ◌++◌, take, length, length-append}
+use Rattle.std.specs.List.Sorted.{IsNonDecreasing}
+use Rattle.std.proofs.KnownBytes.{Consumes-nil, Consumes-trans}
+use Rattle.std.proofs.lemmas.List.{length-take-le}
 use Rattle.geolint_files.proofs.FoundSites.{RightBy-read, RightBy-reached}
+use Rattle.geolint_files.proofs.SoughtPlaces.{FoundBy-read, FoundBy-reached, Seeks-begins}
+use Rattle.geolint_files.proofs.FileVerdicts.{Consumes-none}
 use Rattle.geolint_files.proofs.sites.Sites.find.Goals as goal
+use Rattle.geolint_files.proofs.sites.Sites.find.Goals.{else-loop-test, then-loop-test+in_ok-count+then-count-eq0}
 
-pub returns-in_err-count : goal.returns-in_err-count
-returns-in_err-count g c = λ begun.
-    let (read, took, reaches) = c.loop.invariant begun in
+pub loop-init : goal.loop-init
+loop-init g c = record {
+  reached = λ begun. ([], Consumes-nil _, c.new-finder.ensures.begins c.args.self.now begun, (λ ordered. Seeks-begins c.new-finder.result c.args.self.now c.new-finder.ensures.next), omega arith);
+  sought = refl;
+}
+
+pub returns-in_err-count-clause-right : goal.returns-in_err-count-clause-right
+returns-in_err-count-clause-right g c = λ begun.
+    let (read, took, reaches, seeks, reads) = c.loop.invariant.reached begun in
     RightBy-reached _ _ read _ _ took reaches
 
-pub returns-then-is_whole : goal.returns-then-is_whole
-returns-then-is_whole g c = λ begun.
-    let (read, took, reaches) = c.loop.invariant begun in
+pub returns-then-is_whole-clause-right : goal.returns-then-is_whole-clause-right
+returns-then-is_whole-clause-right g c = λ begun.
+    let (read, took, reaches, seeks, reads) = c.loop.invariant.reached begun in
     let piece = take c.in_ok-count.count c.read.new.buf in
     let more = Consumes-trans _ _ _ read piece took c.in_ok-count.ensures.bytes.0 in
-    RightBy-reached _ _ (read ++ piece) _ _ more (c.take.ensures read reaches)
+    RightBy-reached _ _ (read ++ piece) _ _ more (c.take.ensures.reaches read reaches)
+
+pub returns-then-is_whole-clause-found : goal.returns-then-is_whole-clause-found
+returns-then-is_whole-clause-found g c = λ begun ordered.
+    let (read, took, reaches, seeks, reads) = c.loop.invariant.reached begun in
+    let places = subst (λ (places : List ℕ). IsNonDecreasing places) (sym c.loop.invariant.sought) ordered in
+    FoundBy-reached _ c.take.new.finder c.take.new.self _ (c.take.ensures.seeks read reaches places (seeks ordered)) c.if-finder-self.true
+
+pub returns-then-is_whole-clause-sought : goal.returns-then-is_whole-clause-sought
+returns-then-is_whole-clause-sought g c = c.take.ensures.sought ∙ c.loop.invariant.sought
 
 pub loop-preserved : goal.loop-preserved
-loop-preserved g c = λ begun.
-    let (read, took, reaches) = c.loop.invariant begun in
-    let piece = take c.in_ok-count.count c.read.new.buf in
-    (read ++ piece, Consumes-trans _ _ _ read piece took c.in_ok-count.ensures.bytes.0, c.take.ensures read reaches)
+loop-preserved g c = record {
+  reached = λ begun.
+      let (read, took, reaches, seeks, reads) = c.loop.invariant.reached begun in
+      let piece = take c.in_ok-count.count c.read.new.buf in
+      let long : length piece ≡ c.in_ok-count.count = length-take-le c.in_ok-count.count c.read.new.buf c.in_ok-count.ensures.bound.0 in (
+        read ++ piece,
+        Consumes-trans _ _ _ read piece took c.in_ok-count.ensures.bytes.0,
+        c.take.ensures.reaches read reaches,
+        (λ ordered. c.take.ensures.seeks read reaches (subst (λ (places : List ℕ). IsNonDecreasing places) (sym c.loop.invariant.sought) ordered) (seeks ordered)),
+        omega (arith, reads, long, length-append read piece, c.if-count-eq0.false),
+      );
+  sought = c.take.ensures.sought ∙ c.loop.invariant.sought;
+}
 
-pub returns : goal.returns
-returns g c = λ begun.
-    let (read, took, reaches) = c.loop.invariant begun in
-    RightBy-read _ _ read _ took (c.end.ensures read reaches)
+pub returns-clause-right : goal.returns-clause-right
+returns-clause-right g c = λ begun.
+    let (read, took, reaches, seeks, reads) = c.loop.invariant.reached begun in
+    RightBy-read _ _ read _ took (c.end.ensures.right read reaches)
+
+pub returns-clause-found : goal.returns-clause-found
+returns-clause-found g c = λ begun ordered.
+    let (read, took, reaches, seeks, reads) = c.loop.invariant.reached begun in
+    let places = subst (λ (places : List ℕ). IsNonDecreasing places) (sym c.loop.invariant.sought) ordered in
+    let found = c.end.ensures.found read reaches places (seeks ordered) in
+    elim c.loop-test.branch [
+      | else-loop-test w ↦ FoundBy-read _ _ read c.end.new.self took (inr (omega (arith, reads, w.loop-test.false))) found
+      | then-loop-test+in_ok-count+then-count-eq0 w ↦
+          (let bytes = w.in_ok-count.ensures.bytes in
+          let room : 0 < length w.read.new.buf = search rules in
+          FoundBy-read _ _ read c.end.new.self (Consumes-none _ _ _ read w.read.new.buf w.in_ok-count.count w.if-count-eq0.true took bytes.0) (inl (bytes.1 w.if-count-eq0.true room)) found)
+    ]
+
+pub returns-clause-sought : goal.returns-clause-sought
+returns-clause-sought g c = c.end.ensures.sought ∙ c.loop.invariant.sought

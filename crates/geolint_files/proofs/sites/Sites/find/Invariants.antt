@@ -1,8 +1,14 @@
-use Rattle.std.proofs.Common.{ℕ, List, []}
+use Rattle.std.proofs.Common.{◌≡◌, ◌≤◌, ℕ, List, [], length}
 use Rattle.std.specs.Io.KnownBytes.{Consumes}
-use Rattle.geolint_files.specs.Sites.{Reaches, AreRight}
+use Rattle.std.specs.List.Sorted.{IsNonDecreasing}
+use Rattle.geolint_files.specs.Sites.{AreRight, sought}
+use Rattle.geolint_files.specs.Internal.SecondReading.{Reaches, Seeks}
 use Rattle.geolint_files.proofs.sites.Sites.find.Given as goal
 
--- the sites are right behind the bytes that the reader told
+-- the sites are right behind the bytes that the reader told, and the places in these are found; each read gave a byte
 abbrev pub invariant-loop : goal.invariant-loop
-invariant-loop g l = AreRight [] l.fn.self.sites → (read : List ℕ) × Consumes (g.R.Read.remaining l.fn.reader) (g.R.Read.remaining l.reader) read × Reaches l.finder l.self read []
+invariant-loop g l = record {
+  reached : AreRight [] l.fn.self.sites → (read : List ℕ) × Consumes (g.R.Read.remaining l.fn.reader) (g.R.Read.remaining l.reader) read × Reaches l.finder l.self read []
+      × (IsNonDecreasing (sought l.fn.self) → Seeks l.finder l.self (length read)) × (l.counter ≤ length read);
+  sought : sought l.self ≡ sought l.fn.self;
+}

@@ -1,12 +1,12 @@
-use Rattle.std.proofs.Common.{arith, ◌≡◌, ◌++◌, [], ℕ, List, take, ap, sym, ◌∙◌, subst, append_assoc, append-nil, length-append}
+use Rattle.std.proofs.Common.{arith, refl, ◌≡◌, ◌++◌, [], ℕ, List, take, ap, sym, ◌∙◌, subst, append_assoc, append-nil, length-append}
 use Rattle.std.proofs.lemmas.List.{take-append-drop}
 use Rattle.gj_places.specs.Counting.{StandsFor}
 use Rattle.geolint_files.specs.Sites.{AreRight}
 use Rattle.geolint_files.proofs.sites.Sites.pass.Goals as goal
 use Rattle.geolint_files.proofs.sites.Sites.pass.Goals.{then-finder-self, else-finder-self}
 
-pub returns : goal.returns
-returns c = λ text reaches.
+pub returns-clause-reaches : goal.returns-clause-reaches
+returns-clause-reaches c = λ text reaches.
     let piece = c.args.piece.now in
     let counted = c.args.finder.now.counted in
     let longer = length-append text piece in
@@ -32,3 +32,18 @@ returns c = λ text reaches.
         right = right;
       })
     ]
+
+pub returns-clause-seeks : goal.returns-clause-seeks
+returns-clause-seeks c = λ passed seeks. elim c.if-finder-self.branch [
+  | then-finder-self w ↦ rw (w.self-is, w.finder-is) (record { found = seeks.found; ahead = seeks.ahead })
+  | else-finder-self w ↦ rw (w.self-is, w.finder-is) (record {
+    found = λ k other before within. seeks.found k other (omega (arith, before, w.locate_to.ensures.next)) within;
+    ahead = λ k e after within small. seeks.ahead k e (omega (arith, after, w.locate_to.ensures.next)) within small;
+  })
+]
+
+pub returns-clause-sought : goal.returns-clause-sought
+returns-clause-sought c = elim c.if-finder-self.branch [
+  | then-finder-self w ↦ rw (w.self-is) refl
+  | else-finder-self w ↦ rw (w.self-is) refl
+]

@@ -4,10 +4,13 @@ use Rattle.gj_places.specs.Counting.{StandsFor}
 use Rattle.gj_places.specs.declared.lines.Lines.{Lines}
 use Rattle.geolint_files.specs.Sites.{IsSpot}
 use Rattle.geolint_files.proofs.FoundSites.{Spot-is, take-joined}
+use Rattle.std.proofs.Common.{inl, inr, refl}
+use Rattle.geolint_files.specs.Internal.SecondReading.{Settles}
+use Rattle.geolint_files.proofs.SoughtPlaces.{Seeks-settled, Seeks-passed, sought-at, sought-first, sought-settled}
 use Rattle.geolint_files.proofs.sites.Sites.reach.Goals as goal
 
-pub returns : goal.returns
-returns c = λ text reaches.
+pub returns-clause-reaches : goal.returns-clause-reaches
+returns-clause-reaches c = λ text reaches.
     let finder = c.args.finder.now in
     let piece = c.args.piece.now in
     let site = get_or c.args.self.now.sites finder.next c.index-self-i.result in
@@ -33,3 +36,45 @@ returns c = λ text reaches.
       lines = λ fewer. subst (λ (k : ℕ). StandsFor c.locate_to.new.self.lines (text ++ take k piece)) (sym c.locate_to.ensures.counted) after;
       right = c.settle.ensures.right (text ++ piece) c.index-self-i.result reaches.right is;
     }
+
+-- what the excerpt takes changes no place
+before-excerpt : (c : goal.After-finder-2-1) → Settles c.args.self.now c.settle.new.self c.args.finder.now.next
+before-excerpt c =
+    record { count = c.settle.ensures.settles.count; places = c.settle.ensures.settles.places; here = c.settle.ensures.settles.here; kept = c.settle.ensures.settles.kept }
+
+pub returns-clause-reached : goal.returns-clause-reached
+returns-clause-reached c = λ yes text reaches ordered seeks.
+    let finder = c.args.finder.now in
+    let sites = c.args.self.now in
+    let settles : Settles sites c.settle.new.self finder.next = before-excerpt c in
+    let offset = reaches.offset in
+    let site = get_or sites.sites finder.next c.index-self-i.result in
+    let here : site.place ≡ length text + c.locate_to.new.self.counted = omega (arith, offset, c.saturating_add-end.ensures, c.if-place-finder.false, c.if-end-place.false, c.locate_to.ensures.counted) in
+    Seeks-settled finder _ sites c.settle.new.self (length text + finder.counted) (length text + c.locate_to.new.self.counted) seeks settles refl
+    (λ k e later within.
+    let (counted, stored) = sought-first sites finder.next k (omega (arith, later)) within in
+    omega (arith, here, sought-at sites finder.next e c.index-self-i.result counted stored, ordered finder.next k e (omega (arith, later)) within))
+
+pub returns-clause-sought : goal.returns-clause-sought
+returns-clause-sought c = sought-settled c.args.self.now c.settle.new.self c.args.finder.now.next (before-excerpt c)
+
+pub returns-then-place-finder-clause-passed : goal.returns-then-place-finder-clause-passed
+returns-then-place-finder-clause-passed c = λ no text reaches ordered seeks.
+    let finder = c.args.finder.now in
+    let offset = reaches.offset in
+    let end = c.saturating_add-end.ensures in
+    Seeks-passed finder c.args.self.now (length text + finder.counted) (length text + length c.args.piece.now) c.index-self-i.result ordered seeks
+    (λ small behind. elim c.then-place-finder.either [
+      | inl before ↦ absurd (omega (arith, small, behind, before, offset))
+      | inr after ↦ omega (arith, small, behind, after.1, offset, end)
+    ])
+
+pub returns-then-at-finder-clause-passed : goal.returns-then-at-finder-clause-passed
+returns-then-at-finder-clause-passed c = λ no text reaches ordered seeks.
+    let finder = c.args.finder.now in
+    let offset = reaches.offset in
+    let end = c.saturating_add-end.ensures in
+    let small = c.if-end-place.false in
+    let begun = c.if-place-finder.false in
+    Seeks-passed finder c.args.self.now (length text + finder.counted) (length text + length c.args.piece.now) c.index-self-i.result ordered seeks
+    (λ less behind. absurd (omega (arith, behind, offset, begun, c.if-at-finder.true)))

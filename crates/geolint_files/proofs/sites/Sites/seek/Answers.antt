@@ -1,5 +1,10 @@
+use Rattle.std.proofs.Common.{arith}
+use Rattle.geolint_files.proofs.SoughtPlaces.{sought-more}
 use Rattle.geolint_files.proofs.FoundSites.{right-sought}
 use Rattle.geolint_files.proofs.sites.Sites.seek.Goals as goal
 
-pub returns-then-self-lt-MOST_PLACES : goal.returns-then-self-lt-MOST_PLACES
-returns-then-self-lt-MOST_PLACES c = λ text right. right-sought text c.args.self.now.sites c.args.self.now.count c.of.result right c.of.ensures.1
+pub returns-then-self-lt-MOST_PLACES-clause-right : goal.returns-then-self-lt-MOST_PLACES-clause-right
+returns-then-self-lt-MOST_PLACES-clause-right c = λ text right. right-sought text c.args.self.now.sites c.args.self.now.count c.of.result right c.of.ensures.1
+
+pub returns-then-self-lt-MOST_PLACES-clause-sought : goal.returns-then-self-lt-MOST_PLACES-clause-sought
+returns-then-self-lt-MOST_PLACES-clause-sought c = λ room. sought-more c.args.self.now c.of.result c.args.place (omega (arith, c.if-self-lt-MOST_PLACES.true)) c.of.ensures.0

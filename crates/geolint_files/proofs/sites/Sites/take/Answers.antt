@@ -1,11 +1,26 @@
+use Rattle.std.proofs.Common.{arith, ◌≡◌, ◌+◌, ◌∙◌, ◌++◌, ℕ, List, length, sym, subst, length-append}
+use Rattle.std.specs.List.Sorted.{IsNonDecreasing}
+use Rattle.geolint_files.specs.Internal.SecondReading.{Seeks}
 use Rattle.geolint_files.proofs.FoundSites.{Reaches-piece}
 use Rattle.geolint_files.proofs.sites.Sites.take.Goals as goal
-use Rattle.geolint_files.proofs.sites.Sites.take.Goals.{else-loop-test, then-loop-test+then-not-reach}
 
 pub returns : goal.returns
-returns c = λ text reaches.
-    let begun = Reaches-piece c.args.finder.now c.args.self.now text c.args.piece.now reaches in
-    c.pass.ensures text (elim c.loop-test.branch [
-      | else-loop-test w ↦ rw (w.self-is, w.finder-is) (c.loop.invariant text begun)
-      | then-loop-test+then-not-reach w ↦ rw (w.self-is, w.finder-is) (w.reach.ensures text (c.loop.invariant text begun))
-    ])
+returns c = record {
+  reaches = λ text begun. c.pass.ensures.reaches text (c.reach.ensures.reaches text (c.loop.invariant.reaches text (Reaches-piece c.args.finder.now c.args.self.now text c.args.piece.now begun)));
+  seeks = λ text begun ordered seeks.
+      let none = begun.counted in
+      let start : length text ≡ length text + c.args.finder.now.counted = omega (arith, none) in
+      let here = Reaches-piece c.args.finder.now c.args.self.now text c.args.piece.now begun in
+      let reached = c.loop.invariant.seeks text here ordered (subst (λ (n : ℕ). Seeks c.args.finder.now c.args.self.now n) start seeks) in
+      let passed = c.reach.ensures.passed c.loop-test.false text (c.loop.invariant.reaches text here) (subst (λ (places : List ℕ). IsNonDecreasing places) (sym c.loop.invariant.sought) ordered) reached in
+      c.pass.ensures.seeks (length (text ++ c.args.piece.now)) (subst (λ (n : ℕ). Seeks c.reach.new.finder c.reach.new.self n) (sym (length-append text c.args.piece.now)) passed);
+  sought = c.pass.ensures.sought ∙ (c.reach.ensures.sought ∙ c.loop.invariant.sought);
+}
+
+pub loop-preserved : goal.loop-preserved
+loop-preserved c = record {
+  reaches = λ text begun. c.reach.ensures.reaches text (c.loop.invariant.reaches text begun);
+  seeks = λ text begun ordered seeks. c.reach.ensures.reached c.loop-test.true text (c.loop.invariant.reaches text begun)
+      (subst (λ (places : List ℕ). IsNonDecreasing places) (sym c.loop.invariant.sought) ordered) (c.loop.invariant.seeks text begun ordered seeks);
+  sought = c.reach.ensures.sought ∙ c.loop.invariant.sought;
+}

@@ -1,7 +1,7 @@
 use Rattle.std.proofs.Common.{ap, sym, ◌∙◌}
 use Rattle.gj_coords.specs.Internal.KeptWarnings.{joined}
 use Rattle.gj_coords.specs.Internal.GatheredWarnings.{all_in, warnings_in}
-use Rattle.gj_coords.specs.WarningLaws.{joined_none_last}
+use Rattle.gj_coords.specs.Internal.WarningLaws.{joined_none_last}
 use Rattle.gj_coords.proofs.warned.Warned.take.Goals as goal
 
 pub returns-in-None-clause-joined : goal.returns-in-None-clause-joined

@@ -8,9 +8,9 @@ use Rattle.gj_json.proofs.locator.Locator.push.Goals as goal
 pub returns-in-Ok-clause-stands : goal.returns-in-Ok-clause-stands
 unfolding StandsFor
 returns-in-Ok-clause-stands c = λ bytes h.
-    trail_on c.args.self.now (record { trail = c.follow.new.self; reader = c.take_next.new.self }) c.args.byte bytes
-    (was_live c.args.self.now.reader.fault c.take_next.result tt (λ fault e. (c.take_next.ensures.again fault e).1) c.in-Ok.is)
-    c.in-Ok.ensures.refusal h (c.take_next.ensures.stands bytes h.0) (omega (arith, c.next_turn-turn.ensures.small, ap (λ (l : Allowed). l.bytes) c.take_next.ensures.limits)) (rw (← c.next_turn-turn.ensures.turn) c.follow.ensures)
+    trail_on c.args.self.now (record { trail = c.follow.new.self; reader = c.take_next.new.self }) c.args.byte c.in-Ok.made bytes c.in-Ok.ensures.moves
+    (was_live c.args.self.now.reader.fault c.take_next.result c.in-Ok.made (λ fault e. (c.take_next.ensures.again fault e).1) c.in-Ok.is)
+    c.in-Ok.ensures.refusal h (c.take_next.ensures.stands bytes h.0) (omega (arith, c.in-Ok.ensures.small, ap (λ (l : Allowed). l.bytes) c.take_next.ensures.limits)) c.follow.ensures
 
 pub returns-in-Err-clause-stands : goal.returns-in-Err-clause-stands
 unfolding StandsFor

@@ -11,10 +11,10 @@ pub returns-in-Go-clause-feeds : goal.returns-in-Go-clause-feeds
 returns-in-Go-clause-feeds c =
     let n = c.read_short-count.result in
     let read = c.read_short-count.ensures.number (omega arith) in
-    let made : after_move (inner_of (levels_in c.args.self.now.levels)) (class_of (get_or c.args.piece.now n 0)) ≡ Go c.in-Go.mode =
-    ap (λ i. after_move i (class_of (get_or c.args.piece.now n 0))) (sym c.inner.ensures) ∙ sym c.end_of.ensures.value ∙ c.in-Go.is in
+    let made : after_move (inner_of (levels_in c.args.self.now.levels)) (class_of (get_or c.args.piece.now n 0)) ≡ Go c.in-Go.mode c.in-Go.field-1 =
+    ap (λ i. after_move i (class_of (get_or c.args.piece.now n 0))) (sym c.inner.ensures) ∙ sym c.after_value.ensures.value ∙ c.in-Go.is in
     rw (c.skip.ensures.count)
-    (number_within c.args.floor c.args.self.now c.skip.new.self c.args.piece.now n c.requires.live c.requires.due c.requires.room read.within read.number c.requires.above c.in-Go.mode made c.skip.ensures.passed)
+    (number_within c.args.floor c.args.self.now c.skip.new.self c.args.piece.now n c.requires.live c.requires.due c.requires.room read.within read.number c.requires.above c.in-Go.mode c.in-Go.field-1 made c.skip.ensures.passed)
 
 pub returns-in-Close-clause-floor : goal.returns-in-Close-clause-floor
 returns-in-Close-clause-floor c =
@@ -28,8 +28,8 @@ returns-in-Close-clause-feeds c =
     let read = c.read_short-count.ensures.number (omega arith) in
     let skip = c.skip-in-Close in
     let p = skip.ensures.passed in
-    let made : after_move (inner_of (levels_in c.args.self.now.levels)) (class_of (get_or c.args.piece.now n 0)) ≡ Close =
-    ap (λ i. after_move i (class_of (get_or c.args.piece.now n 0))) (sym c.inner.ensures) ∙ sym c.end_of.ensures.value ∙ c.in-Close.is in
+    let made : after_move (inner_of (levels_in c.args.self.now.levels)) (class_of (get_or c.args.piece.now n 0)) ≡ Close c.in-Close.field-0 =
+    ap (λ i. after_move i (class_of (get_or c.args.piece.now n 0))) (sym c.inner.ensures) ∙ sym c.after_value.ensures.value ∙ c.in-Close.is in
     rw (skip.ensures.count)
-    (ended_within c.args.floor c.args.self.now skip.new.self c.args.piece.now n c.requires.live c.requires.due c.requires.room read.within read.number c.requires.above made
+    (ended_within c.args.floor c.args.self.now skip.new.self c.args.piece.now n c.requires.live c.requires.due c.requires.room read.within read.number c.requires.above c.in-Close.field-0 made
     (record { limits = p.limits; fault = p.fault; offset = p.offset; mode_is = p.mode_is; levels_are = ap levels_in p.levels ∙ c.pop.ensures }))

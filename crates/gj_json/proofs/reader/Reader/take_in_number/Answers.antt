@@ -13,7 +13,7 @@ returns-in-Goes g c = record {
     turns = λ bytes m k. c.push.ensures.begins bytes k c.in-Goes.is;
     values = λ e bytes m k n. cc;
   };
-  goes = λ e. (
+  goes = λ made e. (
     record {
       goes = λ t bytes m n k. rw (c.go.ensures.literal) (c.push.ensures.stands bytes k c.in-Goes.is);
       begins = λ m t n f. let x = rw (c.requires.number) at m in cc;
@@ -35,7 +35,7 @@ returns-then-may_end g c = record {
     turns = λ bytes m k. (λ f. c.push.ensures.refused bytes k c.in-Ends.is f, (c.may_end.ensures.number bytes (rw (c.push.ensures.kept c.in-Ends.is) k)).0 c.if-may_end.true);
     values = λ e bytes m k n. c.value-value.ensures.value bytes (rw (c.push.ensures.kept c.in-Ends.is) k) n;
   };
-  goes = λ e. (
+  goes = λ made e. (
     record {
       goes = λ t bytes m n k. cc;
       begins = λ m t n f. let x = rw (c.requires.number) at m in cc;
@@ -45,8 +45,8 @@ returns-then-may_end g c = record {
       begins = λ state t f h. let x = rw (c.requires.number) at t in cc;
     },
   );
-  applied = StepsAlike.applied c.args.self.now _ c.take_other.new.self (move_by c.args.self.now Ends c.args.byte) c.take_other.result (record { limits = refl; fault = refl; start = refl; offset = refl; mode = refl; levels = refl }) c.take_other.ensures.applied;
-  told = λ events h. c.take_other.ensures.heard events h;
+  applied = StepsAlike.applied c.args.self.now _ c.take_after_number.new.self (move_by c.args.self.now Ends c.args.byte) c.take_after_number.result (record { limits = refl; fault = refl; start = refl; offset = refl; mode = refl; levels = refl }) c.take_after_number.ensures.applied;
+  told = λ events h. rw (StepsAlike.ends_tells c.args.self.now c.value-value.result c.args.byte c.requires.number) (c.take_after_number.ensures.heard events h);
 }
 
 pub returns-else-may_end : goal.returns-else-may_end
@@ -57,7 +57,7 @@ returns-else-may_end g c = record {
     turns = λ bytes m k. (λ f. c.push.ensures.refused bytes k c.in-Ends.is f, λ n. let t = (c.may_end.ensures.number bytes (rw (c.push.ensures.kept c.in-Ends.is) k)).1 n in cc);
     values = λ e bytes m k n. cc;
   };
-  goes = λ e. cc;
+  goes = λ made e. cc;
   applied = StepsAlike.refused c.args.self.now _ c.refuse.new.self c.args.byte (Err c.refuse.result) c.requires.number (record { limits = refl; fault = refl; start = refl; offset = refl; mode = refl; levels = refl }) (record { fault = c.refuse.result; answer = refl; refused = c.refuse.ensures.refused });
   told = λ events h. rw append-nil h;
 }

@@ -22,7 +22,7 @@ returns-in-Reads g c =
         turns = λ bytes m k. let x = sym m ∙ from.number in cc;
         values = λ e bytes m k n. let x = sym m ∙ from.number in cc;
       };
-      goes = λ e. (
+      goes = λ made e. (
         record {
           goes = λ t bytes m n k. let x = sym m ∙ from.number in cc;
           begins = λ m t n f. let x = sym t ∙ from.text in cc;
@@ -52,7 +52,7 @@ returns-in_default g c =
         turns = λ bytes m k. let x = sym m ∙ from.number in cc;
         values = λ e bytes m k n. let x = sym m ∙ from.number in cc;
       };
-      goes = λ e. (
+      goes = λ made e. (
         record {
           goes = λ t bytes m n k. let x = sym m ∙ from.number in cc;
           begins = λ m t n f. let x = sym t ∙ from.text in cc;
@@ -67,5 +67,5 @@ returns-in_default g c =
         },
       );
       applied = c.take_other.ensures.applied;
-      told = λ events h. c.take_other.ensures.heard events h;
+      told = λ events h. rw (StepsAlike.other_tells old Ends None c.args.byte from.number) (c.take_other.ensures.heard events h);
     }

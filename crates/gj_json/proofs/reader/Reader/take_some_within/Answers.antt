@@ -4,7 +4,7 @@ use Rattle.gj_json.specs.declared.event.Event.{Event}
 use Rattle.gj_json.specs.Internal.FedReader.{above}
 use Rattle.gj_json.specs.Ignored.{Leaves}
 use Rattle.gj_json.proofs.Readers.CallsInTurn
-use Rattle.gj_json.proofs.Events.IgnoredEvents.{takes_within, all_from, to_from}
+use Rattle.gj_json.proofs.Events.IgnoredEvents.{byte_floor, takes_within, all_from, to_from}
 use Rattle.gj_json.proofs.reader.Reader.take_some_within.Goals as goal
 
 pub returns-then-quiet-piece-clause-feeds : goal.returns-then-quiet-piece-clause-feeds
@@ -38,3 +38,11 @@ returns-in-Err-clause-feeds c =
     to_from c.args.floor old mid c.take_byte.new.self c.args.piece.now c.in-Err.fault s.levels
     (CallsInTurn.some_to old mid c.take_byte.new.self c.args.piece.now c.skip_front-quiet.result c.take_byte.result w c.requires.room skipped
     (takes_within c.args.floor old mid c.take_byte.new.self _ c.take_byte.result s.levels c.requires.above c.take_byte.ensures) c.in-Err.fault c.in-Err.is)
+
+pub returns-in-Ok-clause-floor : goal.returns-in-Ok-clause-floor
+returns-in-Ok-clause-floor c =
+    byte_floor c.args.floor c.args.self.now c.skip_front-quiet.new.self c.take_byte.new.self _ c.take_byte.result c.skip_front-quiet.ensures.skips.levels c.requires.above c.take_byte.ensures
+
+pub returns-in-Err-clause-floor : goal.returns-in-Err-clause-floor
+returns-in-Err-clause-floor c =
+    byte_floor c.args.floor c.args.self.now c.skip_front-quiet.new.self c.take_byte.new.self _ c.take_byte.result c.skip_front-quiet.ensures.skips.levels c.requires.above c.take_byte.ensures

@@ -2,7 +2,7 @@
 use Rattle.std.proofs.Common.{◌≡◌, [], List, None, ap, sym, subst, append-nil}
 use Rattle.gj_json.specs.declared.event.Event.{Event}
 use Rattle.gj_coords.specs.Internal.GatheredWarnings.{all_in}
-use Rattle.gj_coords.specs.WarningLaws.{warnings_of_none}
+use Rattle.gj_coords.specs.Internal.WarningLaws.{warnings_of_none}
 use Rattle.gj_coords.proofs.Lists.ListsStoodFor.{empty_is}
 use Rattle.gj_rules.specs.Linter.{StandsFor, limits_of}
 use Rattle.gj_rules.specs.Rules.{StandsFor as RulesStandFor}

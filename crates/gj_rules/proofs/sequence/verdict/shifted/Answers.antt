@@ -1,12 +1,12 @@
 -- No place passes the end of what fits, since none that the verdict tells does.
 use Rattle.std.proofs.Common.{ℕ, ◌+◌, ◌≤◌, ◌^◌, refl, arith}
-use Rattle.gj_rules.specs.Places.{IsPlaceIn}
+use Rattle.gj_rules.specs.Internal.ToldPlaces.{TellsPlace}
 use Rattle.gj_rules.specs.declared.verdict.Verdict.{Verdict}
 use Rattle.gj_rules.specs.declared.verdict.Verdict.TheVariants.{Valid, Broken, NotJson}
 use Rattle.gj_rules.proofs.sequence.verdict.shifted.Goals as goal
 
 abbrev Stays : ℕ → Verdict → Type 0
-Stays by verdict = (place : ℕ) → IsPlaceIn place verdict → place + by ≤ 2 ^ 61
+Stays by verdict = (place : ℕ) → TellsPlace place verdict → place + by ≤ 2 ^ 61
 
 pub shifted-requires : goal.shifted-requires
 shifted-requires c = let r : Stays c.args.by (Valid c.in-Valid.warnings) = rw (c.in-Valid.is) at c.requires in λ kind place e. r place (kind, e)

@@ -7,6 +7,7 @@ use Rattle.gj_rules.specs.Linter.{limits_of}
 use Rattle.gj_rules.specs.Sequence.{shifted_verdict}
 use Rattle.gj_rules.specs.Verdict.{IsVerdict}
 use Rattle.gj_rules.proofs.Sequences.OpenRecords.{own_limit, ended_within, told_as}
+use Rattle.gj_rules.proofs.Sequences.PlacesTold.{told_within}
 use Rattle.gj_rules.proofs.sequence.open_record.OpenRecord.close.Goals as goal
 
 pub shifted-verdict-requires : goal.shifted-verdict-requires
@@ -15,7 +16,7 @@ shifted-verdict-requires c = λ place p.
     ∥∥₁_elim self.fed le_prop (λ f.
     let h = c.finish_and_begin-ended.ensures.verdict f.0 f.1 in
     let within = ended_within _ (self.end - self.start) (length f.0) place c.finish_and_begin-ended.result (omega (arith, f.2))
-    (λ q i. c.places_within.ensures (limits_of self.linter) f.0 c.finish_and_begin-ended.result q h i)
+    (λ q i. told_within c.places_within.ensures (limits_of self.linter) f.0 c.finish_and_begin-ended.result q h i)
     (rw (c.if_ended-own.ensures) at p) in
     omega (arith, within, f.2, self.within))
 

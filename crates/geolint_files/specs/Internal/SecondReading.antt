@@ -1,0 +1,34 @@
+-- What a second reading has reached.
+use Rattle.std.specs.Prelude.{◌≡◌, ◌<◌, ◌≤◌, ◌-◌, ◌^◌, ℕ, List, length, take, map, get_or, true, ◌++◌}
+use Rattle.std.specs.Io.Iter.{u64_saturate}
+use Rattle.gj_places.specs.Counting.{StandsFor}
+use Rattle.geolint_files.specs.declared.sites.Finder.{Finder}
+use Rattle.geolint_files.specs.declared.sites.Site.{Site}
+use Rattle.geolint_files.specs.declared.sites.Sites.{Sites}
+use Rattle.geolint_files.specs.Sites.{AreRight, sought}
+
+-- behind a text and some bytes of the next piece
+pub record Reaches (finder : Finder) (sites : Sites) (text piece : List ℕ) : Type 0 where
+  pub offset : finder.offset ≡ u64_saturate (length text)
+  pub counted : finder.counted ≤ length piece
+  pub lines : finder.next < sites.count → StandsFor finder.lines (text ++ take finder.counted piece)
+  pub right : AreRight (text ++ piece) sites.sites
+
+-- the bytes that the locator has change nothing of the count
+pub record IsLocated (old new : Finder) : Type 0 where
+  pub lines : new.lines ≡ old.lines
+  pub offset : new.offset ≡ old.offset
+  pub counted : new.counted ≡ old.counted
+  pub next : new.next ≡ old.next
+
+-- the places before the next were found, and the others are not among so many bytes from the start
+pub record Seeks (finder : Finder) (sites : Sites) (passed : ℕ) : Type 0 where
+  pub found : (k : ℕ) (other : Site) → k < finder.next → k < length sites.sites → (get_or sites.sites k other).is_found ≡ true
+  pub ahead : (k : ℕ) (other : ℕ) → finder.next ≤ k → k < length (sought sites) → get_or (sought sites) k other < 2 ^ 64 - 1 → passed ≤ get_or (sought sites) k other
+
+-- one place is found, and nothing else changes
+pub record Settles (old new : Sites) (i : ℕ) : Type 0 where
+  pub count : new.count ≡ old.count
+  pub places : map (λ (site : Site). site.place) new.sites ≡ map (λ (site : Site). site.place) old.sites
+  pub here : (other : Site) → i < length new.sites → (get_or new.sites i other).is_found ≡ true
+  pub kept : (k : ℕ) (other : Site) → k < length new.sites → (get_or old.sites k other).is_found ≡ true → (get_or new.sites k other).is_found ≡ true

@@ -1,0 +1,12 @@
+use Rattle.std.proofs.Common.{ap, ◌∙◌, ◌++◌, List, ℕ}
+use Rattle.gj_number.specs.Internal.DigitLanes.{by_fours}
+use Rattle.gj_number.proofs.Shorts.SixteenLanes.{joined_at, fours_joined, second_joined}
+use Rattle.gj_number.proofs.lanes.numbers_of.Goals as goal
+
+pub returns-clause-first : goal.returns-clause-first
+returns-clause-first c = ap (λ fs. joined_at (fs ++ c.fours_of-2.result) 0) c.fours_of.ensures ∙ fours_joined c.args.first c.fours_of-2.result c.fits-first.0 c.requires.first
+
+pub returns-clause-second : goal.returns-clause-second
+returns-clause-second c =
+    ap (λ fs. joined_at (fs ++ c.fours_of-2.result) 4) c.fours_of.ensures ∙ ap (λ gs. joined_at (by_fours c.args.first ++ gs) 4) c.fours_of-2.ensures
+    ∙ second_joined c.args.first c.args.second c.fits-first.0 c.fits-second.0 c.requires.second

@@ -1,0 +1,74 @@
+-- What an object asks for of what is found in its coordinates, by its type.
+use Rattle.std.specs.Prelude.{◌≡◌, Option, Some, None}
+use Rattle.std.proofs.Common.{refl, ap, subst, sym, ◌∙◌}
+use Rattle.gj_json.specs.declared.names.Word.{Word}
+use Rattle.gj_json.specs.Tree.{Tree}
+use Rattle.gj_coords.specs.declared.first_level.FirstSummary.{FirstSummary}
+use Rattle.gj_coords.specs.declared.first_level.FirstSummary.TheVariants as Summary
+use Rattle.gj_coords.specs.declared.simple.Simple.{Simple}
+use Rattle.gj_coords.specs.declared.warned.Warned.{Warned}
+use Rattle.gj_coords.specs.declared.warnings.Warnings.{Warnings}
+use Rattle.gj_coords.specs.Fault.{least}
+use Rattle.gj_coords.specs.Shape.{coordinates_faults}
+use Rattle.gj_coords.specs.Internal.CoordinatesKept.{coordinates_kept, first_answer}
+use Rattle.gj_coords.specs.Internal.GatheredWarnings.{all_in}
+use Rattle.gj_coords.specs.Internal.KeptWarnings.{no_warnings, joined}
+use Rattle.gj_coords.specs.Internal.LevelGather.{warned_as}
+use Rattle.gj_coords.specs.Internal.WarningLaws.{joined_none_last}
+use Rattle.gj_rules.specs.declared.shown.TypeValue.{TypeValue}
+use Rattle.gj_rules.specs.Internal.FrameMeaning.{Found, Shapes}
+use Rattle.gj_rules.specs.Internal.Summaries.{no_shapes, shape_for, warned_for, found_as, shapes_of, shape_found, alike, simple_of, asked_as, asked}
+
+-- ---- none is kept: there is no fault for any type, and no warning
+
+pub no_fault : (simple : Simple) → shape_for simple no_shapes ≡ None
+no_fault Simple.Point = refl
+no_fault _ = refl
+
+pub no_warnings_for : (simple : Simple) → warned_for simple no_shapes ≡ no_warnings
+no_warnings_for Simple.Point = refl
+no_warnings_for _ = refl
+
+pub no_warnings_more : (w : Warnings) (simple : Simple) → joined w (warned_for simple no_shapes) ≡ w
+no_warnings_more w simple = ap (joined w) (no_warnings_for simple) ∙ joined_none_last w
+
+-- ---- that of one type is kept
+
+pub one_fault : (simple : Simple) (found : Found) → shape_for simple (alike found) ≡ found.fault
+one_fault Simple.Point found = refl
+one_fault _ found = refl
+
+pub one_warned : (simple : Simple) (found : Found) → warned_for simple (alike found) ≡ found.warned
+one_warned Simple.Point found = refl
+one_warned _ found = refl
+
+-- a LineString has the warnings of a MultiPoint
+line_warned : (s : FirstSummary) → warned_as Simple.MultiPoint s ≡ warned_as Simple.LineString s
+line_warned (Summary.Other place) = refl
+line_warned (Summary.Level s) = refl
+
+pub found_is : (simple : Simple) (value : Tree) → shape_found simple (shapes_of value) ≡ found_as simple value
+unfolding coordinates_kept
+found_is Simple.LineString value =
+    ap (λ (w : Warned). record { fault = least (coordinates_faults Simple.LineString value); warned = all_in w }) (line_warned (first_answer value))
+found_is Simple.Point value = refl
+found_is _ value = refl
+
+pub asked_is : (simple : Simple) (value : Tree) → asked_as (Some simple) (shapes_of value) ≡ alike (found_as simple value)
+asked_is simple value = ap alike (found_is simple value)
+
+-- ---- what is asked for twice
+
+word_twice : (word : Word) (shapes : Shapes) → asked_as (simple_of word) (asked_as (simple_of word) shapes) ≡ asked_as (simple_of word) shapes
+word_twice Word.Point shapes = refl
+word_twice _ shapes = refl
+
+-- the first type stays, where it has come
+abbrev pub TypeStays : Option TypeValue → Option TypeValue → Type 0
+TypeStays None new = Unit {0}
+TypeStays (Some value) new = new ≡ Some value
+
+pub asked_twice : (old new : Option TypeValue) (shapes : Shapes) → TypeStays old new → asked new (asked old shapes) ≡ asked new shapes
+asked_twice None new shapes h = refl
+asked_twice (Some value) new shapes h =
+    subst (λ (o : Option TypeValue). asked o (asked (Some value) shapes) ≡ asked o shapes) (sym h) (word_twice value.word shapes)

@@ -1,0 +1,10 @@
+-- Nothing is found in the object where none of these looks shows anything.
+use Rattle.std.proofs.Common.{sym, ◌∙◌}
+use Rattle.gj_rules.specs.Internal.FrameReading.{frame_in}
+use Rattle.gj_rules.proofs.Objects.CleanFrames.{clean_is}
+use Rattle.gj_rules.proofs.frame.Frame.is_clean.Goals as goal
+
+pub returns-then-not-is_nested : goal.returns-then-not-is_nested
+returns-then-not-is_nested c = λ e.
+    clean_is (frame_in c.args.self.now) (c.is_nothing.ensures c.if-is_nothing.true) (c.is_unwarned.ensures c.if-is_unwarned.true)
+    (sym c.is_nested.ensures ∙ c.if-not-is_nested.true) (c.is_sound.ensures e)

@@ -1,6 +1,0 @@
-use Rattle.std.proofs.Common.{take}
-use Rattle.gj_rules.specs.Rules.{StandsFor}
-use Rattle.gj_rules.proofs.rules.tests.fault_of.Given as goal
-
-abbrev pub invariant-loop-event : goal.invariant-loop-event
-invariant-loop-event l = StandsFor l.rules (take l.event-index l.events)

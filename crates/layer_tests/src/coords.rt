@@ -1,0 +1,7 @@
+//! What is wrong with coordinates and bounding boxes.
+mod bbox;
+mod coordinates;
+mod sample;
+mod texts;
+mod warnings;
+mod winding;

@@ -1,0 +1,217 @@
+//! Positions told as one, beside the same told event by event.
+use super::both::{Both, Row, SIX, WarnedRow};
+use crate::coords::sample::tell;
+use gj_coords::{Coordinates, SimpleFaults, Warnings};
+use gj_json::{Event, EventSink, Flat};
+use std::process::Abort;
+
+/// Takes what the reader tells as one so, and counts it.
+#[derive(Drop)]
+pub struct Grouped {
+    walk: Coordinates,
+    flats: u64,
+}
+
+impl Grouped {
+    pub fn new() -> Grouped {
+        Grouped {
+            walk: Coordinates::new(),
+            flats: 0,
+        }
+    }
+
+    /// Sees that it answers as the walk that was told event by event.
+    pub fn expect_as(&self, rt: &impl Abort, both: &Both) {
+        assert!(rt; self.walk.done(), "done");
+        assert!(rt; self.faults() == both.by_walk(), "the faults");
+        assert!(rt; self.warnings() == both.warned_by_walk(), "the warnings");
+    }
+
+    /// Sees that the six types' faults at once are those one by one, and that it is quiet only where there is no warning.
+    fn expect_at_once(&self, rt: &impl Abort, text: &str) {
+        let mut at_once = SimpleFaults::all(None);
+        self.walk.faults(&mut at_once);
+        let row = [
+            at_once.point,
+            at_once.multi_point,
+            at_once.line_string,
+            at_once.multi_line_string,
+            at_once.polygon,
+            at_once.multi_polygon,
+        ];
+        assert!(rt; row == self.faults(), "{text}: the faults at once");
+        assert!(rt;
+            !self.walk.is_quiet() || self.warnings() == [Warnings::none(); 6],
+            "{text}: quiet"
+        );
+    }
+
+    fn faults(&self) -> Row {
+        let mut row = [None; 6];
+        for (found, simple) in row.iter_mut().zip(SIX) {
+            *found = self.walk.fault(simple);
+        }
+        row
+    }
+
+    fn warnings(&self) -> WarnedRow {
+        let mut row = [Warnings::none(); 6];
+        for (found, simple) in row.iter_mut().zip(SIX) {
+            *found = self.walk.warnings(simple);
+        }
+        row
+    }
+}
+
+impl EventSink for Grouped {
+    ghost heard = { λ grouped events. Unit {0} };
+
+    fn tell(&mut self, event: Event) {
+        self.walk.take(&event);
+    }
+
+    fn tell_flat(&mut self, flat: &Flat) {
+        self.walk.take_flat(flat);
+        self.flats = self.flats.saturating_add(1);
+    }
+
+    fn ignored(&self) -> u16 {
+        0
+    }
+
+    fn pass(&mut self, _left: u16) {}
+}
+
+/// Reads the text and spaces as one piece, in which the reader looks at each array of numbers as a whole.
+fn read(text: &str, grouped: &mut Grouped) {
+    let mut piece = [b' '; 512];
+    for (to, from) in piece.iter_mut().zip(text.as_bytes()) {
+        *to = *from;
+    }
+    tell(&piece, grouped);
+}
+
+fn expect_same(rt: &impl Abort, text: &str, flats: u64) {
+    let mut both = Both::new();
+    tell(text.as_bytes(), &mut both);
+    let mut grouped = Grouped::new();
+    read("[[[1,2],[3,4],[5,6],[7,8],[9,10]", &mut grouped);
+    grouped.walk.again();
+    grouped.flats = 0;
+    read(text, &mut grouped);
+    assert!(rt; grouped.walk.done(), "{text}: done");
+    assert!(rt; grouped.flats == flats, "{text}: told as one");
+    assert!(rt; grouped.faults() == both.by_walk(), "{text}: the faults");
+    assert!(rt;
+        grouped.warnings() == both.warned_by_walk(),
+        "{text}: the warnings"
+    );
+    grouped.expect_at_once(rt, text);
+}
+
+/// The value of the object's one member, which the reader tells as one, and the same value event by event at its place.
+fn expect_whole(rt: &impl Abort, object: &str, value: &str) {
+    let mut both = Both::new();
+    tell(value.as_bytes(), &mut both);
+    let mut only = OnlyFlats {
+        grouped: Grouped::new(),
+    };
+    let mut piece = [b' '; 512];
+    for (to, from) in piece.iter_mut().zip(object.as_bytes()) {
+        *to = *from;
+    }
+    tell(&piece, &mut only);
+    assert!(rt; only.grouped.flats == 1, "{object}: told as one");
+    only.grouped.expect_as(rt, &both);
+    only.grouped.expect_at_once(rt, object);
+}
+
+/// Takes only what the reader tells as one.
+#[derive(Drop)]
+struct OnlyFlats {
+    grouped: Grouped,
+}
+
+impl EventSink for OnlyFlats {
+    ghost heard = { λ only events. Unit {0} };
+
+    fn tell(&mut self, _event: Event) {}
+
+    fn tell_flat(&mut self, flat: &Flat) {
+        self.grouped.tell_flat(flat);
+    }
+
+    fn ignored(&self) -> u16 {
+        0
+    }
+
+    fn pass(&mut self, _left: u16) {}
+}
+
+#[test]
+fn a_position_is_the_value(rt: HostRuntime) {
+    let rows = [
+        ("{\"a\":[1,2]}", "     [1,2] "),
+        ("{\"a\":[1,2,3]}", "     [1,2,3] "),
+        ("{\"a\":[-180.0,90]}", "     [-180.0,90] "),
+        (
+            "{\"a\":[180.00000001,2,3.123456789]}",
+            "     [180.00000001,2,3.123456789] ",
+        ),
+        ("{\"a\":[1.12345678,90.5]}", "     [1.12345678,90.5] "),
+    ];
+    for (object, value) in rows {
+        expect_whole(&rt, object, value);
+    }
+}
+
+fn expect_rows(rt: &impl Abort, rows: &[(&'static str, u64)]) {
+    for (text, flats) in rows {
+        expect_same(rt, text, *flats);
+    }
+}
+
+#[test]
+fn told_as_one_or_by_events(rt: HostRuntime) {
+    expect_rows(
+        &rt,
+        &[
+            ("[1,2]", 0),
+            ("[1,2,3]", 0),
+            ("[1e7,2,3.123456789]", 0),
+            ("[1,2,3,4]", 0),
+            ("[1]", 0),
+            ("[1,1e999]", 0),
+            (
+                "[[1,2],[3,4,5],[6,7],[8,9],[10,11],[12,13.00000001],[14,95],[1,2]]",
+                8,
+            ),
+            (
+                "[[1,2],[3,4],[5,6],[7,8],[9,[1,2]],[1,2],{\"a\":[1,2]},[3,4],[1],[5,6]]",
+                9,
+            ),
+            (
+                "[[[0,0],[10,0],[10,10],[5,11],[0,10],[0,0]],[[1,1],[1,2],[2,2],[2,1.5],[2,1],[1,1]]]",
+                12,
+            ),
+            (
+                "[[[0,0],[0,10],[10,10],[11,5],[10,0],[0,0]],[[1,1],[2,1],[2,2],[1.5,2],[1,2],[1,1,1]]]",
+                12,
+            ),
+            (
+                "[[[0,0],[10,0],[10,10],[5,11.123456789],[181,10],[0,0.00],[0,0]],[],[[1,2],[3,4],[5,6],[7,8],[1,2,3],[1,2]]]",
+                13,
+            ),
+            (
+                "[[[[0,0],[10,0],[10,10],[5,11],[0,10],[0,0]],[[1,1],[1,2],[2,2],[2,1.5],[2,1],[1,1]]],[[[0,0],[10,0],[10,10],[5,11],[0,10.12345678],[0,1]]]]",
+                18,
+            ),
+            ("[[[[[1,2],[3,4],[5,6],[7,8],[9,10],[1,2]]]]]", 6),
+            (
+                "[[[1,2],[3,4],[5,6],[7,8],[9,10],7,[1,2],[3,4],[5,6]],[1,2],[3,4]]",
+                10,
+            ),
+            ("{\"a\":[[1,2],[3,4]]}", 2),
+        ],
+    );
+}

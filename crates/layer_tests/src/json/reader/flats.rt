@@ -1,0 +1,104 @@
+//! Arrays of numbers that are told at once, beside their bytes in turn, in texts of positions and in changed ones.
+
+use super::{FirstEvents, no_events};
+use gj_json::{EventSink, JsonFault, Limits, Reader};
+use std::process::Abort;
+
+/// The text, and spaces after it: each of its numbers has room after it, so that none is left to the slow path.
+pub(super) fn padded(text: &[u8]) -> [u8; 128] {
+    let mut piece = [b' '; 128];
+    for (to, from) in piece.iter_mut().zip(text) {
+        *to = *from;
+    }
+    piece
+}
+
+fn by_piece(limits: Limits, piece: &[u8], sink: &mut FirstEvents) -> Option<JsonFault> {
+    match Reader::new(limits).feed(piece, sink) {
+        Ok(()) => None,
+        Err(fault) => Some(fault),
+    }
+}
+
+fn by_bytes(limits: Limits, piece: &[u8], sink: &mut FirstEvents) -> Option<JsonFault> {
+    let mut reader = Reader::new(limits);
+    for byte in piece {
+        match reader.push(*byte) {
+            Ok(events) => {
+                for event in &events {
+                    sink.tell(*event);
+                }
+            }
+            Err(fault) => return Some(fault),
+        }
+    }
+    None
+}
+
+fn is_same(one: &FirstEvents, other: &FirstEvents) -> bool {
+    for index in 0..16 {
+        let same = match (one.events.get(index), other.events.get(index)) {
+            (Some(event), Some(told)) => *event == *told,
+            (None, None) => true,
+            _ => false,
+        };
+        if !same {
+            return false;
+        }
+    }
+    true
+}
+
+pub(super) fn expect_same(
+    rt: &impl Abort,
+    limits: Limits,
+    piece: &[u8],
+    text: &str,
+    index: usize,
+    byte: u8,
+) {
+    let mut at_once = no_events();
+    let mut in_turn = no_events();
+    let fault = by_piece(limits, piece, &mut at_once);
+    assert!(rt;
+        fault == by_bytes(limits, piece, &mut in_turn),
+        "{text} with {byte} at {index}: the fault"
+    );
+    assert!(rt;
+        is_same(&at_once, &in_turn),
+        "{text} with {byte} at {index}: the events"
+    );
+}
+
+fn expect_each(rt: &impl Abort, limits: Limits, text: &str) {
+    for index in 0..text.len() {
+        for byte in b"0 ,]-.e7[\n" {
+            let mut piece = padded(text.as_bytes());
+            if index < 128 {
+                piece[index] = *byte;
+            }
+            expect_same(rt, limits, &piece, text, index, *byte);
+        }
+    }
+}
+
+#[test]
+fn arrays_at_once_are_their_bytes_in_turn(rt: HostRuntime) {
+    for text in [
+        "[[1.5,-2],[3, 4,5.25],[ 6 , 7 ]]",
+        "{\"a\":[[-122.4194155,37.7749295],\n[0,-0.0]]}",
+        "[[12345678901234567,1e5],[1,2,3,4],[01,2]]",
+        "[\n [\n  10.25,\n  20.5\n ],\n [\n  0.1,\n  0.2,\n  0.3\n ]\n]",
+    ] {
+        expect_each(&rt, Limits::usual(), text);
+    }
+}
+
+#[test]
+fn arrays_at_once_keep_to_the_depth(rt: HostRuntime) {
+    if let Some(limits) = Limits::new(2, 1_000) {
+        for text in ["[[1,2],[3,4]]", "[[[1,2]]]", "{\"a\":[1,2],\"b\":[[1,2]]}"] {
+            expect_each(&rt, limits, text);
+        }
+    }
+}

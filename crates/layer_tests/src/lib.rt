@@ -1,0 +1,13 @@
+//! The tests of the layers, through what each makes public.
+//!
+//! They stand in a crate of their own because a crate with tests is proved twice, with them and without.
+#![tactic(auto)]
+
+#[cfg(test)]
+mod coords;
+#[cfg(test)]
+mod json;
+#[cfg(test)]
+mod number;
+#[cfg(test)]
+mod rules;

@@ -1,0 +1,4 @@
+//! Numbers.
+mod literal;
+mod pair;
+mod short;

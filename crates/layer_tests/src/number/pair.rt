@@ -1,0 +1,71 @@
+//! What no clause says: the parts of pairs, and which others are left.
+use gj_number::{Short, read_pair};
+
+/// The numbers, each by its digits, its places and its sign, and where the second and the closing bracket stand.
+type Parts = (u64, u8, bool, u64, u8, bool, usize, usize);
+
+fn parts(text: &str) -> Option<Parts> {
+    let mut piece = [b' '; 64];
+    for (to, from) in piece.iter_mut().zip(text.as_bytes()) {
+        *to = *from;
+    }
+    let mut first = Short::zero();
+    let mut second = Short::zero();
+    match read_pair(&piece, &mut first, &mut second) {
+        Some(pair) => Some((
+            first.digits,
+            first.places,
+            first.negative,
+            second.digits,
+            second.places,
+            second.negative,
+            pair.second,
+            pair.end,
+        )),
+        None => None,
+    }
+}
+
+#[test]
+fn reads_pairs(rt: HostRuntime) {
+    for (text, expected) in [
+        ("12.5,34.25]", (125, 1, false, 3425, 2, false, 5, 10)),
+        (
+            "-122.4194155, 37.7749295]",
+            (1224194155, 7, true, 377749295, 7, false, 14, 24),
+        ),
+        ("0.1,-0.00000000001]", (1, 1, false, 1, 11, true, 4, 18)),
+        (
+            "-179.12345678901,-89.10987654321]",
+            (17912345678901, 11, true, 8910987654321, 11, true, 17, 32),
+        ),
+    ] {
+        assert_eq!(rt; parts(text), Some(expected), "{text}");
+    }
+}
+
+#[test]
+fn leaves_the_others(rt: HostRuntime) {
+    for text in [
+        "",
+        "1,2]",
+        "1.5,2]",
+        "1.5,2.5,3.5]",
+        " 1.5,2.5]",
+        "1.5,  2.5]",
+        "1.5 ,2.5]",
+        "1.5,2.5 ]",
+        "01.5,2.5]",
+        "1.5,-00.5]",
+        "1.,2.5]",
+        "1.5,.5]",
+        "1.5,2.5e1]",
+        "1.5e1,2.5]",
+        "--1.5,2.5]",
+        "1234.5,2.5]",
+        "1.5;2.5]",
+        "1.5,2.5}",
+    ] {
+        assert!(rt; parts(text).is_none(), "{text}");
+    }
+}

@@ -1,0 +1,4 @@
+//! Rules, verdicts and sequences.
+mod events;
+mod linter;
+mod sequence;
