@@ -6,3 +6,4 @@ pub mod RestsByState
 pub mod PartScans
 pub mod FoundParts
 pub mod StateMoves
+pub mod DecidedNumbers

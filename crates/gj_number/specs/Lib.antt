@@ -1,5 +1,6 @@
 pub mod Bytes
 pub mod Grammar
+pub mod DecidedNumbers
 pub mod Exact
 pub mod Value
 pub mod Literal

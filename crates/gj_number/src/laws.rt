@@ -1,8 +1,18 @@
 //! Laws of the definitions, each the contract of a function that does nothing.
-ghost use Rattle.std.specs.Prelude.{◌≡◌, ◌↔◌, ℕ, List, Some, None};
-ghost use Rattle.gj_number.specs.Grammar.{IsNumber};
+ghost use Rattle.std.specs.Prelude.{◌≡◌, ◌↔◌, ℕ, ◌⊎◌, true, List, [], ◌∷◌, ◌++◌, Some, None};
+ghost use Rattle.gj_number.specs.Bytes.{minus_sign, IsDigit, IsNumberByte};
+ghost use Rattle.gj_number.specs.Grammar.{IsNumber, BeginsNumber};
+ghost use Rattle.gj_number.specs.DecidedNumbers.{is_number, begins_number};
 ghost use Rattle.gj_number.specs.Exact.{Exact, IsNormal, SameValue};
 ghost use Rattle.gj_number.specs.Value.{Denotes, IsHeld, value_of};
+
+/// Functions decide which bytes are a number and which begin one, and a number begins and goes on by certain bytes alone.
+pub fn decided_numbers()
+    ensures number { (bytes : List ℕ) → (is_number bytes ≡ true) ↔ IsNumber bytes }
+    ensures begins { (bytes : List ℕ) → (begins_number bytes ≡ true) ↔ BeginsNumber bytes }
+    ensures first { (b : ℕ) → BeginsNumber (b ∷ []) ↔ ((b ≡ minus_sign) ⊎ IsDigit b) }
+    ensures last { (bytes : List ℕ) (b : ℕ) → BeginsNumber (bytes ++ b ∷ []) → IsNumberByte b }
+{}
 
 /// Each number denotes one decimal, and what denotes one is a number.
 pub fn one_decimal()

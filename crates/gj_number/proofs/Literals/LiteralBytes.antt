@@ -25,7 +25,7 @@ begins bytes t h =
     (e.0, rest_is (bytes ++ e.0) start e.1 (reaches_on start t e.1 bytes e.0 h e.2) e.3)
 
 -- the scan of a number
-number_scan : (bytes : List ℕ) → IsNumber bytes → (t : Scan) × Reaches start bytes t × (may_end_in t.state ≡ true)
+pub number_scan : (bytes : List ℕ) → IsNumber bytes → (t : Scan) × Reaches start bytes t × (may_end_in t.state ≡ true)
 number_scan bytes h = let p = parts_of bytes h in let k = parts_reach p.0 bytes p.1 in (k.0, k.1, k.2.ends)
 
 -- a number's scan is one in which it may end, and only a number's is

@@ -67,6 +67,12 @@ may_end_in InFraction = true
 may_end_in InExponent = true
 may_end_in _ = false
 
+-- the state behind some bytes, if each of them may stand where it does
+abbrev pub state_after : Option State → List ℕ → Option State
+state_after state [] = state
+state_after None (b ∷ bytes) = None
+state_after (Some state) (b ∷ bytes) = state_after (next_of state (class_of b)) bytes
+
 -- no digit behind the point has come here
 abbrev pub is_before_fraction : State → Bool
 is_before_fraction Start = true
