@@ -3,7 +3,6 @@ use Rattle.std.specs.Prelude.{◌≡◌, ◌≢◌, ℕ, zero, suc, ◌+◌, ◌
 use Rattle.gj_json.specs.declared.constant.Constant.{Constant}
 use Rattle.gj_json.specs.declared.mode.Bounds.{Bounds}
 use Rattle.gj_json.specs.declared.mode.Bounds.TheVariants.{Any}
-use Rattle.gj_json.specs.Internal.NumberStates.{NumberState}
 use Rattle.gj_json.specs.declared.mode.StringState.{StringState}
 use Rattle.gj_json.specs.declared.mode.StringState.TheVariants.{Plain, Escape, HexDue, HexOne, HexTwo, HexThree, InCharacter}
 use Rattle.gj_json.specs.Bytes.{open_bracket, open_brace, comma, colon, quote, backslash, letter_u, mark_first, mark_second}
@@ -11,7 +10,6 @@ use Rattle.gj_json.specs.Tree.{Text, Tree, constant, number, string, array, obje
 use Rattle.gj_number.specs.Grammar.{BeginsNumber as NumberFront}
 use Rattle.gj_json.specs.Characters.{hex_of, Lead, lead_of, low_of, high_of, SpellsContent}
 use Rattle.gj_json.specs.Grammar.{Then, White, Exactly, Quoted, letters_of, Spells}
-use Rattle.gj_json.specs.Internal.NumberStates.{number_state}
 use Rattle.gj_json.specs.Text.{SpellsMark}
 
 -- a member that has ended
@@ -33,7 +31,7 @@ pub data Leaf : Type 0 where
   array_opened : (place : ℕ) → Leaf
   object_opened : (place : ℕ) → Leaf
   constant_on : (which : Constant) → (place : ℕ) → (left : List ℕ) → Leaf
-  number_on : (place : ℕ) → (so_far : List ℕ) → (state : NumberState) → Leaf
+  number_on : (place : ℕ) → (so_far : List ℕ) → Leaf
   string_on : (place : ℕ) → (so_far : List ℕ) → (state : StringState) → Leaf
   name_due : (place : ℕ) → (done : List Member) → Leaf
   name_on : (place : ℕ) → (done : List Member) → (name_place : ℕ) → (so_far : List ℕ) → (state : StringState) → Leaf
@@ -121,14 +119,14 @@ abbrev pub Behind : Tree → ℕ → List ℕ → Type 0
 Behind (number place literal end) start bytes = White start bytes × (bytes ≢ [])
 Behind _ start bytes = White start bytes
 
--- what stands behind the white space at the right edge; a number's state is the one that its bytes lead to
+-- what stands behind the white space at the right edge
 abbrev pub SpellsLeaf : List Frame → Leaf → ℕ → List ℕ → Type 0
 SpellsLeaf stack value_due start bytes = IsDue stack × (bytes ≡ [])
 SpellsLeaf stack (value_done t) start bytes = Then (Spells t) (Behind t) start bytes
 SpellsLeaf stack (array_opened place) start bytes = ArrayOpened place [] White start bytes
 SpellsLeaf stack (object_opened place) start bytes = ObjectOpened place [] White start bytes
 SpellsLeaf stack (constant_on which place left) start bytes = (place ≡ start) × (letters_of which ≡ bytes ++ left) × (bytes ≢ []) × (left ≢ [])
-SpellsLeaf stack (number_on place so_far state) start bytes = (place ≡ start) × (bytes ≡ so_far) × BeginsNumber so_far × (number_state so_far ≡ Some state)
+SpellsLeaf stack (number_on place so_far) start bytes = (place ≡ start) × (bytes ≡ so_far) × BeginsNumber so_far
 SpellsLeaf stack (string_on place so_far state) start bytes = BeginsQuoted place so_far state start bytes
 SpellsLeaf stack (name_due place done) start bytes = (done ≢ []) × ObjectOpened place done White start bytes
 SpellsLeaf stack (name_on place done np so_far state) start bytes = ObjectOpened place done (Then White (BeginsQuoted np so_far state)) start bytes
@@ -196,7 +194,7 @@ ExtendsLeaf stack (value_done t) T = Has stack t T
 ExtendsLeaf stack (array_opened place) T = (elements : Elements) × (close : ℕ) × Has stack (array place elements close) T
 ExtendsLeaf stack (object_opened place) T = (members : Members) × (close : ℕ) × Has stack (object place members close) T
 ExtendsLeaf stack (constant_on which place left) T = Has stack (constant which place) T
-ExtendsLeaf stack (number_on place so_far state) T = (more : List ℕ) × (end : ℕ) × Has stack (number place (so_far ++ more) end) T
+ExtendsLeaf stack (number_on place so_far) T = (more : List ℕ) × (end : ℕ) × Has stack (number place (so_far ++ more) end) T
 ExtendsLeaf stack (string_on place so_far state) T = (content : List ℕ) × (end : ℕ) × Has stack (string place (so_far ++ content) end) T
 ExtendsLeaf stack (name_due place done) T = (np : ℕ) × (name : List ℕ) × (ne : ℕ) × (t : Tree) × Has (in_object place done np name ne ∷ stack) t T
 ExtendsLeaf stack (name_on place done np so_far state) T = (content : List ℕ) × (ne : ℕ) × (t : Tree) × Has (in_object place done np (so_far ++ content) ne ∷ stack) t T

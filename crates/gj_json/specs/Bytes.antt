@@ -1,6 +1,6 @@
 -- The bytes that the grammar names, and its classes of bytes (RFC 8259, section 2). No other file writes a byte as a number.
 use Rattle.std.specs.Prelude.{◌≡◌, ℕ, ◌⊎◌, List, [], ◌∷◌}
-pub use Rattle.gj_number.specs.Bytes.{minus_sign, plus_sign, decimal_point, lower_e, upper_e, zero_digit, nine_digit, IsDigit, IsFirstDigit}
+pub use Rattle.gj_number.specs.Bytes.{minus_sign, zero_digit, nine_digit, IsDigit}
 
 -- the structural characters
 abbrev pub open_bracket : ℕ

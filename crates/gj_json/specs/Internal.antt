@@ -1,7 +1,6 @@
 -- What the proofs and the private functions of this crate need.
 pub mod OpenLevels
 pub mod ByteClasses
-pub mod NumberStates
 pub mod TextMachine
 pub mod Transitions
 pub mod ToldEvents

@@ -15,12 +15,8 @@ pub enum Class {
     Comma,
     Colon,
     Quote,
-    Minus,
-    Plus,
-    Point,
-    Exponent,
-    ZeroDigit,
-    FirstDigit,
+    /// The first byte of a number.
+    NumberStart,
     /// The first letter of a literal name.
     Letter(Constant),
     Other,
@@ -33,8 +29,7 @@ pub fn classify(byte: u8) -> Class
     ensures { result ≡ class_of byte }
 {
     match byte {
-        b'1'..=b'9' => Class::FirstDigit,
-        b'0' => Class::ZeroDigit,
+        b'0'..=b'9' => Class::NumberStart,
         b' ' | b'\t' | b'\n' | b'\r' => Class::White,
         b'[' => Class::OpenArray,
         b']' => Class::CloseArray,
@@ -43,10 +38,7 @@ pub fn classify(byte: u8) -> Class
         b',' => Class::Comma,
         b':' => Class::Colon,
         b'"' => Class::Quote,
-        b'-' => Class::Minus,
-        b'+' => Class::Plus,
-        b'.' => Class::Point,
-        b'e' | b'E' => Class::Exponent,
+        b'-' => Class::NumberStart,
         b'n' => Class::Letter(Constant::Null),
         b't' => Class::Letter(Constant::True),
         b'f' => Class::Letter(Constant::False),

@@ -36,10 +36,7 @@ fn begin(class: Class) -> Move
         Class::OpenArray => Move::Open(Level::Array),
         Class::OpenObject => Move::Open(Level::Object),
         Class::Quote => Move::Go(Mode::StringOn(StringState::Plain), Ending::Nothing),
-        Class::Minus | Class::ZeroDigit | Class::FirstDigit => Move::Go(
-            Mode::NumberOn,
-            Ending::Nothing,
-        ),
+        Class::NumberStart => Move::Go(Mode::NumberOn, Ending::Nothing),
         Class::Letter(which) => Move::Go(Mode::ConstantOn(which, 1), Ending::Nothing),
         _ => Move::Refuse,
     }

@@ -3,15 +3,15 @@ use Rattle.std.proofs.Common.{◌≤◌, ◌≡◌, ℕ, suc, ◌+◌, ◌==◌,
 use Rattle.std.proofs.lemmas.Bool.Decides.{nat_tests}
 use Rattle.gj_json.specs.Bytes.{mark_first, mark_second, mark_third}
 use Rattle.gj_json.specs.declared.class.Class.{Class}
-use Rattle.gj_json.specs.declared.class.Class.TheVariants.{White, OpenArray, CloseArray, OpenObject, CloseObject, Comma, Colon, Quote, Minus, Plus, Point, Exponent, ZeroDigit, FirstDigit, Letter, Other}
+use Rattle.gj_json.specs.declared.class.Class.TheVariants.{White, OpenArray, CloseArray, OpenObject, CloseObject, Comma, Colon, Quote, NumberStart, Letter, Other}
 use Rattle.gj_json.specs.declared.constant.Constant.{Constant}
 use Rattle.gj_json.specs.declared.constant.Constant.TheVariants.{Null, True, False}
-use Rattle.gj_json.specs.Internal.NumberStates.{NumberState, turn_of}
 use Rattle.gj_number.specs.Exact.{Exact}
 use Rattle.gj_number.specs.Value.{value_of}
 use Rattle.gj_json.specs.declared.mode.NumberTurn.{NumberTurn}
 use Rattle.gj_json.specs.Names.{Words, words_of}
-use Rattle.gj_json.specs.Internal.UnderWay.{under_leaf, under_of, Turns, HasValue, HasWords}
+use Rattle.gj_number.specs.DecidedNumbers.{is_number, begins_number}
+use Rattle.gj_json.specs.Internal.UnderWay.{turn_of, under_leaf, under_of, Turns, HasValue, HasWords}
 use Rattle.gj_json.specs.declared.mode.StringState.{StringState}
 use Rattle.gj_json.specs.declared.levels.Level.{Level}
 use Rattle.gj_json.specs.declared.mode.Mode.{Mode}
@@ -23,7 +23,7 @@ use Rattle.gj_json.specs.Tree.{Tree, constant, number, end_of_array, element, en
 use Rattle.gj_json.specs.Grammar.{letters_of}
 use Rattle.gj_json.specs.Names.{known_of}
 use Rattle.gj_json.specs.Internal.ByteClasses.{class_of}
-use Rattle.gj_json.specs.Internal.TextMachine.{Broken, text_due, mark_one, mark_two, begun, with_mark, step, Frame, in_array, in_object, Member, Leaf, Partial, value_due, value_done, array_opened, object_opened, constant_on, number_on, string_on, name_due, name_on, colon_due, to, step_leaf, begin_value, after_value, step_value_due, step_array_opened, step_object_opened, step_name_due, step_colon_due, step_constant, step_number, step_string, step_name, string_next, StringStep, string_ends, string_goes, string_refuses, number_next, number_may_end, letters_after}
+use Rattle.gj_json.specs.Internal.TextMachine.{Broken, text_due, mark_one, mark_two, begun, with_mark, step, Frame, in_array, in_object, Member, Leaf, Partial, value_due, value_done, array_opened, object_opened, constant_on, number_on, string_on, name_due, name_on, colon_due, to, step_leaf, begin_value, after_value, step_value_due, step_array_opened, step_object_opened, step_name_due, step_colon_due, step_constant, step_number, step_string, step_name, string_next, StringStep, string_ends, string_goes, string_refuses, letters_after}
 use Rattle.gj_json.specs.Internal.Transitions.{string_move, begin_move, due_move, array_move, object_move, name_due_move, colon_move, after_move, constant_move, number_move, value_string_move, name_string_move, move_of}
 use Rattle.std.proofs.lemmas.List.{append-nil}
 use Rattle.gj_json.specs.declared.event.Event.{Event}
@@ -64,12 +64,7 @@ on_begin stack before start n b OpenArray e = (ap (λ xs. xs ++ timed (n + 1) n 
 on_begin stack before start n b OpenObject e = (ap (λ xs. xs ++ timed (n + 1) n What.OpenObject ∷ []) (sym e), tt)
 on_begin stack before start n b (Letter which) e = (ap (λ xs. xs ++ []) (sym e), word_at which n)
 on_begin stack before start n b Quote e = (ap (λ xs. xs ++ []) (sym e), tt)
-on_begin stack before start n b Minus e = (ap (λ xs. xs ++ []) (sym e), tt)
-on_begin stack before start n b ZeroDigit e = (ap (λ xs. xs ++ []) (sym e), tt)
-on_begin stack before start n b FirstDigit e = (ap (λ xs. xs ++ []) (sym e), tt)
-on_begin stack before start n b Plus e = tt
-on_begin stack before start n b Point e = tt
-on_begin stack before start n b Exponent e = tt
+on_begin stack before start n b NumberStart e = (ap (λ xs. xs ++ []) (sym e), tt)
 on_begin stack before start n b White e = tt
 on_begin stack before start n b CloseArray e = tt
 on_begin stack before start n b CloseObject e = tt
@@ -128,11 +123,11 @@ module _ (value : Option Exact) (words : Words) where
   number_told stack place so_far n es None h = tt
   number_told stack place so_far n es (Some s) h = (h.0 ∙ simp (append_assoc, append-nil), h.1)
 
-  on_number : (stack : List Frame) (place : ℕ) (so_far : List ℕ) (n b : ℕ) (c : Class) (o : Option NumberState) (may_end : Bool) → (turn_of o may_end ≡ NumberTurn.Ends → value ≡ value_of so_far)
-      → Tell (stack_timed stack ++ []) n (emitted NumberOn (turn_of o may_end) (number_move (turn_of o may_end) (after_move (inner_of (levels_of stack)) c)) value place n) (step_number stack place so_far n b o (if may_end then after_value stack (number place so_far n) n c else None))
-  on_number stack place so_far n b c (Some next) may_end v = (sym (append-nil (stack_timed stack ++ [])), tt)
-  on_number stack place so_far n b c None true v = rw (v refl) (number_told stack place so_far n _ (after_value stack (number place so_far n) n c) (on_after stack (number place so_far n) place n c))
-  on_number stack place so_far n b c None false v = tt
+  on_number : (stack : List Frame) (place : ℕ) (so_far : List ℕ) (n b : ℕ) (c : Class) (goes may_end : Bool) → (turn_of goes may_end ≡ NumberTurn.Ends → value ≡ value_of so_far)
+      → Tell (stack_timed stack ++ []) n (emitted NumberOn (turn_of goes may_end) (number_move (turn_of goes may_end) (after_move (inner_of (levels_of stack)) c)) value place n) (step_number stack place so_far b goes (if may_end then after_value stack (number place so_far n) n c else None))
+  on_number stack place so_far n b c true may_end v = (sym (append-nil (stack_timed stack ++ [])), tt)
+  on_number stack place so_far n b c false true v = rw (v refl) (number_told stack place so_far n _ (after_value stack (number place so_far n) n c) (on_after stack (number place so_far n) place n c))
+  on_number stack place so_far n b c false false v = tt
 
   on_string : (stack : List Frame) (place : ℕ) (so_far : List ℕ) (state : StringState) (n : ℕ) (s : StringStep) → words ≡ words_of so_far
       → Tell (stack_timed stack ++ []) n (made (value_string_move words (string_move s)) place n) (step_string stack place so_far n s)
@@ -184,7 +179,7 @@ module _ (value : Option Exact) (words : Words) where
   tells stack (array_opened place) mode turn start n b a u v x g w = rw a (on_array_opened stack place start n b (class_of b))
   tells stack (object_opened place) mode turn start n b a u v x g w = rw a (on_object_opened stack place start n b (class_of b))
   tells stack (constant_on which place left) mode turn start n b a u v x g w = rw (a.1, g) (on_constant stack which place left n b a.0 a.2 a.3 w)
-  tells stack (number_on place so_far state) mode turn start n b a u v x g w = rw (a, u, g) (on_number stack place so_far n b (class_of b) (number_next state (class_of b)) (number_may_end state) (λ e. v (u ∙ e)))
+  tells stack (number_on place so_far) mode turn start n b a u v x g w = rw (a, u, g) (on_number stack place so_far n b (class_of b) (begins_number (so_far ++ b ∷ [])) (is_number so_far) (λ e. v (u ∙ e)))
   tells stack (string_on place so_far state) mode turn start n b a u v x g w = rw (a, g) (on_string stack place so_far state n (string_next state b) x)
   tells stack (name_due place done) mode turn start n b a u v x g w = rw a (on_name_due stack place done start n (class_of b))
   tells stack (name_on place done np so_far state) mode turn start n b a u v x g w = rw (a, g) (on_name_string stack place done np so_far state n (string_next state b) x)
@@ -201,12 +196,7 @@ begin_began stack n b OpenArray = tt
 begin_began stack n b OpenObject = tt
 begin_began stack n b (Letter which) = refl
 begin_began stack n b Quote = refl
-begin_began stack n b Minus = refl
-begin_began stack n b ZeroDigit = refl
-begin_began stack n b FirstDigit = refl
-begin_began stack n b Plus = tt
-begin_began stack n b Point = tt
-begin_began stack n b Exponent = tt
+begin_began stack n b NumberStart = refl
 begin_began stack n b White = tt
 begin_began stack n b CloseArray = tt
 begin_began stack n b CloseObject = tt
@@ -262,10 +252,10 @@ word_began stack which place (a ∷ c ∷ left) n b = go (b == a)
     go true = refl
     go false = tt
 
-number_began : (stack : List Frame) (place : ℕ) (so_far : List ℕ) (n b : ℕ) (c : Class) (o : Option NumberState) (may_end : Bool) → Began place (step_number stack place so_far n b o (if may_end then after_value stack (number place so_far n) n c else None))
-number_began stack place so_far n b c (Some next) may_end = refl
-number_began stack place so_far n b c None true = after_began place stack (number place so_far n) n c
-number_began stack place so_far n b c None false = tt
+number_began : (stack : List Frame) (place : ℕ) (so_far : List ℕ) (n b : ℕ) (c : Class) (goes may_end : Bool) → Began place (step_number stack place so_far b goes (if may_end then after_value stack (number place so_far n) n c else None))
+number_began stack place so_far n b c true may_end = refl
+number_began stack place so_far n b c false true = after_began place stack (number place so_far n) n c
+number_began stack place so_far n b c false false = tt
 
 text_began : (stack : List Frame) (place : ℕ) (so_far : List ℕ) (n : ℕ) (s : StringStep) → Began place (step_string stack place so_far n s)
 text_began stack place so_far n string_ends = tt
@@ -283,7 +273,7 @@ began stack (value_done t) mode start n b a g = rw a (after_began n stack t n (c
 began stack (array_opened place) mode start n b a g = rw a (array_began stack place n b (class_of b))
 began stack (object_opened place) mode start n b a g = rw a (object_began stack place n (class_of b))
 began stack (constant_on which place left) mode start n b a g = rw (a.1, g) (word_began stack which place left n b)
-began stack (number_on place so_far state) mode start n b a g = rw (a, g) (number_began stack place so_far n b (class_of b) (number_next state (class_of b)) (number_may_end state))
+began stack (number_on place so_far) mode start n b a g = rw (a, g) (number_began stack place so_far n b (class_of b) (begins_number (so_far ++ b ∷ [])) (is_number so_far))
 began stack (string_on place so_far state) mode start n b a g = rw (a, g) (text_began stack place so_far n (string_next state b))
 began stack (name_due place done) mode start n b a g = rw a (name_began stack place done n (class_of b))
 began stack (name_on place done np so_far state) mode start n b a g = rw (a, g) (name_text_began stack place done np so_far n (string_next state b))

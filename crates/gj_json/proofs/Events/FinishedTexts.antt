@@ -7,7 +7,6 @@ use Rattle.gj_json.specs.declared.event.Event.{Event}
 use Rattle.gj_json.specs.declared.event.What.TheVariants as What
 use Rattle.gj_json.specs.declared.fault.JsonFault.{JsonFault}
 use Rattle.gj_json.specs.declared.fault.Cause.TheVariants.{Truncated}
-use Rattle.gj_json.specs.Internal.NumberStates.{NumberState}
 use Rattle.gj_json.specs.declared.levels.Level.{Level}
 use Rattle.gj_json.specs.declared.mode.Mode.{Mode}
 use Rattle.gj_json.specs.declared.mode.Mode.TheVariants.{ValueDone, NumberOn}
@@ -19,7 +18,7 @@ use Rattle.gj_json.specs.Refusal.{RefusedFor, IsAdmitted}
 use Rattle.gj_json.specs.Events.{Timed, events, mark_events, text_events, all_events, events_by}
 use Rattle.gj_json.specs.Open.{open_at}
 use Rattle.gj_json.specs.Internal.OpenLevels.{levels_in, inner_of}
-use Rattle.gj_json.specs.Internal.TextMachine.{Frame, in_array, in_object, Leaf, value_due, value_done, array_opened, object_opened, constant_on, number_on, string_on, name_due, name_on, colon_due, Broken, text_due, mark_one, mark_two, begun, finish_leaf, text_with, finish, number_may_end}
+use Rattle.gj_json.specs.Internal.TextMachine.{Frame, in_array, in_object, Leaf, value_due, value_done, array_opened, object_opened, constant_on, number_on, string_on, name_due, name_on, colon_due, Broken, text_due, mark_one, mark_two, begun, finish_leaf, text_with, finish, is_number}
 use Rattle.gj_json.specs.Reader.{StandsFor}
 use Rattle.gj_json.specs.Internal.SeenEvents.{seen, partial_timed, stack_timed, leaf_timed, ConstantAt, BegunAs, EdgeAt}
 use Rattle.gj_json.specs.Internal.ReaderState.{StandsWell, StandsRefused, StandsAs, LeafAs, FitsLeaf, FitsBroken, levels_of, levels_with}
@@ -35,8 +34,8 @@ use Rattle.gj_number.specs.Grammar.{IsNumber}
 use Rattle.gj_number.specs.Value.{value_of}
 use Rattle.gj_number.specs.Literal.{StandsFor as LiteralStandsFor}
 use Rattle.gj_json.specs.Internal.UnderWay.{Under, nothing, number as number_under, text as text_under, under_leaf, under_of, Keeps}
-use Rattle.gj_json.proofs.Machine.BytesUnderWay.{is_number, mode_under}
-use Rattle.gj_json.proofs.Readers.NumberUnderWay.{ends_by, number_by}
+use Rattle.gj_json.proofs.Machine.BytesUnderWay.{has_number, mode_under}
+use Rattle.gj_number.proofs.Grammar.DecidedNumbers.{number as decided_number}
 use Rattle.gj_json.proofs.Machine.MachineTexts.{text_start, text_goes_on, Finishes, text_finishes, finishes_text}
 use Rattle.gj_json.proofs.Events.EventTimes.{told}
 
@@ -47,7 +46,7 @@ Says d before (Some found) o = (tree : Tree) × (o ≡ Some tree) × (depth tree
 
 -- the number under way may end here or not, and has this value where it may
 abbrev pub EndsAs : Under → Bool → Option Exact → Type 0
-EndsAs (number_under so_far state) may_end value = (may_end ≡ number_may_end state) × (number_may_end state ≡ true → value ≡ value_of so_far)
+EndsAs (number_under so_far) may_end value = (may_end ≡ is_number so_far) × (is_number so_far ≡ true → value ≡ value_of so_far)
 EndsAs _ may_end value = Unit {0}
 
 module _ (may_end : Bool) (value : Option Exact) where
@@ -56,20 +55,20 @@ module _ (may_end : Bool) (value : Option Exact) where
   top_says d (in_array place done ∷ stack) t n start f = refl
   top_says d (in_object place done np name ne ∷ stack) t n start f = refl
 
-  number_says : (d : ℕ) (stack : List Frame) (place : ℕ) (so_far : List ℕ) (state : NumberState) (n : ℕ) → EndsAs (number_under so_far state) may_end value
-      → Says d (stack_timed stack ++ []) (last_event NumberOn (inner_of (levels_of stack)) may_end value place) (finish_leaf stack (number_on place so_far state) n)
-  number_says d [] place so_far state n h = rw (h.0) (go (number_may_end state) h.1)
+  number_says : (d : ℕ) (stack : List Frame) (place : ℕ) (so_far : List ℕ) (n : ℕ) → EndsAs (number_under so_far) may_end value
+      → Says d (stack_timed stack ++ []) (last_event NumberOn (inner_of (levels_of stack)) may_end value place) (finish_leaf stack (number_on place so_far) n)
+  number_says d [] place so_far n h = rw (h.0) (go (is_number so_far) h.1)
     where
       go : (t : Bool) → (t ≡ true → value ≡ value_of so_far) → Says d [] (if t then Some (Some (event_at place (What.Number value))) else None) (if t then Some (number place so_far n) else None)
       go true v = (number place so_far n, refl, omega arith, rw (v refl) refl)
       go false v = refl
-  number_says d (in_array p done ∷ stack) place so_far state n h = refl
-  number_says d (in_object p done np name ne ∷ stack) place so_far state n h = refl
+  number_says d (in_array p done ∷ stack) place so_far n h = refl
+  number_says d (in_object p done np name ne ∷ stack) place so_far n h = refl
 
   leaf_says : (d : ℕ) (stack : List Frame) (leaf : Leaf) (mode : Mode) (start n : ℕ) → LeafAs leaf mode → EndsAs (under_leaf leaf) may_end value → FitsLeaf d stack leaf → BegunAs leaf start → ConstantAt leaf n
       → Says d (stack_timed stack ++ leaf_timed leaf) (last_event mode (inner_of (levels_with leaf (levels_of stack))) may_end value start) (finish_leaf stack leaf n)
   leaf_says d stack (value_done t) mode start n a u f g w = rw a (top_says d stack t n start f.0)
-  leaf_says d stack (number_on place so_far state) mode start n a u f g w = rw (a, g) (number_says d stack place so_far state n u)
+  leaf_says d stack (number_on place so_far) mode start n a u f g w = rw (a, g) (number_says d stack place so_far n u)
   leaf_says d [] (constant_on which place []) mode start n a u f g w = absurd (omega (arith, w.1))
   leaf_says d [] (constant_on which place (x ∷ left)) mode start n a u f g w = rw (a.1) refl
   leaf_says d (frame ∷ stack) (constant_on which place left) mode start n a u f g w = rw (a.1) refl
@@ -136,9 +135,9 @@ LiteralEnds reader may_end value = (bytes : List ℕ) → LiteralStandsFor reade
 ends_as : (u : Under) (reader : Reader) (may_end : Bool) (value : Option Exact) → LiteralEnds reader may_end value → Keeps u reader.literal reader.content → EndsAs u may_end value
 ends_as nothing reader may_end value h k = tt
 ends_as (text_under so_far state) reader may_end value h k = tt
-ends_as (number_under so_far state) reader may_end value h k = (
-  go may_end (number_may_end state) (λ e. ends_by so_far state k.1 ((h so_far k.0).0.0 e)) (λ e. (h so_far k.0).0.1 (number_by so_far state k.1 e)),
-  λ e. (h so_far k.0).1 (number_by so_far state k.1 e),
+ends_as (number_under so_far) reader may_end value h k = (
+  go may_end (is_number so_far) (λ e. (decided_number so_far).1 ((h so_far k).0.0 e)) (λ e. (h so_far k).0.1 ((decided_number so_far).0 e)),
+  λ e. (h so_far k).1 ((decided_number so_far).0 e),
 )
   where
     go : (x y : Bool) → (x ≡ true → y ≡ true) → (y ≡ true → x ≡ true) → x ≡ y
@@ -158,7 +157,7 @@ ends reader bytes may_end value l live h =
 under_so : (u : Under) → (may_end : Bool) × (value : Option Exact) × EndsAs u may_end value
 under_so nothing = (false, None, tt)
 under_so (text_under so_far state) = (false, None, tt)
-under_so (number_under so_far state) = (number_may_end state, value_of so_far, (refl, λ e. refl))
+under_so (number_under so_far) = (is_number so_far, value_of so_far, (refl, λ e. refl))
 
 pub under_ends : (reader : Reader) (bytes : List ℕ) → reader.fault ≡ None → StandsFor reader bytes
     → (may_end : Bool) × (value : Option Exact) × Ends reader.limits reader.offset bytes (last_event reader.mode (inner_of (levels_in reader.levels)) may_end value reader.start)
@@ -176,10 +175,10 @@ pub none_is : {A : Type 0} (x : Option A) → is_some x ≡ false → x ≡ None
 none_is None e = refl
 none_is (Some y) e = cc
 
-none_under : (u : Under) (may_end : Bool) (value : Option Exact) → is_number u ≡ false → EndsAs u may_end value
+none_under : (u : Under) (may_end : Bool) (value : Option Exact) → has_number u ≡ false → EndsAs u may_end value
 none_under nothing may_end value e = tt
 none_under (text_under so_far state) may_end value e = tt
-none_under (number_under so_far state) may_end value e = cc
+none_under (number_under so_far) may_end value e = cc
 
 -- behind a value that nothing is around
 pub whole_ends : (reader : Reader) (bytes : List ℕ) → reader.fault ≡ None → reader.mode ≡ ValueDone → inner_of (levels_in reader.levels) ≡ None → StandsFor reader bytes → Ends reader.limits reader.offset bytes (Some None)
@@ -187,7 +186,7 @@ whole_ends reader bytes live done outer h =
     let o = open_of reader bytes live h in
     let k = o.well in
     let number_free : in_number reader.mode ≡ false = subst (λ (m : Mode). in_number m ≡ false) (sym done) refl in
-    let free : is_number (under_of k.state) ≡ false = sym (mode_under k.state reader.mode (levels_in reader.levels) k.kept) ∙ number_free in
+    let free : has_number (under_of k.state) ≡ false = sym (mode_under k.state reader.mode (levels_in reader.levels) k.kept) ∙ number_free in
     let says : Option (Option Event) → Type 0 = λ o. TextSays reader.limits.depth (seen k.state) o (finish k.state (length bytes)) in
     let e : says (last_event reader.mode (inner_of (levels_in reader.levels)) false None reader.start) =
     text_says false None reader.limits.depth k.state reader.mode (levels_in reader.levels) reader.start (length bytes) k.kept (none_under (under_of k.state) false None free) k.fits (rw (← k.at) k.timely.edge) in

@@ -136,7 +136,7 @@ levels_with-length (value_done t) stack = omega (arith, levels_length stack)
 levels_with-length (array_opened place) stack = omega (arith, levels_length stack)
 levels_with-length (object_opened place) stack = omega (arith, levels_length stack)
 levels_with-length (constant_on which place left) stack = omega (arith, levels_length stack)
-levels_with-length (number_on place so_far state) stack = omega (arith, levels_length stack)
+levels_with-length (number_on place so_far) stack = omega (arith, levels_length stack)
 levels_with-length (string_on place so_far state) stack = omega (arith, levels_length stack)
 levels_with-length (name_due place done) stack = omega (arith, levels_length stack)
 levels_with-length (name_on place done np so_far state) stack = omega (arith, levels_length stack)
@@ -155,7 +155,7 @@ levels_open stack (object_opened place) T n bytes i h =
     let k = front_late n (members_events h.0) (timed (h.1 + 1) h.1 What.CloseObject ∷ []) (later n _ (members_events h.0 ++ timed (h.1 + 1) h.1 What.CloseObject ∷ []) (omega arith) (late_members h.0 h.1 _ _ h.2.after.before)) in
     omega (arith, after_open stack (object place h.0 h.1) T n _ _ (omega arith) g.0 h.2.after.after, opened n place h.1 g.1.0 (omega (arith, k.1.0)), members_to_come h.0 n k.0)
 levels_open stack (constant_on which place left) T n bytes i h = after_open stack (constant which place) T n _ _ (omega arith) (front n (stack_timed stack) [] i).0 h.after
-levels_open stack (number_on place so_far state) T n bytes i h = after_open stack (number place (so_far ++ h.0) h.1) T n _ _ (omega arith) (front n (stack_timed stack) [] i).0 h.3.after.after
+levels_open stack (number_on place so_far) T n bytes i h = after_open stack (number place (so_far ++ h.0) h.1) T n _ _ (omega arith) (front n (stack_timed stack) [] i).0 h.3.after.after
 levels_open stack (string_on place so_far state) T n bytes i h = after_open stack (string place (so_far ++ h.0) h.1) T n _ _ (omega arith) (front n (stack_timed stack) [] i).0 h.2.after
 levels_open stack (name_due place done) T n bytes i h =
     let g = front n (stack_timed stack) (timed (place + 1) place What.OpenObject ∷ done_members done) i in

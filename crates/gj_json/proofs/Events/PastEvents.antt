@@ -92,8 +92,8 @@ split stack (object_opened place) T n bytes k h =
       opened_split (stack_timed stack) (members_events h.0) g.0 (timed (place + 1) place What.OpenObject) (timed (h.1 + 1) h.1 What.CloseObject) (events T) g.2,
     )
 split stack (constant_on which place left) T n bytes k h = unseen stack (constant_on which place left) (constant which place) T n _ _ refl (omega arith) (omega (arith, k.0, k.1), tt) h.after
-split stack (number_on place so_far state) T n bytes k h =
-    unseen stack (number_on place so_far state) (number place (so_far ++ h.0) h.1) T n _ _ refl (omega arith) (omega (arith, h.3.after.before.1), tt) h.3.after.after
+split stack (number_on place so_far) T n bytes k h =
+    unseen stack (number_on place so_far) (number place (so_far ++ h.0) h.1) T n _ _ refl (omega arith) (omega (arith, h.3.after.before.1), tt) h.3.after.after
 split stack (string_on place so_far state) T n bytes k h =
     unseen stack (string_on place so_far state) (string place (so_far ++ h.0) h.1) T n _ _ refl (omega arith) (string_after {end = h.1} h.2.before, tt) h.2.after
 split stack (name_due place done) T n bytes k h =

@@ -1,15 +1,18 @@
 -- Which number or string is under way behind a byte.
-use Rattle.std.proofs.Common.{◌≡◌, ℕ, ◌==◌, Bool, true, false, if◌then◌else◌, List, [], ◌∷◌, Option, Some, None, refl}
+use Rattle.std.proofs.Common.{◌≡◌, ℕ, ◌+◌, ◌==◌, Bool, true, false, if◌then◌else◌, List, [], ◌∷◌, ◌++◌, Option, Some, None, refl, sym, subst, ◌∙◌}
 use Rattle.gj_json.specs.Bytes.{mark_first, mark_second, mark_third}
 use Rattle.gj_json.specs.declared.class.Class.{Class}
-use Rattle.gj_json.specs.declared.class.Class.TheVariants.{White, OpenArray, CloseArray, OpenObject, CloseObject, Comma, Colon, Quote, Minus, Plus, Point, Exponent, ZeroDigit, FirstDigit, Letter, Other}
+use Rattle.gj_json.specs.declared.class.Class.TheVariants.{White, OpenArray, CloseArray, OpenObject, CloseObject, Comma, Colon, Quote, NumberStart, Letter, Other}
 use Rattle.gj_json.specs.declared.constant.Constant.{Constant}
 use Rattle.gj_json.specs.declared.levels.Level.{Level}
 use Rattle.gj_json.specs.declared.mode.Mode.{Mode}
 use Rattle.gj_json.specs.declared.mode.StringState.{StringState}
 use Rattle.gj_json.specs.Internal.ByteClasses.{class_of}
-use Rattle.gj_json.specs.Internal.TextMachine.{Broken, text_due, mark_one, mark_two, begun, with_mark, step, Frame, in_array, in_object, Member, Leaf, Partial, value_due, value_done, array_opened, object_opened, constant_on, number_on, string_on, name_due, name_on, colon_due, to, step_leaf, begin_value, after_value, step_value_due, step_array_opened, step_object_opened, step_name_due, step_colon_due, step_constant, step_number, step_string, step_name, string_next, StringStep, string_ends, string_goes, string_refuses, number_next, number_may_end}
-use Rattle.gj_json.specs.Internal.NumberStates.{NumberState}
+use Rattle.gj_json.specs.Internal.TextMachine.{Broken, text_due, mark_one, mark_two, begun, with_mark, step, run_from, Frame, in_array, in_object, Member, Leaf, Partial, value_due, value_done, array_opened, object_opened, constant_on, number_on, string_on, name_due, name_on, colon_due, to, step_leaf, begin_value, after_value, step_value_due, step_array_opened, step_object_opened, step_name_due, step_colon_due, step_constant, step_number, step_string, step_name, string_next, StringStep, string_ends, string_goes, string_refuses}
+use Rattle.gj_number.specs.Grammar.{BeginsNumber}
+use Rattle.gj_number.specs.DecidedNumbers.{is_number, begins_number}
+use Rattle.gj_number.proofs.Grammar.DecidedNumbers.{begins}
+use Rattle.gj_json.proofs.Grammar.ClassOfBytes.{number_starts}
 use Rattle.gj_json.specs.Internal.ReaderState.{LeafAs, StandsAs}
 use Rattle.gj_json.specs.Internal.ToldEvents.{in_number, text_state}
 use Rattle.gj_json.specs.Tree.{Tree, constant, number as number_tree}
@@ -24,12 +27,7 @@ begin_came stack n b OpenArray e = tt
 begin_came stack n b OpenObject e = tt
 begin_came stack n b (Letter which) e = tt
 begin_came stack n b Quote e = (refl, refl)
-begin_came stack n b Minus e = (refl, rw e refl)
-begin_came stack n b ZeroDigit e = (refl, rw e refl)
-begin_came stack n b FirstDigit e = (refl, rw e refl)
-begin_came stack n b Plus e = tt
-begin_came stack n b Point e = tt
-begin_came stack n b Exponent e = tt
+begin_came stack n b NumberStart e = (refl, number_starts b e)
 begin_came stack n b White e = tt
 begin_came stack n b CloseArray e = tt
 begin_came stack n b CloseObject e = tt
@@ -85,11 +83,11 @@ word_came stack which place (a ∷ c ∷ left) n b = go (b == a)
     go true = tt
     go false = tt
 
-number_came : (stack : List Frame) (place : ℕ) (so_far : List ℕ) (state : NumberState) (n b : ℕ) (c : Class) (o : Option NumberState) (may_end : Bool) → number_next state (class_of b) ≡ o
-    → Came (number so_far state) b (step_number stack place so_far n b o (if may_end then after_value stack (number_tree place so_far n) n c else None))
-number_came stack place so_far state n b c (Some next) may_end e = (refl, e)
-number_came stack place so_far state n b c None true e = after_came (number so_far state) b stack (number_tree place so_far n) n c
-number_came stack place so_far state n b c None false e = tt
+number_came : (stack : List Frame) (place : ℕ) (so_far : List ℕ) (n b : ℕ) (c : Class) (goes may_end : Bool) → begins_number (so_far ++ b ∷ []) ≡ goes
+    → Came (number so_far) b (step_number stack place so_far b goes (if may_end then after_value stack (number_tree place so_far n) n c else None))
+number_came stack place so_far n b c true may_end e = (refl, (begins (so_far ++ b ∷ [])).0 e)
+number_came stack place so_far n b c false true e = after_came (number so_far) b stack (number_tree place so_far n) n c
+number_came stack place so_far n b c false false e = tt
 
 string_came : (stack : List Frame) (place : ℕ) (so_far : List ℕ) (state : StringState) (n b : ℕ) (s : StringStep) → string_next state b ≡ s → Came (text so_far state) b (step_string stack place so_far n s)
 string_came stack place so_far state n b string_ends e = tt
@@ -107,7 +105,7 @@ came stack (value_done t) n b = after_came nothing b stack t n (class_of b)
 came stack (array_opened place) n b = array_came stack place n b (class_of b) refl
 came stack (object_opened place) n b = object_came stack place n b (class_of b)
 came stack (constant_on which place left) n b = word_came stack which place left n b
-came stack (number_on place so_far state) n b = number_came stack place so_far state n b (class_of b) (number_next state (class_of b)) (number_may_end state) refl
+came stack (number_on place so_far) n b = number_came stack place so_far n b (class_of b) (begins_number (so_far ++ b ∷ [])) (is_number so_far) refl
 came stack (string_on place so_far state) n b = string_came stack place so_far state n b (string_next state b) refl
 came stack (name_due place done) n b = name_came stack place done n b (class_of b)
 came stack (name_on place done np so_far state) n b = name_string_came stack place done np so_far state n b (string_next state b) refl
@@ -141,25 +139,51 @@ step_came mark_two n b = go (b == mark_third)
     go false = tt
 step_came (begun marked s) n b = marked_came (under_leaf s.leaf) b marked (step_leaf s.stack s.leaf n b) (came s.stack s.leaf n b)
 
+-- a byte that is refused ends the run
+pub run_none : (bytes : List ℕ) (n : ℕ) → run_from None n bytes ≡ None
+run_none [] n = refl
+run_none (b ∷ bytes) n = refl
+
+-- ---- a number under way is the first bytes of one
+
+abbrev pub IsBegun : Under → Type 0
+IsBegun (number so_far) = BeginsNumber so_far
+IsBegun _ = Unit {0}
+
+came_begun : (before : Under) (b : ℕ) (u : Under) → ComesFrom before b u → IsBegun u
+came_begun before b nothing h = tt
+came_begun before b (text so_far state) h = tt
+came_begun nothing b (number so_far) h = h.1
+came_begun (number old) b (number so_far) h = h.1
+came_begun (text old state) b (number so_far) h = absurd h
+
+pub run_begun : (bytes : List ℕ) (s last : Broken) (n : ℕ) → IsBegun (under_of s) → run_from (Some s) n bytes ≡ Some last → IsBegun (under_of last)
+run_begun [] s last n u e = let f : s ≡ last = cc in let P : Broken → Type 0 = λ x. IsBegun (under_of x) in subst P f u
+run_begun (b ∷ bytes) s last n u e = go (λ next. run_begun bytes next last (n + 1)) (step s n b) (step_came s n b) e
+  where
+    go : ((next : Broken) → IsBegun (under_of next) → run_from (Some next) (n + 1) bytes ≡ Some last → IsBegun (under_of last)) → (o : Option Broken) → CameTo (under_of s) b o → run_from o (n + 1) bytes ≡ Some last → IsBegun (under_of last)
+    go on None c f = let g = sym (run_none bytes (n + 1)) ∙ f in cc
+    go on (Some next) c f = on next (came_begun (under_of s) b (under_of next) c) f
+
 -- ---- the mode tells whether a number is under way
 
-abbrev pub is_number : Under → Bool
-is_number (number so_far state) = true
-is_number _ = false
+abbrev pub has_number : Under → Bool
+has_number (number so_far) = true
+has_number _ = false
 
-leaf_mode : (leaf : Leaf) (mode : Mode) → LeafAs leaf mode → in_number mode ≡ is_number (under_leaf leaf)
+leaf_mode : (leaf : Leaf) (mode : Mode) → LeafAs leaf mode → in_number mode ≡ has_number (under_leaf leaf)
 leaf_mode value_due mode a = rw a refl
 leaf_mode (value_done t) mode a = rw a refl
 leaf_mode (array_opened place) mode a = rw a refl
 leaf_mode (object_opened place) mode a = rw a refl
 leaf_mode (constant_on which place left) mode a = rw (a.1) refl
-leaf_mode (number_on place so_far state) mode a = rw a refl
+leaf_mode (number_on place so_far) mode a = rw a refl
 leaf_mode (string_on place so_far state) mode a = rw a refl
 leaf_mode (name_due place done) mode a = rw a refl
 leaf_mode (name_on place done np so_far state) mode a = rw a refl
 leaf_mode (colon_due place done np name ne) mode a = rw a refl
 
-pub mode_under : (s : Broken) (mode : Mode) (levels : List Level) → StandsAs s mode levels → in_number mode ≡ is_number (under_of s)
+pub mode_under : (s : Broken) (mode : Mode) (levels : List Level) → StandsAs s mode levels → in_number mode ≡ has_number (under_of s)
 mode_under text_due mode levels a = rw (a.0) refl
 mode_under mark_one mode levels a = rw (a.0) refl
 mode_under mark_two mode levels a = rw (a.0) refl
@@ -176,7 +200,7 @@ leaf_state (value_done t) mode a = rw a refl
 leaf_state (array_opened place) mode a = rw a refl
 leaf_state (object_opened place) mode a = rw a refl
 leaf_state (constant_on which place left) mode a = rw (a.1) refl
-leaf_state (number_on place so_far state) mode a = rw a refl
+leaf_state (number_on place so_far) mode a = rw a refl
 leaf_state (string_on place so_far state) mode a = rw a refl
 leaf_state (name_due place done) mode a = rw a refl
 leaf_state (name_on place done np so_far state) mode a = rw a refl

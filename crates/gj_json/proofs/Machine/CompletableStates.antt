@@ -9,19 +9,18 @@ use Rattle.gj_json.specs.declared.mode.Bounds.{Bounds}
 use Rattle.gj_json.specs.declared.mode.Bounds.TheVariants.{Any, AfterE0, AfterED, AfterF0, AfterF4}
 use Rattle.gj_json.specs.Grammar.{Then, Exactly, Ends}
 use Rattle.gj_json.specs.Text.{IsViableWithin}
-use Rattle.gj_json.specs.declared.class.Class.TheVariants.{Colon as colon, Quote as quote, Letter as letter, ZeroDigit as zero_digit}
-use Rattle.gj_json.proofs.Grammar.ClassOfBytes.{class_is}
+use Rattle.gj_json.specs.declared.class.Class.TheVariants.{Colon as colon, Quote as quote, Letter as letter}
 use Rattle.gj_json.proofs.Grammar.SpelledForms
 use Rattle.gj_json.proofs.Machine.CompletionsOfSteps
 use Rattle.gj_json.specs.Internal.ReaderState.{Fits, FitsName, FitsLeaf, FitsBroken}
 use Rattle.gj_json.proofs.Machine.MachineTexts.{text_goes_on, text_from}
-use Rattle.gj_json.specs.Internal.NumberStates.{NumberState}
-use Rattle.gj_json.specs.Internal.NumberStates.{after_minus, after_zero, in_digits, after_point, in_fraction, after_exponent, after_sign, in_exponent}
 use Rattle.gj_json.specs.declared.mode.StringState.{StringState}
 use Rattle.gj_json.specs.declared.mode.StringState.TheVariants.{Plain as plain, Escape as escape, HexDue as hex_due, HexOne as hex_one, HexTwo as hex_two, HexThree as hex_three, InCharacter as in_character}
 use Rattle.gj_json.specs.Characters.{escape_of, hex_of, low_of}
-use Rattle.gj_json.specs.Internal.TextMachine.{Broken, text_due, mark_one, mark_two, begun, Frame, in_array, in_object, Member, Leaf, value_due, value_done, array_opened, object_opened, constant_on, number_on, string_on, name_due, name_on, colon_due, back_elements, back_members, number_next, letters_after, run, string_next, string_goes, within}
-use Rattle.gj_json.proofs.Machine.Completions.{TextFrom, After, AfterName, Completes, Goes, NumberRest, StringRest, StringOn}
+use Rattle.gj_json.specs.Internal.TextMachine.{Broken, text_due, mark_one, mark_two, begun, Frame, in_array, in_object, Member, Leaf, value_due, value_done, array_opened, object_opened, constant_on, number_on, string_on, name_due, name_on, colon_due, back_elements, back_members, letters_after, run, string_next, string_goes, within}
+use Rattle.gj_json.specs.Internal.UnderWay.{under_leaf, under_of}
+use Rattle.gj_json.proofs.Machine.BytesUnderWay.{IsBegun, run_begun}
+use Rattle.gj_json.proofs.Machine.Completions.{TextFrom, After, AfterName, Completes, Goes, StringRest, StringOn}
 
 -- ---- what is open, within a limit of the depth
 
@@ -67,7 +66,7 @@ leaf_fits d stack (value_done t) T n bytes h l = after_fits d stack t T n bytes 
 leaf_fits d stack (array_opened place) T n bytes h l = let g = after_fits d stack (array place h.0 h.1) T _ _ h.2.after.after l in (omega (arith, g.0), g.1)
 leaf_fits d stack (object_opened place) T n bytes h l = let g = after_fits d stack (object place h.0 h.1) T _ _ h.2.after.after l in (omega (arith, g.0), g.1)
 leaf_fits d stack (constant_on which place left) T n bytes h l = (after_fits d stack (constant which place) T _ _ h.after l).1
-leaf_fits d stack (number_on place so_far state) T n bytes h l = (after_fits d stack (number place (so_far ++ h.0) h.1) T _ _ h.3.after.after l).1
+leaf_fits d stack (number_on place so_far) T n bytes h l = (after_fits d stack (number place (so_far ++ h.0) h.1) T _ _ h.3.after.after l).1
 leaf_fits d stack (string_on place so_far state) T n bytes h l = (after_fits d stack (string place (so_far ++ h.0) h.1) T _ _ h.2.after l).1
 leaf_fits d stack (name_due place done) T n bytes h l = name_fits d stack place done h.0 h.1 h.2 T _ _ h.3.after.after l
 leaf_fits d stack (name_on place done np so_far state) T n bytes h l = name_fits d stack place done np (so_far ++ h.0) h.1 T _ _ h.2.after l
@@ -156,40 +155,29 @@ name_ending d stack place done np so_far state n f =
     let g = colon_ending d stack place done np (so_far ++ t.0) e e f in
     (g.0, t.1 ++ quote_byte ∷ g.1, (t.0, e, quoted_ending state t.0 t.1 g.1 t.2 g.2), g.3)
 
-pub number_ending : (state : NumberState) → (more : List ℕ) × NumberRest state more
-number_ending after_minus = (zero_byte ∷ [], (after_zero, ap (λ c. number_next after_minus c) (class_is zero_digit zero_byte refl (λ e. cc)), refl))
-number_ending after_zero = ([], refl)
-number_ending in_digits = ([], refl)
-number_ending in_fraction = ([], refl)
-number_ending in_exponent = ([], refl)
-number_ending after_point = (zero_byte ∷ [], (in_fraction, ap (λ c. number_next after_point c) (class_is zero_digit zero_byte refl (λ e. cc)), refl))
-number_ending after_exponent = (zero_byte ∷ [], (in_exponent, ap (λ c. number_next after_exponent c) (class_is zero_digit zero_byte refl (λ e. cc)), refl))
-number_ending after_sign = (zero_byte ∷ [], (in_exponent, ap (λ c. number_next after_sign c) (class_is zero_digit zero_byte refl (λ e. cc)), refl))
-
-leaf_ending : (d : ℕ) (stack : List Frame) (leaf : Leaf) (n : ℕ) → FitsLeaf d stack leaf → Ending d stack leaf n
-leaf_ending d stack value_due n f = due_ending d stack n f
-leaf_ending d stack (value_done t) n f = after_ending d stack t n f.0 f.1
-leaf_ending d stack (array_opened place) n f =
+leaf_ending : (d : ℕ) (stack : List Frame) (leaf : Leaf) (n : ℕ) → FitsLeaf d stack leaf → IsBegun (under_leaf leaf) → Ending d stack leaf n
+leaf_ending d stack value_due n f u = due_ending d stack n f
+leaf_ending d stack (value_done t) n f u = after_ending d stack t n f.0 f.1
+leaf_ending d stack (array_opened place) n f u =
     let g = after_ending d stack (array place end_of_array n) (n + 1) (omega (arith, f.0)) f.1 in
     (g.0, close_bracket ∷ g.1, (end_of_array, n, SpelledForms.white_none (SpelledForms.closes_more refl g.2)), g.3)
-leaf_ending d stack (object_opened place) n f =
+leaf_ending d stack (object_opened place) n f u =
     let g = after_ending d stack (object place end_of_object n) (n + 1) (omega (arith, f.0)) f.1 in
     (g.0, close_brace ∷ g.1, (end_of_object, n, SpelledForms.white_none (SpelledForms.closes_more refl g.2)), g.3)
-leaf_ending d stack (constant_on which place left) n f = constant_ending d stack which place left n f
-leaf_ending d stack (number_on place so_far state) n f =
-    let t = number_ending state in
-    let g = after_ending d stack (number place (so_far ++ t.0) (n + length t.0)) (n + length t.0) (let l : length stack ≤ d = levels_fit d stack f in omega arith) f in
-    (g.0, t.0 ++ g.1, (t.0, n + length t.0, t.1, exactly_all t.0 g.1 (SpelledForms.ends_here g.2)), g.3)
-leaf_ending d stack (string_on place so_far state) n f =
+leaf_ending d stack (constant_on which place left) n f u = constant_ending d stack which place left n f
+leaf_ending d stack (number_on place so_far) n f u =
+    let g = after_ending d stack (number place (so_far ++ u.0) (n + length u.0)) (n + length u.0) (let l : length stack ≤ d = levels_fit d stack f in omega arith) f in
+    (g.0, u.0 ++ g.1, (u.0, n + length u.0, u.1, exactly_all u.0 g.1 (SpelledForms.ends_here g.2)), g.3)
+leaf_ending d stack (string_on place so_far state) n f u =
     let t = string_ending state in
     let e = n + length t.1 + 1 in
     let g = after_ending d stack (string place (so_far ++ t.0) e) e (let l : length stack ≤ d = levels_fit d stack f in omega arith) f in
     (g.0, t.1 ++ quote_byte ∷ g.1, (t.0, e, quoted_ending state t.0 t.1 g.1 t.2 g.2), g.3)
-leaf_ending d stack (name_due place done) n f =
+leaf_ending d stack (name_due place done) n f u =
     let g = name_ending d stack place done n [] plain (n + 1) f in
     (g.0, quote_byte ∷ g.1, CompletionsOfSteps.back_name_due stack place done g.0 n quote_byte g.1 quote refl g.2, g.3)
-leaf_ending d stack (name_on place done np so_far state) n f = name_ending d stack place done np so_far state n f
-leaf_ending d stack (colon_due place done np name ne) n f = colon_ending d stack place done np name ne n f
+leaf_ending d stack (name_on place done np so_far state) n f u = name_ending d stack place done np so_far state n f
+leaf_ending d stack (colon_due place done np name ne) n f u = colon_ending d stack place done np name ne n f
 
 -- ---- a whole text
 
@@ -202,15 +190,15 @@ text_fits d (begun marked s) T n bytes h l = leaf_fits d s.stack s.leaf T.value 
 abbrev pub TextEnding : ℕ → Broken → ℕ → Type 0
 TextEnding d s n = (T : Text) × (rest : List ℕ) × TextFrom T n rest s × (depth T.value ≤ d)
 
-text_ending : (d : ℕ) (s : Broken) (n : ℕ) → FitsBroken d s → TextEnding d s n
-text_ending d text_due n f = let g = due_ending d [] n tt in (record { marked = false; value = g.0 }, g.1, SpelledForms.exactly_none g.2, g.3)
-text_ending d mark_one n f =
+text_ending : (d : ℕ) (s : Broken) (n : ℕ) → FitsBroken d s → IsBegun (under_of s) → TextEnding d s n
+text_ending d text_due n f u = let g = due_ending d [] n tt in (record { marked = false; value = g.0 }, g.1, SpelledForms.exactly_none g.2, g.3)
+text_ending d mark_one n f u =
     let g = due_ending d [] (n + 2) tt in
     (record { marked = true; value = g.0 }, mark_second ∷ mark_third ∷ g.1, (refl, exactly_all (mark_second ∷ mark_third ∷ []) g.1 g.2), g.3)
-text_ending d mark_two n f =
+text_ending d mark_two n f u =
     let g = due_ending d [] (n + 1) tt in
     (record { marked = true; value = g.0 }, mark_third ∷ g.1, (refl, exactly_all (mark_third ∷ []) g.1 g.2), g.3)
-text_ending d (begun marked s) n f = let g = leaf_ending d s.stack s.leaf n f in (record { marked = marked; value = g.0 }, g.1, (refl, g.2), g.3)
+text_ending d (begun marked s) n f u = let g = leaf_ending d s.stack s.leaf n f u in (record { marked = marked; value = g.0 }, g.1, (refl, g.2), g.3)
 
 -- ---- what can still become a text
 
@@ -231,5 +219,5 @@ fits_viable d bytes h = go (run bytes) refl h
     go : (o : Option Broken) → run bytes ≡ o → FitsRun d o → IsViableWithin d bytes
     go None e k = absurd k
     go (Some s) e k =
-        let g = text_ending d s (length bytes) k in
+        let g = text_ending d s (length bytes) k (run_begun bytes text_due s 0 tt e) in
         (g.1, g.0, (text_from g.0 bytes g.1 (rw e g.2), g.3))

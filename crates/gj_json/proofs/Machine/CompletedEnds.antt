@@ -7,14 +7,14 @@ use Rattle.gj_json.specs.declared.constant.Constant.TheVariants.{Null, True, Fal
 use Rattle.gj_json.specs.Tree.{Text, Tree, constant, number, string, array, object, Elements, end_of_array, element, Members, end_of_object, member}
 use Rattle.gj_json.specs.Grammar.{Then, White, Exactly, Ends, Quoted, letters_of, Spells, SpellsElements, SpellsMoreElements, SpellsMembers, SpellsMoreMembers}
 use Rattle.gj_number.specs.Grammar.{IsNumber}
+use Rattle.gj_number.proofs.Grammar.DecidedNumbers.{number as decided_number, no_number}
 use Rattle.gj_json.specs.Text.{SpellsMark}
 use Rattle.gj_json.specs.Characters.{SpellsContent}
 use Rattle.gj_json.proofs.Grammar.SpelledForms
-use Rattle.gj_json.proofs.Grammar.SpelledTexts
 use Rattle.gj_json.proofs.Machine.StepsOfCompletions.{placed}
 use Rattle.gj_json.specs.declared.mode.StringState.{StringState}
-use Rattle.gj_json.specs.Internal.TextMachine.{Broken, text_due, mark_one, mark_two, begun, finish, text_with, Frame, in_array, in_object, Member, Leaf, value_due, value_done, array_opened, object_opened, constant_on, number_on, string_on, name_due, name_on, colon_due, finish_leaf, number_may_end}
-use Rattle.gj_json.proofs.Machine.Completions.{TextFrom, After, AfterName, Completes, NumberRest, StringRest, StringOn, Due}
+use Rattle.gj_json.specs.Internal.TextMachine.{Broken, text_due, mark_one, mark_two, begun, finish, text_with, Frame, in_array, in_object, Member, Leaf, value_due, value_done, array_opened, object_opened, constant_on, number_on, string_on, name_due, name_on, colon_due, finish_leaf, is_number}
+use Rattle.gj_json.proofs.Machine.Completions.{TextFrom, After, AfterName, Completes, StringRest, StringOn, Due}
 
 quoted_end : (place : ℕ) (content : List ℕ) (end : ℕ) {K : ℕ → List ℕ → Type 0} {n : ℕ} → Then (Quoted place content end) K n [] → ⊥
 quoted_end place content end h =
@@ -22,7 +22,7 @@ quoted_end place content end h =
     SpelledForms.exactly_end (SpelledForms.then_left g.1)
 
 number_end : {K : ℕ → List ℕ → Type 0} {n : ℕ} (literal : List ℕ) → IsNumber literal → Then (Exactly literal) K n [] → ⊥
-number_end [] i h = SpelledTexts.no_number i
+number_end [] i h = no_number i
 number_end (d ∷ more) i h = SpelledForms.exactly_end h
 
 constant_end : {K : ℕ → List ℕ → Type 0} {n : ℕ} (which : Constant) → Then (Exactly (letters_of which)) K n [] → ⊥
@@ -79,13 +79,13 @@ finished stack (array_opened place) T n h = absurd (elements_end h.0 h.1 (Spelle
 finished stack (object_opened place) T n h = absurd (members_end h.0 h.1 (SpelledForms.white_end h.2))
 finished stack (constant_on which place []) T n h = let g = after_end stack (constant which place) T n (SpelledForms.exactly_done h) in rw (g.0, g.1) refl
 finished stack (constant_on which place (a ∷ left)) T n h = absurd (SpelledForms.exactly_end h)
-finished stack (number_on place so_far state) T n h = go h.0 h.2 h.3
+finished stack (number_on place so_far) T n h = go h.0 h.2 h.3
   where
-    go : (more : List ℕ) → NumberRest state more → Then (Exactly more) (Then (Ends h.1) (After stack (number place (so_far ++ more) h.1) T)) n [] → finish_leaf stack (number_on place so_far state) n ≡ Some T
+    go : (more : List ℕ) → IsNumber (so_far ++ more) → Then (Exactly more) (Then (Ends h.1) (After stack (number place (so_far ++ more) h.1) T)) n [] → finish_leaf stack (number_on place so_far) n ≡ Some T
     go [] r k =
         let j = SpelledForms.ends_on {end = h.1} (SpelledForms.exactly_done k) in
         let g = after_end stack (number place (so_far ++ []) h.1) T n j.1 in
-        rw (g.0, r, g.1, j.0, append-nil so_far) refl
+        rw (g.0, (decided_number so_far).1 (rw (append-nil so_far) at r), g.1, j.0, append-nil so_far) refl
     go (c ∷ more) r k = absurd (SpelledForms.exactly_end k)
 finished stack (string_on place so_far state) T n h = absurd (string_end state h.0 h.1 h.2)
 finished stack (name_due place done) T n h = absurd (quoted_end h.0 h.1 h.2 (SpelledForms.white_end h.3))
@@ -95,10 +95,10 @@ finished stack (colon_due place done np name ne) T n h = absurd (name_end stack 
 completed : (stack : List Frame) (leaf : Leaf) (T : Tree) (n : ℕ) → finish_leaf stack leaf n ≡ Some T → Completes stack leaf T n []
 completed [] (value_done t) T n e = (tt, (cc))
 completed [] (constant_on which place []) T n e = SpelledForms.exactly_none (tt, (cc))
-completed [] (number_on place so_far state) T n e = go (number_may_end state) refl e
+completed [] (number_on place so_far) T n e = go (is_number so_far) refl e
   where
-    go : (b : Bool) → number_may_end state ≡ b → (if b then Some (number place so_far n) else None) ≡ Some T → Completes [] (number_on place so_far state) T n []
-    go true f e = ([], n, f, SpelledForms.exactly_none (SpelledForms.ends_here (tt, rw append-nil (cc))))
+    go : (b : Bool) → is_number so_far ≡ b → (if b then Some (number place so_far n) else None) ≡ Some T → Completes [] (number_on place so_far) T n []
+    go true f e = ([], n, rw (append-nil so_far) ((decided_number so_far).0 f), SpelledForms.exactly_none (SpelledForms.ends_here (tt, rw append-nil (cc))))
     go false f e = cc
 completed _ _ T n e = cc
 

@@ -4,16 +4,10 @@ use Rattle.gj_json.specs.Text.{SpellsMark}
 use Rattle.gj_json.specs.Bytes.{colon as colon_byte, mark_second, mark_third, quote as quote_byte}
 use Rattle.gj_json.specs.Tree.{Text, Tree, constant, number, string, array, object, Elements, element, Members, member}
 use Rattle.gj_json.specs.Grammar.{Then, White, Exactly, Ends, Quoted, Spells, SpellsElements, SpellsMoreElements, SpellsMembers, SpellsMoreMembers}
-use Rattle.gj_json.specs.Internal.ByteClasses.{class_of}
-use Rattle.gj_json.specs.Internal.NumberStates.{NumberState}
+use Rattle.gj_number.specs.Grammar.{IsNumber}
 use Rattle.gj_json.specs.declared.mode.StringState.{StringState}
 use Rattle.gj_json.specs.declared.mode.StringState.TheVariants.{Plain as plain}
-use Rattle.gj_json.specs.Internal.TextMachine.{Member, Frame, in_array, in_object, string_goes, string_next, Leaf, value_due, value_done, array_opened, object_opened, constant_on, number_on, string_on, name_due, name_on, colon_due, Partial, Broken, text_due, mark_one, mark_two, begun, back_elements, back_members, number_next, number_may_end}
-
--- a number under way may go on by these bytes
-abbrev pub NumberRest : NumberState → List ℕ → Type 0
-NumberRest state [] = number_may_end state ≡ true
-NumberRest state (b ∷ bytes) = (next : NumberState) × (number_next state (class_of b) ≡ Some next) × NumberRest next bytes
+use Rattle.gj_json.specs.Internal.TextMachine.{Member, Frame, in_array, in_object, string_goes, string_next, Leaf, value_due, value_done, array_opened, object_opened, constant_on, number_on, string_on, name_due, name_on, colon_due, Partial, Broken, text_due, mark_one, mark_two, begun, back_elements, back_members}
 
 -- a text under way may go on by these bytes, up to its quote
 abbrev pub StringRest : StringState → List ℕ → List ℕ → Type 0
@@ -50,8 +44,8 @@ Completes stack (array_opened place) T n bytes =
 Completes stack (object_opened place) T n bytes =
     (members : Members) × (close : ℕ) × Then White (Then (SpellsMembers members close) (After stack (object place members close) T)) n bytes
 Completes stack (constant_on which place left) T n bytes = Then (Exactly left) (After stack (constant which place) T) n bytes
-Completes stack (number_on place so_far state) T n bytes =
-    (more : List ℕ) × (end : ℕ) × NumberRest state more × Then (Exactly more) (Then (Ends end) (After stack (number place (so_far ++ more) end) T)) n bytes
+Completes stack (number_on place so_far) T n bytes =
+    (more : List ℕ) × (end : ℕ) × IsNumber (so_far ++ more) × Then (Exactly more) (Then (Ends end) (After stack (number place (so_far ++ more) end) T)) n bytes
 Completes stack (string_on place so_far state) T n bytes =
     (content : List ℕ) × (end : ℕ) × Then (StringOn state content end) (After stack (string place (so_far ++ content) end) T) n bytes
 Completes stack (name_due place done) T n bytes =

@@ -8,15 +8,14 @@ use Rattle.gj_json.specs.Grammar.{Then, White, Exactly, Ends, Quoted, letters_of
 use Rattle.gj_json.specs.Text.{SpellsMark}
 use Rattle.gj_json.specs.Characters.{SpellsContent}
 use Rattle.gj_json.specs.declared.class.Class.{Class}
-use Rattle.gj_json.specs.declared.class.Class.TheVariants.{White as white, OpenArray as open_array, CloseArray as close_array, OpenObject as open_object, CloseObject as close_object, Comma as comma, Colon as colon, Quote as quote, Minus as minus, Plus as plus, Point as point, Exponent as exponent, ZeroDigit as zero_digit, FirstDigit as first_digit, Letter as letter, Other as other}
+use Rattle.gj_json.specs.declared.class.Class.TheVariants.{White as white, OpenArray as open_array, CloseArray as close_array, OpenObject as open_object, CloseObject as close_object, Comma as comma, Colon as colon, Quote as quote, NumberStart as number_start, Letter as letter, Other as other}
 use Rattle.gj_json.specs.Internal.ByteClasses.{class_of, Means, first_letter}
 use Rattle.gj_json.proofs.Grammar.ClassOfBytes.{means}
 use Rattle.gj_json.proofs.Grammar.SpelledForms
-use Rattle.gj_json.specs.Internal.NumberStates.{NumberState}
-use Rattle.gj_json.specs.Internal.NumberStates.{after_minus, after_zero, in_digits}
+use Rattle.gj_number.proofs.Grammar.DecidedNumbers.{number as decided_number}
 use Rattle.gj_json.specs.declared.mode.StringState.{StringState}
 use Rattle.gj_json.specs.declared.mode.StringState.TheVariants.{Plain as plain}
-use Rattle.gj_json.specs.Internal.TextMachine.{Broken, text_due, mark_one, mark_two, begun, with_mark, Frame, in_array, in_object, Member, Leaf, Partial, begin_value, after_value, value_due, value_done, array_opened, object_opened, constant_on, number_on as number_on_leaf, string_on, name_due, name_on as name_on_leaf, colon_due, step_value_due, step_array_opened, step_object_opened, step_name_due, step_colon_due, step_constant, step_number, step_string, step_name, step_leaf, step, letters_after, back_members, number_first, number_next, number_may_end, string_next, StringStep, string_ends, string_goes, string_refuses, to, begin_name}
+use Rattle.gj_json.specs.Internal.TextMachine.{Broken, text_due, mark_one, mark_two, begun, with_mark, Frame, in_array, in_object, Member, Leaf, Partial, begin_value, after_value, value_due, value_done, array_opened, object_opened, constant_on, number_on as number_on_leaf, string_on, name_due, name_on as name_on_leaf, colon_due, step_value_due, step_array_opened, step_object_opened, step_name_due, step_colon_due, step_constant, step_number, step_string, step_name, step_leaf, step, letters_after, back_members, begins_number, is_number, string_next, StringStep, string_ends, string_goes, string_refuses, to, begin_name}
 use Rattle.gj_json.proofs.Machine.Completions.{TextFrom, After, AfterName, Completes, CompletesFrom, Goes, StringRest, StringOn, Due}
 use Rattle.gj_json.proofs.Grammar.SpelledTexts
 
@@ -42,26 +41,21 @@ quoted_back {content} {end} {K} {n} {b} {rest} e h =
 Begun : List Frame → Tree → ℕ → ℕ → List ℕ → Type 0
 Begun stack T n b rest = (t : Tree) × Then (Spells t) (After stack t T) n (b ∷ rest)
 
-number_begun : (stack : List Frame) (T : Tree) (n b : ℕ) (rest : List ℕ) (c : Class) (state : NumberState) → Means c b → number_first c ≡ Some state → Completes stack (number_on_leaf n (b ∷ []) state) T (n + 1) rest
+number_begun : (stack : List Frame) (T : Tree) (n b : ℕ) (rest : List ℕ) → Completes stack (number_on_leaf n (b ∷ [])) T (n + 1) rest
     → (t : Tree) × Then (Spells t) (After stack t T) n (b ∷ rest)
-number_begun stack T n b rest c state m e h =
+number_begun stack T n b rest h =
     let k : Then (Exactly (b ∷ h.0)) (Then (Ends h.1) (After stack (number n (b ∷ h.0) h.1) T)) n (b ∷ rest) = SpelledForms.exactly_more refl h.3 in
     let j : Then (Then (Exactly (b ∷ h.0)) (Ends h.1)) (After stack (number n (b ∷ h.0) h.1) T) n (b ∷ rest) = SpelledForms.then_right k in
-    (number n (b ∷ h.0) h.1, SpelledForms.joins j.first j.rest j.joined (refl, SpelledTexts.number_back c b h.0 state m e h.2, j.before) j.after)
+    (number n (b ∷ h.0) h.1, SpelledForms.joins j.first j.rest j.joined (refl, h.2, j.before) j.after)
 
 back_begin : (stack : List Frame) (T : Tree) (n b : ℕ) (rest : List ℕ) (c : Class) → Means c b → Goes (CompletesFrom T (n + 1) rest) (begin_value stack n b c) → (t : Tree) × Then (Spells t) (After stack t T) n (b ∷ rest)
 back_begin stack T n b rest open_array m h = (array n h.0 h.1, here {F = Then (Exactly (open_bracket ∷ [])) (Then White (SpellsElements h.0 h.1))} (SpelledForms.then_right (SpelledForms.byte_more m (SpelledForms.then_right h.2))))
 back_begin stack T n b rest open_object m h = (object n h.0 h.1, here {F = Then (Exactly (open_brace ∷ [])) (Then White (SpellsMembers h.0 h.1))} (SpelledForms.then_right (SpelledForms.byte_more m (SpelledForms.then_right h.2))))
 back_begin stack T n b rest quote m h = (string n h.0 h.1, quoted_back m h.2)
-back_begin stack T n b rest minus m h = number_begun stack T n b rest minus after_minus m refl h
-back_begin stack T n b rest zero_digit m h = number_begun stack T n b rest zero_digit after_zero m refl h
-back_begin stack T n b rest first_digit m h = number_begun stack T n b rest first_digit in_digits m refl h
+back_begin stack T n b rest number_start m h = number_begun stack T n b rest h
 back_begin stack T n b rest (letter which) m h =
     let k : Then (Exactly (letters_of which)) (After stack (constant which n) T) n (b ∷ rest) = rw (spelled which) (SpelledForms.exactly_more m h) in
     (constant which n, here {F = Exactly (letters_of which)} k)
-back_begin stack T n b rest plus m h = absurd h
-back_begin stack T n b rest point m h = absurd h
-back_begin stack T n b rest exponent m h = absurd h
 back_begin stack T n b rest white m h = absurd h
 back_begin stack T n b rest close_array m h = absurd h
 back_begin stack T n b rest close_object m h = absurd h
@@ -172,25 +166,25 @@ back_name_string stack place done np so_far state T n b rest h = go (string_next
     go (string_goes more next) e h = (more ++ h.0, h.1, SpelledTexts.string_back_more e (let P : List ℕ → Type 0 = λ c. Then (StringOn next h.0 h.1) (AfterName stack place done np c h.1 T) (n + 1) rest in subst P (append_assoc so_far more h.0) h.2))
     go string_refuses e h = absurd h
 
-back_number : (stack : List Frame) (place : ℕ) (so_far : List ℕ) (state : NumberState) (T : Tree) (n b : ℕ) (rest : List ℕ)
-    → Goes (CompletesFrom T (n + 1) rest) (step_number stack place so_far n b (number_next state (class_of b)) (if number_may_end state then after_value stack (number place so_far n) n (class_of b) else None))
-    → Completes stack (number_on_leaf place so_far state) T n (b ∷ rest)
-back_number stack place so_far state T n b rest h = go (number_next state (class_of b)) refl h
+back_number : (stack : List Frame) (place : ℕ) (so_far : List ℕ) (T : Tree) (n b : ℕ) (rest : List ℕ)
+    → Goes (CompletesFrom T (n + 1) rest) (step_number stack place so_far b (begins_number (so_far ++ b ∷ [])) (if is_number so_far then after_value stack (number place so_far n) n (class_of b) else None))
+    → Completes stack (number_on_leaf place so_far) T n (b ∷ rest)
+back_number stack place so_far T n b rest h = go (begins_number (so_far ++ b ∷ [])) h
   where
-    done : (t : Bool) → number_may_end state ≡ t → Goes (CompletesFrom T (n + 1) rest) (if t then after_value stack (number place so_far n) n (class_of b) else None) → Completes stack (number_on_leaf place so_far state) T n (b ∷ rest)
+    done : (t : Bool) → is_number so_far ≡ t → Goes (CompletesFrom T (n + 1) rest) (if t then after_value stack (number place so_far n) n (class_of b) else None) → Completes stack (number_on_leaf place so_far) T n (b ∷ rest)
     done true e h = (
       [],
       n,
-      e,
+      rw (append-nil so_far) ((decided_number so_far).0 e),
       SpelledForms.exactly_none (SpelledForms.ends_here (let P : List ℕ → Type 0 = λ c. After stack (number place c n) T n (b ∷ rest) in
           subst P (sym (append-nil so_far)) (back_after stack (number place so_far n) T n b rest (class_of b) (means b) h))),
     )
     done false e h = absurd h
 
-    go : (s : Option NumberState) → number_next state (class_of b) ≡ s → Goes (CompletesFrom T (n + 1) rest) (step_number stack place so_far n b s (if number_may_end state then after_value stack (number place so_far n) n (class_of b) else None))
-        → Completes stack (number_on_leaf place so_far state) T n (b ∷ rest)
-    go (Some next) e h = (b ∷ h.0, h.1, (next, e, h.2), SpelledForms.exactly_more refl (let P : List ℕ → Type 0 = λ c. Then (Exactly h.0) (Then (Ends h.1) (After stack (number place c h.1) T)) (n + 1) rest in subst P (append_assoc so_far (b ∷ []) h.0) h.3))
-    go None e h = done (number_may_end state) refl h
+    go : (goes : Bool) → Goes (CompletesFrom T (n + 1) rest) (step_number stack place so_far b goes (if is_number so_far then after_value stack (number place so_far n) n (class_of b) else None))
+        → Completes stack (number_on_leaf place so_far) T n (b ∷ rest)
+    go true h = (b ∷ h.0, h.1, rw (append_assoc so_far (b ∷ []) h.0) at h.2, SpelledForms.exactly_more refl (let P : List ℕ → Type 0 = λ c. Then (Exactly h.0) (Then (Ends h.1) (After stack (number place c h.1) T)) (n + 1) rest in subst P (append_assoc so_far (b ∷ []) h.0) h.3))
+    go false h = done (is_number so_far) refl h
 
 backward_leaf : (stack : List Frame) (leaf : Leaf) (T : Tree) (n b : ℕ) (rest : List ℕ) → Goes (CompletesFrom T (n + 1) rest) (step_leaf stack leaf n b) → Completes stack leaf T n (b ∷ rest)
 backward_leaf stack value_due T n b rest h = back_value_due stack T n b rest (class_of b) (means b) h
@@ -198,7 +192,7 @@ backward_leaf stack (value_done t) T n b rest h = back_after stack t T n b rest 
 backward_leaf stack (array_opened place) T n b rest h = back_array_opened stack place T n b rest (class_of b) (means b) h
 backward_leaf stack (object_opened place) T n b rest h = back_object_opened stack place T n b rest (class_of b) (means b) h
 backward_leaf stack (constant_on which place left) T n b rest h = back_constant stack which place left T n b rest h
-backward_leaf stack (number_on_leaf place so_far state) T n b rest h = back_number stack place so_far state T n b rest h
+backward_leaf stack (number_on_leaf place so_far) T n b rest h = back_number stack place so_far T n b rest h
 backward_leaf stack (string_on place so_far state) T n b rest h = back_string stack place so_far state T n b rest h
 backward_leaf stack (name_due place done) T n b rest h = back_name_due stack place done T n b rest (class_of b) (means b) h
 backward_leaf stack (name_on_leaf place done np so_far state) T n b rest h = back_name_string stack place done np so_far state T n b rest h

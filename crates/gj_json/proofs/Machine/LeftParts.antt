@@ -22,7 +22,7 @@ leaf_extends stack (value_done t) T n bytes h = after_has stack t T n bytes h
 leaf_extends stack (array_opened place) T n bytes h = (h.0, h.1, after_has stack (array place h.0 h.1) T _ _ h.2.after.after)
 leaf_extends stack (object_opened place) T n bytes h = (h.0, h.1, after_has stack (object place h.0 h.1) T _ _ h.2.after.after)
 leaf_extends stack (constant_on which place left) T n bytes h = after_has stack (constant which place) T _ _ h.after
-leaf_extends stack (number_on place so_far state) T n bytes h = (h.0, h.1, after_has stack (number place (so_far ++ h.0) h.1) T _ _ h.3.after.after)
+leaf_extends stack (number_on place so_far) T n bytes h = (h.0, h.1, after_has stack (number place (so_far ++ h.0) h.1) T _ _ h.3.after.after)
 leaf_extends stack (string_on place so_far state) T n bytes h = (h.0, h.1, after_has stack (string place (so_far ++ h.0) h.1) T _ _ h.2.after)
 leaf_extends stack (name_due place done) T n bytes h = let g = name_has stack place done h.0 h.1 h.2 T _ _ h.3.after.after in (h.0, h.1, h.2, g.0, g.1)
 leaf_extends stack (name_on place done np so_far state) T n bytes h = let g = name_has stack place done np (so_far ++ h.0) h.1 T _ _ h.2.after in (h.0, h.1, g.0, g.1)

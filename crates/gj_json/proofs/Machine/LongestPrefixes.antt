@@ -10,7 +10,7 @@ use Rattle.gj_json.specs.Tree.{Text, Tree, constant, number, depth}
 use Rattle.gj_json.specs.Text.{IsText, IsTextWithin, IsViable, IsViableWithin}
 use Rattle.gj_json.specs.Refusal.{Stops, RefusedFor, IsRefusal, IsAdmitted}
 use Rattle.gj_json.specs.Longest.{IsLongest, IsToldBy}
-use Rattle.gj_json.specs.Internal.TextMachine.{Broken, text_due, mark_one, mark_two, begun, Frame, Leaf, value_done, constant_on, number_on, run, finish, finish_leaf, text_with, number_may_end}
+use Rattle.gj_json.specs.Internal.TextMachine.{Broken, text_due, mark_one, mark_two, begun, Frame, Leaf, value_done, constant_on, number_on, run, is_number, finish, finish_leaf, text_with}
 use Rattle.gj_json.specs.Internal.ReaderState.{FitsLeaf}
 use Rattle.gj_json.specs.Broken.{broken_depth}
 use Rattle.gj_json.proofs.Machine.CompletableStates.{FitsRun, viable_fits, fits_viable}
@@ -45,7 +45,7 @@ any_viable_or_not bytes = go (run bytes) refl
 finish_fits : (d : ℕ) (stack : List Frame) (leaf : Leaf) (T : Tree) (n : ℕ) → finish_leaf stack leaf n ≡ Some T → FitsLeaf d stack leaf → depth T ≤ d
 finish_fits d [] (value_done t) T n e f = let g : t ≡ T = cc in let k : depth t ≡ depth T = ap depth g in omega (arith, f.0)
 finish_fits d [] (constant_on which place []) T n e f = let k : 0 ≡ depth T = (let g : constant which place ≡ T = cc in ap depth g) in omega arith
-finish_fits d [] (number_on place so_far state) T n e f = go (number_may_end state) e
+finish_fits d [] (number_on place so_far) T n e f = go (is_number so_far) e
   where
     go : (may_end : Bool) → (if may_end then Some (number place so_far n) else None) ≡ Some T → depth T ≤ d
     go true e = let k : 0 ≡ depth T = (let g : number place so_far n ≡ T = cc in ap depth g) in omega arith

@@ -16,6 +16,7 @@ use Rattle.gj_json.specs.Internal.SeenEvents.{seen, IsTimely}
 use Rattle.gj_json.specs.Internal.ReaderState.{StandsAs, FitsBroken}
 use Rattle.gj_json.specs.Internal.ReaderStep.{opened}
 use Rattle.gj_json.specs.Internal.ToldEvents.{emitted, start_after}
+use Rattle.gj_json.proofs.Machine.BytesUnderWay.{run_none}
 use Rattle.gj_json.proofs.Machine.Completions.{Goes, TextFrom}
 use Rattle.gj_json.proofs.Machine.MachineTexts.{text_goes_on}
 use Rattle.gj_json.specs.Internal.UnderWay.{under_of}
@@ -70,11 +71,6 @@ reached_on s next n b k e =
       depth = deep;
       fits = g.3;
     }
-
--- a byte that is refused ends the run
-pub run_none : (bytes : List ℕ) (n : ℕ) → run_from None n bytes ≡ None
-run_none [] n = refl
-run_none (b ∷ bytes) n = refl
 
 reached_from : (bytes : List ℕ) (s last : Broken) (n : ℕ) → IsReached s n → run_from (Some s) n bytes ≡ Some last → IsReached last (n + length bytes)
 reached_from [] s last n k e =

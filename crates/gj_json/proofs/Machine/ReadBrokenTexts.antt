@@ -15,7 +15,7 @@ use Rattle.gj_json.specs.Broken.{Member, Frame, in_array, in_object, Leaf, value
 use Rattle.gj_json.specs.Internal.TextMachine.{step_leaf, run_from, run, letters_after}
 use Rattle.gj_json.proofs.Grammar.ClassOfBytes.{class_is}
 use Rattle.gj_json.proofs.Grammar.SpelledForms
-use Rattle.gj_json.proofs.Machine.ReachedStates.{run_none}
+use Rattle.gj_json.proofs.Machine.BytesUnderWay.{run_none}
 use Rattle.gj_json.proofs.Grammar.CharacterPrefixes.{content_to, character_to}
 use Rattle.gj_json.proofs.Machine.ValuePaths.{Leads, at, leads_none, leads_byte, then_leads, byte_leads, awaiting, begins, awaiting_white, Over, over_done, over_white}
 use Rattle.gj_json.proofs.Machine.ReadValues.{number_leads, InQuotes, a_string, a_name, text_leads, quote_begins, naming, name_begins, naming_white, colon_stays, quoted_leads, named_leads, value_leads, opens_array, opens_object, comma_array, comma_object}
@@ -85,7 +85,7 @@ due_leads stack m bytes h =
 -- a value that is no number is done where it is over
 over_ended : (stack : List Frame) (t : Tree) (leaf : Leaf) (n : ℕ) → Over t n leaf → ((place : ℕ) (literal : List ℕ) → t ≡ number place literal n → ⊥) → Leads (at stack leaf) n [] (at stack (value_done t))
 over_ended stack t leaf n (inl e) never = let P : Leaf → Type 0 = λ x. Leads (at stack x) n [] (at stack (value_done t)) in subst P (sym e) (leads_none (at stack (value_done t)) n)
-over_ended stack t leaf n (inr g) never = absurd (never g.0 g.1 g.4)
+over_ended stack t leaf n (inr g) never = absurd (never g.0 g.1 g.3)
 
 behind_leads : (stack : List Frame) (t : Tree) (leaf : Leaf) (n : ℕ) (bytes : List ℕ) → Over t n leaf → Behind t n bytes → Leads (at stack leaf) n bytes (at stack (value_done t))
 behind_leads stack (number place literal end) leaf n [] o h = absurd (h.1 refl)
@@ -138,11 +138,11 @@ leaf_leads stack (value_done t) m bytes h = let g = value_leads t stack m h.firs
 leaf_leads stack (array_opened place) m bytes h = array_leads stack place [] (at stack (array_opened place)) {K = White} (λ p xs w. awaiting_white (in_array place [] ∷ stack) xs p w) m bytes h
 leaf_leads stack (object_opened place) m bytes h = object_leads stack place [] (at stack (object_opened place)) {K = White} (λ p xs w. naming_white stack place [] xs p w) m bytes h
 leaf_leads stack (constant_on which place left) m bytes h = constant_leads stack which place left m bytes h
-leaf_leads stack (number_on place so_far state) m bytes h =
-    let P : ℕ → List ℕ → Type 0 = λ p xs. Leads (awaiting stack) m xs (at stack (number_on p so_far state)) in
+leaf_leads stack (number_on place so_far) m bytes h =
+    let P : ℕ → List ℕ → Type 0 = λ p xs. Leads (awaiting stack) m xs (at stack (number_on p so_far)) in
     let Q : List ℕ → Type 0 = λ xs. P m xs in
     let R : ℕ → Type 0 = λ p. P p bytes in
-    subst R (sym h.0) (subst Q (sym h.1) (number_leads stack so_far state m h.3))
+    subst R (sym h.0) (subst Q (sym h.1) (number_leads stack so_far m h.2))
 leaf_leads stack (string_on place so_far state) m bytes h =
     let P : ℕ → Type 0 = λ p. Leads (awaiting stack) m bytes (at stack (string_on p so_far state)) in
     subst P (sym h.0) (byte_leads h.1 (quote_begins stack m) (λ rest k. under_leads stack (a_string stack m) so_far state (m + 1) rest k))

@@ -1,24 +1,22 @@
 -- The bytes of a value lead the machine to that value.
-use Rattle.std.proofs.Common.{◌≡◌, ℕ, ◌+◌, inl, inr, List, [], ◌∷◌, ◌++◌, length, Option, Some, None, refl, sym, ap, subst, ◌∙◌, arith, append_assoc, append-nil, eq-eqb}
+use Rattle.std.proofs.Common.{◌≡◌, ℕ, ◌+◌, inl, inr, List, [], ◌∷◌, ◌++◌, length, Some, refl, sym, ap, subst, ◌∙◌, arith, append_assoc, append-nil, eq-eqb}
 use Rattle.gj_json.specs.Bytes.{open_bracket, close_bracket, open_brace, close_brace, comma as comma_byte, colon as colon_byte, quote as quote_byte}
 use Rattle.gj_json.specs.declared.constant.Constant.{Constant}
 use Rattle.gj_json.specs.declared.constant.Constant.TheVariants.{Null, True, False}
-use Rattle.gj_json.specs.declared.class.Class.{Class}
-use Rattle.gj_json.specs.declared.class.Class.TheVariants.{OpenArray as open_array, CloseArray as close_array, OpenObject as open_object, CloseObject as close_object, Comma as comma, Colon as colon, Quote as quote, Minus as minus, ZeroDigit as zero_digit, FirstDigit as first_digit, Letter as letter}
-use Rattle.gj_json.specs.Internal.NumberStates.{NumberState}
+use Rattle.gj_json.specs.declared.class.Class.TheVariants.{OpenArray as open_array, CloseArray as close_array, OpenObject as open_object, CloseObject as close_object, Comma as comma, Colon as colon, Quote as quote, NumberStart as number_start, Letter as letter}
 use Rattle.gj_json.specs.declared.mode.StringState.{StringState}
 use Rattle.gj_json.specs.declared.mode.StringState.TheVariants.{Plain as plain}
 use Rattle.gj_json.specs.Tree.{Tree, constant, number, string, array, object, Elements, end_of_array, element, Members, end_of_object, member}
 use Rattle.gj_json.specs.Characters.{SpellsContent}
 use Rattle.gj_json.specs.Grammar.{Then, White, Exactly, Ends, Quoted, letters_of, Spells, SpellsElements, SpellsMoreElements, SpellsMembers, SpellsMoreMembers}
-use Rattle.gj_json.specs.Internal.ByteClasses.{class_of, first_letter}
-use Rattle.gj_json.specs.Internal.NumberStates.{number_first, number_from, number_state}
-use Rattle.gj_json.specs.Broken.{Member, Frame, in_array, in_object, Leaf, value_due, value_done, array_opened, object_opened, constant_on, number_on, string_on, name_due, name_on, colon_due, Partial, back_elements, back_members}
-use Rattle.gj_json.specs.Internal.TextMachine.{begin_value, step_leaf, letters_after, number_next, string_next, string_ends, string_goes, to}
-use Rattle.gj_json.proofs.Grammar.ClassOfBytes.{class_is}
+use Rattle.gj_json.specs.Internal.ByteClasses.{first_letter}
+use Rattle.gj_number.specs.Grammar.{BeginsNumber}
+use Rattle.gj_json.specs.Broken.{Member, Frame, in_array, in_object, Leaf, value_due, value_done, array_opened, object_opened, constant_on, number_on, string_on, name_due, name_on, colon_due, Partial, back_elements, back_members, BeginsNumber as NumberBegun}
+use Rattle.gj_json.specs.Internal.TextMachine.{step_leaf, letters_after, string_next, string_ends, string_goes, to}
+use Rattle.gj_json.proofs.Grammar.ClassOfBytes.{class_is, starts_number}
 use Rattle.gj_json.proofs.Grammar.SpelledTexts.{quote_on}
 use Rattle.gj_json.proofs.Grammar.CharacterPrefixes.{StringTo, content_to}
-use Rattle.gj_json.proofs.Grammar.NumberPrefixes.{number_read, state_parts}
+use Rattle.gj_json.proofs.Grammar.NumberPrefixes.{number_front, number_begun, goes_on}
 use Rattle.gj_json.proofs.Machine.ValuePaths.{Leads, at, leads_none, leads_byte, then_leads, byte_leads, white_leads, object_white, name_white, colon_white, awaiting, begins, awaiting_white, Over, over_steps, over_white}
 
 -- ---- literal names
@@ -34,36 +32,18 @@ constant_leads stack False n = leads_byte (begins stack n (first_letter False) (
 
 -- ---- numbers
 
-pub digits_lead : (stack : List Frame) (place : ℕ) (more so_far : List ℕ) (first s : NumberState) (n : ℕ) → number_from (Some first) more ≡ Some s → Leads (at stack (number_on place so_far first)) n more (at stack (number_on place (so_far ++ more) s))
-digits_lead stack place [] so_far first s n e =
-    let f : first ≡ s = cc in
-    let P : List ℕ → Type 0 = λ xs. Leads (at stack (number_on place so_far first)) n [] (at stack (number_on place xs s)) in
-    let Q : NumberState → Type 0 = λ x. Leads (at stack (number_on place so_far first)) n [] (at stack (number_on place so_far x)) in
-    subst P (sym (append-nil so_far)) (subst Q f (leads_none (at stack (number_on place so_far first)) n))
-digits_lead stack place (b ∷ more) so_far first s n e = go (λ next f. digits_lead stack place more (so_far ++ b ∷ []) next s (n + 1) f) (number_next first (class_of b)) refl e
-  where
-    go : ((next : NumberState) → number_from (Some next) more ≡ Some s → Leads (at stack (number_on place (so_far ++ b ∷ []) next)) (n + 1) more (at stack (number_on place ((so_far ++ b ∷ []) ++ more) s))) → (o : Option NumberState) → number_next first (class_of b) ≡ o
-        → number_from o more ≡ Some s → Leads (at stack (number_on place so_far first)) n (b ∷ more) (at stack (number_on place (so_far ++ b ∷ more) s))
-    go ih None f g = none more g
-      where
-        none : (xs : List ℕ) → number_from None xs ≡ Some s → Leads (at stack (number_on place so_far first)) n (b ∷ more) (at stack (number_on place (so_far ++ b ∷ more) s))
-        none [] g = cc
-        none (x ∷ xs) g = cc
-    go ih (Some next) f g =
-        let P : List ℕ → Type 0 = λ xs. Leads (at stack (number_on place (so_far ++ b ∷ []) next)) (n + 1) more (at stack (number_on place xs s)) in
-        leads_byte (rw f refl) (subst P (append_assoc so_far (b ∷ []) more) (ih next g))
+pub digits_lead : (stack : List Frame) (place : ℕ) (more so_far : List ℕ) (n : ℕ) → BeginsNumber (so_far ++ more) → Leads (at stack (number_on place so_far)) n more (at stack (number_on place (so_far ++ more)))
+digits_lead stack place [] so_far n h =
+    let P : List ℕ → Type 0 = λ xs. Leads (at stack (number_on place so_far)) n [] (at stack (number_on place xs)) in
+    subst P (sym (append-nil so_far)) (leads_none (at stack (number_on place so_far)) n)
+digits_lead stack place (b ∷ more) so_far n h =
+    let P : List ℕ → Type 0 = λ xs. Leads (at stack (number_on place (so_far ++ b ∷ []))) (n + 1) more (at stack (number_on place xs)) in
+    leads_byte (rw (goes_on so_far more b h) refl) (subst P (append_assoc so_far (b ∷ []) more) (digits_lead stack place more (so_far ++ b ∷ []) (n + 1) (rw (append_assoc so_far (b ∷ []) more) h)))
 
-pub number_begins : (stack : List Frame) (n b : ℕ) (c : Class) (s : NumberState) → number_first c ≡ Some s → begin_value stack n b c ≡ to stack (number_on n (b ∷ []) s)
-number_begins stack n b minus s e = cc
-number_begins stack n b zero_digit s e = cc
-number_begins stack n b first_digit s e = cc
-number_begins stack n b _ s e = cc
-
-pub number_leads : (stack : List Frame) (literal : List ℕ) (s : NumberState) (n : ℕ) → number_state literal ≡ Some s → Leads (awaiting stack) n literal (at stack (number_on n literal s))
-number_leads stack [] s n e = cc
-number_leads stack (b ∷ more) s n e =
-    let p = state_parts b more s e in
-    leads_byte (begins stack n b (class_of b) (at stack (number_on n (b ∷ []) p.0)) refl (number_begins stack n b (class_of b) p.0 p.1)) (digits_lead stack n more (b ∷ []) p.0 s (n + 1) p.2)
+pub number_leads : (stack : List Frame) (literal : List ℕ) (n : ℕ) → NumberBegun literal → Leads (awaiting stack) n literal (at stack (number_on n literal))
+number_leads stack [] n h = absurd (h.0 refl)
+number_leads stack (b ∷ more) n h =
+    leads_byte (begins stack n b number_start (at stack (number_on n (b ∷ []))) (starts_number b (number_front (b ∷ []) more h.1)) refl) (digits_lead stack n more (b ∷ []) (n + 1) h.1)
 
 -- ---- strings and names
 
@@ -148,13 +128,12 @@ constant_value which place stack n bytes h =
 
 number_value : (place : ℕ) (literal : List ℕ) (end : ℕ) (stack : List Frame) (n : ℕ) (bytes : List ℕ) → Spells (number place literal end) n bytes → ValueLeads stack (number place literal end) n bytes
 number_value place literal end stack n bytes h =
-    let r = number_read literal h.1 in
     let w : Then (Exactly literal) (Ends end) n bytes = h.2 in
     let e : bytes ≡ literal = w.joined ∙ ap (λ xs. w.first ++ xs) w.after.0 ∙ append-nil w.first ∙ w.before in
     let l : length bytes ≡ length w.first = ap length (w.joined ∙ ap (λ xs. w.first ++ xs) w.after.0 ∙ append-nil w.first) in
     let f : end ≡ n + length bytes = omega (arith, w.after.1) in
-    let P : List ℕ → Type 0 = λ xs. Leads (awaiting stack) n xs (at stack (number_on n literal r.0)) in
-    (number_on n literal r.0, subst P (sym e) (number_leads stack literal r.0 n r.1), inr (n, literal, r.0, refl, ap (λ p. number p literal end) h.0 ∙ ap (λ m. number n literal m) f, r.2))
+    let P : List ℕ → Type 0 = λ xs. Leads (awaiting stack) n xs (at stack (number_on n literal)) in
+    (number_on n literal, subst P (sym e) (number_leads stack literal n (number_begun literal h.1)), inr (n, literal, refl, ap (λ p. number p literal end) h.0 ∙ ap (λ m. number n literal m) f, h.1))
 
 string_value : (place : ℕ) (content : List ℕ) (end : ℕ) (stack : List Frame) (n : ℕ) (bytes : List ℕ) → Spells (string place content end) n bytes → ValueLeads stack (string place content end) n bytes
 string_value place content end stack n bytes h =

@@ -1,9 +1,8 @@
 -- What one byte more makes of what is due or under way at the right edge.
-use Rattle.std.proofs.Common.{◌≡◌, ◌≢◌, ℕ, ◌+◌, true, List, [], ◌∷◌, ◌++◌, length, refl, sym, ap, subst, ◌∙◌, arith, append_assoc, append-nil}
+use Rattle.std.proofs.Common.{◌≡◌, ◌≢◌, ℕ, ◌+◌, List, [], ◌∷◌, ◌++◌, length, refl, sym, ap, subst, ◌∙◌, arith, append_assoc, append-nil}
 use Rattle.gj_json.specs.Bytes.{quote as quote_byte, IsWhite}
 use Rattle.gj_json.specs.declared.constant.Constant.{Constant}
 use Rattle.gj_json.specs.declared.constant.Constant.TheVariants.{Null, True, False}
-use Rattle.gj_json.specs.Internal.NumberStates.{NumberState}
 use Rattle.gj_json.specs.declared.mode.StringState.{StringState}
 use Rattle.gj_json.specs.declared.mode.StringState.TheVariants.{Plain as plain}
 use Rattle.gj_json.specs.Tree.{number}
@@ -11,11 +10,11 @@ use Rattle.gj_json.specs.Characters.{SpellsContent}
 use Rattle.gj_json.specs.Grammar.{Then, White, Exactly, Ends, Quoted, letters_of, Spells}
 use Rattle.gj_json.specs.Internal.ByteClasses.{first_letter}
 use Rattle.gj_json.specs.Broken.{Frame, number_on, BeginsCharacter, BeginsQuoted, SpellsLeaf}
-use Rattle.gj_json.specs.Internal.TextMachine.{letters_after, number_may_end, string_next, StringStep, string_ends, string_goes}
+use Rattle.gj_json.specs.Internal.TextMachine.{letters_after, string_next, StringStep, string_ends, string_goes}
 use Rattle.gj_json.proofs.Grammar.SpelledForms
 use Rattle.gj_json.proofs.Grammar.CharacterPrefixes
 use Rattle.gj_json.proofs.Grammar.CharacterPrefixes.{Begun, content_push}
-use Rattle.gj_json.proofs.Grammar.NumberPrefixes.{UnderWay, number_ends}
+use Rattle.gj_number.specs.Grammar.{IsNumber}
 use Rattle.gj_json.proofs.Machine.TakenBytes.{Adds, then_adds, white_adds}
 
 pub letters_spelled : (which : Constant) (b : ℕ) → b ≡ first_letter which → (letters_of which ≡ (b ∷ []) ++ letters_after which) × (letters_after which ≢ [])
@@ -90,11 +89,9 @@ quoted_ends {n} {b} place so_far state e =
     record { on = λ m bytes l h. (h.0, g.on m bytes l h.1) }
 
 -- a number that may end has ended
-pub number_ended : {n : ℕ} (stack : List Frame) (place : ℕ) (so_far : List ℕ) (state : NumberState) → number_may_end state ≡ true
-    → Adds n [] (Then White (SpellsLeaf stack (number_on place so_far state))) (Then White (Then (Spells (number place so_far n)) White))
-number_ended {n} stack place so_far state may_end = then_adds (record {
+pub number_ended : {n : ℕ} (stack : List Frame) (place : ℕ) (so_far : List ℕ) → IsNumber so_far → Adds n [] (Then White (SpellsLeaf stack (number_on place so_far))) (Then White (Then (Spells (number place so_far n)) White))
+number_ended {n} stack place so_far i = then_adds (record {
   on = λ m bytes l h.
-      let u : UnderWay so_far state = record { begins = h.2; state = h.3 } in
       let spelled : Then (Exactly so_far) (Ends n) m bytes = SpelledForms.joins bytes [] (sym (append-nil bytes)) h.1 (refl, sym l) in
-      rw (append-nil bytes) (SpelledForms.joins {A = Spells (number place so_far n)} {K = White} bytes [] (sym (append-nil bytes)) (h.0, number_ends so_far state u may_end, spelled) tt);
+      rw (append-nil bytes) (SpelledForms.joins {A = Spells (number place so_far n)} {K = White} bytes [] (sym (append-nil bytes)) (h.0, i, spelled) tt);
 })

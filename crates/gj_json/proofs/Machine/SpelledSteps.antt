@@ -4,9 +4,8 @@ use Rattle.std.proofs.lemmas.List.{length-append}
 use Rattle.gj_json.specs.Bytes.{comma as comma_byte, mark_first, mark_second, mark_third, mark_bytes}
 use Rattle.gj_json.specs.declared.constant.Constant.{Constant}
 use Rattle.gj_json.specs.declared.class.Class.{Class}
-use Rattle.gj_json.specs.declared.class.Class.TheVariants.{White as white, OpenArray as open_array, CloseArray as close_array, OpenObject as open_object, CloseObject as close_object, Comma as comma, Colon as colon, Quote as quote, Minus as minus, Plus as plus, Point as point, Exponent as exponent, ZeroDigit as zero_digit, FirstDigit as first_digit, Letter as letter, Other as other}
-use Rattle.gj_json.specs.Internal.NumberStates.{NumberState}
-use Rattle.gj_json.specs.Internal.NumberStates.{after_minus, after_zero, in_digits}
+use Rattle.gj_json.specs.declared.class.Class.TheVariants.{White as white, OpenArray as open_array, CloseArray as close_array, OpenObject as open_object, CloseObject as close_object, Comma as comma, Colon as colon, Quote as quote, NumberStart as number_start, Letter as letter, Other as other}
+use Rattle.gj_number.proofs.Grammar.DecidedNumbers.{number as decided_number, begins as decided_begins}
 use Rattle.gj_json.specs.declared.mode.StringState.{StringState}
 use Rattle.gj_json.specs.declared.mode.StringState.TheVariants.{Plain as plain}
 use Rattle.gj_json.specs.Tree.{Tree, constant, number}
@@ -14,12 +13,11 @@ use Rattle.gj_json.specs.Grammar.{Then, White, Exactly, Spells}
 use Rattle.gj_json.specs.Text.{SpellsMark}
 use Rattle.gj_json.specs.Internal.ByteClasses.{class_of, Means}
 use Rattle.gj_json.specs.Broken.{Member, Frame, in_array, in_object, Leaf, value_due, value_done, array_opened, object_opened, constant_on, number_on, string_on, name_due, name_on, colon_due, Partial, Broken, text_due, mark_one, mark_two, begun, BeginsQuoted, Named, ObjectOpened, Opened, IsDue, SpellsLeaf, SpellsBroken}
-use Rattle.gj_json.specs.Internal.TextMachine.{with_mark, begin_value, after_value, step_value_due, step_array_opened, step_object_opened, step_name_due, step_colon_due, step_constant, step_number, step_string, step_name, step_leaf, step, run_from, run, letters_after, number_first, number_next, number_may_end, string_next, StringStep, string_ends, string_goes, string_refuses, to}
-use Rattle.gj_json.proofs.Grammar.ClassOfBytes.{means}
+use Rattle.gj_json.specs.Internal.TextMachine.{with_mark, begin_value, after_value, step_value_due, step_array_opened, step_object_opened, step_name_due, step_colon_due, step_constant, step_number, step_string, step_name, step_leaf, step, run_from, run, letters_after, begins_number, is_number, string_next, StringStep, string_ends, string_goes, string_refuses, to}
+use Rattle.gj_json.proofs.Grammar.ClassOfBytes.{means, number_starts}
 use Rattle.gj_json.proofs.Grammar.SpelledForms
-use Rattle.gj_json.proofs.Grammar.NumberPrefixes.{number_begun, number_goes}
 use Rattle.gj_json.proofs.Machine.TakenBytes.{Adds, then_adds, named_adds, array_adds, object_adds, opened_adds, white_adds, follows, alone, ended_white, some_push, behind_adds, array_closes, object_closes, empty_array, empty_object}
-use Rattle.gj_json.proofs.Machine.ReachedStates.{run_none}
+use Rattle.gj_json.proofs.Machine.BytesUnderWay.{run_none}
 use Rattle.gj_json.proofs.Machine.RightEdges.{letters_spelled, quote_begins, nothing, nothing_white, nothing_more, quoted_adds, quoted_ends, number_ended}
 
 -- the bytes from the place m on are spelled as this state
@@ -36,24 +34,14 @@ module _ (m n b : ℕ) (q : List ℕ) (e : m + length q ≡ n) where
   change : {K L : ℕ → List ℕ → Type 0} (stack : List Frame) → Adds n [] K L → Opened stack K m q → Opened stack L m q
   change stack a h = let g = opened_adds stack a in let k = g.on m q e h in rw (append-nil q) at k
 
-  number_begins : (stack : List Frame) (s : NumberState) → number_first (class_of b) ≡ Some s → Opened stack White m q → Keeps m (q ++ b ∷ []) (to stack (number_on n (b ∷ []) s))
-  number_begins stack s f h =
-      let u = number_begun b s f in
-      put {L = Then White (SpellsLeaf stack (number_on n (b ∷ []) s))} stack (follows (refl, refl, u.begins, u.state)) h
-
   begins : (stack : List Frame) (c : Class) → class_of b ≡ c → Means c b → Opened stack White m q → Keeps m (q ++ b ∷ []) (begin_value stack n b c)
   begins stack open_array k w h = put {L = Then White (SpellsLeaf stack (array_opened n))} stack (follows (refl, SpelledForms.byte_more w tt)) h
   begins stack open_object k w h = put {L = Then White (SpellsLeaf stack (object_opened n))} stack (follows (refl, SpelledForms.byte_more w tt)) h
   begins stack quote k w h = put {L = Then White (SpellsLeaf stack (string_on n [] plain))} stack (follows (quote_begins w)) h
-  begins stack minus k w h = number_begins stack after_minus (rw k refl) h
-  begins stack zero_digit k w h = number_begins stack after_zero (rw k refl) h
-  begins stack first_digit k w h = number_begins stack in_digits (rw k refl) h
+  begins stack number_start k w h = put {L = Then White (SpellsLeaf stack (number_on n (b ∷ [])))} stack (follows (refl, refl, ((λ f. cc), number_starts b k))) h
   begins stack (letter which) k w h =
       let g = letters_spelled which b w in
       put {L = Then White (SpellsLeaf stack (constant_on which n (letters_after which)))} stack (follows (refl, g.0, (λ f. cc), g.1)) h
-  begins stack plus k w h = tt
-  begins stack point k w h = tt
-  begins stack exponent k w h = tt
   begins stack white k w h = tt
   begins stack close_array k w h = tt
   begins stack close_object k w h = tt
@@ -144,20 +132,20 @@ module _ (m n b : ℕ) (q : List ℕ) (e : m + length q ≡ n) where
       go (string_goes more next) f = put stack (then_adds (object_adds place done (then_adds (quoted_adds np so_far more state next f)))) h
       go string_refuses f = tt
 
-  keeps_number : (stack : List Frame) (place : ℕ) (so_far : List ℕ) (state : NumberState) → Opened stack (Then White (SpellsLeaf stack (number_on place so_far state))) m q
-      → Keeps m (q ++ b ∷ []) (step_number stack place so_far n b (number_next state (class_of b)) (if number_may_end state then after_value stack (number place so_far n) n (class_of b) else None))
-  keeps_number stack place so_far state h = go (number_next state (class_of b)) refl
+  keeps_number : (stack : List Frame) (place : ℕ) (so_far : List ℕ) → Opened stack (Then White (SpellsLeaf stack (number_on place so_far))) m q
+      → Keeps m (q ++ b ∷ []) (step_number stack place so_far b (begins_number (so_far ++ b ∷ [])) (if is_number so_far then after_value stack (number place so_far n) n (class_of b) else None))
+  keeps_number stack place so_far h = go (begins_number (so_far ++ b ∷ [])) refl
     where
-      done : (t : Bool) → number_may_end state ≡ t → Keeps m (q ++ b ∷ []) (if t then after_value stack (number place so_far n) n (class_of b) else None)
-      done true f = keeps_after stack (number place so_far n) (class_of b) (means b) (change stack (number_ended stack place so_far state f) h)
+      done : (t : Bool) → is_number so_far ≡ t → Keeps m (q ++ b ∷ []) (if t then after_value stack (number place so_far n) n (class_of b) else None)
+      done true f = keeps_after stack (number place so_far n) (class_of b) (means b) (change stack (number_ended stack place so_far ((decided_number so_far).0 f)) h)
       done false f = tt
 
-      go : (o : Option NumberState) → number_next state (class_of b) ≡ o → Keeps m (q ++ b ∷ []) (step_number stack place so_far n b o (if number_may_end state then after_value stack (number place so_far n) n (class_of b) else None))
-      go (Some next) f =
-          let spelled : Adds n (b ∷ []) (SpellsLeaf stack (number_on place so_far state)) (SpellsLeaf stack (number_on place (so_far ++ b ∷ []) next)) =
-          record { on = λ p xs l j. (let u = number_goes so_far state next b (record { begins = j.2; state = j.3 }) f in (j.0, ap (λ ys. ys ++ b ∷ []) j.1, u.begins, u.state)) } in
+      go : (goes : Bool) → begins_number (so_far ++ b ∷ []) ≡ goes → Keeps m (q ++ b ∷ []) (step_number stack place so_far b goes (if is_number so_far then after_value stack (number place so_far n) n (class_of b) else None))
+      go true f =
+          let spelled : Adds n (b ∷ []) (SpellsLeaf stack (number_on place so_far)) (SpellsLeaf stack (number_on place (so_far ++ b ∷ []))) =
+          record { on = λ p xs l j. (j.0, ap (λ ys. ys ++ b ∷ []) j.1, (some_push so_far b, (decided_begins (so_far ++ b ∷ [])).0 f)) } in
           put stack (then_adds spelled) h
-      go None f = done (number_may_end state) refl
+      go false f = done (is_number so_far) refl
 
   keeps_leaf : (stack : List Frame) (leaf : Leaf) → Opened stack (Then White (SpellsLeaf stack leaf)) m q → Keeps m (q ++ b ∷ []) (step_leaf stack leaf n b)
   keeps_leaf stack value_due h = keeps_due stack (class_of b) refl (means b) h
@@ -165,7 +153,7 @@ module _ (m n b : ℕ) (q : List ℕ) (e : m + length q ≡ n) where
   keeps_leaf stack (array_opened place) h = keeps_array stack place (class_of b) refl (means b) h
   keeps_leaf stack (object_opened place) h = keeps_object stack place (class_of b) refl (means b) h
   keeps_leaf stack (constant_on which place left) h = keeps_constant stack which place left h
-  keeps_leaf stack (number_on place so_far state) h = keeps_number stack place so_far state h
+  keeps_leaf stack (number_on place so_far) h = keeps_number stack place so_far h
   keeps_leaf stack (string_on place so_far state) h = keeps_string stack place so_far state h
   keeps_leaf stack (name_due place done) h = keeps_name_due stack place done (class_of b) refl (means b) h
   keeps_leaf stack (name_on place done np so_far state) h = keeps_name stack place done np so_far state h

@@ -10,16 +10,16 @@ use Rattle.gj_json.specs.Text.{SpellsMark}
 use Rattle.gj_number.specs.Grammar.{IsNumber}
 use Rattle.gj_json.specs.Characters.{SpellsContent}
 use Rattle.gj_json.specs.declared.class.Class.{Class}
-use Rattle.gj_json.specs.declared.class.Class.TheVariants.{White as white, OpenArray as open_array, CloseArray as close_array, OpenObject as open_object, CloseObject as close_object, Comma as comma, Colon as colon, Quote as quote, Minus as minus, ZeroDigit as zero_digit, FirstDigit as first_digit, Letter as letter, Other as other}
+use Rattle.gj_json.specs.declared.class.Class.TheVariants.{White as white, OpenArray as open_array, CloseArray as close_array, OpenObject as open_object, CloseObject as close_object, Comma as comma, Colon as colon, Quote as quote, Letter as letter, Other as other}
 use Rattle.gj_json.specs.Internal.ByteClasses.{class_of, first_letter}
-use Rattle.gj_json.proofs.Grammar.ClassOfBytes.{class_is}
+use Rattle.gj_json.proofs.Grammar.ClassOfBytes.{class_is, starts_number, number_classes}
 use Rattle.gj_json.proofs.Grammar.SpelledForms
-use Rattle.gj_json.specs.Internal.NumberStates.{NumberState}
-use Rattle.gj_json.specs.Internal.NumberStates.{after_minus, after_zero, in_digits}
+use Rattle.gj_number.proofs.Grammar.DecidedNumbers.{number as decided_number, begins, no_number}
+use Rattle.gj_json.proofs.Grammar.NumberPrefixes.{stops}
 use Rattle.gj_json.specs.declared.mode.StringState.{StringState}
 use Rattle.gj_json.specs.declared.mode.StringState.TheVariants.{Plain as plain}
-use Rattle.gj_json.specs.Internal.TextMachine.{Broken, text_due, mark_one, mark_two, begun, with_mark, Frame, in_array, in_object, Member, Leaf, Partial, begin_value, after_value, value_due, value_done, array_opened, object_opened, constant_on, number_on as number_on_leaf, string_on, name_due, name_on as name_on_leaf, colon_due, step_value_due, step_array_opened, step_object_opened, step_name_due, step_colon_due, step_constant, step_number, step_string, step_name, step_leaf, step, letters_after, back_elements, back_members, number_first, number_next, number_may_end, string_next}
-use Rattle.gj_json.proofs.Machine.Completions.{TextFrom, After, AfterName, Completes, CompletesFrom, Goes, NumberRest, StringOn, Due}
+use Rattle.gj_json.specs.Internal.TextMachine.{Broken, text_due, mark_one, mark_two, begun, with_mark, Frame, in_array, in_object, Member, Leaf, Partial, begin_value, after_value, value_due, value_done, array_opened, object_opened, constant_on, number_on as number_on_leaf, string_on, name_due, name_on as name_on_leaf, colon_due, step_value_due, step_array_opened, step_object_opened, step_name_due, step_colon_due, step_constant, step_number, step_string, step_name, step_leaf, step, letters_after, back_elements, back_members, begins_number, is_number, string_next}
+use Rattle.gj_json.proofs.Machine.Completions.{TextFrom, After, AfterName, Completes, CompletesFrom, Goes, StringOn, Due}
 use Rattle.gj_json.proofs.Grammar.SpelledTexts
 
 -- the place that a form begins by is where it stands
@@ -73,22 +73,18 @@ number_begun : (stack : List Frame) (T : Tree) (n b : ℕ) (rest : List ℕ) (pl
     → Goes (CompletesFrom T (n + 1) rest) (begin_value stack n b (class_of b))
 number_begun stack T n b rest place literal end h = go literal h.before.0 h.before.1 (SpelledForms.then_left (SpelledForms.joins h.first h.rest h.joined h.before.2 h.after))
   where
-    begun : (c : Class) (state : NumberState) (more : List ℕ) → number_first c ≡ Some state → NumberRest state more → Then (Exactly more) (Then (Ends end) (After stack (number n (b ∷ more) end) T)) (n + 1) rest
-        → Goes (CompletesFrom T (n + 1) rest) (begin_value stack n b c)
-    begun minus state more e r k = (more, end, let P : NumberState → Type 0 = λ s. NumberRest s more in let f : state ≡ after_minus = cc in subst P f r, k)
-    begun zero_digit state more e r k = (more, end, let P : NumberState → Type 0 = λ s. NumberRest s more in let f : state ≡ after_zero = cc in subst P f r, k)
-    begun first_digit state more e r k = (more, end, let P : NumberState → Type 0 = λ s. NumberRest s more in let f : state ≡ in_digits = cc in subst P f r, k)
-    begun _ state more e r k = cc
-
     go : (digits : List ℕ) → place ≡ n → IsNumber digits → Then (Exactly digits) (Then (Ends end) (After stack (number place digits end) T)) n (b ∷ rest) → Goes (CompletesFrom T (n + 1) rest) (begin_value stack n b (class_of b))
-    go [] p i k = absurd (SpelledTexts.no_number i)
+    go [] p i k = absurd (no_number i)
     go (d ∷ more) p i k =
         let g = SpelledForms.exactly_on k in
-        let num = SpelledTexts.number_on d more i in
-        let f : number_first (class_of b) ≡ Some num.0 = rw (g.0) num.1 in
-        begun (class_of b) num.0 more f num.2
-        (let P : ℕ → ℕ → Type 0 = λ p c. Then (Exactly more) (Then (Ends end) (After stack (number p (c ∷ more) end) T)) (n + 1) rest in
-        let Q : ℕ → Type 0 = λ c. P n c in let R : ℕ → Type 0 = λ q. P q d in subst Q (sym g.0) (subst R p g.1))
+        let j : IsNumber (b ∷ more) = rw (g.0) i in
+        rw (starts_number b (more, j)) (
+          more,
+          end,
+          j,
+          let P : ℕ → ℕ → Type 0 = λ p c. Then (Exactly more) (Then (Ends end) (After stack (number p (c ∷ more) end) T)) (n + 1) rest in
+              let Q : ℕ → Type 0 = λ c. P n c in let R : ℕ → Type 0 = λ q. P q d in subst Q (sym g.0) (subst R p g.1),
+        )
 
 on_begin : (stack : List Frame) (T : Tree) (n b : ℕ) (rest : List ℕ) (t : Tree) → Then (Spells t) (After stack t T) n (b ∷ rest) → Goes (CompletesFrom T (n + 1) rest) (begin_value stack n b (class_of b))
 on_begin stack T n b rest (constant which place) h = constant_begun stack T n b rest which place h
@@ -252,28 +248,31 @@ follows P [] t n _ h = h
 follows P (in_array place done ∷ stack) t n _ h = h
 follows P (in_object place done np name ne ∷ stack) t n _ h = h
 
-none_follows : (state : NumberState) (c : Class) → Follows c → number_next state c ≡ None
-none_follows after_minus white h = refl
-none_follows _ comma h = refl
-none_follows _ close_array h = refl
-none_follows _ close_object h = refl
-none_follows _ white h = refl
-none_follows _ _ h = absurd h
+-- a byte that goes on after a value goes on in no number
+pub no_more : (P : Partial → Type 0) (stack : List Frame) (t : Tree) (n : ℕ) (so_far : List ℕ) (b : ℕ) → Goes P (after_value stack t n (class_of b)) → begins_number (so_far ++ b ∷ []) ≡ false
+no_more P stack t n so_far b h =
+    let f = follows P stack t n (class_of b) h in
+    stops so_far b (λ x. elim (number_classes b x) [ inl e ↦ rw e at f | inr e ↦ rw e at f ])
 
--- a byte that goes on after a value is none of a number's
-pub no_more : (P : Partial → Type 0) (stack : List Frame) (t : Tree) (n : ℕ) (state : NumberState) (c : Class) → Goes P (after_value stack t n c) → number_next state c ≡ None
-no_more P stack t n state c h = none_follows state c (follows P stack t n c h)
-
-on_number : (stack : List Frame) (place : ℕ) (so_far : List ℕ) (state : NumberState) (T : Tree) (n b : ℕ) (rest : List ℕ) → Completes stack (number_on_leaf place so_far state) T n (b ∷ rest)
-    → Goes (CompletesFrom T (n + 1) rest) (step_number stack place so_far n b (number_next state (class_of b)) (if number_may_end state then after_value stack (number place so_far n) n (class_of b) else None))
-on_number stack place so_far state T n b rest h = elim (SpelledTexts.number_on_step state h.0 h.2 h.3) [
-  | inl g ↦ (let k : After stack (number place so_far n) T n (b ∷ rest) = (let P : List ℕ → ℕ → Type 0 = λ c e. After stack (number place c e) T n (b ∷ rest) in
-      let Q : List ℕ → Type 0 = λ c. P c n in let R : ℕ → Type 0 = λ e. P (so_far ++ h.0) e in subst Q (ap (λ c. so_far ++ c) g.0 ∙ append-nil so_far) (subst R g.2 g.3)) in
-      let j = on_after stack (number place so_far n) T n b rest k in
-      let e : number_next state (class_of b) ≡ None = no_more (CompletesFrom T (n + 1) rest) stack (number place so_far n) n state (class_of b) j in
-      rw (e, g.1) j)
-  | inr g ↦ rw (g.3) (g.1, h.1, g.4, let P : List ℕ → Type 0 = λ c. Then (Exactly g.1) (Then (Ends h.1) (After stack (number place c h.1) T)) (n + 1) rest in subst P (ap (λ c. so_far ++ c) g.2 ∙ sym (append_assoc so_far (b ∷ []) g.1)) g.5)
-]
+on_number : (stack : List Frame) (place : ℕ) (so_far : List ℕ) (T : Tree) (n b : ℕ) (rest : List ℕ) → Completes stack (number_on_leaf place so_far) T n (b ∷ rest)
+    → Goes (CompletesFrom T (n + 1) rest) (step_number stack place so_far b (begins_number (so_far ++ b ∷ [])) (if is_number so_far then after_value stack (number place so_far n) n (class_of b) else None))
+on_number stack place so_far T n b rest h = go h.0 h.2 h.3
+  where
+    go : (more : List ℕ) → IsNumber (so_far ++ more) → Then (Exactly more) (Then (Ends h.1) (After stack (number place (so_far ++ more) h.1) T)) n (b ∷ rest)
+        → Goes (CompletesFrom T (n + 1) rest) (step_number stack place so_far b (begins_number (so_far ++ b ∷ [])) (if is_number so_far then after_value stack (number place so_far n) n (class_of b) else None))
+    go [] i k =
+        let g = SpelledForms.ends_on {end = h.1} (SpelledForms.exactly_done k) in
+        let P : List ℕ → ℕ → Type 0 = λ c e. After stack (number place c e) T n (b ∷ rest) in
+        let Q : List ℕ → Type 0 = λ c. P c n in
+        let R : ℕ → Type 0 = λ e. P (so_far ++ []) e in
+        let j = on_after stack (number place so_far n) T n b rest (subst Q (append-nil so_far) (subst R g.0 g.1)) in
+        rw (no_more (CompletesFrom T (n + 1) rest) stack (number place so_far n) n so_far b j, (decided_number so_far).1 (rw (append-nil so_far) at i)) j
+    go (c ∷ later) i k =
+        let g = SpelledForms.exactly_on k in
+        let e : so_far ++ c ∷ later ≡ (so_far ++ b ∷ []) ++ later = ap (λ x. so_far ++ x ∷ later) (sym g.0) ∙ sym (append_assoc so_far (b ∷ []) later) in
+        let P : List ℕ → Type 0 = λ xs. Then (Exactly later) (Then (Ends h.1) (After stack (number place xs h.1) T)) (n + 1) rest in
+        let j : IsNumber ((so_far ++ b ∷ []) ++ later) = rw e at i in
+        rw ((begins (so_far ++ b ∷ [])).1 (later, j)) (later, h.1, j, subst P e g.1)
 
 forward_leaf : (stack : List Frame) (leaf : Leaf) (T : Tree) (n b : ℕ) (rest : List ℕ) → Completes stack leaf T n (b ∷ rest) → Goes (CompletesFrom T (n + 1) rest) (step_leaf stack leaf n b)
 forward_leaf stack value_due T n b rest h = on_value_due stack T n b rest h
@@ -281,7 +280,7 @@ forward_leaf stack (value_done t) T n b rest h = on_after stack t T n b rest h
 forward_leaf stack (array_opened place) T n b rest h = on_array_opened stack place T n b rest h
 forward_leaf stack (object_opened place) T n b rest h = on_object_opened stack place T n b rest h
 forward_leaf stack (constant_on which place left) T n b rest h = on_constant stack which place left T n b rest h
-forward_leaf stack (number_on_leaf place so_far state) T n b rest h = on_number stack place so_far state T n b rest h
+forward_leaf stack (number_on_leaf place so_far) T n b rest h = on_number stack place so_far T n b rest h
 forward_leaf stack (string_on place so_far state) T n b rest h = on_string stack place so_far state T n b rest h
 forward_leaf stack (name_due place done) T n b rest h = on_name_due stack place done T n b rest h
 forward_leaf stack (name_on_leaf place done np so_far state) T n b rest h = on_name_string stack place done np so_far state T n b rest h

@@ -1,20 +1,21 @@
 -- Where the bytes of a value lead the machine.
-use Rattle.std.proofs.Common.{◌≡◌, ℕ, ◌+◌, ◌⊎◌, inl, inr, Bool, true, List, [], ◌∷◌, ◌++◌, length, Option, Some, None, refl, sym, ap, subst, ◌∙◌, arith}
+use Rattle.std.proofs.Common.{◌≡◌, ℕ, ◌+◌, ◌⊎◌, inl, inr, Bool, List, [], ◌∷◌, ◌++◌, length, Option, Some, None, refl, sym, ap, subst, ◌∙◌, arith, false}
 use Rattle.gj_json.specs.Bytes.{IsWhite}
 use Rattle.gj_json.specs.declared.class.Class.{Class}
 use Rattle.gj_json.specs.declared.class.Class.TheVariants.{White as white, CloseArray as close_array}
-use Rattle.gj_json.specs.Internal.NumberStates.{NumberState}
 use Rattle.gj_json.specs.Tree.{Tree, number}
 use Rattle.gj_json.specs.Grammar.{Then, White, Exactly}
 use Rattle.gj_json.specs.Internal.ByteClasses.{class_of}
-use Rattle.gj_json.specs.Internal.NumberStates.{number_next, number_may_end}
+use Rattle.gj_number.specs.Grammar.{IsNumber}
+use Rattle.gj_number.specs.DecidedNumbers.{begins_number}
+use Rattle.gj_number.proofs.Grammar.DecidedNumbers.{number as decided_number}
 use Rattle.gj_json.specs.Broken.{Member, Frame, in_array, in_object, Leaf, value_due, value_done, array_opened, object_opened, number_on, name_due, colon_due, Partial, Broken, begun}
 use Rattle.gj_json.specs.Internal.TextMachine.{with_mark, begin_value, after_value, step_value_due, step_array_opened, step_leaf, run_from, step, to}
 use Rattle.gj_json.proofs.Grammar.ClassOfBytes.{class_is}
 use Rattle.gj_json.proofs.Grammar.SpelledForms
 use Rattle.gj_json.proofs.Machine.Completions.{Goes}
 use Rattle.gj_json.proofs.Machine.StepsOfCompletions.{no_more}
-use Rattle.gj_json.proofs.Machine.ReachedStates.{run_none}
+use Rattle.gj_json.proofs.Machine.BytesUnderWay.{run_none}
 
 -- from one state to another, whether or not the text has a mark
 pub record Leads (s : Partial) (n : ℕ) (bytes : List ℕ) (t : Partial) : Type 0 where
@@ -112,7 +113,7 @@ awaiting_white (in_object place done np name ne ∷ stack) = white_leads (at (in
 -- ---- where a value is over
 
 abbrev pub NumberOver : Tree → ℕ → Leaf → Type 0
-NumberOver t n leaf = (place : ℕ) × (literal : List ℕ) × (state : NumberState) × (leaf ≡ number_on place literal state) × (t ≡ number place literal n) × (number_may_end state ≡ true)
+NumberOver t n leaf = (place : ℕ) × (literal : List ℕ) × (leaf ≡ number_on place literal) × (t ≡ number place literal n) × IsNumber literal
 
 -- the value t ends at the place n, or ended before it
 abbrev pub Over : Tree → ℕ → Leaf → Type 0
@@ -120,11 +121,11 @@ Over t n leaf = (leaf ≡ value_done t) ⊎ NumberOver t n leaf
 
 pub over_steps : (stack : List Frame) (t : Tree) (n : ℕ) (leaf : Leaf) (b : ℕ) (c : Class) (s : Partial) → Over t n leaf → class_of b ≡ c → after_value stack t n c ≡ Some s → step_leaf stack leaf n b ≡ Some s
 over_steps stack t n leaf b c s (inl e) k h = rw (e, k) h
-over_steps stack t n leaf b c s (inr (place, literal, state, e, f, m)) k h =
+over_steps stack t n leaf b c s (inr (place, literal, e, f, i)) k h =
     let j : after_value stack (number place literal n) n c ≡ Some s = rw f at h in
     let P : Option Partial → Type 0 = λ o. Goes (λ x. Unit {0}) o in
-    let never : number_next state c ≡ None = no_more (λ x. Unit {0}) stack (number place literal n) n state c (subst P (sym j) tt) in
-    rw (e, k, never, m) j
+    let never : begins_number (literal ++ b ∷ []) ≡ false = no_more (λ x. Unit {0}) stack (number place literal n) n literal b (rw k (subst P (sym j) tt)) in
+    rw (e, k, never, (decided_number literal).1 i) j
 
 pub over_done : (stack : List Frame) (t : Tree) (leaf : Leaf) (b : ℕ) (bytes : List ℕ) (n : ℕ) → Over t n leaf → White n (b ∷ bytes) → Leads (at stack leaf) n (b ∷ bytes) (at stack (value_done t))
 over_done stack t leaf b bytes n o w =

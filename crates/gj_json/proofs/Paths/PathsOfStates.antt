@@ -230,7 +230,7 @@ module _ (T : Tree) (n : ℕ) (whole : Whole T) where
       rw (a, e.are) (to_it stack (object place h.0 h.1) T n _ _ (omega arith) f.0 (stack_whole stack _ _ _ h.2.after.after) h.2.after.after s)
   leaf_leads stack (constant_on which place left) mode start bytes steps a g e i h =
       rw (a.1, g, e) (to_begun stack (constant which place) T place n _ _ (omega arith) (front n (stack_timed stack) [] i).0 (stack_whole stack _ _ _ h.after) h.after refl)
-  leaf_leads stack (number_on place so_far state) mode start bytes steps a g e i h =
+  leaf_leads stack (number_on place so_far) mode start bytes steps a g e i h =
       rw (a, g, e) (to_begun stack (number place (so_far ++ h.0) h.1) T place n _ _ (omega arith) (front n (stack_timed stack) [] i).0 (stack_whole stack _ _ _ h.3.after.after) h.3.after.after refl)
   leaf_leads stack (string_on place so_far state) mode start bytes steps a g e i h =
       rw (a, g, e) (to_begun stack (string place (so_far ++ h.0) h.1) T place n _ _ (omega arith) (front n (stack_timed stack) [] i).0 (stack_whole stack _ _ _ h.2.after) h.2.after refl)
@@ -263,7 +263,7 @@ leaf_steps stack (value_done t) = (stack_steps stack, refl)
 leaf_steps stack (array_opened place) = (Index 0 ∷ stack_steps stack, refl)
 leaf_steps stack (object_opened place) = (Index 0 ∷ stack_steps stack, record { inner = Index 0; small = omega arith; are = refl })
 leaf_steps stack (constant_on which place left) = (stack_steps stack, refl)
-leaf_steps stack (number_on place so_far state) = (stack_steps stack, refl)
+leaf_steps stack (number_on place so_far) = (stack_steps stack, refl)
 leaf_steps stack (string_on place so_far state) = (stack_steps stack, refl)
 leaf_steps stack (name_due place done) = (Index 0 ∷ stack_steps stack, record { inner = Index 0; small = omega arith; are = refl })
 leaf_steps stack (name_on place done np so_far state) = (Index 0 ∷ stack_steps stack, record { inner = Index 0; small = omega arith; are = refl })

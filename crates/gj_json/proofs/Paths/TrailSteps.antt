@@ -1,8 +1,8 @@
 -- The steps to the right edge, behind a byte.
-use Rattle.std.proofs.Common.{◌≡◌, ℕ, ◌+◌, ◌==◌, ◌≤◌, ◌<◌, Bool, true, false, if◌then◌else◌, List, [], ◌∷◌, length, drop, slice_index, Option, Some, None, refl, ap, ◌∙◌, arith, length-drop}
+use Rattle.std.proofs.Common.{◌≡◌, ℕ, ◌+◌, ◌==◌, ◌≤◌, ◌<◌, Bool, true, false, if◌then◌else◌, List, [], ◌∷◌, length, drop, slice_index, Option, Some, None, refl, ap, ◌∙◌, arith, length-drop, ◌++◌}
 use Rattle.gj_json.specs.Bytes.{mark_first, mark_second, mark_third}
 use Rattle.gj_json.specs.declared.class.Class.{Class}
-use Rattle.gj_json.specs.declared.class.Class.TheVariants.{White, OpenArray, CloseArray, OpenObject, CloseObject, Comma, Colon, Quote, Minus, Plus, Point, Exponent, ZeroDigit, FirstDigit, Letter, Other}
+use Rattle.gj_json.specs.declared.class.Class.TheVariants.{White, OpenArray, CloseArray, OpenObject, CloseObject, Comma, Colon, Quote, NumberStart, Letter, Other}
 use Rattle.gj_json.specs.declared.constant.Constant.{Constant}
 use Rattle.gj_json.specs.declared.mode.Ending.{Ending}
 use Rattle.gj_json.specs.declared.mode.Mode.{Mode}
@@ -15,13 +15,13 @@ use Rattle.gj_json.specs.declared.path.PathStep.TheVariants.{Index}
 use Rattle.gj_json.specs.Grammar.{letters_of}
 use Rattle.gj_json.specs.Internal.ByteClasses.{class_of}
 use Rattle.gj_json.specs.Names.{Words, known_of, words_of}
-use Rattle.gj_json.specs.Internal.NumberStates.{NumberState, number_next, number_may_end, turn_of}
 use Rattle.gj_json.specs.Internal.OpenLevels.{inner_of}
 use Rattle.gj_json.specs.Internal.Transitions.{begin_move, due_move, array_move, object_move, name_due_move, colon_move, after_move, constant_move, number_move, string_move, value_string_move, name_string_move, move_of}
 use Rattle.gj_json.specs.Tree.{Tree, constant, number}
 use Rattle.gj_json.specs.Internal.TextMachine.{Broken, text_due, mark_one, mark_two, begun, with_mark, step, Frame, in_array, in_object, Member, Leaf, Partial, value_due, value_done, array_opened, object_opened, constant_on, number_on, string_on, name_due, name_on, colon_due, to, step_leaf, begin_value, after_value, step_value_due, step_array_opened, step_object_opened, step_name_due, step_colon_due, step_constant, step_number, step_string, step_name, string_next, StringStep, string_ends, string_goes, string_refuses}
 use Rattle.gj_json.specs.Internal.ReaderState.{levels_of, levels_with, LeafAs, StandsAs}
-use Rattle.gj_json.specs.Internal.UnderWay.{under_leaf, under_of, Turns, HasWords}
+use Rattle.gj_number.specs.DecidedNumbers.{is_number, begins_number}
+use Rattle.gj_json.specs.Internal.UnderWay.{turn_of, under_leaf, under_of, Turns, HasWords}
 use Rattle.gj_json.specs.Internal.PathTrail.{outer_steps, with_inner, advanced, followed, Inside, LeafTrail, stack_steps, stack_count, TrailAt}
 
 -- the state behind a byte has these steps, where n bytes were taken before it
@@ -35,12 +35,7 @@ module _ (n b : ℕ) where
   on_begin stack OpenObject steps e l = (record { inner = Index 0; small = omega arith; are = ap (λ ss. Index 0 ∷ ss) e }, omega arith)
   on_begin stack (Letter which) steps e l = (e, omega arith)
   on_begin stack Quote steps e l = (e, omega arith)
-  on_begin stack Minus steps e l = (e, omega arith)
-  on_begin stack ZeroDigit steps e l = (e, omega arith)
-  on_begin stack FirstDigit steps e l = (e, omega arith)
-  on_begin stack Plus steps e l = tt
-  on_begin stack Point steps e l = tt
-  on_begin stack Exponent steps e l = tt
+  on_begin stack NumberStart steps e l = (e, omega arith)
   on_begin stack White steps e l = tt
   on_begin stack CloseArray steps e l = tt
   on_begin stack CloseObject steps e l = tt
@@ -86,11 +81,11 @@ module _ (n b : ℕ) where
 
   -- ---- numbers
 
-  on_number : (stack : List Frame) (place : ℕ) (so_far : List ℕ) (c : Class) (o : Option NumberState) (may_end : Bool) (steps : List PathStep) → steps ≡ stack_steps stack → stack_count stack ≤ n
-      → Trailed n (followed (number_move (turn_of o may_end) (after_move (inner_of (levels_of stack)) c)) steps) (step_number stack place so_far n b o (if may_end then after_value stack (number place so_far n) n c else None))
-  on_number stack place so_far c (Some next) may_end steps e l = (e, omega arith)
-  on_number stack place so_far c None true steps e l = on_after stack (number place so_far n) c steps e l
-  on_number stack place so_far c None false steps e l = tt
+  on_number : (stack : List Frame) (place : ℕ) (so_far : List ℕ) (c : Class) (goes may_end : Bool) (steps : List PathStep) → steps ≡ stack_steps stack → stack_count stack ≤ n
+      → Trailed n (followed (number_move (turn_of goes may_end) (after_move (inner_of (levels_of stack)) c)) steps) (step_number stack place so_far b goes (if may_end then after_value stack (number place so_far n) n c else None))
+  on_number stack place so_far c true may_end steps e l = (e, omega arith)
+  on_number stack place so_far c false true steps e l = on_after stack (number place so_far n) c steps e l
+  on_number stack place so_far c false false steps e l = tt
 
   -- ---- strings and names
 
@@ -137,7 +132,7 @@ module _ (n b : ℕ) where
   leaf_trailed stack (array_opened place) mode turn words steps a u w e l = rw a (on_array_opened stack place (class_of b) steps e l)
   leaf_trailed stack (object_opened place) mode turn words steps a u w e l = rw a (on_object_opened stack place (class_of b) steps e l)
   leaf_trailed stack (constant_on which place left) mode turn words steps a u w e l = rw (a.1) (on_constant stack which place left a.0 steps a.2 a.3 e l)
-  leaf_trailed stack (number_on place so_far state) mode turn words steps a u w e l = rw (a, u) (on_number stack place so_far (class_of b) (number_next state (class_of b)) (number_may_end state) steps e l)
+  leaf_trailed stack (number_on place so_far) mode turn words steps a u w e l = rw (a, u) (on_number stack place so_far (class_of b) (begins_number (so_far ++ b ∷ [])) (is_number so_far) steps e l)
   leaf_trailed stack (string_on place so_far state) mode turn words steps a u w e l = rw a (on_string stack place so_far (string_next state b) words steps e l)
   leaf_trailed stack (name_due place done) mode turn words steps a u w e l = rw a (on_name_due stack place done (class_of b) steps e l)
   leaf_trailed stack (name_on place done np so_far state) mode turn words steps a u w e l = rw a (on_name_string stack place done np so_far (string_next state b) words steps w e l)

@@ -194,7 +194,7 @@ leaf_naming marked stack value_due mode levels d w a f = let x = rw (a.0) at w i
 leaf_naming marked stack (array_opened place) mode levels d w a f = let x = rw (a.0) at w in cc
 leaf_naming marked stack (value_done t) mode levels d w a f = let x = rw (a.0) at w in cc
 leaf_naming marked stack (constant_on which place left) mode levels d w a f = let x = rw (a.0.1) at w in cc
-leaf_naming marked stack (number_on place so_far state) mode levels d w a f = let x = rw (a.0) at w in cc
+leaf_naming marked stack (number_on place so_far) mode levels d w a f = let x = rw (a.0) at w in cc
 leaf_naming marked stack (string_on place so_far state) mode levels d w a f = let x = rw (a.0) at w in cc
 leaf_naming marked stack (name_on place done np so_far state) mode levels d w a f = let x = rw (a.0) at w in cc
 leaf_naming marked stack (colon_due place done np name ne) mode levels d w a f = let x = rw (a.0) at w in cc

@@ -25,10 +25,10 @@ use Rattle.gj_json.specs.Internal.FedReader.{GoesOn}
 use Rattle.gj_json.proofs.Grammar.OneCharacter.{OneCharacter, one_character}
 use Rattle.gj_json.specs.declared.mode.Move.TheVariants.{Go}
 use Rattle.gj_json.specs.declared.mode.NumberTurn.{NumberTurn}
-use Rattle.gj_json.specs.Internal.NumberStates.{NumberState, number_state}
 use Rattle.gj_json.specs.Internal.UnderWay.{Under, nothing, number, text, under_of, ComesFrom, Keeps, Turns}
-use Rattle.gj_json.proofs.Machine.BytesUnderWay.{is_number, state_under, CameTo, step_came, mode_under, mode_state}
-use Rattle.gj_json.proofs.Readers.NumberUnderWay.{own_turn, own_turns, own_value, own_has, own_words, own_has_words, goes_on, came_number, came_text, number_front}
+use Rattle.gj_json.proofs.Machine.BytesUnderWay.{has_number, state_under, CameTo, step_came, mode_under, mode_state}
+use Rattle.gj_json.proofs.Readers.NumberUnderWay.{own_turn, own_turns, own_value, own_has, own_words, own_has_words, came_number, came_text}
+use Rattle.gj_json.proofs.Grammar.NumberPrefixes.{goes_on}
 use Rattle.gj_json.specs.Internal.ToldEvents.{ending_event, number_events, emitted, in_number, is_on, start_after, text_state}
 use Rattle.gj_json.proofs.Machine.Completions.{Goes}
 use Rattle.gj_json.proofs.Readers.Simulation.{moves}
@@ -46,7 +46,7 @@ leaf_start (value_done t) mode next start n on a h = tt
 leaf_start (array_opened place) mode next start n on a h = tt
 leaf_start (object_opened place) mode next start n on a h = tt
 leaf_start (constant_on which place left) mode next start n on a h = rw (on, a.1) at h
-leaf_start (number_on place so_far state) mode next start n on a h = rw (on, a) at h
+leaf_start (number_on place so_far) mode next start n on a h = rw (on, a) at h
 leaf_start (string_on place so_far state) mode next start n on a h = rw (on, a) at h
 leaf_start (name_due place done) mode next start n on a h = tt
 leaf_start (name_on place done np so_far state) mode next start n on a h = rw (on, a) at h
@@ -151,28 +151,25 @@ module _ (limits : Allowed) (levels : List Level) (start : ℕ) where
   -- the number under way behind the bytes
   record AfterDigits (from to : ℕ) (bytes run all so_far : List ℕ) : Type 0 where
     pub well : StandsWell limits NumberOn levels start to all
-    pub state : NumberState
-    pub under : under_of well.state ≡ number so_far state
-    pub leads : number_state so_far ≡ Some state
+    pub under : under_of well.state ≡ number so_far
     pub nothing_more : Completed from to all []
     pub lasts : Lasts from to bytes run
 
   -- digits that go on in a number
-  digits_well : (run so_far : List ℕ) (state : NumberState) (offset : ℕ) (bytes : List ℕ) (k : StandsWell limits NumberOn levels start offset bytes) → under_of k.state ≡ number so_far state → number_state so_far ≡ Some state
+  digits_well : (run so_far : List ℕ) (offset : ℕ) (bytes : List ℕ) (k : StandsWell limits NumberOn levels start offset bytes) → under_of k.state ≡ number so_far
       → BeginsNumber (so_far ++ run) → offset + length run ≤ limits.bytes → AfterDigits offset (offset + length run) bytes run (bytes ++ run) (so_far ++ run)
-  digits_well [] so_far state offset bytes k u n h room =
+  digits_well [] so_far offset bytes k u h room =
       let e : offset ≡ offset + 0 = omega arith in
       let P : ℕ → Type 0 = λ to. AfterDigits offset to bytes [] (bytes ++ []) (so_far ++ []) in
-      subst P e (rw (append-nil bytes, append-nil so_far) (record { well = k; state = state; under = u; leads = n; nothing_more = λ T rest t. sym (append-nil (events_by offset T)); lasts = nothing_lasts offset bytes }))
-  digits_well (b ∷ run) so_far state offset bytes k u n h room =
+      subst P e (rw (append-nil bytes, append-nil so_far) (record { well = k; under = u; nothing_more = λ T rest t. sym (append-nil (events_by offset T)); lasts = nothing_lasts offset bytes }))
+  digits_well (b ∷ run) so_far offset bytes k u h room =
       let more : BeginsNumber ((so_far ++ b ∷ []) ++ run) = rw (append_assoc so_far (b ∷ []) run) h in
-      let goes : BeginsNumber (so_far ++ b ∷ []) = number_front (so_far ++ b ∷ []) run more in
-      let t : Turns (under_of k.state) b NumberTurn.Goes = rw u (goes_on so_far b state n goes) in
+      let t : Turns (under_of k.state) b NumberTurn.Goes = rw (u, goes_on so_far run b h) refl in
       let w = byte_well NumberOn NumberOn Nothing offset bytes b k NumberTurn.Goes t (omega arith) refl refl in
-      let c : ComesFrom (number so_far state) b (under_of w.0.state) = rw u at w.1 in
-      let next = came_number so_far state b n (under_of w.0.state) (sym (mode_under w.0.state NumberOn levels w.0.kept)) c in
+      let c : ComesFrom (number so_far) b (under_of w.0.state) = rw u at w.1 in
+      let next = came_number so_far b (under_of w.0.state) (sym (mode_under w.0.state NumberOn levels w.0.kept)) c in
       let d = byte_completes NumberOn NumberOn Nothing offset bytes b k NumberTurn.Goes t refl refl refl in
-      let g = digits_well run (so_far ++ b ∷ []) next.0 (offset + 1) (bytes ++ b ∷ []) w.0 next.1 next.2 more (omega arith) in
+      let g = digits_well run (so_far ++ b ∷ []) (offset + 1) (bytes ++ b ∷ []) w.0 next more (omega arith) in
       let e : offset + 1 + length run ≡ offset + length (b ∷ run) = omega arith in
       let P : ℕ → Type 0 = λ to. AfterDigits offset to bytes (b ∷ run) (bytes ++ (b ∷ run)) (so_far ++ (b ∷ run)) in
       let Q : List ℕ → Type 0 = λ xs. AfterDigits (offset + 1) (offset + 1 + length run) (bytes ++ b ∷ []) run ((bytes ++ b ∷ []) ++ run) xs in
@@ -184,20 +181,20 @@ module _ (limits : Allowed) (levels : List Level) (start : ℕ) where
           → AfterDigits offset to bytes (b ∷ run) (bytes ++ (b ∷ run)) so_far
       earlier offset to bytes b run so_far d l g =
           let P : List ℕ → Type 0 = λ xs. Completed offset to xs [] → AfterDigits offset to bytes (b ∷ run) xs so_far in
-          subst P (append_assoc bytes (b ∷ []) run) (λ n. record { well = g.well; state = g.state; under = g.under; leads = g.leads; nothing_more = n; lasts = l }) (no_more offset to bytes b run d g.nothing_more)
+          subst P (append_assoc bytes (b ∷ []) run) (λ n. record { well = g.well; under = g.under; nothing_more = n; lasts = l }) (no_more offset to bytes b run d g.nothing_more)
 
   pub digits_run : (run : List ℕ) (old new : Literal) (before after : Content) (offset : ℕ) (bytes : List ℕ) → StandsOpen limits NumberOn levels old before start offset bytes
       → ((so_far : List ℕ) → LiteralStandsFor old so_far → LiteralStandsFor new (so_far ++ run) × BeginsNumber (so_far ++ run)) → offset + length run ≤ limits.bytes
       → StandsOpen limits NumberOn levels new after start (offset + length run) (bytes ++ run) × Completed offset (offset + length run) (bytes ++ run) [] × Lasts offset (offset + length run) bytes run
   digits_run run old new before after offset bytes k goes room = go (under_of k.well.state) refl k.keeps (sym (mode_under k.well.state NumberOn levels k.well.kept))
     where
-      go : (u : Under) → under_of k.well.state ≡ u → Keeps u old before → is_number u ≡ true → StandsOpen limits NumberOn levels new after start (offset + length run) (bytes ++ run) × Completed offset (offset + length run) (bytes ++ run) [] × Lasts offset (offset + length run) bytes run
+      go : (u : Under) → under_of k.well.state ≡ u → Keeps u old before → has_number u ≡ true → StandsOpen limits NumberOn levels new after start (offset + length run) (bytes ++ run) × Completed offset (offset + length run) (bytes ++ run) [] × Lasts offset (offset + length run) bytes run
       go nothing e h n = cc
       go (text so_far state) e h n = cc
-      go (number so_far state) e h n =
-          let f = goes so_far h.0 in
-          let d = digits_well run so_far state offset bytes k.well e h.1 f.1 room in
-          (record { well = d.well; keeps = rw (d.under) (f.0, d.leads) }, d.nothing_more, d.lasts)
+      go (number so_far) e h n =
+          let f = goes so_far h in
+          let d = digits_well run so_far offset bytes k.well e f.1 room in
+          (record { well = d.well; keeps = rw (d.under) f.0 }, d.nothing_more, d.lasts)
 
   -- the string under way behind the bytes
   record AfterText (on : StringState → Mode) (from to : ℕ) (bytes run all so_far : List ℕ) (last : StringState) : Type 0 where
@@ -244,7 +241,7 @@ module _ (limits : Allowed) (levels : List Level) (start : ℕ) where
     where
       go : (u : Under) → under_of k.well.state ≡ u → Keeps u old before → state_under u ≡ Some first → StandsOpen limits (on last) levels new after start (offset + length run) (bytes ++ run) × Completed offset (offset + length run) (bytes ++ run) [] × Lasts offset (offset + length run) bytes run
       go nothing e j n = cc
-      go (number so_far state) e j n = cc
+      go (number so_far) e j n = cc
       go (text so_far state) e j n =
           let same : state ≡ first = cc in
           let P : StringState → Type 0 = λ s. under_of k.well.state ≡ text so_far s in

@@ -29,16 +29,17 @@ use Rattle.gj_json.specs.Grammar.{letters_of}
 use Rattle.gj_json.specs.Internal.OpenLevels.{levels_in, inner_of}
 use Rattle.gj_json.specs.Internal.TextMachine.{Broken, step, run, string_next, plain_step, string_goes, string_refuses}
 use Rattle.gj_json.specs.Internal.Transitions.{move_of, after_move, constant_move, number_move}
-use Rattle.gj_json.specs.Internal.NumberStates.{NumberState, number_next, number_may_end, turn_of, after_minus, after_zero, in_digits, after_point, in_fraction, after_exponent, after_sign, in_exponent}
+use Rattle.gj_number.specs.DecidedNumbers.{is_number, begins_number}
+use Rattle.gj_json.proofs.Grammar.NumberPrefixes.{stops}
 use Rattle.gj_json.specs.Internal.QuietBytes.{is_between}
 use Rattle.gj_json.specs.Reader.{StandsFor, Completed}
 use Rattle.gj_json.specs.Runs.{character_byte}
 use Rattle.gj_json.specs.Internal.ReaderState.{StandsAs, FitsBroken}
 use Rattle.gj_json.specs.Text.{IsViable}
 use Rattle.gj_json.specs.Internal.ToldEvents.{in_number}
-use Rattle.gj_json.specs.Internal.UnderWay.{Under, under_of, nothing, number, text}
+use Rattle.gj_json.specs.Internal.UnderWay.{Under, under_of, nothing, number, text, turn_of}
 use Rattle.gj_json.proofs.Readers.StepsAlike.{Alike}
-use Rattle.gj_json.proofs.Machine.BytesUnderWay.{mode_under, is_number}
+use Rattle.gj_json.proofs.Machine.BytesUnderWay.{mode_under, has_number}
 use Rattle.gj_json.proofs.Machine.Completions.{Goes}
 use Rattle.gj_json.proofs.Readers.CallsInTurn.{skip_feeds, live_offset}
 use Rattle.gj_json.proofs.Readers.NumberUnderWay.{own_turn, own_turns}
@@ -74,22 +75,15 @@ after_c2 None = refl
 after_c2 (Some Array) = refl
 after_c2 (Some Object) = refl
 
-number_c2 : (state : NumberState) → number_next state other ≡ None
-number_c2 after_minus = refl
-number_c2 after_zero = refl
-number_c2 in_digits = refl
-number_c2 after_point = refl
-number_c2 in_fraction = refl
-number_c2 after_exponent = refl
-number_c2 after_sign = refl
-number_c2 in_exponent = refl
+number_c2 : (so_far : List ℕ) → begins_number (so_far ++ character_byte ∷ []) ≡ false
+number_c2 so_far = stops so_far character_byte (λ h. omega (arith, h))
 
-ended_c2 : (may_end : Bool) (inner : Option Level) → number_move (turn_of None may_end) (after_move inner other) ≡ Refuse
+ended_c2 : (may_end : Bool) (inner : Option Level) → number_move (turn_of false may_end) (after_move inner other) ≡ Refuse
 ended_c2 true inner = after_c2 inner
 ended_c2 false inner = refl
 
-number_move_c2 : (under : Under) (inner : Option Level) → true ≡ is_number under → number_move (own_turn under character_byte) (after_move inner (class_of character_byte)) ≡ Refuse
-number_move_c2 (number so_far state) inner e = rw (class_c2, number_c2 state) (ended_c2 (number_may_end state) inner)
+number_move_c2 : (under : Under) (inner : Option Level) → true ≡ has_number under → number_move (own_turn under character_byte) (after_move inner (class_of character_byte)) ≡ Refuse
+number_move_c2 (number so_far) inner e = rw (class_c2, number_c2 so_far) (ended_c2 (is_number so_far) inner)
 number_move_c2 nothing inner e = cc
 number_move_c2 (text so_far state) inner e = cc
 
@@ -127,7 +121,7 @@ escaped_c2 (HexTwo value) h = rw hex_c2 refl
 escaped_c2 (HexThree value) h = rw hex_c2 refl
 escaped_c2 (InCharacter more bounds value) h = bounds_c2 more bounds value
 
-elsewhere_c2 : (mode : Mode) (under : Under) (inner : Option Level) → is_between mode ≡ false → in_number mode ≡ is_number under → move_of mode (own_turn under character_byte) inner (words_of []) character_byte ≡ Refuse
+elsewhere_c2 : (mode : Mode) (under : Under) (inner : Option Level) → is_between mode ≡ false → in_number mode ≡ has_number under → move_of mode (own_turn under character_byte) inner (words_of []) character_byte ≡ Refuse
 elsewhere_c2 TextDue under inner e n = rw class_c2 refl
 elsewhere_c2 MarkOne under inner e n = refl
 elsewhere_c2 MarkTwo under inner e n = refl
@@ -145,7 +139,7 @@ elsewhere_c2 ColonDue under inner e n = rw class_c2 refl
 -- ---- so the byte tells where a run goes on
 
 module _ (reader : Reader) (bytes : List ℕ) (live : reader.fault ≡ None) (h : StandsFor reader bytes) where
-  follows : (move : Move) → ((u : Under) → in_number reader.mode ≡ is_number u → move_of reader.mode (own_turn u character_byte) (inner_of (levels_in reader.levels)) (words_of []) character_byte ≡ move)
+  follows : (move : Move) → ((u : Under) → in_number reader.mode ≡ has_number u → move_of reader.mode (own_turn u character_byte) (inner_of (levels_in reader.levels)) (words_of []) character_byte ≡ move)
       → (state : Broken) × (run bytes ≡ Some state) × Follows reader.limits.depth (levels_in reader.levels) move (step state (length bytes) character_byte)
   follows move m =
       let w = well_of reader bytes live h in

@@ -79,7 +79,7 @@ leaf_due marked stack (array_opened place) mode levels d w a f =
 leaf_due marked stack (value_done t) mode levels d w a f = let x = rw (a.0) at w in cc
 leaf_due marked stack (object_opened place) mode levels d w a f = let x = rw (a.0) at w in cc
 leaf_due marked stack (constant_on which place left) mode levels d w a f = let x = rw (a.0.1) at w in cc
-leaf_due marked stack (number_on place so_far state) mode levels d w a f = let x = rw (a.0) at w in cc
+leaf_due marked stack (number_on place so_far) mode levels d w a f = let x = rw (a.0) at w in cc
 leaf_due marked stack (string_on place so_far state) mode levels d w a f = let x = rw (a.0) at w in cc
 leaf_due marked stack (name_due place done) mode levels d w a f = let x = rw (a.0) at w in cc
 leaf_due marked stack (name_on place done np so_far state) mode levels d w a f = let x = rw (a.0) at w in cc

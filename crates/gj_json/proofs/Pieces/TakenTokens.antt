@@ -1,11 +1,11 @@
 -- Whole tokens: where they lead the machine, and what they leave of a reader. Between two tokens a reader keeps nothing but
 -- the mode, the levels and the offset.
-use Rattle.std.proofs.Common.{◌≡◌, ℕ, ◌+◌, ◌-◌, ◌≤◌, ◌<◌, Bool, true, false, List, [], ◌∷◌, ◌++◌, get_or, length, take, drop, Option, Some, None, refl, sym, ap, subst, ◌∙◌, arith, append_assoc, append-nil}
+use Rattle.std.proofs.Common.{◌≡◌, ℕ, ◌+◌, ◌-◌, ◌≤◌, ◌<◌, inl, inr, Bool, true, false, List, [], ◌∷◌, ◌++◌, get_or, length, take, drop, Option, Some, None, refl, sym, ap, subst, ◌∙◌, arith, append_assoc, append-nil}
 use Rattle.std.proofs.lemmas.List.{length-append, length-take-le, map-append, take_more}
 use Rattle.gj_json.specs.Bytes.{quote as quote_byte, open_bracket, open_brace}
 use Rattle.gj_json.specs.Internal.ByteClasses.{class_of}
 use Rattle.gj_json.specs.declared.class.Class.{Class}
-use Rattle.gj_json.specs.declared.class.Class.TheVariants.{White as white, OpenArray as open_array, CloseArray as close_array, OpenObject as open_object, CloseObject as close_object, Comma as comma, Quote as quote, Letter as letter}
+use Rattle.gj_json.specs.declared.class.Class.TheVariants.{White as white, OpenArray as open_array, OpenObject as open_object, Comma as comma, Quote as quote, NumberStart as number_start, Letter as letter, Other as other_class}
 use Rattle.gj_json.specs.declared.constant.Constant.{Constant}
 use Rattle.gj_json.specs.declared.constant.Constant.TheVariants.{Null, True, False}
 use Rattle.gj_json.specs.declared.event.Event.{Event}
@@ -30,10 +30,12 @@ use Rattle.gj_json.specs.Events.{Timed, timed, events_by, value_events, mark_eve
 use Rattle.gj_json.specs.Internal.FedReader.{Passed, Skips, FeedsAll}
 use Rattle.gj_json.specs.Internal.FlatParts.{awaits}
 use Rattle.gj_json.specs.Internal.OpenLevels.{levels_in, inner_of, outer_of}
-use Rattle.gj_json.specs.Internal.TextMachine.{Frame, in_array, in_object, Leaf, value_due, value_done, array_opened, object_opened, constant_on, number_on, string_on, name_due, name_on, colon_due, Partial, Member, Broken, text_due, mark_one, mark_two, begun, begin_value, letters_after, step_leaf, step, to, run_from, run}
+use Rattle.gj_json.specs.Internal.TextMachine.{Frame, Leaf, value_due, value_done, array_opened, object_opened, constant_on, number_on, string_on, name_due, name_on, colon_due, Partial, Member, Broken, text_due, mark_one, mark_two, begun, begin_value, letters_after, step_leaf, step, to, run_from, run}
 use Rattle.gj_json.specs.Internal.Transitions.{IsMode, move_of, after_move}
 use Rattle.gj_json.specs.Names.{Words, known_of, word_of}
-use Rattle.gj_json.specs.Internal.NumberStates.{NumberState, number_next, number_may_end, number_state}
+use Rattle.gj_number.specs.DecidedNumbers.{is_number, begins_number}
+use Rattle.gj_number.proofs.Grammar.DecidedNumbers.{number as decided_number}
+use Rattle.gj_json.specs.Broken.{BeginsNumber as NumberBegun}
 use Rattle.gj_json.specs.Internal.QuietBytes.{Leads as LeadsOn, Reads}
 use Rattle.gj_json.specs.Reader.{Completed}
 use Rattle.gj_json.specs.Internal.SeenEvents.{seen, InTime, BegunAs, EdgeAt, partial_timed, stack_timed, done_members}
@@ -46,15 +48,14 @@ use Rattle.gj_number.specs.Exact.{Exact}
 use Rattle.gj_number.specs.Grammar.{IsNumber}
 use Rattle.gj_number.specs.Value.{value_of}
 use Rattle.gj_json.proofs.Grammar.CharacterPrefixes.{StringTo}
-use Rattle.gj_json.proofs.Grammar.ClassOfBytes.{class_is}
+use Rattle.gj_json.proofs.Grammar.ClassOfBytes.{class_is, starts_number, number_classes}
 use Rattle.gj_json.proofs.Machine.BytesUnderWay.{mode_under, mode_state}
 use Rattle.gj_json.proofs.Machine.Completions.{Goes}
 use Rattle.gj_json.proofs.Readers.CallsInTurn.{live_offset, feeds_all_on, piece_all, rest_all, skip_feeds}
-use Rattle.gj_json.proofs.Machine.StepsOfCompletions.{no_more}
 use Rattle.gj_json.proofs.Pieces.TakenFlats.{mid_of, to_mid, from_mid, is_due, value_well, seen_between}
 use Rattle.gj_json.proofs.Machine.ValuePaths.{Leads, at, leads_none, leads_byte, leads_on, run_from-append}
 use Rattle.gj_json.proofs.Readers.NumberUnderWay.{own_turn, own_turns, own_value, own_has, own_words, own_has_words, keeps_none}
-use Rattle.gj_json.proofs.Grammar.NumberPrefixes.{number_read, state_parts}
+use Rattle.gj_json.proofs.Grammar.NumberPrefixes.{number_front, number_begun, stops}
 use Rattle.gj_json.proofs.Machine.ReachedStates.{reached}
 use Rattle.gj_json.proofs.Readers.ReadBytes.{open_of, passed, told_by_step, completed_from}
 use Rattle.gj_json.proofs.Readers.Simulation.{moves}
@@ -63,7 +64,7 @@ use Rattle.gj_json.proofs.Pieces.PieceRests.{take_all_of, more_within}
 use Rattle.gj_json.proofs.Grammar.SpelledTexts.{quote_on}
 use Rattle.gj_json.proofs.Events.EventsOfSteps.{Tells}
 use Rattle.gj_json.proofs.Events.EventTimes.{told}
-use Rattle.gj_json.proofs.Machine.ReadValues.{letters_lead, digits_lead, number_begins, a_string, a_name, text_leads}
+use Rattle.gj_json.proofs.Machine.ReadValues.{letters_lead, digits_lead, a_string, a_name, text_leads}
 
 -- ---- between two tokens
 
@@ -82,7 +83,7 @@ free_leaf (value_done t) mode start e a = tt
 free_leaf (array_opened place) mode start e a = tt
 free_leaf (object_opened place) mode start e a = tt
 free_leaf (constant_on which place left) mode start e a = let x = rw (a.1) at e in cc
-free_leaf (number_on place so_far state) mode start e a = let x = rw a at e in cc
+free_leaf (number_on place so_far) mode start e a = let x = rw a at e in cc
 free_leaf (string_on place so_far state) mode start e a = let x = rw a at e in cc
 free_leaf (name_due place done) mode start e a = tt
 free_leaf (name_on place done np so_far state) mode start e a = let x = rw a at e in cc
@@ -303,7 +304,7 @@ leaf_naming marked stack value_due mode levels d w a f = let x = rw (a.0) at w i
 leaf_naming marked stack (array_opened place) mode levels d w a f = let x = rw (a.0) at w in cc
 leaf_naming marked stack (value_done t) mode levels d w a f = let x = rw (a.0) at w in cc
 leaf_naming marked stack (constant_on which place left) mode levels d w a f = let x = rw (a.0.1) at w in cc
-leaf_naming marked stack (number_on place so_far state) mode levels d w a f = let x = rw (a.0) at w in cc
+leaf_naming marked stack (number_on place so_far) mode levels d w a f = let x = rw (a.0) at w in cc
 leaf_naming marked stack (string_on place so_far state) mode levels d w a f = let x = rw (a.0) at w in cc
 leaf_naming marked stack (name_on place done np so_far state) mode levels d w a f = let x = rw (a.0) at w in cc
 leaf_naming marked stack (colon_due place done np name ne) mode levels d w a f = let x = rw (a.0) at w in cc
@@ -411,11 +412,10 @@ open_taken {before} {after} old new piece level some is live due room deep p hea
 
 -- ---- a number, and the byte after it
 
-number_leads : (literal : List ℕ) (state : NumberState) (n : ℕ) → number_state literal ≡ Some state → (s : Partial) (stack : List Frame) → Begins s stack → Leads s n literal (at stack (number_on n literal state))
-number_leads [] state n e s stack begins = cc
-number_leads (b ∷ more) state n e s stack begins =
-    let p = state_parts b more state e in
-    leads_byte (begins n b (class_of b) (at stack (number_on n (b ∷ []) p.0)) refl (number_begins stack n b (class_of b) p.0 p.1)) (digits_lead stack n more (b ∷ []) p.0 state (n + 1) p.2)
+number_leads : (literal : List ℕ) (n : ℕ) → NumberBegun literal → (s : Partial) (stack : List Frame) → Begins s stack → Leads s n literal (at stack (number_on n literal))
+number_leads [] n h s stack begins = absurd (h.0 refl)
+number_leads (b ∷ more) n h s stack begins =
+    leads_byte (begins n b number_start (at stack (number_on n (b ∷ []))) (starts_number b (number_front (b ∷ []) more h.1)) refl) (digits_lead stack n more (b ∷ []) (n + 1) h.1)
 
 awaits_free : (mode : Mode) → awaits mode ≡ true → is_on mode ≡ false
 awaits_free ValueDue e = refl
@@ -425,13 +425,12 @@ awaits_free _ e = cc
 -- behind the digits of a number
 record Digits (limits : Allowed) (levels : List Level) (from to : ℕ) (bytes given : List ℕ) : Type 0 where
   pub well : StandsWell limits NumberOn levels from to (bytes ++ given)
-  pub state : NumberState
-  pub under : under_of well.state ≡ number given state
-  pub ends : number_may_end state ≡ true
+  pub under : under_of well.state ≡ number given
+  pub ends : is_number given ≡ true
   pub more : Completed from to (bytes ++ given) []
 
-digits_seen : (marked : Bool) (s : Partial) (stack : List Frame) (place : ℕ) (literal : List ℕ) (state : NumberState) → partial_timed s ≡ stack_timed stack → told (seen (begun marked (at stack (number_on place literal state)))) ≡ told (seen (begun marked s)) ++ []
-digits_seen marked s stack place literal state e =
+digits_seen : (marked : Bool) (s : Partial) (stack : List Frame) (place : ℕ) (literal : List ℕ) → partial_timed s ≡ stack_timed stack → told (seen (begun marked (at stack (number_on place literal)))) ≡ told (seen (begun marked s)) ++ []
+digits_seen marked s stack place literal e =
     rw e (ap (λ xs. told (mark_events marked ++ xs)) (append-nil (stack_timed stack)) ∙ sym (append-nil (told (mark_events marked ++ stack_timed stack))))
 
 digits_well : (limits : Allowed) (levels : List Level) (start : ℕ) (mode : Mode) (offset : ℕ) (bytes : List ℕ) → StandsWell limits mode levels start offset bytes → awaits mode ≡ true → (given : List ℕ) → IsNumber given → offset + length given ≤ limits.bytes
@@ -439,11 +438,10 @@ digits_well : (limits : Allowed) (levels : List Level) (start : ℕ) (mode : Mod
 digits_well limits levels start mode offset bytes k0 w given digits room =
     let k = freed limits mode levels start offset offset bytes (awaits_free mode w) k0 in
     let i = is_due k.state mode levels limits.depth w k.kept k.fits in
-    let d = number_read given digits in
-    let next : Broken = begun i.marked (at i.stack (number_on offset given d.0)) in
+    let next : Broken = begun i.marked (at i.stack (number_on offset given)) in
     let l : offset + length given ≡ length (bytes ++ given) = omega (arith, k.at, length-append bytes given) in
     let z : 0 + length bytes ≡ offset = omega (arith, k.at) in
-    let leads = number_leads given d.0 offset d.1 i.partial i.stack i.begins in
+    let leads = number_leads given offset (number_begun given digits) i.partial i.stack i.begins in
     let runs : run (bytes ++ given) ≡ Some next =
     run_from-append bytes given (Some text_due) 0 ∙ ap (λ o. run_from o (0 + length bytes) given) (k.runs ∙ ap (λ (s : Broken). Some s) i.is) ∙ ap (λ n. run_from (Some (begun i.marked i.partial)) n given) z ∙ leads.goes i.marked in
     let r = reached (bytes ++ given) next runs in
@@ -457,22 +455,21 @@ digits_well limits levels start mode offset bytes k0 w given digits room =
       timely = record { seen_by = (let T : ℕ → Type 0 = λ m. InTime m (seen next) in subst T (sym l) r.timely.seen_by); edge = (refl, tt) };
     } in
     let P : Broken → Type 0 = λ s. told (seen next) ≡ told (seen s) ++ [] in
-    let seen_is : P k.state = subst P (sym i.is) (digits_seen i.marked i.partial i.stack offset given d.0 i.before) in
-    record { well = well; state = d.0; under = refl; ends = d.2; more = seen_between limits levels offset mode NumberOn offset (offset + length given) bytes given k well [] seen_is }
+    let seen_is : P k.state = subst P (sym i.is) (digits_seen i.marked i.partial i.stack offset given i.before) in
+    record { well = well; under = refl; ends = (decided_number given).1 digits; more = seen_between limits levels offset mode NumberOn offset (offset + length given) bytes given k well [] seen_is }
 
--- a byte that goes on after a value is none of a number's
-never : (inner : Option Level) (c : Class) (state : NumberState) → (after_move inner c ≡ Refuse → ⊥) → number_next state c ≡ None
-never inner white state h = no_more (λ x. Unit {0}) [] (constant Null 0) 0 state white tt
-never inner comma state h = no_more (λ x. Unit {0}) (in_array 0 [] ∷ []) (constant Null 0) 0 state comma tt
-never inner close_array state h = no_more (λ x. Unit {0}) (in_array 0 [] ∷ []) (constant Null 0) 0 state close_array tt
-never inner close_object state h = no_more (λ x. Unit {0}) (in_object 0 [] 0 [] 0 ∷ []) (constant Null 0) 0 state close_object tt
-never None _ state h = absurd (h refl)
-never (Some Array) _ state h = absurd (h refl)
-never (Some Object) _ state h = absurd (h refl)
+-- a byte that goes on after a value goes on in no number
+never : (inner : Option Level) (so_far : List ℕ) (b : ℕ) → (after_move inner (class_of b) ≡ Refuse → ⊥) → begins_number (so_far ++ b ∷ []) ≡ false
+never inner so_far b h = stops so_far b (λ x. elim (number_classes b x) [ inl e ↦ h (rw e (none inner).0) | inr e ↦ h (rw e (none inner).1) ])
+  where
+    none : (inner : Option Level) → (after_move inner number_start ≡ Refuse) × (after_move inner other_class ≡ Refuse)
+    none None = (refl, refl)
+    none (Some Array) = (refl, refl)
+    none (Some Object) = (refl, refl)
 
 module _ (limits : Allowed) (levels : List Level) (from to : ℕ) (bytes given : List ℕ) (b : ℕ) (d : Digits limits levels from to bytes given) (room : to < limits.bytes) (h : after_move (inner_of levels) (class_of b) ≡ Refuse → ⊥) where
   turns : Turns (under_of d.well.state) b NumberTurn.Ends
-  turns = rw (d.under, never (inner_of levels) (class_of b) d.state h, d.ends) refl
+  turns = rw (d.under, never (inner_of levels) given b h, d.ends) refl
 
   valued : HasValue (under_of d.well.state) NumberTurn.Ends (value_of given)
   valued = rw (d.under) (λ e. refl)

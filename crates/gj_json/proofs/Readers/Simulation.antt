@@ -1,12 +1,11 @@
 -- What the reader keeps moves as the machine does.
-use Rattle.std.proofs.Common.{◌≡◌, ℕ, suc, ◌+◌, ◌==◌, ◌≤◌, ◌<◌, Bool, true, false, if◌then◌else◌, List, [], ◌∷◌, length, drop, Option, Some, None, refl, sym, ap, arith, eq-eqb, get_or, length-drop, drop-cons}
+use Rattle.std.proofs.Common.{◌≡◌, ℕ, suc, ◌+◌, ◌==◌, ◌≤◌, ◌<◌, Bool, true, false, if◌then◌else◌, List, [], ◌∷◌, length, drop, Option, Some, None, refl, sym, ap, arith, eq-eqb, get_or, length-drop, drop-cons, ◌++◌}
 use Rattle.std.proofs.lemmas.Bool.Decides.{nat_tests}
 use Rattle.gj_json.specs.Bytes.{mark_first, mark_second, mark_third}
 use Rattle.gj_json.specs.declared.class.Class.{Class}
-use Rattle.gj_json.specs.declared.class.Class.TheVariants.{White, OpenArray, CloseArray, OpenObject, CloseObject, Comma, Colon, Quote, Minus, Plus, Point, Exponent, ZeroDigit, FirstDigit, Letter, Other}
+use Rattle.gj_json.specs.declared.class.Class.TheVariants.{White, OpenArray, CloseArray, OpenObject, CloseObject, Comma, Colon, Quote, NumberStart, Letter, Other}
 use Rattle.gj_json.specs.declared.constant.Constant.{Constant}
 use Rattle.gj_json.specs.declared.constant.Constant.TheVariants.{Null, True, False}
-use Rattle.gj_json.specs.Internal.NumberStates.{NumberState, turn_of}
 use Rattle.gj_json.specs.declared.levels.Level.{Level}
 use Rattle.gj_json.specs.declared.levels.Level.TheVariants.{Array, Object}
 use Rattle.gj_json.specs.declared.mode.Mode.{Mode}
@@ -19,12 +18,13 @@ use Rattle.gj_json.specs.Tree.{Tree, constant, number, end_of_array, element, en
 use Rattle.gj_json.specs.Grammar.{letters_of}
 use Rattle.gj_json.specs.Internal.ByteClasses.{class_of}
 use Rattle.gj_json.specs.Internal.OpenLevels.{inner_of, outer_of}
-use Rattle.gj_json.specs.Internal.TextMachine.{Frame, in_array, in_object, Member, Leaf, Partial, Broken, text_due, mark_one, mark_two, begun, with_mark, value_due, value_done, array_opened, object_opened, constant_on, number_on, string_on, name_due, name_on, colon_due, to, step, step_leaf, begin_value, begin_name, after_value, step_value_due, step_array_opened, step_object_opened, step_name_due, step_colon_due, step_constant, step_number, step_string, step_name, string_next, StringStep, string_ends, string_goes, string_refuses, number_next, number_may_end, letters_after}
+use Rattle.gj_json.specs.Internal.TextMachine.{Frame, in_array, in_object, Member, Leaf, Partial, Broken, text_due, mark_one, mark_two, begun, with_mark, value_due, value_done, array_opened, object_opened, constant_on, number_on, string_on, name_due, name_on, colon_due, to, step, step_leaf, begin_value, begin_name, after_value, step_value_due, step_array_opened, step_object_opened, step_name_due, step_colon_due, step_constant, step_number, step_string, step_name, string_next, StringStep, string_ends, string_goes, string_refuses, letters_after}
 use Rattle.gj_json.specs.Internal.Transitions.{string_move, begin_move, due_move, array_move, name_move, object_move, name_due_move, colon_move, after_move, constant_move, number_move, value_string_move, name_string_move, move_of}
 use Rattle.gj_json.specs.Internal.ReaderState.{levels_of, levels_with, LeafAs, PartialAs, StandsAs, Fits, FitsName, FitsLeaf, FitsBroken}
 use Rattle.gj_json.specs.Internal.ReaderStep.{opened}
 use Rattle.gj_json.specs.declared.mode.NumberTurn.{NumberTurn}
-use Rattle.gj_json.specs.Internal.UnderWay.{under_leaf, under_of, Turns}
+use Rattle.gj_number.specs.DecidedNumbers.{is_number, begins_number}
+use Rattle.gj_json.specs.Internal.UnderWay.{turn_of, under_leaf, under_of, Turns}
 use Rattle.gj_json.proofs.Machine.Completions.{Goes}
 use Rattle.gj_json.proofs.Grammar.OneCharacter.{OneCharacter, one_character}
 use Rattle.gj_json.proofs.Machine.CompletableStates.{elements_joined, members_joined, levels_fit}
@@ -50,13 +50,8 @@ on_begin : (d : ℕ) (stack : List Frame) (n b : ℕ) (c : Class) → Fits d sta
 on_begin d stack n b OpenArray f = ((refl, refl), λ l. (omega (arith, levels_length stack), f))
 on_begin d stack n b OpenObject f = ((refl, refl), λ l. (omega (arith, levels_length stack), f))
 on_begin d stack n b Quote f = ((refl, refl), f)
-on_begin d stack n b Minus f = ((refl, refl), f)
-on_begin d stack n b ZeroDigit f = ((refl, refl), f)
-on_begin d stack n b FirstDigit f = ((refl, refl), f)
+on_begin d stack n b NumberStart f = ((refl, refl), f)
 on_begin d stack n b (Letter which) f = (((1, refl, (constant_begun which).0, (constant_begun which).1), refl), f)
-on_begin d stack n b Plus f = refl
-on_begin d stack n b Point f = refl
-on_begin d stack n b Exponent f = refl
 on_begin d stack n b White f = refl
 on_begin d stack n b CloseArray f = refl
 on_begin d stack n b CloseObject f = refl
@@ -121,11 +116,11 @@ on_name_string words d stack place done np so_far n (string_goes (c ∷ []) stat
 on_name_string words d stack place done np so_far n (string_goes (c ∷ e ∷ more) state) o f = absurd o
 on_name_string words d stack place done np so_far n string_refuses o f = refl
 
-on_number : (d : ℕ) (stack : List Frame) (place : ℕ) (so_far : List ℕ) (n b : ℕ) (c : Class) (o : Option NumberState) (may_end : Bool) → Fits d stack
-    → Simulates d (levels_of stack) (number_move (turn_of o may_end) (after_move (inner_of (levels_of stack)) c)) (step_number stack place so_far n b o (if may_end then after_value stack (number place so_far n) n c else None))
-on_number d stack place so_far n b c (Some next) may_end f = ((refl, refl), f)
-on_number d stack place so_far n b c None true f = on_after d stack (number place so_far n) n c (omega (arith, levels_fit d stack f), f)
-on_number d stack place so_far n b c None false f = refl
+on_number : (d : ℕ) (stack : List Frame) (place : ℕ) (so_far : List ℕ) (n b : ℕ) (c : Class) (goes may_end : Bool) → Fits d stack
+    → Simulates d (levels_of stack) (number_move (turn_of goes may_end) (after_move (inner_of (levels_of stack)) c)) (step_number stack place so_far b goes (if may_end then after_value stack (number place so_far n) n c else None))
+on_number d stack place so_far n b c true may_end f = ((refl, refl), f)
+on_number d stack place so_far n b c false true f = on_after d stack (number place so_far n) n c (omega (arith, levels_fit d stack f), f)
+on_number d stack place so_far n b c false false f = refl
 
 test_go : (d : ℕ) (stack : List Frame) (t : Bool) (mode : Mode) (ending : Ending) (leaf : Leaf) → LeafAs leaf mode → levels_with leaf (levels_of stack) ≡ levels_of stack → FitsLeaf d stack leaf
     → Simulates d (levels_of stack) (if t then Go mode ending else Refuse) (if t then to stack leaf else None)
@@ -157,7 +152,7 @@ leaf_moves d stack (value_done t) mode turn words n b a w f = rw a (on_after d s
 leaf_moves d stack (array_opened place) mode turn words n b a w f = rw a (on_array_opened d stack place n b (class_of b) f)
 leaf_moves d stack (object_opened place) mode turn words n b a w f = rw a (on_object_opened d stack place n b (class_of b) f)
 leaf_moves d stack (constant_on which place left) mode turn words n b a w f = rw (a.1) (on_constant d stack which place left n b a.0 a.2 a.3 f)
-leaf_moves d stack (number_on place so_far state) mode turn words n b a w f = rw (a, w) (on_number d stack place so_far n b (class_of b) (number_next state (class_of b)) (number_may_end state) f)
+leaf_moves d stack (number_on place so_far) mode turn words n b a w f = rw (a, w) (on_number d stack place so_far n b (class_of b) (begins_number (so_far ++ b ∷ [])) (is_number so_far) f)
 leaf_moves d stack (string_on place so_far state) mode turn words n b a w f = rw a (on_string words d stack place so_far n (string_next state b) (one_character state b) f)
 leaf_moves d stack (name_due place done) mode turn words n b a w f = rw a (on_name_due d stack place done n (class_of b) f)
 leaf_moves d stack (name_on place done np so_far state) mode turn words n b a w f = rw a (on_name_string words d stack place done np so_far n (string_next state b) (one_character state b) f)

@@ -1,15 +1,14 @@
 -- Which class of bytes a byte is of.
-use Rattle.std.specs.Prelude.{◌⊎◌, ◌≡◌, ℕ, ◌==◌, ◌&&◌, if◌then◌else◌, nat_le, nat_lt}
-use Rattle.gj_json.specs.Bytes.{open_bracket, close_bracket, open_brace, close_brace, comma as comma_byte, colon as colon_byte, quote as quote_byte, space, tab, line_feed, carriage_return, minus_sign, plus_sign, decimal_point, lower_e, upper_e, zero_digit as zero, nine_digit, letter_n, letter_t, letter_f, IsWhite, IsFirstDigit}
+use Rattle.std.specs.Prelude.{◌⊎◌, ◌≡◌, ℕ, ◌==◌, ◌&&◌, if◌then◌else◌, nat_le}
+use Rattle.gj_json.specs.Bytes.{open_bracket, close_bracket, open_brace, close_brace, comma as comma_byte, colon as colon_byte, quote as quote_byte, space, tab, line_feed, carriage_return, minus_sign, zero_digit as zero, nine_digit, letter_n, letter_t, letter_f, IsWhite, IsDigit}
 use Rattle.gj_json.specs.declared.constant.Constant.{Constant}
 use Rattle.gj_json.specs.declared.constant.Constant.TheVariants.{Null, True, False}
 use Rattle.gj_json.specs.declared.class.Class.{Class}
-use Rattle.gj_json.specs.declared.class.Class.TheVariants.{White as white, OpenArray as open_array, CloseArray as close_array, OpenObject as open_object, CloseObject as close_object, Comma as comma, Colon as colon, Quote as quote, Minus as minus, Plus as plus, Point as point, Exponent as exponent, ZeroDigit as zero_digit, FirstDigit as first_digit, Letter as letter, Other as other}
+use Rattle.gj_json.specs.declared.class.Class.TheVariants.{White as white, OpenArray as open_array, CloseArray as close_array, OpenObject as open_object, CloseObject as close_object, Comma as comma, Colon as colon, Quote as quote, NumberStart as number_start, Letter as letter, Other as other}
 
 unfoldable pub class_of : ℕ → Class
 class_of b =
-    if nat_lt zero b && nat_le b nine_digit then first_digit else
-    if b == zero then zero_digit else
+    if nat_le zero b && nat_le b nine_digit then number_start else
     if b == space then white else
     if b == tab then white else
     if b == line_feed then white else
@@ -21,11 +20,7 @@ class_of b =
     if b == comma_byte then comma else
     if b == colon_byte then colon else
     if b == quote_byte then quote else
-    if b == minus_sign then minus else
-    if b == plus_sign then plus else
-    if b == decimal_point then point else
-    if b == lower_e then exponent else
-    if b == upper_e then exponent else
+    if b == minus_sign then number_start else
     if b == letter_n then letter Null else
     if b == letter_t then letter True else
     if b == letter_f then letter False else other
@@ -44,11 +39,6 @@ Means close_object b = b ≡ close_brace
 Means comma b = b ≡ comma_byte
 Means colon b = b ≡ colon_byte
 Means quote b = b ≡ quote_byte
-Means minus b = b ≡ minus_sign
-Means plus b = b ≡ plus_sign
-Means point b = b ≡ decimal_point
-Means exponent b = (b ≡ lower_e) ⊎ (b ≡ upper_e)
-Means zero_digit b = b ≡ zero
-Means first_digit b = IsFirstDigit b
+Means number_start b = (b ≡ minus_sign) ⊎ IsDigit b
 Means (letter which) b = b ≡ first_letter which
 Means other b = Unit {0}

@@ -30,7 +30,7 @@ leaf_timed (value_done t) = events t
 leaf_timed (array_opened place) = timed (place + 1) place What.OpenArray ∷ []
 leaf_timed (object_opened place) = timed (place + 1) place What.OpenObject ∷ []
 leaf_timed (constant_on which place left) = []
-leaf_timed (number_on place so_far state) = []
+leaf_timed (number_on place so_far) = []
 leaf_timed (string_on place so_far state) = []
 leaf_timed (name_due place done) = timed (place + 1) place What.OpenObject ∷ done_members done
 leaf_timed (name_on place done np so_far state) = timed (place + 1) place What.OpenObject ∷ done_members done
@@ -52,7 +52,7 @@ ConstantAt _ n = Unit {0}
 -- where what is under way began
 abbrev pub BegunAs : Leaf → ℕ → Type 0
 BegunAs (constant_on which place left) start = start ≡ place
-BegunAs (number_on place so_far state) start = start ≡ place
+BegunAs (number_on place so_far) start = start ≡ place
 BegunAs (string_on place so_far state) start = start ≡ place
 BegunAs (name_on place done np so_far state) start = start ≡ np
 BegunAs _ start = Unit {0}

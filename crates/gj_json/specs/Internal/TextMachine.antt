@@ -1,7 +1,7 @@
 -- A machine that reads a text byte by byte into a tree under way. What a reader stands for is said by it.
 use Rattle.std.specs.Prelude.{zero, suc, ◌%◌, ◌*◌, ℕ, ◌+◌, ◌==◌, ◌&&◌, Bool, true, false, if◌then◌else◌, List, [], ◌∷◌, ◌++◌, Option, Some, None, nat_le}
 pub use Rattle.gj_json.specs.Broken.{Member, Frame, in_array, in_object, Leaf, value_due, value_done, array_opened, object_opened, constant_on, number_on, string_on, name_due, name_on, colon_due, Partial, Broken, text_due, mark_one, mark_two, begun, back_elements, member_of, back_members}
-pub use Rattle.gj_json.specs.Internal.NumberStates.{number_first, number_next, number_may_end}
+pub use Rattle.gj_number.specs.DecidedNumbers.{is_number, begins_number}
 use Rattle.gj_json.specs.declared.constant.Constant.{Constant}
 use Rattle.gj_json.specs.declared.constant.Constant.TheVariants.{Null, True, False}
 use Rattle.gj_json.specs.declared.mode.Bounds.{Bounds}
@@ -10,10 +10,8 @@ use Rattle.gj_json.specs.Characters.{escape_of, hex_of, Lead, lead_of, low_of, h
 use Rattle.gj_json.specs.Bytes.{mark_first, mark_second, mark_third, space, backslash, quote as quote_byte, letter_u, after_n, after_t, after_f}
 use Rattle.gj_json.specs.Tree.{Text, Tree, constant, number, string, array, object, end_of_array, element, end_of_object, member}
 use Rattle.gj_json.specs.declared.class.Class.{Class}
-use Rattle.gj_json.specs.declared.class.Class.TheVariants.{White as white, OpenArray as open_array, CloseArray as close_array, OpenObject as open_object, CloseObject as close_object, Comma as comma, Colon as colon, Quote as quote, Minus as minus, Plus as plus, Point as point, Exponent as exponent, ZeroDigit as zero_digit, FirstDigit as first_digit, Letter as letter, Other as other}
+use Rattle.gj_json.specs.declared.class.Class.TheVariants.{White as white, OpenArray as open_array, CloseArray as close_array, OpenObject as open_object, CloseObject as close_object, Comma as comma, Colon as colon, Quote as quote, NumberStart as number_start, Letter as letter, Other as other}
 use Rattle.gj_json.specs.Internal.ByteClasses.{class_of}
-use Rattle.gj_json.specs.Internal.NumberStates.{NumberState}
-use Rattle.gj_json.specs.Internal.NumberStates.{after_minus, after_zero, in_digits}
 use Rattle.gj_json.specs.declared.mode.StringState.{StringState}
 use Rattle.gj_json.specs.declared.mode.StringState.TheVariants.{Plain as plain, Escape as escape, HexDue as hex_due, HexOne as hex_one, HexTwo as hex_two, HexThree as hex_three, InCharacter as in_character}
 
@@ -73,13 +71,8 @@ abbrev pub begin_value : List Frame → ℕ → ℕ → Class → Option Partial
 begin_value stack n b open_array = to stack (array_opened n)
 begin_value stack n b open_object = to stack (object_opened n)
 begin_value stack n b quote = to stack (string_on n [] plain)
-begin_value stack n b minus = to stack (number_on n (b ∷ []) after_minus)
-begin_value stack n b zero_digit = to stack (number_on n (b ∷ []) after_zero)
-begin_value stack n b first_digit = to stack (number_on n (b ∷ []) in_digits)
+begin_value stack n b number_start = to stack (number_on n (b ∷ []))
 begin_value stack n b (letter which) = to stack (constant_on which n (letters_after which))
-begin_value stack n b plus = None
-begin_value stack n b point = None
-begin_value stack n b exponent = None
 begin_value stack n b white = None
 begin_value stack n b close_array = None
 begin_value stack n b close_object = None
@@ -127,9 +120,9 @@ step_constant stack which place [] n b = after_value stack (constant which place
 step_constant stack which place (a ∷ []) n b = if b == a then to stack (value_done (constant which place)) else None
 step_constant stack which place (a ∷ c ∷ left) n b = if b == a then to stack (constant_on which place (c ∷ left)) else None
 
-abbrev pub step_number : List Frame → ℕ → List ℕ → ℕ → ℕ → Option NumberState → Option Partial → Option Partial
-step_number stack place so_far n b (Some state) ended = to stack (number_on place (so_far ++ b ∷ []) state)
-step_number stack place so_far n b None ended = ended
+abbrev pub step_number : List Frame → ℕ → List ℕ → ℕ → Bool → Option Partial → Option Partial
+step_number stack place so_far b true ended = to stack (number_on place (so_far ++ b ∷ []))
+step_number stack place so_far b false ended = ended
 
 abbrev pub step_string : List Frame → ℕ → List ℕ → ℕ → StringStep → Option Partial
 step_string stack place so_far n string_ends = to stack (value_done (string place so_far (n + 1)))
@@ -147,8 +140,8 @@ step_leaf stack (value_done t) n b = after_value stack t n (class_of b)
 step_leaf stack (array_opened place) n b = step_array_opened stack place n b (class_of b)
 step_leaf stack (object_opened place) n b = step_object_opened stack place n (class_of b)
 step_leaf stack (constant_on which place left) n b = step_constant stack which place left n b
-step_leaf stack (number_on place so_far state) n b =
-    step_number stack place so_far n b (number_next state (class_of b)) (if number_may_end state then after_value stack (number place so_far n) n (class_of b) else None)
+step_leaf stack (number_on place so_far) n b =
+    step_number stack place so_far b (begins_number (so_far ++ b ∷ [])) (if is_number so_far then after_value stack (number place so_far n) n (class_of b) else None)
 step_leaf stack (string_on place so_far state) n b = step_string stack place so_far n (string_next state b)
 step_leaf stack (name_due place done) n b = step_name_due stack place done n (class_of b)
 step_leaf stack (name_on place done np so_far state) n b = step_name stack place done np so_far n (string_next state b)
@@ -178,7 +171,7 @@ run bytes = run_from (Some text_due) 0 bytes
 abbrev pub finish_leaf : List Frame → Leaf → ℕ → Option Tree
 finish_leaf [] (value_done t) n = Some t
 finish_leaf [] (constant_on which place []) n = Some (constant which place)
-finish_leaf [] (number_on place so_far state) n = if number_may_end state then Some (number place so_far n) else None
+finish_leaf [] (number_on place so_far) n = if is_number so_far then Some (number place so_far n) else None
 finish_leaf _ _ n = None
 
 abbrev pub text_with : Bool → Option Tree → Option Text

@@ -1,7 +1,7 @@
 -- What a byte does, from what the reader keeps alone.
 use Rattle.std.specs.Prelude.{ℕ, ◌+◌, ◌==◌, ◌<◌, ◌-◌, if◌then◌else◌, Option, Some, length, slice_index, [], ◌∷◌}
 use Rattle.gj_json.specs.declared.class.Class.{Class}
-use Rattle.gj_json.specs.declared.class.Class.TheVariants.{White, OpenArray, CloseArray, OpenObject, CloseObject, Comma, Colon, Quote, Minus, ZeroDigit, FirstDigit, Letter}
+use Rattle.gj_json.specs.declared.class.Class.TheVariants.{White, OpenArray, CloseArray, OpenObject, CloseObject, Comma, Colon, Quote, NumberStart, Letter}
 use Rattle.gj_json.specs.declared.constant.Constant.{Constant}
 use Rattle.gj_json.specs.declared.mode.NumberTurn.{NumberTurn}
 use Rattle.gj_json.specs.declared.mode.StringState.{StringState}
@@ -32,9 +32,7 @@ abbrev pub begin_move : Class → Move
 begin_move OpenArray = Open Array
 begin_move OpenObject = Open Object
 begin_move Quote = Go (StringOn Plain) Nothing
-begin_move Minus = Go NumberOn Nothing
-begin_move ZeroDigit = Go NumberOn Nothing
-begin_move FirstDigit = Go NumberOn Nothing
+begin_move NumberStart = Go NumberOn Nothing
 begin_move (Letter which) = Go (ConstantOn which 1) Nothing
 begin_move _ = Refuse
 

@@ -1,5 +1,5 @@
 -- What of a number or a string is under way at the right edge, and what the reader keeps of it.
-use Rattle.std.specs.Prelude.{◌≡◌, ℕ, true, false, List, [], ◌∷◌, ◌++◌, Option, Some, None}
+use Rattle.std.specs.Prelude.{◌≡◌, ℕ, Bool, true, false, List, [], ◌∷◌, ◌++◌, Option, Some, None}
 use Rattle.gj_number.specs.Exact.{Exact}
 use Rattle.gj_number.specs.Grammar.{IsNumber, BeginsNumber}
 use Rattle.gj_number.specs.Value.{value_of}
@@ -9,23 +9,22 @@ use Rattle.gj_json.specs.declared.mode.NumberTurn.{NumberTurn}
 use Rattle.gj_json.specs.declared.mode.StringState.{StringState}
 use Rattle.gj_json.specs.declared.mode.StringState.TheVariants.{Plain}
 use Rattle.gj_json.specs.declared.reader.Reader.{Reader}
-use Rattle.gj_json.specs.Internal.ByteClasses.{class_of}
 use Rattle.gj_json.specs.Internal.ToldEvents.{in_number, text_state}
 use Rattle.gj_json.specs.declared.content.Content.{Content}
 use Rattle.gj_json.specs.Internal.KeptContent.{Holds}
 use Rattle.gj_json.specs.Names.{Words, words_of}
-use Rattle.gj_json.specs.Internal.NumberStates.{NumberState, number_first, number_next, number_may_end, number_state, turn_of}
+use Rattle.gj_number.specs.DecidedNumbers.{is_number, begins_number}
 use Rattle.gj_json.specs.Internal.TextMachine.{Leaf, number_on, string_on, name_on, Broken, begun, string_next, string_goes}
 
 -- what is under way: nothing but a literal name at the most, or so many bytes of a number, or so many characters of a
 -- string or a name
 pub data Under : Type 0 where
   nothing : Under
-  number : (so_far : List ℕ) → (state : NumberState) → Under
+  number : (so_far : List ℕ) → Under
   text : (so_far : List ℕ) → (state : StringState) → Under
 
 abbrev pub under_leaf : Leaf → Under
-under_leaf (number_on place so_far state) = number so_far state
+under_leaf (number_on place so_far) = number so_far
 under_leaf (string_on place so_far state) = text so_far state
 under_leaf (name_on place done np so_far state) = text so_far state
 under_leaf _ = nothing
@@ -37,27 +36,33 @@ under_of _ = nothing
 -- the second is under way behind the byte, where the first was before it
 abbrev pub ComesFrom : Under → ℕ → Under → Type 0
 ComesFrom before b nothing = Unit {0}
-ComesFrom nothing b (number so_far state) = (so_far ≡ b ∷ []) × (number_first (class_of b) ≡ Some state)
+ComesFrom nothing b (number so_far) = (so_far ≡ b ∷ []) × BeginsNumber so_far
 ComesFrom nothing b (text so_far state) = (so_far ≡ []) × (state ≡ Plain)
-ComesFrom (number before old) b (number so_far state) = (so_far ≡ before ++ b ∷ []) × (number_next old (class_of b) ≡ Some state)
-ComesFrom (number before old) b (text so_far state) = ⊥
+ComesFrom (number before) b (number so_far) = (so_far ≡ before ++ b ∷ []) × BeginsNumber so_far
+ComesFrom (number before) b (text so_far state) = ⊥
 ComesFrom (text before old) b (text so_far state) = (more : List ℕ) × (so_far ≡ before ++ more) × (string_next old b ≡ string_goes more state)
-ComesFrom (text before old) b (number so_far state) = ⊥
+ComesFrom (text before old) b (number so_far) = ⊥
 
 -- what the reader keeps of it
 abbrev pub Keeps : Under → Literal → Content → Type 0
 Keeps nothing literal content = Unit {0}
-Keeps (number so_far state) literal content = LiteralStandsFor literal so_far × (number_state so_far ≡ Some state)
+Keeps (number so_far) literal content = LiteralStandsFor literal so_far
 Keeps (text so_far state) literal content = Holds content so_far
+
+-- what a byte does to a number under way, which goes on so or not, and which may end here or not
+abbrev pub turn_of : Bool → Bool → NumberTurn
+turn_of true may_end = NumberTurn.Goes
+turn_of false true = NumberTurn.Ends
+turn_of false false = NumberTurn.Refuses
 
 -- the byte does this to the number under way
 abbrev pub Turns : Under → ℕ → NumberTurn → Type 0
-Turns (number so_far state) b turn = turn ≡ turn_of (number_next state (class_of b)) (number_may_end state)
+Turns (number so_far) b turn = turn ≡ turn_of (begins_number (so_far ++ b ∷ [])) (is_number so_far)
 Turns _ b turn = Unit {0}
 
 -- the number under way has this value, where it has ended
 abbrev pub HasValue : Under → NumberTurn → Option Exact → Type 0
-HasValue (number so_far state) turn value = turn ≡ NumberTurn.Ends → value ≡ value_of so_far
+HasValue (number so_far) turn value = turn ≡ NumberTurn.Ends → value ≡ value_of so_far
 HasValue _ turn value = Unit {0}
 
 -- these say which name or type the string under way is
