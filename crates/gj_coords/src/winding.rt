@@ -1,6 +1,6 @@
 //! How a linear ring runs (RFC 7946, section 3.1.6).
 
-ghost use Rattle.std.specs.Prelude.{◌≡◌, ◌+ℤ◌, ◌-ℤ◌, ◌*ℤ◌, Some};
+ghost use Rattle.std.specs.Prelude.{◌≡◌, ◌+ℤ◌, ◌*ℤ◌, Some};
 ghost use Rattle.std.specs.Int.{int_wrap, w128};
 ghost use Rattle.gj_number.specs.Short.{exact_of};
 ghost use Rattle.gj_coords.specs.Winding.{bounded, bounded_cut, cut_value, both, sign_of};
@@ -69,11 +69,12 @@ impl Corner {
         )
     }
 
-    /// The term of the area for the way from this corner to the next.
-    fn cross(&self, next: &Corner) -> i128
+    /// The term of the area for the way from this corner to the next, which 64 bits hold.
+    #[inline(always)]
+    fn cross(&self, next: &Corner) -> i64
         ensures { result ≡ cross self.now next.now }
     {
-        difference(product(self.x, next.y), product(next.x, self.y))
+        product(self.x, next.y) - product(next.x, self.y)
     }
 }
 
@@ -130,16 +131,10 @@ fn product(x: i32, y: i32) -> i64
     i64::from(x) * i64::from(y)
 }
 
-fn difference(from: i64, taken: i64) -> i128
-    ensures { result ≡ from -ℤ taken }
-{
-    i128::from(from) - i128::from(taken)
-}
-
-fn wrapped_sum(area: i128, term: i128) -> i128
+fn wrapped_sum(area: i128, term: i64) -> i128
     ensures { result ≡ int_wrap w128 (area +ℤ term) }
 {
-    area.wrapping_add(term)
+    area.wrapping_add(i128::from(term))
 }
 
 fn sign(area: i128) -> Turn
@@ -227,7 +222,7 @@ impl Winding {
     }
 
     /// The term of the area for the way from the last corner to this one.
-    fn term(&self, corner: &Corner) -> i128
+    fn term(&self, corner: &Corner) -> i64
         ensures { result ≡ term_of self.now.last corner.now }
     {
         match &self.last {

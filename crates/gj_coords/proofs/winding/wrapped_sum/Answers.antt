@@ -1,6 +1,10 @@
 use Rattle.std.specs.Int.{w128}
-use Rattle.std.proofs.lemmas.Int.{wrapping_add_is}
+use Rattle.std.proofs.Common.{◌≡◌, FitsSigned, arith}
+use Rattle.std.proofs.lemmas.Int.{ints, wrapping_add_is}
 use Rattle.gj_coords.proofs.winding.wrapped_sum.Goals as goal
 
 pub returns : goal.returns
-returns c = wrapping_add_is w128 c.args.area c.args.term c.ranges.area c.ranges.term
+returns c =
+    let term : FitsSigned w128 c.args.term = omega (arith, ints, c.ranges.term) in
+    let same : c.from.result ≡ c.args.term = omega (arith, ints, c.from.ensures, c.ranges.term) in
+    rw same (wrapping_add_is w128 c.args.area c.args.term c.ranges.area term)
