@@ -67,26 +67,3 @@ pub fn to_bytes(alloc: Global, text: &str) -> Result<Vec<u8>, AllocError> {
     }
     Ok(bytes)
 }
-
-#[cfg(test)]
-mod tests {
-    use super::*;
-    use std::test::Fail;
-
-    #[test]
-    fn leads_back_to_each_word(rt: HostRuntime) -> Result<(), Fail> {
-        let rows: [&[u8]; 5] = [
-            b"",
-            b"a b.geojson",
-            "é🌍".as_bytes(),
-            b"a\xFFb\xC3",
-            "x\u{10FFFD}".as_bytes(),
-        ];
-        for bytes in rows {
-            let text = to_text(rt.alloc(), bytes)?;
-            let back = to_bytes(rt.alloc(), text.as_str())?;
-            assert_eq!(rt; back.as_slice(), bytes);
-        }
-        Ok(())
-    }
-}

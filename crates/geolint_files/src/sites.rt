@@ -356,36 +356,3 @@ impl Finder {
         }
     }
 }
-
-#[cfg(test)]
-mod tests {
-    use super::*;
-    use std::test::Fail;
-
-    const TEXT: &[u8] = b"[1,\n\"\xC3\xA9\", [2]";
-
-    #[test]
-    fn finds_lines_and_columns(rt: HostRuntime) -> Result<(), Fail> {
-        let mut sites = Sites::none();
-        for place in [0, 1, 8, 13, 14] {
-            sites.seek(place);
-        }
-        let found = sites.find(&mut &TEXT[..], Limits::usual(), false);
-        assert!(rt; found.is_ok());
-        let rows = [
-            (0, Some((1, 1))),
-            (1, Some((1, 2))),
-            (8, Some((2, 4))),
-            (13, Some((2, 9))),
-            (14, None),
-            (2, None),
-        ];
-        for (place, spot) in rows {
-            let at = sites
-                .at(place)
-                .map(|site| (site.spot.line, site.spot.column));
-            assert_eq!(rt; at, spot, "{place}");
-        }
-        Ok(())
-    }
-}
