@@ -11,4 +11,5 @@ pub mod CharacterPrefixes
 pub mod NonemptyTokens
 pub mod SpelledFlats
 pub mod SpelledTokens
+pub mod UsualTokens
 pub mod SpelledPairs

@@ -29,6 +29,7 @@ mod sink;
 mod strings;
 mod tokens;
 mod told;
+mod usual;
 mod wide;
 
 pub use event::{Event, What};

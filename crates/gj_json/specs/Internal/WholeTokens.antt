@@ -1,13 +1,17 @@
 -- Whole tokens, as they are read, and what one leaves of a reader.
-use Rattle.std.specs.Prelude.{◌≡◌, ℕ, ◌+◌, Bool, true, false, List, [], ◌∷◌, ◌++◌}
-use Rattle.gj_json.specs.Bytes.{quote, open_bracket, open_brace}
+use Rattle.std.specs.Prelude.{◌≡◌, ℕ, ◌+◌, ◌-◌, Bool, true, false, List, [], ◌∷◌, ◌++◌, get_or, take}
+use Rattle.gj_json.specs.Bytes.{quote, open_bracket, open_brace, colon as colon_byte}
 use Rattle.gj_json.specs.Characters.{SpellsCharacter}
 use Rattle.gj_json.specs.declared.levels.Level.{Level}
 use Rattle.gj_json.specs.declared.levels.Level.TheVariants.{Array, Object}
 use Rattle.gj_json.specs.declared.mode.Mode.{Mode}
 use Rattle.gj_json.specs.declared.mode.Mode.TheVariants.{TextDue, ValueDue, ArrayOpened, NameDue, ObjectOpened}
 use Rattle.gj_json.specs.declared.mode.StringState.TheVariants.{Plain}
+use Rattle.gj_json.specs.declared.names.Known.{Known}
+use Rattle.gj_json.specs.declared.names.Word.{Word}
 use Rattle.gj_json.specs.declared.reader.Reader.{Reader}
+use Rattle.gj_json.specs.Names.{known_of, word_of}
+use Rattle.gj_json.specs.Internal.FlatParts.{cut}
 use Rattle.gj_json.specs.Internal.OpenLevels.{levels_in}
 use Rattle.gj_json.specs.Internal.QuietBytes.{Reads}
 
@@ -22,6 +26,17 @@ AreCharacters bytes = (characters : List ℕ) × Reads Plain bytes characters Pl
 pub record IsQuoted (content bytes : List ℕ) : Type 0 where
   pub spelled : bytes ≡ quote ∷ (content ++ quote ∷ [])
   pub reads : Reads Plain content content Plain
+
+-- a piece starts with a name of plain characters, of so many bytes with its quotes, and a colon follows
+pub record IsUsualName (piece : List ℕ) (count : ℕ) (known : Known) : Type 0 where
+  pub quoted : IsQuoted (cut piece 1 (count - 1)) (take count piece)
+  pub known_as : known_of (cut piece 1 (count - 1)) ≡ known
+  pub colon : get_or piece count 0 ≡ colon_byte
+
+-- a piece starts with a string of plain characters, of so many bytes with its quotes
+pub record IsUsualText (piece : List ℕ) (count : ℕ) (word : Word) : Type 0 where
+  pub quoted : IsQuoted (cut piece 1 (count - 1)) (take count piece)
+  pub known_as : word_of (cut piece 1 (count - 1)) ≡ word
 
 -- characters of any kind, in quotes
 pub record IsString (bytes : List ℕ) : Type 0 where

@@ -24,6 +24,7 @@ use crate::names::{name_of, type_of};
 use crate::sink::EventSink;
 use crate::tokens::{constant_run, plain_quoted_run};
 use crate::told::{closing, is_on, opening, what_of};
+use crate::usual::{usual_name, usual_text};
 use gj_number::{Decimal, Literal, Short, read_short};
 
 /// A piece of fewer bytes is taken byte by byte.
@@ -84,8 +85,8 @@ impl Reader {
     ghost use Rattle.gj_json.specs.Internal.WholeTokens.{Lands};
 
     /// Takes a string of plain characters that is a value: how many bytes, or 0.
-    #[inline(always)]
-    fn take_text<S: EventSink>(&mut self, piece: &[u8], sink: &mut S) -> usize
+    #[inline(never)]
+    fn take_plain_text<S: EventSink>(&mut self, piece: &[u8], sink: &mut S) -> usize
         requires some { 0 < length piece.now }
         requires begins { get_or piece.now 0 0 ≡ quote }
         requires live { self.old.fault ≡ None }
@@ -107,9 +108,33 @@ impl Reader {
         self.skip(count, Mode::ValueDone)
     }
 
-    /// Takes a name of plain characters and its colon, with the white space around that: how many bytes, or 0.
+    /// The same, at once where it is a usual one.
     #[inline(always)]
-    fn take_named<S: EventSink>(&mut self, piece: &[u8], sink: &mut S) -> usize
+    fn take_text<S: EventSink>(&mut self, piece: &[u8], sink: &mut S) -> usize
+        requires some { 0 < length piece.now }
+        requires begins { get_or piece.now 0 0 ≡ quote }
+        requires live { self.old.fault ≡ None }
+        requires due { awaits self.old.mode ≡ true }
+        requires room { self.old.offset + length piece.now ≤ self.old.limits.bytes }
+        requires small { self.old.limits.bytes ≤ 2 ^ 60 }
+        ensures within { result ≤ length piece.now }
+        ensures mode { 0 < result → self.new.mode ≡ ValueDone }
+        ensures feeds { FeedsAll (S.heard sink.old) (S.heard sink.new) self.old self.new (take result piece.now) }
+    {
+        let usual = usual_text(piece);
+        if usual.count == 0 {
+            return self.take_plain_text(piece, sink);
+        }
+        sink.tell(Event {
+            place: self.offset,
+            what: What::Text(usual.word),
+        });
+        self.skip(usual.count, Mode::ValueDone)
+    }
+
+    /// Takes a name of plain characters and its colon, with the white space around that: how many bytes, or 0.
+    #[inline(never)]
+    fn take_plain_name<S: EventSink>(&mut self, piece: &[u8], sink: &mut S) -> usize
         requires some { 0 < length piece.now }
         requires live { self.old.fault ≡ None }
         requires due { names self.old.mode ≡ true }
@@ -135,6 +160,30 @@ impl Reader {
             what: What::Name(name_of(&piece[1..name - 1])),
         });
         self.skip(name + colon, Mode::ValueDue)
+    }
+
+    /// The same, at once where it is a usual one with its colon behind it.
+    #[inline(always)]
+    fn take_named<S: EventSink>(&mut self, piece: &[u8], sink: &mut S) -> usize
+        requires some { 0 < length piece.now }
+        requires live { self.old.fault ≡ None }
+        requires due { names self.old.mode ≡ true }
+        requires room { self.old.offset + length piece.now ≤ self.old.limits.bytes }
+        requires small { self.old.limits.bytes ≤ 2 ^ 60 }
+        ensures within { result ≤ length piece.now }
+        ensures mode { 0 < result → self.new.mode ≡ ValueDue }
+        ensures feeds { FeedsAll (S.heard sink.old) (S.heard sink.new) self.old self.new (take result piece.now) }
+    {
+        let usual = usual_name(piece);
+        if usual.count == 0 {
+            return self.take_plain_name(piece, sink);
+        }
+        let colon = white_end(&piece[usual.count..], 1);
+        sink.tell(Event {
+            place: self.offset,
+            what: What::Name(usual.known),
+        });
+        self.skip(usual.count + colon, Mode::ValueDue)
     }
 
     /// Takes the literal name: how many bytes, or 0.
@@ -397,7 +446,8 @@ impl Reader {
         }
     }
 
-    /// Takes a token that stands whole at the start of the piece, or the white space there: how many bytes, or 0.
+    /// Takes a token that stands whole at the start of the piece, or the white space there: how many bytes, or 0 where there is
+    /// none or no event matters to the sink.
     #[inline(always)]
     fn take_token<S: EventSink>(&mut self, piece: &[u8], sink: &mut S) -> usize
         requires some { 0 < length piece.now }
@@ -413,13 +463,21 @@ impl Reader {
         match self.mode {
             Mode::ValueDone => self.take_end(piece, sink),
             Mode::NameDue | Mode::ObjectOpened => {
+                if sink.ignored() > 0 {
+                    return 0;
+                }
                 let named = self.take_named(piece, sink);
                 if named == 0 || named == piece.len() {
                     return named;
                 }
                 named + self.take_value(&piece[named..], sink)
             }
-            Mode::ValueDue | Mode::ArrayOpened => self.take_value(piece, sink),
+            Mode::ValueDue | Mode::ArrayOpened => {
+                if sink.ignored() > 0 {
+                    return 0;
+                }
+                self.take_value(piece, sink)
+            }
             _ => 0,
         }
     }
@@ -433,8 +491,8 @@ impl Reader {
         }
     }
 
-    /// Takes the tokens that stand whole at the start of the piece, one after another, up to the bracket of a container in
-    /// which no event matters to the sink: how many bytes.
+    /// Takes the tokens that stand whole at the start of the piece, one after another, as far as their events matter to the
+    /// sink: how many bytes.
     #[inline(never)]
     pub(super) fn take_tokens<S: EventSink>(&mut self, piece: &[u8], sink: &mut S) -> usize
         requires live { self.old.fault ≡ None }
@@ -450,9 +508,6 @@ impl Reader {
                 return at;
             }
             at += count;
-            if self.is_ignored(sink) {
-                return at;
-            }
         }
         at
     }

@@ -1,11 +1,24 @@
--- A name, and its colon.
-use Rattle.std.proofs.Common.{◌-◌, arith}
+-- A usual name, and its colon.
+use Rattle.std.proofs.Common.{◌≡◌, ◌+◌, ◌-◌, drop, take, get_or, length, ap, ◌∙◌, arith}
+use Rattle.std.proofs.lemmas.List.{get_or-drop}
+use Rattle.gj_json.specs.Bytes.{colon as colon_byte}
 use Rattle.gj_json.specs.Internal.FlatParts.{cut}
+use Rattle.gj_json.proofs.Grammar.SpelledTokens.{first_colon_cut}
+use Rattle.gj_json.proofs.Pieces.PieceRests.{rest_of}
 use Rattle.gj_json.proofs.Pieces.TakenTokens.{named_taken}
 use Rattle.gj_json.proofs.reader.Reader.take_named.Goals as goal
 
 pub returns-clause-feeds : goal.returns-clause-feeds
 returns-clause-feeds g c =
-    let n = c.plain_quoted_run-name.result in
-    rw (c.skip.ensures.count) (named_taken c.args.self.now c.skip.new.self c.args.piece.now n c.colon_run-colon.result c.requires.live c.requires.due c.requires.room c.plain_quoted_run-name.ensures.within (cut c.args.piece.now 1 (n - 1))
-    (c.plain_quoted_run-name.ensures.quoted (omega arith)) c.colon_run-colon.ensures.within (c.colon_run-colon.ensures.leads (omega arith)) c.skip.ensures.passed (λ events h. rw (← c.name_of.ensures) (c.tell.ensures events h)))
+    let n = c.usual_name-usual.result.count in
+    let piece = c.args.piece.now in
+    let few = c.usual_name-usual.ensures.within (omega arith) in
+    let usual = c.usual_name-usual.ensures.usual (omega arith) in
+    let rest = take (length piece - n) (drop n piece) in
+    let z : n + 0 ≡ n = omega arith in
+    let first : get_or rest 0 0 ≡ colon_byte =
+    ap (λ xs. get_or xs 0 0) (rest_of piece n) ∙ get_or-drop n piece 0 0 ∙ ap (λ i. get_or piece i 0) z ∙ usual.colon in
+    let colon = c.white_end-colon.result in
+    let leads = first_colon_cut rest colon (omega arith) first c.white_end-colon.ensures.on c.white_end-colon.ensures.within c.white_end-colon.ensures.white in
+    rw (c.skip.ensures.count) (named_taken c.args.self.now c.skip.new.self piece n colon c.requires.live c.requires.due c.requires.room (omega arith) (cut piece 1 (n - 1))
+    usual.quoted c.white_end-colon.ensures.within leads c.skip.ensures.passed (λ events h. rw (usual.known_as) (c.tell.ensures events h)))

@@ -19,9 +19,3 @@ returns-then-count-eq0-clause-feeds g c =
     subst P e
     (CallsInTurn.piece_all c.args.self.now c.loop-at.self c.take_token-count.new.self c.args.piece.now c.loop-at.at c.take_token-count.result c.loop-at.invariant.fed
     (CallsInTurn.rest_all c.loop-at.self c.take_token-count.new.self c.args.piece.now c.loop-at.at c.take_token-count.result c.take_token-count.ensures.feeds))
-
--- up to a container in which no event matters
-pub returns-then-is_ignored-clause-feeds : goal.returns-then-is_ignored-clause-feeds
-returns-then-is_ignored-clause-feeds g c =
-    CallsInTurn.piece_all c.args.self.now c.loop-at.self c.take_token-count.new.self c.args.piece.now c.loop-at.at c.take_token-count.result c.loop-at.invariant.fed
-    (CallsInTurn.rest_all c.loop-at.self c.take_token-count.new.self c.args.piece.now c.loop-at.at c.take_token-count.result c.take_token-count.ensures.feeds)
