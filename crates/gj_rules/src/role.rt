@@ -35,6 +35,7 @@ impl Role {
 
     /// Whether the value of a member `name` is looked at in an object with this role: whether a
     /// type uses it that such an object may have.
+    #[inline(always)]
     pub fn uses(self, name: Known) -> bool
         ensures { result ≡ uses self name }
     {
@@ -57,6 +58,7 @@ impl Role {
         }
     }
 
+    #[inline(always)]
     fn geometry_uses(name: Known) -> bool
         ensures { result ≡ geometry_uses name }
     {
@@ -66,6 +68,7 @@ impl Role {
         }
     }
 
+    #[inline(always)]
     fn feature_uses(name: Known) -> bool
         ensures { result ≡ feature_uses name }
     {

@@ -112,7 +112,7 @@ impl Shown {
     ghost use Rattle.gj_rules.specs.Levels.{most_levels};
     ghost use Rattle.gj_rules.specs.Internal.FrameReading.{shown_in};
     ghost use Rattle.gj_rules.specs.Internal.Summaries.{StandsForCoordinates, shapes_of, asked, asked_as};
-    ghost use Rattle.gj_rules.specs.Internal.ShownMembers.{blank, slot_of, with_slot, joined, named, due_after, repeated_at, used, type_set, shapes_set};
+    ghost use Rattle.gj_rules.specs.Internal.ShownMembers.{blank, slot_of, with_slot, joined, named, named_known, due_after, due_known, repeated_at, used, type_set, shapes_set};
 
     /// Of an object that opens at this place.
     pub fn new(role: Role, place: u64) -> Self
@@ -172,6 +172,7 @@ impl Shown {
         }
     }
 
+    #[inline(always)]
     fn set_slot(&mut self, name: Known, slot: Slot)
         ensures { shown_in self.new ≡ with_slot name slot (shown_in self.old) }
     {
@@ -271,16 +272,34 @@ impl Shown {
 
     /// Takes a name, and answers as the first member of which name its value is to be judged:
     /// `Other` where it is not.
+    // In each arm the name is a constant, so that what is done for it is all that is left of the rest.
+    #[inline]
     pub fn name(&mut self, name: Known, place: u64) -> Known
         ensures shown { shown_in self.new ≡ named name place (shown_in self.old) }
         ensures due { result ≡ due_after name (shown_in self.old) }
     {
         match name {
+            Known::TypeName => self.known_name(Known::TypeName, place),
+            Known::Coordinates => self.known_name(Known::Coordinates, place),
+            Known::Geometries => self.known_name(Known::Geometries, place),
+            Known::Geometry => self.known_name(Known::Geometry, place),
+            Known::Properties => self.known_name(Known::Properties, place),
+            Known::Features => self.known_name(Known::Features, place),
+            Known::Bbox => self.known_name(Known::Bbox, place),
+            Known::Id => self.known_name(Known::Id, place),
             Known::Crs | Known::Other => Known::Other,
-            _ => match self.slot(name) {
-                Some(_) => self.repeated_name(place),
-                None => self.first_name(name, place),
-            },
+        }
+    }
+
+    /// Takes a name that an object should have once.
+    #[inline(always)]
+    fn known_name(&mut self, name: Known, place: u64) -> Known
+        ensures shown { shown_in self.new ≡ named_known name place (slot_of name (shown_in self.old)) (shown_in self.old) }
+        ensures due { result ≡ due_known name (slot_of name (shown_in self.old)) self.old.role }
+    {
+        match self.slot(name) {
+            Some(_) => self.repeated_name(place),
+            None => self.first_name(name, place),
         }
     }
 
@@ -296,6 +315,7 @@ impl Shown {
         Known::Other
     }
 
+    #[inline(always)]
     fn first_name(&mut self, name: Known, place: u64) -> Known
         ensures shown { shown_in self.new ≡ with_slot name (record { name_at = place; fault = None }) (shown_in self.old) }
         ensures due { result ≡ used self.old.role name }
