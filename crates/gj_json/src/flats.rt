@@ -26,6 +26,20 @@ pub fn white_end(piece: &[u8], at: usize) -> usize
     at + white_run(&piece[at..])
 }
 
+/// The same after a comma or a colon, where mostly nothing stands or one space.
+#[inline(always)]
+pub fn space_end(piece: &[u8], at: usize) -> usize
+    requires { at ≤ length piece.now }
+    ensures on { at ≤ result }
+    ensures within { result ≤ length piece.now }
+    ensures white { AllByRecursion IsWhite (cut piece.now at result) }
+{
+    if at + 1 < piece.len() && piece[at] == b' ' && piece[at + 1] > b' ' {
+        return at + 1;
+    }
+    white_end(piece, at)
+}
+
 /// A comma that the piece starts with, and the white space after it: how many bytes.
 #[inline(always)]
 pub fn comma_run(piece: &[u8]) -> usize
@@ -36,7 +50,7 @@ pub fn comma_run(piece: &[u8]) -> usize
     if piece.is_empty() || piece[0] != b',' {
         return 0;
     }
-    white_end(piece, 1)
+    space_end(piece, 1)
 }
 
 /// Reads the ordinary number that stands at an index, with white space around it, in a piece that begins at the place

@@ -15,7 +15,7 @@ ghost use Rattle.gj_json.specs.declared.mode.Mode.TheVariants.{ValueDone, ValueD
 use super::Reader;
 use crate::constant::Constant;
 use crate::event::{Event, What};
-use crate::flats::white_end;
+use crate::flats::{space_end, white_end};
 use crate::lanes::white_run;
 use crate::levels::Level;
 use crate::mode::{Mode, Move};
@@ -178,7 +178,7 @@ impl Reader {
         if usual.count == 0 {
             return self.take_plain_name(piece, sink);
         }
-        let colon = white_end(&piece[usual.count..], 1);
+        let colon = space_end(&piece[usual.count..], 1);
         sink.tell(Event {
             place: self.offset,
             what: What::Name(usual.known),
@@ -360,6 +360,10 @@ impl Reader {
             }
             b'{' => self.take_open(Level::Object, piece, sink),
             b'[' => {
+                // No array of numbers begins so.
+                if piece.len() > 1 && piece[1] == b'[' {
+                    return self.take_open(Level::Array, piece, sink);
+                }
                 let flats = self.take_flats(piece, sink);
                 if flats > 0 || !self.may_open() {
                     return flats;
