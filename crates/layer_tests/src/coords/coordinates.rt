@@ -4,10 +4,8 @@ mod flat;
 mod mixed;
 mod warned;
 
-use super::sample::tell;
 use both::{Both, Row};
 use gj_coords::{Fault, Rule, Simple};
-use gj_json::{Limits, Reader};
 use std::process::Abort;
 
 fn at(rule: Rule, place: u64) -> Option<Fault> {
@@ -39,21 +37,15 @@ fn g16(place: u64) -> Option<Fault> {
 }
 
 fn expect(rt: &impl Abort, both: &Both, expected: Row, name: &str) {
-    assert!(rt; !both.early, "{name}: not done before the end");
+    assert!(rt; !both.any_early(), "{name}: not done before the end");
     assert!(rt; both.all_done(), "{name}: done at the end");
     assert!(rt; both.by_walk() == expected, "{name}: the walk");
     assert!(rt; both.by_watchers() == expected, "{name}: the watchers");
 }
 
-fn read(text: &str) -> Both {
-    let mut both = Both::new();
-    tell(text.as_bytes(), &mut both);
-    both
-}
-
 fn expect_rows(rt: &impl Abort, rows: &[(&'static str, Row)]) {
     for (text, expected) in rows {
-        expect(rt, &read(text), *expected, text);
+        expect(rt, &Both::of_text(text), *expected, text);
     }
 }
 
@@ -78,6 +70,10 @@ fn each_shape_as_each_type(rt: HostRuntime) {
     );
 }
 
+fn first_four(row: Row) -> [Option<Fault>; 4] {
+    [row[0], row[1], row[2], row[3]]
+}
+
 #[test]
 fn positions_and_lines(rt: HostRuntime) {
     let rows: [(&'static str, [Option<Fault>; 4]); 5] = [
@@ -88,8 +84,8 @@ fn positions_and_lines(rt: HostRuntime) {
         ("[[[1,2]]]", [g12(0), g12(1), g13(0), g13(1)]),
     ];
     for (text, expected) in rows {
-        let found = read(text);
-        assert!(rt; found.first_four() == expected, "{text}");
+        let found = Both::of_text(text);
+        assert!(rt; first_four(found.by_walk()) == expected, "{text}");
         assert!(rt;
             found.by_walk() == found.by_watchers(),
             "{text}: the watchers"
@@ -169,8 +165,8 @@ fn linear_rings(rt: HostRuntime) {
         ),
     ];
     for (text, simple, expected, name) in rows {
-        let found = read(text);
-        assert!(rt; found.walk.fault(simple) == expected, "{name}");
+        let found = Both::of_text(text);
+        assert!(rt; found.walked.walk.fault(simple) == expected, "{name}");
         assert!(rt;
             found.by_walk() == found.by_watchers(),
             "{name}: the watchers"
@@ -178,28 +174,16 @@ fn linear_rings(rt: HostRuntime) {
     }
 }
 
-/// What the text tells that has these parts, the middle one so many times.
-fn read_parts(front: &[u8], middle: &[u8], times: u32, end: &[u8]) -> Both {
-    let mut reader = Reader::new(Limits::usual());
-    let mut both = Both::new();
-    let _ = reader.feed(front, &mut both);
-    for _ in 0..times {
-        let _ = reader.feed(middle, &mut both);
-    }
-    let _ = reader.feed(end, &mut both);
-    both
-}
-
 #[test]
 fn sixty_levels(rt: HostRuntime) {
-    let both = read_parts(b"", b"[", 60, &[b']'; 60]);
+    let both = Both::of(&[(b"[", 60), (b"]", 60)]);
     let expected = [g12(0), g12(1), g13(0), g13(1), g14(1), g14(2)];
     expect(&rt, &both, expected, "sixty levels");
 }
 
 #[test]
 fn a_hundred_thousand_numbers(rt: HostRuntime) {
-    let both = read_parts(b"[7", b",7", 99_999, b"]");
+    let both = Both::of(&[(b"[7", 1), (b",7", 99_999), (b"]", 1)]);
     let wrong = g11(1);
     expect(
         &rt,
@@ -213,8 +197,11 @@ fn a_hundred_thousand_numbers(rt: HostRuntime) {
 fn a_hundred_thousand_positions(rt: HostRuntime) {
     let rows: [(&[u8], Option<Fault>); 2] = [(b",[0,0]]]", None), (b",[1,0]]]", g15(1))];
     for (end, expected) in rows {
-        let both = read_parts(b"[[[0,0]", b",[5,0]", 99_998, end);
-        assert!(rt; both.walk.fault(Simple::Polygon) == expected, "the walk");
+        let both = Both::of(&[(b"[[[0,0]", 1), (b",[5,0]", 99_998), (end, 1)]);
+        assert!(rt;
+            both.walked.walk.fault(Simple::Polygon) == expected,
+            "the walk"
+        );
         assert!(rt; both.by_walk() == both.by_watchers(), "the watchers");
     }
 }

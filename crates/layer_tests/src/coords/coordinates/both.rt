@@ -1,10 +1,12 @@
-//! The one walk and the six watchers, told the same events.
+//! The one walk and the six watchers, told the same texts.
+use crate::coords::sample::tell_parts;
 use gj_coords::{
     Coordinates, Fault, LineStringWatcher, MultiLineStringWatcher, MultiPointWatcher,
     MultiPolygonWatcher, PointWatcher, PolygonWatcher, Simple, Warnings, Watcher,
 };
 use gj_json::{Event, EventSink};
 
+/// The six types whose value is made of positions.
 pub const SIX: [Simple; 6] = [
     Simple::Point,
     Simple::MultiPoint,
@@ -14,120 +16,53 @@ pub const SIX: [Simple; 6] = [
     Simple::MultiPolygon,
 ];
 
-/// The least faults in the order of `SIX`.
+/// The least faults as each of the six types, in the order of `Simple`.
 pub type Row = [Option<Fault>; 6];
 
-/// The warnings in the order of `SIX`.
+/// The warnings as each of the six types, in the same order.
 pub type WarnedRow = [Warnings; 6];
 
-/// The walk and the six watchers side by side.
+pub fn faults_of(walk: &Coordinates) -> Row {
+    let mut row = [None; 6];
+    for (found, simple) in row.iter_mut().zip(SIX) {
+        *found = walk.fault(simple);
+    }
+    row
+}
+
+pub fn warnings_of(walk: &Coordinates) -> WarnedRow {
+    let mut row = [Warnings::none(); 6];
+    for (found, simple) in row.iter_mut().zip(SIX) {
+        *found = walk.warnings(simple);
+    }
+    row
+}
+
+/// The walk, told each event by itself.
 #[derive(Drop)]
-pub struct Both {
+pub struct Walked {
     pub walk: Coordinates,
-    point: PointWatcher,
-    multi_point: MultiPointWatcher,
-    line_string: LineStringWatcher,
-    multi_line_string: MultiLineStringWatcher,
-    polygon: PolygonWatcher,
-    multi_polygon: MultiPolygonWatcher,
-    /// Whether one of them was done before the last event.
-    pub early: bool,
+    /// Whether it was done before the last event.
+    early: bool,
 }
 
-impl Both {
-    pub fn new() -> Both {
-        Both {
+impl Walked {
+    pub fn of(parts: &[(&[u8], u32)]) -> Walked {
+        let mut walked = Walked {
             walk: Coordinates::new(),
-            point: Watcher::new(),
-            multi_point: Watcher::new(),
-            line_string: Watcher::new(),
-            multi_line_string: Watcher::new(),
-            polygon: Watcher::new(),
-            multi_polygon: Watcher::new(),
             early: false,
-        }
-    }
-
-    fn any_done(&self) -> bool {
-        self.walk.done()
-            || self.point.done()
-            || self.multi_point.done()
-            || self.line_string.done()
-            || self.multi_line_string.done()
-            || self.polygon.done()
-            || self.multi_polygon.done()
-    }
-
-    pub fn all_done(&self) -> bool {
-        self.walk.done()
-            && self.point.done()
-            && self.multi_point.done()
-            && self.line_string.done()
-            && self.multi_line_string.done()
-            && self.polygon.done()
-            && self.multi_polygon.done()
-    }
-
-    pub fn by_walk(&self) -> Row {
-        let mut row = [None; 6];
-        for (found, simple) in row.iter_mut().zip(SIX) {
-            *found = self.walk.fault(simple);
-        }
-        row
-    }
-
-    pub fn first_four(&self) -> [Option<Fault>; 4] {
-        let row = self.by_walk();
-        [row[0], row[1], row[2], row[3]]
-    }
-
-    pub fn by_watchers(&self) -> Row {
-        [
-            self.point.fault(),
-            self.multi_point.fault(),
-            self.line_string.fault(),
-            self.multi_line_string.fault(),
-            self.polygon.fault(),
-            self.multi_polygon.fault(),
-        ]
-    }
-
-    pub fn warned_by_walk(&self) -> WarnedRow {
-        let mut row = [Warnings::none(); 6];
-        for (found, simple) in row.iter_mut().zip(SIX) {
-            *found = self.walk.warnings(simple);
-        }
-        row
-    }
-
-    pub fn warned_by_watchers(&self) -> WarnedRow {
-        [
-            self.point.warnings(),
-            self.multi_point.warnings(),
-            self.line_string.warnings(),
-            self.multi_line_string.warnings(),
-            self.polygon.warnings(),
-            self.multi_polygon.warnings(),
-        ]
-    }
-
-    fn take(&mut self, event: &Event) {
-        self.early = self.early || self.any_done();
-        self.walk.event(*event);
-        self.point.event(*event);
-        self.multi_point.event(*event);
-        self.line_string.event(*event);
-        self.multi_line_string.event(*event);
-        self.polygon.event(*event);
-        self.multi_polygon.event(*event);
+        };
+        tell_parts(parts, &mut walked);
+        walked
     }
 }
 
-impl EventSink for Both {
-    ghost heard = { λ both events. Unit {0} };
+impl EventSink for Walked {
+    ghost heard = { λ walked events. Unit {0} };
 
     fn tell(&mut self, event: Event) {
-        self.take(&event);
+        self.early = self.early || self.walk.done();
+        self.walk.event(event);
     }
 
     fn ignored(&self) -> u16 {
@@ -135,4 +70,118 @@ impl EventSink for Both {
     }
 
     fn pass(&mut self, _left: u16) {}
+}
+
+/// A watcher, told each event.
+#[derive(Drop)]
+struct Watched<W> {
+    watcher: W,
+    early: bool,
+}
+
+impl<W: Watcher> EventSink for Watched<W> {
+    ghost heard = { λ watched events. Unit {0} };
+
+    fn tell(&mut self, event: Event) {
+        self.early = self.early || self.watcher.done();
+        self.watcher.event(event);
+    }
+
+    fn ignored(&self) -> u16 {
+        0
+    }
+
+    fn pass(&mut self, _left: u16) {}
+}
+
+/// What a watcher answers of a text.
+#[derive(Clone, Copy)]
+struct Answer {
+    fault: Option<Fault>,
+    warnings: Warnings,
+    early: bool,
+    done: bool,
+}
+
+fn answer_of<W: Watcher>(parts: &[(&[u8], u32)]) -> Answer {
+    let mut watched: Watched<W> = Watched {
+        watcher: Watcher::new(),
+        early: false,
+    };
+    tell_parts(parts, &mut watched);
+    Answer {
+        fault: watched.watcher.fault(),
+        warnings: watched.watcher.warnings(),
+        early: watched.early,
+        done: watched.watcher.done(),
+    }
+}
+
+/// What the walk and the six watchers found in a text.
+#[derive(Drop)]
+pub struct Both {
+    pub walked: Walked,
+    six: [Answer; 6],
+}
+
+impl Both {
+    /// The text has these parts in turn, each so many times.
+    pub fn of(parts: &[(&[u8], u32)]) -> Both {
+        Both {
+            walked: Walked::of(parts),
+            six: [
+                answer_of::<PointWatcher>(parts),
+                answer_of::<MultiPointWatcher>(parts),
+                answer_of::<LineStringWatcher>(parts),
+                answer_of::<MultiLineStringWatcher>(parts),
+                answer_of::<PolygonWatcher>(parts),
+                answer_of::<MultiPolygonWatcher>(parts),
+            ],
+        }
+    }
+
+    pub fn of_text(text: &str) -> Both {
+        Both::of(&[(text.as_bytes(), 1)])
+    }
+
+    /// Whether one of them was done before the last event.
+    pub fn any_early(&self) -> bool {
+        let mut early = self.walked.early;
+        for answer in self.six {
+            early = early || answer.early;
+        }
+        early
+    }
+
+    pub fn all_done(&self) -> bool {
+        let mut done = self.walked.walk.done();
+        for answer in self.six {
+            done = done && answer.done;
+        }
+        done
+    }
+
+    pub fn by_walk(&self) -> Row {
+        faults_of(&self.walked.walk)
+    }
+
+    pub fn by_watchers(&self) -> Row {
+        let mut row = [None; 6];
+        for (found, answer) in row.iter_mut().zip(self.six) {
+            *found = answer.fault;
+        }
+        row
+    }
+
+    pub fn warned_by_walk(&self) -> WarnedRow {
+        warnings_of(&self.walked.walk)
+    }
+
+    pub fn warned_by_watchers(&self) -> WarnedRow {
+        let mut row = [Warnings::none(); 6];
+        for (found, answer) in row.iter_mut().zip(self.six) {
+            *found = answer.warnings;
+        }
+        row
+    }
 }

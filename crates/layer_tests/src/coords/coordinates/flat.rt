@@ -1,5 +1,5 @@
 //! Positions told as one, beside the same told event by event.
-use super::both::{Both, Row, SIX, WarnedRow};
+use super::both::{Both, Row, WarnedRow, faults_of, warnings_of};
 use crate::coords::sample::tell;
 use gj_coords::{Coordinates, SimpleFaults, Warnings};
 use gj_json::{Event, EventSink, Flat};
@@ -47,19 +47,11 @@ impl Grouped {
     }
 
     fn faults(&self) -> Row {
-        let mut row = [None; 6];
-        for (found, simple) in row.iter_mut().zip(SIX) {
-            *found = self.walk.fault(simple);
-        }
-        row
+        faults_of(&self.walk)
     }
 
     fn warnings(&self) -> WarnedRow {
-        let mut row = [Warnings::none(); 6];
-        for (found, simple) in row.iter_mut().zip(SIX) {
-            *found = self.walk.warnings(simple);
-        }
-        row
+        warnings_of(&self.walk)
     }
 }
 
@@ -92,8 +84,7 @@ fn read(text: &str, grouped: &mut Grouped) {
 }
 
 fn expect_same(rt: &impl Abort, text: &str, flats: u64) {
-    let mut both = Both::new();
-    tell(text.as_bytes(), &mut both);
+    let both = Both::of_text(text);
     let mut grouped = Grouped::new();
     read("[[[1,2],[3,4],[5,6],[7,8],[9,10]", &mut grouped);
     grouped.walk.again();
@@ -111,8 +102,7 @@ fn expect_same(rt: &impl Abort, text: &str, flats: u64) {
 
 /// The value of the object's one member, which the reader tells as one, and the same value event by event at its place.
 fn expect_whole(rt: &impl Abort, object: &str, value: &str) {
-    let mut both = Both::new();
-    tell(value.as_bytes(), &mut both);
+    let both = Both::of_text(value);
     let mut only = OnlyFlats {
         grouped: Grouped::new(),
     };

@@ -2,7 +2,6 @@
 //! event by event to the walk and to the six watchers.
 use super::both::Both;
 use super::flat::Grouped;
-use crate::coords::sample::tell;
 use gj_json::{Limits, Reader};
 use std::process::Abort;
 
@@ -102,8 +101,7 @@ fn expect_same(rt: &impl Abort, seed: u64) {
     let mut drawn = Drawn::new(seed);
     drawn.fill();
     let cut = drawn.next() as usize * 4;
-    let mut both = Both::new();
-    tell(&drawn.bytes, &mut both);
+    let both = Both::of(&[(&drawn.bytes, 1)]);
     let mut grouped = Grouped::new();
     let mut reader = Reader::new(Limits::usual());
     if let (Some(one), Some(other)) = (drawn.bytes.get(..cut), drawn.bytes.get(cut..)) {

@@ -1,15 +1,7 @@
 //! Rows of values and their warnings, told to the six watchers and to the one walk alike.
-use super::both::{Both, SIX};
-use crate::coords::sample::tell;
-use gj_coords::{Coordinates, Kind, Simple, Warned, Warnings};
-use gj_json::{Event, EventSink, Limits, Reader};
+use super::both::{Both, SIX, Walked};
+use gj_coords::{Kind, Simple, Warned, Warnings};
 use std::process::Abort;
-
-fn read(text: &str) -> Both {
-    let mut both = Both::new();
-    tell(text.as_bytes(), &mut both);
-    both
-}
 
 fn none() -> Warnings {
     Warnings::none()
@@ -22,9 +14,9 @@ fn one(kind: Kind, place: u64) -> Warnings {
 type Row = (&'static str, Simple, Warnings);
 
 fn expect(rt: &impl Abort, both: &Both, simple: Simple, expected: Warnings, name: &str) {
-    assert!(rt; both.walk.warnings(simple) == expected, "{name}");
+    assert!(rt; both.walked.walk.warnings(simple) == expected, "{name}");
     let mut warned = Warned::of(one(Kind::W9, 1));
-    both.walk.warn(simple, &mut warned);
+    both.walked.walk.warn(simple, &mut warned);
     assert!(rt;
         warned.all() == expected.add(Kind::W9, 1),
         "{name}: added to others"
@@ -37,7 +29,7 @@ fn expect(rt: &impl Abort, both: &Both, simple: Simple, expected: Warnings, name
 
 fn expect_rows(rt: &impl Abort, rows: &[Row]) {
     for (text, simple, expected) in rows {
-        expect(rt, &read(text), *simple, *expected, text);
+        expect(rt, &Both::of_text(text), *simple, *expected, text);
     }
 }
 
@@ -154,11 +146,13 @@ fn rings(rt: HostRuntime) {
         (right, right, one(Kind::W2, 27)),
     ];
     for (exterior, hole, expected) in rows {
-        let mut both = Both::new();
-        let mut reader = Reader::new(Limits::usual());
-        for piece in ["[", exterior, ",", hole, "]"] {
-            let _ = reader.feed(piece.as_bytes(), &mut both);
-        }
+        let both = Both::of(&[
+            (b"[", 1),
+            (exterior.as_bytes(), 1),
+            (b",", 1),
+            (hole.as_bytes(), 1),
+            (b"]", 1),
+        ]);
         expect(&rt, &both, Simple::Polygon, expected, exterior);
         expect(&rt, &both, Simple::MultiLineString, none(), "as lines");
     }
@@ -218,54 +212,20 @@ fn warnings_that_are_gathered(rt: HostRuntime) {
     assert!(rt; warned.all() == none());
 }
 
-/// The walk alone.
-#[derive(Drop)]
-struct Walked {
-    walk: Coordinates,
-}
-
-impl EventSink for Walked {
-    ghost heard = { λ walked events. Unit {0} };
-
-    fn tell(&mut self, event: Event) {
-        self.walk.event(event);
-    }
-
-    fn ignored(&self) -> u16 {
-        0
-    }
-
-    fn pass(&mut self, _left: u16) {}
-}
-
-/// Tells the events of the text that has these parts, the middle one so many times.
-fn tell_parts<S: EventSink>(front: &[u8], middle: &[u8], times: u32, end: &[u8], to: &mut S) {
-    let mut reader = Reader::new(Limits::usual());
-    let _ = reader.feed(front, to);
-    for _ in 0..times {
-        let _ = reader.feed(middle, to);
-    }
-    let _ = reader.feed(end, to);
-}
-
 #[test]
 fn a_hundred_thousand_positions(rt: HostRuntime) {
     let left: &[u8] = b",[180,-90],[180,90],[-180,90],[-180,-90]";
     let right: &[u8] = b",[-180,90],[180,90],[180,-90],[-180,-90]";
     let rows: [(&[u8], Warnings); 2] = [(left, none()), (right, one(Kind::W2, 1))];
     for (around, expected) in rows {
-        let mut both = Both::new();
-        tell_parts(b"[[[-180,-90]", around, 25_000, b"]]", &mut both);
+        let both = Both::of(&[(b"[[[-180,-90]", 1), (around, 25_000), (b"]]", 1)]);
         expect(&rt, &both, Simple::Polygon, expected, "around the earth");
     }
 }
 
 #[test]
 fn a_million_numbers(rt: HostRuntime) {
-    let mut walked = Walked {
-        walk: Coordinates::new(),
-    };
-    tell_parts(b"[0", b",0", 999_999, b"]", &mut walked);
+    let walked = Walked::of(&[(b"[0", 1), (b",0", 999_999), (b"]", 1)]);
     assert!(rt; walked.walk.fault(Simple::Point).is_none());
     assert!(rt; walked.walk.warnings(Simple::Point) == one(Kind::W3, 0));
 }
