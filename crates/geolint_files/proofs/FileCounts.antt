@@ -3,7 +3,7 @@ use Rattle.std.specs.Prelude.{is_none, cond}
 use Rattle.std.specs.Prelude.{is_some}
 use Rattle.std.proofs.Common.{arith, refl, not, ◌||◌, ◌&&◌, nat_le, ◌≢◌, inl, inr, zero, suc, set, length, if◌then◌else◌, ◌≡◌, ◌≤◌, ◌<◌, ◌+◌, ◌-◌, ℕ, Bool, true, false, List, [], ◌∷◌, ◌++◌, Option, Some, None, get_or, ap, sym, ◌∙◌, nat_eq}
 use Rattle.std.specs.Io.Iter.{u64_saturate}
-use Rattle.std.specs.List.{count_by, sum_by}
+use Rattle.std.specs.List.{count_by}
 use Rattle.std.proofs.lemmas.Bool.Decides.{nat_tests, eqb_tells}
 use Rattle.std.proofs.lemmas.List.{get_or-set_same, get_or-set_other}
 use Rattle.std.proofs.lemmas.List.Sums.{sum_by_push}

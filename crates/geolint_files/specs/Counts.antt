@@ -1,5 +1,5 @@
 -- What the counts of a summary count: the files of a list that are of a kind, and those of which a code is told.
-use Rattle.std.specs.Prelude.{ℕ, Bool, true, false, not, ◌&&◌, ◌||◌, Option, Some, None, is_some, is_none, nat_eq}
+use Rattle.std.specs.Prelude.{Bool, true, false, not, ◌&&◌, ◌||◌, Option, Some, None, is_some, is_none, nat_eq}
 use Rattle.gj_coords.specs.Fault.{number_of}
 use Rattle.gj_coords.specs.Internal.KeptWarnings.{first_in, none_in}
 use Rattle.gj_coords.specs.Warnings.{kind_number}

@@ -1,4 +1,4 @@
-use Rattle.std.proofs.Common.{refl, sym, ap, subst, ◌≡◌, ◌∙◌, List, ℕ, Bool, true, false, not}
+use Rattle.std.proofs.Common.{sym, ap, subst, ◌≡◌, ◌∙◌, Bool, true, false, not}
 use Rattle.geolint_files.specs.declared.summary.Summary.{Summary}
 use Rattle.geolint_files.specs.declared.texts.Code.{Code}
 use Rattle.geolint_files.specs.Counts.{is_cause, same}

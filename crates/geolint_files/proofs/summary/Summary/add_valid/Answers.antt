@@ -1,4 +1,4 @@
-use Rattle.std.proofs.Common.{arith, refl, sym, ap, subst, ◌≡◌, ◌+◌, ◌∙◌, ℕ, List, Bool, true, false, not, get_or}
+use Rattle.std.proofs.Common.{refl, sym, ap, subst, ◌≡◌, ◌+◌, ◌∙◌, Bool, true, false, not, get_or}
 use Rattle.gj_coords.specs.Internal.KeptWarnings.{none_in}
 use Rattle.geolint_files.specs.declared.summary.Summary.{Summary}
 use Rattle.geolint_files.specs.declared.texts.Code.{Code}

@@ -1,5 +1,4 @@
-use Rattle.std.proofs.Common.{arith, refl, sym, ap, subst, ◌≡◌, ◌<◌, ◌∙◌, ℕ, Bool, true, get_or, length, set}
-use Rattle.geolint_files.specs.Counts.{same}
+use Rattle.std.proofs.Common.{arith, refl, sym, ap, ◌≡◌, ◌<◌, ◌∙◌, ℕ, Bool, true, get_or, length, set}
 use Rattle.geolint_files.specs.Internal.FileCounts.{more, slot_of}
 use Rattle.geolint_files.proofs.FileCounts.{counted-at, same-none}
 use Rattle.geolint_files.proofs.summary.Summary.count.Goals as goal

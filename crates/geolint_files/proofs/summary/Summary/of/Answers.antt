@@ -1,4 +1,4 @@
-use Rattle.std.proofs.Common.{arith, refl, sym, ap, ◌≡◌, ◌∙◌, ℕ, get_or}
+use Rattle.std.proofs.Common.{arith, ap, ◌∙◌, ℕ, get_or}
 use Rattle.geolint_files.proofs.summary.Summary.of.Goals as goal
 
 pub returns-then-slot-lt34 : goal.returns-then-slot-lt34
