@@ -11,7 +11,7 @@ use gj_rules::{
 use std::io::{self, Read};
 
 /// The most bytes of a read.
-const PIECE: usize = 16384;
+pub const PIECE: usize = 16384;
 
 /// What a file is found to be.
 #[derive(Clone, Copy)]

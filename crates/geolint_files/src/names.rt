@@ -1,9 +1,7 @@
 //! Names from a list, one after the other, in the memory of one name.
 
+use crate::judge::PIECE;
 use std::io::{self, Read};
-
-/// The most bytes of a read.
-const PIECE: usize = 16384;
 
 /// The most bytes of a name that are kept: one that is longer names no file.
 const LONGEST_NAME: usize = 4096;

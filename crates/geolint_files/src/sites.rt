@@ -2,12 +2,10 @@
 
 ghost use Rattle.std.specs.Prelude.{◌≡◌, drop};
 
+use crate::judge::PIECE;
 use gj_json::{Limits, Locator, Path};
 use gj_places::{Excerpt, Lines};
 use std::io::{self, Read};
-
-/// The most bytes of a read.
-const PIECE: usize = 16384;
 
 /// The byte RS, which begins a record of a text sequence.
 const SEPARATOR: u8 = 0x1E;
