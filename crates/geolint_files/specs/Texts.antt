@@ -1,60 +1,16 @@
--- What is told in words: of rules, kinds of warning and causes, and of the steps of a path.
+-- What is told of rules, kinds of warning and causes: their names, their texts; and the text of a path.
 use Rattle.std.specs.Prelude.{ℕ, List, ◌++◌, codes}
 use Rattle.std.specs.List.{flat_map}
 use Rattle.std.specs.Fmt.{decimal}
-use Rattle.gj_coords.specs.declared.fault.Rule.{Rule}
-use Rattle.gj_coords.specs.declared.fault.Rule.TheVariants.{G1, G2, G3, G4, G5, G6, G7, G8, G9, G10, G11, G12, G13, G14, G15, G16, G17, G18, G19, G20, G21}
 use Rattle.gj_coords.specs.Fault.{number_of}
-use Rattle.gj_coords.specs.declared.kind.Kind.{Kind}
-use Rattle.gj_coords.specs.declared.kind.Kind.TheVariants.{W1, W2, W3, W4, W5, W6, W7, W8, W9}
 use Rattle.gj_coords.specs.Warnings.{kind_number}
-use Rattle.gj_json.specs.declared.names.Known.{Known}
-use Rattle.gj_json.specs.declared.names.Known.TheVariants.{TypeName, Coordinates, Geometries, Geometry, Properties, Features, Bbox, Id, Crs, Other}
+use Rattle.gj_coords.specs.Texts.{rule_text, kind_text}
+use Rattle.gj_json.specs.Texts.{cause_text, name_text}
 use Rattle.gj_json.specs.declared.path.PathStep.{PathStep}
 use Rattle.gj_json.specs.declared.path.PathStep.TheVariants.{Index, Member}
 use Rattle.gj_json.specs.declared.fault.Cause.{Cause}
 use Rattle.gj_json.specs.declared.fault.Cause.TheVariants.{Syntax, Truncated, Depth, Length}
 use Rattle.geolint_files.specs.declared.texts.Code.{Code}
-
-abbrev pub cause_text : Cause → List ℕ
-cause_text Syntax = codes "syntax"
-cause_text Truncated = codes "truncated"
-cause_text Depth = codes "too deep"
-cause_text Length = codes "too long"
-
-abbrev pub rule_text : Rule → List ℕ
-rule_text G1 = codes "not an object"
-rule_text G2 = codes "type missing"
-rule_text G3 = codes "type not allowed here"
-rule_text G4 = codes "coordinates missing"
-rule_text G5 = codes "geometries missing"
-rule_text G6 = codes "geometry missing"
-rule_text G7 = codes "properties missing"
-rule_text G8 = codes "features missing"
-rule_text G9 = codes "member forbidden by section 7.1"
-rule_text G10 = codes "name repeated"
-rule_text G11 = codes "coordinates of the wrong shape"
-rule_text G12 = codes "position of fewer than two elements"
-rule_text G13 = codes "line of fewer than two elements"
-rule_text G14 = codes "ring of fewer than four elements"
-rule_text G15 = codes "ring not closed"
-rule_text G16 = codes "number beyond the profile"
-rule_text G17 = codes "not an array"
-rule_text G18 = codes "properties neither object nor null"
-rule_text G19 = codes "id neither string nor number"
-rule_text G20 = codes "bbox or its element of the wrong kind"
-rule_text G21 = codes "bbox length odd or below 4"
-
-abbrev pub kind_text : Kind → List ℕ
-kind_text W1 = codes "byte order mark"
-kind_text W2 = codes "ring runs the wrong way"
-kind_text W3 = codes "more than three numbers in a position"
-kind_text W4 = codes "more than seven decimal places"
-kind_text W5 = codes "position out of range"
-kind_text W6 = codes "empty coordinates"
-kind_text W7 = codes "collection in a collection"
-kind_text W8 = codes "bbox south above north"
-kind_text W9 = codes "crs is no longer used"
 
 -- ---- the code of what is told
 
@@ -87,19 +43,6 @@ unfoldable pub code_name : Code → List ℕ
 code_name code = code_letter code ++ decimal (code_number code)
 
 -- ---- a path, from the root
-
--- a foreign name is not told
-abbrev pub name_text : Known → List ℕ
-name_text TypeName = codes "type"
-name_text Coordinates = codes "coordinates"
-name_text Geometries = codes "geometries"
-name_text Geometry = codes "geometry"
-name_text Properties = codes "properties"
-name_text Features = codes "features"
-name_text Bbox = codes "bbox"
-name_text Id = codes "id"
-name_text Crs = codes "crs"
-name_text Other = codes "*"
 
 abbrev pub step_text : PathStep → List ℕ
 step_text (Index index) = codes "[" ++ (decimal index ++ codes "]")

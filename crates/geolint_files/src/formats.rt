@@ -2,7 +2,7 @@
 ghost use Rattle.std.specs.Prelude.{◌≡◌, OnOk};
 ghost use Rattle.gj_json.specs.Path.{steps_of};
 ghost use Rattle.geolint_files.specs.Line.{Adds};
-ghost use Rattle.geolint_files.specs.Texts.{name_text, step_text, steps_text, path_text};
+ghost use Rattle.geolint_files.specs.Texts.{step_text, steps_text, path_text};
 
 pub mod github;
 pub mod json;
@@ -11,7 +11,7 @@ pub mod sarif;
 pub mod text;
 
 use crate::line::{put, put_all};
-use gj_json::{Known, Path, PathStep};
+use gj_json::{Path, PathStep};
 use itoa::Buffer;
 use std::alloc::AllocError;
 
@@ -43,24 +43,7 @@ fn put_step(step: PathStep, line: &mut Vec<u8>) -> Result<(), AllocError>
             let mut digits = Buffer::new();
             put_all(line, &[b"[", digits.format(index).as_bytes(), b"]"])
         }
-        PathStep::Member(name) => put_all(line, &[b".", name_text(name)]),
-    }
-}
-
-fn name_text(name: Known) -> &'static [u8]
-    ensures { result.now ≡ name_text name }
-{
-    match name {
-        Known::TypeName => b"type",
-        Known::Coordinates => b"coordinates",
-        Known::Geometries => b"geometries",
-        Known::Geometry => b"geometry",
-        Known::Properties => b"properties",
-        Known::Features => b"features",
-        Known::Bbox => b"bbox",
-        Known::Id => b"id",
-        Known::Crs => b"crs",
-        Known::Other => b"*",
+        PathStep::Member(name) => put_all(line, &[b".", name.text().as_bytes()]),
     }
 }
 

@@ -1,7 +1,7 @@
 //! What each rule, kind of warning and cause is called.
 ghost use Rattle.std.specs.Prelude.{◌≡◌, is_some};
 ghost use Rattle.gj_coords.specs.Internal.KeptWarnings.{first_in};
-ghost use Rattle.geolint_files.specs.Texts.{cause_number, cause_text, kind_text, rule_text};
+ghost use Rattle.geolint_files.specs.Texts.{cause_number};
 
 use crate::line::{put, put_all};
 use gj_coords::{Kind, Rule, Warnings};
@@ -91,9 +91,9 @@ impl Code {
         ensures { result.now ≡ code_text self }
     {
         match self {
-            Code::Rule(rule) => rule_text(rule),
-            Code::Kind(kind) => kind_text(kind),
-            Code::Cause(cause) => cause_text(cause),
+            Code::Rule(rule) => rule.text().as_bytes(),
+            Code::Kind(kind) => kind.text().as_bytes(),
+            Code::Cause(cause) => cause.text().as_bytes(),
             Code::NotValid => b"not valid",
         }
     }
@@ -126,61 +126,6 @@ fn cause_number(cause: Cause) -> u8
         Cause::Truncated => 2,
         Cause::Depth => 3,
         Cause::Length => 4,
-    }
-}
-
-fn cause_text(cause: Cause) -> &'static [u8]
-    ensures { result.now ≡ cause_text cause }
-{
-    match cause {
-        Cause::Syntax => b"syntax",
-        Cause::Truncated => b"truncated",
-        Cause::Depth => b"too deep",
-        Cause::Length => b"too long",
-    }
-}
-
-fn kind_text(kind: Kind) -> &'static [u8]
-    ensures { result.now ≡ kind_text kind }
-{
-    match kind {
-        Kind::W1 => b"byte order mark",
-        Kind::W2 => b"ring runs the wrong way",
-        Kind::W3 => b"more than three numbers in a position",
-        Kind::W4 => b"more than seven decimal places",
-        Kind::W5 => b"position out of range",
-        Kind::W6 => b"empty coordinates",
-        Kind::W7 => b"collection in a collection",
-        Kind::W8 => b"bbox south above north",
-        Kind::W9 => b"crs is no longer used",
-    }
-}
-
-fn rule_text(rule: Rule) -> &'static [u8]
-    ensures { result.now ≡ rule_text rule }
-{
-    match rule {
-        Rule::G1 => b"not an object",
-        Rule::G2 => b"type missing",
-        Rule::G3 => b"type not allowed here",
-        Rule::G4 => b"coordinates missing",
-        Rule::G5 => b"geometries missing",
-        Rule::G6 => b"geometry missing",
-        Rule::G7 => b"properties missing",
-        Rule::G8 => b"features missing",
-        Rule::G9 => b"member forbidden by section 7.1",
-        Rule::G10 => b"name repeated",
-        Rule::G11 => b"coordinates of the wrong shape",
-        Rule::G12 => b"position of fewer than two elements",
-        Rule::G13 => b"line of fewer than two elements",
-        Rule::G14 => b"ring of fewer than four elements",
-        Rule::G15 => b"ring not closed",
-        Rule::G16 => b"number beyond the profile",
-        Rule::G17 => b"not an array",
-        Rule::G18 => b"properties neither object nor null",
-        Rule::G19 => b"id neither string nor number",
-        Rule::G20 => b"bbox or its element of the wrong kind",
-        Rule::G21 => b"bbox length odd or below 4",
     }
 }
 
