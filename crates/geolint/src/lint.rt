@@ -5,12 +5,9 @@ ghost use Rattle.geolint.specs.Counts.{CountsFailure};
 ghost use Rattle.geolint.specs.Judged.{JudgesRead};
 
 use crate::fault::ReadFault;
-use crate::source::Source;
+use crate::source::{PIECE, Source};
 use gj_json::Limits;
 use gj_rules::{Linter, Progress, Verdict};
-
-/// The most bytes of a read.
-const PIECE: usize = 8192;
 
 /// Reads an input until it ends or is refused, and answers its verdict.
 ///

@@ -4,11 +4,8 @@ ghost use Rattle.geolint.specs.Counts.{CountsFailure};
 ghost use Rattle.geolint.specs.Located.{Locates};
 
 use crate::fault::ReadFault;
-use crate::source::Source;
+use crate::source::{PIECE, Source};
 use gj_json::{Limits, Locator, Path};
-
-/// The most bytes of a read.
-const PIECE: usize = 8192;
 
 /// How many bytes of the next piece are wanted, where so many lie before the place: those up to it, and the one there.
 fn wanted(count: usize, before: u64) -> usize

@@ -12,13 +12,10 @@ use crate::options::{Options, Outcome};
 use crate::report::{write_not_valid, write_report};
 use crate::run::outcome_of;
 use crate::sink::Sink;
-use crate::source::Source;
+use crate::source::{PIECE, Source};
 use gj_coords::Warnings;
 use gj_json::Limits;
 use gj_rules::{Linter, Progress, Verdict, one_verdict};
-
-/// The most bytes of a read.
-const PIECE: usize = 8192;
 
 /// Reads an input until it ends or cannot be valid any more, and answers its warnings where it is valid.
 ///

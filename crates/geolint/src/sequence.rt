@@ -11,12 +11,9 @@ use crate::options::{Options, Outcome};
 use crate::report::write_seq_report;
 use crate::run::outcome_of;
 use crate::sink::Sink;
-use crate::source::Source;
+use crate::source::{PIECE, Source};
 use gj_json::Limits;
 use gj_rules::{SeqProgress, SeqVerdict, Sequence, Verdict, one_sequence_verdict};
-
-/// The most bytes of a read.
-const PIECE: usize = 8192;
 
 /// Reads a sequence until it ends or a byte decides that a record is not valid, and answers its verdict.
 ///

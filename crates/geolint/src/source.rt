@@ -6,6 +6,9 @@ ghost use Rattle.geolint.specs.Counts.{one_more, CountsFailure, CountsBytes};
 use crate::failed::Failed;
 use std::io::Read;
 
+/// The most bytes of a read.
+pub const PIECE: usize = 8192;
+
 /// What bytes are read from, piece by piece.
 ///
 /// It counts its reads, those that failed and the bytes that it gave, each as a `u64` that stays at `u64::MAX` once
