@@ -4,17 +4,6 @@ use crate::constant::Constant;
 use crate::levels::Level;
 use crate::names::{Known, Word};
 
-/// What a byte does to a number under way.
-#[derive(Clone, Copy, PartialEq, Eq)]
-pub enum NumberTurn {
-    /// It goes on with the byte.
-    Goes,
-    /// It has ended before the byte.
-    Ends,
-    /// It may neither go on so nor end.
-    Refuses,
-}
-
 /// What the second byte of a character in UTF-8 may be, which the first byte tells (RFC 3629, section 4).
 #[derive(Clone, Copy, PartialEq, Eq)]
 pub enum Bounds {

@@ -11,7 +11,7 @@ ghost use Rattle.gj_json.specs.Internal.ReaderStep.{opened};
 ghost use Rattle.gj_json.specs.declared.mode.Ending.TheVariants.{Nothing};
 ghost use Rattle.gj_json.specs.declared.mode.Mode.TheVariants.{MarkOne};
 ghost use Rattle.gj_json.specs.declared.mode.Move.TheVariants.{Go, Refuse};
-ghost use Rattle.gj_json.specs.declared.mode.NumberTurn.TheVariants.{Ends};
+ghost use Rattle.gj_json.specs.Internal.ToldEvents.{Ends};
 
 use crate::class::{Class, classify};
 use crate::constant::Constant;

@@ -8,10 +8,9 @@ use Rattle.gj_json.specs.declared.constant.Constant.{Constant}
 use Rattle.gj_json.specs.declared.constant.Constant.TheVariants.{Null, True, False}
 use Rattle.gj_number.specs.Exact.{Exact}
 use Rattle.gj_number.specs.Value.{value_of}
-use Rattle.gj_json.specs.declared.mode.NumberTurn.{NumberTurn}
 use Rattle.gj_json.specs.Names.{Words, words_of}
 use Rattle.gj_number.specs.DecidedNumbers.{is_number, begins_number}
-use Rattle.gj_json.specs.Internal.UnderWay.{turn_of, under_leaf, under_of, Turns, HasValue, HasWords}
+use Rattle.gj_json.specs.Internal.UnderWay.{under_leaf, under_of, Turns, HasValue, HasWords}
 use Rattle.gj_json.specs.declared.mode.StringState.{StringState}
 use Rattle.gj_json.specs.declared.levels.Level.{Level}
 use Rattle.gj_json.specs.declared.mode.Mode.{Mode}
@@ -31,7 +30,7 @@ use Rattle.gj_json.specs.declared.event.What.{What}
 use Rattle.gj_json.specs.Internal.ReaderState.{levels_of, levels_with, LeafAs, StandsAs}
 use Rattle.gj_json.specs.Events.{Timed, timed, events, mark_events, what_of}
 use Rattle.std.specs.Option.{option_to_list}
-use Rattle.gj_json.specs.Internal.ToldEvents.{event_at, move_event, number_events, emitted, start_after}
+use Rattle.gj_json.specs.Internal.ToldEvents.{event_at, move_event, number_events, emitted, start_after, NumberTurn, turn_of}
 use Rattle.gj_json.specs.Internal.OpenLevels.{inner_of}
 use Rattle.gj_json.proofs.Events.EventTimes.{told, in_time-append, in_time_on}
 use Rattle.gj_json.specs.Internal.SeenEvents.{InTime, stack_timed, leaf_timed, partial_timed, seen, done_elements, done_members, ConstantAt, BegunAs, EdgeAt, IsTimely}

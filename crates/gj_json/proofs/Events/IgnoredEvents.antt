@@ -12,14 +12,13 @@ use Rattle.gj_json.specs.declared.levels.Level.TheVariants.{Array, Object}
 use Rattle.gj_json.specs.declared.mode.Mode.{Mode}
 use Rattle.gj_json.specs.declared.mode.Ending.{Ending}
 use Rattle.gj_json.specs.declared.mode.Mode.TheVariants.{NumberOn}
-use Rattle.gj_json.specs.declared.mode.NumberTurn.{NumberTurn}
 use Rattle.gj_json.specs.declared.mode.Move.{Move}
 use Rattle.gj_json.specs.declared.mode.Move.TheVariants.{Refuse, Go, Open, Close}
 use Rattle.gj_json.specs.declared.reader.Reader.{Reader}
 use Rattle.gj_json.specs.Internal.FedReader.{Feeds, FeedsAll, FeedsTo, FeedsWithin, FeedsWithinTo, above}
 use Rattle.gj_json.specs.Internal.OpenLevels.{levels_in, outer_of}
 use Rattle.gj_json.specs.Internal.ReaderStep.{Applied, Takes, told_on, told_by, move_by}
-use Rattle.gj_json.specs.Internal.ToldEvents.{ending_event, number_events, emitted}
+use Rattle.gj_json.specs.Internal.ToldEvents.{ending_event, number_events, emitted, NumberTurn}
 use Rattle.gj_json.specs.Ignored.{levels_behind, Leaves}
 
 pub leaves_more : (k m n : ℕ) (first next : List Event) → Leaves k first m → Leaves m next n → Leaves k (first ++ next) n

@@ -5,7 +5,7 @@ use Rattle.gj_json.specs.declared.mode.Ending.TheVariants.{Nothing}
 use Rattle.gj_json.specs.declared.mode.Mode.{Mode}
 use Rattle.gj_json.specs.declared.mode.Move.{Move}
 use Rattle.gj_json.specs.declared.mode.Move.TheVariants.{Go}
-use Rattle.gj_json.specs.declared.mode.NumberTurn.{NumberTurn}
+use Rattle.gj_json.specs.Internal.ToldEvents.{NumberTurn}
 use Rattle.gj_json.specs.declared.path.PathStep.{PathStep}
 use Rattle.gj_json.specs.Limits.{Allowed}
 use Rattle.gj_json.specs.Internal.OpenLevels.{inner_of}

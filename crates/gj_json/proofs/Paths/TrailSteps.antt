@@ -8,7 +8,7 @@ use Rattle.gj_json.specs.declared.mode.Ending.{Ending}
 use Rattle.gj_json.specs.declared.mode.Mode.{Mode}
 use Rattle.gj_json.specs.declared.mode.Mode.TheVariants.{MarkOne, MarkTwo, ValueDue, ValueDone, ConstantOn}
 use Rattle.gj_json.specs.declared.mode.Move.TheVariants.{Refuse, Go}
-use Rattle.gj_json.specs.declared.mode.NumberTurn.{NumberTurn}
+use Rattle.gj_json.specs.Internal.ToldEvents.{NumberTurn, turn_of}
 use Rattle.gj_json.specs.declared.levels.Level.{Level}
 use Rattle.gj_json.specs.declared.path.PathStep.{PathStep}
 use Rattle.gj_json.specs.declared.path.PathStep.TheVariants.{Index}
@@ -21,7 +21,7 @@ use Rattle.gj_json.specs.Tree.{Tree, constant, number}
 use Rattle.gj_json.specs.Internal.TextMachine.{Broken, text_due, mark_one, mark_two, begun, with_mark, step, Frame, in_array, in_object, Member, Leaf, Partial, value_due, value_done, array_opened, object_opened, constant_on, number_on, string_on, name_due, name_on, colon_due, to, step_leaf, begin_value, after_value, step_value_due, step_array_opened, step_object_opened, step_name_due, step_colon_due, step_constant, step_number, step_string, step_name, string_next, StringStep, string_ends, string_goes, string_refuses}
 use Rattle.gj_json.specs.Internal.ReaderState.{levels_of, levels_with, LeafAs, StandsAs}
 use Rattle.gj_number.specs.DecidedNumbers.{is_number, begins_number}
-use Rattle.gj_json.specs.Internal.UnderWay.{turn_of, under_leaf, under_of, Turns, HasWords}
+use Rattle.gj_json.specs.Internal.UnderWay.{under_leaf, under_of, Turns, HasWords}
 use Rattle.gj_json.specs.Internal.PathTrail.{outer_steps, with_inner, advanced, followed, Inside, LeafTrail, stack_steps, stack_count, TrailAt}
 
 -- the state behind a byte has these steps, where n bytes were taken before it

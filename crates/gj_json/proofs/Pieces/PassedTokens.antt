@@ -16,7 +16,6 @@ use Rattle.gj_json.specs.declared.mode.Mode.TheVariants.{ValueDone, ValueDue, Ar
 use Rattle.gj_json.specs.declared.mode.Ending.{Ending}
 use Rattle.gj_json.specs.declared.mode.Move.TheVariants.{Go, Close}
 use Rattle.gj_json.proofs.Readers.StepsAlike.{no_number}
-use Rattle.gj_json.specs.declared.mode.NumberTurn.{NumberTurn}
 use Rattle.gj_json.specs.declared.mode.StringState.{StringState}
 use Rattle.gj_json.specs.declared.mode.StringState.TheVariants.{Plain as plain}
 use Rattle.gj_json.specs.declared.reader.Reader.{Reader}
@@ -37,7 +36,7 @@ use Rattle.gj_json.specs.Internal.SeenEvents.{seen, partial_timed, stack_timed, 
 use Rattle.gj_json.specs.Internal.ReaderState.{StandsWell, StandsAs, FitsLeaf, FitsName, FitsBroken, levels_of}
 use Rattle.gj_json.specs.Internal.WholeTokens.{bracket_of, names, may_begin, IsString, Lands}
 use Rattle.gj_json.specs.Tree.{Tree, constant, string, depth}
-use Rattle.gj_json.specs.Internal.ToldEvents.{ending_event, event_at, opening_of, closing_of, is_on, in_number, text_state}
+use Rattle.gj_json.specs.Internal.ToldEvents.{ending_event, event_at, opening_of, closing_of, is_on, in_number, text_state, NumberTurn}
 use Rattle.gj_json.specs.Internal.UnderWay.{nothing, under_leaf, under_of}
 use Rattle.gj_json.proofs.Grammar.CharacterPrefixes.{StringTo}
 use Rattle.gj_json.proofs.Grammar.ClassOfBytes.{class_is}

@@ -24,12 +24,11 @@ use Rattle.gj_json.specs.Names.{Words}
 use Rattle.gj_json.specs.Internal.FedReader.{GoesOn}
 use Rattle.gj_json.proofs.Grammar.OneCharacter.{OneCharacter, one_character}
 use Rattle.gj_json.specs.declared.mode.Move.TheVariants.{Go}
-use Rattle.gj_json.specs.declared.mode.NumberTurn.{NumberTurn}
 use Rattle.gj_json.specs.Internal.UnderWay.{Under, nothing, number, text, under_of, ComesFrom, Keeps, Turns}
 use Rattle.gj_json.proofs.Machine.BytesUnderWay.{has_number, state_under, CameTo, step_came, mode_under, mode_state}
 use Rattle.gj_json.proofs.Readers.NumberUnderWay.{own_turn, own_turns, own_value, own_has, own_words, own_has_words, came_number, came_text}
 use Rattle.gj_json.proofs.Grammar.NumberPrefixes.{goes_on}
-use Rattle.gj_json.specs.Internal.ToldEvents.{ending_event, number_events, emitted, in_number, is_on, start_after, text_state}
+use Rattle.gj_json.specs.Internal.ToldEvents.{ending_event, number_events, emitted, in_number, is_on, start_after, text_state, NumberTurn}
 use Rattle.gj_json.proofs.Machine.Completions.{Goes}
 use Rattle.gj_json.proofs.Readers.Simulation.{moves}
 use Rattle.gj_json.proofs.Events.EventsOfSteps.{Tells}

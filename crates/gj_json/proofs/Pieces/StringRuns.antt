@@ -19,7 +19,6 @@ use Rattle.gj_json.specs.declared.mode.Move.{Move}
 use Rattle.gj_json.specs.declared.mode.Move.TheVariants.{Refuse, Go}
 use Rattle.gj_json.specs.declared.mode.Ending.TheVariants.{Nothing}
 use Rattle.gj_json.specs.Names.{words_of}
-use Rattle.gj_json.specs.declared.mode.NumberTurn.{NumberTurn}
 use Rattle.gj_json.specs.declared.mode.StringState.{StringState}
 use Rattle.gj_json.specs.declared.mode.StringState.TheVariants.{Plain, Escape, HexDue, HexOne, HexTwo, HexThree, InCharacter}
 use Rattle.gj_json.specs.declared.reader.Reader.{Reader}
@@ -36,8 +35,8 @@ use Rattle.gj_json.specs.Reader.{StandsFor, Completed}
 use Rattle.gj_json.specs.Runs.{character_byte}
 use Rattle.gj_json.specs.Internal.ReaderState.{StandsAs, FitsBroken}
 use Rattle.gj_json.specs.Text.{IsViable}
-use Rattle.gj_json.specs.Internal.ToldEvents.{in_number}
-use Rattle.gj_json.specs.Internal.UnderWay.{Under, under_of, nothing, number, text, turn_of}
+use Rattle.gj_json.specs.Internal.ToldEvents.{in_number, NumberTurn, turn_of}
+use Rattle.gj_json.specs.Internal.UnderWay.{Under, under_of, nothing, number, text}
 use Rattle.gj_json.proofs.Readers.StepsAlike.{Alike}
 use Rattle.gj_json.proofs.Machine.BytesUnderWay.{mode_under, has_number}
 use Rattle.gj_json.proofs.Machine.Completions.{Goes}

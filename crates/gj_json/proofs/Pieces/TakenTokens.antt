@@ -18,7 +18,6 @@ use Rattle.gj_json.specs.declared.mode.Ending.{Ending}
 use Rattle.gj_json.specs.declared.mode.Move.{Move}
 use Rattle.gj_json.specs.declared.mode.Move.TheVariants.{Refuse, Go, Open, Close}
 use Rattle.gj_json.proofs.Readers.StepsAlike.{no_number}
-use Rattle.gj_json.specs.declared.mode.NumberTurn.{NumberTurn}
 use Rattle.gj_json.specs.declared.mode.StringState.{StringState}
 use Rattle.gj_json.specs.declared.mode.StringState.TheVariants.{Plain}
 use Rattle.gj_json.specs.declared.reader.Reader.{Reader}
@@ -41,7 +40,7 @@ use Rattle.gj_json.specs.Reader.{Completed}
 use Rattle.gj_json.specs.Internal.SeenEvents.{seen, InTime, BegunAs, EdgeAt, partial_timed, stack_timed, done_members}
 use Rattle.gj_json.specs.Internal.ReaderState.{StandsWell, StandsAs, LeafAs, FitsName, FitsBroken, levels_of}
 use Rattle.gj_json.specs.Internal.ReaderStep.{opened}
-use Rattle.gj_json.specs.Internal.ToldEvents.{ending_event, emitted, event_at, opening_of, closing_of, is_on, in_number, text_state, start_after}
+use Rattle.gj_json.specs.Internal.ToldEvents.{ending_event, emitted, event_at, opening_of, closing_of, is_on, in_number, text_state, start_after, NumberTurn}
 use Rattle.gj_json.specs.Internal.WholeTokens.{IsQuoted, Lands, names, may_begin, bracket_of}
 use Rattle.gj_json.specs.Internal.UnderWay.{Turns, HasValue, under_of, number}
 use Rattle.gj_number.specs.Exact.{Exact}

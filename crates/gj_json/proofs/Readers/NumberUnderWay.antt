@@ -4,15 +4,13 @@ use Rattle.gj_number.specs.Exact.{Exact}
 use Rattle.gj_number.specs.Grammar.{IsNumber}
 use Rattle.gj_number.specs.Value.{value_of}
 use Rattle.gj_number.specs.declared.literal.Literal.{Literal}
-use Rattle.gj_json.specs.declared.mode.NumberTurn.{NumberTurn}
-use Rattle.gj_json.specs.declared.mode.NumberTurn.TheVariants.{Goes, Ends, Refuses}
 use Rattle.gj_json.specs.declared.mode.StringState.{StringState}
 use Rattle.gj_json.specs.Internal.TextMachine.{string_next, string_goes}
 use Rattle.gj_json.specs.declared.reader.Reader.{Reader}
 use Rattle.gj_number.specs.DecidedNumbers.{is_number, begins_number}
 use Rattle.gj_number.proofs.Grammar.DecidedNumbers.{number as decided_number, begins}
-use Rattle.gj_json.specs.Internal.ToldEvents.{in_number, text_state}
-use Rattle.gj_json.specs.Internal.UnderWay.{Under, nothing, number, text, ComesFrom, Keeps, turn_of, Turns, HasValue, HasWords, TurnSays, LiteralSays, LiteralGoes, ContentGoes}
+use Rattle.gj_json.specs.Internal.ToldEvents.{in_number, text_state, NumberTurn, turn_of, Goes, Ends, Refuses}
+use Rattle.gj_json.specs.Internal.UnderWay.{Under, nothing, number, text, ComesFrom, Keeps, Turns, HasValue, HasWords, TurnSays, LiteralSays, LiteralGoes, ContentGoes}
 use Rattle.gj_json.specs.declared.content.Content.{Content}
 use Rattle.gj_json.specs.Internal.KeptContent.{words_in}
 use Rattle.gj_json.specs.Names.{Words, words_of}

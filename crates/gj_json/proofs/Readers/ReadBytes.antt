@@ -25,13 +25,12 @@ use Rattle.gj_json.specs.Internal.SeenEvents.{seen}
 use Rattle.gj_json.specs.Internal.ReaderState.{StandsWell, StandsOpen, StandsRefused, StandsAs, FitsBroken}
 use Rattle.gj_json.specs.Internal.ReaderStep.{RefusesWith, PassesTo, Applied, opened, move_by, told_by, Takes}
 use Rattle.gj_number.specs.Exact.{Exact}
-use Rattle.gj_json.specs.declared.mode.NumberTurn.{NumberTurn}
 use Rattle.gj_json.specs.Internal.UnderWay.{under_of, Keeps, Turns, HasValue, HasWords, LiteralSays, LiteralGoes, ContentGoes}
 use Rattle.gj_json.specs.Internal.KeptContent.{words_in}
 use Rattle.gj_json.specs.Names.{Words}
 use Rattle.gj_json.proofs.Machine.BytesUnderWay.{CameTo, step_came, mode_under, mode_state}
 use Rattle.gj_json.proofs.Readers.NumberUnderWay.{turns_by, keeps_on, words_by}
-use Rattle.gj_json.specs.Internal.ToldEvents.{emitted, start_after}
+use Rattle.gj_json.specs.Internal.ToldEvents.{emitted, start_after, NumberTurn}
 use Rattle.gj_json.proofs.Machine.Completions.{Goes, TextFrom}
 use Rattle.gj_json.proofs.Machine.MachineTexts.{text_goes_on}
 use Rattle.gj_json.proofs.Machine.StepsOfCompletions.{forward}

@@ -22,9 +22,9 @@ use Rattle.gj_json.specs.Internal.TextMachine.{Frame, in_array, in_object, Membe
 use Rattle.gj_json.specs.Internal.Transitions.{string_move, begin_move, due_move, array_move, name_move, object_move, name_due_move, colon_move, after_move, constant_move, number_move, value_string_move, name_string_move, move_of}
 use Rattle.gj_json.specs.Internal.ReaderState.{levels_of, levels_with, LeafAs, PartialAs, StandsAs, Fits, FitsName, FitsLeaf, FitsBroken}
 use Rattle.gj_json.specs.Internal.ReaderStep.{opened}
-use Rattle.gj_json.specs.declared.mode.NumberTurn.{NumberTurn}
+use Rattle.gj_json.specs.Internal.ToldEvents.{NumberTurn, turn_of}
 use Rattle.gj_number.specs.DecidedNumbers.{is_number, begins_number}
-use Rattle.gj_json.specs.Internal.UnderWay.{turn_of, under_leaf, under_of, Turns}
+use Rattle.gj_json.specs.Internal.UnderWay.{under_leaf, under_of, Turns}
 use Rattle.gj_json.proofs.Machine.Completions.{Goes}
 use Rattle.gj_json.proofs.Grammar.OneCharacter.{OneCharacter, one_character}
 use Rattle.gj_json.proofs.Machine.CompletableStates.{elements_joined, members_joined, levels_fit}

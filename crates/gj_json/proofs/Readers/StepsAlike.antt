@@ -10,8 +10,6 @@ use Rattle.gj_json.specs.declared.mode.Mode.{Mode}
 use Rattle.gj_json.specs.declared.mode.Mode.TheVariants.{NumberOn, ValueDone}
 use Rattle.gj_json.specs.declared.mode.Move.{Move}
 use Rattle.gj_json.specs.declared.mode.Move.TheVariants.{Refuse, Go, Open, Close}
-use Rattle.gj_json.specs.declared.mode.NumberTurn.{NumberTurn}
-use Rattle.gj_json.specs.declared.mode.NumberTurn.TheVariants.{Goes, Ends, Refuses}
 use Rattle.gj_json.specs.declared.mode.StringMove.TheVariants.{Reads}
 use Rattle.gj_json.specs.declared.mode.StringState.{StringState}
 use Rattle.gj_json.specs.declared.mode.StringState.TheVariants.{Plain}
@@ -26,7 +24,7 @@ use Rattle.gj_json.specs.Internal.ReaderStep.{Passes, IsRefusedWith, RefusesWith
 use Rattle.gj_json.specs.declared.event.Event.{Event}
 use Rattle.gj_number.specs.Grammar.{BeginsNumber}
 use Rattle.gj_number.specs.Literal.{StandsFor as LiteralStandsFor}
-use Rattle.gj_json.specs.Internal.ToldEvents.{event_at, move_event, number_events, in_number, text_state}
+use Rattle.gj_json.specs.Internal.ToldEvents.{event_at, move_event, number_events, in_number, text_state, NumberTurn, Goes, Ends, Refuses}
 use Rattle.std.specs.Option.{option_to_list}
 use Rattle.gj_json.specs.declared.event.What.{What}
 use Rattle.gj_json.specs.declared.mode.Ending.TheVariants.{Nothing}

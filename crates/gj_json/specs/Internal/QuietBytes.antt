@@ -4,7 +4,6 @@ use Rattle.gj_json.specs.Bytes.{space, tab, line_feed, carriage_return, quote, b
 use Rattle.gj_json.specs.declared.levels.Level.{Level}
 use Rattle.gj_json.specs.declared.mode.Mode.{Mode}
 use Rattle.gj_json.specs.declared.mode.Mode.TheVariants.{ValueDue, ValueDone, ArrayOpened, ObjectOpened, StringOn, NameDue, NameOn, ColonDue}
-use Rattle.gj_json.specs.declared.mode.NumberTurn.{NumberTurn}
 use Rattle.gj_json.specs.declared.mode.Ending.TheVariants.{Nothing}
 use Rattle.gj_json.specs.declared.mode.Move.TheVariants.{Go}
 use Rattle.gj_json.specs.declared.mode.StringState.{StringState}
@@ -12,7 +11,7 @@ use Rattle.gj_json.specs.declared.mode.StringState.TheVariants.{Plain}
 use Rattle.gj_json.specs.Internal.TextMachine.{string_next, string_ends, string_goes, string_refuses}
 use Rattle.gj_json.specs.Internal.Transitions.{move_of}
 use Rattle.gj_json.specs.Names.{Words}
-use Rattle.gj_json.specs.Internal.ToldEvents.{is_on}
+use Rattle.gj_json.specs.Internal.ToldEvents.{is_on, NumberTurn}
 
 -- the byte leads from one mode to another, completes nothing, and what is under way goes on
 pub record LeadsBy (mode : Mode) (b : ℕ) (next : Mode) : Type 0 where

@@ -12,11 +12,10 @@ use Rattle.gj_json.specs.declared.mode.Mode.TheVariants.{ArrayOpened, ObjectOpen
 use Rattle.gj_json.specs.declared.mode.Move.{Move}
 use Rattle.gj_json.specs.declared.mode.Move.TheVariants.{Refuse, Go, Open, Close}
 use Rattle.gj_json.specs.declared.reader.Reader.{Reader}
-use Rattle.gj_json.specs.declared.mode.NumberTurn.{NumberTurn}
 use Rattle.gj_number.specs.Exact.{Exact}
 use Rattle.gj_json.specs.Internal.OpenLevels.{levels_in, inner_of, outer_of}
 use Rattle.gj_json.specs.Internal.Transitions.{move_of}
-use Rattle.gj_json.specs.Internal.ToldEvents.{start_after, move_event, emitted}
+use Rattle.gj_json.specs.Internal.ToldEvents.{start_after, move_event, emitted, NumberTurn}
 use Rattle.gj_json.specs.Internal.KeptContent.{words_in}
 use Rattle.gj_json.specs.Internal.UnderWay.{LiteralSays, LiteralGoes, ContentGoes}
 

@@ -9,12 +9,23 @@ use Rattle.gj_json.specs.declared.mode.Mode.{Mode}
 use Rattle.gj_json.specs.declared.mode.Mode.TheVariants.{ValueDone, ConstantOn, NumberOn, StringOn, NameOn}
 use Rattle.gj_json.specs.declared.mode.Ending.{Ending}
 use Rattle.gj_json.specs.declared.mode.Ending.TheVariants.{Mark, Literal, Text, Name}
-use Rattle.gj_json.specs.declared.mode.NumberTurn.{NumberTurn}
 use Rattle.gj_json.specs.declared.mode.Move.{Move}
 use Rattle.gj_json.specs.declared.mode.Move.TheVariants.{Refuse, Go, Open, Close}
 use Rattle.gj_json.specs.Events.{what_of}
 use Rattle.gj_number.specs.Exact.{Exact}
 use Rattle.gj_json.specs.declared.mode.StringState.{StringState}
+
+-- what a byte does to a number under way, which goes on with it, has ended before it, or may neither go on so nor end
+pub data NumberTurn : Type 0 where
+  Goes : NumberTurn
+  Ends : NumberTurn
+  Refuses : NumberTurn
+
+-- by whether the number goes on so, and whether it may end here
+abbrev pub turn_of : Bool → Bool → NumberTurn
+turn_of true may_end = Goes
+turn_of false true = Ends
+turn_of false false = Refuses
 
 abbrev pub event_at : ℕ → What → Event
 event_at place what = record { place = place; what = what }

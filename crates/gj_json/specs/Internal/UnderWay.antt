@@ -1,15 +1,14 @@
 -- What of a number or a string is under way at the right edge, and what the reader keeps of it.
-use Rattle.std.specs.Prelude.{◌≡◌, ℕ, Bool, true, false, List, [], ◌∷◌, ◌++◌, Option, Some, None}
+use Rattle.std.specs.Prelude.{◌≡◌, ℕ, true, false, List, [], ◌∷◌, ◌++◌, Option, Some, None}
 use Rattle.gj_number.specs.Exact.{Exact}
 use Rattle.gj_number.specs.Grammar.{IsNumber, BeginsNumber}
 use Rattle.gj_number.specs.Value.{value_of}
 use Rattle.gj_number.specs.declared.literal.Literal.{Literal}
 use Rattle.gj_number.specs.Literal.{StandsFor as LiteralStandsFor}
-use Rattle.gj_json.specs.declared.mode.NumberTurn.{NumberTurn}
 use Rattle.gj_json.specs.declared.mode.StringState.{StringState}
 use Rattle.gj_json.specs.declared.mode.StringState.TheVariants.{Plain}
 use Rattle.gj_json.specs.declared.reader.Reader.{Reader}
-use Rattle.gj_json.specs.Internal.ToldEvents.{in_number, text_state}
+use Rattle.gj_json.specs.Internal.ToldEvents.{in_number, text_state, NumberTurn, turn_of}
 use Rattle.gj_json.specs.declared.content.Content.{Content}
 use Rattle.gj_json.specs.Internal.KeptContent.{Holds}
 use Rattle.gj_json.specs.Names.{Words, words_of}
@@ -48,12 +47,6 @@ abbrev pub Keeps : Under → Literal → Content → Type 0
 Keeps nothing literal content = Unit {0}
 Keeps (number so_far) literal content = LiteralStandsFor literal so_far
 Keeps (text so_far state) literal content = Holds content so_far
-
--- what a byte does to a number under way, which goes on so or not, and which may end here or not
-abbrev pub turn_of : Bool → Bool → NumberTurn
-turn_of true may_end = NumberTurn.Goes
-turn_of false true = NumberTurn.Ends
-turn_of false false = NumberTurn.Refuses
 
 -- the byte does this to the number under way
 abbrev pub Turns : Under → ℕ → NumberTurn → Type 0

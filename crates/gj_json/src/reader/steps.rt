@@ -5,11 +5,10 @@ ghost use Rattle.gj_number.specs.Grammar.{BeginsNumber};
 ghost use Rattle.gj_number.specs.Literal.{StandsFor as LiteralStandsFor};
 ghost use Rattle.gj_json.specs.Internal.Transitions.{IsMode, IsMove, IsStringState};
 ghost use Rattle.gj_json.specs.Internal.OpenLevels.{levels_in, outer_of};
-ghost use Rattle.gj_json.specs.Internal.ToldEvents.{event_at, in_number, text_state};
+ghost use Rattle.gj_json.specs.Internal.ToldEvents.{event_at, in_number, text_state, Ends};
 ghost use Rattle.gj_json.specs.declared.event.What.{What};
 ghost use Rattle.gj_json.specs.declared.mode.StringState.TheVariants.{Plain};
 ghost use Rattle.gj_json.specs.declared.mode.Mode.TheVariants.{NumberOn, ValueDone};
-ghost use Rattle.gj_json.specs.declared.mode.NumberTurn.TheVariants.{Ends};
 
 use super::Reader;
 use crate::event::{Event, What};

@@ -2,7 +2,7 @@
 use Rattle.std.proofs.Common.{None, Err, refl, append-nil}
 use Rattle.gj_json.specs.Internal.ReaderStep.{move_by}
 use Rattle.gj_json.proofs.Readers.StepsAlike
-use Rattle.gj_json.specs.declared.mode.NumberTurn.TheVariants.{Goes, Ends, Refuses}
+use Rattle.gj_json.specs.Internal.ToldEvents.{Goes, Ends, Refuses}
 use Rattle.gj_json.proofs.reader.Reader.take_in_number.Goals as goal
 
 pub returns-in-Goes : goal.returns-in-Goes

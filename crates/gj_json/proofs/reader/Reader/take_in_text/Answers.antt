@@ -1,6 +1,6 @@
 -- A byte while a string or a name is under way: a character ends with it, or none does.
 use Rattle.std.proofs.Common.{◌≡◌, ◌∷◌, [], None, refl, sym, ◌∙◌, append-nil, subst}
-use Rattle.gj_json.specs.declared.mode.NumberTurn.TheVariants.{Ends}
+use Rattle.gj_json.specs.Internal.ToldEvents.{Ends}
 use Rattle.gj_json.specs.declared.mode.StringState.{StringState}
 use Rattle.gj_json.specs.declared.mode.StringState.TheVariants.{Plain}
 use Rattle.gj_json.specs.Internal.TextMachine.{string_next, string_goes}
