@@ -16,18 +16,19 @@ use crate::mode::{Mode, StringMove, StringState};
 use crate::strings::next_string;
 
 /// How many bytes at the front of the piece leave the mode as it is, and complete no event.
+#[inline(always)]
 pub fn quiet_run(mode: Mode, piece: &[u8]) -> usize
     ensures within { result ≤ length piece.now }
     ensures quiet { AllByRecursion (IsQuiet mode) (take result piece.now) }
     ensures longest { result ≡ (if awaits_token mode then prefix_len is_white piece.now else 0) }
 {
     match mode {
-        Mode::ValueDue => white_run(piece),
-        Mode::ValueDone => white_run(piece),
-        Mode::ArrayOpened => white_run(piece),
-        Mode::ObjectOpened => white_run(piece),
-        Mode::NameDue => white_run(piece),
-        Mode::ColonDue => white_run(piece),
+        Mode::ValueDue
+        | Mode::ValueDone
+        | Mode::ArrayOpened
+        | Mode::ObjectOpened
+        | Mode::NameDue
+        | Mode::ColonDue => white_run(piece),
         _ => 0,
     }
 }

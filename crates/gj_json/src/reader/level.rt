@@ -288,7 +288,7 @@ impl Reader {
     {
         let byte = piece[0];
         if byte <= b' ' {
-            return self.skip_quiet(piece);
+            return self.skip_white(piece);
         }
         match self.mode {
             Mode::ValueDue | Mode::ArrayOpened => self.pass_element(piece, floor),

@@ -59,6 +59,20 @@ impl Reader {
         }
     }
 
+    /// The same, where white space before a token is most of them.
+    #[inline(always)]
+    pub(super) fn skip_white(&mut self, piece: &[u8]) -> usize
+        requires room { self.old.offset + length piece.now ≤ self.old.limits.bytes }
+        requires small { self.old.limits.bytes ≤ 2 ^ 60 }
+        ensures within { result ≤ length piece.now }
+        ensures skips { Skips self.old self.new (take result piece.now) }
+    {
+        match self.mode {
+            Mode::StringOn(_) | Mode::NameOn(_) | Mode::NumberOn => self.skip_quiet(piece),
+            mode => self.skip(quiet_run(mode, piece), mode),
+        }
+    }
+
     /// The same, told at once where the first byte is none of them.
     #[inline(always)]
     pub(super) fn skip_front(&mut self, piece: &[u8]) -> usize

@@ -442,7 +442,7 @@ impl Reader {
         ensures feeds { FeedsAll (S.heard sink.old) (S.heard sink.new) self.old self.new (take result piece.now) }
     {
         if piece.len() > 1 {
-            return self.skip_quiet(piece);
+            return self.skip_white(piece);
         }
         match self.mode {
             Mode::ValueDone => self.take_end(piece, sink),

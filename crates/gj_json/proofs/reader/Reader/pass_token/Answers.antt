@@ -5,7 +5,7 @@ use Rattle.gj_json.proofs.reader.Reader.pass_token.Goals as goal
 
 pub returns-then-byte-le32-clause-feeds : goal.returns-then-byte-le32-clause-feeds
 returns-then-byte-le32-clause-feeds c =
-    let s = c.skip_quiet in
+    let s = c.skip_white in
     level_within c.args.floor c.args.self.now s.new.self (take s.result c.args.piece.now) c.requires.above (skips_passed c.args.self.now s.new.self c.args.piece.now s.result c.requires.live s.ensures.within c.requires.room s.ensures.skips)
 
 pub returns-then-byte-eq58-clause-feeds : goal.returns-then-byte-eq58-clause-feeds
