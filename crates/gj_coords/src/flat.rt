@@ -5,7 +5,7 @@ ghost use Rattle.gj_coords.specs.CoordinateWarnings.{is_precise};
 ghost use Rattle.gj_coords.specs.Internal.PositionGather.{position_noted, sound_noted};
 ghost use Rattle.gj_coords.specs.Winding.{corner_of};
 ghost use Rattle.gj_coords.specs.Internal.KeptWarnings.{nothing_noted};
-ghost use Rattle.gj_coords.specs.Internal.FlatPosition.{flat_values, flat_position, flat_precise, third_value, third_precise, number_precise, flat_count, least_place, flat_misshapen, flat_ring, IsPlain};
+ghost use Rattle.gj_coords.specs.Internal.FlatPosition.{flat_values, flat_position, flat_precise, pair_noted, precise_noted, third_value, third_precise, number_precise, flat_count, least_place, flat_misshapen, flat_ring, IsPlain};
 
 use crate::fault::{Fault, Rule};
 use crate::noted::Noted;
@@ -69,7 +69,16 @@ fn is_too_precise(number: Short) -> bool
     number.is_precise()
 }
 
-/// Whether at most seven places are written, so that it is not too precise.
+/// Whether of both at most seven places are written, so that neither is too precise.
+#[inline(always)]
+fn is_pair_short(first: Short, second: Short) -> bool
+    ensures first { result ≡ true → is_precise (Some (exact_of first)) ≡ false }
+    ensures second { result ≡ true → is_precise (Some (exact_of second)) ≡ false }
+{
+    (first.places | second.places) <= MOST_PLACES
+}
+
+/// The same of one.
 #[inline(always)]
 fn is_written_short(number: Short) -> bool
     ensures { result ≡ true → is_precise (Some (exact_of number)) ≡ false }
@@ -93,9 +102,7 @@ fn is_third_short(third: &Option<Numbered>) -> bool
 fn is_all_short(flat: &Flat) -> bool
     ensures { result ≡ true → flat_precise flat.now ≡ nothing_noted }
 {
-    is_written_short(flat.first.value)
-        && is_written_short(flat.second.value)
-        && is_third_short(&flat.third)
+    is_pair_short(flat.first.value, flat.second.value) && is_third_short(&flat.third)
 }
 
 /// With this number, if it is too precise.
@@ -107,6 +114,26 @@ fn precise_with(noted: Noted, number: &Numbered) -> Noted
         noted.join(Noted::one(number.place))
     } else {
         noted
+    }
+}
+
+/// Whether it has two numbers, of which both are written so long that they are too precise.
+#[inline(always)]
+fn is_pair_long(flat: &Flat) -> bool
+    ensures { result ≡ true → flat_precise flat.now ≡ pair_noted flat.now }
+{
+    flat.third.is_none()
+        && (is_written_long(flat.first.value) && is_written_long(flat.second.value))
+}
+
+/// What is noted of two numbers that are too precise.
+#[inline(always)]
+fn pair_noted(flat: &Flat) -> Noted
+    ensures { result ≡ pair_noted flat.now }
+{
+    Noted {
+        count: 2,
+        first: flat.first.place.min(flat.second.place),
     }
 }
 
@@ -186,8 +213,18 @@ pub fn warn(flat: &Flat, corner: &Option<Corner>, warned: &mut Warned)
 {
     if corner.is_none() {
         warn_beyond(flat, corner, warned);
-        return;
+    } else if is_pair_long(flat) {
+        warned.note_precise(pair_noted(flat));
+    } else {
+        warn_precise(flat, warned);
     }
+}
+
+/// The same where it is in range, number by number.
+#[inline(never)]
+fn warn_precise(flat: &Flat, warned: &mut Warned)
+    ensures { warned.new ≡ precise_noted warned.old (flat_precise flat.now) }
+{
     let precise = precise(flat);
     if !precise.is_nothing() {
         warned.note_precise(precise);

@@ -1,11 +1,18 @@
 //! How a linear ring runs (RFC 7946, section 3.1.6).
 
-ghost use Rattle.std.specs.Prelude.{◌≡◌, ◌+ℤ◌, ◌*ℤ◌, Some};
+ghost use Rattle.std.specs.Prelude.{◌≡◌, ◌*◌, ◌^◌, ◌≤◌, pos, ◌+ℤ◌, ◌*ℤ◌, Some};
+ghost use Rattle.gj_number.specs.Exact.{cut_places};
 ghost use Rattle.std.specs.Int.{int_wrap, w128};
 ghost use Rattle.gj_number.specs.Short.{exact_of};
 ghost use Rattle.gj_coords.specs.Winding.{bounded, bounded_cut, cut_value, both, sign_of};
 
 use gj_number::{Decimal, Short};
+
+/// The most degrees of a longitude.
+const LONGITUDE_DEGREES: u8 = 180;
+
+/// The most degrees of a latitude.
+const LATITUDE_DEGREES: u8 = 90;
 
 /// 180 degrees as a cut number.
 const MOST_LONGITUDE: i32 = 1_800_000_000;
@@ -64,8 +71,8 @@ impl Corner {
         ensures { result ≡ corner_of (Some (exact_of longitude)) (Some (exact_of latitude)) }
     {
         join(
-            cut_within(longitude, MOST_LONGITUDE),
-            cut_within(latitude, MOST_LATITUDE),
+            cut_within(longitude, LONGITUDE_DEGREES),
+            cut_within(latitude, LATITUDE_DEGREES),
         )
     }
 
@@ -78,15 +85,13 @@ impl Corner {
     }
 }
 
-/// The cut number of a number as most are written, where it is at most so far from zero.
+/// The cut number of a number as most are written, where it is at most so many degrees from zero.
 #[inline(always)]
-fn cut_within(number: Short, most: i32) -> Option<i32>
-    ensures { result ≡ bounded_cut most (cut_value (Some (exact_of number))) }
+fn cut_within(number: Short, degrees: u8) -> Option<i32>
+    requires { degrees ≤ 200 }
+    ensures { result ≡ bounded_cut (pos (degrees * 10 ^ cut_places)) (cut_value (Some (exact_of number))) }
 {
-    match number.cut() {
-        Some(cut) => within(cut, most),
-        None => None,
-    }
+    number.cut_within(degrees)
 }
 
 /// The cut number of a number, where it is at most so far from zero.

@@ -1,5 +1,5 @@
 -- A decimal as an exact number, when two are the same number, and what is read off one.
-use Rattle.std.specs.Prelude.{◌≡◌, ◌≢◌, ℕ, suc, ◌*◌, ◌/◌, ◌%◌, ◌^◌, ◌<◌, ◌≤◌, ◌⊎◌, Bool, true, false, ◌==◌, nat_lt, if◌then◌else◌, ℤ, pos, negsuc, ◌+ℤ◌, neg_ℤ, unsigned_abs, Option, Some, None, refl}
+use Rattle.std.specs.Prelude.{◌≡◌, ◌≢◌, ℕ, suc, ◌*◌, ◌/◌, ◌%◌, ◌^◌, ◌<◌, ◌≤◌, ◌⊎◌, Bool, true, false, ◌==◌, ◌&&◌, nat_lt, if◌then◌else◌, ℤ, pos, negsuc, ◌+ℤ◌, neg_ℤ, int_le, unsigned_abs, Option, Some, None, refl}
 use Rattle.std.specs.Bool.{beq}
 use Rattle.std.specs.Ordering.{int_eq, on, eq_of_both}
 use Rattle.std.specs.Coded.{Coded, code_by, coded×, coded_bool, coded_ℕ, coded_ℤ}
@@ -91,3 +91,8 @@ cut_magnitude e =
 -- the value times ten to the `cut_places`, cut toward zero, where that is below the limit
 abbrev pub cut_of : Exact → Option ℤ
 cut_of e = if nat_lt (cut_magnitude e) cut_limit then Some (signed e.negative (cut_magnitude e)) else None
+
+-- a cut number, where there is one and it is at most so far from zero
+abbrev pub cut_within : ℕ → Option ℤ → Option ℤ
+cut_within most (Some cut) = if int_le (neg_ℤ (pos most)) cut && int_le cut (pos most) then Some cut else None
+cut_within most None = None

@@ -1,7 +1,7 @@
 //! Numbers as most are written: at most eighteen digits, and no exponent.
-ghost use Rattle.std.specs.Prelude.{◌≡◌, ◌≢◌, ◌↔◌, ◌*◌, ◌/◌, ◌%◌, ◌^◌, ◌<◌, ◌≤◌, IsTrue, IfSome};
-ghost use Rattle.gj_number.specs.Exact.{SameValue, signed, cut_limit, cut_magnitude, cut_of, cut_places, places_of};
-ghost use Rattle.gj_number.specs.Internal.KeptParts.{limited_cut};
+ghost use Rattle.std.specs.Prelude.{◌≡◌, ◌≢◌, ◌↔◌, ◌-◌, ◌*◌, ◌/◌, ◌%◌, ◌^◌, ◌<◌, ◌≤◌, IsTrue, IfSome};
+ghost use Rattle.gj_number.specs.Exact.{SameValue, signed, cut_limit, cut_magnitude, cut_of, cut_places, cut_within, places_of};
+ghost use Rattle.gj_number.specs.Internal.KeptParts.{limited_cut, limited_to};
 
 pub(crate) mod pair;
 pub(crate) mod prefix;
@@ -116,6 +116,31 @@ impl Short {
         }
     }
 
+    /// The same, where it is at most `most` times 10^7 from zero.
+    #[inline(always)]
+    pub fn cut_within(self, most: u8) -> Option<i32>
+        requires { most ≤ 200 }
+        ensures { result ≡ cut_within (most * 10 ^ cut_places) (cut_of (exact_of self)) }
+    {
+        match self.magnitude_within(most as u64) {
+            Some(magnitude) => Some(small_with_sign(self.negative, magnitude)),
+            None => None,
+        }
+    }
+
+    #[inline(always)]
+    fn magnitude_within(self, most: u64) -> Option<u64>
+        requires { most ≤ 200 }
+        ensures magnitude { result ≡ limited_to (most * 10 ^ 7) (cut_magnitude (exact_of self)) }
+        ensures below { IfSome result (λ magnitude. magnitude < 2 ^ 31) }
+    {
+        if self.places <= CUT_PLACES {
+            raised_within(self.digits, self.places as usize, most)
+        } else {
+            lowered_within(self.digits, self.places - CUT_PLACES, most)
+        }
+    }
+
     /// Whether more than seven digits stand after the point where no zero is written at the end.
     #[inline(always)]
     pub fn is_precise(self) -> bool
@@ -171,6 +196,51 @@ fn raised(digits: u64, up: usize) -> Option<u64>
         return None;
     }
     Some(digits * ten_to(up))
+}
+
+/// The digits of a number with so many places, with seven of them, where the number is at most `most`.
+// That is asked of the digits as they are, so that who asks for nothing else multiplies no more.
+#[inline(always)]
+fn raised_within(digits: u64, places: usize, most: u64) -> Option<u64>
+    requires places { places ≤ 7 }
+    requires most { most ≤ 200 }
+    ensures magnitude { result ≡ limited_to (most * 10 ^ 7) (digits * 10 ^ (7 - places)) }
+    ensures below { IfSome result (λ magnitude. magnitude < 2 ^ 31) }
+{
+    if digits > most * ten_to(places) {
+        return None;
+    }
+    Some(digits * ten_to(7 - places))
+}
+
+/// The digits without the last `down`, where that is at most `most` times 10^7.
+#[inline(always)]
+fn lowered_within(digits: u64, down: u8, most: u64) -> Option<u64>
+    requires digits { digits < 10 ^ 18 }
+    requires some { 0 < down }
+    requires few { down ≤ 11 }
+    requires most { most ≤ 200 }
+    ensures magnitude { result ≡ limited_to (most * 10 ^ 7) (digits / 10 ^ down) }
+    ensures below { IfSome result (λ magnitude. magnitude < 2 ^ 31) }
+{
+    let magnitude = without_last(digits, down);
+    if magnitude > most * 10_000_000 {
+        return None;
+    }
+    Some(magnitude)
+}
+
+/// The magnitude, or minus that.
+#[inline(always)]
+fn small_with_sign(negative: bool, magnitude: u64) -> i32
+    requires { magnitude < 2 ^ 31 }
+    ensures { result ≡ signed negative magnitude }
+{
+    if negative {
+        -(magnitude as i32)
+    } else {
+        magnitude as i32
+    }
 }
 
 /// The digits without the last `down`. Each division is by a constant, which costs a multiplication.

@@ -26,12 +26,13 @@ use Rattle.gj_coords.specs.declared.winding.Turn.TheVariants.{Straight}
 use Rattle.gj_coords.specs.Fault.{fault_at}
 use Rattle.gj_coords.specs.Internal.SentEvents.{event_at}
 use Rattle.gj_coords.specs.Internal.ValueMachine.{run}
-use Rattle.gj_coords.specs.Internal.KeptWarnings.{nothing_noted}
+use Rattle.gj_coords.specs.declared.kind.Kind.TheVariants.{W4}
+use Rattle.gj_coords.specs.Internal.KeptWarnings.{nothing_noted, is_nothing}
 use Rattle.gj_coords.specs.CoordinateWarnings.{is_precise}
 use Rattle.gj_coords.specs.declared.simple.Simple.{Simple}
 use Rattle.gj_coords.specs.declared.simple.Simple.TheVariants.{Point}
 use Rattle.gj_coords.specs.declared.warned.Warned.{Warned}
-use Rattle.gj_coords.specs.Internal.GatheredWarnings.{no_warned}
+use Rattle.gj_coords.specs.Internal.GatheredWarnings.{no_warned, some_noted}
 use Rattle.gj_coords.specs.Internal.PositionGather.{precise_with, corner_in, misshapen_at, sound_noted}
 use Rattle.gj_coords.specs.Internal.LevelGather.{position_machine, third_machine, second_machine, walk_machine, third_gathering, second_gathering, first_gathering}
 
@@ -57,6 +58,14 @@ third_precise (Some number) noted = number_precise number noted
 
 abbrev pub flat_precise : Flat → Noted
 flat_precise f = third_precise f.third (number_precise f.second (number_precise f.first nothing_noted))
+
+-- what is noted of both of two numbers
+abbrev pub pair_noted : Flat → Noted
+pair_noted f = record { count = 2; first = min f.first.place f.second.place }
+
+-- with what is noted of numbers that are too precise
+abbrev pub precise_noted : Warned → Noted → Warned
+precise_noted w precise = some_noted (is_nothing precise) w W4 precise
 
 abbrev pub flat_numbers : Flat → Numbers
 flat_numbers f = record {

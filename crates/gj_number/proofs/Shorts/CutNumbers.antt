@@ -1,10 +1,10 @@
 -- What a cut number is.
-use Rattle.std.proofs.Common.{◌≡◌, ℕ, ◌+◌, ◌-◌, ◌*◌, ◌/◌, ◌^◌, ◌<◌, ◌≤◌, true, false, Some, None, refl, sym, ◌∙◌, ap, arith, ltb}
+use Rattle.std.proofs.Common.{◌≡◌, ℕ, ◌+◌, ◌-◌, ◌*◌, ◌/◌, ◌^◌, ◌<◌, ◌≤◌, true, false, Some, None, refl, sym, ◌∙◌, ap, arith, ltb, nat_le}
 use Rattle.std.proofs.lemmas.Bool.Decides.{nat_tests}
-use Rattle.std.proofs.Math.Nat.{mul-le-mul_right, pow-le-pow_right, div-eq_of_lt}
+use Rattle.std.proofs.Math.Nat.{mul_assoc, mul-le-mul_right, pow-le-pow_right, div-eq_of_lt}
 use Rattle.std.proofs.lemmas.Nat.{pow-add}
 use Rattle.gj_number.specs.Exact.{cut_limit}
-use Rattle.gj_number.specs.Internal.KeptParts.{limited_cut}
+use Rattle.gj_number.specs.Internal.KeptParts.{limited_cut, limited_to}
 use Rattle.gj_number.proofs.Value.NormalForm.{ten_above_zero}
 
 pub limited_below : (magnitude : ℕ) → magnitude < cut_limit → limited_cut magnitude ≡ Some magnitude
@@ -43,3 +43,30 @@ lowered_far digits down small far =
     let l : 10 ^ 30 ≤ 10 ^ down = pow-le-pow_right {n = 10} (omega arith) far in
     let e : digits / 10 ^ down ≡ 0 = div-eq_of_lt (omega arith) in
     rw e refl
+
+-- ---- a limit that it may reach
+
+pub limited_at : (most magnitude : ℕ) → magnitude ≤ most → limited_to most magnitude ≡ Some magnitude
+limited_at most magnitude h = let e : nat_le magnitude most ≡ true = grind (arith, nat_tests) in rw e refl
+
+pub limited_past : (most magnitude : ℕ) → most < magnitude → limited_to most magnitude ≡ None
+limited_past most magnitude h = let e : nat_le magnitude most ≡ false = grind (arith, nat_tests) in rw e refl
+
+seven : (places : ℕ) → places ≤ 7 → 10 ^ places * 10 ^ (7 - places) ≡ 10 ^ 7
+seven places h = let e : places + (7 - places) ≡ 7 = omega arith in sym (pow-add 10 places (7 - places)) ∙ ap (λ n. 10 ^ n) e
+
+-- digits that are at most so many as written are so with seven places
+pub raised_at : (digits places most : ℕ) → places ≤ 7 → digits ≤ most * 10 ^ places → digits * 10 ^ (7 - places) ≤ most * 10 ^ 7
+raised_at digits places most h small =
+    let m = mul-le-mul_right (10 ^ (7 - places)) small in
+    let e : most * 10 ^ places * 10 ^ (7 - places) ≡ most * 10 ^ 7 = mul_assoc most (10 ^ places) (10 ^ (7 - places)) ∙ ap (λ n. most * n) (seven places h) in
+    omega arith
+
+pub raised_past : (digits places most : ℕ) → places ≤ 7 → most * 10 ^ places < digits → most * 10 ^ 7 < digits * 10 ^ (7 - places)
+raised_past digits places most h large =
+    let step : most * 10 ^ places + 1 ≤ digits = omega arith in
+    let m = mul-le-mul_right (10 ^ (7 - places)) step in
+    let e : most * 10 ^ places * 10 ^ (7 - places) ≡ most * 10 ^ 7 = mul_assoc most (10 ^ places) (10 ^ (7 - places)) ∙ ap (λ n. most * n) (seven places h) in
+    let p = ten_above_zero (7 - places) in
+    let d : (most * 10 ^ places + 1) * 10 ^ (7 - places) ≡ most * 10 ^ places * 10 ^ (7 - places) + 10 ^ (7 - places) = omega arith in
+    omega arith

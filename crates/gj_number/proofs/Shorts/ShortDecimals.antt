@@ -1,15 +1,17 @@
 -- The decimal of a short number, and what is read off it.
-use Rattle.std.proofs.Common.{zero, suc, ◌≡◌, ◌≢◌, ℕ, ◌+◌, ◌-◌, ◌*◌, ◌/◌, ◌%◌, ◌^◌, ◌<◌, ◌≤◌, ◌↔◌, Bool, true, false, not, ltb, nat_eq, IsTrue, inl, inr, refl, sym, ◌∙◌, ap, subst, arith, ℤ, pos, negsuc, ◌+ℤ◌, ◌-ℤ◌, unsigned_abs, Some, None}
+use Rattle.std.specs.Prelude.{int_le, neg_ℤ, ◌&&◌, nat_le, option_map}
+use Rattle.std.proofs.Common.{zero, suc, ◌≡◌, ◌≢◌, ℕ, ◌+◌, ◌-◌, ◌*◌, ◌/◌, ◌%◌, ◌^◌, ◌<◌, ◌≤◌, ◌↔◌, Bool, true, false, not, ltb, nat_eq, IsTrue, inl, inr, refl, sym, ◌∙◌, ap, subst, arith, ℤ, pos, negsuc, ◌+ℤ◌, ◌-ℤ◌, unsigned_abs, Some, None, if◌then◌else◌}
 use Rattle.std.proofs.Math.Nat.{le-mul_of_pos_right, eq_of_mul-eq-mul_right, pow-suc, div-one, zero-div, mul_assoc, mul-div_cancel, mul-div-mul_right}
 use Rattle.std.proofs.lemmas.Nat.{pow-add}
 use Rattle.std.proofs.lemmas.Bool.{cases_lt}
 use Rattle.std.proofs.lemmas.Bool.Decides.{eqb_tells, nat_tests}
 use Rattle.std.proofs.lemmas.Int.{ints}
 use Rattle.std.specs.Bool.{beq}
-use Rattle.gj_number.specs.Exact.{Exact, zero_exact, cut_magnitude, places_of, IsNormal, SameValue, signed, cut_limit, cut_of}
-use Rattle.gj_number.specs.Internal.KeptParts.{limited_cut}
+use Rattle.gj_number.specs.Exact.{Exact, zero_exact, cut_magnitude, places_of, IsNormal, SameValue, signed, cut_limit, cut_of, cut_within}
+use Rattle.gj_number.specs.Internal.KeptParts.{limited_cut, limited_to}
 use Rattle.gj_number.specs.Value.{Parts, whole_of, scale_of, IsDecimalOf, held_value, within_limits, stripped, tens_in}
 use Rattle.gj_number.specs.Short.{short_value}
+use Rattle.gj_number.proofs.Shorts.CutNumbers.{limited_below, limited_past}
 use Rattle.gj_number.proofs.Value.OneDenotation.{same_exact}
 use Rattle.gj_number.proofs.Value.NormalForm.{ten_above_zero, ten_divides, one_normal, stripped_is, held_value-normal, held_value-zero}
 use Rattle.gj_number.proofs.Value.HeldLimits.{within_some}
@@ -324,4 +326,27 @@ cut_some negative all places m small e =
           let none : m ≡ 0 = sym g ∙ ap cut_magnitude zero ∙ omega arith in
           rw (none, zero) (signs_of_zero negative)
       | inr z ↦ (let k = short_is negative all places (omega arith) small in ap (λ b. signed b m) (sym k.sign))
+    ]
+
+-- ---- a cut number that is at most so far from zero
+
+signed_within : (negative : Bool) (magnitude most : ℕ)
+    → (int_le (neg_ℤ (pos most)) (signed negative magnitude) && int_le (signed negative magnitude) (pos most)) ≡ nat_le magnitude most
+signed_within false magnitude most = grind (arith, ints, nat_tests)
+signed_within true magnitude most = grind (arith, ints, nat_tests)
+
+within_if : (b : Bool) (negative : Bool) (magnitude : ℕ) → option_map (signed negative) (if b then Some magnitude else None) ≡ (if b then Some (signed negative magnitude) else None)
+within_if true negative magnitude = refl
+within_if false negative magnitude = refl
+
+pub cut_within_is : (negative : Bool) (all places most : ℕ) → all < 10 ^ 18 → most < cut_limit
+    → option_map (signed negative) (limited_to most (cut_magnitude (short_value negative all places))) ≡ cut_within most (cut_of (short_value negative all places))
+cut_within_is negative all places most small few =
+    let v = short_value negative all places in
+    let m = cut_magnitude v in
+    elim (cases_lt m cut_limit) [
+      | inl l ↦ rw (sym (cut_some negative all places m small (limited_below m l)), signed_within negative m most) (within_if (nat_le m most) negative m)
+      | inr l ↦
+          let t : ltb m cut_limit ≡ false = grind (arith, nat_tests) in
+          rw (t, limited_past most m (omega arith)) refl
     ]

@@ -62,3 +62,7 @@ limited_power power = if nat_le (unsigned_abs power) power_limit then Some power
 -- a cut number's magnitude, where it is below the limit
 abbrev pub limited_cut : ℕ → Option ℕ
 limited_cut magnitude = if nat_lt magnitude cut_limit then Some magnitude else None
+
+-- the same of a limit that it may reach
+abbrev pub limited_to : ℕ → ℕ → Option ℕ
+limited_to most magnitude = if nat_le magnitude most then Some magnitude else None

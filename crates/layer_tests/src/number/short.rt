@@ -121,6 +121,15 @@ fn cuts_and_compares(rt: HostRuntime) {
     assert_eq!(rt; cut("1.5,"), Some(15000000));
     assert_eq!(rt; cut("10000000000,"), None);
     assert_eq!(rt; cut("9999999999.9999999,"), Some(99999999999999999));
+    let within = |text: &str| match found(text) {
+        Some((short, _)) => short.cut_within(180),
+        None => None,
+    };
+    assert_eq!(rt; within("-122.4194155,"), Some(-1224194155));
+    assert_eq!(rt; within("180,"), Some(1800000000));
+    assert_eq!(rt; within("-180.00000009,"), Some(-1800000000));
+    assert_eq!(rt; within("180.0000001,"), None);
+    assert_eq!(rt; within("-181,"), None);
     let precise = |text: &str| match found(text) {
         Some((short, _)) => short.is_precise(),
         None => false,
