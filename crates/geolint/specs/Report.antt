@@ -8,8 +8,7 @@ use Rattle.gj_coords.specs.Fault.{number_of}
 use Rattle.gj_coords.specs.Texts.{rule_text, kind_text}
 use Rattle.gj_json.specs.Texts.{cause_text, name_text}
 use Rattle.gj_coords.specs.declared.kind.Kind.{Kind}
-use Rattle.gj_coords.specs.declared.kind.Kind.TheVariants.{W1, W2, W3, W4, W5, W6, W7, W8, W9}
-use Rattle.gj_coords.specs.Warnings.{Warning, kind_number, count_of, first_of}
+use Rattle.gj_coords.specs.Warnings.{Warning, kind_number, kinds, count_of, first_of}
 use Rattle.gj_json.specs.declared.fault.JsonFault.{JsonFault}
 use Rattle.gj_json.specs.declared.path.Path.{Path}
 use Rattle.gj_json.specs.declared.path.PathStep.{PathStep}
@@ -39,10 +38,7 @@ line_if (Some place) kind count = warning_line kind count place
 abbrev pub kind_line : List Warning → Kind → List ℕ
 kind_line warnings kind = line_if (first_of kind warnings) kind (count_of kind warnings)
 
--- in the order of their numbers
-abbrev pub kinds : List Kind
-kinds = W1 ∷ W2 ∷ W3 ∷ W4 ∷ W5 ∷ W6 ∷ W7 ∷ W8 ∷ W9 ∷ []
-
+-- in the order of the kinds' numbers
 unfoldable pub warning_lines : List Warning → List ℕ
 warning_lines warnings = flat_map (kind_line warnings) kinds
 

@@ -1,14 +1,13 @@
 -- What an input is, in plain numbers.
-use Rattle.std.specs.Prelude.{◌≡◌, ℕ, List, [], ◌∷◌, Option, Some, None}
+use Rattle.std.specs.Prelude.{◌≡◌, ℕ, List, [], ◌∷◌, map, Option, Some, None}
 use Rattle.gj_json.specs.Limits.{Allowed}
 use Rattle.gj_json.specs.declared.fault.JsonFault.{JsonFault}
 use Rattle.gj_json.specs.declared.fault.Cause.{Cause}
 use Rattle.gj_json.specs.declared.fault.Cause.TheVariants.{Syntax, Truncated, Depth, Length}
 use Rattle.gj_coords.specs.declared.fault.Fault.{Fault}
 use Rattle.gj_coords.specs.declared.kind.Kind.{Kind}
-use Rattle.gj_coords.specs.declared.kind.Kind.TheVariants.{W1, W2, W3, W4, W5, W6, W7, W8, W9}
 use Rattle.gj_coords.specs.Fault.{number_of}
-use Rattle.gj_coords.specs.Warnings.{Warning, count_of, first_of}
+use Rattle.gj_coords.specs.Warnings.{Warning, kinds, count_of, first_of}
 use Rattle.gj_rules.specs.Verdict.{Judgement, valid, broken, refused, IsJudgement}
 use Rattle.geolint_c.specs.declared.report.Report.{Report}
 use Rattle.geolint_c.specs.declared.report.Warned.{Warned}
@@ -30,16 +29,13 @@ warned_of warnings kind = record { count = count_of kind warnings; first = place
 
 -- of each kind, in the order of their numbers
 abbrev pub all_warned : List Warning → List Warned
-all_warned warnings =
-    warned_of warnings W1 ∷ warned_of warnings W2 ∷ warned_of warnings W3 ∷ warned_of warnings W4 ∷ warned_of warnings W5
-    ∷ warned_of warnings W6 ∷ warned_of warnings W7 ∷ warned_of warnings W8 ∷ warned_of warnings W9 ∷ []
+all_warned warnings = map (warned_of warnings) kinds
 
 abbrev pub no_warning : Warned
 no_warning = record { count = 0; first = 0 }
 
 abbrev pub nothing_warned : List Warned
-nothing_warned =
-    no_warning ∷ no_warning ∷ no_warning ∷ no_warning ∷ no_warning ∷ no_warning ∷ no_warning ∷ no_warning ∷ no_warning ∷ []
+nothing_warned = map (λ kind. no_warning) kinds
 
 -- 1 where there is a warning
 abbrev pub is_warned : List Warning → ℕ

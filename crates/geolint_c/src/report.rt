@@ -7,7 +7,7 @@ ghost use Rattle.gj_rules.specs.Verdict.{IsVerdict};
 ghost use Rattle.geolint_c.specs.Report.{cause_number, warned_of, all_warned, is_warned, Reports, nothing_warned, valid_report, broken_report, refusal_report, no_report};
 
 use crate::status::DONE;
-use gj_coords::{Fault, Kind, Warnings};
+use gj_coords::{Fault, KINDS, Kind, Warnings};
 use gj_json::{Cause, JsonFault};
 use gj_rules::Verdict;
 
@@ -39,7 +39,7 @@ pub struct Report {
     pub place: u64,
     /// 1 where there is a warning, otherwise 0.
     pub warned: u64,
-    pub warnings: [Warned; 9],
+    pub warnings: [Warned; KINDS.len()],
 }
 
 /// The number in a cause's name.
@@ -67,26 +67,20 @@ fn warned_of(warnings: &Warnings, kind: Kind) -> Warned
     }
 }
 
-fn all_warned(warnings: &Warnings) -> [Warned; 9]
+fn all_warned(warnings: &Warnings) -> [Warned; KINDS.len()]
     ensures { (all : List Warning) → StandsFor warnings.now all → result ≡ all_warned all }
 {
-    [
-        warned_of(warnings, Kind::W1),
-        warned_of(warnings, Kind::W2),
-        warned_of(warnings, Kind::W3),
-        warned_of(warnings, Kind::W4),
-        warned_of(warnings, Kind::W5),
-        warned_of(warnings, Kind::W6),
-        warned_of(warnings, Kind::W7),
-        warned_of(warnings, Kind::W8),
-        warned_of(warnings, Kind::W9),
-    ]
+    let mut all = nothing_warned();
+    for kind in &KINDS {
+        all[kind.index()] = warned_of(warnings, *kind);
+    }
+    all
 }
 
-fn nothing_warned() -> [Warned; 9]
+fn nothing_warned() -> [Warned; KINDS.len()]
     ensures { result ≡ nothing_warned }
 {
-    [Warned { count: 0, first: 0 }; 9]
+    [Warned { count: 0, first: 0 }; KINDS.len()]
 }
 
 /// 1 where there is a warning, otherwise 0.

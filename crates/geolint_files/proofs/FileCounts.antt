@@ -1,22 +1,23 @@
 -- Lemmas on the counts of files.
 use Rattle.std.specs.Prelude.{is_none, cond}
 use Rattle.std.specs.Prelude.{is_some}
-use Rattle.std.proofs.Common.{arith, refl, not, ◌||◌, ◌&&◌, nat_le, ◌≢◌, inl, inr, zero, suc, set, length, if◌then◌else◌, ◌≡◌, ◌≤◌, ◌<◌, ◌+◌, ◌-◌, ℕ, Bool, true, false, List, [], ◌∷◌, ◌++◌, Option, Some, None, get_or, ap, sym, ◌∙◌, nat_eq}
+use Rattle.std.proofs.Common.{arith, refl, not, ◌||◌, ◌&&◌, nat_le, ◌≢◌, inl, inr, set, length, map, if◌then◌else◌, ◌≡◌, ◌≤◌, ◌<◌, ◌+◌, ◌-◌, ℕ, Bool, true, false, List, [], ◌∷◌, ◌++◌, Option, Some, None, get_or, ap, sym, ◌∙◌, nat_eq}
 use Rattle.std.specs.Io.Iter.{u64_saturate}
 use Rattle.std.specs.List.{count_by}
 use Rattle.std.proofs.lemmas.Bool.Decides.{nat_tests, eqb_tells}
-use Rattle.std.proofs.lemmas.List.{get_or-set_same, get_or-set_other}
+use Rattle.std.proofs.lemmas.List.{get_or-set_same, get_or-set_other, get_or-map}
+use Rattle.std.proofs.lemmas.List.FromFn.{get_or-range_with_len}
 use Rattle.std.proofs.lemmas.List.Sums.{sum_by_push}
 use Rattle.gj_coords.specs.Fault.{number_of}
-use Rattle.gj_coords.specs.Warnings.{kind_number}
+use Rattle.gj_coords.specs.Warnings.{kind_number, kinds}
 use Rattle.gj_coords.specs.declared.fault.Rule.{Rule}
 use Rattle.gj_coords.specs.declared.fault.Rule.TheVariants.{G1, G2, G3, G4, G5, G6, G7, G8, G9, G10, G11, G12, G13, G14, G15, G16, G17, G18, G19, G20, G21}
 use Rattle.gj_coords.specs.declared.kind.Kind.{Kind}
-use Rattle.gj_coords.specs.declared.kind.Kind.TheVariants.{W1, W2, W3, W4, W5, W6, W7, W8, W9}
 use Rattle.gj_json.specs.declared.fault.Cause.{Cause}
 use Rattle.gj_json.specs.declared.fault.Cause.TheVariants.{Syntax, Truncated, Depth, Length}
 use Rattle.gj_coords.specs.declared.warnings.Warnings.{Warnings}
 use Rattle.gj_coords.specs.Internal.KeptWarnings.{none_in, first_in}
+use Rattle.gj_coords.specs.Internal.ByKind.{kind_range, one_kind}
 use Rattle.gj_rules.specs.declared.sequence.verdict.SeqVerdict.{SeqVerdict}
 use Rattle.gj_rules.specs.declared.verdict.Verdict.TheVariants.{Valid, Broken, NotJson}
 use Rattle.geolint_files.specs.declared.judge.Finding.{Finding}
@@ -26,6 +27,7 @@ use Rattle.geolint_files.specs.Finding.{fault_of, warnings_of}
 use Rattle.geolint_files.specs.declared.texts.Code.{Code}
 use Rattle.geolint_files.specs.Counts.{same, is_cause, is_valid, is_warned, is_broken, is_refused, is_not_valid, warns, tells}
 use Rattle.geolint_files.specs.Texts.{cause_number, code_number}
+use Rattle.geolint_files.specs.declared.summary.TheConstants.{CODES}
 use Rattle.geolint_files.specs.Internal.FileCounts.{slot_of, more, Counts, Adds}
 
 rule-range : (rule : Rule) → (1 ≤ number_of rule) × (number_of rule ≤ 21)
@@ -50,17 +52,6 @@ rule-range G18 = (omega arith, omega arith)
 rule-range G19 = (omega arith, omega arith)
 rule-range G20 = (omega arith, omega arith)
 rule-range G21 = (omega arith, omega arith)
-
-kind-range : (kind : Kind) → (1 ≤ kind_number kind) × (kind_number kind ≤ 9)
-kind-range W1 = (omega arith, omega arith)
-kind-range W2 = (omega arith, omega arith)
-kind-range W3 = (omega arith, omega arith)
-kind-range W4 = (omega arith, omega arith)
-kind-range W5 = (omega arith, omega arith)
-kind-range W6 = (omega arith, omega arith)
-kind-range W7 = (omega arith, omega arith)
-kind-range W8 = (omega arith, omega arith)
-kind-range W9 = (omega arith, omega arith)
 
 cause-range : (cause : Cause) → (1 ≤ cause_number cause) × (cause_number cause ≤ 4)
 cause-range Syntax = (omega arith, omega arith)
@@ -87,26 +78,26 @@ differ-back : (m n : ℕ) → n < m → false ≡ nat_eq m n
 differ-back m n less = grind (arith, nat_tests, less)
 
 -- codes that have a count are the same where their counts lie together
-pub same-slot : (a b : Code) → slot_of a < 34 → same a b ≡ nat_eq (slot_of a) (slot_of b)
+pub same-slot : (a b : Code) → slot_of a < CODES → same a b ≡ nat_eq (slot_of a) (slot_of b)
 same-slot (Code.Rule r) (Code.Rule q) small = lessened (number_of r) (number_of q) (rule-range r).0 (rule-range q).0
 same-slot (Code.Rule r) (Code.Kind k) small = let w = rule-range r in differ _ _ (omega (arith, w.0, w.1))
 same-slot (Code.Rule r) (Code.Cause k) small = let w = rule-range r in differ _ _ (omega (arith, w.0, w.1))
 same-slot (Code.Rule r) Code.NotValid small = differ _ _ (omega (arith, small))
 same-slot (Code.Kind k) (Code.Rule r) small = let w = rule-range r in differ-back _ _ (omega (arith, w.0, w.1))
-same-slot (Code.Kind k) (Code.Kind j) small = lessened (kind_number k) (kind_number j) (kind-range k).0 (kind-range j).0 ∙ shifted (kind_number k - 1) (kind_number j - 1) 21
-same-slot (Code.Kind k) (Code.Cause c) small = let w = kind-range k in differ _ _ (omega (arith, w.0, w.1))
+same-slot (Code.Kind k) (Code.Kind j) small = lessened (kind_number k) (kind_number j) (kind_range k).0 (kind_range j).0 ∙ shifted (kind_number k - 1) (kind_number j - 1) 21
+same-slot (Code.Kind k) (Code.Cause c) small = let w = kind_range k in differ _ _ (omega (arith, w.0, w.1))
 same-slot (Code.Kind k) Code.NotValid small = differ _ _ (omega (arith, small))
 same-slot (Code.Cause c) (Code.Rule r) small = let w = rule-range r in differ-back _ _ (omega (arith, w.0, w.1))
-same-slot (Code.Cause c) (Code.Kind k) small = let w = kind-range k in differ-back _ _ (omega (arith, w.0, w.1))
-same-slot (Code.Cause c) (Code.Cause d) small = lessened (cause_number c) (cause_number d) (cause-range c).0 (cause-range d).0 ∙ shifted (cause_number c - 1) (cause_number d - 1) 30
+same-slot (Code.Cause c) (Code.Kind k) small = let w = kind_range k in differ-back _ _ (omega (arith, w.0, w.1))
+same-slot (Code.Cause c) (Code.Cause d) small = lessened (cause_number c) (cause_number d) (cause-range c).0 (cause-range d).0 ∙ shifted (cause_number c - 1) (cause_number d - 1) (21 + length kinds)
 same-slot (Code.Cause c) Code.NotValid small = differ _ _ (omega (arith, small))
 same-slot Code.NotValid b small = absurd (omega (arith, small))
 
-pub same-none : (a b : Code) → slot_of a < 34 → 34 ≤ slot_of b → same a b ≡ false
+pub same-none : (a b : Code) → slot_of a < CODES → CODES ≤ slot_of b → same a b ≡ false
 same-none a b small none = same-slot a b small ∙ sym (differ (slot_of a) (slot_of b) (omega (arith, small, none)))
 
 -- one more at the place of a code
-pub counted-at : (counts : List ℕ) (a b : Code) (v : ℕ) → slot_of a < 34 → slot_of b < length counts → v ≡ more true (get_or counts (slot_of b) 0)
+pub counted-at : (counts : List ℕ) (a b : Code) (v : ℕ) → slot_of a < CODES → slot_of b < length counts → v ≡ more true (get_or counts (slot_of b) 0)
     → get_or (set counts (slot_of b) v) (slot_of a) 0 ≡ more (same a b) (get_or counts (slot_of a) 0)
 counted-at counts a b v small within is = elim (eqb_tells (slot_of a) (slot_of b)) [
   | inl e ↦ (ap (λ (n : ℕ). get_or (set counts (slot_of b) v) n 0) e.1 ∙ (get_or-set_same counts (slot_of b) v 0 within ∙ (is ∙ ap (λ (n : ℕ). more true (get_or counts n 0)) (sym e.1)))
@@ -128,32 +119,13 @@ pub until-none : (warnings : Warnings) (code : Code) → until 0 warnings code �
 until-none warnings (Code.Rule rule) = and-false (nat_le (number_of rule) 0)
 until-none warnings (Code.Cause cause) = and-false (nat_le (cause_number cause) 0)
 until-none warnings Code.NotValid = refl
-until-none warnings (Code.Kind kind) = ap (λ (b : Bool). b && is_some (first_in kind warnings)) (above (kind_number kind) 0 (omega (arith, (kind-range kind).0)))
+until-none warnings (Code.Kind kind) = ap (λ (b : Bool). b && is_some (first_in kind warnings)) (above (kind_number kind) 0 (omega (arith, (kind_range kind).0)))
 
-pub until-all : (i : ℕ) (warnings : Warnings) (code : Code) → 9 ≤ i → until i warnings code ≡ warns code warnings
+pub until-all : (i : ℕ) (warnings : Warnings) (code : Code) → length kinds ≤ i → until i warnings code ≡ warns code warnings
 until-all i warnings (Code.Rule rule) all = and-false (nat_le (number_of rule) i)
 until-all i warnings (Code.Cause cause) all = and-false (nat_le (cause_number cause) i)
 until-all i warnings Code.NotValid all = and-false (nat_le 0 i)
-until-all i warnings (Code.Kind kind) all = ap (λ (b : Bool). b && is_some (first_in kind warnings)) (below (kind_number kind) i (omega (arith, all, (kind-range kind).1)))
-
-abbrev kind_at : ℕ → Kind
-kind_at n =
-    if nat_eq n 1 then W1 else if nat_eq n 2 then W2 else if nat_eq n 3 then W3 else if nat_eq n 4 then W4
-    else if nat_eq n 5 then W5 else if nat_eq n 6 then W6 else if nat_eq n 7 then W7 else if nat_eq n 8 then W8 else W9
-
-kind-is : (kind : Kind) → kind_at (kind_number kind) ≡ kind
-kind-is W1 = refl
-kind-is W2 = refl
-kind-is W3 = refl
-kind-is W4 = refl
-kind-is W5 = refl
-kind-is W6 = refl
-kind-is W7 = refl
-kind-is W8 = refl
-kind-is W9 = refl
-
-one-kind : (j k : Kind) → kind_number j ≡ kind_number k → j ≡ k
-one-kind j k same = sym (kind-is j) ∙ (ap kind_at same ∙ kind-is k)
+until-all i warnings (Code.Kind kind) all = ap (λ (b : Bool). b && is_some (first_in kind warnings)) (below (kind_number kind) i (omega (arith, all, (kind_range kind).1)))
 
 later : (m i : ℕ) → m ≢ i + 1 → nat_le m (i + 1) ≡ nat_le m i
 later m i other = grind (arith, nat_tests, other)
@@ -164,7 +136,7 @@ until-more i kind warnings (Code.Rule rule) n here has = rw (and-false (nat_le (
 until-more i kind warnings (Code.Cause cause) n here has = rw (and-false (nat_le (cause_number cause) i), and-false (nat_le (cause_number cause) (i + 1))) refl
 until-more i kind warnings Code.NotValid n here has = rw (and-false (nat_le 0 i), and-false (nat_le 0 (i + 1))) refl
 until-more i kind warnings (Code.Kind j) n here has = elim (eqb_tells (kind_number j) (kind_number kind)) [
-  | inl e ↦ (let is = one-kind j kind e.1 in
+  | inl e ↦ (let is = one_kind j kind e.0 in
       let told : is_some (first_in j warnings) ≡ true = ap (λ (k : Kind). is_some (first_in k warnings)) is ∙ has in
       ap (λ (t : Bool). more t (more (nat_le (kind_number j) i && is_some (first_in j warnings)) n)) e.0
       ∙ (ap (λ (t : Bool). more true (more (t && is_some (first_in j warnings)) n)) (above (kind_number j) i (omega (arith, e.1, here)))
@@ -178,24 +150,17 @@ until-same i kind warnings (Code.Rule rule) here has = and-false (nat_le (number
 until-same i kind warnings (Code.Cause cause) here has = and-false (nat_le (cause_number cause) (i + 1)) ∙ sym (and-false (nat_le (cause_number cause) i))
 until-same i kind warnings Code.NotValid here has = and-false (nat_le 0 (i + 1)) ∙ sym (and-false (nat_le 0 i))
 until-same i kind warnings (Code.Kind j) here has = elim (eqb_tells (kind_number j) (kind_number kind)) [
-  | inl e ↦ (let is = one-kind j kind e.1 in
+  | inl e ↦ (let is = one_kind j kind e.0 in
       let none : is_some (first_in j warnings) ≡ false = ap (λ (k : Kind). is_some (first_in k warnings)) is ∙ has in
       ap (λ (t : Bool). nat_le (kind_number j) (i + 1) && t) none ∙ (and-false (nat_le (kind_number j) (i + 1))
       ∙ sym (ap (λ (t : Bool). nat_le (kind_number j) i && t) none ∙ and-false (nat_le (kind_number j) i))))
   | inr e ↦ ap (λ (t : Bool). t && is_some (first_in j warnings)) (later (kind_number j) i (λ same. e.1 (same ∙ sym here)))
 ]
 
-pub kinds-at : (i : ℕ) (d : Kind) → i < 9 → kind_number (get_or (W1 ∷ W2 ∷ W3 ∷ W4 ∷ W5 ∷ W6 ∷ W7 ∷ W8 ∷ W9 ∷ []) i d) ≡ i + 1
-kinds-at zero d within = refl
-kinds-at (suc zero) d within = refl
-kinds-at (suc (suc zero)) d within = refl
-kinds-at (suc (suc (suc zero))) d within = refl
-kinds-at (suc (suc (suc (suc zero)))) d within = refl
-kinds-at (suc (suc (suc (suc (suc zero))))) d within = refl
-kinds-at (suc (suc (suc (suc (suc (suc zero)))))) d within = refl
-kinds-at (suc (suc (suc (suc (suc (suc (suc zero))))))) d within = refl
-kinds-at (suc (suc (suc (suc (suc (suc (suc (suc zero)))))))) d within = refl
-kinds-at (suc (suc (suc (suc (suc (suc (suc (suc (suc n))))))))) d within = absurd (omega (arith, within))
+pub kinds-at : (i : ℕ) (d : Kind) → i < length kinds → kind_number (get_or kinds i d) ≡ i + 1
+kinds-at i d within =
+    let number : get_or (map kind_number kinds) i 0 ≡ 1 + i = get_or-range_with_len 1 (length kinds) i 0 within in
+    sym (get_or-map kind_number kinds i d 0 within) ∙ (number ∙ omega arith)
 
 pub Adds-kind : (old mid new : Summary) (i : ℕ) (kind : Kind) (warnings : Warnings) → kind_number kind ≡ i + 1 → is_some (first_in kind warnings) ≡ true
     → Adds old mid false false false false false (until i warnings) → Adds mid new false false false false false (λ other. same other (Code.Kind kind)) → Adds old new false false false false false (until (i + 1) warnings)

@@ -1,10 +1,10 @@
 -- What is told of a finding: the fault, the warnings, the records, the word, and whether the file passes.
-use Rattle.std.specs.Prelude.{ℕ, ◌-◌, Bool, true, false, not, ◌&&◌, ◌||◌, List, [], ◌∷◌, Option, Some, None, codes, is_some, get_or}
+use Rattle.std.specs.Prelude.{ℕ, Bool, true, false, not, ◌&&◌, ◌||◌, List, [], ◌∷◌, Option, Some, None, codes, is_some, get_or}
+use Rattle.std.specs.List.{list_all}
 use Rattle.gj_coords.specs.declared.kind.Kind.{Kind}
-use Rattle.gj_coords.specs.declared.kind.Kind.TheVariants.{W1, W2, W3, W4, W5, W6, W7, W8, W9}
 use Rattle.gj_coords.specs.declared.warnings.Warnings.{Warnings}
 use Rattle.gj_coords.specs.Internal.KeptWarnings.{first_in}
-use Rattle.gj_coords.specs.Warnings.{kind_number}
+use Rattle.gj_coords.specs.Warnings.{kinds, index_of}
 use Rattle.gj_rules.specs.declared.sequence.verdict.SeqVerdict.{SeqVerdict}
 use Rattle.gj_rules.specs.declared.verdict.Verdict.{Verdict}
 use Rattle.gj_rules.specs.declared.verdict.Verdict.TheVariants.{Valid, Broken, NotJson}
@@ -59,7 +59,7 @@ word_of Finding.NotValid = codes "not valid"
 -- ---- whether a file passes
 
 abbrev pub contains : Kinds → Kind → Bool
-contains kinds kind = get_or kinds.contained (kind_number kind - 1) false
+contains allowed kind = get_or allowed.contained (index_of kind) false
 
 -- a kind is allowed, or there is no warning of it
 abbrev pub lets : Kinds → Warnings → Kind → Bool
@@ -67,9 +67,7 @@ lets allowed warnings kind = contains allowed kind || not (is_some (first_in kin
 
 -- each kind of which there is a warning is allowed
 abbrev pub lets_all : Kinds → Warnings → Bool
-lets_all allowed warnings =
-    lets allowed warnings W1 && (lets allowed warnings W2 && (lets allowed warnings W3 && (lets allowed warnings W4 && (lets allowed warnings W5
-    && (lets allowed warnings W6 && (lets allowed warnings W7 && (lets allowed warnings W8 && lets allowed warnings W9)))))))
+lets_all allowed warnings = list_all (lets allowed warnings) kinds
 
 -- a valid file passes; under --strict only where each kind of its warnings is among those that are allowed
 abbrev pub passes_with : Bool → Kinds → Option Warnings → Bool

@@ -2,7 +2,7 @@
 
 use crate::judge::Finding;
 use crate::texts::has;
-use gj_coords::{Kind, Warnings};
+use gj_coords::{KINDS, Kind, Warnings};
 use gj_json::Limits;
 
 /// The form of the report.
@@ -18,11 +18,8 @@ pub enum Format {
 /// Some kinds of warning, by their numbers less 1.
 #[derive(Clone, Copy, Debug, PartialEq, Eq)]
 pub struct Kinds {
-    contained: [bool; 9],
+    contained: [bool; KINDS.len()],
 }
-
-ghost use Rattle.std.specs.Prelude.{◌≡◌, ◌-◌, ◌<◌};
-ghost use Rattle.gj_coords.specs.Warnings.{kind_number};
 
 impl Kinds {
     ghost use Rattle.std.specs.Prelude.{◌≡◌};
@@ -30,35 +27,18 @@ impl Kinds {
 
     pub fn none() -> Kinds {
         Kinds {
-            contained: [false; 9],
+            contained: [false; KINDS.len()],
         }
     }
 
     pub fn insert(&mut self, kind: Kind) {
-        self.contained[index_of(kind)] = true;
+        self.contained[kind.index()] = true;
     }
 
     pub fn contains(&self, kind: Kind) -> bool
         ensures { result ≡ contains self.now kind }
     {
-        self.contained[index_of(kind)]
-    }
-}
-
-fn index_of(kind: Kind) -> usize
-    ensures index { result ≡ kind_number kind - 1 }
-    ensures small { result < 9 }
-{
-    match kind {
-        Kind::W1 => 0,
-        Kind::W2 => 1,
-        Kind::W3 => 2,
-        Kind::W4 => 3,
-        Kind::W5 => 4,
-        Kind::W6 => 5,
-        Kind::W7 => 6,
-        Kind::W8 => 7,
-        Kind::W9 => 8,
+        self.contained[kind.index()]
     }
 }
 
@@ -104,15 +84,7 @@ impl Options {
     fn lets_all(&self, warnings: &Warnings) -> bool
         ensures { result ≡ lets_all self.now.allowed warnings.now }
     {
-        self.lets(warnings, Kind::W1)
-            && self.lets(warnings, Kind::W2)
-            && self.lets(warnings, Kind::W3)
-            && self.lets(warnings, Kind::W4)
-            && self.lets(warnings, Kind::W5)
-            && self.lets(warnings, Kind::W6)
-            && self.lets(warnings, Kind::W7)
-            && self.lets(warnings, Kind::W8)
-            && self.lets(warnings, Kind::W9)
+        KINDS.iter().all(|kind| self.lets(warnings, *kind))
     }
 
     fn lets(&self, warnings: &Warnings, kind: Kind) -> bool

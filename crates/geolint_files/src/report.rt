@@ -2,8 +2,8 @@
 
 use crate::judge::Finding;
 use crate::sites::{MOST_PLACES, Sites, Spot};
-use crate::texts::{Code, KINDS};
-use gj_coords::{Kind, Warnings};
+use crate::texts::Code;
+use gj_coords::{KINDS, Kind, Warnings};
 use gj_json::Path;
 use gj_rules::{SeqVerdict, Verdict};
 

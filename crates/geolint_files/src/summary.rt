@@ -1,13 +1,17 @@
 //! How many files are what.
 ghost use Rattle.std.specs.Prelude.{◌≡◌};
+ghost use Rattle.geolint_files.specs.declared.summary.TheConstants.{CODES};
 ghost use Rattle.geolint_files.specs.Internal.FileCounts.{slot_of};
 
 use crate::judge::Finding;
 use crate::line::put_all;
-use crate::texts::{CAUSES, Code, KINDS, RULES, has};
-use gj_coords::Warnings;
+use crate::texts::{CAUSES, Code, RULES, has};
+use gj_coords::{KINDS, Warnings};
 use itoa::Buffer;
 use std::alloc::AllocError;
+
+/// How many codes are counted.
+const CODES: usize = RULES.len() + KINDS.len() + CAUSES.len();
 
 /// The counts of a run.
 #[derive(Drop)]
@@ -19,7 +23,7 @@ pub struct Summary {
     not_valid: u64,
     unread: u64,
     /// By the numbers of rules, of kinds of warning and of causes.
-    counts: [u64; 34],
+    counts: [u64; CODES],
 }
 
 impl Summary {
@@ -41,7 +45,7 @@ impl Summary {
             refused: 0,
             not_valid: 0,
             unread: 0,
-            counts: [0; 34],
+            counts: [0; CODES],
         }
     }
 
@@ -102,7 +106,7 @@ impl Summary {
 
     /// Of how many files this is told.
     fn of(&self, code: Code) -> u64
-        ensures { slot_of code < 34 → (files : List (Option Finding)) → Counts self.now files → result ≡ u64_saturate (count_by (tells code) files) }
+        ensures { slot_of code < CODES → (files : List (Option Finding)) → Counts self.now files → result ≡ u64_saturate (count_by (tells code) files) }
     {
         let slot = slot(code);
         if slot < self.counts.len() {
@@ -169,8 +173,8 @@ fn slot(code: Code) -> usize
     let number = (code.number() as usize).saturating_sub(1);
     match code {
         Code::Rule(_) => number,
-        Code::Kind(_) => number + 21,
-        Code::Cause(_) => number + 30,
+        Code::Kind(_) => number + RULES.len(),
+        Code::Cause(_) => number + RULES.len() + KINDS.len(),
         Code::NotValid => usize::MAX,
     }
 }

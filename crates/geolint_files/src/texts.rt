@@ -9,19 +9,6 @@ use gj_json::Cause;
 use itoa::Buffer;
 use std::alloc::AllocError;
 
-/// The kinds of warning in the order of their numbers.
-pub const KINDS: [Kind; 9] = [
-    Kind::W1,
-    Kind::W2,
-    Kind::W3,
-    Kind::W4,
-    Kind::W5,
-    Kind::W6,
-    Kind::W7,
-    Kind::W8,
-    Kind::W9,
-];
-
 /// The rules in the order of their numbers.
 pub const RULES: [Rule; 21] = [
     Rule::G1,

@@ -2,8 +2,8 @@
 
 use crate::arguments::to_bytes;
 use crate::options::{Format, Kinds, Options};
-use crate::texts::KINDS;
 use clap::{Arg, ArgAction, ArgMatches, Command, value_parser};
+use gj_coords::KINDS;
 use gj_json::Limits;
 use std::alloc::{AllocError, Global};
 

@@ -2,3 +2,4 @@
 pub mod ListsStoodFor
 pub mod ShiftedWarnings
 pub mod KeptOfShortValues
+pub mod KindsInTurn

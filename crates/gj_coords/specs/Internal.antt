@@ -7,6 +7,7 @@ pub mod ArrayReader
 pub mod ElementLaws
 pub mod ArrayLaws
 pub mod ElementCount
+pub mod ByKind
 pub mod KeptWarnings
 pub mod GatheredWarnings
 pub mod WindingGather

@@ -1,5 +1,5 @@
 -- What is worth a warning in a text that breaks no rule: warnings, each with a kind and a place, and what is reported of them.
-use Rattle.std.specs.Prelude.{ℕ, ◌+◌, min, List, [], ◌∷◌, map, length, filter, Option, Some, None, Bool, nat_eq}
+use Rattle.std.specs.Prelude.{ℕ, ◌+◌, ◌-◌, min, List, [], ◌∷◌, map, length, filter, Option, Some, None, Bool, nat_eq}
 use Rattle.gj_coords.specs.declared.kind.Kind.{Kind}
 
 -- the number in a kind's name
@@ -13,6 +13,14 @@ kind_number Kind.W6 = 6
 kind_number Kind.W7 = 7
 kind_number Kind.W8 = 8
 kind_number Kind.W9 = 9
+
+-- all kinds, in the order of their numbers
+abbrev pub kinds : List Kind
+kinds = Kind.W1 ∷ Kind.W2 ∷ Kind.W3 ∷ Kind.W4 ∷ Kind.W5 ∷ Kind.W6 ∷ Kind.W7 ∷ Kind.W8 ∷ Kind.W9 ∷ []
+
+-- where a kind stands among them
+abbrev pub index_of : Kind → ℕ
+index_of kind = kind_number kind - 1
 
 -- a warning, and the place of what it is given for
 pub record Warning : Type 0 where

@@ -1,7 +1,7 @@
 //! The kinds of warning.
-ghost use Rattle.std.specs.Prelude.{◌≡◌};
+ghost use Rattle.std.specs.Prelude.{◌≡◌, ◌<◌, length};
 ghost use Rattle.gj_coords.specs.Texts.{kind_text};
-ghost use Rattle.gj_coords.specs.Warnings.{kind_number};
+ghost use Rattle.gj_coords.specs.Warnings.{kind_number, kinds, index_of};
 
 use std::fmt;
 
@@ -29,6 +29,19 @@ pub enum Kind {
     W9,
 }
 
+/// The kinds in the order of their numbers.
+pub const KINDS: [Kind; 9] = [
+    Kind::W1,
+    Kind::W2,
+    Kind::W3,
+    Kind::W4,
+    Kind::W5,
+    Kind::W6,
+    Kind::W7,
+    Kind::W8,
+    Kind::W9,
+];
+
 impl Kind {
     /// The number in the kind's name, from 1 to 9.
     pub fn number(self) -> u8
@@ -45,6 +58,15 @@ impl Kind {
             Kind::W8 => 8,
             Kind::W9 => 9,
         }
+    }
+
+    /// Its index in `KINDS`.
+    #[inline]
+    pub fn index(self) -> usize
+        ensures index { result ≡ index_of self }
+        ensures small { result < length kinds }
+    {
+        (self.number() - 1) as usize
     }
 
     /// What the kind is called in a report.
@@ -68,5 +90,78 @@ impl Kind {
 impl fmt::Display for Kind {
     fn fmt<W: fmt::Write>(&self, f: &mut fmt::Formatter<W>) -> fmt::Result {
         f.write_str(self.text())
+    }
+}
+
+/// One value for each kind. Its fields have names, so that no proof has to know how long an array is.
+#[derive(Clone, Copy, Debug, PartialEq, Eq)]
+pub struct ByKind<T> {
+    w1: T,
+    w2: T,
+    w3: T,
+    w4: T,
+    w5: T,
+    w6: T,
+    w7: T,
+    w8: T,
+    w9: T,
+}
+
+impl<T: Copy> ByKind<T> {
+    ghost use Rattle.std.specs.Prelude.{◌≡◌};
+    ghost use Rattle.gj_coords.specs.Internal.ByKind.{each, of_kind, with_value};
+
+    /// The same for each.
+    #[inline]
+    pub fn all(value: T) -> ByKind<T>
+        ensures { result ≡ each (λ kind. value) }
+    {
+        ByKind {
+            w1: value,
+            w2: value,
+            w3: value,
+            w4: value,
+            w5: value,
+            w6: value,
+            w7: value,
+            w8: value,
+            w9: value,
+        }
+    }
+
+    /// That of a kind.
+    #[inline]
+    pub fn of(&self, kind: Kind) -> T
+        ensures { result ≡ of_kind self.now kind }
+    {
+        match kind {
+            Kind::W1 => self.w1,
+            Kind::W2 => self.w2,
+            Kind::W3 => self.w3,
+            Kind::W4 => self.w4,
+            Kind::W5 => self.w5,
+            Kind::W6 => self.w6,
+            Kind::W7 => self.w7,
+            Kind::W8 => self.w8,
+            Kind::W9 => self.w9,
+        }
+    }
+
+    /// Replaces that of a kind.
+    #[inline]
+    pub fn set(&mut self, kind: Kind, value: T)
+        ensures { self.new ≡ with_value self.old kind value }
+    {
+        match kind {
+            Kind::W1 => self.w1 = value,
+            Kind::W2 => self.w2 = value,
+            Kind::W3 => self.w3 = value,
+            Kind::W4 => self.w4 = value,
+            Kind::W5 => self.w5 = value,
+            Kind::W6 => self.w6 = value,
+            Kind::W7 => self.w7 = value,
+            Kind::W8 => self.w8 = value,
+            Kind::W9 => self.w9 = value,
+        }
     }
 }

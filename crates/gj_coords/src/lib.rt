@@ -38,7 +38,7 @@ mod winding;
 pub use bbox::Bbox;
 pub use coordinates::Coordinates;
 pub use fault::{Fault, Rule, lesser_fault};
-pub use kind::Kind;
+pub use kind::{KINDS, Kind};
 pub use simple::Simple;
 pub use simple_faults::SimpleFaults;
 pub use warned::Warned;

@@ -1,6 +1,6 @@
 //! The report of a sequence.
 ghost use Rattle.std.specs.Prelude.{◌≡◌, ◌+◌, ◌*◌, ◌≤◌, [], List, length};
-ghost use Rattle.gj_coords.specs.Warnings.{Warning};
+ghost use Rattle.gj_coords.specs.Warnings.{Warning, kinds};
 ghost use Rattle.gj_coords.specs.WarningsStand.{StandsFor as WarningsStandFor};
 ghost use Rattle.gj_rules.specs.Sequence.{SequenceJudgement, all_valid, SequenceSays};
 ghost use Rattle.geolint.specs.Room.{written_in, Adds};
@@ -38,7 +38,7 @@ fn push_count(count: u64, room: &mut Room)
 
 /// The report of a sequence of so many records, all of them valid.
 fn push_valid_sequence(records: u64, warnings: &Warnings, room: &mut Room)
-    requires { length (written_in room.old) + 11 * MOST_LINE ≤ CAPACITY }
+    requires { length (written_in room.old) + (length kinds + 2) * MOST_LINE ≤ CAPACITY }
     ensures { (all : List Warning) → WarningsStandFor warnings.now all → Adds room.old room.new (sequence_report (all_valid records all)) }
 {
     room.push(b"valid\n");

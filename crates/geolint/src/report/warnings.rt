@@ -1,27 +1,14 @@
 //! The report of a valid text.
 ghost use Rattle.std.specs.Prelude.{◌≡◌, ◌+◌, ◌*◌, ◌≤◌, List, length};
-ghost use Rattle.gj_coords.specs.Warnings.{Warning};
+ghost use Rattle.gj_coords.specs.Warnings.{Warning, kinds};
 ghost use Rattle.gj_coords.specs.WarningsStand.{StandsFor as WarningsStandFor};
 ghost use Rattle.geolint.specs.Report.{kind_line, warning_line, warning_lines, valid_report};
 ghost use Rattle.geolint.specs.Room.{written_in, Adds};
 ghost use Rattle.geolint.specs.declared.room.TheConstants.{CAPACITY, MOST_LINE};
 
 use crate::room::Room;
-use gj_coords::{Kind, Warnings};
+use gj_coords::{KINDS, Kind, Warnings};
 use itoa::Buffer;
-
-/// The kinds of warning in the order of their numbers.
-const KINDS: [Kind; 9] = [
-    Kind::W1,
-    Kind::W2,
-    Kind::W3,
-    Kind::W4,
-    Kind::W5,
-    Kind::W6,
-    Kind::W7,
-    Kind::W8,
-    Kind::W9,
-];
 
 /// The line of a kind, of whose warnings there are so many, the first at this place.
 fn push_warning(kind: Kind, count: u32, place: u64, room: &mut Room)
@@ -61,7 +48,7 @@ fn push_kind(kind: Kind, warnings: &Warnings, room: &mut Room)
 
 /// The lines of all kinds.
 pub fn push_warnings(warnings: &Warnings, room: &mut Room)
-    requires { length (written_in room.old) + 9 * MOST_LINE ≤ CAPACITY }
+    requires { length (written_in room.old) + length kinds * MOST_LINE ≤ CAPACITY }
     ensures { (all : List Warning) → WarningsStandFor warnings.now all → Adds room.old room.new (warning_lines all) }
 {
     for kind in &KINDS {
@@ -71,7 +58,7 @@ pub fn push_warnings(warnings: &Warnings, room: &mut Room)
 
 /// The report of a valid text with these warnings.
 pub fn push_valid(warnings: &Warnings, room: &mut Room)
-    requires { length (written_in room.old) + 10 * MOST_LINE ≤ CAPACITY }
+    requires { length (written_in room.old) + (length kinds + 1) * MOST_LINE ≤ CAPACITY }
     ensures { (all : List Warning) → WarningsStandFor warnings.now all → Adds room.old room.new (valid_report all) }
 {
     room.push(b"valid\n");

@@ -8,7 +8,8 @@ use crate::formats::put_path;
 use crate::line::{put_all, put_number};
 use crate::options::Options;
 use crate::report::{Report, Told, warning};
-use crate::texts::{Code, KINDS};
+use crate::texts::Code;
+use gj_coords::KINDS;
 use itoa::Buffer;
 use std::alloc::{AllocError, Global};
 

@@ -3,7 +3,8 @@
 use crate::formats::{put_name, put_path};
 use crate::line::{put_all, put_number};
 use crate::report::{Report, Told, warning};
-use crate::texts::{Code, KINDS};
+use crate::texts::Code;
+use gj_coords::KINDS;
 use itoa::Buffer;
 use std::alloc::{AllocError, Global};
 

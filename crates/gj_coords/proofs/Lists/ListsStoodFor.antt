@@ -1,28 +1,29 @@
 -- The lists that warnings stand for, and what is read off them.
-use Rattle.std.specs.Prelude.{refl, ◌≡◌, ℕ, min, ◌<◌, true, List, [], ◌∷◌, ◌++◌, length, Some, None, unwrap_or, suc, IsTrue, ◌↔◌}
+use Rattle.std.specs.Prelude.{refl, ◌≡◌, ℕ, min, ◌<◌, ◌==◌, Bool, true, false, if◌then◌else◌, List, [], ◌∷◌, ◌++◌, length, Some, None, unwrap_or, suc, IsTrue, ◌↔◌}
 use Rattle.std.proofs.Common.{arith, sym, ◌∙◌, ap}
 use Rattle.std.proofs.lemmas.Bool.Decides.{nat_tests}
+use Rattle.std.proofs.lemmas.List.Folds.{list_all_at}
 use Rattle.gj_coords.specs.declared.kind.Kind.{Kind}
 use Rattle.gj_coords.specs.declared.noted.Noted.{Noted}
 use Rattle.gj_coords.specs.declared.warnings.Warnings.{Warnings}
-use Rattle.gj_coords.specs.Warnings.{Warning, warning_at, same_kind, places_of, greatest_count, first_of, least_place}
-use Rattle.gj_coords.specs.Internal.KeptWarnings.{noted_as, noted_of, joined_noted, kept, warnings_of, joined, added, replaced, all_zero}
+use Rattle.gj_coords.specs.Warnings.{Warning, warning_at, kinds, index_of, same_kind, places_of, greatest_count, first_of, least_place}
+use Rattle.gj_coords.specs.Internal.KeptWarnings.{noted_as, noted_of, joined_noted, kept, warnings_of, joined, added, replaced, none_in}
 use Rattle.gj_coords.specs.WarningsStand.{StandsFor}
+use Rattle.gj_coords.specs.Internal.ByKind.{of_kind, index_small, kind_at_index, one_kind, same_itself}
 use Rattle.gj_coords.specs.Internal.KeptWarningLaws.{some_least}
-use Rattle.gj_coords.specs.Internal.WarningLaws.{kept_by_kind, added_is, warnings_of-append}
+use Rattle.gj_coords.specs.Internal.WarningLaws.{kept_by_kind, by_kind_alike, added_is, warnings_of-append}
 
 -- what is written for the kind alone
 pub added_by_replacing : (a : Warnings) (kind : Kind) (place : ℕ) → replaced a kind (joined_noted (kept a kind) (noted_as 1 place)) ≡ added a kind place
-unfolding added
-added_by_replacing a Kind.W1 place = refl
-added_by_replacing a Kind.W2 place = refl
-added_by_replacing a Kind.W3 place = refl
-added_by_replacing a Kind.W4 place = refl
-added_by_replacing a Kind.W5 place = refl
-added_by_replacing a Kind.W6 place = refl
-added_by_replacing a Kind.W7 place = refl
-added_by_replacing a Kind.W8 place = refl
-added_by_replacing a Kind.W9 place = refl
+unfolding added replaced
+added_by_replacing a kind place =
+    by_kind_alike (λ other. if same_kind kind other then joined_noted (kept a kind) (noted_as 1 place) else kept a other)
+    (λ other. if same_kind kind other then joined_noted (kept a other) (noted_as 1 place) else kept a other) (λ other. by_test other (same_kind kind other) refl)
+  where
+    by_test : (other : Kind) (t : Bool) → same_kind kind other ≡ t →
+        (if t then joined_noted (kept a kind) (noted_as 1 place) else kept a other) ≡ (if t then joined_noted (kept a other) (noted_as 1 place) else kept a other)
+    by_test other true t = ap (λ k. joined_noted (kept a k) (noted_as 1 place)) (one_kind kind other t)
+    by_test other false t = refl
 
 -- lists that the values stand for
 pub added_stands : (a : Warnings) (kind : Kind) (place : ℕ) (warnings : List Warning) → StandsFor a warnings →
@@ -60,32 +61,19 @@ pub first_is_none : (noted : Noted) (kind : Kind) (warnings : List Warning) → 
 first_is_none noted kind warnings h zero = none_there (places_of kind warnings) noted.count (ap (λ x. x.count) h) zero
 
 -- no count, no warning
-itself : (kind : Kind) → same_kind kind kind ≡ true
-itself Kind.W1 = refl
-itself Kind.W2 = refl
-itself Kind.W3 = refl
-itself Kind.W4 = refl
-itself Kind.W5 = refl
-itself Kind.W6 = refl
-itself Kind.W7 = refl
-itself Kind.W8 = refl
-itself Kind.W9 = refl
-
-count_zero : (a : Warnings) (kind : Kind) → IsTrue (all_zero a.counts) → (kept a kind).count ≡ 0
-count_zero a Kind.W1 h = grind (arith, nat_tests)
-count_zero a Kind.W2 h = grind (arith, nat_tests)
-count_zero a Kind.W3 h = grind (arith, nat_tests)
-count_zero a Kind.W4 h = grind (arith, nat_tests)
-count_zero a Kind.W5 h = grind (arith, nat_tests)
-count_zero a Kind.W6 h = grind (arith, nat_tests)
-count_zero a Kind.W7 h = grind (arith, nat_tests)
-count_zero a Kind.W8 h = grind (arith, nat_tests)
-count_zero a Kind.W9 h = grind (arith, nat_tests)
+count_zero : (a : Warnings) (kind : Kind) → IsTrue (none_in a) → (kept a kind).count ≡ 0
+count_zero a kind none = by_test (of_kind a.counts kind == 0) refl
+  where
+    by_test : (t : Bool) → (of_kind a.counts kind == 0) ≡ t → of_kind a.counts kind ≡ 0
+    by_test true t = grind (arith, nat_tests)
+    by_test false t =
+        let e : none_in a ≡ false =
+        list_all_at (λ k. of_kind a.counts k == 0) kinds (index_of kind) Kind.W1 (index_small kind) (ap (λ k. of_kind a.counts k == 0) (kind_at_index kind) ∙ t) in cc
 
 counted_itself : (warning : Warning) (more : List Warning) → places_of warning.kind (warning ∷ more) ≡ warning.place ∷ places_of warning.kind more
-counted_itself warning more = simp (itself warning.kind)
+counted_itself warning more = simp (same_itself warning.kind)
 
-pub empty_is : (a : Warnings) (warnings : List Warning) → StandsFor a warnings → IsTrue (all_zero a.counts) ↔ (warnings ≡ [])
+pub empty_is : (a : Warnings) (warnings : List Warning) → StandsFor a warnings → IsTrue (none_in a) ↔ (warnings ≡ [])
 unfolding warnings_of
 empty_is a [] h = (λ _. refl, λ _. rw h refl)
 empty_is a (warning ∷ more) h = (

@@ -1,15 +1,17 @@
 -- Laws of warnings as they are gathered: what is taken is joined.
-use Rattle.std.specs.Prelude.{◌≡◌, ℕ, Bool, true, false, Option, Some, None, [], refl}
+use Rattle.std.specs.Prelude.{◌≡◌, ℕ, Bool, true, false, if◌then◌else◌, Option, Some, None, [], refl}
 use Rattle.std.proofs.Common.{sym, ◌∙◌, ap}
 use Rattle.gj_coords.specs.declared.kind.Kind.{Kind}
 use Rattle.gj_coords.specs.declared.kind.Kind.TheVariants.{W4}
 use Rattle.gj_coords.specs.declared.noted.Noted.{Noted}
 use Rattle.gj_coords.specs.declared.warned.Warned.{Warned}
 use Rattle.gj_coords.specs.declared.warnings.Warnings.{Warnings}
-use Rattle.gj_coords.specs.Internal.KeptWarnings.{noted_as, nothing_noted, is_nothing, joined_noted, kept, warnings_of, joined, added, with_noted}
+use Rattle.gj_coords.specs.Warnings.{same_kind}
+use Rattle.gj_coords.specs.Internal.KeptWarnings.{noted_as, nothing_noted, is_nothing, joined_noted, kept, warnings_of, joined, added, replaced, with_noted}
 use Rattle.gj_coords.specs.CoordinateWarnings.{warned_if}
 use Rattle.gj_coords.specs.Internal.KeptWarningLaws.{nothing_at_zero, joined_noted_none, joined_noted_assoc}
-use Rattle.gj_coords.specs.Internal.WarningLaws.{by_kind_alike, joined_none_last, warnings_of_none, added_is}
+use Rattle.gj_coords.specs.Internal.ByKind.{one_kind}
+use Rattle.gj_coords.specs.Internal.WarningLaws.{by_kind_alike, kept_by_kind, joined_none_last, warnings_of_none, added_is}
 use Rattle.gj_coords.specs.Internal.GatheredWarnings.{warnings_in, all_in, noted_when, some_noted, taken_some, taken}
 
 -- no warnings more
@@ -32,39 +34,42 @@ taken_is w other = taken_some_is w other.warnings
 
 -- ---- some warnings of one kind
 
-no_more_of : (a : Warnings) (kind : Kind) → kept (with_noted a W4 nothing_noted) kind ≡ kept a kind
-no_more_of a Kind.W1 = refl
-no_more_of a Kind.W2 = refl
-no_more_of a Kind.W3 = refl
-no_more_of a Kind.W4 = joined_noted_none (kept a W4)
-no_more_of a Kind.W5 = refl
-no_more_of a Kind.W6 = refl
-no_more_of a Kind.W7 = refl
-no_more_of a Kind.W8 = refl
-no_more_of a Kind.W9 = refl
-
 pub with_nothing : (a : Warnings) → with_noted a W4 nothing_noted ≡ a
-with_nothing a = by_kind_alike (kept (with_noted a W4 nothing_noted)) (kept a) (no_more_of a)
-
-one_more_of : (a : Warnings) (noted one : Noted) (kind : Kind) →
-    kept (with_noted a W4 (joined_noted noted one)) kind ≡ kept (with_noted (with_noted a W4 noted) W4 one) kind
-one_more_of a noted one Kind.W1 = refl
-one_more_of a noted one Kind.W2 = refl
-one_more_of a noted one Kind.W3 = refl
-one_more_of a noted one Kind.W4 = sym (joined_noted_assoc (kept a W4) noted one)
-one_more_of a noted one Kind.W5 = refl
-one_more_of a noted one Kind.W6 = refl
-one_more_of a noted one Kind.W7 = refl
-one_more_of a noted one Kind.W8 = refl
-one_more_of a noted one Kind.W9 = refl
+unfolding replaced with_noted
+with_nothing a = by_kind_alike (λ kind. if same_kind W4 kind then joined_noted (kept a W4) nothing_noted else kept a kind) (kept a) no_more_of
+  where
+    no_more_of : (kind : Kind) → (if same_kind W4 kind then joined_noted (kept a W4) nothing_noted else kept a kind) ≡ kept a kind
+    no_more_of kind = by_test (same_kind W4 kind) refl
+      where
+        by_test : (t : Bool) → same_kind W4 kind ≡ t → (if t then joined_noted (kept a W4) nothing_noted else kept a kind) ≡ kept a kind
+        by_test true t = joined_noted_none (kept a W4) ∙ ap (kept a) (one_kind W4 kind t)
+        by_test false t = refl
 
 with_both : (a : Warnings) (noted one : Noted) → with_noted a W4 (joined_noted noted one) ≡ with_noted (with_noted a W4 noted) W4 one
+unfolding replaced with_noted
 with_both a noted one =
-    by_kind_alike (kept (with_noted a W4 (joined_noted noted one))) (kept (with_noted (with_noted a W4 noted) W4 one)) (one_more_of a noted one)
+    by_kind_alike (λ kind. if same_kind W4 kind then joined_noted (kept a W4) (joined_noted noted one) else kept a kind)
+    (λ kind. if same_kind W4 kind then joined_noted (kept (with_noted a W4 noted) W4) one else kept (with_noted a W4 noted) kind) (λ kind. one_more_of kind (same_kind W4 kind) refl)
+  where
+    first : Kind → Noted
+    first kind = if same_kind W4 kind then joined_noted (kept a W4) noted else kept a kind
+
+    one_more_of : (kind : Kind) (t : Bool) → same_kind W4 kind ≡ t →
+        (if t then joined_noted (kept a W4) (joined_noted noted one) else kept a kind)
+        ≡ (if t then joined_noted (kept (with_noted a W4 noted) W4) one else kept (with_noted a W4 noted) kind)
+    one_more_of kind true t = sym (joined_noted_assoc (kept a W4) noted one) ∙ sym (ap (λ x. joined_noted x one) (kept_by_kind first W4))
+    one_more_of kind false t = sym (kept_by_kind first kind ∙ rw t refl)
 
 with_one : (a : Warnings) (place : ℕ) → with_noted a W4 (noted_as 1 place) ≡ added a W4 place
-unfolding added
-with_one a place = refl
+unfolding added replaced with_noted
+with_one a place =
+    by_kind_alike (λ kind. if same_kind W4 kind then joined_noted (kept a W4) (noted_as 1 place) else kept a kind)
+    (λ kind. if same_kind W4 kind then joined_noted (kept a kind) (noted_as 1 place) else kept a kind) (λ kind. by_test kind (same_kind W4 kind) refl)
+  where
+    by_test : (kind : Kind) (t : Bool) → same_kind W4 kind ≡ t →
+        (if t then joined_noted (kept a W4) (noted_as 1 place) else kept a kind) ≡ (if t then joined_noted (kept a kind) (noted_as 1 place) else kept a kind)
+    by_test kind true t = ap (λ k. joined_noted (kept a k) (noted_as 1 place)) (one_kind W4 kind t)
+    by_test kind false t = refl
 
 -- one of the kind more
 pub with_one_more : (a : Warnings) (noted : Noted) (place : ℕ) → with_noted a W4 (joined_noted noted (noted_as 1 place)) ≡ added (with_noted a W4 noted) W4 place

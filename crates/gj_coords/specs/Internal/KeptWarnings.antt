@@ -1,11 +1,12 @@
 -- What a `Warnings` keeps of a list of warnings, and how two of them are joined. The laws of `warnings_of`, `joined` and
 -- `added` are in `WarningLaws`: cite those, and unfold none of the three.
 use Rattle.std.specs.Prelude.{ℕ, ◌+◌, min, ◌==◌, Bool, ◌&&◌, if◌then◌else◌, List, Option, Some, None, unwrap_or}
+use Rattle.std.specs.List.{list_all}
 use Rattle.gj_coords.specs.declared.kind.Kind.{Kind}
 use Rattle.gj_coords.specs.declared.noted.Noted.{Noted}
-use Rattle.gj_coords.specs.declared.warnings.Counts.{Counts}
 use Rattle.gj_coords.specs.declared.warnings.Warnings.{Warnings}
-use Rattle.gj_coords.specs.Warnings.{Warning, same_kind, greatest_count, count_of, first_of}
+use Rattle.gj_coords.specs.Internal.ByKind.{each, of_kind}
+use Rattle.gj_coords.specs.Warnings.{Warning, kinds, same_kind, greatest_count, count_of, first_of}
 
 abbrev pub noted_as : ℕ → ℕ → Noted
 noted_as count first = record { count = count; first = first }
@@ -34,41 +35,13 @@ shifted_noted by a = noted_as a.count (if a.count == 0 then a.first else a.first
 -- what is kept of each kind, side by side
 abbrev pub by_kind : (Kind → Noted) → Warnings
 by_kind noted = record {
-  firsts = record {
-    w1 = (noted Kind.W1).first;
-    w2 = (noted Kind.W2).first;
-    w3 = (noted Kind.W3).first;
-    w4 = (noted Kind.W4).first;
-    w5 = (noted Kind.W5).first;
-    w6 = (noted Kind.W6).first;
-    w7 = (noted Kind.W7).first;
-    w8 = (noted Kind.W8).first;
-    w9 = (noted Kind.W9).first;
-  };
-  counts = record {
-    w1 = (noted Kind.W1).count;
-    w2 = (noted Kind.W2).count;
-    w3 = (noted Kind.W3).count;
-    w4 = (noted Kind.W4).count;
-    w5 = (noted Kind.W5).count;
-    w6 = (noted Kind.W6).count;
-    w7 = (noted Kind.W7).count;
-    w8 = (noted Kind.W8).count;
-    w9 = (noted Kind.W9).count;
-  };
+  firsts = each (λ kind. (noted kind).first);
+  counts = each (λ kind. (noted kind).count);
 }
 
 -- of a kind
 abbrev pub kept : Warnings → Kind → Noted
-kept warnings Kind.W1 = noted_as warnings.counts.w1 warnings.firsts.w1
-kept warnings Kind.W2 = noted_as warnings.counts.w2 warnings.firsts.w2
-kept warnings Kind.W3 = noted_as warnings.counts.w3 warnings.firsts.w3
-kept warnings Kind.W4 = noted_as warnings.counts.w4 warnings.firsts.w4
-kept warnings Kind.W5 = noted_as warnings.counts.w5 warnings.firsts.w5
-kept warnings Kind.W6 = noted_as warnings.counts.w6 warnings.firsts.w6
-kept warnings Kind.W7 = noted_as warnings.counts.w7 warnings.firsts.w7
-kept warnings Kind.W8 = noted_as warnings.counts.w8 warnings.firsts.w8
-kept warnings Kind.W9 = noted_as warnings.counts.w9 warnings.firsts.w9
+kept warnings kind = noted_as (of_kind warnings.counts kind) (of_kind warnings.firsts kind)
 
 -- how many of a kind there are, and the least place, as they are told
 abbrev pub count_in : Kind → Warnings → ℕ
@@ -94,11 +67,11 @@ unfoldable pub shifted : Warnings → ℕ → Warnings
 shifted a by = by_kind (λ kind. shifted_noted by (kept a kind))
 
 -- one kind replaced
-abbrev pub replaced : Warnings → Kind → Noted → Warnings
+unfoldable pub replaced : Warnings → Kind → Noted → Warnings
 replaced warnings kind noted = by_kind (λ other. if same_kind kind other then noted else kept warnings other)
 
 -- some warnings of a kind more
-abbrev pub with_noted : Warnings → Kind → Noted → Warnings
+unfoldable pub with_noted : Warnings → Kind → Noted → Warnings
 with_noted warnings kind noted = replaced warnings kind (joined_noted (kept warnings kind) noted)
 
 -- one warning more
@@ -107,9 +80,5 @@ added warnings kind place =
     by_kind (λ other. if same_kind kind other then joined_noted (kept warnings other) (noted_as 1 place) else kept warnings other)
 
 -- no kind has a count
-abbrev pub all_zero : Counts → Bool
-all_zero counts =
-    counts.w1 == 0 && counts.w2 == 0 && counts.w3 == 0 && counts.w4 == 0 && counts.w5 == 0 && counts.w6 == 0 && counts.w7 == 0 && counts.w8 == 0 && counts.w9 == 0
-
 abbrev pub none_in : Warnings → Bool
-none_in warnings = all_zero warnings.counts
+none_in warnings = list_all (λ kind. of_kind warnings.counts kind == 0) kinds

@@ -5,20 +5,15 @@ use Rattle.gj_coords.specs.declared.kind.Kind.{Kind}
 use Rattle.gj_coords.specs.declared.noted.Noted.{Noted}
 use Rattle.gj_coords.specs.declared.warnings.Warnings.{Warnings}
 use Rattle.gj_coords.specs.Warnings.{Warning, warning_at, same_kind}
-use Rattle.gj_coords.specs.Internal.KeptWarnings.{noted_as, noted_of, nothing_noted, joined_noted, by_kind, kept, warnings_of, no_warnings, joined, added}
+use Rattle.gj_coords.specs.Internal.KeptWarnings.{noted_as, noted_of, nothing_noted, joined_noted, by_kind, kept, warnings_of, no_warnings, joined, added, replaced}
+use Rattle.gj_coords.specs.Internal.ByKind.{each, of_kind, with_value, of_each}
 use Rattle.gj_coords.specs.Internal.KeptWarningLaws.{joined_noted_none, joined_noted_assoc, joined_noted_comm, noted_of-append}
 
 -- what is kept by kind
 pub kept_by_kind : (noted : Kind → Noted) (kind : Kind) → kept (by_kind noted) kind ≡ noted kind
-kept_by_kind noted Kind.W1 = refl
-kept_by_kind noted Kind.W2 = refl
-kept_by_kind noted Kind.W3 = refl
-kept_by_kind noted Kind.W4 = refl
-kept_by_kind noted Kind.W5 = refl
-kept_by_kind noted Kind.W6 = refl
-kept_by_kind noted Kind.W7 = refl
-kept_by_kind noted Kind.W8 = refl
-kept_by_kind noted Kind.W9 = refl
+kept_by_kind noted kind =
+    ap (λ count. noted_as count (of_kind (each (λ k. (noted k).first)) kind)) (of_each (λ k. (noted k).count) kind)
+    ∙ ap (λ first. noted_as (noted kind).count first) (of_each (λ k. (noted k).first) kind)
 
 pub by_kind_alike : (f g : Kind → Noted) → ((kind : Kind) → f kind ≡ g kind) → by_kind f ≡ by_kind g
 by_kind_alike f g h = λ i. by_kind (λ kind. h kind i)
@@ -54,6 +49,23 @@ warnings_of_none = refl
 pub warnings_of-append : (xs ys : List Warning) → warnings_of (xs ++ ys) ≡ joined (warnings_of xs) (warnings_of ys)
 unfolding joined warnings_of
 warnings_of-append xs ys = by_kind_alike (λ kind. noted_of kind (xs ++ ys)) (λ kind. joined_noted (noted_of kind xs) (noted_of kind ys)) (λ kind. noted_of-append kind xs ys)
+
+-- what is written for one kind
+pub replaced_is : (a new : Warnings) (kind : Kind) (noted : Noted) → new.firsts ≡ with_value a.firsts kind noted.first →
+    new.counts ≡ with_value a.counts kind noted.count → new ≡ replaced a kind noted
+unfolding replaced
+replaced_is a new kind noted f c = λ i. record {
+  firsts = (f ∙ λ j. each (λ other. first_of_test (same_kind kind other) (kept a other) j)) i;
+  counts = (c ∙ λ j. each (λ other. count_of_test (same_kind kind other) (kept a other) j)) i;
+}
+  where
+    first_of_test : (t : Bool) (b : Noted) → (if t then noted.first else b.first) ≡ (if t then noted else b).first
+    first_of_test true b = refl
+    first_of_test false b = refl
+
+    count_of_test : (t : Bool) (b : Noted) → (if t then noted.count else b.count) ≡ (if t then noted else b).count
+    count_of_test true b = refl
+    count_of_test false b = refl
 
 -- one warning more is what is kept of it alone, joined
 noted_of_one : (place : ℕ) (kind other : Kind) (t : Bool) → same_kind kind other ≡ t →

@@ -3,19 +3,7 @@ ghost use Rattle.std.specs.Prelude.{◌∷◌, []};
 ghost use Rattle.gj_coords.specs.Warnings.{warning_at};
 ghost use Rattle.gj_coords.specs.WarningsStand.{StandsFor};
 
-use gj_coords::{Kind, Warnings};
-
-const KINDS: [Kind; 9] = [
-    Kind::W1,
-    Kind::W2,
-    Kind::W3,
-    Kind::W4,
-    Kind::W5,
-    Kind::W6,
-    Kind::W7,
-    Kind::W8,
-    Kind::W9,
-];
+use gj_coords::{KINDS, Kind, Warnings};
 
 fn at(kind: Kind, place: u64) -> Warnings
     ensures { StandsFor result (warning_at place kind ∷ []) }
@@ -39,6 +27,7 @@ fn numbers(rt: HostRuntime) {
             KINDS[index].number() as usize == index + 1,
             "the kind at {index}"
         );
+        assert_eq!(rt; KINDS[index].index(), index);
     }
 }
 

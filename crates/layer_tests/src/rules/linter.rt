@@ -3,7 +3,7 @@
 mod doomed;
 mod made;
 
-use gj_coords::{Fault, Kind, Rule, Warnings};
+use gj_coords::{Fault, KINDS, Kind, Rule, Warnings};
 use gj_json::{Cause, JsonFault, Limits, MOST_LEVELS};
 use gj_rules::{Linter, Progress, Verdict};
 use std::process::Abort;
@@ -197,18 +197,6 @@ fn a_refusal_stays(rt: HostRuntime) {
     assert_eq!(rt; linter.offset(), 1);
     assert!(rt; linter.finish() == Verdict::NotJson(fault), "the verdict");
 }
-
-const KINDS: [Kind; 9] = [
-    Kind::W1,
-    Kind::W2,
-    Kind::W3,
-    Kind::W4,
-    Kind::W5,
-    Kind::W6,
-    Kind::W7,
-    Kind::W8,
-    Kind::W9,
-];
 
 /// A kind of warning with its count and its first place.
 #[derive(Clone, Copy)]

@@ -1,7 +1,8 @@
-use Rattle.std.proofs.Common.{arith, ap, ◌∙◌, subst, ◌≡◌, ◌++◌, ℕ, List, take, get_or, ◌+◌, sym, append_assoc}
+use Rattle.std.proofs.Common.{arith, ap, ◌∙◌, subst, ◌≡◌, ◌++◌, ℕ, List, length, take, get_or, ◌+◌, sym, append_assoc}
 use Rattle.std.specs.List.{flat_map}
 use Rattle.gj_coords.specs.declared.kind.Kind.TheVariants.{W1}
-use Rattle.geolint.specs.Report.{kind_line, kinds, warning_lines}
+use Rattle.gj_coords.specs.Warnings.{kinds}
+use Rattle.geolint.specs.Report.{kind_line, warning_lines}
 use Rattle.geolint.specs.Room.{written_in}
 use Rattle.geolint.proofs.RoomWrites.{lines-more}
 use Rattle.geolint.proofs.report.warnings.push_warnings.Goals as goal
@@ -22,5 +23,5 @@ loop-kind-preserved c = record {
 pub returns : goal.returns
 unfolding warning_lines
 returns c = λ all stands.
-    let end : c.loop-kind.kind-index ≡ 9 = omega (arith, c.loop-kind-test.false, c.loop-kind.auto.kind-index-end) in
+    let end : c.loop-kind.kind-index ≡ length kinds = omega (arith, c.loop-kind-test.false, c.loop-kind.auto.kind-index-end) in
     subst (λ (i : ℕ). written_in c.loop-kind.room ≡ written_in c.args.room.now ++ flat_map (kind_line all) (take i kinds)) end (c.loop-kind.invariant.done all stands)

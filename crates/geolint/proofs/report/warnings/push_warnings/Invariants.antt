@@ -1,8 +1,8 @@
 use Rattle.std.proofs.Common.{List, length, take, ◌+◌, ◌*◌, ◌++◌, ◌≡◌, ◌≤◌}
 use Rattle.std.specs.List.{flat_map}
-use Rattle.gj_coords.specs.Warnings.{Warning}
+use Rattle.gj_coords.specs.Warnings.{Warning, kinds}
 use Rattle.gj_coords.specs.WarningsStand.{StandsFor as WarningsStandFor}
-use Rattle.geolint.specs.Report.{kind_line, kinds}
+use Rattle.geolint.specs.Report.{kind_line}
 use Rattle.geolint.specs.Room.{written_in}
 use Rattle.geolint.specs.declared.room.TheConstants.{MOST_LINE}
 use Rattle.geolint.proofs.report.warnings.push_warnings.Given as goal

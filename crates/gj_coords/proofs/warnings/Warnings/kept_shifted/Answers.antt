@@ -1,7 +1,7 @@
 use Rattle.std.proofs.Common.{arith, ◌+◌, ◌≤◌, ◌^◌}
 use Rattle.gj_coords.specs.Internal.KeptWarnings.{kept}
 use Rattle.gj_coords.proofs.Lists.ShiftedWarnings.{within_reach}
-use Rattle.gj_coords.proofs.warnings.Warnings.first_shifted.Goals as goal
+use Rattle.gj_coords.proofs.warnings.Warnings.kept_shifted.Goals as goal
 
 pub overflow_add-result : goal.overflow_add-result
 overflow_add-result c =
