@@ -4,8 +4,8 @@ use Rattle.gj_json.specs.declared.event.Event.{Event}
 use Rattle.gj_json.specs.declared.flat.Flat.{Flat}
 use Rattle.gj_coords.specs.declared.array.Stage.TheVariants.{Done}
 use Rattle.gj_coords.specs.declared.coordinates.Coordinates.{Coordinates}
-use Rattle.gj_coords.specs.declared.depth.Depth.{Depth}
-use Rattle.gj_coords.specs.declared.depth.Depth.TheVariants.{Unknown, First, Second, Third, Whole}
+use Rattle.gj_coords.specs.declared.walk.depth.Depth.{Depth}
+use Rattle.gj_coords.specs.declared.walk.depth.Depth.TheVariants.{Unknown, First, Second, Third, Whole}
 use Rattle.gj_coords.specs.Internal.ValueMachine.{ReadsOn}
 use Rattle.gj_coords.specs.Internal.GatheredWarnings.{no_warned}
 use Rattle.gj_coords.specs.Internal.PositionGather.{sound_noted}

@@ -1,12 +1,12 @@
 //! The value of `coordinates` under the six types.
 
 use crate::array::Stage;
-use crate::depth::{Depth, depth_of, is_past};
 use crate::fault::Fault;
 use crate::part::Part;
 use crate::simple::Simple;
 use crate::simple_faults::SimpleFaults;
 use crate::walk;
+use crate::walk::depth::{Depth, depth_of, is_past};
 use crate::walk::{Walk, all_warnings, least_fault};
 use crate::warned::Warned;
 use crate::warnings::Warnings;

@@ -10,14 +10,19 @@ ghost use Rattle.gj_json.specs.Flat.{number_event};
 ghost use Rattle.gj_coords.specs.Internal.SentEvents.{event_at};
 ghost use Rattle.gj_coords.specs.Internal.FlatPosition.{flat_taken, singly, in_second, second_due, third_due, in_third, in_fourth};
 
+pub mod depth;
+mod first_level;
+mod second_level;
+mod third_level;
+
 use crate::array::{Array, Stage};
 use crate::fault::Fault;
-use crate::first_level::FirstLevel;
 use crate::part::Part;
 use crate::position::misshapen;
-use crate::second_level::SecondReader;
 use crate::simple::Simple;
 use crate::simple_faults::SimpleFaults;
+use crate::walk::first_level::FirstLevel;
+use crate::walk::second_level::SecondReader;
 use crate::warned::Warned;
 use crate::warnings::Warnings;
 use gj_json::{Event, Flat, Numbered, What};

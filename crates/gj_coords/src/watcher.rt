@@ -13,6 +13,8 @@ ghost use Rattle.gj_coords.specs.CoordinateWarnings.{coordinates_warnings};
 ghost use Rattle.gj_coords.specs.Internal.ValueMachine.{Answers};
 ghost use Rattle.gj_coords.specs.Internal.SixReaders.{type_answer};
 
+mod whole;
+
 use crate::array::Array;
 use crate::element::Element;
 use crate::fault::Fault;
@@ -22,7 +24,7 @@ use crate::position::{Numbers, PositionReader};
 use crate::ring::Ring;
 use crate::several::{LINE_NEEDS, LIST_NEEDS, Line, List, Several};
 use crate::warnings::Warnings;
-use crate::whole::Whole;
+use crate::watcher::whole::Whole;
 use gj_json::Event;
 
 /// Takes the events of one value of `coordinates`, and tells its least fault and its warnings under one type.

@@ -9,7 +9,7 @@ use Rattle.gj_coords.specs.declared.array.Stage.{Stage}
 use Rattle.gj_coords.specs.declared.array.Stage.TheVariants.{Due, Done}
 use Rattle.gj_coords.specs.declared.element.Element.{Element}
 use Rattle.gj_coords.specs.declared.fault.Fault.{Fault}
-use Rattle.gj_coords.specs.declared.first_level.FirstSummary.TheVariants.{Level}
+use Rattle.gj_coords.specs.declared.walk.first_level.FirstSummary.TheVariants.{Level}
 use Rattle.gj_coords.specs.declared.simple.Simple.{Simple}
 use Rattle.gj_coords.specs.declared.simple.Simple.TheVariants.{Point, MultiPoint, LineString, MultiLineString, Polygon, MultiPolygon}
 use Rattle.gj_coords.specs.declared.simple_faults.SimpleFaults.{SimpleFaults}
@@ -31,8 +31,8 @@ use Rattle.gj_coords.specs.SimpleFaults.{by_simple, least_faults}
 use Rattle.gj_coords.proofs.Readers.RestsOfValues.{reads_on_none, reads_on_more, reads_on_ended, reads_on_answers}
 use Rattle.gj_coords.specs.Internal.CoordinatesKept.{third_answer, second_answer, first_answer, coordinates_kept}
 use Rattle.gj_coords.proofs.Walks.FaultsOfLevels.{first_least}
-use Rattle.gj_coords.specs.declared.depth.Depth.{Depth}
-use Rattle.gj_coords.specs.declared.depth.Depth.TheVariants.{Unknown, First, Second, Third, Whole}
+use Rattle.gj_coords.specs.declared.walk.depth.Depth.{Depth}
+use Rattle.gj_coords.specs.declared.walk.depth.Depth.TheVariants.{Unknown, First, Second, Third, Whole}
 use Rattle.gj_coords.specs.Internal.SteadyWalk.{IsFirst, IsSecond, IsThird, IsSteady, IsPast, is_whole, third_steady, second_steady, first_steady}
 use Rattle.gj_coords.proofs.Walks.FlatLaws.{flat_leads, value_leads}
 use Rattle.gj_coords.proofs.Walks.HeldPositions.{flat_fault, flat_warned, is_no_warned, quiet_none}

@@ -9,11 +9,11 @@ use Rattle.gj_coords.specs.declared.simple.Simple.{Simple}
 use Rattle.gj_coords.specs.declared.simple.Simple.TheVariants.{Point, MultiPoint, LineString, MultiLineString, Polygon, MultiPolygon}
 use Rattle.gj_coords.specs.declared.several.Several.{Several}
 use Rattle.gj_coords.specs.declared.tally.Tally.{Tally}
-use Rattle.gj_coords.specs.declared.third_level.ThirdSummary.{ThirdSummary}
-use Rattle.gj_coords.specs.declared.first_level.FirstSummary.{FirstSummary}
-use Rattle.gj_coords.specs.declared.first_level.FirstSummary.TheVariants.{Other, Level}
-use Rattle.gj_coords.specs.declared.second_level.SecondLevel.{SecondLevel}
-use Rattle.gj_coords.specs.declared.first_level.FirstLevel.{FirstLevel}
+use Rattle.gj_coords.specs.declared.walk.third_level.ThirdSummary.{ThirdSummary}
+use Rattle.gj_coords.specs.declared.walk.first_level.FirstSummary.{FirstSummary}
+use Rattle.gj_coords.specs.declared.walk.first_level.FirstSummary.TheVariants.{Other, Level}
+use Rattle.gj_coords.specs.declared.walk.second_level.SecondLevel.{SecondLevel}
+use Rattle.gj_coords.specs.declared.walk.first_level.FirstLevel.{FirstLevel}
 use Rattle.gj_coords.specs.Fault.{fault_at, lesser, least}
 use Rattle.gj_coords.specs.Items.{items}
 use Rattle.gj_coords.specs.Shape.{Shape, position, list, line, ring, shape_of, coordinates_faults}

@@ -11,13 +11,13 @@ use Rattle.gj_coords.specs.declared.array.Stage.TheVariants.{Due, Between, Withi
 use Rattle.gj_coords.specs.declared.element.Element.{Element}
 use Rattle.gj_coords.specs.declared.fault.Fault.{Fault}
 use Rattle.gj_coords.specs.declared.fault.Rule.TheVariants.{G11, G14, G15}
-use Rattle.gj_coords.specs.declared.first_level.FirstLevel.{FirstLevel}
-use Rattle.gj_coords.specs.declared.first_level.FirstSummary.{FirstSummary}
+use Rattle.gj_coords.specs.declared.walk.first_level.FirstLevel.{FirstLevel}
+use Rattle.gj_coords.specs.declared.walk.first_level.FirstSummary.{FirstSummary}
 use Rattle.gj_coords.specs.declared.position.Numbers.{Numbers}
-use Rattle.gj_coords.specs.declared.second_level.SecondLevel.{SecondLevel}
-use Rattle.gj_coords.specs.declared.second_level.SecondSummary.{SecondSummary}
-use Rattle.gj_coords.specs.declared.third_level.ThirdLevel.{ThirdLevel}
-use Rattle.gj_coords.specs.declared.third_level.ThirdSummary.{ThirdSummary}
+use Rattle.gj_coords.specs.declared.walk.second_level.SecondLevel.{SecondLevel}
+use Rattle.gj_coords.specs.declared.walk.second_level.SecondSummary.{SecondSummary}
+use Rattle.gj_coords.specs.declared.walk.third_level.ThirdLevel.{ThirdLevel}
+use Rattle.gj_coords.specs.declared.walk.third_level.ThirdSummary.{ThirdSummary}
 use Rattle.gj_coords.specs.declared.winding.Turn.TheVariants.{Straight}
 use Rattle.gj_coords.specs.Fault.{fault_at, lesser}
 use Rattle.gj_coords.specs.Internal.Gathering.{Gathering}

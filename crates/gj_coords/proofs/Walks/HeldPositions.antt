@@ -4,9 +4,9 @@ use Rattle.std.proofs.Common.{◌≡◌, ℕ, Option, Some, None, Bool, true, fa
 use Rattle.gj_json.specs.declared.flat.Flat.{Flat}
 use Rattle.gj_json.specs.declared.flat.Numbered.{Numbered}
 use Rattle.gj_coords.specs.declared.fault.Fault.{Fault}
-use Rattle.gj_coords.specs.declared.first_level.FirstLevel.{FirstLevel}
-use Rattle.gj_coords.specs.declared.first_level.FirstSummary.{FirstSummary}
-use Rattle.gj_coords.specs.declared.first_level.FirstSummary.TheVariants.{Other, Level}
+use Rattle.gj_coords.specs.declared.walk.first_level.FirstLevel.{FirstLevel}
+use Rattle.gj_coords.specs.declared.walk.first_level.FirstSummary.{FirstSummary}
+use Rattle.gj_coords.specs.declared.walk.first_level.FirstSummary.TheVariants.{Other, Level}
 use Rattle.gj_coords.specs.declared.noted.Noted.{Noted}
 use Rattle.gj_coords.specs.declared.position.Position.{Position}
 use Rattle.gj_coords.specs.declared.position.Values.{Values}

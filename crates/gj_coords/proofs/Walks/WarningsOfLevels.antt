@@ -3,12 +3,12 @@ use Rattle.std.specs.List.{flat_map}
 use Rattle.std.specs.Prelude.{⊤}
 use Rattle.std.proofs.Common.{◌≡◌, ℕ, [], ◌∷◌, true, false, refl, sym, ap, ◌∙◌, arith, if◌then◌else◌}
 use Rattle.gj_json.specs.Tree.{Tree, constant, number, string, array, object, Elements, end_of_array, element}
-use Rattle.gj_coords.specs.declared.first_level.FirstLevel.{FirstLevel}
+use Rattle.gj_coords.specs.declared.walk.first_level.FirstLevel.{FirstLevel}
 use Rattle.gj_coords.specs.declared.kind.Kind.TheVariants.{W6}
 use Rattle.gj_coords.specs.declared.position.Position.{Position}
 use Rattle.gj_coords.specs.declared.ring.RingGather.{RingGather}
-use Rattle.gj_coords.specs.declared.second_level.SecondLevel.{SecondLevel}
-use Rattle.gj_coords.specs.declared.third_level.ThirdLevel.{ThirdLevel}
+use Rattle.gj_coords.specs.declared.walk.second_level.SecondLevel.{SecondLevel}
+use Rattle.gj_coords.specs.declared.walk.third_level.ThirdLevel.{ThirdLevel}
 use Rattle.gj_coords.specs.declared.simple.Simple.{Simple}
 use Rattle.gj_coords.specs.declared.simple.Simple.TheVariants.{Point, MultiPoint, LineString, MultiLineString, Polygon, MultiPolygon}
 use Rattle.gj_coords.specs.Items.{items, elements_of, place_of}

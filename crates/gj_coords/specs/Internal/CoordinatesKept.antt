@@ -1,9 +1,9 @@
 -- What is kept of the warnings of the value of `coordinates`, whatever its length.
 use Rattle.gj_json.specs.Tree.{Tree}
-use Rattle.gj_coords.specs.declared.first_level.FirstSummary.{FirstSummary}
-use Rattle.gj_coords.specs.declared.second_level.SecondSummary.{SecondSummary}
+use Rattle.gj_coords.specs.declared.walk.first_level.FirstSummary.{FirstSummary}
+use Rattle.gj_coords.specs.declared.walk.second_level.SecondSummary.{SecondSummary}
 use Rattle.gj_coords.specs.declared.simple.Simple.{Simple}
-use Rattle.gj_coords.specs.declared.third_level.ThirdSummary.{ThirdSummary}
+use Rattle.gj_coords.specs.declared.walk.third_level.ThirdSummary.{ThirdSummary}
 use Rattle.gj_coords.specs.declared.warnings.Warnings.{Warnings}
 use Rattle.gj_coords.specs.Internal.Gathering.{given}
 use Rattle.gj_coords.specs.Internal.GatheredWarnings.{all_in}

@@ -7,13 +7,13 @@ use Rattle.gj_coords.specs.declared.position.Numbers.{Numbers}
 use Rattle.gj_coords.specs.declared.position.Position.{Position}
 use Rattle.gj_coords.specs.declared.simple.Simple.{Simple}
 use Rattle.gj_coords.specs.declared.simple.Simple.TheVariants.{Point, MultiPoint, LineString, MultiLineString, Polygon, MultiPolygon}
-use Rattle.gj_coords.specs.declared.third_level.ThirdSummary.{ThirdSummary}
-use Rattle.gj_coords.specs.declared.second_level.SecondSummary.{SecondSummary}
-use Rattle.gj_coords.specs.declared.first_level.FirstSummary.{FirstSummary}
-use Rattle.gj_coords.specs.declared.first_level.FirstSummary.TheVariants.{Other, Level}
-use Rattle.gj_coords.specs.declared.third_level.ThirdLevel.{ThirdLevel}
-use Rattle.gj_coords.specs.declared.second_level.SecondLevel.{SecondLevel}
-use Rattle.gj_coords.specs.declared.first_level.FirstLevel.{FirstLevel}
+use Rattle.gj_coords.specs.declared.walk.third_level.ThirdSummary.{ThirdSummary}
+use Rattle.gj_coords.specs.declared.walk.second_level.SecondSummary.{SecondSummary}
+use Rattle.gj_coords.specs.declared.walk.first_level.FirstSummary.{FirstSummary}
+use Rattle.gj_coords.specs.declared.walk.first_level.FirstSummary.TheVariants.{Other, Level}
+use Rattle.gj_coords.specs.declared.walk.third_level.ThirdLevel.{ThirdLevel}
+use Rattle.gj_coords.specs.declared.walk.second_level.SecondLevel.{SecondLevel}
+use Rattle.gj_coords.specs.declared.walk.first_level.FirstLevel.{FirstLevel}
 use Rattle.gj_coords.specs.declared.kind.Kind.TheVariants.{W6}
 use Rattle.gj_coords.specs.declared.warned.Warned.{Warned}
 use Rattle.gj_coords.specs.declared.winding.Turn.TheVariants.{Unjudged}

@@ -5,7 +5,7 @@ use Rattle.gj_coords.specs.declared.array.Array.{Array}
 use Rattle.gj_coords.specs.declared.findings.Findings.{Findings}
 use Rattle.gj_coords.specs.declared.ring.LinearRing.{LinearRing}
 use Rattle.gj_coords.specs.declared.several.Several.{Several}
-use Rattle.gj_coords.specs.declared.whole.Whole.{Whole}
+use Rattle.gj_coords.specs.declared.watcher.whole.Whole.{Whole}
 use Rattle.gj_coords.specs.declared.simple.Simple.{Simple}
 use Rattle.gj_coords.specs.declared.simple.Simple.TheVariants.{Point, MultiPoint, LineString, MultiLineString, Polygon, MultiPolygon}
 use Rattle.gj_coords.specs.Internal.SentEvents.{head}

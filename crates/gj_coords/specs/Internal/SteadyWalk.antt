@@ -7,11 +7,11 @@ use Rattle.gj_coords.specs.declared.array.Stage.TheVariants.{Due, Between, Withi
 use Rattle.gj_coords.specs.declared.element.Element.{Element}
 use Rattle.gj_coords.specs.declared.fault.Fault.{Fault}
 use Rattle.gj_coords.specs.declared.position.Numbers.{Numbers}
-use Rattle.gj_coords.specs.declared.depth.Depth.{Depth}
-use Rattle.gj_coords.specs.declared.depth.Depth.TheVariants.{Unknown, First, Second, Third, Whole}
-use Rattle.gj_coords.specs.declared.first_level.FirstLevel.{FirstLevel}
-use Rattle.gj_coords.specs.declared.second_level.SecondLevel.{SecondLevel}
-use Rattle.gj_coords.specs.declared.third_level.ThirdLevel.{ThirdLevel}
+use Rattle.gj_coords.specs.declared.walk.depth.Depth.{Depth}
+use Rattle.gj_coords.specs.declared.walk.depth.Depth.TheVariants.{Unknown, First, Second, Third, Whole}
+use Rattle.gj_coords.specs.declared.walk.first_level.FirstLevel.{FirstLevel}
+use Rattle.gj_coords.specs.declared.walk.second_level.SecondLevel.{SecondLevel}
+use Rattle.gj_coords.specs.declared.walk.third_level.ThirdLevel.{ThirdLevel}
 use Rattle.gj_coords.specs.Internal.PositionGather.{array_counted, sound_noted}
 use Rattle.gj_coords.specs.Internal.PositionsGather.{position_added}
 use Rattle.gj_coords.specs.Internal.FlatPosition.{Walk, flat_position}

@@ -3,8 +3,8 @@ use Rattle.std.specs.Prelude.{◌≡◌, Option, Some, None}
 use Rattle.std.proofs.Common.{refl, ap, subst, sym, ◌∙◌}
 use Rattle.gj_json.specs.declared.names.Word.{Word}
 use Rattle.gj_json.specs.Tree.{Tree}
-use Rattle.gj_coords.specs.declared.first_level.FirstSummary.{FirstSummary}
-use Rattle.gj_coords.specs.declared.first_level.FirstSummary.TheVariants as Summary
+use Rattle.gj_coords.specs.declared.walk.first_level.FirstSummary.{FirstSummary}
+use Rattle.gj_coords.specs.declared.walk.first_level.FirstSummary.TheVariants as Summary
 use Rattle.gj_coords.specs.declared.simple.Simple.{Simple}
 use Rattle.gj_coords.specs.declared.warned.Warned.{Warned}
 use Rattle.gj_coords.specs.declared.warnings.Warnings.{Warnings}

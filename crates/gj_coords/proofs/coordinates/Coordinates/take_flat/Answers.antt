@@ -1,4 +1,4 @@
-use Rattle.gj_coords.specs.declared.depth.Depth.TheVariants.{First, Second, Third}
+use Rattle.gj_coords.specs.declared.walk.depth.Depth.TheVariants.{First, Second, Third}
 use Rattle.gj_coords.specs.Coordinates.{Holds}
 use Rattle.gj_coords.proofs.Walks.AnswersOfWalks.{first_flat, second_flat, third_flat, holds_at, held_at}
 use Rattle.gj_coords.proofs.Walks.SteadyLaws.{first_still, second_still, third_still}

@@ -6,7 +6,7 @@ use crate::part::Gather;
 use crate::position::{Numbers, Position, misshapen};
 use crate::ring::{Positions, RingRole};
 use crate::several::line_fault;
-use crate::third_level::{ThirdLevel, ThirdReader};
+use crate::walk::third_level::{ThirdLevel, ThirdReader};
 use crate::warned::Warned;
 use crate::winding::Turn;
 use gj_json::{Event, Flat};

@@ -6,10 +6,10 @@ use crate::kind::Kind;
 use crate::part::Gather;
 use crate::position::{Numbers, misshapen};
 use crate::ring::RingRole;
-use crate::second_level::{SecondLevel, SecondReader};
 use crate::several::line_fault;
 use crate::simple::Simple;
 use crate::simple_faults::SimpleFaults;
+use crate::walk::second_level::{SecondLevel, SecondReader};
 use crate::warned::Warned;
 use gj_json::{Event, Flat};
 
