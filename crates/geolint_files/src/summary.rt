@@ -99,7 +99,7 @@ impl Summary {
         ensures { Adds self.old self.new false false false false false (λ other. same other code) }
     {
         let slot = slot(code);
-        if slot < self.counts.len() {
+        if slot < CODES {
             self.counts[slot] = self.counts[slot].saturating_add(1);
         }
     }
@@ -109,11 +109,7 @@ impl Summary {
         ensures { slot_of code < CODES → (files : List (Option Finding)) → Counts self.now files → result ≡ u64_saturate (count_by (tells code) files) }
     {
         let slot = slot(code);
-        if slot < self.counts.len() {
-            self.counts[slot]
-        } else {
-            0
-        }
+        if slot < CODES { self.counts[slot] } else { 0 }
     }
 
     /// Puts the counts, and how many files each rule is told of.
