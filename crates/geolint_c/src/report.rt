@@ -70,11 +70,17 @@ fn warned_of(warnings: &Warnings, kind: Kind) -> Warned
 fn all_warned(warnings: &Warnings) -> [Warned; KINDS.len()]
     ensures { (all : List Warning) → StandsFor warnings.now all → result ≡ all_warned all }
 {
-    let mut all = nothing_warned();
-    for kind in &KINDS {
-        all[kind.index()] = warned_of(warnings, *kind);
-    }
-    all
+    [
+        warned_of(warnings, Kind::W1),
+        warned_of(warnings, Kind::W2),
+        warned_of(warnings, Kind::W3),
+        warned_of(warnings, Kind::W4),
+        warned_of(warnings, Kind::W5),
+        warned_of(warnings, Kind::W6),
+        warned_of(warnings, Kind::W7),
+        warned_of(warnings, Kind::W8),
+        warned_of(warnings, Kind::W9),
+    ]
 }
 
 fn nothing_warned() -> [Warned; KINDS.len()]
