@@ -15,7 +15,7 @@ use Rattle.gj_coords.specs.declared.warnings.Warnings.{Warnings}
 use Rattle.gj_rules.specs.declared.verdict.Verdict.{Verdict}
 use Rattle.gj_rules.specs.declared.verdict.Verdict.TheVariants.{Valid, Broken, NotJson}
 use Rattle.gj_rules.specs.TextWarnings.{text_warnings}
-use Rattle.gj_rules.specs.Verdict.{valid, IsJudgement, IsVerdict, NeverValid}
+use Rattle.gj_rules.specs.Verdict.{valid, IsJudgement, IsValidWith, IsVerdict, NeverValid}
 use Rattle.geolint.specs.Quick.{JudgesQuickly, SaysValid, ShowNoFault, StopsAtOnce, valid_in}
 
 -- each input has one verdict
@@ -71,16 +71,20 @@ never_quick limits (Some all) (Some rest) read took never = record {
   read = read;
   split = took;
   lasting = λ more_is_left. never;
-  of_all = λ warnings is. never rest (warnings_of warnings) (told_valid limits (read ++ rest) warnings (subst (λ (bytes : List ℕ). IsJudgement limits bytes (valid warnings)) took is));
+  of_all = λ warnings is. never rest (in_any warnings (subst (λ (bytes : List ℕ). IsJudgement limits bytes (valid warnings)) took is));
 }
+  where
+    in_any : (warnings : List Warning) → IsJudgement limits (read ++ rest) (valid warnings) → IsValidWith limits (read ++ rest) (λ all. Unit {0})
+    in_any warnings is = (is.0, is.1, is.2, tt)
 
 pub quick-lasting : (limits : Allowed) (old new : Option (List ℕ)) (read : List ℕ) → Consumes old new read → NeverValid limits read → QuicklySays limits old new None
 quick-lasting limits old new read took never = (None, tt, never_quick limits old new read took never)
 
 -- what is refused
 pub refused_never : HasOne → (here limits : Allowed) (bytes : List ℕ) (fault : JsonFault) → here ≡ limits → ((more : List ℕ) → IsRefusal here (bytes ++ more) fault) → NeverValid limits bytes
-refused_never one here limits bytes fault same refused more warnings is_valid =
-    let e : NotJson fault ≡ Valid warnings = one limits (bytes ++ more) (NotJson fault) (Valid warnings) (subst (λ (l : Allowed). IsRefusal l (bytes ++ more) fault) same (refused more)) is_valid in
+refused_never one here limits bytes fault same refused more is =
+    let told : Warnings = warnings_of (text_warnings is.0) in
+    let e : NotJson fault ≡ Valid told = one limits (bytes ++ more) (NotJson fault) (Valid told) (subst (λ (l : Allowed). IsRefusal l (bytes ++ more) fault) same (refused more)) (is.0, is.1, is.2, refl) in
     cc
 
 -- a count of reads, one read later

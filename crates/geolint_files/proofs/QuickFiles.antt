@@ -4,10 +4,12 @@ use Rattle.std.specs.Io.KnownBytes.{Consumes, IsAtEnd}
 use Rattle.gj_json.specs.Limits.{Allowed}
 use Rattle.gj_json.specs.Refusal.{IsRefusal}
 use Rattle.gj_json.specs.declared.fault.JsonFault.{JsonFault}
+use Rattle.gj_coords.specs.Internal.KeptWarnings.{warnings_of}
 use Rattle.gj_coords.specs.declared.warnings.Warnings.{Warnings}
 use Rattle.gj_rules.specs.declared.verdict.Verdict.{Verdict}
 use Rattle.gj_rules.specs.declared.verdict.Verdict.TheVariants.{Valid, Broken, NotJson}
-use Rattle.gj_rules.specs.Verdict.{IsVerdict, NeverValid}
+use Rattle.gj_rules.specs.TextWarnings.{text_warnings}
+use Rattle.gj_rules.specs.Verdict.{IsValidWith, IsVerdict, NeverValid}
 use Rattle.geolint_files.specs.Judged.{IsQuick, JudgesQuickly, valid_in}
 
 -- each input has one verdict
@@ -46,10 +48,14 @@ quick-lasting limits (Some all) (Some rest) read took never = record {
   read = read;
   split = took;
   lasting = λ more_is_left. never;
-  of_all = λ warnings valid. never rest warnings (subst (λ (bytes : List ℕ). IsVerdict limits bytes (Valid warnings)) took valid);
+  of_all = λ warnings valid. never rest (in_any warnings (subst (λ (bytes : List ℕ). IsVerdict limits bytes (Valid warnings)) took valid));
 }
+  where
+    in_any : (warnings : Warnings) → IsVerdict limits (read ++ rest) (Valid warnings) → IsValidWith limits (read ++ rest) (λ all. Unit {0})
+    in_any warnings is = (is.0, is.1, is.2, tt)
 
 -- what is refused
 pub refused_never : HasOne → (here limits : Allowed) (bytes : List ℕ) (fault : JsonFault) → here ≡ limits → ((more : List ℕ) → IsRefusal here (bytes ++ more) fault) → NeverValid limits bytes
-refused_never one here limits bytes fault same refused more warnings valid =
-    other one limits (bytes ++ more) (NotJson fault) (subst (λ (l : Allowed). IsRefusal l (bytes ++ more) fault) same (refused more)) refl warnings valid
+refused_never one here limits bytes fault same refused more is =
+    other one limits (bytes ++ more) (NotJson fault) (subst (λ (l : Allowed). IsRefusal l (bytes ++ more) fault) same (refused more)) refl
+        (warnings_of (text_warnings is.0)) (is.0, is.1, is.2, refl)

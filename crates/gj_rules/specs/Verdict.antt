@@ -47,9 +47,9 @@ IsVerdict limits bytes (Valid told) = IsValidWith limits bytes (WarningsStandFor
 IsVerdict limits bytes (Broken fault) = IsBrokenBy limits bytes fault
 IsVerdict limits bytes (NotJson fault) = IsRefusal limits bytes fault
 
--- no input that begins with these bytes is valid
+-- no input that begins with these bytes is valid, whatever its warnings
 abbrev pub NeverValid : Allowed → List ℕ → Type 0
-NeverValid limits bytes = (more : List ℕ) (warnings : Warnings) → IsVerdict limits (bytes ++ more) (Valid warnings) → ⊥
+NeverValid limits bytes = (more : List ℕ) → IsValidWith limits (bytes ++ more) (λ warnings. Unit {0}) → ⊥
 
 -- the verdict of a text with this least fault and these warnings
 abbrev pub verdict_of : Option Fault → Warnings → Verdict
