@@ -5,3 +5,4 @@ pub mod OneDigitMore
 pub mod DigitBounds
 pub mod LastDigits
 pub mod RunsOfDigits
+pub mod RunsOfZeros

@@ -4,7 +4,7 @@ ghost use Rattle.gj_number.specs.Bytes.{IsDigit};
 ghost use Rattle.gj_number.specs.Internal.KeptParts.{limited_power};
 ghost use Rattle.gj_number.specs.Value.{with_digit};
 
-use crate::lanes::digit_run;
+use crate::lanes::{digit_run, zero_run};
 
 /// The largest magnitude of a held number's written exponent.
 pub(crate) const EXPONENT_LIMIT: u16 = 1000;
@@ -31,7 +31,8 @@ impl Exponent {
         self.magnitude = (self.magnitude * 10 + digit as u16).min(EXPONENT_LIMIT + 1);
     }
 
-    /// How many digits at the front of the piece make no difference, since the magnitude is past the limit.
+    /// How many digits at the front of the piece make no difference, since the magnitude is past the limit, or is zero as
+    /// they are.
     #[inline]
     pub(crate) fn pass_run(&self, piece: &[u8]) -> usize
         ensures length { result ≤ length piece.now }
@@ -41,6 +42,8 @@ impl Exponent {
     {
         if self.magnitude > EXPONENT_LIMIT {
             digit_run(piece)
+        } else if self.magnitude == 0 {
+            zero_run(piece)
         } else {
             0
         }

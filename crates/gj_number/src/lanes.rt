@@ -5,6 +5,7 @@ ghost use Rattle.std.specs.Option.{IsSome};
 ghost use Rattle.std.specs.Simd.Lanes.{Each1, mask_l};
 ghost use Rattle.gj_number.specs.Bytes.{IsDigit};
 ghost use Rattle.gj_number.specs.Internal.DigitLanes.{lane_of, with_value, by_fours, leading};
+ghost use Rattle.gj_number.specs.Value.{with_digit};
 ghost use Rattle.gj_number.specs.Internal.DigitRuns.{IsRun, IsPointed, SpellsOn, SpellsUnsigned};
 
 use std::simd::prelude::*;
@@ -196,6 +197,23 @@ pub(crate) fn digit_run(piece: &[u8]) -> usize
         if count < 16 {
             return at;
         }
+    }
+    at
+}
+
+/// How many zeros a piece begins with, as far as whole vectors of it go.
+pub(crate) fn zero_run(piece: &[u8]) -> usize
+    ensures length { result ≤ length piece.now }
+    ensures digits { All IsDigit (take result piece.now) }
+    ensures zeros { fold with_digit 0 (take result piece.now) ≡ 0 }
+{
+    let mut at = 0;
+    while piece.len() - at >= 16 {
+        let (count, value) = first_digits(&piece[at..]);
+        if count < 16 || value != 0 {
+            return at;
+        }
+        at += 16;
     }
     at
 }

@@ -3,6 +3,7 @@ ghost use Rattle.std.specs.Prelude.{◌≡◌, ℕ, ◌+◌, ◌*◌, ◌%◌, �
 ghost use Rattle.gj_number.specs.Bytes.{IsDigit, decimal_point};
 ghost use Rattle.gj_number.specs.Value.{with_digit};
 
+use crate::lanes::zero_run;
 use crate::tens::ten_to;
 
 /// How many digits a `u64` has room for.
@@ -37,12 +38,11 @@ pub(crate) fn zeros_in_front(piece: &[u8]) -> usize
     ensures digits { All IsDigit (take result piece.now) }
     ensures zeros { fold with_digit 0 (take result piece.now) ≡ 0 }
 {
-    for (zeros, byte) in piece.iter().enumerate() {
-        if *byte != b'0' {
-            return zeros;
-        }
+    let mut zeros = zero_run(piece);
+    while zeros < piece.len() && piece[zeros] == b'0' {
+        zeros += 1;
     }
-    piece.len()
+    zeros
 }
 
 impl Run {

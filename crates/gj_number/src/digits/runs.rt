@@ -4,7 +4,7 @@ ghost use Rattle.gj_number.specs.Value.{with_digit};
 ghost use Rattle.gj_number.specs.Bytes.{IsDigit, decimal_point};
 
 use super::{Digits, FAR, MOST_PLACES};
-use crate::lanes::digit_run;
+use crate::lanes::{digit_run, zero_run};
 use crate::run::{HEAD_DIGITS, Run, zeros_in_front};
 
 /// How many digits are taken before a point and behind it.
@@ -66,12 +66,26 @@ impl Digits {
             self.push_small_run(piece)
         } else if self.count == FAR {
             self.pass_run(piece)
+        } else if self.places == MOST_PLACES {
+            self.pass_zeros(piece)
         } else {
             self.push_rest_run(piece)
         }
     }
 
-    /// The same one by one.
+    /// How many zeros at the front of the piece make no difference, since they stand past the places that are counted.
+    #[inline]
+    fn pass_zeros(&self, piece: &[u8]) -> usize
+        requires { self.now.places ≡ 1400 }
+        ensures length { result ≤ length piece.now }
+        ensures digits { All IsDigit (take result piece.now) }
+        ensures keeps { (whole fraction : ℕ) → Keeps self.now whole fraction
+            → Keeps self.now (fold with_digit whole (take result piece.now)) (fraction + result) }
+    {
+        zero_run(piece)
+    }
+
+    /// The same one by one, as far as places are counted.
     #[inline(never)]
     fn push_rest_run(&mut self, piece: &[u8]) -> usize
         ensures length { result ≤ length piece.now }
@@ -80,6 +94,9 @@ impl Digits {
             → Keeps self.new (fold with_digit whole (take result piece.now)) (fraction + result) }
     {
         for (taken, byte) in piece.iter().enumerate() {
+            if self.places == MOST_PLACES {
+                return taken;
+            }
             if !byte.is_ascii_digit() {
                 return taken;
             }

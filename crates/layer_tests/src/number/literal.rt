@@ -175,7 +175,7 @@ fn beyond_the_limits(rt: HostRuntime) {
 fn many_zeros(rt: HostRuntime) {
     let one = Some((false, 1, 0));
     let zero = Some((false, 0, 0));
-    let rows: [(&str, &[Piece], Option<Parts>); 15] = [
+    let rows: [(&str, &[Piece], Option<Parts>); 19] = [
         (
             "1 and 30 zeros",
             &[("1", 1), ("0", 30)],
@@ -246,6 +246,26 @@ fn many_zeros(rt: HostRuntime) {
             "0e and a million nines",
             &[("0e", 1), ("9", 1_000_000)],
             zero,
+        ),
+        (
+            "-0. and a million zeros",
+            &[("-0.", 1), ("0", 1_000_000)],
+            zero,
+        ),
+        (
+            "1., a million zeros, 1",
+            &[("1.", 1), ("0", 1_000_000), ("1", 1)],
+            None,
+        ),
+        (
+            "1e, a million zeros, 2",
+            &[("1e", 1), ("0", 1_000_000), ("2", 1)],
+            Some((false, 1, 2)),
+        ),
+        (
+            "1e-, a million zeros, 401",
+            &[("1e-", 1), ("0", 1_000_000), ("401", 1)],
+            None,
         ),
     ];
     for (name, pieces, want) in rows {
