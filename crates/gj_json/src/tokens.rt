@@ -10,20 +10,6 @@ use crate::characters::characters_run;
 use crate::constant::Constant;
 use crate::lanes::ascii_run;
 
-/// How many bytes the characters of a string have that stand whole at the start of the piece.
-#[inline(always)]
-fn text_run(piece: &[u8]) -> usize
-    ensures within { result ≤ length piece.now }
-    ensures characters { AreCharacters (take result piece.now) }
-{
-    let plain = ascii_run(piece);
-    if plain < piece.len() && piece[plain] != b'"' {
-        plain + characters_run(&piece[plain..])
-    } else {
-        plain
-    }
-}
-
 /// How many bytes the string of plain characters has that stands whole at the start of a piece, or 0.
 #[inline(always)]
 pub fn plain_quoted_run(piece: &[u8]) -> usize
@@ -41,7 +27,16 @@ pub fn plain_quoted_run(piece: &[u8]) -> usize
     }
 }
 
-/// The string that the piece starts with, where it stands whole: how many bytes, or 0.
+/// How many bytes of the piece are plain characters of a string.
+#[inline(always)]
+fn plain_text_run(piece: &[u8]) -> usize
+    ensures within { result ≤ length piece.now }
+    ensures characters { AreCharacters (take result piece.now) }
+{
+    ascii_run(piece)
+}
+
+/// The string that the piece starts with, where it stands whole: how many bytes, or 0. Mostly its characters are plain.
 #[inline(always)]
 pub fn quoted_run(piece: &[u8]) -> usize
     requires some { 0 < length piece.now }
@@ -49,7 +44,14 @@ pub fn quoted_run(piece: &[u8]) -> usize
     ensures within { result ≤ length piece.now }
     ensures quoted { 0 < result → IsString (take result piece.now) }
 {
-    let end = 1 + text_run(&piece[1..]);
+    let plain = 1 + plain_text_run(&piece[1..]);
+    if plain == piece.len() {
+        return 0;
+    }
+    if piece[plain] == b'"' {
+        return plain + 1;
+    }
+    let end = plain + characters_run(&piece[plain..]);
     if end < piece.len() && piece[end] == b'"' {
         end + 1
     } else {

@@ -1,7 +1,7 @@
 -- Tokens that stand whole and open and close nothing: a string, a literal name, a number with the comma behind it, a name,
 -- a colon and a comma.
 use Rattle.std.proofs.Common.{◌≡◌, ℕ, zero, suc, ◌+◌, ◌-◌, ◌≤◌, ◌<◌, Bool, true, false, List, [], ◌∷◌, ◌++◌, get_or, length, take, take-add, drop, Option, Some, None, refl, sym, ap, subst, ◌∙◌, arith, append_assoc}
-use Rattle.std.proofs.lemmas.List.{length-append, length-take-le, map-append, take_more}
+use Rattle.std.proofs.lemmas.List.{drop-drop, length-append, length-take-le, map-append, take_more}
 use Rattle.gj_json.specs.Bytes.{quote as quote_byte, comma as comma_byte, colon as colon_byte}
 use Rattle.gj_json.specs.declared.class.Class.TheVariants.{Quote as quote_class, Comma as comma_class, Colon as colon_class, Letter as letter}
 use Rattle.gj_json.specs.declared.constant.Constant.{Constant}
@@ -50,6 +50,7 @@ use Rattle.gj_json.proofs.Pieces.QuietRuns.{byte_well, byte_completes}
 use Rattle.gj_number.specs.Exact.{Exact}
 use Rattle.gj_json.proofs.Machine.ReachedStates.{reached}
 use Rattle.gj_json.proofs.Pieces.PieceRests.{rest_of}
+use Rattle.gj_json.proofs.Pieces.QuietModes.{reads_more}
 use Rattle.gj_json.proofs.Grammar.SpelledTexts.{quote_on}
 use Rattle.gj_json.proofs.Events.EventTimes.{told}
 use Rattle.gj_json.proofs.Pieces.TakenTokens.{open_taken, end_closes, number_then, number_closed}
@@ -296,6 +297,9 @@ first_byte (x ∷ xs) b w e = ap (λ y. y ∷ []) e
 comma_move : (old : Reader) (level : Level) (next : Mode) → old.mode ≡ ValueDone → inner_of (levels_in old.levels) ≡ Some level → after_move (Some level) comma_class ≡ Go next Ending.Item → (turn : NumberTurn) (words : Words) → move_of old.mode turn (inner_of (levels_in old.levels)) words comma_byte ≡ Go next Ending.Item
 comma_move old level next m i e turn words = rw (m, i, class_is comma_class comma_byte refl (λ e. cc)) e
 
+pub comma_ends : (inner : Option Level) (b : ℕ) (level : Level) (next : Mode) → inner ≡ Some level → b ≡ comma_byte → after_move (Some level) comma_class ≡ Go next Ending.Item → after_move inner (class_of b) ≡ Go next Ending.Item
+comma_ends inner b level next i w e = rw (i, w, class_is comma_class comma_byte refl (λ e. cc)) e
+
 pub comma_in_array : (old new : Reader) (piece : List ℕ) → old.fault ≡ None → old.mode ≡ ValueDone → inner_of (levels_in old.levels) ≡ Some Array → 0 < length piece → old.offset + length piece ≤ old.limits.bytes → get_or piece 0 0 ≡ comma_byte → Passed 1 ValueDue old new → FeedsLevel old new (take 1 piece)
 comma_in_array old new piece live m i w room e p =
     let Q : List ℕ → Type 0 = λ xs. FeedsLevel old new xs in
@@ -350,6 +354,19 @@ quoted_is piece r some first h w last =
     let one : take (1 + r) piece ≡ quote_byte ∷ run = take-add 1 r piece ∙ ap (λ xs. xs ++ run) (first_byte piece quote_byte some first) in
     let all : take (1 + r + 1) piece ≡ quote_byte ∷ (run ++ quote_byte ∷ []) = take_more piece (1 + r) 0 w ∙ ap (λ xs. xs ++ get_or piece (1 + r) 0 ∷ []) one ∙ ap (λ b. (quote_byte ∷ run) ++ b ∷ []) last in
     record { run = run; characters = h.0; is = all; reads = subst P e h.1 }
+
+-- the same of plain characters, and of others after them
+pub more_quoted : (piece : List ℕ) (r n : ℕ) → 0 < length piece → get_or piece 0 0 ≡ quote_byte → (cs : List ℕ) × Reads plain (take r (take (length piece - 1) (drop 1 piece))) cs plain
+    → (cs : List ℕ) × Reads plain (take n (take (length piece - (1 + r)) (drop (1 + r) piece))) cs plain → 1 + r + n < length piece → get_or piece (1 + r + n) 0 ≡ quote_byte → IsString (take (1 + r + n + 1) piece)
+more_quoted piece r n some first h g w last =
+    let rest : List ℕ = take (length piece - 1) (drop 1 piece) in
+    let same : take (length piece - (1 + r)) (drop (1 + r) piece) ≡ take (length rest - r) (drop r rest) =
+    rest_of piece (1 + r) ∙ sym (drop-drop r 1 piece) ∙ sym (rest_of rest r ∙ ap (λ xs. drop r xs) (rest_of piece 1)) in
+    let P : List ℕ → Type 0 = λ xs. Reads plain (take n xs) g.0 plain in
+    let more = reads_more plain plain plain rest h.0 g.0 r n h.1 (subst P same g.1) in
+    let e : 1 + (r + n) ≡ 1 + r + n = omega arith in
+    let Q : ℕ → Type 0 = λ k. IsString (take (k + 1) piece) in
+    subst Q e (quoted_is piece (r + n) some first (h.0 ++ g.0, more) (omega (arith, w)) (ap (λ k. get_or piece k 0) e ∙ last))
 
 -- ---- within levels that are open
 

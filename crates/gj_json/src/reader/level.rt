@@ -5,11 +5,12 @@ ghost use Rattle.gj_json.specs.Bytes.{quote, comma, colon};
 ghost use Rattle.gj_json.specs.Internal.FlatParts.{awaits};
 ghost use Rattle.gj_json.specs.Internal.OpenLevels.{levels_in};
 ghost use Rattle.gj_json.specs.Internal.WholeTokens.{bracket_of, names};
-ghost use Rattle.gj_json.specs.declared.mode.Mode.TheVariants.{ValueDone, ColonDue};
+ghost use Rattle.gj_json.specs.declared.mode.Mode.TheVariants.{ValueDone, ValueDue, NameDue, ColonDue};
 
 use super::Reader;
 use crate::constant::Constant;
 use crate::flat::Numbered;
+use crate::flats::space_end;
 use crate::levels::Level;
 use crate::mode::{Mode, Move};
 use crate::moves::{after_value, opened_mode};
@@ -19,7 +20,7 @@ use gj_number::read_short;
 impl Reader {
     ghost use Rattle.gj_json.specs.Internal.FedReader.{FeedsLevel, FeedsWithin};
 
-    /// Takes the string at the front of the piece, where it stands whole: how many bytes.
+    /// Takes the string at the front of the piece, where it stands whole, and the comma after it: how many bytes.
     #[inline(always)]
     fn pass_text(&mut self, piece: &[u8]) -> usize
         requires some { 0 < length piece.now }
@@ -35,10 +36,14 @@ impl Reader {
         if count == 0 {
             return 0;
         }
-        self.skip(count, Mode::ValueDone)
+        self.skip(count, Mode::ValueDone);
+        if count == piece.len() || piece[count] != b',' {
+            return count;
+        }
+        count + self.pass_comma(&piece[count..])
     }
 
-    /// Takes the literal name at the front of the piece, where it stands whole: how many bytes.
+    /// Takes the literal name at the front of the piece, where it stands whole, and the comma after it: how many bytes.
     #[inline(always)]
     fn pass_constant(&mut self, which: Constant, piece: &[u8]) -> usize
         requires live { self.old.fault ≡ None }
@@ -52,7 +57,11 @@ impl Reader {
         if count == 0 {
             return 0;
         }
-        self.skip(count, Mode::ValueDone)
+        self.skip(count, Mode::ValueDone);
+        if count == piece.len() || piece[count] != b',' {
+            return count;
+        }
+        count + self.pass_comma(&piece[count..])
     }
 
     /// Takes the name at the front of the piece, where it stands whole: how many bytes.
@@ -75,7 +84,7 @@ impl Reader {
         self.skip(count, Mode::ColonDue)
     }
 
-    /// Takes the colon at the front of the piece.
+    /// Takes the colon at the front of the piece, and the white space after it: how many bytes.
     #[inline(always)]
     fn pass_colon(&mut self, piece: &[u8]) -> usize
         requires some { 0 < length piece.now }
@@ -85,9 +94,10 @@ impl Reader {
         requires room { self.old.offset + length piece.now ≤ self.old.limits.bytes }
         requires small { self.old.limits.bytes ≤ 2 ^ 60 }
         ensures within { result ≤ length piece.now }
+        ensures mode { self.new.mode ≡ ValueDue }
         ensures feeds { FeedsLevel self.old self.new (take result piece.now) }
     {
-        self.skip(1, Mode::ValueDue)
+        self.skip(space_end(piece, 1), Mode::ValueDue)
     }
 
     /// Takes the comma at the front of the piece: how many bytes.
@@ -109,8 +119,8 @@ impl Reader {
         }
     }
 
-    /// Takes the ordinary number at the front of the piece, and the byte behind it: how many bytes, or 0 where that byte ends
-    /// no value.
+    /// Takes the ordinary number at the front of the piece, and the byte after it, mostly a comma: how many bytes, or 0 where
+    /// that byte ends no value.
     #[inline(always)]
     fn pass_number(&mut self, piece: &[u8], floor: u16) -> usize
         requires live { self.old.fault ≡ None }
@@ -120,12 +130,20 @@ impl Reader {
         requires above { floor < length (levels_in self.old.levels) }
         ensures within { result ≤ length piece.now }
         ensures floor { floor ≤ length (levels_in self.new.levels) }
+        ensures above { self.new.mode ≡ NameDue → floor < length (levels_in self.new.levels) }
         ensures feeds { FeedsWithin floor self.old self.new (take result piece.now) }
     {
         let mut number = Numbered::blank();
         let count = read_short(piece, &mut number.value);
         if count == 0 || count == piece.len() {
             return 0;
+        }
+        if piece[count] == b',' {
+            return match self.levels.inner() {
+                Some(Level::Array) => self.skip(count + 1, Mode::ValueDue),
+                Some(Level::Object) => self.skip(count + 1, Mode::NameDue),
+                None => 0,
+            };
         }
         match after_value(self.levels.inner(), piece[count]) {
             Move::Go(mode, _) => self.skip(count + 1, mode),
@@ -180,8 +198,7 @@ impl Reader {
         }
     }
 
-    /// Takes the value at the front of the piece, where it stands whole and is no number and has no levels, or the bracket that
-    /// opens it: how many bytes.
+    /// Takes the literal name at the front of the piece, as above, or the bracket that opens a level: how many bytes.
     #[inline(always)]
     fn pass_value(&mut self, piece: &[u8], floor: u16) -> usize
         requires some { 0 < length piece.now }
@@ -195,7 +212,6 @@ impl Reader {
         ensures feeds { FeedsWithin floor self.old self.new (take result piece.now) }
     {
         match piece[0] {
-            b'"' => self.pass_text(piece),
             b'{' => self.pass_open(Level::Object, piece, floor),
             b'[' => self.pass_open(Level::Array, piece, floor),
             b'n' => self.pass_constant(Constant::Null, piece),
@@ -205,7 +221,8 @@ impl Reader {
         }
     }
 
-    /// The same, and the comma behind it; a number with the byte behind it.
+    /// Takes the value at the front of the piece, where it stands whole, and the comma after it, or the bracket that opens it; a
+    /// number with the byte after it: how many bytes.
     #[inline(always)]
     fn pass_element(&mut self, piece: &[u8], floor: u16) -> usize
         requires some { 0 < length piece.now }
@@ -216,41 +233,19 @@ impl Reader {
         requires above { floor < length (levels_in self.old.levels) }
         ensures within { result ≤ length piece.now }
         ensures floor { floor ≤ length (levels_in self.new.levels) }
+        ensures above { self.new.mode ≡ NameDue → floor < length (levels_in self.new.levels) }
         ensures feeds { FeedsWithin floor self.old self.new (take result piece.now) }
     {
+        if piece[0] == b'"' {
+            return self.pass_text(piece);
+        }
         if piece[0] == b'-' || piece[0].is_ascii_digit() {
             return self.pass_number(piece, floor);
         }
-        let value = self.pass_value(piece, floor);
-        if value == piece.len() || piece[value] != b',' {
-            return value;
-        }
-        match self.mode {
-            Mode::ValueDone => value + self.pass_comma(&piece[value..]),
-            _ => value,
-        }
+        self.pass_value(piece, floor)
     }
 
-    /// Takes the name at the front of the piece and its colon: how many bytes.
-    #[inline(always)]
-    fn pass_named(&mut self, piece: &[u8]) -> usize
-        requires some { 0 < length piece.now }
-        requires quote { get_or piece.now 0 0 ≡ quote }
-        requires live { self.old.fault ≡ None }
-        requires due { names self.old.mode ≡ true }
-        requires room { self.old.offset + length piece.now ≤ self.old.limits.bytes }
-        requires small { self.old.limits.bytes ≤ 2 ^ 60 }
-        ensures within { result ≤ length piece.now }
-        ensures feeds { FeedsLevel self.old self.new (take result piece.now) }
-    {
-        let name = self.pass_name(piece);
-        if name == 0 || name == piece.len() || piece[name] != b':' {
-            return name;
-        }
-        name + self.pass_colon(&piece[name..])
-    }
-
-    /// Takes the name at the front of the piece, its colon and its value, and the comma behind that: how many bytes.
+    /// Takes the name at the front of the piece, its colon and its value, and the comma after that: how many bytes.
     #[inline(always)]
     fn pass_member(&mut self, piece: &[u8], floor: u16) -> usize
         requires some { 0 < length piece.now }
@@ -262,16 +257,66 @@ impl Reader {
         requires above { floor < length (levels_in self.old.levels) }
         ensures within { result ≤ length piece.now }
         ensures floor { floor ≤ length (levels_in self.new.levels) }
+        ensures above { self.new.mode ≡ NameDue → floor < length (levels_in self.new.levels) }
         ensures feeds { FeedsWithin floor self.old self.new (take result piece.now) }
     {
-        let named = self.pass_named(piece);
+        let name = self.pass_name(piece);
+        if name == 0 || name == piece.len() || piece[name] != b':' {
+            return name;
+        }
+        let named = name + self.pass_colon(&piece[name..]);
         if named == piece.len() {
             return named;
         }
-        match self.mode {
-            Mode::ValueDue => named + self.pass_element(&piece[named..], floor),
-            _ => named,
+        named + self.pass_element(&piece[named..], floor)
+    }
+
+    /// Takes the member at the front of the piece, as above, or the white space there: how many bytes.
+    #[inline(always)]
+    fn pass_member_or_white(&mut self, piece: &[u8], floor: u16) -> usize
+        requires some { 0 < length piece.now }
+        requires live { self.old.fault ≡ None }
+        requires due { names self.old.mode ≡ true }
+        requires room { self.old.offset + length piece.now ≤ self.old.limits.bytes }
+        requires small { self.old.limits.bytes ≤ 2 ^ 60 }
+        requires above { floor < length (levels_in self.old.levels) }
+        ensures within { result ≤ length piece.now }
+        ensures floor { floor ≤ length (levels_in self.new.levels) }
+        ensures above { self.new.mode ≡ NameDue → floor < length (levels_in self.new.levels) }
+        ensures feeds { FeedsWithin floor self.old self.new (take result piece.now) }
+    {
+        if piece[0] == b'"' {
+            self.pass_member(piece, floor)
+        } else {
+            self.skip_white(piece)
         }
+    }
+
+    /// Takes members from the front of the piece, one after another, with the white space between them: how many bytes.
+    #[inline(always)]
+    fn pass_members(&mut self, piece: &[u8], floor: u16) -> usize
+        requires live { self.old.fault ≡ None }
+        requires due { names self.old.mode ≡ true }
+        requires room { self.old.offset + length piece.now ≤ self.old.limits.bytes }
+        requires small { self.old.limits.bytes ≤ 2 ^ 60 }
+        requires above { floor < length (levels_in self.old.levels) }
+        ensures within { result ≤ length piece.now }
+        ensures floor { floor ≤ length (levels_in self.new.levels) }
+        ensures feeds { FeedsWithin floor self.old self.new (take result piece.now) }
+    {
+        let mut at = 0;
+        while at < piece.len() {
+            let count = self.pass_member_or_white(&piece[at..], floor);
+            at += count;
+            match self.mode {
+                Mode::NameDue => {}
+                _ => return at,
+            }
+            if count == 0 {
+                return at;
+            }
+        }
+        at
     }
 
     /// Takes white space, or tokens that stand whole at the front of the piece: how many bytes.
@@ -292,13 +337,7 @@ impl Reader {
         }
         match self.mode {
             Mode::ValueDue | Mode::ArrayOpened => self.pass_element(piece, floor),
-            Mode::NameDue | Mode::ObjectOpened => {
-                if byte == b'"' {
-                    self.pass_member(piece, floor)
-                } else {
-                    0
-                }
-            }
+            Mode::NameDue | Mode::ObjectOpened => { self.pass_members(piece, floor) }
             Mode::ColonDue => {
                 if byte == b':' {
                     self.pass_colon(piece)

@@ -1,6 +1,14 @@
--- The characters, and the quotes around them.
-use Rattle.gj_json.proofs.Pieces.PassedTokens.{quoted_is}
+-- Plain characters and others, and the quotes around them.
+use Rattle.std.proofs.Common.{◌≡◌, ℕ, ◌+◌, ◌-◌, ◌++◌, List, length, take, drop, sym, ap, subst, ◌∙◌, arith}
+use Rattle.gj_json.specs.declared.mode.StringState.TheVariants.{Plain}
+use Rattle.gj_json.specs.Internal.QuietBytes.{Reads}
+use Rattle.gj_json.specs.Internal.WholeTokens.{IsString}
+use Rattle.gj_json.proofs.Pieces.PassedTokens.{quoted_is, more_quoted}
 use Rattle.gj_json.proofs.tokens.quoted_run.Goals as goal
 
+pub returns-then-piece-plain-eq34-clause-quoted : goal.returns-then-piece-plain-eq34-clause-quoted
+returns-then-piece-plain-eq34-clause-quoted c = λ w. quoted_is c.args.piece.now c.plain_text_run-plain.result c.requires.some c.requires.quote c.plain_text_run-plain.ensures.characters (omega (arith, c.if-plain-piece.false, c.plain_text_run-plain.ensures.within)) c.if-piece-plain-eq34.true
+
 pub returns-then-piece-end-eq34-clause-quoted : goal.returns-then-piece-end-eq34-clause-quoted
-returns-then-piece-end-eq34-clause-quoted c = λ w. quoted_is c.args.piece.now c.text_run-end.result c.requires.some c.requires.quote c.text_run-end.ensures.characters c.if-end-piece.true c.if-piece-end-eq34.true
+returns-then-piece-end-eq34-clause-quoted c = λ w.
+    more_quoted c.args.piece.now c.plain_text_run-plain.result c.characters_run.result c.requires.some c.requires.quote c.plain_text_run-plain.ensures.characters c.characters_run.ensures.characters c.if-end-piece.true c.if-piece-end-eq34.true

@@ -1,8 +1,9 @@
--- The value, and the comma behind it.
-use Rattle.gj_json.proofs.Pieces.PassedTokens.{within_more}
+-- A string leaves the levels as they are.
+use Rattle.std.proofs.Common.{take}
+use Rattle.gj_json.proofs.Pieces.PassedTokens.{level_within}
 use Rattle.gj_json.proofs.reader.Reader.pass_element.Goals as goal
 
-pub returns-in-ValueDone-clause-feeds : goal.returns-in-ValueDone-clause-feeds
-returns-in-ValueDone-clause-feeds c =
-    let v = c.pass_value-value in
-    within_more c.args.floor c.args.self.now v.new.self c.pass_comma.new.self c.args.piece.now v.result c.pass_comma.result v.ensures.above v.ensures.feeds c.pass_comma.ensures.feeds
+pub returns-then-piece-eq34-clause-feeds : goal.returns-then-piece-eq34-clause-feeds
+returns-then-piece-eq34-clause-feeds c =
+    let t = c.pass_text in
+    level_within c.args.floor c.args.self.now t.new.self (take t.result c.args.piece.now) c.requires.above t.ensures.feeds

@@ -3,9 +3,6 @@ use Rattle.std.proofs.Common.{take}
 use Rattle.gj_json.proofs.Pieces.PassedTokens.{level_within}
 use Rattle.gj_json.proofs.reader.Reader.pass_value.Goals as goal
 
-pub returns-in-34-clause-feeds : goal.returns-in-34-clause-feeds
-returns-in-34-clause-feeds c = level_within c.args.floor c.args.self.now c.pass_text.new.self (take c.pass_text.result c.args.piece.now) c.requires.above c.pass_text.ensures.feeds
-
 pub returns-in-110-clause-feeds : goal.returns-in-110-clause-feeds
 returns-in-110-clause-feeds c = level_within c.args.floor c.args.self.now c.pass_constant.new.self (take c.pass_constant.result c.args.piece.now) c.requires.above c.pass_constant.ensures.feeds
 
