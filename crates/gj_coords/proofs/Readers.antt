@@ -4,6 +4,7 @@ pub mod RestsOfValues
 pub mod BboxLaws
 pub mod LeastOfSome
 pub mod AgreeingPositions
+pub mod WrittenParts
 pub mod EventCounts
 pub mod WarningsOfElements
 pub mod WholeLaws

@@ -111,15 +111,36 @@ impl Coordinates {
         ensures stands { (events : List Event) → StandsFor self.old events →
             StandsFor self.new (events ++ flat_events flat.now) }
     {
+        self.ends_by_flat(flat);
+    }
+
+    /// The same, and whether they end the value. Mostly an array around them goes on.
+    #[inline]
+    pub fn ends_by_flat(&mut self, flat: &Flat) -> bool
+        ensures stands { (events : List Event) → StandsFor self.old events →
+            StandsFor self.new (events ++ flat_events flat.now) }
+        ensures at_the_end { (value : Tree) (events rest : List Event) → StandsFor self.new events → events ++ rest ≡ value_events value →
+            depth value < 2 ^ 64 → IsTrue result ↔ (rest ≡ []) }
+    {
         if is_past(self.floor, flat) {
             match self.depth {
-                Depth::Second => return self.walk.item.gather.add_steady(flat),
-                Depth::Third => return self.walk.item.item.gather.add_steady(flat),
-                Depth::First => return self.walk.gather.add_steady(flat),
+                Depth::Second => {
+                    self.walk.item.gather.add_steady(flat);
+                    return false;
+                }
+                Depth::Third => {
+                    self.walk.item.item.gather.add_steady(flat);
+                    return false;
+                }
+                Depth::First => {
+                    self.walk.gather.add_steady(flat);
+                    return false;
+                }
                 _ => {}
             }
         }
         self.take_anywhere(flat);
+        self.done()
     }
 
     /// The same wherever the value stands.

@@ -59,24 +59,28 @@ pub struct Position {
     pub precise: Noted,
 }
 
-/// Whether the digits are not those of the number.
+/// Whether a few looks show that it is not this number.
 #[inline(always)]
-fn differs(number: &Option<Decimal>, other: &Decimal) -> bool
-    ensures { result ≡ true → option_eq same_parts number.now (Some other.now) ≡ false }
+fn differs(number: &Option<Decimal>, other: Short) -> bool
+    ensures { result ≡ true → option_eq same_parts number.now (Some (exact_of other)) ≡ false }
 {
     match number {
-        Some(number) => digits_differ(number, other),
+        Some(number) => parts_differ(number, other),
         None => true,
     }
 }
 
+/// The same of a decimal. Both have mostly as many places as are written, and then their digits tell.
 #[inline(always)]
-fn digits_differ(number: &Decimal, other: &Decimal) -> bool
-    ensures { result ≡ true → same_parts number.now other.now ≡ false }
+fn parts_differ(number: &Decimal, other: Short) -> bool
+    ensures { result ≡ true → same_parts number.now (exact_of other) ≡ false }
 {
-    let (_, digits, _) = number.parts();
-    let (_, others, _) = other.parts();
-    digits != others
+    let (_, digits, power) = number.parts();
+    if power == -(other.places as i16) {
+        digits != other.digits as u128
+    } else {
+        other.digits % 10 != 0
+    }
 }
 
 /// Whether it is this number.
@@ -149,7 +153,7 @@ impl Values {
     pub fn same_flat(&self, other: &Flat) -> bool
         ensures { result ≡ same_values self.now (flat_values other.now) }
     {
-        if differs(&self.first, &other.first.value.decimal()) {
+        if differs(&self.first, other.first.value) {
             false
         } else {
             self.same_each(other)

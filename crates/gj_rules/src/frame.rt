@@ -63,8 +63,21 @@ impl Frame {
         ensures frame { frame_in self.new ≡ named name place (frame_in self.old) }
         ensures due { result ≡ due_after name (frame_in self.old) }
     {
-        self.gathered.name(name, place);
-        self.shown.name(name, place)
+        match name {
+            Known::Crs => self.crs_name(place),
+            _ => self.shown.name(name, place),
+        }
+    }
+
+    /// Takes a name `crs`, each of which is worth a warning.
+    // It is seldom called, and saves what a call in it asks for from the other names.
+    #[inline(never)]
+    fn crs_name(&mut self, place: u64) -> Known
+        ensures frame { frame_in self.new ≡ named Known.Crs place (frame_in self.old) }
+        ensures due { result ≡ due_after Known.Crs (frame_in self.old) }
+    {
+        self.gathered.name(Known::Crs, place);
+        self.shown.name(Known::Crs, place)
     }
 
     /// Adds a fault of the value of the first member `name`.

@@ -79,6 +79,12 @@ third_flat floor walk es f k steady past = subst (IsAt (es ++ flat_events f)) (t
 
 -- ---- what holds at a depth
 
+abbrev pub is_steady : Depth → Bool
+is_steady First = true
+is_steady Second = true
+is_steady Third = true
+is_steady _ = false
+
 -- of a walk that is read on
 pub steady_holds : (depth : Depth) (floor : ℕ) (es : List Event) (walk : Walk) → IsAt es walk → IsSteady depth floor walk → Holds depth floor es walk
 steady_holds Unknown floor es walk k steady = k
@@ -133,6 +139,29 @@ holds_ended Second floor v es rest walk k e room = reads_on_ended walk_machine f
 holds_ended Third floor v es rest walk k e room = reads_on_ended walk_machine first_answer walk v es rest k.0 e room
 holds_ended Whole floor v es rest walk k e room =
     reads_on_ended walk_machine first_answer (record walk { gather = flat_first k.position }) v es rest k.reads_on e room
+
+-- where the walk is steady, an array is open
+first_open : (floor : ℕ) (walk : Walk) → IsFirst floor walk → walk_machine.ended walk ≡ false
+first_open floor walk k = rw k.at_first refl
+
+second_open : (floor : ℕ) (walk : Walk) → IsSecond floor walk → walk_machine.ended walk ≡ false
+second_open floor walk k = rw k.at_first refl
+
+third_open : (floor : ℕ) (walk : Walk) → IsThird floor walk → walk_machine.ended walk ≡ false
+third_open floor walk k = rw k.at_first refl
+
+pub steady_open : (depth : Depth) (floor : ℕ) (es : List Event) (walk : Walk) → is_steady depth ≡ true → Holds depth floor es walk → walk_machine.ended walk ≡ false
+steady_open Unknown floor es walk e k = cc
+steady_open First floor es walk e k = first_open floor walk k.1
+steady_open Second floor es walk e k = second_open floor walk k.1
+steady_open Third floor es walk e k = third_open floor walk k.1
+steady_open Whole floor es walk e k = cc
+
+-- so the value has not ended
+pub steady_goes_on : (depth : Depth) (floor : ℕ) (v : Tree) (es rest : List Event) (walk : Walk) → is_steady depth ≡ true →
+    Holds depth floor es walk → es ++ rest ≡ value_events v → IsCountable v → IsTrue false ↔ (rest ≡ [])
+steady_goes_on depth floor v es rest walk e k joined room =
+    subst (λ b. IsTrue b ↔ (rest ≡ [])) (steady_open depth floor es walk e k) (holds_ended depth floor v es rest walk k joined room)
 
 -- ---- the answers
 

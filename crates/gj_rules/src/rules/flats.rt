@@ -33,8 +33,7 @@ impl Rules {
         requires mode { self.old.mode ≡ Mode.Due Known.Coordinates }
         ensures { FeedsMany self.old (flat_events flat.now) self.new }
     {
-        self.coordinates.take_flat(flat);
-        if self.coordinates.done() {
+        if self.coordinates.ends_by_flat(flat) {
             self.end_coordinates();
         }
     }

@@ -1,8 +1,9 @@
+use Rattle.std.proofs.Common.{refl}
 use Rattle.gj_coords.specs.declared.walk.depth.Depth.TheVariants.{First, Second, Third}
 use Rattle.gj_coords.specs.Coordinates.{Holds}
-use Rattle.gj_coords.proofs.Walks.AnswersOfWalks.{first_flat, second_flat, third_flat, holds_at, held_at}
+use Rattle.gj_coords.proofs.Walks.AnswersOfWalks.{first_flat, second_flat, third_flat, holds_at, held_at, steady_goes_on}
 use Rattle.gj_coords.proofs.Walks.SteadyLaws.{first_still, second_still, third_still}
-use Rattle.gj_coords.proofs.coordinates.Coordinates.take_flat.Goals as goal
+use Rattle.gj_coords.proofs.coordinates.Coordinates.ends_by_flat.Goals as goal
 
 pub returns-in-Second : goal.returns-in-Second
 returns-in-Second c = record {
@@ -13,6 +14,9 @@ returns-in-Second c = record {
         holds = held_at s.depth Second s.floor _ _ c.in-Second.is
             (rw (c.add_steady.ensures k.1.settled.counted) (second_flat s.floor s.walk events c.args.flat.now k.0 k.1 (c.is_past.ensures c.if-is_past.true), second_still s.floor c.args.flat.now s.walk k.1));
       };
+  at_the_end = λ value events rest stands joined room.
+      let s = c.args.self.now in
+      steady_goes_on Second s.floor value events rest _ refl (holds_at s.depth Second s.floor events _ c.in-Second.is stands.holds) joined room;
 }
 
 pub returns-in-Third : goal.returns-in-Third
@@ -24,6 +28,9 @@ returns-in-Third c = record {
         holds = held_at s.depth Third s.floor _ _ c.in-Third.is
             (rw (c.add_steady-in-Third.ensures k.1.settled.counted) (third_flat s.floor s.walk events c.args.flat.now k.0 k.1 (c.is_past.ensures c.if-is_past.true), third_still s.floor c.args.flat.now s.walk k.1));
       };
+  at_the_end = λ value events rest stands joined room.
+      let s = c.args.self.now in
+      steady_goes_on Third s.floor value events rest _ refl (holds_at s.depth Third s.floor events _ c.in-Third.is stands.holds) joined room;
 }
 
 pub returns-in-First : goal.returns-in-First
@@ -35,4 +42,7 @@ returns-in-First c = record {
         holds = held_at s.depth First s.floor _ _ c.in-First.is
             (rw (c.add_steady-in-First.ensures k.1.settled.counted) (first_flat s.floor s.walk events c.args.flat.now k.0 k.1 (c.is_past.ensures c.if-is_past.true), first_still s.floor c.args.flat.now s.walk k.1));
       };
+  at_the_end = λ value events rest stands joined room.
+      let s = c.args.self.now in
+      steady_goes_on First s.floor value events rest _ refl (holds_at s.depth First s.floor events _ c.in-First.is stands.holds) joined room;
 }
