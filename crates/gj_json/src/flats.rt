@@ -10,7 +10,7 @@ ghost use Rattle.gj_json.specs.Internal.FlatParts.{cut, IsItem, IsMore};
 
 use crate::flat::{Flat, Numbered};
 use crate::runs::white_run;
-use gj_number::{Pair, Short, read_pair, read_short};
+use gj_number::{Pair, Short, read_last_pair, read_pair, read_short};
 
 /// The index after the white space at this one. Mostly there is none, or one space.
 #[inline(always)]
@@ -80,10 +80,10 @@ fn read_item(piece: &[u8], at: usize, start: u64, number: &mut Numbered) -> usiz
     end
 }
 
-/// How long a piece must be at the least for its pair to be looked for: the bracket and what a pair is read with.
+/// How long a piece must be at the least for its pair to be read where it stands: the bracket and what a pair is read with.
 const PAIR_ROOM: usize = 41;
 
-/// The pair after the first byte of a piece, where the piece has room for it.
+/// The pair after the first byte of a piece.
 #[inline(always)]
 fn pair_after_bracket(piece: &[u8], first: &mut Short, second: &mut Short) -> Option<Pair>
     requires { 0 < length piece.now }
@@ -91,7 +91,7 @@ fn pair_after_bracket(piece: &[u8], first: &mut Short, second: &mut Short) -> Op
         StartsWithPair (drop 1 piece.now) (exact_of first.new) (exact_of second.new) pair.comma pair.second pair.end) }
 {
     if piece.len() < PAIR_ROOM {
-        return None;
+        return read_last_pair(&piece[1..], first, second);
     }
     read_pair(&piece[1..], first, second)
 }
@@ -107,6 +107,10 @@ pub fn read_flat(piece: &[u8], start: u64, flat: &mut Flat) -> usize
     ensures flat { 0 < result → IsFlat flat.new start (take result piece.now) }
 {
     let Some(pair) = pair_after_bracket(piece, &mut flat.first.value, &mut flat.second.value) else {
+        // What the end of a piece cuts is mostly not whole, so it is not looked at twice.
+        if piece.len() < PAIR_ROOM {
+            return 0;
+        }
         return read_any_flat(piece, start, flat);
     };
     flat.place = start;

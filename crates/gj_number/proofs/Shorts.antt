@@ -1,6 +1,7 @@
 -- Numbers that are read whole from a piece.
 pub mod PiecePrefixes
 pub mod TensTable
+pub mod CopiedNumbers
 pub mod CutNumbers
 pub mod ShortDecimals
 pub mod RunEnds

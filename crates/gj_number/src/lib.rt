@@ -24,5 +24,5 @@ mod tens;
 pub use decimal::Decimal;
 pub use literal::{Literal, Step};
 pub use short::Short;
-pub use short::pair::{Pair, read_pair};
+pub use short::pair::{Pair, read_last_pair, read_pair};
 pub use short::prefix::read_short;

@@ -15,6 +15,9 @@ use super::Short;
 use crate::lanes::{numbers_of, pointed_prefix};
 use std::simd::prelude::*;
 
+/// How long a piece must be at the least, so that nothing is read past its end.
+const ROOM: usize = 40;
+
 /// Where two numbers stand: how many bytes the first has, and the indices of the second and of the byte after it.
 #[derive(Clone, Copy)]
 pub struct Pair {
@@ -63,6 +66,24 @@ pub fn read_pair(piece: &[u8], first: &mut Short, second: &mut Short) -> Option<
         second: at,
         end: at + other.length,
     })
+}
+
+/// The same of a piece that is too short for them to be read where they stand: they are read in a copy with room after it.
+#[inline(never)]
+pub fn read_last_pair(piece: &[u8], first: &mut Short, second: &mut Short) -> Option<Pair>
+    requires { length piece.now < 40 }
+    ensures { IfSome result (λ pair.
+        StartsWithPair piece.now (exact_of first.new) (exact_of second.new) pair.comma pair.second pair.end) }
+{
+    let mut copy = [0; ROOM];
+    copy[..piece.len()].copy_from_slice(piece);
+    let Some(pair) = read_pair(&copy, first, second) else {
+        return None;
+    };
+    if pair.end >= piece.len() {
+        return None;
+    }
+    Some(pair)
 }
 
 /// The number that the piece starts with, where one to three digits stand before its point, it ends within fifteen bytes

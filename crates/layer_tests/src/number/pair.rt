@@ -1,5 +1,5 @@
 //! What no clause says: the parts of pairs, and which others are left.
-use gj_number::{Short, read_pair};
+use gj_number::{Short, read_last_pair, read_pair};
 
 /// The numbers, each by its digits, its places and its sign, and where the second and the closing bracket stand.
 type Parts = (u64, u8, bool, u64, u8, bool, usize, usize);
@@ -41,6 +41,27 @@ fn reads_pairs(rt: HostRuntime) {
         ),
     ] {
         assert_eq!(rt; parts(text), Some(expected), "{text}");
+    }
+}
+
+#[test]
+fn reads_pairs_at_the_end(rt: HostRuntime) {
+    // The piece, and the index of the closing bracket where the pair is found.
+    for (text, expected) in [
+        ("12.5,34.25]", Some(10)),
+        ("12.5,34.25],", Some(10)),
+        ("-122.4194155, 37.7749295]", Some(24)),
+        ("12.5,34.25", None),
+        ("12.5,34.2", None),
+        ("12.5,", None),
+        ("12.5", None),
+        ("1.5,2]", None),
+        ("", None),
+    ] {
+        let mut first = Short::zero();
+        let mut second = Short::zero();
+        let found = read_last_pair(text.as_bytes(), &mut first, &mut second);
+        assert_eq!(rt; found.map(|pair| pair.end), expected, "{text}");
     }
 }
 

@@ -1,4 +1,4 @@
-use Rattle.std.proofs.Common.{◌≡◌, ◌*◌, Some, None, ap, sym, ◌∙◌, rules, w32, arith}
+use Rattle.std.proofs.Common.{◌≡◌, ◌*◌, Some, ap, sym, ◌∙◌, rules, w32, arith}
 use Rattle.std.specs.Prelude.{option_map}
 use mir.Val.{SFits}
 use Rattle.std.proofs.lemmas.Int.{to_z-of_z}

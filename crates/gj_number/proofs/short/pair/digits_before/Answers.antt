@@ -1,4 +1,4 @@
-use Rattle.std.proofs.Common.{◌≡◌, ◌+◌, ◌≤◌, List, ℕ, ◌-◌, ◌∙◌, get_or, length, take, drop, ap, length-drop, subst, arith}
+use Rattle.std.proofs.Common.{◌≡◌, ◌+◌, ◌≤◌, List, ℕ, ◌-◌, ◌∙◌, get_or, length, drop, ap, length-drop, subst, arith}
 use Rattle.std.proofs.lemmas.List.{length-take}
 use Rattle.std.specs.List.{fold}
 use mir.Val.{bool_byte}

@@ -1,0 +1,35 @@
+-- Numbers that are read from a copy with more bytes after it.
+use Rattle.std.proofs.Common.{◌≡◌, ◌<◌, ◌≤◌, ◌+◌, ◌-◌, ℕ, List, ◌++◌, length, take, drop, get_or, inl, inr, sym, ◌∙◌, subst, arith, length-drop}
+use Rattle.std.proofs.lemmas.List.{take-append-le, drop-append-le, get_or_append_left}
+use Rattle.gj_number.specs.Exact.{Exact}
+use Rattle.gj_number.specs.Short.{StartsWithNumber, StartsWithPair}
+
+-- the number that bytes start with, where it ends before their end, is that of the bytes with more behind them
+pub number_there : (piece more : List ℕ) (e : Exact) (n : ℕ) → n < length piece → StartsWithNumber (piece ++ more) e n → StartsWithNumber piece e n
+number_there piece more e n within h =
+    let taken : take n (piece ++ more) ≡ take n piece = take-append-le n piece more (omega arith) in
+    let next : take (n + 1) (piece ++ more) ≡ take (n + 1) piece = take-append-le (n + 1) piece more (omega arith) in
+    record {
+      within = within;
+      number = rw (sym taken) h.number;
+      denotes = rw (sym taken) h.denotes;
+      value = rw (sym taken) h.value;
+      ends = rw (sym next) h.ends;
+    }
+
+-- the same of two numbers
+pub pair_there : (piece more : List ℕ) (first second : Exact) (comma_at second_at end : ℕ) → end < length piece → StartsWithPair (piece ++ more) first second comma_at second_at end → StartsWithPair piece first second comma_at second_at end
+pair_there piece more first second comma_at second_at end within h =
+    let ordered = h.ordered in
+    let before : comma_at + 1 ≤ second_at = elim h.between [ inl e ↦ omega arith | inr e ↦ (let k = e.0 in omega arith) ] in
+    let byte : (k : ℕ) → k < length piece → get_or (piece ++ more) k 0 ≡ get_or piece k 0 = λ k l. get_or_append_left piece more 0 k l in
+    let rest : drop second_at (piece ++ more) ≡ drop second_at piece ++ more = drop-append-le second_at piece more (omega arith) in
+    let P : List ℕ → Type 0 = λ xs. StartsWithNumber xs second (end - second_at) in
+    record {
+      one = number_there piece more first comma_at (omega arith) h.one;
+      comma = sym (byte comma_at (omega arith)) ∙ h.comma;
+      between = elim h.between [ inl e ↦ inl e | inr e ↦ inr (e.0, (let k = e.0 in sym (byte (comma_at + 1) (omega arith)) ∙ e.1)) ];
+      ordered = ordered;
+      other = number_there (drop second_at piece) more second (end - second_at) (omega (arith, length-drop second_at piece)) (subst P rest h.other);
+      closing = sym (byte end within) ∙ h.closing;
+    }
