@@ -70,6 +70,17 @@ fn is_hexadecimal(byte: u8) -> bool
     IN_ESCAPES[byte as usize] % 2 == 1
 }
 
+/// Whether these are hexadecimal digits: all are looked at together, since mostly they are.
+#[inline(always)]
+fn are_hexadecimal(first: u8, second: u8, third: u8, fourth: u8) -> bool
+    ensures first { result ≡ true → is_some (hex_of first) ≡ true }
+    ensures second { result ≡ true → is_some (hex_of second) ≡ true }
+    ensures third { result ≡ true → is_some (hex_of third) ≡ true }
+    ensures fourth { result ≡ true → is_some (hex_of fourth) ≡ true }
+{
+    is_hexadecimal(first) & is_hexadecimal(second) & is_hexadecimal(third) & is_hexadecimal(fourth)
+}
+
 /// Whether the byte after a backslash makes an escape of two bytes.
 #[inline(always)]
 fn is_short(byte: u8) -> bool
@@ -89,11 +100,7 @@ fn escape(piece: &[u8]) -> usize
     if piece[1] != b'u' {
         return if is_short(piece[1]) { 2 } else { 0 };
     }
-    if is_hexadecimal(piece[2])
-        && is_hexadecimal(piece[3])
-        && is_hexadecimal(piece[4])
-        && is_hexadecimal(piece[5])
-    {
+    if are_hexadecimal(piece[2], piece[3], piece[4], piece[5]) {
         6
     } else {
         0
@@ -106,8 +113,12 @@ fn escapes_run(piece: &[u8]) -> usize
     ensures within { result ≤ length piece.now }
     ensures characters { AreCharacters (take result piece.now) }
 {
+    if piece.len() < 6 {
+        return 0;
+    }
+    let last = piece.len() - 6;
     let mut at = 0;
-    while piece.len() - at >= 6 && piece[at] == b'\\' {
+    while at <= last && piece[at] == b'\\' {
         let count = escape(&piece[at..]);
         if count == 0 {
             return at;
