@@ -10,7 +10,10 @@ _geolint_files() {
         return
         ;;
     --allow)
-        mapfile -t COMPREPLY < <(compgen -W 'W1 W2 W3 W4 W5 W6 W7 W8 W9' -- "$word")
+        # Kinds are divided by commas: the last one is completed.
+        local kinds=
+        [[ $word != *,* ]] || kinds=${word%,*},
+        mapfile -t COMPREPLY < <(compgen -P "$kinds" -W 'W1 W2 W3 W4 W5 W6 W7 W8 W9' -- "${word##*,}")
         return
         ;;
     esac
