@@ -1,7 +1,7 @@
 -- When a decimal is not the one that a number's digits and places write.
 use Rattle.std.specs.Bool.{beq}
 use Rattle.std.specs.Ordering.{int_eq}
-use Rattle.std.proofs.Common.{◌≡◌, ◌≢◌, ℕ, ◌+◌, zero, suc, ◌%◌, ◌/◌, ◌==◌, ◌&&◌, Bool, true, false, if◌then◌else◌, IsTrue, ℤ, pos, ◌-ℤ◌, ◌≤◌, FitsSigned, to_z, of_z, w16, refl, ap, arith}
+use Rattle.std.proofs.Common.{◌≡◌, ◌≢◌, ℕ, suc, ◌%◌, ◌/◌, ◌==◌, Bool, true, false, if◌then◌else◌, IsTrue, ℤ, pos, ◌-ℤ◌, ◌≤◌, FitsSigned, to_z, of_z, w16, refl, ap, arith}
 use Rattle.std.proofs.Math.Bool.{and-false}
 use Rattle.std.proofs.lemmas.Int.{ints}
 use Rattle.std.proofs.lemmas.Bool.Decides.{nat_tests, Decides-int_eq}

@@ -1,4 +1,4 @@
-use Rattle.std.proofs.Common.{◌≡◌, ◌≢◌, ℕ, ◌%◌, ◌==◌, false, ℤ, pos, ◌-ℤ◌, FitsSigned, w16, rules, arith}
+use Rattle.std.proofs.Common.{◌≡◌, ◌≢◌, ◌%◌, ◌==◌, false, FitsSigned, w16, rules, arith}
 use Rattle.std.proofs.lemmas.Bool.Decides.{nat_tests}
 use Rattle.gj_coords.proofs.Readers.WrittenParts.{other_digits, other_places, power_read, power_written}
 use Rattle.gj_coords.proofs.position.parts_differ.Goals as goal
