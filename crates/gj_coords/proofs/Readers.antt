@@ -7,6 +7,6 @@ pub mod AgreeingPositions
 pub mod WrittenParts
 pub mod EventCounts
 pub mod WarningsOfElements
-pub mod WholeLaws
+pub mod OrEmptyLaws
 pub mod SixFaults
 pub mod SixWarnings

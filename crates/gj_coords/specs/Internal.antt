@@ -23,7 +23,7 @@ pub mod ElementCountLaws
 pub mod PositionLaws
 pub mod RingLaws
 pub mod ListLaws
-pub mod WholeGather
+pub mod OrEmptyGather
 pub mod SixReaders
 pub mod KeptWarningLaws
 pub mod WarningLaws

@@ -1,6 +1,6 @@
 //! An array, read by the reader of its elements.
 use crate::element::Element;
-use crate::part::{Gather, Part};
+use crate::value_reader::{Gather, ValueReader};
 use gj_json::{Event, What};
 
 /// How far an array has come.
@@ -27,7 +27,7 @@ pub struct Array<W, G> {
     pub stage: Stage,
 }
 
-impl<W: Part, G: Gather<W>> Part for Array<W, G> {
+impl<W: ValueReader, G: Gather<W>> ValueReader for Array<W, G> {
     ghost use Rattle.gj_coords.specs.Internal.ArrayReader.{array_machine};
 
     type Answer = G::Answer;
@@ -115,7 +115,7 @@ impl<W: Part, G: Gather<W>> Part for Array<W, G> {
     }
 }
 
-impl<W: Part, G: Gather<W>> Array<W, G> {
+impl<W: ValueReader, G: Gather<W>> Array<W, G> {
     ghost use Rattle.std.specs.Prelude.{◌≡◌};
     ghost use Rattle.gj_coords.specs.Internal.ArrayReader.{when_due, between, within, behind};
 

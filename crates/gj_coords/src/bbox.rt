@@ -10,8 +10,8 @@ use crate::bbox::latitudes::{Latitudes, number_in};
 use crate::element::Element;
 use crate::fault::{Fault, Rule, join_fault, lesser_fault};
 use crate::kind::Kind;
-use crate::part::{Gather, Part};
 use crate::tally::Tally;
+use crate::value_reader::{Gather, ValueReader};
 use crate::warnings::Warnings;
 use gj_json::{Event, What};
 
@@ -162,7 +162,7 @@ impl Bbox {
         ensures stands { StandsFor result [] }
     {
         Bbox {
-            reader: Part::new(),
+            reader: ValueReader::new(),
         }
     }
 

@@ -2,9 +2,9 @@
 
 use crate::array::Stage;
 use crate::fault::Fault;
-use crate::part::Part;
 use crate::simple::Simple;
 use crate::simple_faults::SimpleFaults;
+use crate::value_reader::ValueReader;
 use crate::walk;
 use crate::walk::depth::{Depth, depth_of, is_past};
 use crate::walk::{Walk, all_warnings, least_fault};
@@ -54,7 +54,7 @@ impl Coordinates {
         ensures stands { StandsFor result [] }
     {
         Coordinates {
-            walk: Part::new(),
+            walk: ValueReader::new(),
             floor: 0,
             depth: Depth::Unknown,
         }
@@ -163,7 +163,7 @@ impl Coordinates {
     {
         self.walk.gather.hold_flat(flat);
         self.walk.stage = Stage::Done;
-        self.depth = Depth::Whole;
+        self.depth = Depth::OrEmpty;
     }
 
     /// The same within the value.

@@ -2,7 +2,7 @@
 ghost use Rattle.std.specs.Prelude.{◌≡◌};
 ghost use Rattle.gj_coords.specs.Internal.ElementReader.{levels_after as levels_after_event};
 
-use crate::part::Part;
+use crate::value_reader::ValueReader;
 use gj_json::{Event, What};
 
 /// How many arrays and objects are open after the event, as far as the number holds it.
@@ -30,7 +30,7 @@ pub struct Element {
     pub levels: u64,
 }
 
-impl Part for Element {
+impl ValueReader for Element {
     ghost use Rattle.gj_coords.specs.Internal.ElementReader.{element_machine};
 
     type Answer = Event;

@@ -1,8 +1,8 @@
 //! What is found in a value.
 use crate::fault::Fault;
 use crate::kind::Kind;
-use crate::part::Judged;
 use crate::position::misshapen;
+use crate::value_reader::Judged;
 use crate::warned::Warned;
 
 /// What is found in a value: its least fault, and what is worth a warning in it.

@@ -8,7 +8,7 @@ ghost use Rattle.gj_coords.specs.Internal.KeptWarnings.{nothing_noted};
 ghost use Rattle.gj_coords.specs.Internal.FlatPosition.{flat_values, flat_position, flat_precise, pair_noted, precise_noted, third_value, third_precise, number_precise, flat_count, least_place, flat_misshapen, flat_ring, IsPlain};
 
 use crate::fault::{Fault, Rule};
-use crate::noted::Noted;
+use crate::kind_warnings::KindWarnings;
 use crate::position::{MOST_PLACES, Values, misshapen};
 use crate::position_warned::note_position;
 use crate::warned::Warned;
@@ -89,7 +89,7 @@ fn is_written_short(number: Short) -> bool
 /// The same of the third number, where there is one.
 #[inline(always)]
 fn is_third_short(third: &Option<Numbered>) -> bool
-    ensures { result ≡ true → (noted : Noted) → third_precise third.now noted ≡ noted }
+    ensures { result ≡ true → (noted : KindWarnings) → third_precise third.now noted ≡ noted }
 {
     match third {
         Some(number) => is_written_short(number.value),
@@ -107,11 +107,11 @@ fn is_all_short(flat: &Flat) -> bool
 
 /// With this number, if it is too precise.
 #[inline(always)]
-fn precise_with(noted: Noted, number: &Numbered) -> Noted
+fn precise_with(noted: KindWarnings, number: &Numbered) -> KindWarnings
     ensures { result ≡ number_precise number.now noted }
 {
     if is_too_precise(number.value) {
-        noted.join(Noted::one(number.place))
+        noted.join(KindWarnings::one(number.place))
     } else {
         noted
     }
@@ -128,10 +128,10 @@ fn is_pair_long(flat: &Flat) -> bool
 
 /// What is noted of two numbers that are too precise.
 #[inline(always)]
-fn pair_noted(flat: &Flat) -> Noted
+fn pair_noted(flat: &Flat) -> KindWarnings
     ensures { result ≡ pair_noted flat.now }
 {
-    Noted {
+    KindWarnings {
         count: 2,
         first: flat.first.place.min(flat.second.place),
     }
@@ -139,10 +139,13 @@ fn pair_noted(flat: &Flat) -> Noted
 
 /// Its numbers that are too precise.
 #[inline(always)]
-fn precise(flat: &Flat) -> Noted
+fn precise(flat: &Flat) -> KindWarnings
     ensures { result ≡ flat_precise flat.now }
 {
-    let noted = precise_with(precise_with(Noted::nothing(), &flat.first), &flat.second);
+    let noted = precise_with(
+        precise_with(KindWarnings::nothing(), &flat.first),
+        &flat.second,
+    );
     match &flat.third {
         Some(number) => precise_with(noted, number),
         None => noted,

@@ -11,10 +11,10 @@ use crate::array::Array;
 use crate::element::Element;
 use crate::fault::{Fault, Rule, join_fault, lesser_fault};
 use crate::flat;
-use crate::noted::Noted;
-use crate::part::Gather;
+use crate::kind_warnings::KindWarnings;
 use crate::position_warned::note_position;
 use crate::tally::Tally;
+use crate::value_reader::Gather;
 use crate::warned::Warned;
 use crate::winding::Corner;
 use gj_json::{Event, Flat, Numbered, What};
@@ -45,7 +45,7 @@ pub struct Numbers {
     pub tally: Tally,
     pub fault: Option<Fault>,
     /// Those of the first three that are too precise.
-    pub precise: Noted,
+    pub precise: KindWarnings,
 }
 
 /// What is known of a value that was read as a position: its first event, its least fault, its values, how many elements
@@ -56,7 +56,7 @@ pub struct Position {
     pub head: Event,
     pub fault: Option<Fault>,
     pub count: u8,
-    pub precise: Noted,
+    pub precise: KindWarnings,
 }
 
 /// Whether a few looks show that it is not this number.
@@ -202,7 +202,7 @@ impl Numbers {
             values: Values::none(),
             tally: Tally::open(0),
             fault: None,
-            precise: Noted::nothing(),
+            precise: KindWarnings::nothing(),
         }
     }
 
@@ -212,7 +212,7 @@ impl Numbers {
         self.values.clear();
         self.tally = Tally::open(place);
         self.fault = None;
-        self.precise = Noted::nothing();
+        self.precise = KindWarnings::nothing();
     }
 
     /// Judges one of the first three numbers.
@@ -226,7 +226,7 @@ impl Numbers {
             };
             join_fault(&mut self.fault, Some(unheld));
         } else if is_precise(value) {
-            self.precise = self.precise.join(Noted::one(place));
+            self.precise = self.precise.join(KindWarnings::one(place));
         }
     }
 
@@ -336,7 +336,7 @@ impl Position {
             head: *head,
             fault: misshapen(head.place),
             count: 0,
-            precise: Noted::nothing(),
+            precise: KindWarnings::nothing(),
         }
     }
 }

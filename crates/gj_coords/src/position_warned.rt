@@ -4,9 +4,9 @@ ghost use Rattle.gj_coords.specs.Internal.PositionGather.{position_noted};
 
 use crate::fault::Fault;
 use crate::kind::Kind;
-use crate::noted::Noted;
-use crate::part::Judged;
+use crate::kind_warnings::KindWarnings;
 use crate::position::{MOST_VALUES, Position};
+use crate::value_reader::Judged;
 use crate::warned::Warned;
 use crate::winding::Corner;
 
@@ -17,7 +17,7 @@ pub fn note_position(
     place: u64,
     count: u8,
     corner: &Option<Corner>,
-    precise: Noted,
+    precise: KindWarnings,
     warned: &mut Warned,
 )
     ensures { warned.new ≡ position_noted warned.old place count corner.now precise }

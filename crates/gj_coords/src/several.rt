@@ -5,9 +5,9 @@ ghost use Rattle.gj_coords.specs.Internal.ListGather.{line_closed};
 use crate::array::Array;
 use crate::fault::{Fault, Rule, join_fault, lesser_fault};
 use crate::findings::Findings;
-use crate::part::{Gather, Judged, Part};
 use crate::position::PositionReader;
 use crate::tally::Tally;
+use crate::value_reader::{Gather, Judged, ValueReader};
 use crate::warned::Warned;
 use gj_json::Event;
 
@@ -46,7 +46,7 @@ impl<const NEEDED: u8> Several<NEEDED> {
     }
 }
 
-impl<W: Part<Answer: Judged>, const NEEDED: u8> Gather<W> for Several<NEEDED> {
+impl<W: ValueReader<Answer: Judged>, const NEEDED: u8> Gather<W> for Several<NEEDED> {
     ghost use Rattle.gj_coords.specs.Internal.ListGather.{several_gathering};
 
     type Answer = Findings;

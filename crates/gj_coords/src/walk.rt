@@ -11,24 +11,24 @@ ghost use Rattle.gj_coords.specs.Internal.SentEvents.{event_at};
 ghost use Rattle.gj_coords.specs.Internal.FlatPosition.{flat_taken, singly, in_second, second_due, third_due, in_third, in_fourth};
 
 pub mod depth;
-mod first_level;
-mod second_level;
-mod third_level;
+mod inner_array;
+mod middle_array;
+mod outer_array;
 
 use crate::array::{Array, Stage};
 use crate::fault::Fault;
-use crate::part::Part;
 use crate::position::misshapen;
 use crate::simple::Simple;
 use crate::simple_faults::SimpleFaults;
-use crate::walk::first_level::FirstLevel;
-use crate::walk::second_level::SecondReader;
+use crate::value_reader::ValueReader;
+use crate::walk::middle_array::MiddleReader;
+use crate::walk::outer_array::OuterArray;
 use crate::warned::Warned;
 use crate::warnings::Warnings;
 use gj_json::{Event, Flat, Numbered, What};
 
 /// Reads a value under the six types.
-pub type Walk = Array<SecondReader, FirstLevel>;
+pub type Walk = Array<MiddleReader, OuterArray>;
 
 /// The least fault of the value that was read, for a type.
 pub fn least_fault(walk: &Walk, simple: Simple) -> Option<Fault>

@@ -1,6 +1,6 @@
 //! Warnings as they are gathered.
 use crate::kind::Kind;
-use crate::noted::Noted;
+use crate::kind_warnings::KindWarnings;
 use crate::warnings::Warnings;
 
 /// Warnings that are gathered. Mostly there are none: then they are nothing, begin anew in one step, and add nothing to
@@ -98,7 +98,7 @@ impl Warned {
 
     /// Takes some warnings of numbers that are too precise, of which a text that has some mostly has many.
     #[inline]
-    pub(crate) fn note_precise(&mut self, noted: Noted)
+    pub(crate) fn note_precise(&mut self, noted: KindWarnings)
         ensures { self.new ≡ all_noted_in self.old W4 noted }
     {
         match &mut self.warnings {
@@ -109,7 +109,7 @@ impl Warned {
 
     /// Takes some warnings of a kind.
     #[inline(never)]
-    pub(crate) fn note_all(&mut self, kind: Kind, noted: Noted)
+    pub(crate) fn note_all(&mut self, kind: Kind, noted: KindWarnings)
         ensures { self.new ≡ all_noted_in self.old kind noted }
     {
         match &mut self.warnings {

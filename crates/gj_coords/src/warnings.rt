@@ -1,7 +1,7 @@
 //! The warnings of a text that breaks no rule.
 
 use crate::kind::{ByKind, KINDS, Kind};
-use crate::noted::Noted;
+use crate::kind_warnings::KindWarnings;
 use std::mem::size_of;
 
 /// Some warnings: of each kind how many, and the least place.
@@ -48,14 +48,14 @@ impl Warnings {
     pub(crate) fn note(&mut self, kind: Kind, place: u64)
         ensures { self.new ≡ added self.old kind place }
     {
-        let noted = self.kept(kind).join(Noted::one(place));
+        let noted = self.kept(kind).join(KindWarnings::one(place));
         self.replace(kind, noted);
     }
 
     /// Takes some warnings of a kind.
     #[tactic(auto, unfolding(crate::specs::Internal::KeptWarnings::with_noted))]
     #[inline]
-    pub(crate) fn note_all(&mut self, kind: Kind, noted: Noted)
+    pub(crate) fn note_all(&mut self, kind: Kind, noted: KindWarnings)
         ensures { self.new ≡ with_noted self.old kind noted }
     {
         let noted = self.kept(kind).join(noted);
@@ -109,13 +109,13 @@ impl Warnings {
     }
 
     /// What is kept of a kind, so many bytes further on, where there is one.
-    fn kept_shifted(&self, kind: Kind, by: u64) -> Noted
+    fn kept_shifted(&self, kind: Kind, by: u64) -> KindWarnings
         requires { (place : ℕ) → first_in kind self.now ≡ Some place → place + by ≤ 2 ^ 61 }
         ensures { result ≡ shifted_noted by (kept self.now kind) }
     {
         let noted = self.kept(kind);
         if noted.count > 0 {
-            Noted {
+            KindWarnings {
                 count: noted.count,
                 first: noted.first + by,
             }
@@ -161,10 +161,10 @@ impl Warnings {
 
     /// What is kept of a kind.
     #[inline]
-    fn kept(&self, kind: Kind) -> Noted
+    fn kept(&self, kind: Kind) -> KindWarnings
         ensures { result ≡ kept self.now kind }
     {
-        Noted {
+        KindWarnings {
             count: self.counts.of(kind),
             first: self.firsts.of(kind),
         }
@@ -172,14 +172,14 @@ impl Warnings {
 
     /// What is kept of a kind in both.
     #[inline]
-    fn both(&self, other: &Warnings, kind: Kind) -> Noted
+    fn both(&self, other: &Warnings, kind: Kind) -> KindWarnings
         ensures { result ≡ joined_noted (kept self.now kind) (kept other.now kind) }
     {
         self.kept(kind).join(other.kept(kind))
     }
 
     /// Writes what is kept of a kind.
-    fn replace(&mut self, kind: Kind, noted: Noted)
+    fn replace(&mut self, kind: Kind, noted: KindWarnings)
         ensures { self.new ≡ replaced self.old kind noted }
     {
         self.firsts.set(kind, noted.first);

@@ -13,18 +13,18 @@ ghost use Rattle.gj_coords.specs.CoordinateWarnings.{coordinates_warnings};
 ghost use Rattle.gj_coords.specs.Internal.ValueMachine.{Answers};
 ghost use Rattle.gj_coords.specs.Internal.SixReaders.{type_answer};
 
-mod whole;
+mod or_empty;
 
 use crate::array::Array;
 use crate::element::Element;
 use crate::fault::Fault;
 use crate::findings::Findings;
-use crate::part::Part;
 use crate::position::{Numbers, PositionReader};
 use crate::ring::Ring;
 use crate::several::{LINE_NEEDS, LIST_NEEDS, Line, List, Several};
+use crate::value_reader::ValueReader;
 use crate::warnings::Warnings;
-use crate::watcher::whole::Whole;
+use crate::watcher::or_empty::OrEmpty;
 use gj_json::Event;
 
 /// Takes the events of one value of `coordinates`, and tells its least fault and its warnings under one type.
@@ -60,7 +60,7 @@ pub trait Watcher: Copy {
 }
 
 /// Reads a value under one type, and answers what is found in it.
-pub trait TypeReader: Part<Answer = Findings> {
+pub trait TypeReader: ValueReader<Answer = Findings> {
     ghost simple: { Simple };
 
     ghost answers: { Answers Self.machine (type_answer simple) };
@@ -103,7 +103,7 @@ impl<R: TypeReader> Watcher for Watch<R> {
 /// Watches the coordinates of a Point (RFC 7946, section 3.1.2).
 pub type PointWatcher = Watch<PointReader>;
 
-type PointReader = Array<Element, Whole<Numbers>>;
+type PointReader = Array<Element, OrEmpty<Numbers>>;
 
 impl TypeReader for PointReader {
     ghost use Rattle.gj_coords.specs.declared.simple.Simple.TheVariants.{Point};
@@ -117,7 +117,7 @@ impl TypeReader for PointReader {
 /// Watches the coordinates of a MultiPoint (RFC 7946, section 3.1.3).
 pub type MultiPointWatcher = Watch<MultiPointReader>;
 
-type MultiPointReader = Array<PositionReader, Whole<Several<LIST_NEEDS>>>;
+type MultiPointReader = Array<PositionReader, OrEmpty<Several<LIST_NEEDS>>>;
 
 impl TypeReader for MultiPointReader {
     ghost use Rattle.gj_coords.specs.declared.simple.Simple.TheVariants.{MultiPoint};
@@ -131,7 +131,7 @@ impl TypeReader for MultiPointReader {
 /// Watches the coordinates of a LineString (RFC 7946, section 3.1.4).
 pub type LineStringWatcher = Watch<LineStringReader>;
 
-type LineStringReader = Array<PositionReader, Whole<Several<LINE_NEEDS>>>;
+type LineStringReader = Array<PositionReader, OrEmpty<Several<LINE_NEEDS>>>;
 
 impl TypeReader for LineStringReader {
     ghost use Rattle.gj_coords.specs.declared.simple.Simple.TheVariants.{LineString};
@@ -145,7 +145,7 @@ impl TypeReader for LineStringReader {
 /// Watches the coordinates of a MultiLineString (RFC 7946, section 3.1.5).
 pub type MultiLineStringWatcher = Watch<MultiLineStringReader>;
 
-type MultiLineStringReader = Array<Line, Whole<Several<LIST_NEEDS>>>;
+type MultiLineStringReader = Array<Line, OrEmpty<Several<LIST_NEEDS>>>;
 
 impl TypeReader for MultiLineStringReader {
     ghost use Rattle.gj_coords.specs.declared.simple.Simple.TheVariants.{MultiLineString};
@@ -159,7 +159,7 @@ impl TypeReader for MultiLineStringReader {
 /// Watches the coordinates of a Polygon (RFC 7946, section 3.1.6).
 pub type PolygonWatcher = Watch<PolygonReader>;
 
-type PolygonReader = Array<Ring, Whole<Several<LIST_NEEDS>>>;
+type PolygonReader = Array<Ring, OrEmpty<Several<LIST_NEEDS>>>;
 
 impl TypeReader for PolygonReader {
     ghost use Rattle.gj_coords.specs.declared.simple.Simple.TheVariants.{Polygon};
@@ -173,7 +173,7 @@ impl TypeReader for PolygonReader {
 /// Watches the coordinates of a MultiPolygon (RFC 7946, section 3.1.7).
 pub type MultiPolygonWatcher = Watch<MultiPolygonReader>;
 
-type MultiPolygonReader = Array<List<Ring>, Whole<Several<LIST_NEEDS>>>;
+type MultiPolygonReader = Array<List<Ring>, OrEmpty<Several<LIST_NEEDS>>>;
 
 impl TypeReader for MultiPolygonReader {
     ghost use Rattle.gj_coords.specs.declared.simple.Simple.TheVariants.{MultiPolygon};

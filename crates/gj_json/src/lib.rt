@@ -20,6 +20,7 @@ mod levels;
 mod limits;
 mod locator;
 mod mode;
+mod move_events;
 mod moves;
 mod names;
 mod path;
@@ -28,7 +29,6 @@ mod runs;
 mod sink;
 mod strings;
 mod tokens;
-mod told;
 mod usual;
 mod wide;
 

@@ -9,8 +9,8 @@ use crate::fault::{Cause, JsonFault};
 use crate::levels::Levels;
 use crate::limits::{Limits, MOST_LEVELS};
 use crate::mode::{Mode, Move};
+use crate::move_events::last_event;
 use crate::sink::{EventPair, EventSink};
-use crate::told::last_event;
 use arrayvec::ArrayVec;
 use gj_number::Literal;
 
@@ -195,11 +195,11 @@ impl Reader {
     }
 }
 
+mod bytes;
 mod flats;
 mod ignored;
 mod level;
 mod pieces;
 mod place;
 mod runs;
-mod steps;
 mod tokens;

@@ -3,7 +3,7 @@ pub mod FrameMeaning
 pub mod Summaries
 pub mod FrameReading
 pub mod TextKept
-pub mod ShownMembers
+pub mod OpenMembers
 pub mod GatheredWarnings
 pub mod FrameCalls
 pub mod LabelledEvents

@@ -11,7 +11,7 @@ use Rattle.gj_coords.specs.declared.fault.Rule.{Rule}
 use Rattle.gj_coords.specs.declared.fault.Rule.TheVariants.{G10}
 use Rattle.gj_coords.specs.Fault.{fault_at}
 use Rattle.gj_coords.specs.Items.{place_of}
-use Rattle.gj_rules.specs.declared.shown.TypeValue.{TypeValue}
+use Rattle.gj_rules.specs.declared.member_slots.TypeValue.{TypeValue}
 
 -- the type that a value of `type` names
 abbrev pub type_of : Tree → Word

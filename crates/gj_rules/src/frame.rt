@@ -3,10 +3,10 @@ ghost use Rattle.std.specs.Prelude.{◌≡◌};
 
 mod settle;
 
-use crate::found::Found;
-use crate::gathered::Gathered;
+use crate::findings::Findings;
+use crate::member_slots::MemberSlots;
+use crate::member_warnings::MemberWarnings;
 use crate::role::Role;
-use crate::shown::Shown;
 use gj_coords::{Coordinates, Fault, Warned};
 use gj_json::{Known, Word};
 use std::mem::size_of;
@@ -14,8 +14,8 @@ use std::mem::size_of;
 /// An open object with a role. Its `type` may come last.
 #[derive(Clone, Copy)]
 pub struct Frame {
-    pub shown: Shown,
-    pub gathered: Gathered,
+    pub slots: MemberSlots,
+    pub gathered: MemberWarnings,
 }
 
 // At most 200 integers of 8 bytes for each open object with a role.
@@ -36,8 +36,8 @@ impl Frame {
         ensures { frame_in result ≡ blank role place }
     {
         Frame {
-            shown: Shown::new(role, place),
-            gathered: Gathered::none(),
+            slots: MemberSlots::new(role, place),
+            gathered: MemberWarnings::none(),
         }
     }
 
@@ -46,15 +46,15 @@ impl Frame {
     pub fn again(&mut self, role: Role, place: u64)
         ensures { frame_in self.new ≡ blank role place }
     {
-        self.shown.again(role, place);
+        self.slots.again(role, place);
         self.gathered.clear();
     }
 
     /// The object's role.
     pub fn role(&self) -> Role
-        ensures { result ≡ self.now.shown.role }
+        ensures { result ≡ self.now.slots.role }
     {
-        self.shown.role
+        self.slots.role
     }
 
     /// Takes a name, and answers as the first member of which name its value is to be judged:
@@ -65,7 +65,7 @@ impl Frame {
     {
         match name {
             Known::Crs => self.crs_name(place),
-            _ => self.shown.name(name, place),
+            _ => self.slots.name(name, place),
         }
     }
 
@@ -77,14 +77,14 @@ impl Frame {
         ensures due { result ≡ due_after Known.Crs (frame_in self.old) }
     {
         self.gathered.name(Known::Crs, place);
-        self.shown.name(Known::Crs, place)
+        self.slots.name(Known::Crs, place)
     }
 
     /// Adds a fault of the value of the first member `name`.
     pub fn join(&mut self, name: Known, fault: Option<Fault>)
         ensures { frame_in self.new ≡ joined name fault (frame_in self.old) }
     {
-        self.shown.join(name, fault);
+        self.slots.join(name, fault);
     }
 
     /// Adds warnings of the value of the first member `name`.
@@ -95,7 +95,7 @@ impl Frame {
     }
 
     /// Adds what is found in the value of the first member `name`, or in an element of it.
-    pub fn take(&mut self, name: Known, found: &Found)
+    pub fn take(&mut self, name: Known, found: &Findings)
         ensures { frame_in self.new ≡ taken_in name (found_in found.now) (frame_in self.old) }
     {
         self.join(name, found.fault);
@@ -106,13 +106,13 @@ impl Frame {
     pub fn set_type(&mut self, place: u64, word: Word)
         ensures { frame_in self.new ≡ type_set place word (frame_in self.old) }
     {
-        self.shown.set_type(place, word);
+        self.slots.set_type(place, word);
     }
 
     /// Sets what is found in the value of the first `coordinates`.
     pub fn set_shapes(&mut self, summary: &Coordinates)
-        ensures { (value : Tree) → depth value ≤ most_levels → StandsForCoordinates summary.now (value_events value) → frame_in self.new ≡ shapes_set (asked (frame_in self.old).shown.type_value (shapes_of value)) (frame_in self.old) }
+        ensures { (value : Tree) → depth value ≤ most_levels → StandsForCoordinates summary.now (value_events value) → frame_in self.new ≡ shapes_set (asked (frame_in self.old).slots.type_value (shapes_of value)) (frame_in self.old) }
     {
-        self.shown.set_shapes(summary);
+        self.slots.set_shapes(summary);
     }
 }

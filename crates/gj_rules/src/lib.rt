@@ -8,19 +8,19 @@
 //! the length of the text and wherever an object's `type` stands.
 #![tactic(auto)]
 
-mod found;
+mod findings;
 mod frame;
-mod gathered;
 pub mod laws;
 mod lazy_warned;
 mod linter;
+mod member_slots;
+mod member_warnings;
 mod mode;
 mod opening;
 mod role;
 mod rules;
 mod sequence;
 mod shapes;
-mod shown;
 mod verdict;
 
 pub use linter::{Linter, Progress};

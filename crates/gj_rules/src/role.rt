@@ -18,7 +18,7 @@ pub enum Role {
 
 impl Role {
     ghost use Rattle.gj_rules.specs.Role.{is_allowed};
-    ghost use Rattle.gj_rules.specs.Internal.ShownMembers.{geometry_uses, feature_uses, uses};
+    ghost use Rattle.gj_rules.specs.Internal.OpenMembers.{geometry_uses, feature_uses, uses};
     ghost use Rattle.gj_rules.specs.Internal.EventSteps.{member_of};
 
     /// Whether an object with this role may be of the type `word`.

@@ -3,11 +3,11 @@ ghost use Rattle.std.specs.Prelude.{◌≡◌, ℕ, ◌<◌, ◌≤◌, ◌^◌,
 ghost use Rattle.gj_rules.specs.declared.rules.TheConstants.{MOST_AROUND};
 
 mod doomed;
+mod events;
 mod flats;
 mod kinds;
-mod steps;
 
-use crate::found::Found;
+use crate::findings::Findings;
 use crate::frame::Frame;
 use crate::mode::Mode;
 use crate::role::Role;
@@ -33,7 +33,7 @@ pub struct Rules {
     coordinates: Coordinates,
     bbox: Bbox,
     /// What is found in the text, once it has ended, and until then the warning of a byte order mark.
-    answer: Found,
+    answer: Findings,
     mode: Mode,
     /// How many levels of a value are open that is not looked into.
     skipped: u16,
@@ -79,7 +79,7 @@ impl Rules {
             around: 0,
             coordinates: Coordinates::new(),
             bbox: Bbox::new(),
-            answer: Found::none(),
+            answer: Findings::none(),
             mode: Mode::RootDue,
             skipped: 0,
         }
@@ -150,13 +150,13 @@ impl Rules {
 
     /// The role of the innermost open object with one.
     fn role(&self) -> Role
-        ensures { result ≡ (core_of self.now).top.shown.role }
+        ensures { result ≡ (core_of self.now).top.slots.role }
     {
         self.frames[self.around as usize].role()
     }
 
     /// Sets what is found in it, at its close.
-    fn settle(&self, found: &mut Found)
+    fn settle(&self, found: &mut Findings)
         ensures { found_in found.new ≡ settled (core_of self.now).top }
     {
         self.frames[self.around as usize].settle(found);
@@ -258,7 +258,7 @@ impl Rules {
     fn end_bbox(&mut self)
         ensures { (value : Tree) → depth value ≤ most_levels → StandsForBbox self.old.bbox (value_events value) → core_of self.new ≡ ended_as Known.Bbox value (core_of self.old) }
     {
-        let found = Found {
+        let found = Findings {
             fault: self.bbox.fault(),
             warned: Warned::of(self.bbox.warnings()),
         };
@@ -266,7 +266,7 @@ impl Rules {
     }
 
     /// The value of the first member `name` has ended, or an element of it, and this is found in it.
-    fn take_in(&mut self, name: Known, found: &Found)
+    fn take_in(&mut self, name: Known, found: &Findings)
         ensures { core_of self.new ≡ record (core_of self.old) { mode = Mode.Names; top = taken_in name (found_in found.now) (core_of self.old).top } }
     {
         self.frames[self.around as usize].take(name, found);

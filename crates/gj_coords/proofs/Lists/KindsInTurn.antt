@@ -3,7 +3,7 @@ use Rattle.std.specs.Prelude.{refl, ◌≡◌, ℕ, ◌+◌, ◌-◌, ◌≤◌,
 use Rattle.std.proofs.Common.{arith, sym, ◌∙◌, ap}
 use Rattle.std.proofs.lemmas.Bool.Decides.{nat_tests}
 use Rattle.gj_coords.specs.declared.kind.Kind.{Kind}
-use Rattle.gj_coords.specs.declared.noted.Noted.{Noted}
+use Rattle.gj_coords.specs.declared.kind_warnings.KindWarnings.{KindWarnings}
 use Rattle.gj_coords.specs.declared.warnings.Warnings.{Warnings}
 use Rattle.gj_coords.specs.Warnings.{kind_number, kinds, index_of, same_kind}
 use Rattle.gj_coords.specs.Internal.KeptWarnings.{by_kind, kept, replaced}
@@ -11,10 +11,10 @@ use Rattle.gj_coords.specs.Internal.ByKind.{kind_range, index_small, one_kind}
 use Rattle.gj_coords.specs.Internal.WarningLaws.{kept_by_kind, by_kind_alike}
 
 -- the first kinds have these values
-abbrev pub turned : ℕ → (Kind → Noted) → Warnings → Warnings
+abbrev pub turned : ℕ → (Kind → KindWarnings) → Warnings → Warnings
 turned i value a = by_kind (λ kind. if nat_lt (index_of kind) i then value kind else kept a kind)
 
-pub none_turned : (value : Kind → Noted) (a : Warnings) → a ≡ turned 0 value a
+pub none_turned : (value : Kind → KindWarnings) (a : Warnings) → a ≡ turned 0 value a
 none_turned value a =
     by_kind_alike (kept a) (λ kind. if nat_lt (index_of kind) 0 then value kind else kept a kind) (λ kind. by_test kind (nat_lt (index_of kind) 0) (none (index_of kind)))
   where
@@ -24,7 +24,7 @@ none_turned value a =
     by_test : (kind : Kind) (t : Bool) → t ≡ false → kept a kind ≡ (if t then value kind else kept a kind)
     by_test kind t h = rw h refl
 
-pub all_turned : (i : ℕ) (value : Kind → Noted) (a : Warnings) → length kinds ≤ i → turned i value a ≡ by_kind value
+pub all_turned : (i : ℕ) (value : Kind → KindWarnings) (a : Warnings) → length kinds ≤ i → turned i value a ≡ by_kind value
 all_turned i value a all =
     by_kind_alike (λ kind. if nat_lt (index_of kind) i then value kind else kept a kind) value
     (λ kind. by_test kind (nat_lt (index_of kind) i) (within (index_of kind) (index_small kind)))
@@ -36,7 +36,7 @@ all_turned i value a all =
     by_test kind t h = rw h refl
 
 -- a kind that is not reached has what it had
-pub not_turned : (i : ℕ) (value : Kind → Noted) (a : Warnings) (kind : Kind) → index_of kind ≡ i → kept (turned i value a) kind ≡ kept a kind
+pub not_turned : (i : ℕ) (value : Kind → KindWarnings) (a : Warnings) (kind : Kind) → index_of kind ≡ i → kept (turned i value a) kind ≡ kept a kind
 not_turned i value a kind at =
     kept_by_kind (λ other. if nat_lt (index_of other) i then value other else kept a other) kind ∙ by_test (nat_lt (index_of kind) i) (not_yet (index_of kind) at)
   where
@@ -47,7 +47,7 @@ not_turned i value a kind at =
     by_test t h = rw h refl
 
 -- the next one is written
-pub one_turned : (i : ℕ) (value : Kind → Noted) (a : Warnings) (kind : Kind) (noted : Noted) → index_of kind ≡ i → noted ≡ value kind →
+pub one_turned : (i : ℕ) (value : Kind → KindWarnings) (a : Warnings) (kind : Kind) (noted : KindWarnings) → index_of kind ≡ i → noted ≡ value kind →
     replaced (turned i value a) kind noted ≡ turned (i + 1) value a
 unfolding replaced
 one_turned i value a kind noted at is =

@@ -4,7 +4,7 @@ use Rattle.std.proofs.Common.{arith, sym, ◌∙◌, ap}
 use Rattle.std.proofs.lemmas.Bool.Decides.{nat_tests}
 use Rattle.std.proofs.lemmas.List.Folds.{list_all_at}
 use Rattle.gj_coords.specs.declared.kind.Kind.{Kind}
-use Rattle.gj_coords.specs.declared.noted.Noted.{Noted}
+use Rattle.gj_coords.specs.declared.kind_warnings.KindWarnings.{KindWarnings}
 use Rattle.gj_coords.specs.declared.warnings.Warnings.{Warnings}
 use Rattle.gj_coords.specs.Warnings.{Warning, warning_at, kinds, index_of, same_kind, places_of, greatest_count, first_of, least_place}
 use Rattle.gj_coords.specs.Internal.KeptWarnings.{noted_as, noted_of, joined_noted, kept, warnings_of, joined, added, replaced, none_in}
@@ -53,11 +53,11 @@ none_there (x ∷ xs) count h zero = absurd (counted greatest_count (length xs) 
     counted : (limit n : ℕ) → 0 < limit → min (suc n) limit ≡ 0 → ⊥
     counted limit n h k = grind (arith, nat_tests)
 
-pub first_is : (noted : Noted) (kind : Kind) (warnings : List Warning) → noted ≡ noted_of kind warnings → 0 < noted.count → Some noted.first ≡ first_of kind warnings
+pub first_is : (noted : KindWarnings) (kind : Kind) (warnings : List Warning) → noted ≡ noted_of kind warnings → 0 < noted.count → Some noted.first ≡ first_of kind warnings
 first_is noted kind warnings h some =
     first_there (places_of kind warnings) noted.count noted.first (ap (λ x. x.count) h) (ap (λ x. x.first) h) some
 
-pub first_is_none : (noted : Noted) (kind : Kind) (warnings : List Warning) → noted ≡ noted_of kind warnings → noted.count ≡ 0 → None ≡ first_of kind warnings
+pub first_is_none : (noted : KindWarnings) (kind : Kind) (warnings : List Warning) → noted ≡ noted_of kind warnings → noted.count ≡ 0 → None ≡ first_of kind warnings
 first_is_none noted kind warnings h zero = none_there (places_of kind warnings) noted.count (ap (λ x. x.count) h) zero
 
 -- no count, no warning

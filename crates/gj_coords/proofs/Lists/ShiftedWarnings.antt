@@ -4,7 +4,7 @@ use Rattle.std.proofs.Common.{arith, sym, ◌∙◌, ap}
 use Rattle.std.proofs.lemmas.List.{length-map}
 use Rattle.std.proofs.lemmas.Bool.Decides.{nat_tests}
 use Rattle.gj_coords.specs.declared.kind.Kind.{Kind}
-use Rattle.gj_coords.specs.declared.noted.Noted.{Noted}
+use Rattle.gj_coords.specs.declared.kind_warnings.KindWarnings.{KindWarnings}
 use Rattle.gj_coords.specs.declared.warnings.Warnings.{Warnings}
 use Rattle.gj_coords.specs.Warnings.{Warning, warning_at, shifted_by, same_kind, places_of, greatest_count, least_place, lesser_place}
 use Rattle.gj_coords.specs.Internal.KeptWarnings.{noted_as, noted_of, shifted_noted, kept, warnings_of, shifted}
@@ -39,7 +39,7 @@ places_on : (by : ℕ) (kind : Kind) (warnings : List Warning) → places_of kin
 places_on by kind [] = refl
 places_on by kind (warning ∷ more) = places_of_one by kind warning more (same_kind warning.kind kind) refl (places_on by kind more)
 
-abbrev summary : List ℕ → Noted
+abbrev summary : List ℕ → KindWarnings
 summary places = noted_as (min (length places) greatest_count) (unwrap_or (least_place places) 0)
 
 some_count : (limit n : ℕ) → 0 < limit → (min (suc n) limit == 0) ≡ false
@@ -72,7 +72,7 @@ shifted_stands a by warnings h =
     (λ kind. ap (shifted_noted by) (kept_by_kind (λ k. noted_of k warnings) kind) ∙ noted_on by kind warnings)
 
 -- what a caller keeps to, of one kind
-pub within_reach : (a b : Noted) (by : ℕ) → b ≡ a → ((place : ℕ) → (if a.count == 0 then None else Some a.first) ≡ Some place → place + by ≤ 2 ^ 61) →
+pub within_reach : (a b : KindWarnings) (by : ℕ) → b ≡ a → ((place : ℕ) → (if a.count == 0 then None else Some a.first) ≡ Some place → place + by ≤ 2 ^ 61) →
     0 < b.count → b.first + by ≤ 2 ^ 61
 within_reach a b by same h some =
     let count : b.count ≡ a.count = ap (λ x. x.count) same in
@@ -89,7 +89,7 @@ pub one_first : (w : Warnings) (kind other : Kind) (place found : ℕ) → Stand
     (if (kept w other).count == 0 then None else Some (kept w other).first) ≡ Some found → found ≡ place
 one_first w kind other place found h e = by_test (same_kind kind other) refl (kept w other) (kept_of w other (warning_at place kind ∷ []) h) e
   where
-    by_test : (t : Bool) → same_kind kind other ≡ t → (noted : Noted) → noted ≡ noted_of other (warning_at place kind ∷ []) →
+    by_test : (t : Bool) → same_kind kind other ≡ t → (noted : KindWarnings) → noted ≡ noted_of other (warning_at place kind ∷ []) →
         (if noted.count == 0 then None else Some noted.first) ≡ Some found → found ≡ place
     by_test true s noted k f =
         let n : noted ≡ noted_as 1 place = k ∙ simp s in

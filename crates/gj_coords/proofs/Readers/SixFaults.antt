@@ -14,7 +14,7 @@ use Rattle.gj_coords.specs.Internal.SixReaders.{line_answer, ring_answer, polygo
 use Rattle.gj_coords.specs.Internal.PositionLaws.{position_fault}
 use Rattle.gj_coords.specs.Internal.RingLaws.{ring_least}
 use Rattle.gj_coords.specs.Internal.ListLaws.{several_least}
-use Rattle.gj_coords.proofs.Readers.WholeLaws.{whole_least}
+use Rattle.gj_coords.proofs.Readers.OrEmptyLaws.{whole_least}
 
 line_least : (v : Tree) → (line_answer v).fault ≡ least (line v)
 line_least = several_least position_judged 2 (omega arith) position_answer position position_fault

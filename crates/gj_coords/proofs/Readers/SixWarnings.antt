@@ -31,7 +31,7 @@ use Rattle.gj_coords.specs.Internal.ElementCountLaws.{gathered_place}
 use Rattle.gj_coords.specs.Internal.GatheredWarningLaws.{taken_is}
 use Rattle.gj_coords.proofs.Readers.EventCounts.{length_below}
 use Rattle.gj_coords.proofs.Readers.WarningsOfElements.{IsShort, elements_short, none_of, always, gathered_warned, from_none, ring_warnings, ring_warned, sound_positions, gathered_rings}
-use Rattle.gj_coords.proofs.Readers.WholeLaws.{whole_warned}
+use Rattle.gj_coords.proofs.Readers.OrEmptyLaws.{whole_warned}
 
 -- ---- what an answer adds to warnings
 

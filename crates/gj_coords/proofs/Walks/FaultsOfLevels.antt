@@ -9,11 +9,11 @@ use Rattle.gj_coords.specs.declared.simple.Simple.{Simple}
 use Rattle.gj_coords.specs.declared.simple.Simple.TheVariants.{Point, MultiPoint, LineString, MultiLineString, Polygon, MultiPolygon}
 use Rattle.gj_coords.specs.declared.several.Several.{Several}
 use Rattle.gj_coords.specs.declared.tally.Tally.{Tally}
-use Rattle.gj_coords.specs.declared.walk.third_level.ThirdSummary.{ThirdSummary}
-use Rattle.gj_coords.specs.declared.walk.first_level.FirstSummary.{FirstSummary}
-use Rattle.gj_coords.specs.declared.walk.first_level.FirstSummary.TheVariants.{Other, Level}
-use Rattle.gj_coords.specs.declared.walk.second_level.SecondLevel.{SecondLevel}
-use Rattle.gj_coords.specs.declared.walk.first_level.FirstLevel.{FirstLevel}
+use Rattle.gj_coords.specs.declared.walk.inner_array.InnerSummary.{InnerSummary}
+use Rattle.gj_coords.specs.declared.walk.outer_array.OuterSummary.{OuterSummary}
+use Rattle.gj_coords.specs.declared.walk.outer_array.OuterSummary.TheVariants.{Other, Level}
+use Rattle.gj_coords.specs.declared.walk.middle_array.MiddleArray.{MiddleArray}
+use Rattle.gj_coords.specs.declared.walk.outer_array.OuterArray.{OuterArray}
 use Rattle.gj_coords.specs.Fault.{fault_at, lesser, least}
 use Rattle.gj_coords.specs.Items.{items}
 use Rattle.gj_coords.specs.Shape.{Shape, position, list, line, ring, shape_of, coordinates_faults}
@@ -88,7 +88,7 @@ second_position = role second_gathering numbers_gathering (λ g. g.numbers) (λ 
     (λ g a. refl) (λ v. ap (λ p. p.head) (third_position v) ∙ position_head v) (λ p. refl) (λ g. refl) (λ e. refl)
 
 -- the least fault of the positions goes on as that of a line does
-line_step : (g : SecondLevel) (a : ThirdSummary) →
+line_step : (g : MiddleArray) (a : InnerSummary) →
     ◌≡◌ {A = Several 2} (listed (counted g.numbers.tally) (position_added g.positions a.position).fault)
     (listed (counted g.numbers.tally) (lesser g.positions.fault a.position.fault))
 line_step g a =
@@ -124,7 +124,7 @@ second_polygon = list_role second_gathering (λ g. listed g.numbers.tally g.ring
 -- ---- the first level
 
 -- as if an empty array were judged too
-abbrev judged_as : Simple → FirstSummary → Option Fault
+abbrev judged_as : Simple → OuterSummary → Option Fault
 judged_as simple (Other place) = misshapen_at place
 judged_as simple (Level s) = some_fault_in simple s
 
@@ -176,6 +176,6 @@ first_least simple (string place content end) = judged_least simple (string plac
 first_least simple (object place ms close) = judged_least simple (object place ms close)
 first_least simple (array place end_of_array close) = refl
 first_least simple (array place (element v more) close) =
-    let g : FirstLevel = gathered first_gathering second_answer (first_gathering.opened place) (v ∷ items more) in
+    let g : OuterArray = gathered first_gathering second_answer (first_gathering.opened place) (v ∷ items more) in
     ap (λ b. if b then None else some_fault_in simple g) (not_empty place v (items more)) ∙
     judged_least simple (array place (element v more) close)

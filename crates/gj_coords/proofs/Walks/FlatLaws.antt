@@ -11,13 +11,13 @@ use Rattle.gj_coords.specs.declared.array.Stage.TheVariants.{Due, Between, Withi
 use Rattle.gj_coords.specs.declared.element.Element.{Element}
 use Rattle.gj_coords.specs.declared.fault.Fault.{Fault}
 use Rattle.gj_coords.specs.declared.fault.Rule.TheVariants.{G11, G14, G15}
-use Rattle.gj_coords.specs.declared.walk.first_level.FirstLevel.{FirstLevel}
-use Rattle.gj_coords.specs.declared.walk.first_level.FirstSummary.{FirstSummary}
+use Rattle.gj_coords.specs.declared.walk.outer_array.OuterArray.{OuterArray}
+use Rattle.gj_coords.specs.declared.walk.outer_array.OuterSummary.{OuterSummary}
 use Rattle.gj_coords.specs.declared.position.Numbers.{Numbers}
-use Rattle.gj_coords.specs.declared.walk.second_level.SecondLevel.{SecondLevel}
-use Rattle.gj_coords.specs.declared.walk.second_level.SecondSummary.{SecondSummary}
-use Rattle.gj_coords.specs.declared.walk.third_level.ThirdLevel.{ThirdLevel}
-use Rattle.gj_coords.specs.declared.walk.third_level.ThirdSummary.{ThirdSummary}
+use Rattle.gj_coords.specs.declared.walk.middle_array.MiddleArray.{MiddleArray}
+use Rattle.gj_coords.specs.declared.walk.middle_array.MiddleSummary.{MiddleSummary}
+use Rattle.gj_coords.specs.declared.walk.inner_array.InnerArray.{InnerArray}
+use Rattle.gj_coords.specs.declared.walk.inner_array.InnerSummary.{InnerSummary}
 use Rattle.gj_coords.specs.declared.winding.Turn.TheVariants.{Straight}
 use Rattle.gj_coords.specs.Fault.{fault_at, lesser}
 use Rattle.gj_coords.specs.Internal.Gathering.{Gathering}
@@ -26,7 +26,7 @@ use Rattle.gj_coords.specs.Internal.GatheredWarnings.{no_warned}
 use Rattle.gj_coords.specs.Internal.ElementReader.{element_machine}
 use Rattle.gj_coords.specs.Internal.PositionGather.{misshapen_at, numbers_gathering, position_closed, no_position}
 use Rattle.gj_coords.specs.Internal.LevelGather.{position_machine, third_machine, second_machine, walk_machine, third_gathering, second_gathering, first_gathering}
-use Rattle.gj_coords.specs.Internal.FlatPosition.{least_place, flat_position, flat_third, flat_second, flat_first, PositionReader, ThirdReader, SecondReader, Walk, singly, at_value, in_fourth, in_third, third_due, in_second, second_due, in_first, flat_taken}
+use Rattle.gj_coords.specs.Internal.FlatPosition.{least_place, flat_position, flat_third, flat_second, flat_first, PositionReader, InnerReader, MiddleReader, Walk, singly, at_value, in_fourth, in_third, third_due, in_second, second_due, in_first, flat_taken}
 use Rattle.gj_coords.proofs.Readers.RestsOfValues.{left}
 use Rattle.gj_coords.proofs.Walks.StatesAlike.{Simulates, reads_alike, SameElement, element_simulates, Alike, array_simulates}
 
@@ -75,12 +75,12 @@ position_is : (a b : Numbered) (third : Option Numbered) (place close : ℕ) →
 position_is a b None place close = refl
 position_is a b (Some c) place close = refl
 
-abbrev third_by : Flat → Option Fault → ThirdSummary
+abbrev third_by : Flat → Option Fault → InnerSummary
 third_by f fault = record { position = flat_position f; ring = ring_of f.place fault; turn = Straight; warned = no_warned }
 
 third_ring : (f : Flat) → third_by f (misshapen_at (least_place f)) ≡ flat_third f
 third_ring f =
-    let P : Option Fault → ThirdSummary = λ ring. record { position = flat_position f; ring = ring; turn = Straight; warned = no_warned } in
+    let P : Option Fault → InnerSummary = λ ring. record { position = flat_position f; ring = ring; turn = Straight; warned = no_warned } in
     ap P (ring_least f.place (least_place f))
 
 third_is : (a b : Numbered) (third : Option Numbered) (place close : ℕ) →
@@ -92,7 +92,7 @@ third_is a b (Some c) place close =
     let f : Flat = flat_of a b (Some c) place close in
     ap (third_by f) (least_three a.place b.place c.place) ∙ third_ring f
 
-abbrev second_by : Flat → Option Fault → SecondSummary
+abbrev second_by : Flat → Option Fault → MiddleSummary
 second_by f fault = record {
   position = flat_position f;
   line = fault;
@@ -105,7 +105,7 @@ second_by f fault = record {
 
 second_ring : (f : Flat) → second_by f (misshapen_at (least_place f)) ≡ flat_second f
 second_ring f =
-    let P : Option Fault → SecondSummary = λ ring. record (flat_second f) { ring = ring } in
+    let P : Option Fault → MiddleSummary = λ ring. record (flat_second f) { ring = ring } in
     ap P (ring_least f.place (least_place f))
 
 second_is : (a b : Numbered) (third : Option Numbered) (place close : ℕ) →
@@ -117,7 +117,7 @@ second_is a b (Some c) place close =
     let f : Flat = flat_of a b (Some c) place close in
     ap (second_by f) (least_three a.place b.place c.place) ∙ second_ring f
 
-abbrev first_by : Flat → Option Fault → FirstLevel
+abbrev first_by : Flat → Option Fault → OuterArray
 first_by f fault = record (flat_first f) { positions = fault; lines = fault; rings = fault; polygons = fault }
 
 first_is : (a b : Numbered) (third : Option Numbered) (place close : ℕ) →
@@ -130,10 +130,10 @@ first_is a b (Some c) place close = ap (first_by (flat_of a b (Some c) place clo
 abbrev PositionAlike : PositionReader → PositionReader → Type 0
 PositionAlike = Alike SameElement
 
-abbrev ThirdAlike : ThirdReader → ThirdReader → Type 0
+abbrev ThirdAlike : InnerReader → InnerReader → Type 0
 ThirdAlike = Alike PositionAlike
 
-abbrev SecondAlike : SecondReader → SecondReader → Type 0
+abbrev SecondAlike : MiddleReader → MiddleReader → Type 0
 SecondAlike = Alike ThirdAlike
 
 abbrev WalkAlike : Walk → Walk → Type 0
@@ -156,7 +156,7 @@ state stage gather item other = record { gather = gather; item = item; other = o
 
 -- ---- where a position is due
 
-at_value_alike : (a b : Numbered) (third : Option Numbered) (place close : ℕ) (g : FirstLevel) (w : SecondReader) (o : Element) →
+at_value_alike : (a b : Numbered) (third : Option Numbered) (place close : ℕ) (g : OuterArray) (w : MiddleReader) (o : Element) →
     let f : Flat = flat_of a b third place close in
     WalkAlike (singly f (state Due g w o)) (at_value f (state Due g w o))
 at_value_alike a b None place close g w o =
@@ -164,8 +164,8 @@ at_value_alike a b None place close g w o =
 at_value_alike a b (Some c) place close g w o =
     record { stage = refl; gather = first_is a b (Some c) place close; item = second_simulates.same w; other = refl }
 
-second_due_alike : (a b : Numbered) (third : Option Numbered) (place close : ℕ) (g : FirstLevel) (o : Element) →
-    (stage : Stage) (g2 : SecondLevel) (w2 : ThirdReader) (o2 : Element) →
+second_due_alike : (a b : Numbered) (third : Option Numbered) (place close : ℕ) (g : OuterArray) (o : Element) →
+    (stage : Stage) (g2 : MiddleArray) (w2 : InnerReader) (o2 : Element) →
     let f : Flat = flat_of a b third place close in
     WalkAlike (singly f (state Between g (state stage g2 w2 o2) o)) (second_due f stage (state Between g (state stage g2 w2 o2) o))
 second_due_alike a b None place close g o Due g2 w2 o2 = record {
@@ -185,8 +185,8 @@ second_due_alike a b third place close g o Within g2 w2 o2 = walk_simulates.same
 second_due_alike a b third place close g o Broken g2 w2 o2 = walk_simulates.same _
 second_due_alike a b third place close g o Done g2 w2 o2 = walk_simulates.same _
 
-third_due_alike : (a b : Numbered) (third : Option Numbered) (place close : ℕ) (g : FirstLevel) (o : Element) (g2 : SecondLevel) (o2 : Element) →
-    (stage : Stage) (g3 : ThirdLevel) (w3 : PositionReader) (o3 : Element) →
+third_due_alike : (a b : Numbered) (third : Option Numbered) (place close : ℕ) (g : OuterArray) (o : Element) (g2 : MiddleArray) (o2 : Element) →
+    (stage : Stage) (g3 : InnerArray) (w3 : PositionReader) (o3 : Element) →
     let f : Flat = flat_of a b third place close in
     let s : Walk = state Within g (state Between g2 (state stage g3 w3 o3) o2) o in
     WalkAlike (singly f s) (third_due f stage s)
@@ -217,7 +217,7 @@ third_due_alike a b third place close g o g2 o2 Within g3 w3 o3 = walk_simulates
 third_due_alike a b third place close g o g2 o2 Broken g3 w3 o3 = walk_simulates.same _
 third_due_alike a b third place close g o g2 o2 Done g3 w3 o3 = walk_simulates.same _
 
-fourth_due_alike : (a b : Numbered) (third : Option Numbered) (place close : ℕ) (g : FirstLevel) (o : Element) (g2 : SecondLevel) (o2 : Element) (g3 : ThirdLevel) (o3 : Element) →
+fourth_due_alike : (a b : Numbered) (third : Option Numbered) (place close : ℕ) (g : OuterArray) (o : Element) (g2 : MiddleArray) (o2 : Element) (g3 : InnerArray) (o3 : Element) →
     (stage : Stage) (g4 : Numbers) (w4 : Element) (o4 : Element) →
     let f : Flat = flat_of a b third place close in
     let s : Walk = state Within g (state Within g2 (state Between g3 (state stage g4 w4 o4) o3) o2) o in
@@ -261,8 +261,8 @@ fourth_due_alike a b third place close g o g2 o2 g3 o3 Done g4 w4 o4 = walk_simu
 
 -- ---- by the stages of the levels
 
-in_third_alike : (a b : Numbered) (third : Option Numbered) (place close : ℕ) (g : FirstLevel) (o : Element) (g2 : SecondLevel) (o2 : Element) →
-    (stage : Stage) (g3 : ThirdLevel) (w3 : PositionReader) (o3 : Element) →
+in_third_alike : (a b : Numbered) (third : Option Numbered) (place close : ℕ) (g : OuterArray) (o : Element) (g2 : MiddleArray) (o2 : Element) →
+    (stage : Stage) (g3 : InnerArray) (w3 : PositionReader) (o3 : Element) →
     let f : Flat = flat_of a b third place close in
     let s : Walk = state Within g (state Within g2 (state stage g3 w3 o3) o2) o in
     WalkAlike (singly f s) (in_third f stage s)
@@ -273,8 +273,8 @@ in_third_alike a b third place close g o g2 o2 Within g3 w3 o3 = walk_simulates.
 in_third_alike a b third place close g o g2 o2 Broken g3 w3 o3 = walk_simulates.same _
 in_third_alike a b third place close g o g2 o2 Done g3 w3 o3 = walk_simulates.same _
 
-in_second_alike : (a b : Numbered) (third : Option Numbered) (place close : ℕ) (g : FirstLevel) (o : Element) →
-    (stage : Stage) (g2 : SecondLevel) (w2 : ThirdReader) (o2 : Element) →
+in_second_alike : (a b : Numbered) (third : Option Numbered) (place close : ℕ) (g : OuterArray) (o : Element) →
+    (stage : Stage) (g2 : MiddleArray) (w2 : InnerReader) (o2 : Element) →
     let f : Flat = flat_of a b third place close in
     let s : Walk = state Within g (state stage g2 w2 o2) o in
     WalkAlike (singly f s) (in_second f stage s)
@@ -287,7 +287,7 @@ in_second_alike a b third place close g o Broken g2 w2 o2 = walk_simulates.same 
 in_second_alike a b third place close g o Done g2 w2 o2 = walk_simulates.same _
 
 in_first_alike : (a b : Numbered) (third : Option Numbered) (place close : ℕ) →
-    (stage : Stage) (g : FirstLevel) (w : SecondReader) (o : Element) →
+    (stage : Stage) (g : OuterArray) (w : MiddleReader) (o : Element) →
     let f : Flat = flat_of a b third place close in
     let s : Walk = state stage g w o in
     WalkAlike (singly f s) (in_first f stage s)
@@ -300,7 +300,7 @@ in_first_alike a b third place close Done g w o = walk_simulates.same _
 taken_alike : (f : Flat) (s : Walk) → WalkAlike (singly f s) (flat_taken f s)
 taken_alike f s = in_first_alike f.first f.second f.third f.place f.close s.stage s.gather s.item s.other
 
-pub flat_leads : (f : Flat) (s : Walk) (rest : List Event) (a : FirstSummary) →
+pub flat_leads : (f : Flat) (s : Walk) (rest : List Event) (a : OuterSummary) →
     Reads walk_machine s (flat_events f ++ rest) a → Reads walk_machine (flat_taken f s) rest a
 flat_leads f s rest a h =
     reads_alike walk_machine WalkAlike walk_simulates (singly f s) (flat_taken f s) (taken_alike f s) rest a (left walk_machine s (flat_events f) rest a h)
@@ -311,7 +311,7 @@ at_value_due f s due =
     let P : Stage → Type 0 = λ stage. WalkAlike (singly f (state stage s.gather s.item s.other)) (at_value f s) in
     subst P (sym due) (at_value_alike f.first f.second f.third f.place f.close s.gather s.item s.other)
 
-pub value_leads : (f : Flat) (s : Walk) (rest : List Event) (a : FirstSummary) → s.stage ≡ Due →
+pub value_leads : (f : Flat) (s : Walk) (rest : List Event) (a : OuterSummary) → s.stage ≡ Due →
     Reads walk_machine s (flat_events f ++ rest) a → Reads walk_machine (at_value f s) rest a
 value_leads f s rest a due h =
     reads_alike walk_machine WalkAlike walk_simulates (singly f s) (at_value f s) (at_value_due f s due) rest a (left walk_machine s (flat_events f) rest a h)

@@ -4,10 +4,10 @@ use Rattle.std.proofs.Common.{◌≡◌, ℕ, Option, Some, None, Bool, true, fa
 use Rattle.gj_json.specs.declared.flat.Flat.{Flat}
 use Rattle.gj_json.specs.declared.flat.Numbered.{Numbered}
 use Rattle.gj_coords.specs.declared.fault.Fault.{Fault}
-use Rattle.gj_coords.specs.declared.walk.first_level.FirstLevel.{FirstLevel}
-use Rattle.gj_coords.specs.declared.walk.first_level.FirstSummary.{FirstSummary}
-use Rattle.gj_coords.specs.declared.walk.first_level.FirstSummary.TheVariants.{Other, Level}
-use Rattle.gj_coords.specs.declared.noted.Noted.{Noted}
+use Rattle.gj_coords.specs.declared.walk.outer_array.OuterArray.{OuterArray}
+use Rattle.gj_coords.specs.declared.walk.outer_array.OuterSummary.{OuterSummary}
+use Rattle.gj_coords.specs.declared.walk.outer_array.OuterSummary.TheVariants.{Other, Level}
+use Rattle.gj_coords.specs.declared.kind_warnings.KindWarnings.{KindWarnings}
 use Rattle.gj_coords.specs.declared.position.Position.{Position}
 use Rattle.gj_coords.specs.declared.position.Values.{Values}
 use Rattle.gj_coords.specs.declared.simple.Simple.{Simple}
@@ -22,7 +22,7 @@ use Rattle.gj_coords.specs.Internal.FlatPosition.{flat_count, flat_misshapen, fl
 
 -- ---- a position that is the whole value
 
-abbrev level_of : Option Numbered → ℕ → Values → Noted → Option Fault → FirstLevel
+abbrev level_of : Option Numbered → ℕ → Values → KindWarnings → Option Fault → OuterArray
 level_of third place values precise misshapen = record {
   numbers = record { values = values; tally = record { place = place; count = flat_count third }; fault = None; precise = precise };
   positions_warned = no_warned;
@@ -35,7 +35,7 @@ level_of third place values precise misshapen = record {
   polygons = misshapen;
 }
 
-level_fault : (simple : Simple) (third : Option Numbered) (place : ℕ) (values : Values) (precise : Noted) (misshapen : Option Fault) →
+level_fault : (simple : Simple) (third : Option Numbered) (place : ℕ) (values : Values) (precise : KindWarnings) (misshapen : Option Fault) →
     held_fault simple misshapen ≡ fault_in simple (level_of third place values precise misshapen)
 level_fault Point None place values precise misshapen = refl
 level_fault MultiPoint None place values precise misshapen = refl
@@ -52,14 +52,14 @@ level_fault MultiPolygon (Some number) place values precise misshapen = refl
 
 pub flat_fault : (simple : Simple) (f : Flat) → held_fault simple (flat_misshapen f) ≡ fault_in simple (flat_first f)
 flat_fault simple f =
-    let s : FirstLevel = flat_first f in
+    let s : OuterArray = flat_first f in
     level_fault simple f.third f.place s.numbers.values s.numbers.precise (flat_misshapen f)
 
-abbrev position_of : Option Numbered → ℕ → Values → Noted → Position
+abbrev position_of : Option Numbered → ℕ → Values → KindWarnings → Position
 position_of third place values precise =
     position_closed (record { values = values; tally = record { place = place; count = flat_count third }; fault = None; precise = precise })
 
-level_warned : (simple : Simple) (third : Option Numbered) (place : ℕ) (values : Values) (precise : Noted) (misshapen : Option Fault) →
+level_warned : (simple : Simple) (third : Option Numbered) (place : ℕ) (values : Values) (precise : KindWarnings) (misshapen : Option Fault) →
     held_warned simple (sound_noted no_warned (position_of third place values precise)) ≡ warned_in simple (level_of third place values precise misshapen)
 level_warned Point None place values precise misshapen = refl
 level_warned MultiPoint None place values precise misshapen = refl
@@ -77,7 +77,7 @@ level_warned MultiPolygon (Some number) place values precise misshapen = refl
 pub flat_warned : (simple : Simple) (f : Flat) →
     held_warned simple (sound_noted no_warned (flat_position f)) ≡ warned_in simple (flat_first f)
 flat_warned simple f =
-    let s : FirstLevel = flat_first f in
+    let s : OuterArray = flat_first f in
     level_warned simple f.third f.place s.numbers.values s.numbers.precise (flat_misshapen f)
 
 -- ---- a few looks
@@ -109,7 +109,7 @@ broken_none few None p e = cc
 broken_none None (Some y) p e = refl
 broken_none (Some x) (Some y) p e = broken_if (comes_first x y) x y p
 
-for_each : (simple : Simple) (s : FirstLevel) → is_some s.numbers.fault ≡ true → is_none s.positions_warned.warnings ≡ true →
+for_each : (simple : Simple) (s : OuterArray) → is_some s.numbers.fault ≡ true → is_none s.positions_warned.warnings ≡ true →
     is_none s.lines_warned.warnings ≡ true → is_none s.rings_warned.warnings ≡ true → is_none s.polygons_warned.warnings ≡ true →
     some_warned_in simple s ≡ no_warned
 for_each Point s broken positions lines rings polygons = broken_none _ s.numbers.fault (position_closed s.numbers) broken
@@ -119,7 +119,7 @@ for_each MultiLineString s broken positions lines rings polygons = is_no_warned 
 for_each Polygon s broken positions lines rings polygons = is_no_warned s.rings_warned rings
 for_each MultiPolygon s broken positions lines rings polygons = is_no_warned s.polygons_warned polygons
 
-some_quiet : (simple : Simple) (s : FirstLevel) → some_quiet_in s ≡ true → some_warned_in simple s ≡ no_warned
+some_quiet : (simple : Simple) (s : OuterArray) → some_quiet_in s ≡ true → some_warned_in simple s ≡ no_warned
 some_quiet simple s e =
     let broken : Bool = is_some s.numbers.fault in
     let positions : Bool = is_none s.positions_warned.warnings in
@@ -140,6 +140,6 @@ where_some : (empty quiet : Bool) (w v : Warned) → (if empty then false else q
 where_some true quiet w v e k = cc
 where_some false quiet w v e k = k e
 
-pub quiet_none : (simple : Simple) (a : FirstSummary) → quiet_as a ≡ true → warned_as simple a ≡ no_warned
+pub quiet_none : (simple : Simple) (a : OuterSummary) → quiet_as a ≡ true → warned_as simple a ≡ no_warned
 quiet_none simple (Other place) e = refl
 quiet_none simple (Level s) e = where_some (s.numbers.tally.count == 0) (some_quiet_in s) _ _ e (some_quiet simple s)

@@ -7,7 +7,7 @@ use Rattle.gj_number.specs.Exact.{below_zero, zero_exact}
 use Rattle.gj_number.specs.Short.{short_value, exact_of}
 use Rattle.gj_json.specs.declared.flat.Flat.{Flat}
 use Rattle.gj_json.specs.declared.flat.Numbered.{Numbered}
-use Rattle.gj_coords.specs.declared.noted.Noted.{Noted}
+use Rattle.gj_coords.specs.declared.kind_warnings.KindWarnings.{KindWarnings}
 use Rattle.gj_coords.specs.declared.warned.Warned.{Warned}
 use Rattle.gj_coords.specs.declared.winding.Corner.{Corner}
 use Rattle.gj_coords.specs.CoordinateWarnings.{is_precise}
@@ -45,7 +45,7 @@ written_short negative digits places k = short_if (digits == 0) negative _ _ pla
 
 -- ---- a position in range without such a number is plain
 
-quiet_by : (w : Warned) (place : ℕ) (third : Option Numbered) (corner : Option Corner) (c : Corner) (precise : Noted) → precise ≡ nothing_noted → corner ≡ Some c →
+quiet_by : (w : Warned) (place : ℕ) (third : Option Numbered) (corner : Option Corner) (c : Corner) (precise : KindWarnings) → precise ≡ nothing_noted → corner ≡ Some c →
     position_noted w place (flat_count third) corner precise ≡ w
 quiet_by w place None corner c precise e k = rw e (rw k refl)
 quiet_by w place (Some number) corner c precise e k = rw e (rw k refl)
@@ -68,7 +68,7 @@ pair_precise f none first second = by_third f.third none
     by_third (Some number) e = cc
 
 -- in range
-pub in_range_noted : (w : Warned) (place : ℕ) (third : Option Numbered) (corner : Option Corner) (precise : Noted) → is_none corner ≡ false
+pub in_range_noted : (w : Warned) (place : ℕ) (third : Option Numbered) (corner : Option Corner) (precise : KindWarnings) → is_none corner ≡ false
     → precise_noted w precise ≡ position_noted w place (flat_count third) corner precise
 in_range_noted w place None corner precise e = rw e refl
 in_range_noted w place (Some number) corner precise e = rw e refl

@@ -11,11 +11,11 @@ use Rattle.gj_coords.specs.declared.element.Element.{Element}
 use Rattle.gj_coords.specs.declared.fault.Fault.{Fault}
 use Rattle.gj_coords.specs.declared.fault.Rule.{Rule}
 use Rattle.gj_coords.specs.declared.fault.Rule.TheVariants.{G11, G14}
-use Rattle.gj_coords.specs.declared.walk.first_level.FirstLevel.{FirstLevel}
+use Rattle.gj_coords.specs.declared.walk.outer_array.OuterArray.{OuterArray}
 use Rattle.gj_coords.specs.declared.position.Numbers.{Numbers}
 use Rattle.gj_coords.specs.declared.position.Values.{Values}
-use Rattle.gj_coords.specs.declared.walk.second_level.SecondLevel.{SecondLevel}
-use Rattle.gj_coords.specs.declared.walk.third_level.ThirdLevel.{ThirdLevel}
+use Rattle.gj_coords.specs.declared.walk.middle_array.MiddleArray.{MiddleArray}
+use Rattle.gj_coords.specs.declared.walk.inner_array.InnerArray.{InnerArray}
 use Rattle.gj_coords.specs.Fault.{fault_at, lesser}
 use Rattle.gj_coords.specs.Internal.SentEvents.{event_at}
 use Rattle.gj_coords.specs.Internal.ElementReader.{due}
@@ -24,7 +24,7 @@ use Rattle.gj_coords.specs.Internal.ElementCount.{one_counted}
 use Rattle.gj_coords.specs.Internal.PositionGather.{pushed, precise_with, number_added, array_counted, sound_noted}
 use Rattle.gj_coords.specs.Internal.PositionsGather.{position_added}
 use Rattle.gj_coords.specs.Internal.LevelGather.{position_machine, third_machine, second_machine, third_gathering, second_gathering, first_gathering}
-use Rattle.gj_coords.specs.Internal.FlatPosition.{least_with, least_place, flat_misshapen, flat_ring, flat_position, flat_third, flat_second, PositionReader, ThirdReader, SecondReader, Walk, in_first, in_second, in_third, in_fourth, second_due, third_due, flat_taken}
+use Rattle.gj_coords.specs.Internal.FlatPosition.{least_with, least_place, flat_misshapen, flat_ring, flat_position, flat_third, flat_second, PositionReader, InnerReader, MiddleReader, Walk, in_first, in_second, in_third, in_fourth, second_due, third_due, flat_taken}
 use Rattle.gj_coords.specs.Internal.SteadyWalk.{IsFaultBy, IsCounted, IsSettled, IsIdle, IsFirst, IsSecond, IsThird, IsPast, IsThirdPast, third_steady, second_steady, first_steady}
 
 -- ---- a fault by this place stays the least of it and one after it
@@ -116,25 +116,25 @@ again_same {W = W} {G = G} s e k =
 
 -- ---- the levels
 
-third_kept : (floor : ℕ) (f : Flat) (g : ThirdLevel) → IsSettled floor g.numbers → IsPast floor f →
+third_kept : (floor : ℕ) (f : Flat) (g : InnerArray) → IsSettled floor g.numbers → IsPast floor f →
     third_gathering.added g (flat_position f) ≡ third_steady f g
 third_kept floor f g k p =
-    let build : Numbers → ThirdLevel = λ n. record { numbers = n; positions = position_added g.positions (flat_position f) } in
+    let build : Numbers → InnerArray = λ n. record { numbers = n; positions = position_added g.positions (flat_position f) } in
     ap build (settled_kept floor f.place g.numbers k p.bracket)
 
-second_kept : (floor : ℕ) (f : Flat) (g : SecondLevel) → IsSettled floor g.numbers → IsFaultBy floor g.rings → IsPast floor f →
+second_kept : (floor : ℕ) (f : Flat) (g : MiddleArray) → IsSettled floor g.numbers → IsFaultBy floor g.rings → IsPast floor f →
     second_gathering.added g (flat_third f) ≡ second_steady f g
 second_kept floor f g k r p =
-    let build : Numbers → Option Fault → SecondLevel = λ n rings.
+    let build : Numbers → Option Fault → MiddleArray = λ n rings.
     record g { numbers = n; positions = position_added g.positions (flat_position f); rings = rings } in
     ap (λ x. build x (lesser g.rings (flat_ring f))) (settled_kept floor f.place g.numbers k p.bracket) ∙
     ap (λ x. build (array_counted g.numbers) x) (kept_ring floor g.rings f r p)
 
-first_kept : (floor : ℕ) (f : Flat) (g : FirstLevel) → IsSettled floor g.numbers → IsFaultBy floor g.lines → IsFaultBy floor g.rings →
+first_kept : (floor : ℕ) (f : Flat) (g : OuterArray) → IsSettled floor g.numbers → IsFaultBy floor g.lines → IsFaultBy floor g.rings →
     IsFaultBy floor g.polygons → IsPast floor f →
     first_gathering.added g (flat_second f) ≡ first_steady f g
 first_kept floor f g k l r q p =
-    let build : Numbers → Option Fault → Option Fault → Option Fault → Option Fault → FirstLevel = λ n positions lines rings polygons.
+    let build : Numbers → Option Fault → Option Fault → Option Fault → Option Fault → OuterArray = λ n positions lines rings polygons.
     record g {
       numbers = n;
       positions_warned = sound_noted g.positions_warned (flat_position f);
@@ -158,7 +158,7 @@ first_kept floor f g k l r q p =
 pub first_taken : (floor : ℕ) (f : Flat) (s : Walk) → IsFirst floor s → IsPast floor f →
     flat_taken f s ≡ record s { gather = first_steady f s.gather }
 first_taken floor f s k p =
-    let build : FirstLevel → SecondReader → Walk = λ g w. record s { gather = g; item = w } in
+    let build : OuterArray → MiddleReader → Walk = λ g w. record s { gather = g; item = w } in
     ap (λ x. in_first f x s) k.at_first ∙
     (ap (λ x. second_due f x s) k.at_second ∙
     (ap (λ x. build x (second_machine.again s.item)) (first_kept floor f s.gather k.settled k.by_lines k.by_rings k.by_polygons p) ∙
@@ -168,7 +168,7 @@ first_taken floor f s k p =
 pub second_taken : (floor : ℕ) (f : Flat) (s : Walk) → IsSecond floor s → IsPast floor f →
     flat_taken f s ≡ record s { item = record s.item { gather = second_steady f s.item.gather } }
 second_taken floor f s k p =
-    let build : SecondLevel → ThirdReader → Walk = λ g w. record s { item = record s.item { gather = g; item = w } } in
+    let build : MiddleArray → InnerReader → Walk = λ g w. record s { item = record s.item { gather = g; item = w } } in
     ap (λ x. in_first f x s) k.at_first ∙
     (ap (λ x. in_second f x s) k.at_second ∙
     (ap (λ x. third_due f x s) k.at_third ∙
@@ -180,7 +180,7 @@ pub third_taken : (floor : ℕ) (f : Flat) (s : Walk) → IsThird floor s → Is
     flat_taken f s ≡
     record s { item = record s.item { item = record s.item.item { gather = third_steady f s.item.item.gather } } }
 third_taken floor f s k p =
-    let build : ThirdLevel → PositionReader → Walk = λ g w. record s { item = record s.item { item = record s.item.item { gather = g; item = w } } } in
+    let build : InnerArray → PositionReader → Walk = λ g w. record s { item = record s.item { item = record s.item.item { gather = g; item = w } } } in
     ap (λ x. in_first f x s) k.at_first ∙
     (ap (λ x. in_second f x s) k.at_second ∙
     (ap (λ x. in_third f x s) k.at_third ∙

@@ -3,12 +3,12 @@ use Rattle.std.specs.List.{flat_map}
 use Rattle.std.specs.Prelude.{⊤}
 use Rattle.std.proofs.Common.{◌≡◌, ℕ, [], ◌∷◌, true, false, refl, sym, ap, ◌∙◌, arith, if◌then◌else◌}
 use Rattle.gj_json.specs.Tree.{Tree, constant, number, string, array, object, Elements, end_of_array, element}
-use Rattle.gj_coords.specs.declared.walk.first_level.FirstLevel.{FirstLevel}
+use Rattle.gj_coords.specs.declared.walk.outer_array.OuterArray.{OuterArray}
 use Rattle.gj_coords.specs.declared.kind.Kind.TheVariants.{W6}
 use Rattle.gj_coords.specs.declared.position.Position.{Position}
 use Rattle.gj_coords.specs.declared.ring.RingGather.{RingGather}
-use Rattle.gj_coords.specs.declared.walk.second_level.SecondLevel.{SecondLevel}
-use Rattle.gj_coords.specs.declared.walk.third_level.ThirdLevel.{ThirdLevel}
+use Rattle.gj_coords.specs.declared.walk.middle_array.MiddleArray.{MiddleArray}
+use Rattle.gj_coords.specs.declared.walk.inner_array.InnerArray.{InnerArray}
 use Rattle.gj_coords.specs.declared.simple.Simple.{Simple}
 use Rattle.gj_coords.specs.declared.simple.Simple.TheVariants.{Point, MultiPoint, LineString, MultiLineString, Polygon, MultiPolygon}
 use Rattle.gj_coords.specs.Items.{items, elements_of, place_of}
@@ -39,7 +39,7 @@ answered_place p v e = ap (λ q. q.head.place) e ∙ (ap (λ h. h.place) (positi
 
 -- ---- the third level
 
-third_step : (g : ThirdLevel) (v : Tree) → ⊤ → IsShort v →
+third_step : (g : InnerArray) (v : Tree) → ⊤ → IsShort v →
     all_in (third_gathering.added g (position_answer v)).positions.warned ≡ joined (all_in g.positions.warned) (warnings_of (position_warnings v))
 third_step g v t short = ap all_in (added_warned g.positions (position_answer v)) ∙ position_warned g.positions.warned v
 
@@ -69,7 +69,7 @@ third_turn (array place es close) short sound =
 
 -- ---- the second level
 
-second_step : (g : SecondLevel) (v : Tree) → ⊤ → IsShort v →
+second_step : (g : MiddleArray) (v : Tree) → ⊤ → IsShort v →
     all_in (second_gathering.added g (third_answer v)).positions.warned ≡ joined (all_in g.positions.warned) (warnings_of (position_warnings v))
 second_step g v t short =
     ap (λ p. all_in (position_added g.positions p).warned) (third_position v) ∙
@@ -99,7 +99,7 @@ second_turn (array place es close) short sound =
     (λ g a. refl) third_position (items es) (second_gathering.opened place)) ∙
     ring_turns place (items es) (sound_positions place (items es) sound) (omega arith)
 
-second_ring_step : (g : SecondLevel) (v : Tree) → IsShort v →
+second_ring_step : (g : MiddleArray) (v : Tree) → IsShort v →
     all_in (second_gathering.added g (third_answer v)).rings_warned ≡ joined (all_in g.rings_warned) (warnings_of (ring_warnings (role_behind g.numbers.tally.count) v))
 second_ring_step g v short =
     let a = third_answer v in
@@ -117,23 +117,23 @@ second_rings_warned (array place es close) short =
 
 -- ---- the first level
 
-positions_step : (g : FirstLevel) (v : Tree) → ⊤ → IsShort v →
+positions_step : (g : OuterArray) (v : Tree) → ⊤ → IsShort v →
     all_in (first_gathering.added g (second_answer v)).positions_warned ≡ joined (all_in g.positions_warned) (warnings_of (position_warnings v))
 positions_step g v t short =
     ap (λ p. all_in (judged_noted p.fault g.positions_warned p)) (second_position v) ∙ position_warned g.positions_warned v
 
-lines_step : (g : FirstLevel) (v : Tree) → ⊤ → IsShort v →
+lines_step : (g : OuterArray) (v : Tree) → ⊤ → IsShort v →
     all_in (first_gathering.added g (second_answer v)).lines_warned ≡ joined (all_in g.lines_warned) (warnings_of (each position_warnings v))
 lines_step g v t short = taken_is g.lines_warned (second_answer v).warned ∙ ap (joined (all_in g.lines_warned)) (second_warned v short)
 
-rings_step : (g : FirstLevel) (v : Tree) → IsShort v →
+rings_step : (g : OuterArray) (v : Tree) → IsShort v →
     all_in (first_gathering.added g (second_answer v)).rings_warned ≡ joined (all_in g.rings_warned) (warnings_of (ring_warnings (role_behind g.numbers.tally.count) v))
 rings_step g v short =
     let a = second_answer v in
     ring_warned (role_behind g.numbers.tally.count) g.rings_warned a.position.head.place a.ring a.turn a.warned v
     (answered_place a.position v (second_position v)) (second_ring v) (second_turn v short) (second_warned v short)
 
-polygons_step : (g : FirstLevel) (v : Tree) → ⊤ → IsShort v →
+polygons_step : (g : OuterArray) (v : Tree) → ⊤ → IsShort v →
     all_in (first_gathering.added g (second_answer v)).polygons_warned ≡ joined (all_in g.polygons_warned) (warnings_of (polygon_warnings v))
 polygons_step g v t short = taken_is g.polygons_warned (second_answer v).rings_warned ∙ ap (joined (all_in g.polygons_warned)) (second_rings_warned v short)
 
@@ -189,6 +189,6 @@ first_warned simple (string place content end) short = other_warned simple (stri
 first_warned simple (object place ms close) short = other_warned simple (object place ms close) refl refl
 first_warned simple (array place end_of_array close) short = added_is no_warnings W6 place ∙ joined_none_first _
 first_warned simple (array place (element v more) close) short =
-    let g : FirstLevel = gathered first_gathering second_answer (first_gathering.opened place) (v ∷ items more) in
+    let g : OuterArray = gathered first_gathering second_answer (first_gathering.opened place) (v ∷ items more) in
     ap (λ b. all_in (if b then noted_in no_warned W6 g.numbers.tally.place else some_warned_in simple g)) (not_empty place v (items more)) ∙
     array_warned simple place (element v more) close short

@@ -12,15 +12,15 @@ use Rattle.gj_coords.specs.declared.array.Stage.TheVariants.{Due, Between, Withi
 use Rattle.gj_coords.specs.declared.element.Element.{Element}
 use Rattle.gj_coords.specs.declared.fault.Fault.{Fault}
 use Rattle.gj_coords.specs.declared.fault.Rule.TheVariants.{G11, G14}
-use Rattle.gj_coords.specs.declared.walk.first_level.FirstLevel.{FirstLevel}
-use Rattle.gj_coords.specs.declared.noted.Noted.{Noted}
+use Rattle.gj_coords.specs.declared.walk.outer_array.OuterArray.{OuterArray}
+use Rattle.gj_coords.specs.declared.kind_warnings.KindWarnings.{KindWarnings}
 use Rattle.gj_coords.specs.declared.position.Numbers.{Numbers}
 use Rattle.gj_coords.specs.declared.position.Position.{Position}
 use Rattle.gj_coords.specs.declared.position.Values.{Values}
-use Rattle.gj_coords.specs.declared.walk.second_level.SecondLevel.{SecondLevel}
-use Rattle.gj_coords.specs.declared.walk.second_level.SecondSummary.{SecondSummary}
-use Rattle.gj_coords.specs.declared.walk.third_level.ThirdLevel.{ThirdLevel}
-use Rattle.gj_coords.specs.declared.walk.third_level.ThirdSummary.{ThirdSummary}
+use Rattle.gj_coords.specs.declared.walk.middle_array.MiddleArray.{MiddleArray}
+use Rattle.gj_coords.specs.declared.walk.middle_array.MiddleSummary.{MiddleSummary}
+use Rattle.gj_coords.specs.declared.walk.inner_array.InnerArray.{InnerArray}
+use Rattle.gj_coords.specs.declared.walk.inner_array.InnerSummary.{InnerSummary}
 use Rattle.gj_coords.specs.declared.winding.Corner.{Corner}
 use Rattle.gj_coords.specs.declared.winding.Turn.TheVariants.{Straight}
 use Rattle.gj_coords.specs.Fault.{fault_at}
@@ -49,22 +49,22 @@ flat_count (Some number) = 3
 abbrev pub flat_values : Flat → Values
 flat_values f = record { count = flat_count f.third; first = Some (exact_of f.first.value); second = Some (exact_of f.second.value); third = third_value f.third }
 
-abbrev pub number_precise : Numbered → Noted → Noted
+abbrev pub number_precise : Numbered → KindWarnings → KindWarnings
 number_precise number noted = precise_with (is_precise (Some (exact_of number.value))) number.place noted
 
-abbrev pub third_precise : Option Numbered → Noted → Noted
+abbrev pub third_precise : Option Numbered → KindWarnings → KindWarnings
 third_precise None noted = noted
 third_precise (Some number) noted = number_precise number noted
 
-abbrev pub flat_precise : Flat → Noted
+abbrev pub flat_precise : Flat → KindWarnings
 flat_precise f = third_precise f.third (number_precise f.second (number_precise f.first nothing_noted))
 
 -- what is noted of both of two numbers
-abbrev pub pair_noted : Flat → Noted
+abbrev pub pair_noted : Flat → KindWarnings
 pair_noted f = record { count = 2; first = min f.first.place f.second.place }
 
 -- with what is noted of numbers that are too precise
-abbrev pub precise_noted : Warned → Noted → Warned
+abbrev pub precise_noted : Warned → KindWarnings → Warned
 precise_noted w precise = some_noted (is_nothing precise) w W4 precise
 
 abbrev pub flat_numbers : Flat → Numbers
@@ -108,10 +108,10 @@ flat_ring f = Some (if nat_lt f.place (least_place f) then fault_at f.place G14 
 
 -- ---- what the levels know of it
 
-abbrev pub flat_third : Flat → ThirdSummary
+abbrev pub flat_third : Flat → InnerSummary
 flat_third f = record { position = flat_position f; ring = flat_ring f; turn = Straight; warned = no_warned }
 
-abbrev pub flat_second : Flat → SecondSummary
+abbrev pub flat_second : Flat → MiddleSummary
 flat_second f = record {
   position = flat_position f;
   line = flat_misshapen f;
@@ -122,7 +122,7 @@ flat_second f = record {
   rings_warned = no_warned;
 }
 
-abbrev pub flat_first : Flat → FirstLevel
+abbrev pub flat_first : Flat → OuterArray
 flat_first f = record {
   numbers = flat_numbers f;
   positions_warned = no_warned;
@@ -137,7 +137,7 @@ flat_first f = record {
 
 -- ---- what is held of it where it is the value itself: little, of which all that the six types ask for is read
 
-abbrev pub flat_held : Flat → FirstLevel → FirstLevel
+abbrev pub flat_held : Flat → OuterArray → OuterArray
 flat_held f s = record s { positions = flat_misshapen f; positions_warned = sound_noted no_warned (flat_position f) }
 
 abbrev pub held_fault : Simple → Option Fault → Option Fault
@@ -153,14 +153,14 @@ held_warned _ warned = no_warned
 abbrev pub PositionReader : Type 0
 PositionReader = Array Element Numbers
 
-abbrev pub ThirdReader : Type 0
-ThirdReader = Array PositionReader ThirdLevel
+abbrev pub InnerReader : Type 0
+InnerReader = Array PositionReader InnerArray
 
-abbrev pub SecondReader : Type 0
-SecondReader = Array ThirdReader SecondLevel
+abbrev pub MiddleReader : Type 0
+MiddleReader = Array InnerReader MiddleArray
 
 abbrev pub Walk : Type 0
-Walk = Array SecondReader FirstLevel
+Walk = Array MiddleReader OuterArray
 
 -- its events one by one
 abbrev pub singly : Flat → Walk → Walk
@@ -175,10 +175,10 @@ abbrev pub at_first : Flat → Walk → Walk
 at_first f s = record s { gather = first_gathering.added s.gather (flat_second f); item = second_machine.again s.item }
 
 -- where an element of an element is due, and so on
-abbrev pub at_second : Flat → SecondReader → SecondReader
+abbrev pub at_second : Flat → MiddleReader → MiddleReader
 at_second f s = record s { gather = second_gathering.added s.gather (flat_third f); item = third_machine.again s.item }
 
-abbrev pub at_third : Flat → ThirdReader → ThirdReader
+abbrev pub at_third : Flat → InnerReader → InnerReader
 at_third f s = record s { gather = third_gathering.added s.gather (flat_position f); item = position_machine.again s.item }
 
 -- by the stages of the levels, from the first on

@@ -1,7 +1,7 @@
 -- Warnings as they are gathered, which are nothing where there are none.
 use Rattle.std.specs.Prelude.{ℕ, Bool, if◌then◌else◌, Option, Some, None}
 use Rattle.gj_coords.specs.declared.kind.Kind.{Kind}
-use Rattle.gj_coords.specs.declared.noted.Noted.{Noted}
+use Rattle.gj_coords.specs.declared.kind_warnings.KindWarnings.{KindWarnings}
 use Rattle.gj_coords.specs.declared.warned.Warned.{Warned}
 use Rattle.gj_coords.specs.declared.warnings.Warnings.{Warnings}
 use Rattle.gj_coords.specs.Internal.KeptWarnings.{no_warnings, joined, added, with_noted}
@@ -26,11 +26,11 @@ abbrev pub noted_when : Bool → Warned → Kind → ℕ → Warned
 noted_when wrong w kind place = if wrong then noted_in w kind place else w
 
 -- some warnings of a kind more
-abbrev pub all_noted_in : Warned → Kind → Noted → Warned
+abbrev pub all_noted_in : Warned → Kind → KindWarnings → Warned
 all_noted_in w kind noted = record { warnings = Some (with_noted (all_in w) kind noted) }
 
 -- some warnings of a kind more, where there are any
-abbrev pub some_noted : Bool → Warned → Kind → Noted → Warned
+abbrev pub some_noted : Bool → Warned → Kind → KindWarnings → Warned
 some_noted none w kind noted = if none then w else all_noted_in w kind noted
 
 -- those of another

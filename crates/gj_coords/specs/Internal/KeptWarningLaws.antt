@@ -5,18 +5,18 @@ use Rattle.std.proofs.lemmas.Bool.Decides.{nat_tests}
 use Rattle.std.proofs.lemmas.List.{map-append, append-nil}
 use Rattle.std.proofs.lemmas.List.Elements.{filter-append}
 use Rattle.gj_coords.specs.declared.kind.Kind.{Kind}
-use Rattle.gj_coords.specs.declared.noted.Noted.{Noted}
+use Rattle.gj_coords.specs.declared.kind_warnings.KindWarnings.{KindWarnings}
 use Rattle.gj_coords.specs.Warnings.{Warning, same_kind, places_of, greatest_count, least_place, lesser_place}
 use Rattle.gj_coords.specs.Internal.KeptWarnings.{noted_as, noted_of, nothing_noted, is_nothing, joined_noted}
 
 -- where neither is nothing, both together are not
-abbrev both : Noted → Noted → Noted
+abbrev both : KindWarnings → KindWarnings → KindWarnings
 both a b = noted_as (min (a.count + b.count) greatest_count) (min a.first b.first)
 
 least_nonzero : (limit m n p q : ℕ) → 0 < limit → (m == 0 && p == 0) ≡ false → (n == 0 && q == 0) ≡ false → (min (m + n) limit == 0 && min p q == 0) ≡ false
 least_nonzero limit m n p q l h k = grind (arith, nat_tests)
 
-both_something : (a b : Noted) → is_nothing a ≡ false → is_nothing b ≡ false → is_nothing (both a b) ≡ false
+both_something : (a b : KindWarnings) → is_nothing a ≡ false → is_nothing b ≡ false → is_nothing (both a b) ≡ false
 both_something a b h k = least_nonzero greatest_count a.count b.count a.first b.first (omega arith) h k
 
 counts_group : (limit m n p : ℕ) → min (min (m + n) limit + p) limit ≡ min (m + min (n + p) limit) limit
@@ -25,12 +25,12 @@ counts_group limit m n p = omega arith
 firsts_group : (p q r : ℕ) → min (min p q) r ≡ min p (min q r)
 firsts_group p q r = omega arith
 
-both_group : (a b c : Noted) → both (both a b) c ≡ both a (both b c)
+both_group : (a b c : KindWarnings) → both (both a b) c ≡ both a (both b c)
 both_group a b c =
     ap (λ count. noted_as count (min (min a.first b.first) c.first)) (counts_group greatest_count a.count b.count c.count)
     ∙ ap (λ first. noted_as (min (a.count + min (b.count + c.count) greatest_count) greatest_count) first) (firsts_group a.first b.first c.first)
 
-pub nothing_at_zero : (a : Noted) → is_nothing a ≡ true → nothing_noted ≡ a
+pub nothing_at_zero : (a : KindWarnings) → is_nothing a ≡ true → nothing_noted ≡ a
 nothing_at_zero a h =
     let count : 0 ≡ a.count = zero_count a.count a.first h in
     let first : 0 ≡ a.first = zero_first a.count a.first h in
@@ -42,14 +42,14 @@ nothing_at_zero a h =
     zero_first : (m p : ℕ) → (m == 0 && p == 0) ≡ true → 0 ≡ p
     zero_first m p h = grind (arith, nat_tests)
 
-pub joined_noted_none : (a : Noted) → joined_noted a nothing_noted ≡ a
+pub joined_noted_none : (a : KindWarnings) → joined_noted a nothing_noted ≡ a
 joined_noted_none a = by_test (is_nothing a) refl
   where
     by_test : (t : Bool) → is_nothing a ≡ t → joined_noted a nothing_noted ≡ a
     by_test true h = simp h (nothing_at_zero a h)
     by_test false h = simp h
 
-group_of : (a b c : Noted) (ta tb tc : Bool) → is_nothing a ≡ ta → is_nothing b ≡ tb → is_nothing c ≡ tc →
+group_of : (a b c : KindWarnings) (ta tb tc : Bool) → is_nothing a ≡ ta → is_nothing b ≡ tb → is_nothing c ≡ tc →
     joined_noted (joined_noted a b) c ≡ joined_noted a (joined_noted b c)
 group_of a b c true tb tc x y z = simp x
 group_of a b c false true tc x y z = simp (x, y)
@@ -59,10 +59,10 @@ group_of a b c false false false x y z =
     let w : is_nothing (both b c) ≡ false = both_something b c y z in
     simp (x, y, z, v, w) (both_group a b c)
 
-pub joined_noted_assoc : (a b c : Noted) → joined_noted (joined_noted a b) c ≡ joined_noted a (joined_noted b c)
+pub joined_noted_assoc : (a b c : KindWarnings) → joined_noted (joined_noted a b) c ≡ joined_noted a (joined_noted b c)
 joined_noted_assoc a b c = group_of a b c _ _ _ refl refl refl
 
-both_order : (a b : Noted) → both a b ≡ both b a
+both_order : (a b : KindWarnings) → both a b ≡ both b a
 both_order a b =
     ap (λ count. noted_as count (min a.first b.first)) (counts_order greatest_count a.count b.count)
     ∙ ap (λ first. noted_as (min (b.count + a.count) greatest_count) first) (firsts_order a.first b.first)
@@ -73,17 +73,17 @@ both_order a b =
     firsts_order : (p q : ℕ) → min p q ≡ min q p
     firsts_order p q = omega arith
 
-order_of : (a b : Noted) (ta tb : Bool) → is_nothing a ≡ ta → is_nothing b ≡ tb → joined_noted a b ≡ joined_noted b a
+order_of : (a b : KindWarnings) (ta tb : Bool) → is_nothing a ≡ ta → is_nothing b ≡ tb → joined_noted a b ≡ joined_noted b a
 order_of a b true true x y = simp (x, y) (sym (nothing_at_zero b y) ∙ nothing_at_zero a x)
 order_of a b true false x y = simp (x, y)
 order_of a b false true x y = simp (x, y)
 order_of a b false false x y = simp (x, y) (both_order a b)
 
-pub joined_noted_comm : (a b : Noted) → joined_noted a b ≡ joined_noted b a
+pub joined_noted_comm : (a b : KindWarnings) → joined_noted a b ≡ joined_noted b a
 joined_noted_comm a b = order_of a b _ _ refl refl
 
 -- what is kept of the places of one kind
-abbrev summary : List ℕ → Noted
+abbrev summary : List ℕ → KindWarnings
 summary places = noted_as (min (length places) greatest_count) (unwrap_or (least_place places) 0)
 
 lesser_place_assoc : (a b c : Option ℕ) → lesser_place (lesser_place a b) c ≡ lesser_place a (lesser_place b c)
@@ -125,7 +125,7 @@ summary_both x xs y ys =
     ∙ ap (λ first. noted_as (min (min (length (x ∷ xs)) greatest_count + min (length (y ∷ ys)) greatest_count) greatest_count) first)
     (first_of_both (least_place (x ∷ xs)) (least_place (y ∷ ys)) (least_place ((x ∷ xs) ++ (y ∷ ys))) p.0 q.0 (least_place-append (x ∷ xs) (y ∷ ys)) p.1 q.1)
 
-joined_both : (a b : Noted) → is_nothing a ≡ false → is_nothing b ≡ false → joined_noted a b ≡ both a b
+joined_both : (a b : KindWarnings) → is_nothing a ≡ false → is_nothing b ≡ false → joined_noted a b ≡ both a b
 joined_both a b h k = simp (h, k)
 
 summary-append : (xs ys : List ℕ) → summary (xs ++ ys) ≡ joined_noted (summary xs) (summary ys)

@@ -7,13 +7,13 @@ use Rattle.gj_coords.specs.declared.position.Numbers.{Numbers}
 use Rattle.gj_coords.specs.declared.position.Position.{Position}
 use Rattle.gj_coords.specs.declared.simple.Simple.{Simple}
 use Rattle.gj_coords.specs.declared.simple.Simple.TheVariants.{Point, MultiPoint, LineString, MultiLineString, Polygon, MultiPolygon}
-use Rattle.gj_coords.specs.declared.walk.third_level.ThirdSummary.{ThirdSummary}
-use Rattle.gj_coords.specs.declared.walk.second_level.SecondSummary.{SecondSummary}
-use Rattle.gj_coords.specs.declared.walk.first_level.FirstSummary.{FirstSummary}
-use Rattle.gj_coords.specs.declared.walk.first_level.FirstSummary.TheVariants.{Other, Level}
-use Rattle.gj_coords.specs.declared.walk.third_level.ThirdLevel.{ThirdLevel}
-use Rattle.gj_coords.specs.declared.walk.second_level.SecondLevel.{SecondLevel}
-use Rattle.gj_coords.specs.declared.walk.first_level.FirstLevel.{FirstLevel}
+use Rattle.gj_coords.specs.declared.walk.inner_array.InnerSummary.{InnerSummary}
+use Rattle.gj_coords.specs.declared.walk.middle_array.MiddleSummary.{MiddleSummary}
+use Rattle.gj_coords.specs.declared.walk.outer_array.OuterSummary.{OuterSummary}
+use Rattle.gj_coords.specs.declared.walk.outer_array.OuterSummary.TheVariants.{Other, Level}
+use Rattle.gj_coords.specs.declared.walk.inner_array.InnerArray.{InnerArray}
+use Rattle.gj_coords.specs.declared.walk.middle_array.MiddleArray.{MiddleArray}
+use Rattle.gj_coords.specs.declared.walk.outer_array.OuterArray.{OuterArray}
 use Rattle.gj_coords.specs.declared.kind.Kind.TheVariants.{W6}
 use Rattle.gj_coords.specs.declared.warned.Warned.{Warned}
 use Rattle.gj_coords.specs.declared.winding.Turn.TheVariants.{Unjudged}
@@ -28,7 +28,7 @@ use Rattle.gj_coords.specs.Internal.WindingGather.{turn_in}
 use Rattle.gj_coords.specs.Internal.PositionGather.{numbers_start, number_added, position_least, position_closed, no_position, numbers_gathering, misshapen_at, judged_noted}
 use Rattle.gj_coords.specs.Internal.PositionsGather.{no_positions, position_added, ring_closed, role_behind, ring_noted}
 
-abbrev pub third_gathering : Gathering ThirdLevel Position ThirdSummary
+abbrev pub third_gathering : Gathering InnerArray Position InnerSummary
 third_gathering = record {
   opened = λ place. record { numbers = numbers_start place; positions = no_positions };
   added = λ s p. record { numbers = number_added s.numbers p.head; positions = position_added s.positions p };
@@ -41,7 +41,7 @@ third_gathering = record {
   otherwise = λ e. record { position = no_position e; ring = misshapen_at e.place; turn = Unjudged; warned = no_warned };
 }
 
-abbrev pub second_gathering : Gathering SecondLevel ThirdSummary SecondSummary
+abbrev pub second_gathering : Gathering MiddleArray InnerSummary MiddleSummary
 second_gathering = record {
   opened = λ place. record { numbers = numbers_start place; positions = no_positions; rings_warned = no_warned; rings = None };
   added = λ s a. record {
@@ -70,7 +70,7 @@ second_gathering = record {
   };
 }
 
-abbrev pub first_gathering : Gathering FirstLevel SecondSummary FirstSummary
+abbrev pub first_gathering : Gathering OuterArray MiddleSummary OuterSummary
 first_gathering = record {
   opened = λ place. record {
     numbers = numbers_start place;
@@ -101,7 +101,7 @@ first_gathering = record {
 -- ---- the least fault for a type
 
 -- of an array that is not empty
-abbrev pub some_fault_in : Simple → FirstLevel → Option Fault
+abbrev pub some_fault_in : Simple → OuterArray → Option Fault
 some_fault_in Point s = position_least s.numbers
 some_fault_in MultiPoint s = s.positions
 some_fault_in LineString s = line_closed s.numbers.tally s.positions
@@ -109,20 +109,20 @@ some_fault_in MultiLineString s = s.lines
 some_fault_in Polygon s = s.rings
 some_fault_in MultiPolygon s = s.polygons
 
-abbrev pub fault_in : Simple → FirstLevel → Option Fault
+abbrev pub fault_in : Simple → OuterArray → Option Fault
 fault_in simple s = if s.numbers.tally.count == 0 then None else some_fault_in simple s
 
-abbrev pub fault_as : Simple → FirstSummary → Option Fault
+abbrev pub fault_as : Simple → OuterSummary → Option Fault
 fault_as simple (Other place) = misshapen_at place
 fault_as simple (Level s) = fault_in simple s
 
 -- ---- what is worth a warning for a type
 
-abbrev pub point_warned_in : FirstLevel → Warned
+abbrev pub point_warned_in : OuterArray → Warned
 point_warned_in s = judged_noted (position_least s.numbers) no_warned (position_closed s.numbers)
 
 -- of an array that is not empty
-abbrev pub some_warned_in : Simple → FirstLevel → Warned
+abbrev pub some_warned_in : Simple → OuterArray → Warned
 some_warned_in Point s = point_warned_in s
 some_warned_in MultiPoint s = s.positions_warned
 some_warned_in LineString s = s.positions_warned
@@ -130,23 +130,23 @@ some_warned_in MultiLineString s = s.lines_warned
 some_warned_in Polygon s = s.rings_warned
 some_warned_in MultiPolygon s = s.polygons_warned
 
-abbrev pub warned_in : Simple → FirstLevel → Warned
+abbrev pub warned_in : Simple → OuterArray → Warned
 warned_in simple s = if s.numbers.tally.count == 0 then noted_in no_warned W6 s.numbers.tally.place else some_warned_in simple s
 
-abbrev pub warned_as : Simple → FirstSummary → Warned
+abbrev pub warned_as : Simple → OuterSummary → Warned
 warned_as simple (Other place) = no_warned
 warned_as simple (Level s) = warned_in simple s
 
 -- ---- a few looks that show that there is nothing worth a warning for any type
 
-abbrev pub some_quiet_in : FirstLevel → Bool
+abbrev pub some_quiet_in : OuterArray → Bool
 some_quiet_in s =
     is_some s.numbers.fault && (is_none s.positions_warned.warnings && (is_none s.lines_warned.warnings && (is_none s.rings_warned.warnings && is_none s.polygons_warned.warnings)))
 
-abbrev pub quiet_in : FirstLevel → Bool
+abbrev pub quiet_in : OuterArray → Bool
 quiet_in s = if s.numbers.tally.count == 0 then false else some_quiet_in s
 
-abbrev pub quiet_as : FirstSummary → Bool
+abbrev pub quiet_as : OuterSummary → Bool
 quiet_as (Other place) = false
 quiet_as (Level s) = quiet_in s
 
@@ -155,11 +155,11 @@ quiet_as (Level s) = quiet_in s
 abbrev pub position_machine : Machine (Array Element Numbers) Position
 position_machine = array_machine element_machine numbers_gathering
 
-abbrev pub third_machine : Machine (Array (Array Element Numbers) ThirdLevel) ThirdSummary
+abbrev pub third_machine : Machine (Array (Array Element Numbers) InnerArray) InnerSummary
 third_machine = array_machine position_machine third_gathering
 
-abbrev pub second_machine : Machine (Array (Array (Array Element Numbers) ThirdLevel) SecondLevel) SecondSummary
+abbrev pub second_machine : Machine (Array (Array (Array Element Numbers) InnerArray) MiddleArray) MiddleSummary
 second_machine = array_machine third_machine second_gathering
 
-abbrev pub walk_machine : Machine (Array (Array (Array (Array Element Numbers) ThirdLevel) SecondLevel) FirstLevel) FirstSummary
+abbrev pub walk_machine : Machine (Array (Array (Array (Array Element Numbers) InnerArray) MiddleArray) OuterArray) OuterSummary
 walk_machine = array_machine second_machine first_gathering

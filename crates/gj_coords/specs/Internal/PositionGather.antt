@@ -8,7 +8,7 @@ use Rattle.gj_json.specs.Tree.{Tree}
 use Rattle.gj_coords.specs.declared.fault.Fault.{Fault}
 use Rattle.gj_coords.specs.declared.fault.Rule.TheVariants.{G11, G12, G16}
 use Rattle.gj_coords.specs.declared.kind.Kind.TheVariants.{W3, W4, W5}
-use Rattle.gj_coords.specs.declared.noted.Noted.{Noted}
+use Rattle.gj_coords.specs.declared.kind_warnings.KindWarnings.{KindWarnings}
 use Rattle.gj_coords.specs.declared.position.Values.{Values}
 use Rattle.gj_coords.specs.declared.position.Numbers.{Numbers}
 use Rattle.gj_coords.specs.declared.position.Position.{Position}
@@ -54,7 +54,7 @@ abbrev pub numbers_start : ℕ → Numbers
 numbers_start place = record { values = no_values; tally = tally_at place; fault = None; precise = nothing_noted }
 
 -- one number more, if it is too precise
-abbrev pub precise_with : Bool → ℕ → Noted → Noted
+abbrev pub precise_with : Bool → ℕ → KindWarnings → KindWarnings
 precise_with precise place noted = if precise then joined_noted noted (noted_as 1 place) else noted
 
 abbrev pub first_judged : Numbers → ℕ → Option Exact → Numbers
@@ -102,7 +102,7 @@ abbrev pub corner_in : Values → Option Corner
 corner_in v = corner_of v.first v.second
 
 -- of a position at this place that breaks no rule, by its count, its corner and those of its numbers that are too precise
-abbrev pub position_noted : Warned → ℕ → ℕ → Option Corner → Noted → Warned
+abbrev pub position_noted : Warned → ℕ → ℕ → Option Corner → KindWarnings → Warned
 position_noted w place count corner precise =
     some_noted (is_nothing precise) (noted_when (is_none corner) (noted_when (nat_lt 3 count) w W3 place) W5 place) W4 precise
 

@@ -12,7 +12,7 @@ use Rattle.gj_json.specs.declared.event.What.{What}
 use Rattle.gj_json.specs.Tree.{Tree, constant, number, string, array, object}
 use Rattle.gj_coords.specs.declared.fault.Fault.{Fault}
 use Rattle.gj_coords.specs.declared.fault.Rule.TheVariants.{G12}
-use Rattle.gj_coords.specs.declared.noted.Noted.{Noted}
+use Rattle.gj_coords.specs.declared.kind_warnings.KindWarnings.{KindWarnings}
 use Rattle.gj_coords.specs.declared.position.Numbers.{Numbers}
 use Rattle.gj_coords.specs.declared.position.Values.{Values}
 use Rattle.gj_coords.specs.declared.tally.Tally.{Tally}
@@ -118,10 +118,10 @@ values_from (a ∷ []) = record { count = 1; first = a; second = None; third = N
 values_from (a ∷ b ∷ []) = record { count = 2; first = a; second = b; third = None }
 values_from (a ∷ b ∷ c ∷ more) = record { count = 3; first = a; second = b; third = c }
 
-abbrev full : Tally → Option Fault → Noted → Option Exact → Option Exact → Option Exact → Numbers
+abbrev full : Tally → Option Fault → KindWarnings → Option Exact → Option Exact → Option Exact → Numbers
 full t f p a b c = record { values = record { count = 3; first = a; second = b; third = c }; tally = t; fault = f; precise = p }
 
-full_stays : (vs : List Tree) (t : Tally) (f : Option Fault) (p : Noted) (a b c : Option Exact) →
+full_stays : (vs : List Tree) (t : Tally) (f : Option Fault) (p : KindWarnings) (a b c : Option Exact) →
     (gathered numbers_gathering head (full t f p a b c) vs).values ≡ record { count = 3; first = a; second = b; third = c }
 full_stays [] t f p a b c = refl
 full_stays (v ∷ more) t f p a b c =

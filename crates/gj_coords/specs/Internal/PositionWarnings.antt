@@ -6,7 +6,7 @@ use Rattle.std.proofs.lemmas.Bool.Decides.{nat_tests}
 use Rattle.gj_json.specs.Tree.{Tree, constant, number, string, array, object}
 use Rattle.gj_coords.specs.declared.fault.Fault.{Fault}
 use Rattle.gj_coords.specs.declared.kind.Kind.TheVariants.{W3, W4, W5}
-use Rattle.gj_coords.specs.declared.noted.Noted.{Noted}
+use Rattle.gj_coords.specs.declared.kind_warnings.KindWarnings.{KindWarnings}
 use Rattle.gj_coords.specs.declared.position.Numbers.{Numbers}
 use Rattle.gj_coords.specs.declared.position.Position.{Position}
 use Rattle.gj_coords.specs.declared.warned.Warned.{Warned}
@@ -39,7 +39,7 @@ place_head (string place content end) = refl
 place_head (array place es close) = refl
 place_head (object place ms close) = refl
 
-with_precise : (precise : Bool) (a : Warnings) (noted : Noted) (place : ℕ) →
+with_precise : (precise : Bool) (a : Warnings) (noted : KindWarnings) (place : ℕ) →
     with_noted a W4 (precise_with precise place noted) ≡ joined (with_noted a W4 noted) (warnings_of (warned_if precise place W4))
 with_precise true a noted place = with_one_more a noted place ∙ added_is (with_noted a W4 noted) W4 place
 with_precise false a noted place = none_more (with_noted a W4 noted)
@@ -79,7 +79,7 @@ none_or_some None = refl
 none_or_some (Some corner) = refl
 
 -- three lists, one behind the other
-three_noted : (w : Warned) (place count : ℕ) (corner : Option Corner) (precise : Noted) (long outside : Bool) (numbers : List Warning) →
+three_noted : (w : Warned) (place count : ℕ) (corner : Option Corner) (precise : KindWarnings) (long outside : Bool) (numbers : List Warning) →
     nat_lt 3 count ≡ long → is_none corner ≡ outside → ((a : Warnings) → with_noted a W4 precise ≡ joined a (warnings_of numbers)) →
     all_in (position_noted w place count corner precise) ≡ joined (all_in w) (warnings_of (warned_if long place W3 ++ (warned_if outside place W5 ++ numbers)))
 three_noted w place count corner precise long outside numbers h k p =

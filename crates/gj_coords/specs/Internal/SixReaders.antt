@@ -5,7 +5,7 @@ use Rattle.gj_coords.specs.declared.array.Array.{Array}
 use Rattle.gj_coords.specs.declared.findings.Findings.{Findings}
 use Rattle.gj_coords.specs.declared.ring.LinearRing.{LinearRing}
 use Rattle.gj_coords.specs.declared.several.Several.{Several}
-use Rattle.gj_coords.specs.declared.watcher.whole.Whole.{Whole}
+use Rattle.gj_coords.specs.declared.watcher.or_empty.OrEmpty.{OrEmpty}
 use Rattle.gj_coords.specs.declared.simple.Simple.{Simple}
 use Rattle.gj_coords.specs.declared.simple.Simple.TheVariants.{Point, MultiPoint, LineString, MultiLineString, Polygon, MultiPolygon}
 use Rattle.gj_coords.specs.Internal.SentEvents.{head}
@@ -17,7 +17,7 @@ use Rattle.gj_coords.specs.Internal.Findings.{Judgement, position_judged, findin
 use Rattle.gj_coords.specs.Internal.PositionGather.{numbers_gathering, position_answer}
 use Rattle.gj_coords.specs.Internal.PositionsGather.{ring_gathering, ring_judged}
 use Rattle.gj_coords.specs.Internal.ListGather.{several_gathering}
-use Rattle.gj_coords.specs.Internal.WholeGather.{whole_gathering}
+use Rattle.gj_coords.specs.Internal.OrEmptyGather.{or_empty_gathering}
 use Rattle.gj_coords.specs.Internal.LevelGather.{position_machine}
 use Rattle.gj_coords.specs.Internal.ElementLaws.{element_answers}
 use Rattle.gj_coords.specs.Internal.ArrayLaws.{array_answers}
@@ -37,10 +37,10 @@ polygon_answer = given (several_gathering ring_judged 0) ring_answer
 
 -- a list, or an empty array
 abbrev whole_several : {A : Type 0} → Judgement A → ℕ → (Tree → A) → Tree → Findings
-whole_several j needed meaning = given (whole_gathering (several_gathering j needed) findings_judged) meaning
+whole_several j needed meaning = given (or_empty_gathering (several_gathering j needed) findings_judged) meaning
 
 abbrev pub type_answer : Simple → Tree → Findings
-type_answer Point = given (whole_gathering numbers_gathering position_judged) head
+type_answer Point = given (or_empty_gathering numbers_gathering position_judged) head
 type_answer MultiPoint = whole_several position_judged 0 position_answer
 type_answer LineString = whole_several position_judged 2 position_answer
 type_answer MultiLineString = whole_several findings_judged 0 line_answer
@@ -61,25 +61,25 @@ ring_answers = array_answers position_machine ring_gathering position_answer pos
 rings_answers : Answers (array_machine (array_machine position_machine ring_gathering) (several_gathering ring_judged 0)) polygon_answer
 rings_answers = array_answers (array_machine position_machine ring_gathering) (several_gathering ring_judged 0) ring_answer ring_answers
 
-abbrev whole_machine : {W A : Type 0} → Machine W A → Judgement A → (needed : ℕ) → Machine (Array W (Whole (Several needed))) Findings
-whole_machine m j needed = array_machine m (whole_gathering (several_gathering j needed) findings_judged)
+abbrev whole_machine : {W A : Type 0} → Machine W A → Judgement A → (needed : ℕ) → Machine (Array W (OrEmpty (Several needed))) Findings
+whole_machine m j needed = array_machine m (or_empty_gathering (several_gathering j needed) findings_judged)
 
-pub point_answers : Answers (array_machine element_machine (whole_gathering numbers_gathering position_judged)) (type_answer Point)
-point_answers = array_answers element_machine (whole_gathering numbers_gathering position_judged) head element_answers
+pub point_answers : Answers (array_machine element_machine (or_empty_gathering numbers_gathering position_judged)) (type_answer Point)
+point_answers = array_answers element_machine (or_empty_gathering numbers_gathering position_judged) head element_answers
 
 pub multi_point_answers : Answers (whole_machine position_machine position_judged 0) (type_answer MultiPoint)
-multi_point_answers = array_answers position_machine (whole_gathering (several_gathering position_judged 0) findings_judged) position_answer position_answers
+multi_point_answers = array_answers position_machine (or_empty_gathering (several_gathering position_judged 0) findings_judged) position_answer position_answers
 
 pub line_string_answers : Answers (whole_machine position_machine position_judged 2) (type_answer LineString)
-line_string_answers = array_answers position_machine (whole_gathering (several_gathering position_judged 2) findings_judged) position_answer position_answers
+line_string_answers = array_answers position_machine (or_empty_gathering (several_gathering position_judged 2) findings_judged) position_answer position_answers
 
 pub multi_line_string_answers :
     Answers (whole_machine (array_machine position_machine (several_gathering position_judged 2)) findings_judged 0) (type_answer MultiLineString)
-multi_line_string_answers = array_answers _ (whole_gathering (several_gathering findings_judged 0) findings_judged) line_answer line_answers
+multi_line_string_answers = array_answers _ (or_empty_gathering (several_gathering findings_judged 0) findings_judged) line_answer line_answers
 
 pub polygon_answers : Answers (whole_machine (array_machine position_machine ring_gathering) ring_judged 0) (type_answer Polygon)
-polygon_answers = array_answers _ (whole_gathering (several_gathering ring_judged 0) findings_judged) ring_answer ring_answers
+polygon_answers = array_answers _ (or_empty_gathering (several_gathering ring_judged 0) findings_judged) ring_answer ring_answers
 
 pub multi_polygon_answers :
     Answers (whole_machine (array_machine (array_machine position_machine ring_gathering) (several_gathering ring_judged 0)) findings_judged 0) (type_answer MultiPolygon)
-multi_polygon_answers = array_answers _ (whole_gathering (several_gathering findings_judged 0) findings_judged) polygon_answer rings_answers
+multi_polygon_answers = array_answers _ (or_empty_gathering (several_gathering findings_judged 0) findings_judged) polygon_answer rings_answers

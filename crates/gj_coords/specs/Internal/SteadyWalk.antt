@@ -8,10 +8,10 @@ use Rattle.gj_coords.specs.declared.element.Element.{Element}
 use Rattle.gj_coords.specs.declared.fault.Fault.{Fault}
 use Rattle.gj_coords.specs.declared.position.Numbers.{Numbers}
 use Rattle.gj_coords.specs.declared.walk.depth.Depth.{Depth}
-use Rattle.gj_coords.specs.declared.walk.depth.Depth.TheVariants.{Unknown, First, Second, Third, Whole}
-use Rattle.gj_coords.specs.declared.walk.first_level.FirstLevel.{FirstLevel}
-use Rattle.gj_coords.specs.declared.walk.second_level.SecondLevel.{SecondLevel}
-use Rattle.gj_coords.specs.declared.walk.third_level.ThirdLevel.{ThirdLevel}
+use Rattle.gj_coords.specs.declared.walk.depth.Depth.TheVariants.{Unknown, First, Second, Third, OrEmpty}
+use Rattle.gj_coords.specs.declared.walk.outer_array.OuterArray.{OuterArray}
+use Rattle.gj_coords.specs.declared.walk.middle_array.MiddleArray.{MiddleArray}
+use Rattle.gj_coords.specs.declared.walk.inner_array.InnerArray.{InnerArray}
 use Rattle.gj_coords.specs.Internal.PositionGather.{array_counted, sound_noted}
 use Rattle.gj_coords.specs.Internal.PositionsGather.{position_added}
 use Rattle.gj_coords.specs.Internal.FlatPosition.{Walk, flat_position}
@@ -78,16 +78,16 @@ IsSteady Unknown floor s = Unit {0}
 IsSteady First floor s = IsFirst floor s
 IsSteady Second floor s = IsSecond floor s
 IsSteady Third floor s = IsThird floor s
-IsSteady Whole floor s = ⊥
+IsSteady OrEmpty floor s = ⊥
 
 -- what a position more, which is told as one, then changes
-abbrev pub third_steady : Flat → ThirdLevel → ThirdLevel
+abbrev pub third_steady : Flat → InnerArray → InnerArray
 third_steady f s = record s { numbers = array_counted s.numbers; positions = position_added s.positions (flat_position f) }
 
-abbrev pub second_steady : Flat → SecondLevel → SecondLevel
+abbrev pub second_steady : Flat → MiddleArray → MiddleArray
 second_steady f s = record s { numbers = array_counted s.numbers; positions = position_added s.positions (flat_position f) }
 
-abbrev pub first_steady : Flat → FirstLevel → FirstLevel
+abbrev pub first_steady : Flat → OuterArray → OuterArray
 first_steady f s = record s { numbers = array_counted s.numbers; positions_warned = sound_noted s.positions_warned (flat_position f) }
 
 -- all of it stands after the place
@@ -103,5 +103,5 @@ pub record IsPast (floor : ℕ) (position : Flat) : Type 0 where
 
 -- it is a position that was told as one
 abbrev pub is_whole : Depth → Bool
-is_whole Whole = true
+is_whole OrEmpty = true
 is_whole _ = false

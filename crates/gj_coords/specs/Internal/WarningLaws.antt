@@ -2,7 +2,7 @@
 use Rattle.std.specs.Prelude.{◌≡◌, ℕ, Bool, true, false, if◌then◌else◌, List, [], ◌∷◌, ◌++◌, refl}
 use Rattle.std.proofs.Common.{sym, ◌∙◌, ap}
 use Rattle.gj_coords.specs.declared.kind.Kind.{Kind}
-use Rattle.gj_coords.specs.declared.noted.Noted.{Noted}
+use Rattle.gj_coords.specs.declared.kind_warnings.KindWarnings.{KindWarnings}
 use Rattle.gj_coords.specs.declared.warnings.Warnings.{Warnings}
 use Rattle.gj_coords.specs.Warnings.{Warning, warning_at, same_kind}
 use Rattle.gj_coords.specs.Internal.KeptWarnings.{noted_as, noted_of, nothing_noted, joined_noted, by_kind, kept, warnings_of, no_warnings, joined, added, replaced}
@@ -10,12 +10,12 @@ use Rattle.gj_coords.specs.Internal.ByKind.{each, of_kind, with_value, of_each}
 use Rattle.gj_coords.specs.Internal.KeptWarningLaws.{joined_noted_none, joined_noted_assoc, joined_noted_comm, noted_of-append}
 
 -- what is kept by kind
-pub kept_by_kind : (noted : Kind → Noted) (kind : Kind) → kept (by_kind noted) kind ≡ noted kind
+pub kept_by_kind : (noted : Kind → KindWarnings) (kind : Kind) → kept (by_kind noted) kind ≡ noted kind
 kept_by_kind noted kind =
     ap (λ count. noted_as count (of_kind (each (λ k. (noted k).first)) kind)) (of_each (λ k. (noted k).count) kind)
     ∙ ap (λ first. noted_as (noted kind).count first) (of_each (λ k. (noted k).first) kind)
 
-pub by_kind_alike : (f g : Kind → Noted) → ((kind : Kind) → f kind ≡ g kind) → by_kind f ≡ by_kind g
+pub by_kind_alike : (f g : Kind → KindWarnings) → ((kind : Kind) → f kind ≡ g kind) → by_kind f ≡ by_kind g
 by_kind_alike f g h = λ i. by_kind (λ kind. h kind i)
 
 -- none change nothing, on either side
@@ -51,7 +51,7 @@ unfolding joined warnings_of
 warnings_of-append xs ys = by_kind_alike (λ kind. noted_of kind (xs ++ ys)) (λ kind. joined_noted (noted_of kind xs) (noted_of kind ys)) (λ kind. noted_of-append kind xs ys)
 
 -- what is written for one kind
-pub replaced_is : (a new : Warnings) (kind : Kind) (noted : Noted) → new.firsts ≡ with_value a.firsts kind noted.first →
+pub replaced_is : (a new : Warnings) (kind : Kind) (noted : KindWarnings) → new.firsts ≡ with_value a.firsts kind noted.first →
     new.counts ≡ with_value a.counts kind noted.count → new ≡ replaced a kind noted
 unfolding replaced
 replaced_is a new kind noted f c = λ i. record {
@@ -59,11 +59,11 @@ replaced_is a new kind noted f c = λ i. record {
   counts = (c ∙ λ j. each (λ other. count_of_test (same_kind kind other) (kept a other) j)) i;
 }
   where
-    first_of_test : (t : Bool) (b : Noted) → (if t then noted.first else b.first) ≡ (if t then noted else b).first
+    first_of_test : (t : Bool) (b : KindWarnings) → (if t then noted.first else b.first) ≡ (if t then noted else b).first
     first_of_test true b = refl
     first_of_test false b = refl
 
-    count_of_test : (t : Bool) (b : Noted) → (if t then noted.count else b.count) ≡ (if t then noted else b).count
+    count_of_test : (t : Bool) (b : KindWarnings) → (if t then noted.count else b.count) ≡ (if t then noted else b).count
     count_of_test true b = refl
     count_of_test false b = refl
 
@@ -73,7 +73,7 @@ noted_of_one : (place : ℕ) (kind other : Kind) (t : Bool) → same_kind kind o
 noted_of_one place kind other true h = simp h
 noted_of_one place kind other false h = simp h
 
-one_more : (place : ℕ) (kind other : Kind) (a : Noted) (t : Bool) → same_kind kind other ≡ t →
+one_more : (place : ℕ) (kind other : Kind) (a : KindWarnings) (t : Bool) → same_kind kind other ≡ t →
     (if t then joined_noted a (noted_as 1 place) else a) ≡ joined_noted a (noted_of other (warning_at place kind ∷ []))
 one_more place kind other a true h = sym (ap (joined_noted a) (noted_of_one place kind other true h))
 one_more place kind other a false h = sym (ap (joined_noted a) (noted_of_one place kind other false h) ∙ joined_noted_none a)

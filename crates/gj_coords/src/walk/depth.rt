@@ -23,7 +23,7 @@ pub enum Depth {
     Third,
     /// In none: the value is a position that was told as one. Of what the walk then gathers only the least fault as
     /// positions is held, which is that of each type but `Point`, and as its warnings those for `Point`.
-    Whole,
+    OrEmpty,
 }
 
 impl Depth {
@@ -35,7 +35,7 @@ impl Depth {
         ensures { result ≡ is_whole self.now }
     {
         match self {
-            Depth::Whole => true,
+            Depth::OrEmpty => true,
             _ => false,
         }
     }

@@ -3,7 +3,7 @@
 ghost use Rattle.std.specs.Prelude.{◌≡◌, ◌≤◌, ◌<◌, ◌+◌, length, take};
 
 use super::Reader;
-use crate::told::is_value;
+use crate::move_events::is_value;
 
 impl Reader {
     ghost use Rattle.gj_json.specs.Internal.PathTrail.{begins};

@@ -19,11 +19,11 @@ use crate::flats::{space_end, white_end};
 use crate::lanes::white_run;
 use crate::levels::Level;
 use crate::mode::{Mode, Move};
+use crate::move_events::{closing, is_on, opening, what_of};
 use crate::moves::{after_value, opened_mode};
 use crate::names::{name_of, type_of};
 use crate::sink::EventSink;
 use crate::tokens::{constant_run, plain_quoted_run};
-use crate::told::{closing, is_on, opening, what_of};
 use crate::usual::{usual_name, usual_text};
 use gj_number::{Decimal, Literal, Short, read_short};
 

@@ -21,12 +21,12 @@ use Rattle.gj_coords.specs.declared.simple.Simple.{Simple}
 use Rattle.gj_coords.specs.declared.warnings.Warnings.{Warnings}
 use Rattle.gj_coords.specs.Fault.{lesser, least, fault_at}
 use Rattle.gj_rules.specs.Levels.{most_levels}
-use Rattle.gj_rules.specs.Internal.FrameMeaning.{Found, Frame, Shapes, Shown}
+use Rattle.gj_rules.specs.Internal.FrameMeaning.{Findings, Frame, Shapes, MemberSlots}
 use Rattle.gj_rules.specs.declared.role.Role.{Role}
 use Rattle.gj_rules.specs.declared.mode.Mode.TheVariants.{Names, Done}
 use Rattle.gj_rules.specs.declared.rules.Rules.{Rules}
-use Rattle.gj_rules.specs.declared.shown.Slot.{Slot}
-use Rattle.gj_rules.specs.declared.shown.TypeValue.{TypeValue}
+use Rattle.gj_rules.specs.declared.member_slots.Slot.{Slot}
+use Rattle.gj_rules.specs.declared.member_slots.TypeValue.{TypeValue}
 use Rattle.gj_rules.specs.Doomed.{names, first_type, repeats, any_of, type_fails, members_fail, unmarked_fails, is_doomed}
 use Rattle.gj_rules.specs.Faults.{faults, text_faults}
 use Rattle.gj_rules.specs.Internal.FrameCalls as F
@@ -35,7 +35,7 @@ use Rattle.gj_rules.specs.Internal.LostObjects.{slot_fails, geometry_forbids, fe
 use Rattle.gj_rules.specs.Members.{mentions}
 use Rattle.gj_rules.specs.Role.{is_allowed}
 use Rattle.gj_rules.specs.Rules.{StandsFor}
-use Rattle.gj_rules.specs.Internal.ShownMembers as S
+use Rattle.gj_rules.specs.Internal.OpenMembers as S
 use Rattle.gj_rules.specs.Internal.EventSteps.{State, step, run, start, skip}
 use Rattle.gj_rules.specs.Internal.Summaries.{shape_for}
 use Rattle.gj_rules.specs.Internal.TextKept.{marked_kept}
@@ -73,15 +73,15 @@ shape_kept : (simple : Simple) (place : ℕ) (shapes : Shapes) (o : Option Slot)
 shape_kept simple place shapes None e = refl
 shape_kept simple place shapes (Some slot) e = e
 
-geometry_kept : (f : Shown) → Keeps (geometry_forbids f) (is_some (S.geometry_forbids f))
+geometry_kept : (f : MemberSlots) → Keeps (geometry_forbids f) (is_some (S.geometry_forbids f))
 geometry_kept f =
     lesser_or (is_some f.geometry) _ (S.forbidden_slot f.geometry) _ (forbidden_kept f.geometry)
     (lesser_or (is_some f.properties) _ (S.forbidden_slot f.properties) _ (forbidden_kept f.properties) (forbidden_kept f.features))
 
-simple_kept : (simple : Simple) (f : Shown) → Keeps (simple_fails simple f) (is_some (S.as_simple simple f))
+simple_kept : (simple : Simple) (f : MemberSlots) → Keeps (simple_fails simple f) (is_some (S.as_simple simple f))
 simple_kept simple f = lesser_or (geometry_forbids f) _ (S.geometry_forbids f) _ (geometry_kept f) (shape_kept simple f.place f.shapes f.coordinates)
 
-feature_kept : (f : Shown) → Keeps (feature_fails f) (is_some (S.as_feature f))
+feature_kept : (f : MemberSlots) → Keeps (feature_fails f) (is_some (S.as_feature f))
 feature_kept f =
     lesser_or (feature_forbids f) _ (S.feature_forbids f) _
     (lesser_or (is_some f.coordinates) _ (S.forbidden_slot f.coordinates) _ (forbidden_kept f.coordinates)
@@ -89,13 +89,13 @@ feature_kept f =
     (lesser_or (slot_fails f.geometry) _ (S.due_slot f.place G6 f.geometry) _ (due_kept f.place G6 f.geometry)
     (lesser_or (slot_fails f.properties) _ (S.due_slot f.place G7 f.properties) _ (due_kept f.place G7 f.properties) (fault_kept f.id)))
 
-features_kept : (f : Shown) → Keeps (features_forbid f) (is_some (S.features_forbid f))
+features_kept : (f : MemberSlots) → Keeps (features_forbid f) (is_some (S.features_forbid f))
 features_kept f =
     lesser_or (is_some f.coordinates || is_some f.geometries) _ (lesser (S.forbidden_slot f.coordinates) (S.forbidden_slot f.geometries)) _
     (lesser_or (is_some f.coordinates) _ (S.forbidden_slot f.coordinates) _ (forbidden_kept f.coordinates) (forbidden_kept f.geometries))
     (lesser_or (is_some f.geometry) _ (S.forbidden_slot f.geometry) _ (forbidden_kept f.geometry) (forbidden_kept f.properties))
 
-typed_kept : (word : Word) (place : ℕ) (f : Shown) → Keeps (fails_as word f) (is_some (if is_allowed Role.Root word then S.as_type word f else Some (fault_at place G3)))
+typed_kept : (word : Word) (place : ℕ) (f : MemberSlots) → Keeps (fails_as word f) (is_some (if is_allowed Role.Root word then S.as_type word f else Some (fault_at place G3)))
 typed_kept Word.Point place f = simple_kept Simple.Point f
 typed_kept Word.MultiPoint place f = simple_kept Simple.MultiPoint f
 typed_kept Word.LineString place f = simple_kept Simple.LineString f
@@ -107,12 +107,12 @@ typed_kept Word.Feature place f = feature_kept f
 typed_kept Word.FeatureCollection place f = lesser_or (features_forbid f) _ (S.features_forbid f) _ (features_kept f) (due_kept f.place G8 f.features)
 typed_kept Word.Other place f = λ e. refl
 
-rest_kept : (o : Option TypeValue) (f : Shown) → f.role ≡ Role.Root → Keeps (type_lost o f) (is_some (S.rest_by o f))
+rest_kept : (o : Option TypeValue) (f : MemberSlots) → f.role ≡ Role.Root → Keeps (type_lost o f) (is_some (S.rest_by o f))
 rest_kept None f r e = refl
 rest_kept (Some value) f r e =
     subst (λ (role : Role). is_some (if is_allowed role value.word then S.as_type value.word f else Some (fault_at value.place G3)) ≡ true) (sym r) (typed_kept value.word value.place f e)
 
-settled_lost : (f : Shown) → f.role ≡ Role.Root → Keeps (is_lost f) (is_some (S.settled f))
+settled_lost : (f : MemberSlots) → f.role ≡ Role.Root → Keeps (is_lost f) (is_some (S.settled f))
 settled_lost f r =
     lesser_or (is_some f.repeated) _ f.repeated _ (λ e. e)
     (lesser_or (slot_fails f.bbox) _ (S.slot_fault f.bbox) _ (fault_kept f.bbox) (rest_kept f.type_value f r))
@@ -122,23 +122,23 @@ settled_lost f r =
 abbrev blank : ℕ → Frame
 blank place = F.blank Role.Root place
 
-blank_shows : (place : ℕ) → Shows [] (blank place).shown
+blank_shows : (place : ℕ) → Shows [] (blank place).slots
 blank_shows place = record { mentioned = record { each = λ n k. ap is_some (none_set Role.Root place n) }; typed = refl; shaped = λ e. refl; role = refl }
 
 -- the object with these members has a fault, where its last frame is lost
-lost_faults : (place close : ℕ) (ms : Members) → is_lost (S.members_taken ms (blank place).shown) ≡ true → faults Role.Root (object place ms close) ≡ [] → ⊥
+lost_faults : (place close : ℕ) (ms : Members) → is_lost (S.members_taken ms (blank place).slots) ≡ true → faults Role.Root (object place ms close) ≡ [] → ⊥
 lost_faults place close ms e none =
     let last : Frame = F.members_taken ms (blank place) in
-    let lost : is_lost last.shown ≡ true = ap is_lost (members_shown ms (blank place)) ∙ e in
-    let some : is_some (F.settled last).fault ≡ true = settled_lost last.shown (frame_role ms (blank place)) lost in
-    let same : (F.settled last).fault ≡ least (faults Role.Root (object place ms close)) = ap (λ (x : Found). x.fault) (all_closed Role.Root place close ms) in
+    let lost : is_lost last.slots ≡ true = ap is_lost (members_shown ms (blank place)) ∙ e in
+    let some : is_some (F.settled last).fault ≡ true = settled_lost last.slots (frame_role ms (blank place)) lost in
+    let same : (F.settled last).fault ≡ least (faults Role.Root (object place ms close)) = ap (λ (x : Findings). x.fault) (all_closed Role.Root place close ms) in
     let nothing : is_some (F.settled last).fault ≡ false = ap is_some same ∙ ap (λ xs. is_some (least xs)) none in
     cc
 
 closed_faults : (place close : ℕ) (ms : Members) → is_some (F.settled (F.members_taken ms (blank place))).fault ≡ true → faults Role.Root (object place ms close) ≡ [] → ⊥
 closed_faults place close ms some none =
     let last : Frame = F.members_taken ms (blank place) in
-    let same : (F.settled last).fault ≡ least (faults Role.Root (object place ms close)) = ap (λ (x : Found). x.fault) (all_closed Role.Root place close ms) in
+    let same : (F.settled last).fault ≡ least (faults Role.Root (object place ms close)) = ap (λ (x : Findings). x.fault) (all_closed Role.Root place close ms) in
     let nothing : is_some (F.settled last).fault ≡ false = ap is_some same ∙ ap (λ xs. is_some (least xs)) none in
     cc
 
@@ -163,7 +163,7 @@ four x y z w a b c d found p q r s e = go (mentions found x) (mentions found y) 
     go false false false true p q r s e = or_right (a || b) (c || d) (or_right c d s)
     go false false false false p q r s e = cc
 
-forbidden_lost : (word : Word) (g : Shown) (found : List Known) → is_some g.coordinates ≡ mentions found Coordinates → is_some g.geometries ≡ mentions found Geometries → is_some g.geometry ≡ mentions found Geometry
+forbidden_lost : (word : Word) (g : MemberSlots) (found : List Known) → is_some g.coordinates ≡ mentions found Coordinates → is_some g.geometries ≡ mentions found Geometries → is_some g.geometry ≡ mentions found Geometry
     → is_some g.properties ≡ mentions found Properties → is_some g.features ≡ mentions found Features → type_fails (Some word) found ≡ true → fails_as word g ≡ true
 forbidden_lost Word.Other g found a b c d h e = refl
 forbidden_lost Word.Feature g found a b c d h e = or_left (feature_forbids g) _ (three Coordinates Geometries Features (is_some g.coordinates) (is_some g.geometries) (is_some g.features) found a b h e)
@@ -171,13 +171,13 @@ forbidden_lost Word.FeatureCollection g found a b c d h e =
     or_left (features_forbid g) _ (four Coordinates Geometries Geometry Properties (is_some g.coordinates) (is_some g.geometries) (is_some g.geometry) (is_some g.properties) found a b c d e)
 forbidden_lost _ g found a b c d h e = or_left (geometry_forbids g) _ (three Geometry Properties Features (is_some g.geometry) (is_some g.properties) (is_some g.features) found c d h e)
 
-type_is_lost : (o : Option TypeValue) (g : Shown) (found : List Known) → is_some g.coordinates ≡ mentions found Coordinates → is_some g.geometries ≡ mentions found Geometries → is_some g.geometry ≡ mentions found Geometry
+type_is_lost : (o : Option TypeValue) (g : MemberSlots) (found : List Known) → is_some g.coordinates ≡ mentions found Coordinates → is_some g.geometries ≡ mentions found Geometries → is_some g.geometry ≡ mentions found Geometry
     → is_some g.properties ≡ mentions found Properties → is_some g.features ≡ mentions found Features → type_fails (word_in o) found ≡ true → type_lost o g ≡ true
 type_is_lost None g found a b c d h e = cc
 type_is_lost (Some value) g found a b c d h e = forbidden_lost value.word g found a b c d h e
 
 -- where the names and the first type show a fault, what was shown is lost
-shown_lost : (place : ℕ) (g : Shown) (shown : List What) → Here [] (blank place).shown g shown → members_fail shown ≡ true → is_lost g ≡ true
+shown_lost : (place : ℕ) (g : MemberSlots) (shown : List What) → Here [] (blank place).slots g shown → members_fail shown ≡ true → is_lost g ≡ true
 shown_lost place g shown h e = elim (or_cases (repeats [] (names shown)) (type_fails (first_type shown) (names shown)) e) [
   | inl again ↦ or_left (is_some g.repeated) _ (h.repeated ∙ again)
   | inr typed ↦
@@ -193,7 +193,7 @@ pub record Answers (v : Tree) (events : List Event) (s : State) : Type 0 where
   pub sound : core_lost s.core ≡ true → faults Role.Root v ≡ [] → ⊥
   pub early : is_doomed events ≡ true → core_lost s.core ≡ true
 
-done_answer : (xs : List Told) (k : ℕ) (g : Frame) (a : Found) → (run xs (st k Done g [] a)).core.answer ≡ a
+done_answer : (xs : List Told) (k : ℕ) (g : Frame) (a : Findings) → (run xs (st k Done g [] a)).core.answer ≡ a
 done_answer [] k g a = refl
 done_answer (x ∷ xs) zero g a = done_answer xs zero g a
 done_answer (x ∷ xs) (suc k) g a = done_answer xs (skip (event_of x).what (suc k)) g a
@@ -203,7 +203,7 @@ no_object : (v : Tree) (xs : List Told) (place k : ℕ) (g : Frame) (events : Li
     → Answers v events (run xs (st k Done g [] (record { fault = Some (fault_at place G1); warned = w })))
 no_object v xs place k g events w some = record {
   sound = λ e. some;
-  early = λ e. or_left _ _ (ap (λ (x : Found). is_some x.fault) (done_answer xs k g (record { fault = Some (fault_at place G1); warned = w })));
+  early = λ e. or_left _ _ (ap (λ (x : Findings). is_some x.fault) (done_answer xs k g (record { fault = Some (fault_at place G1); warned = w })));
 }
 
 -- no event of the value has come
@@ -229,9 +229,9 @@ object_answers place close ms had done rest e = elim (members_cut ms [] (blank p
     value : Tree
     value = object place ms close
 
-    cut : Cut [] (blank place).shown (S.members_taken ms (blank place).shown) (had_found had) (own 1 done) s → Answers value (map event_of (plain (place + 1) place W.OpenObject ∷ done)) s
+    cut : Cut [] (blank place).slots (S.members_taken ms (blank place).slots) (had_found had) (own 1 done) s → Answers value (map event_of (plain (place + 1) place W.OpenObject ∷ done)) s
     cut c =
-        let still : is_some s.core.answer.fault ≡ false = ap (λ (x : Found). is_some x.fault) c.still in record {
+        let still : is_some s.core.answer.fault ≡ false = ap (λ (x : Findings). is_some x.fault) c.still in record {
           sound = λ l. lost_faults place close ms (c.onward (subst (λ (b : Bool). (b || is_lost (root s)) ≡ true) still l));
           early = λ d. or_right (is_some s.core.answer.fault) (is_lost (root s)) (shown_lost place (root s) (own 1 done) c.here d);
         }
@@ -242,15 +242,15 @@ object_answers place close ms had done rest e = elim (members_cut ms [] (blank p
         let comes : s ≡ last_state =
         ap (λ (ts : List Told). run ts (object_st place had)) c.whole
         ∙ (run_end (members_told ms) (last_of close ∷ []) (object_st place had) ∙ ap (λ (z : State). run (last_of close ∷ []) z) (members_run ms [] (blank place) (had_found had) (blank_shows place))) in
-        let lost : core_lost last_state.core ≡ (is_some (F.settled last).fault || is_lost last.shown) = refl in
-        let shown : is_lost last.shown ≡ is_lost (S.members_taken ms (blank place).shown) = ap is_lost (members_shown ms (blank place)) in
+        let lost : core_lost last_state.core ≡ (is_some (F.settled last).fault || is_lost last.slots) = refl in
+        let shown : is_lost last.slots ≡ is_lost (S.members_taken ms (blank place).slots) = ap is_lost (members_shown ms (blank place)) in
         subst (λ (z : State). Answers value (map event_of (plain (place + 1) place W.OpenObject ∷ done)) z) (sym comes)
         (record {
-          sound = λ l. elim (or_cases (is_some (F.settled last).fault) (is_lost last.shown) l) [
+          sound = λ l. elim (or_cases (is_some (F.settled last).fault) (is_lost last.slots) l) [
             | inl some ↦ closed_faults place close ms some
             | inr some ↦ lost_faults place close ms (sym shown ∙ some)
           ];
-          early = λ d. or_right (is_some (F.settled last).fault) (is_lost last.shown) (shown ∙ shown_lost place (S.members_taken ms (blank place).shown) (own 1 done) c.here d);
+          early = λ d. or_right (is_some (F.settled last).fault) (is_lost last.slots) (shown ∙ shown_lost place (S.members_taken ms (blank place).slots) (own 1 done) c.here d);
         })
       where
         run_end : (xs ys : List Told) (z : State) → run (xs ++ ys) z ≡ run ys (run xs z)

@@ -16,7 +16,7 @@ use Rattle.gj_coords.specs.declared.fault.Rule.TheVariants.{G1}
 use Rattle.gj_coords.specs.declared.warnings.Warnings.{Warnings}
 use Rattle.gj_coords.specs.Fault.{least, fault_at}
 use Rattle.gj_coords.specs.Internal.LeastLaws.{least-append}
-use Rattle.gj_rules.specs.Internal.FrameMeaning.{Found, Frame, Shown}
+use Rattle.gj_rules.specs.Internal.FrameMeaning.{Findings, Frame, MemberSlots}
 use Rattle.gj_rules.specs.declared.role.Role.{Role}
 use Rattle.gj_rules.specs.declared.mode.Mode.{Mode}
 use Rattle.gj_rules.specs.declared.mode.Mode.TheVariants.{Names, Elements}
@@ -38,27 +38,27 @@ use Rattle.gj_rules.proofs.Texts.TimedEvents.{told-events}
 -- ---- along events
 
 -- what the text's object has shown lies between the two
-pub record In (f g h : Shown) : Type 0 where
+pub record In (f g h : MemberSlots) : Type 0 where
   pub lo : Grows f g
   pub hi : Grows g h
 
-abbrev pub root : State → Shown
+abbrev pub root : State → MemberSlots
 root s = root_of s.core.top s.core.outer
 
 -- before each of the events it does, and nothing is answered; they lead from the state s to t
-abbrev pub Thru : Shown → Shown → Found → List Told → State → State → Type 0
+abbrev pub Thru : MemberSlots → MemberSlots → Findings → List Told → State → State → Type 0
 Thru f h a [] s t = s ≡ t
 Thru f h a (x ∷ xs) s t = (In f (root s) h × (s.core.answer ≡ a)) × Thru f h a xs (step x s) t
 
-pub thru_both : (f h : Shown) (a : Found) (xs ys : List Told) (s t u : State) → Thru f h a xs s t → Thru f h a ys t u → Thru f h a (xs ++ ys) s u
+pub thru_both : (f h : MemberSlots) (a : Findings) (xs ys : List Told) (s t u : State) → Thru f h a xs s t → Thru f h a ys t u → Thru f h a (xs ++ ys) s u
 thru_both f h a [] ys s t u p q = subst (λ (z : State). Thru f h a ys z u) (sym p) q
 thru_both f h a (x ∷ xs) ys s t u p q = (p.0, thru_both f h a xs ys (step x s) t u p.1 q)
 
-pub thru_run : (f h : Shown) (a : Found) (xs : List Told) (s t : State) → Thru f h a xs s t → run xs s ≡ t
+pub thru_run : (f h : MemberSlots) (a : Findings) (xs : List Told) (s t : State) → Thru f h a xs s t → run xs s ≡ t
 thru_run f h a [] s t p = p
 thru_run f h a (x ∷ xs) s t p = thru_run f h a xs (step x s) t p.1
 
-pub thru_at : (f h : Shown) (a : Found) (done : List Told) (x : Told) (rest : List Told) (s t : State) → Thru f h a (done ++ x ∷ rest) s t
+pub thru_at : (f h : MemberSlots) (a : Findings) (done : List Told) (x : Told) (rest : List Told) (s t : State) → Thru f h a (done ++ x ∷ rest) s t
     → In f (root (run done s)) h × ((run done s).core.answer ≡ a)
 thru_at f h a [] x rest s t p = p.0
 thru_at f h a (y ∷ ys) x rest s t p = thru_at f h a ys x rest (step y s) t p.1
@@ -66,7 +66,7 @@ thru_at f h a (y ∷ ys) x rest s t p = thru_at f h a ys x rest (step y s) t p.1
 -- ---- what is not looked into
 
 mutual
-  skip_value : (v : Tree) (k : ℕ) (m : Mode) (g : Frame) (o : List Frame) (a : Found) (f h : Shown) → In f (root_of g o) h → Thru f h a (told v) (st (suc k) m g o a) (st (suc k) m g o a)
+  skip_value : (v : Tree) (k : ℕ) (m : Mode) (g : Frame) (o : List Frame) (a : Findings) (f h : MemberSlots) → In f (root_of g o) h → Thru f h a (told v) (st (suc k) m g o a) (st (suc k) m g o a)
   skip_value (constant Null place) k m g o a f h i = ((i, refl), refl)
   skip_value (constant True place) k m g o a f h i = ((i, refl), refl)
   skip_value (constant False place) k m g o a f h i = ((i, refl), refl)
@@ -85,12 +85,12 @@ mutual
         (skip_members ms (suc k) m g o a f h i) ((i, refl), ap (λ n. st n m g o a) (down k))),
   )
 
-  skip_elements : (es : Tree.Elements) (k : ℕ) (m : Mode) (g : Frame) (o : List Frame) (a : Found) (f h : Shown) → In f (root_of g o) h → Thru f h a (elements_told es) (st (suc k) m g o a) (st (suc k) m g o a)
+  skip_elements : (es : Tree.Elements) (k : ℕ) (m : Mode) (g : Frame) (o : List Frame) (a : Findings) (f h : MemberSlots) → In f (root_of g o) h → Thru f h a (elements_told es) (st (suc k) m g o a) (st (suc k) m g o a)
   skip_elements end_of_array k m g o a f h i = refl
   skip_elements (element v more) k m g o a f h i =
       thru_both f h a (told v) (elements_told more) (st (suc k) m g o a) (st (suc k) m g o a) (st (suc k) m g o a) (skip_value v k m g o a f h i) (skip_elements more k m g o a f h i)
 
-  skip_members : (ms : Members) (k : ℕ) (m : Mode) (g : Frame) (o : List Frame) (a : Found) (f h : Shown) → In f (root_of g o) h → Thru f h a (members_told ms) (st (suc k) m g o a) (st (suc k) m g o a)
+  skip_members : (ms : Members) (k : ℕ) (m : Mode) (g : Frame) (o : List Frame) (a : Findings) (f h : MemberSlots) → In f (root_of g o) h → Thru f h a (members_told ms) (st (suc k) m g o a) (st (suc k) m g o a)
   skip_members end_of_object k m g o a f h i = refl
   skip_members (member place name end v more) k m g o a f h i = (
     (i, refl),
@@ -98,19 +98,19 @@ mutual
   )
 
 -- the rest of an array or an object that is not looked into
-pub array_rest : (es : Tree.Elements) (close : ℕ) (m : Mode) (g : Frame) (o : List Frame) (a : Found) (f h : Shown) → In f (root_of g o) h
+pub array_rest : (es : Tree.Elements) (close : ℕ) (m : Mode) (g : Frame) (o : List Frame) (a : Findings) (f h : MemberSlots) → In f (root_of g o) h
     → Thru f h a (elements_told es ++ plain (close + 1) close What.CloseArray ∷ []) (st 1 m g o a) (st 0 m g o a)
 array_rest es close m g o a f h i =
     thru_both f h a (elements_told es) (plain (close + 1) close What.CloseArray ∷ []) (st 1 m g o a) (st 1 m g o a) (st 0 m g o a) (skip_elements es 0 m g o a f h i) ((i, refl), refl)
 
-pub object_rest : (ms : Members) (close : ℕ) (m : Mode) (g : Frame) (o : List Frame) (a : Found) (f h : Shown) → In f (root_of g o) h
+pub object_rest : (ms : Members) (close : ℕ) (m : Mode) (g : Frame) (o : List Frame) (a : Findings) (f h : MemberSlots) → In f (root_of g o) h
     → Thru f h a (members_told ms ++ plain (close + 1) close What.CloseObject ∷ []) (st 1 m g o a) (st 0 m g o a)
 object_rest ms close m g o a f h i =
     thru_both f h a (members_told ms) (plain (close + 1) close What.CloseObject ∷ []) (st 1 m g o a) (st 1 m g o a) (st 0 m g o a) (skip_members ms 0 m g o a f h i) ((i, refl), refl)
 
 -- ---- what a summary takes
 
-feed_all : (name : Known) → IsFed name → (v : Tree) (taken : List Event) (x : Told) (xs : List Told) (g : Frame) (o : List Frame) (a : Found) (f h : Shown) → In f (root_of g o) h
+feed_all : (name : Known) → IsFed name → (v : Tree) (taken : List Event) (x : Told) (xs : List Told) (g : Frame) (o : List Frame) (a : Findings) (f h : MemberSlots) → In f (root_of g o) h
     → Thru f h a (x ∷ xs) (feeding name v taken (map event_of (x ∷ xs)) g o a) (st 0 Names (filled name v g) o a)
 feed_all Coordinates q v taken x [] g o a f h i = ((i, refl), refl)
 feed_all Coordinates q v taken x (y ∷ ys) g o a f h i = ((i, refl), feed_all Coordinates q v (taken ++ event_of x ∷ []) y ys g o a f h i)
@@ -118,7 +118,7 @@ feed_all Bbox q v taken x [] g o a f h i = ((i, refl), refl)
 feed_all Bbox q v taken x (y ∷ ys) g o a f h i = ((i, refl), feed_all Bbox q v (taken ++ event_of x ∷ []) y ys g o a f h i)
 feed_all _ q v taken x xs g o a f h i = absurd q
 
-feed_value : (name : Known) → IsFed name → (v : Tree) (g : Frame) (o : List Frame) (a : Found) (f h : Shown) → In f (root_of g o) h
+feed_value : (name : Known) → IsFed name → (v : Tree) (g : Frame) (o : List Frame) (a : Findings) (f h : MemberSlots) → In f (root_of g o) h
     → Thru f h a (told v) (feeding name v [] (value_events v) g o a) (st 0 Names (filled name v g) o a)
 feed_value name q v g o a f h i = go (some_told v)
   where
@@ -129,22 +129,22 @@ feed_value name q v g o a f h i = go (some_told v)
 
 -- ---- what has a role
 
-close_is : (r : Role) (place close : ℕ) (ms : Members) (g : Frame) (o : List Frame) (a : Found)
+close_is : (r : Role) (place close : ℕ) (ms : Members) (g : Frame) (o : List Frame) (a : Findings)
     → step (plain (close + 1) close What.CloseObject) (st 0 Names (members_taken ms (blank r place)) (g ∷ o) a)
     ≡ st 0 (mode_behind r) (taken_any (member_of r) (least (faults r (object place ms close))) (kept r (object place ms close)) g) o a
 close_is r place close ms g o a =
     let inner : Frame = members_taken ms (blank r place) in
-    let e : inner.shown.role ≡ r = frame_role ms (blank r place) in
+    let e : inner.slots.role ≡ r = frame_role ms (blank r place) in
     ap (λ (q : Role). behind close q (settled inner) g o a) e
     ∙ (behind_idle close r (settled inner) g o a
-    ∙ ap (λ (x : Found). st 0 (mode_behind r) (taken_in (member_of r) x g) o a) (all_closed r place close ms))
+    ∙ ap (λ (x : Findings). st 0 (mode_behind r) (taken_in (member_of r) x g) o a) (all_closed r place close ms))
 
 root_taken : (name : Known) (x : Option Fault) (w : Option Warnings) (g : Frame) (o : List Frame) → Grows (root_of g o) (root_of (taken_any name x w g) o)
-root_taken name x w g [] = grows_joined name x g.shown
+root_taken name x w g [] = grows_joined name x g.slots
 root_taken name x w g (p ∷ o) = grows_same (root_of p o)
 
 -- an object with a role in another, by its members
-object_by : (r : Role) (place close : ℕ) (ms : Members) (g : Frame) (o : List Frame) (a : Found) (f h : Shown) → In f (root_of g o) h
+object_by : (r : Role) (place close : ℕ) (ms : Members) (g : Frame) (o : List Frame) (a : Findings) (f h : MemberSlots) → In f (root_of g o) h
     → Thru f h a (members_told ms) (st 0 Names (blank r place) (g ∷ o) a) (st 0 Names (members_taken ms (blank r place)) (g ∷ o) a)
     → Thru f h a (members_told ms ++ plain (close + 1) close What.CloseObject ∷ []) (st 0 Names (blank r place) (g ∷ o) a)
     (st 0 (mode_behind r) (taken_any (member_of r) (least (faults r (object place ms close))) (kept r (object place ms close)) g) o a)
@@ -153,7 +153,7 @@ object_by r place close ms g o a f h i p =
     p ((i, refl), close_is r place close ms g o a)
 
 -- an array of values with a role, by its elements
-list_by : (es : Tree.Elements) (close : ℕ) (r : Role) (g : Frame) (o : List Frame) (a : Found) (f h : Shown)
+list_by : (es : Tree.Elements) (close : ℕ) (r : Role) (g : Frame) (o : List Frame) (a : Findings) (f h : MemberSlots)
     → In f (root_of (taken_any (member_of r) (least (all_faults r es)) (all_kept r es) g) o) h
     → Thru f h a (elements_told es) (st 0 (Elements r) g o a) (st 0 (Elements r) (taken_any (member_of r) (least (all_faults r es)) (all_kept r es) g) o a)
     → Thru f h a (elements_told es ++ plain (close + 1) close What.CloseArray ∷ []) (st 0 (Elements r) g o a)
@@ -164,7 +164,7 @@ list_by es close r g o a f h j p =
 
 mutual
   -- the value of a first member
-  pub on_due : (v : Tree) (name : Known) (g : Frame) (o : List Frame) (a : Found) (f h : Shown) → In f (root_of g o) h → In f (root_of (filled name v g) o) h
+  pub on_due : (v : Tree) (name : Known) (g : Frame) (o : List Frame) (a : Findings) (f h : MemberSlots) → In f (root_of g o) h → In f (root_of (filled name v g) o) h
       → Thru f h a (told v) (due_st name v g o a) (st 0 Names (filled name v g) o a)
   on_due v Coordinates g o a f h i j = feed_value Coordinates tt v g o a f h i
   on_due v Bbox g o a f h i j = feed_value Bbox tt v g o a f h i
@@ -180,7 +180,7 @@ mutual
   on_due (object place ms close) name g o a f h i j = ((i, refl), object_rest ms close Names (filled name (object place ms close) g) o a f h j)
 
   -- an element of an array of values with a role
-  on_element : (v : Tree) (r : Role) → IsListed r → (g : Frame) (o : List Frame) (a : Found) (f h : Shown) → In f (root_of g o) h
+  on_element : (v : Tree) (r : Role) → IsListed r → (g : Frame) (o : List Frame) (a : Findings) (f h : MemberSlots) → In f (root_of g o) h
       → In f (root_of (taken_any (member_of r) (least (faults r v)) (kept r v) g) o) h
       → Thru f h a (told v) (st 0 (Elements r) g o a) (st 0 (Elements r) (taken_any (member_of r) (least (faults r v)) (kept r v) g) o a)
   on_element (constant Null place) Role.Part q g o a f h i j = ((i, refl), refl)
@@ -198,7 +198,7 @@ mutual
         subst (λ (m : Mode). Thru f h a (members_told ms ++ last ∷ []) (st 0 Names (blank r place) (g ∷ o) a) (st 0 m inner o a)) (mode_listed r q) (object_by r place close ms g o a f h i (on_members ms (blank r place) g o a f h i)),
       )
 
-  on_elements : (es : Tree.Elements) (r : Role) → IsListed r → (g : Frame) (o : List Frame) (a : Found) (f h : Shown) → In f (root_of g o) h
+  on_elements : (es : Tree.Elements) (r : Role) → IsListed r → (g : Frame) (o : List Frame) (a : Findings) (f h : MemberSlots) → In f (root_of g o) h
       → In f (root_of (taken_any (member_of r) (least (all_faults r es)) (all_kept r es) g) o) h
       → Thru f h a (elements_told es) (st 0 (Elements r) g o a) (st 0 (Elements r) (taken_any (member_of r) (least (all_faults r es)) (all_kept r es) g) o a)
   on_elements end_of_array r q g o a f h i j = ap (λ (x : Frame). st 0 (Elements r) x o a) (sym (taken_none (member_of r) g))
@@ -218,7 +218,7 @@ mutual
       (subst (λ (x : Frame). Thru f h a (elements_told more) (st 0 (Elements r) mid o a) (st 0 (Elements r) x o a)) (sym e) (on_elements more r q mid o a f h here end))
 
   -- the members of an object in another
-  on_members : (ms : Members) (e : Frame) (p : Frame) (o : List Frame) (a : Found) (f h : Shown) → In f (root_of p o) h
+  on_members : (ms : Members) (e : Frame) (p : Frame) (o : List Frame) (a : Findings) (f h : MemberSlots) → In f (root_of p o) h
       → Thru f h a (members_told ms) (st 0 Names e (p ∷ o) a) (st 0 Names (members_taken ms e) (p ∷ o) a)
   on_members end_of_object e p o a f h i = refl
   on_members (member place name end v more) e p o a f h i = (
@@ -231,7 +231,7 @@ mutual
 
 -- those around it, the innermost first, end with the first that was opened
 pub first_root : (frames : List D.Frame) (n : ℕ) → n < length frames
-    → root_of (frame_in (get_or frames n no_frame)) (map frame_in (reverse (take n frames))) ≡ (frame_in (get_or frames 0 no_frame)).shown
+    → root_of (frame_in (get_or frames n no_frame)) (map frame_in (reverse (take n frames))) ≡ (frame_in (get_or frames 0 no_frame)).slots
 first_root frames zero h = refl
 first_root frames (suc n) h =
     let within : n < length frames = omega arith in

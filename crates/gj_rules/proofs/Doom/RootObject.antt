@@ -9,18 +9,18 @@ use Rattle.gj_json.specs.Names.{known_of}
 use Rattle.gj_json.specs.Tree.{Tree, constant, number, string, array, object, Members, end_of_object, member}
 use Rattle.gj_coords.specs.declared.fault.Fault.{Fault}
 use Rattle.gj_coords.specs.Fault.{lesser, least}
-use Rattle.gj_rules.specs.Internal.FrameMeaning.{Found, Frame, Shapes, Shown}
+use Rattle.gj_rules.specs.Internal.FrameMeaning.{Findings, Frame, Shapes, MemberSlots}
 use Rattle.gj_rules.specs.declared.role.Role.{Role}
 use Rattle.gj_rules.specs.declared.mode.Mode.TheVariants.{Names}
-use Rattle.gj_rules.specs.declared.shown.Slot.{Slot}
-use Rattle.gj_rules.specs.declared.shown.TypeValue.{TypeValue}
+use Rattle.gj_rules.specs.declared.member_slots.Slot.{Slot}
+use Rattle.gj_rules.specs.declared.member_slots.TypeValue.{TypeValue}
 use Rattle.gj_coords.specs.Items.{place_of}
 use Rattle.gj_rules.specs.Doomed.{names, first_type, repeats}
 use Rattle.gj_rules.specs.Faults.{First, judge}
 use Rattle.gj_rules.specs.Internal.FrameCalls as F
 use Rattle.gj_rules.specs.Internal.LostObjects.{slot_fails, is_lost}
 use Rattle.gj_rules.specs.Members.{is_known, same, mentions, again, type_of}
-use Rattle.gj_rules.specs.Internal.ShownMembers.{slot_of, uses, named, named_known, due_known, due_after, filled, member_taken, members_taken, type_set}
+use Rattle.gj_rules.specs.Internal.OpenMembers.{slot_of, uses, named, named_known, due_known, due_after, filled, member_taken, members_taken, type_set}
 use Rattle.gj_rules.specs.Internal.EventSteps.{State, step, run}
 use Rattle.gj_rules.specs.Internal.Summaries.{no_shapes, shapes_of, asked}
 use Rattle.gj_rules.specs.Internal.LabelledEvents.{Told, plain, told, members_told}
@@ -36,7 +36,7 @@ use Rattle.gj_rules.proofs.Doom.OutermostMembers.{own, first_what, own_value, ow
 -- ---- after whole members
 
 -- the object shows the members of these names
-pub record Shows (before : List Known) (f : Shown) : Type 0 where
+pub record Shows (before : List Known) (f : MemberSlots) : Type 0 where
   pub mentioned : Mentions before f
   pub typed : is_some f.type_value ≡ is_some f.type_name
   pub shaped : is_some f.coordinates ≡ false → f.shapes ≡ no_shapes
@@ -46,12 +46,12 @@ abbrev pub word_in : Option TypeValue → Option Word
 word_in None = None
 word_in (Some value) = Some value.word
 
-type_one : (name : List ℕ) (place end : ℕ) (v : Tree) (f : Shown)
+type_one : (name : List ℕ) (place end : ℕ) (v : Tree) (f : MemberSlots)
     → (member_taken place (known_of name) v f).type_value
     ≡ type_from f.type_name f.type_value (if same TypeName (known_of name) then Some (record { place = place_of v; word = type_of v }) else None)
 type_one name place end v f = type_after (member place name end v end_of_object) f
 
-slot_is : (n : Known) (before : List Known) (name : Known) (place : ℕ) (v : Tree) (f : Shown) → Mentions before f → is_known n ≡ true
+slot_is : (n : Known) (before : List Known) (name : Known) (place : ℕ) (v : Tree) (f : MemberSlots) → Mentions before f → is_known n ≡ true
     → is_some (slot_of n (member_taken place name v f)) ≡ (if same n name then true else is_some (slot_of n f))
 slot_is n before name place v f m k = mentions_step before n name place v f (same n name) m k refl ∙ ap (λ (b : Bool). if same n name then true else b) (sym (m.each n k))
 
@@ -61,7 +61,7 @@ shaped_is u true t known had x e h = cc
 shaped_is u false (Some slot) known had x e h = cc
 shaped_is u false None known had x e h = h refl
 
-pub shows_more : (before : List Known) (name : List ℕ) (place end : ℕ) (v : Tree) (f : Shown) → Shows before f → Shows (known_of name ∷ before) (member_taken place (known_of name) v f)
+pub shows_more : (before : List Known) (name : List ℕ) (place end : ℕ) (v : Tree) (f : MemberSlots) → Shows before f → Shows (known_of name ∷ before) (member_taken place (known_of name) v f)
 shows_more before name place end v f h = record {
   mentioned = record { each = λ q k. mentions_step before q (known_of name) place v f (same q (known_of name)) h.mentioned k refl };
   typed = typed_after place end name v f h.typed;
@@ -74,7 +74,7 @@ shows_more before name place end v f h = record {
 
 -- ---- what fails goes on to fail
 
-filled_grows : (m : Known) (v : Tree) (f : Shown) → (m ≡ TypeName → ⊥) → (m ≡ Coordinates → f.shapes ≡ no_shapes) → Grows f (filled m v f)
+filled_grows : (m : Known) (v : Tree) (f : MemberSlots) → (m ≡ TypeName → ⊥) → (m ≡ Coordinates → f.shapes ≡ no_shapes) → Grows f (filled m v f)
 filled_grows TypeName v f t c = absurd (t refl)
 filled_grows Coordinates v f t c = grows_shapes (asked f.type_value (shapes_of v)) f (c refl)
 filled_grows Geometries v f t c = grows_joined Geometries (least (judge Geometries v)) f
@@ -86,11 +86,11 @@ filled_grows Id v f t c = grows_joined Id (least (judge Id v)) f
 filled_grows Crs v f t c = grows_same f
 filled_grows Other v f t c = grows_same f
 
-slot_typed : (n : Known) (place : ℕ) (word : Word) (f : Shown) → slot_of n (type_set place word f) ≡ slot_of n f
+slot_typed : (n : Known) (place : ℕ) (word : Word) (f : MemberSlots) → slot_of n (type_set place word f) ≡ slot_of n f
 slot_typed TypeName place word f = refl
 slot_typed _ place word f = refl
 
-typed_worse : (place : ℕ) (word : Word) (f : Shown) → Worse f (type_set place word f)
+typed_worse : (place : ℕ) (word : Word) (f : MemberSlots) → Worse f (type_set place word f)
 typed_worse place word f = record {
   repeated = λ e. e;
   slots = λ n e. ap is_some (slot_typed n place word f) ∙ e;
@@ -108,19 +108,19 @@ due_from n m r true false None e d i =
     let j : is_known Other ≡ is_known m = ap is_known l in
     cc
 
-kept_shapes : (n : Known) (place : ℕ) (f : Shown) (k : Bool) (o : Option Slot) → (if k then named_known n place o f else f).shapes ≡ f.shapes
+kept_shapes : (n : Known) (place : ℕ) (f : MemberSlots) (k : Bool) (o : Option Slot) → (if k then named_known n place o f else f).shapes ≡ f.shapes
 kept_shapes n place f false o = refl
 kept_shapes n place f true (Some slot) = refl
 kept_shapes TypeName place f true None = refl
 kept_shapes _ place f true None = refl
 
-due_shapes : (before : List Known) (n : Known) (place : ℕ) (f : Shown) → Shows before f → due_after n f ≡ Coordinates → (named n place f).shapes ≡ no_shapes
+due_shapes : (before : List Known) (n : Known) (place : ℕ) (f : MemberSlots) → Shows before f → due_after n f ≡ Coordinates → (named n place f).shapes ≡ no_shapes
 due_shapes before n place f h e =
     let d = due_from n Coordinates f.role (is_known n) (uses f.role n) (slot_of n f) refl e refl in
     let none : slot_of Coordinates f ≡ None = subst (λ (m : Known). slot_of m f ≡ None) d.0 d.1 in
     kept_shapes n place f (is_known n) (slot_of n f) ∙ h.shaped (ap is_some none)
 
-filled_worse : (m : Known) (v : Tree) (f : Shown) (b : Bool) → same TypeName m ≡ b → (m ≡ Coordinates → f.shapes ≡ no_shapes) → Worse f (filled m v f)
+filled_worse : (m : Known) (v : Tree) (f : MemberSlots) (b : Bool) → same TypeName m ≡ b → (m ≡ Coordinates → f.shapes ≡ no_shapes) → Worse f (filled m v f)
 filled_worse TypeName v f b e c = typed_worse (place_of v) (type_of v) f
 filled_worse Coordinates v f b e c = (grows_shapes (asked f.type_value (shapes_of v)) f (c refl)).worse
 filled_worse Geometries v f b e c = (grows_joined Geometries (least (judge Geometries v)) f).worse
@@ -136,7 +136,7 @@ type_goes : (o x : Option TypeValue) → TypeStays o x → TypeGrows o x
 type_goes None x h = tt
 type_goes (Some value) x h = h
 
-lost_member : (before : List Known) (name : List ℕ) (place end : ℕ) (v : Tree) (f : Shown) → Shows before f → Keeps (is_lost f) (is_lost (member_taken place (known_of name) v f))
+lost_member : (before : List Known) (name : List ℕ) (place end : ℕ) (v : Tree) (f : MemberSlots) → Shows before f → Keeps (is_lost f) (is_lost (member_taken place (known_of name) v f))
 lost_member before name place end v f h =
     let n : Known = known_of name in
     let worse = worse_twice f (named n place f) (member_taken place n v f)
@@ -145,7 +145,7 @@ lost_member before name place end v f h =
     lost_worse f (member_taken place n v f) worse
     (type_goes f.type_value (member_taken place n v f).type_value (stays_after (member place name end v end_of_object) f h.typed))
 
-pub lost_members : (ms : Members) (before : List Known) (f : Shown) → Shows before f → Keeps (is_lost f) (is_lost (members_taken ms f))
+pub lost_members : (ms : Members) (before : List Known) (f : MemberSlots) → Shows before f → Keeps (is_lost f) (is_lost (members_taken ms f))
 lost_members end_of_object before f h = λ e. e
 lost_members (member place name end v more) before f h = λ e.
     lost_members more (known_of name ∷ before) (member_taken place (known_of name) v f) (shows_more before name place end v f h) (lost_member before name place end v f h e)
@@ -153,7 +153,7 @@ lost_members (member place name end v more) before f h = λ e.
 -- ---- what some events have shown
 
 -- behind the members of the names `before`, with which the object f was shown, and these events of members it is g
-pub record Here (before : List Known) (f g : Shown) (shown : List What) : Type 0 where
+pub record Here (before : List Known) (f g : MemberSlots) (shown : List What) : Type 0 where
   pub repeated : is_some g.repeated ≡ (is_some f.repeated || repeats before (names shown))
   pub type_word : word_in g.type_value ≡ or_word (word_in f.type_value) (first_type shown)
   pub slots : (n : Known) → is_known n ≡ true → is_some (slot_of n g) ≡ (mentions before n || mentions (names shown) n)
@@ -166,7 +166,7 @@ or_false : (b : Bool) → b ≡ (b || false)
 or_false true = refl
 or_false false = refl
 
-here_start : (before : List Known) (f : Shown) → Shows before f → Here before f f []
+here_start : (before : List Known) (f : MemberSlots) → Shows before f → Here before f f []
 here_start before f h = record {
   repeated = or_false (is_some f.repeated);
   type_word = or_none (word_in f.type_value);
@@ -182,7 +182,7 @@ again_is (Some x) true true place = lesser_first (Some x) (least (again true tru
 again_is (Some x) true false place = refl
 again_is (Some x) false m place = refl
 
-repeated_one : (before : List Known) (name : List ℕ) (place end : ℕ) (v : Tree) (f : Shown) → Mentions before f
+repeated_one : (before : List Known) (name : List ℕ) (place end : ℕ) (v : Tree) (f : MemberSlots) → Mentions before f
     → is_some (member_taken place (known_of name) v f).repeated ≡ (is_some f.repeated || (is_known (known_of name) && mentions before (known_of name)))
 repeated_one before name place end v f m =
     ap is_some (repeated_after (member place name end v end_of_object) before f m) ∙ again_is f.repeated (is_known (known_of name)) (mentions before (known_of name)) place
@@ -196,7 +196,7 @@ word_one None None true v e = refl
 word_one None None false v e = refl
 
 -- the word of the first type behind one member more
-word_more : (name : List ℕ) (place end : ℕ) (v : Tree) (f : Shown) → is_some f.type_value ≡ is_some f.type_name
+word_more : (name : List ℕ) (place end : ℕ) (v : Tree) (f : MemberSlots) → is_some f.type_value ≡ is_some f.type_name
     → word_in (member_taken place (known_of name) v f).type_value ≡ or_word (word_in f.type_value) (typed_by (same TypeName (known_of name)) v)
 word_more name place end v f e = ap word_in (type_one name place end v f) ∙ word_one f.type_name f.type_value (same TypeName (known_of name)) v e
 
@@ -214,7 +214,7 @@ mentions_first true false r = refl
 mentions_first false m r = refl
 
 -- behind a whole member
-here_more : (before : List Known) (name : List ℕ) (place end : ℕ) (v : Tree) (f g : Shown) (shown : List What) → Shows before f
+here_more : (before : List Known) (name : List ℕ) (place end : ℕ) (v : Tree) (f g : MemberSlots) (shown : List What) → Shows before f
     → Here (known_of name ∷ before) (member_taken place (known_of name) v f) g shown → Here before f g (W.Name (known_of name) ∷ (first_what v ∷ shown))
 here_more before name place end v f g shown h more =
     let n : Known = known_of name in record {
@@ -233,7 +233,7 @@ here_more before name place end v f g shown h more =
     }
 
 -- inside a member: g shows the names that the whole member shows
-here_inside : (before : List Known) (name : List ℕ) (place end : ℕ) (v : Tree) (f g : Shown) (shown : List What) → Shows before f → names shown ≡ []
+here_inside : (before : List Known) (name : List ℕ) (place end : ℕ) (v : Tree) (f g : MemberSlots) (shown : List What) → Shows before f → names shown ≡ []
     → g.repeated ≡ (member_taken place (known_of name) v f).repeated
     → ((n : Known) → is_some (slot_of n (member_taken place (known_of name) v f)) ≡ is_some (slot_of n g))
     → word_in g.type_value ≡ or_word (word_in f.type_value) (first_type (W.Name (known_of name) ∷ shown))
@@ -256,7 +256,7 @@ here_inside before name place end v f g shown h none a b c =
 -- ---- from event to event
 
 -- the state behind some events of members, of which all come to h
-pub record Cut (before : List Known) (f h : Shown) (a : Found) (shown : List What) (s : State) : Type 0 where
+pub record Cut (before : List Known) (f h : MemberSlots) (a : Findings) (shown : List What) (s : State) : Type 0 where
   pub here : Here before f (root s) shown
   pub onward : Keeps (is_lost (root s)) (is_lost h)
   pub still : s.core.answer ≡ a
@@ -274,21 +274,21 @@ split (x ∷ xs) ys (z ∷ zs) rest e =
     ]
 
 -- no value is due as that of another `type`
-type_due : (n m : Known) (f : Shown) → due_after n f ≡ m → is_known m ≡ true → (n ≡ m) × (slot_of n f ≡ None)
+type_due : (n m : Known) (f : MemberSlots) → due_after n f ≡ m → is_known m ≡ true → (n ≡ m) × (slot_of n f ≡ None)
 type_due n m f e k = due_from n m f.role (is_known n) (uses f.role n) (slot_of n f) refl e k
 
-root_uses : (f : Shown) (n : Known) → f.role ≡ Role.Root → uses f.role n ≡ true
+root_uses : (f : MemberSlots) (n : Known) → f.role ≡ Role.Root → uses f.role n ≡ true
 root_uses f n e = ap (λ (r : Role). uses r n) e
 
 -- the name is `type`, and the value is not due
-not_due : (f : Shown) (t : Option Slot) (o : Option TypeValue) → f.role ≡ Role.Root → f.type_name ≡ t → is_some o ≡ is_some t → (due_after TypeName f ≡ TypeName → ⊥) → (x y : Option Word) → or_word (word_in o) x ≡ or_word (word_in o) y
+not_due : (f : MemberSlots) (t : Option Slot) (o : Option TypeValue) → f.role ≡ Role.Root → f.type_name ≡ t → is_some o ≡ is_some t → (due_after TypeName f ≡ TypeName → ⊥) → (x y : Option Word) → or_word (word_in o) x ≡ or_word (word_in o) y
 not_due f (Some slot) (Some value) r e k d x y = refl
 not_due f (Some slot) None r e k d x y = cc
 not_due f None (Some value) r e k d x y = cc
 not_due f None None r e k d x y =
     absurd (d (rw e (subst (λ (u : Bool). (if u then TypeName else Other) ≡ TypeName) (sym (root_uses f TypeName r)) refl)))
 
-other_word : (f : Shown) (n : Known) (v : Tree) (x : Option Word) (b : Bool) → same TypeName n ≡ b → f.role ≡ Role.Root → is_some f.type_value ≡ is_some f.type_name → (due_after n f ≡ TypeName → ⊥)
+other_word : (f : MemberSlots) (n : Known) (v : Tree) (x : Option Word) (b : Bool) → same TypeName n ≡ b → f.role ≡ Role.Root → is_some f.type_value ≡ is_some f.type_name → (due_after n f ≡ TypeName → ⊥)
     → (b ≡ false → x ≡ None) → or_word (word_in f.type_value) (typed_by b v) ≡ or_word (word_in f.type_value) x
 other_word f n v x false e r k d h = ap (λ o. or_word (word_in f.type_value) o) (sym (h refl))
 other_word f n v x true e r k d h =
@@ -310,33 +310,33 @@ no_type n v (x ∷ d) more y e f =
 no_type_due : (due : Known) → same TypeName due ≡ false → due ≡ TypeName → ⊥
 no_type_due due e f = let g : same TypeName due ≡ same TypeName TypeName = ap (λ (m : Known). same TypeName m) f in cc
 
-inside_value : (before : List Known) (name : List ℕ) (place end : ℕ) (v : Tree) (f : Frame) (a : Found) (done more : List Told) (y : Told) → Shows before f.shown → told v ≡ done ++ y ∷ more
-    → same TypeName (due_after (known_of name) f.shown) ≡ false
-    → Cut before f.shown (member_taken place (known_of name) v f.shown) a (W.Name (known_of name) ∷ own 1 done) (run done (due_st (due_after (known_of name) f.shown) v (F.named (known_of name) place f) [] a))
+inside_value : (before : List Known) (name : List ℕ) (place end : ℕ) (v : Tree) (f : Frame) (a : Findings) (done more : List Told) (y : Told) → Shows before f.slots → told v ≡ done ++ y ∷ more
+    → same TypeName (due_after (known_of name) f.slots) ≡ false
+    → Cut before f.slots (member_taken place (known_of name) v f.slots) a (W.Name (known_of name) ∷ own 1 done) (run done (due_st (due_after (known_of name) f.slots) v (F.named (known_of name) place f) [] a))
 inside_value before name place end v f a done more y h e t =
     let n : Known = known_of name in
-    let due : Known = due_after n f.shown in
-    let f1 : Shown = named n place f.shown in
-    let f2 : Shown = member_taken place n v f.shown in
-    let g1 : Grows f1 f2 = filled_grows due v f1 (no_type_due due t) (due_shapes before n place f.shown h) in
+    let due : Known = due_after n f.slots in
+    let f1 : MemberSlots = named n place f.slots in
+    let f2 : MemberSlots = member_taken place n v f.slots in
+    let g1 : Grows f1 f2 = filled_grows due v f1 (no_type_due due t) (due_shapes before n place f.slots h) in
     let whole = on_due v due (F.named n place f) [] a f1 f2 (record { lo = grows_same f1; hi = g1 }) (record { lo = g1; hi = grows_same f2 }) in
     let s : State = due_st due v (F.named n place f) [] a in
     let at = thru_at f1 f2 a done y more s _ (subst (λ (ts : List Told). Thru f1 f2 a ts s (st 0 Names (F.filled due v (F.named n place f)) [] a)) e whole) in
-    let g : Shown = root (run done s) in
+    let g : MemberSlots = root (run done s) in
     let hi : Grows g f2 = at.0.hi in record {
-      here = here_inside before name place end v f.shown g (own 1 done) h (names_part v done more y e) (sym hi.repeated) hi.slots
-          (ap word_in (sym hi.type_value) ∙ (word_more name place end v f.shown h.typed
-          ∙ other_word f.shown n v (first_type (W.Name n ∷ own 1 done)) (same TypeName n) refl h.role h.typed (no_type_due due t) (no_type n v done more y e)));
+      here = here_inside before name place end v f.slots g (own 1 done) h (names_part v done more y e) (sym hi.repeated) hi.slots
+          (ap word_in (sym hi.type_value) ∙ (word_more name place end v f.slots h.typed
+          ∙ other_word f.slots n v (first_type (W.Name n ∷ own 1 done)) (same TypeName n) refl h.role h.typed (no_type_due due t) (no_type n v done more y e)));
       onward = lost_worse g f2 hi.worse (type_same g.type_value f2.type_value hi.type_value);
       still = at.1;
     }
 
 -- behind the first event of the value of `type`
-abbrev After : Shown → Found → List Told → State → State → Type 0
+abbrev After : MemberSlots → Findings → List Told → State → State → Type 0
 After f a [] s t = ⊥
 After f a (x ∷ xs) s t = Thru f f a xs (step x s) t
 
-after_type : (v : Tree) (f : Frame) (a : Found) → After (type_set (place_of v) (type_of v) f.shown) a (told v) (due_st TypeName v f [] a) (st 0 Names (F.filled TypeName v f) [] a)
+after_type : (v : Tree) (f : Frame) (a : Findings) → After (type_set (place_of v) (type_of v) f.slots) a (told v) (due_st TypeName v f [] a) (st 0 Names (F.filled TypeName v f) [] a)
 after_type (constant Null place) f a = refl
 after_type (constant True place) f a = refl
 after_type (constant False place) f a = refl
@@ -344,23 +344,23 @@ after_type (number place literal end) f a = refl
 after_type (string place content end) f a = refl
 after_type (array place es close) f a =
     let g : Frame = F.filled TypeName (array place es close) f in
-    array_rest es close Names g [] a g.shown g.shown (record { lo = grows_same g.shown; hi = grows_same g.shown })
+    array_rest es close Names g [] a g.slots g.slots (record { lo = grows_same g.slots; hi = grows_same g.slots })
 after_type (object place ms close) f a =
     let g : Frame = F.filled TypeName (object place ms close) f in
-    object_rest ms close Names g [] a g.shown g.shown (record { lo = grows_same g.shown; hi = grows_same g.shown })
+    object_rest ms close Names g [] a g.slots g.slots (record { lo = grows_same g.slots; hi = grows_same g.slots })
 
-after_run : (f : Shown) (a : Found) (xs : List Told) (s t : State) → After f a xs s t → run xs s ≡ t
+after_run : (f : MemberSlots) (a : Findings) (xs : List Told) (s t : State) → After f a xs s t → run xs s ≡ t
 after_run f a [] s t h = absurd h
 after_run f a (x ∷ xs) s t h = thru_run f f a xs (step x s) t h
 
-kept_typed : (n : Known) (place : ℕ) (f : Shown) (k : Bool) (o : Option Slot) → (if k then named_known n place o f else f).type_value ≡ f.type_value
+kept_typed : (n : Known) (place : ℕ) (f : MemberSlots) (k : Bool) (o : Option Slot) → (if k then named_known n place o f else f).type_value ≡ f.type_value
 kept_typed n place f false o = refl
 kept_typed n place f true (Some slot) = refl
 kept_typed TypeName place f true None = refl
 kept_typed _ place f true None = refl
 
 -- no type was there
-unset : (n : Known) (f : Shown) → is_some f.type_value ≡ is_some f.type_name → due_after n f ≡ TypeName → f.type_value ≡ None
+unset : (n : Known) (f : MemberSlots) → is_some f.type_value ≡ is_some f.type_name → due_after n f ≡ TypeName → f.type_value ≡ None
 unset n f k e = go f.type_value (k ∙ ap is_some none)
   where
     d : (n ≡ TypeName) × (slot_of n f ≡ None)
@@ -373,82 +373,82 @@ unset n f k e = go f.type_value (k ∙ ap is_some none)
     go None g = refl
     go (Some value) g = cc
 
-inside_type : (before : List Known) (name : List ℕ) (place end : ℕ) (v : Tree) (f : Frame) (a : Found) (done more : List Told) (y : Told) → Shows before f.shown → told v ≡ done ++ y ∷ more
-    → due_after (known_of name) f.shown ≡ TypeName
-    → Cut before f.shown (member_taken place (known_of name) v f.shown) a (W.Name (known_of name) ∷ own 1 done) (run done (due_st TypeName v (F.named (known_of name) place f) [] a))
+inside_type : (before : List Known) (name : List ℕ) (place end : ℕ) (v : Tree) (f : Frame) (a : Findings) (done more : List Told) (y : Told) → Shows before f.slots → told v ≡ done ++ y ∷ more
+    → due_after (known_of name) f.slots ≡ TypeName
+    → Cut before f.slots (member_taken place (known_of name) v f.slots) a (W.Name (known_of name) ∷ own 1 done) (run done (due_st TypeName v (F.named (known_of name) place f) [] a))
 inside_type before name place end v f a [] more y h e t =
     let n : Known = known_of name in
-    let f1 : Shown = named n place f.shown in
-    let f2 : Shown = type_set (place_of v) (type_of v) f1 in
-    let is : member_taken place n v f.shown ≡ f2 = ap (λ (m : Known). filled m v f1) t in
-    let none : f1.type_value ≡ None = kept_typed n place f.shown (is_known n) (slot_of n f.shown) ∙ unset n f.shown h.typed t in record {
-      here = here_inside before name place end v f.shown f1 [] h refl
-          (ap (λ (g : Shown). g.repeated) (sym is))
-          (λ q. ap (λ (g : Shown). is_some (slot_of q g)) is ∙ ap is_some (slot_typed q (place_of v) (type_of v) f1))
-          (ap word_in (kept_typed n place f.shown (is_known n) (slot_of n f.shown)) ∙ (or_none (word_in f.shown.type_value) ∙ ap (λ o. or_word (word_in f.shown.type_value) o) (sym (first_type_name n))));
-      onward = subst (λ (g : Shown). Keeps (is_lost f1) (is_lost g)) (sym is)
+    let f1 : MemberSlots = named n place f.slots in
+    let f2 : MemberSlots = type_set (place_of v) (type_of v) f1 in
+    let is : member_taken place n v f.slots ≡ f2 = ap (λ (m : Known). filled m v f1) t in
+    let none : f1.type_value ≡ None = kept_typed n place f.slots (is_known n) (slot_of n f.slots) ∙ unset n f.slots h.typed t in record {
+      here = here_inside before name place end v f.slots f1 [] h refl
+          (ap (λ (g : MemberSlots). g.repeated) (sym is))
+          (λ q. ap (λ (g : MemberSlots). is_some (slot_of q g)) is ∙ ap is_some (slot_typed q (place_of v) (type_of v) f1))
+          (ap word_in (kept_typed n place f.slots (is_known n) (slot_of n f.slots)) ∙ (or_none (word_in f.slots.type_value) ∙ ap (λ o. or_word (word_in f.slots.type_value) o) (sym (first_type_name n))));
+      onward = subst (λ (g : MemberSlots). Keeps (is_lost f1) (is_lost g)) (sym is)
           (lost_worse f1 f2 (typed_worse (place_of v) (type_of v) f1) (subst (λ (o : Option TypeValue). TypeGrows o f2.type_value) (sym none) tt));
       still = refl;
     }
 inside_type before name place end v f a (x ∷ d) more y h e t =
     let n : Known = known_of name in
-    let f1 : Shown = named n place f.shown in
-    let f2 : Shown = type_set (place_of v) (type_of v) f1 in
-    let is : member_taken place n v f.shown ≡ f2 = ap (λ (m : Known). filled m v f1) t in
+    let f1 : MemberSlots = named n place f.slots in
+    let f2 : MemberSlots = type_set (place_of v) (type_of v) f1 in
+    let is : member_taken place n v f.slots ≡ f2 = ap (λ (m : Known). filled m v f1) t in
     let s : State = due_st TypeName v (F.named n place f) [] a in
     let end_state : State = st 0 Names (F.filled TypeName v (F.named n place f)) [] a in
     let at = thru_at f2 f2 a d y more (step x s) end_state (subst (λ (ts : List Told). After f2 a ts s end_state) e (after_type v (F.named n place f) a)) in
-    let g : Shown = root (run d (step x s)) in
-    let hi : Grows g (member_taken place n v f.shown) = subst (λ (z : Shown). Grows g z) (sym is) at.0.hi in record {
-      here = here_inside before name place end v f.shown g (own 1 (x ∷ d)) h (names_part v (x ∷ d) more y e) (sym hi.repeated) hi.slots
-          (ap word_in (sym hi.type_value) ∙ (word_more name place end v f.shown h.typed
-          ∙ ap (λ o. or_word (word_in f.shown.type_value) o) (or_none (typed_by (same TypeName n) v)
+    let g : MemberSlots = root (run d (step x s)) in
+    let hi : Grows g (member_taken place n v f.slots) = subst (λ (z : MemberSlots). Grows g z) (sym is) at.0.hi in record {
+      here = here_inside before name place end v f.slots g (own 1 (x ∷ d)) h (names_part v (x ∷ d) more y e) (sym hi.repeated) hi.slots
+          (ap word_in (sym hi.type_value) ∙ (word_more name place end v f.slots h.typed
+          ∙ ap (λ o. or_word (word_in f.slots.type_value) o) (or_none (typed_by (same TypeName n) v)
           ∙ (sym (first_type_member n v []) ∙ ap (λ (ws : List What). first_type (W.Name n ∷ ws)) (sym (own_part v x d (y ∷ more) e))))));
-      onward = lost_worse g (member_taken place n v f.shown) hi.worse (type_same g.type_value (member_taken place n v f.shown).type_value hi.type_value);
+      onward = lost_worse g (member_taken place n v f.slots) hi.worse (type_same g.type_value (member_taken place n v f.slots).type_value hi.type_value);
       still = at.1;
     }
 
-inside : (before : List Known) (name : List ℕ) (place end : ℕ) (v : Tree) (f : Frame) (a : Found) (done more : List Told) (y : Told) → Shows before f.shown → told v ≡ done ++ y ∷ more
-    → Cut before f.shown (member_taken place (known_of name) v f.shown) a (W.Name (known_of name) ∷ own 1 done) (run done (due_st (due_after (known_of name) f.shown) v (F.named (known_of name) place f) [] a))
-inside before name place end v f a done more y h e = go (same TypeName (due_after (known_of name) f.shown)) refl
+inside : (before : List Known) (name : List ℕ) (place end : ℕ) (v : Tree) (f : Frame) (a : Findings) (done more : List Told) (y : Told) → Shows before f.slots → told v ≡ done ++ y ∷ more
+    → Cut before f.slots (member_taken place (known_of name) v f.slots) a (W.Name (known_of name) ∷ own 1 done) (run done (due_st (due_after (known_of name) f.slots) v (F.named (known_of name) place f) [] a))
+inside before name place end v f a done more y h e = go (same TypeName (due_after (known_of name) f.slots)) refl
   where
-    go : (b : Bool) → same TypeName (due_after (known_of name) f.shown) ≡ b
-        → Cut before f.shown (member_taken place (known_of name) v f.shown) a (W.Name (known_of name) ∷ own 1 done) (run done (due_st (due_after (known_of name) f.shown) v (F.named (known_of name) place f) [] a))
+    go : (b : Bool) → same TypeName (due_after (known_of name) f.slots) ≡ b
+        → Cut before f.slots (member_taken place (known_of name) v f.slots) a (W.Name (known_of name) ∷ own 1 done) (run done (due_st (due_after (known_of name) f.slots) v (F.named (known_of name) place f) [] a))
     go false t = inside_value before name place end v f a done more y h e t
     go true t =
-        let is : TypeName ≡ due_after (known_of name) f.shown = same_is TypeName (due_after (known_of name) f.shown) t in
-        subst (λ (m : Known). Cut before f.shown (member_taken place (known_of name) v f.shown) a (W.Name (known_of name) ∷ own 1 done) (run done (due_st m v (F.named (known_of name) place f) [] a))) is
+        let is : TypeName ≡ due_after (known_of name) f.slots = same_is TypeName (due_after (known_of name) f.slots) t in
+        subst (λ (m : Known). Cut before f.slots (member_taken place (known_of name) v f.slots) a (W.Name (known_of name) ∷ own 1 done) (run done (due_st m v (F.named (known_of name) place f) [] a))) is
         (inside_type before name place end v f a done more y h e (sym is))
 
 -- ---- a whole value
 
-value_run : (before : List Known) (n : Known) (place : ℕ) (v : Tree) (f : Frame) (a : Found) → Shows before f.shown
-    → run (told v) (due_st (due_after n f.shown) v (F.named n place f) [] a) ≡ st 0 Names (F.member_taken place n v f) [] a
-value_run before n place v f a h = go (due_after n f.shown) (same TypeName (due_after n f.shown)) refl (due_shapes before n place f.shown h)
+value_run : (before : List Known) (n : Known) (place : ℕ) (v : Tree) (f : Frame) (a : Findings) → Shows before f.slots
+    → run (told v) (due_st (due_after n f.slots) v (F.named n place f) [] a) ≡ st 0 Names (F.member_taken place n v f) [] a
+value_run before n place v f a h = go (due_after n f.slots) (same TypeName (due_after n f.slots)) refl (due_shapes before n place f.slots h)
   where
     f1 : Frame
     f1 = F.named n place f
 
-    go : (due : Known) (b : Bool) → same TypeName due ≡ b → (due ≡ Coordinates → f1.shown.shapes ≡ no_shapes) → run (told v) (due_st due v f1 [] a) ≡ st 0 Names (F.filled due v f1) [] a
+    go : (due : Known) (b : Bool) → same TypeName due ≡ b → (due ≡ Coordinates → f1.slots.shapes ≡ no_shapes) → run (told v) (due_st due v f1 [] a) ≡ st 0 Names (F.filled due v f1) [] a
     go due false t c =
-        let g1 = filled_grows due v f1.shown (no_type_due due t) c in
-        thru_run f1.shown (filled due v f1.shown) a (told v) _ _
-        (on_due v due f1 [] a f1.shown (filled due v f1.shown) (record { lo = grows_same f1.shown; hi = g1 }) (record { lo = g1; hi = grows_same (filled due v f1.shown) }))
+        let g1 = filled_grows due v f1.slots (no_type_due due t) c in
+        thru_run f1.slots (filled due v f1.slots) a (told v) _ _
+        (on_due v due f1 [] a f1.slots (filled due v f1.slots) (record { lo = grows_same f1.slots; hi = g1 }) (record { lo = g1; hi = grows_same (filled due v f1.slots) }))
     go due true t c =
         subst (λ (m : Known). run (told v) (due_st m v f1 [] a) ≡ st 0 Names (F.filled m v f1) [] a) (same_is TypeName due t)
-        (after_run (type_set (place_of v) (type_of v) f1.shown) a (told v) _ _ (after_type v f1 a))
+        (after_run (type_set (place_of v) (type_of v) f1.slots) a (told v) _ _ (after_type v f1 a))
 
 run_both : (xs ys : List Told) (s : State) → run (xs ++ ys) s ≡ run ys (run xs s)
 run_both [] ys s = refl
 run_both (x ∷ xs) ys s = run_both xs ys (step x s)
 
-pub members_run : (ms : Members) (before : List Known) (f : Frame) (a : Found) → Shows before f.shown → run (members_told ms) (st 0 Names f [] a) ≡ st 0 Names (F.members_taken ms f) [] a
+pub members_run : (ms : Members) (before : List Known) (f : Frame) (a : Findings) → Shows before f.slots → run (members_told ms) (st 0 Names f [] a) ≡ st 0 Names (F.members_taken ms f) [] a
 members_run end_of_object before f a h = refl
 members_run (member place name end v more) before f a h =
     let n : Known = known_of name in
-    run_both (told v) (members_told more) (due_st (due_after n f.shown) v (F.named n place f) [] a)
+    run_both (told v) (members_told more) (due_st (due_after n f.slots) v (F.named n place f) [] a)
     ∙ (ap (λ (s : State). run (members_told more) s) (value_run before n place v f a h)
-    ∙ members_run more (n ∷ before) (F.member_taken place n v f) a (shows_more before name place end v f.shown h))
+    ∙ members_run more (n ∷ before) (F.member_taken place n v f) a (shows_more before name place end v f.slots h))
 
 -- ---- the members, up to the object's end
 
@@ -456,43 +456,43 @@ abbrev pub last_of : ℕ → Told
 last_of close = plain (close + 1) close W.CloseObject
 
 pub record End (before : List Known) (f : Frame) (ms : Members) (close : ℕ) (done : List Told) : Type 0 where
-  pub here : Here before f.shown (members_taken ms f.shown) (own 1 done)
+  pub here : Here before f.slots (members_taken ms f.slots) (own 1 done)
   pub whole : done ≡ members_told ms ++ last_of close ∷ []
 
-here_end : (before : List Known) (f : Shown) → Shows before f → Here before f f (W.CloseObject ∷ [])
+here_end : (before : List Known) (f : MemberSlots) → Shows before f → Here before f f (W.CloseObject ∷ [])
 here_end before f h = record {
   repeated = or_false (is_some f.repeated);
   type_word = or_none (word_in f.type_value);
   slots = λ n k. h.mentioned.each n k ∙ or_false (mentions before n);
 }
 
-cut_onward : (before : List Known) (f g h : Shown) (a : Found) (shown : List What) (s : State) → Keeps (is_lost g) (is_lost h) → Cut before f g a shown s → Cut before f h a shown s
+cut_onward : (before : List Known) (f g h : MemberSlots) (a : Findings) (shown : List What) (s : State) → Keeps (is_lost g) (is_lost h) → Cut before f g a shown s → Cut before f h a shown s
 cut_onward before f g h a shown s k c = record { here = c.here; onward = λ e. k (c.onward e); still = c.still }
 
 -- a whole member, and then more
-cut_more : (before : List Known) (name : List ℕ) (place end : ℕ) (v : Tree) (f : Frame) (h : Shown) (a : Found) (later : List Told) → Shows before f.shown
-    → Cut (known_of name ∷ before) (member_taken place (known_of name) v f.shown) h a (own 1 later) (run later (st 0 Names (F.member_taken place (known_of name) v f) [] a))
-    → Cut before f.shown h a (W.Name (known_of name) ∷ own 1 (told v ++ later)) (run (told v ++ later) (due_st (due_after (known_of name) f.shown) v (F.named (known_of name) place f) [] a))
+cut_more : (before : List Known) (name : List ℕ) (place end : ℕ) (v : Tree) (f : Frame) (h : MemberSlots) (a : Findings) (later : List Told) → Shows before f.slots
+    → Cut (known_of name ∷ before) (member_taken place (known_of name) v f.slots) h a (own 1 later) (run later (st 0 Names (F.member_taken place (known_of name) v f) [] a))
+    → Cut before f.slots h a (W.Name (known_of name) ∷ own 1 (told v ++ later)) (run (told v ++ later) (due_st (due_after (known_of name) f.slots) v (F.named (known_of name) place f) [] a))
 cut_more before name place end v f h a later s c =
     let n : Known = known_of name in
     let there : State = run later (st 0 Names (F.member_taken place n v f) [] a) in
-    let comes : run (told v ++ later) (due_st (due_after n f.shown) v (F.named n place f) [] a) ≡ there =
-    run_both (told v) later (due_st (due_after n f.shown) v (F.named n place f) [] a) ∙ ap (λ (z : State). run later z) (value_run before n place v f a s) in
-    let at : Cut before f.shown h a (W.Name n ∷ (first_what v ∷ own 1 later)) there = record {
-      here = here_more before name place end v f.shown (root there) (own 1 later) s c.here;
+    let comes : run (told v ++ later) (due_st (due_after n f.slots) v (F.named n place f) [] a) ≡ there =
+    run_both (told v) later (due_st (due_after n f.slots) v (F.named n place f) [] a) ∙ ap (λ (z : State). run later z) (value_run before n place v f a s) in
+    let at : Cut before f.slots h a (W.Name n ∷ (first_what v ∷ own 1 later)) there = record {
+      here = here_more before name place end v f.slots (root there) (own 1 later) s c.here;
       onward = c.onward;
       still = c.still;
     } in
-    subst (λ (z : State). Cut before f.shown h a (W.Name n ∷ own 1 (told v ++ later)) z) (sym comes)
-    (subst (λ (ws : List What). Cut before f.shown h a (W.Name n ∷ ws) there) (sym (own_value v later)) at)
+    subst (λ (z : State). Cut before f.slots h a (W.Name n ∷ own 1 (told v ++ later)) z) (sym comes)
+    (subst (λ (ws : List What). Cut before f.slots h a (W.Name n ∷ ws) there) (sym (own_value v later)) at)
 
-end_more : (before : List Known) (name : List ℕ) (place end : ℕ) (v : Tree) (more : Members) (f : Frame) (close : ℕ) (later : List Told) → Shows before f.shown
+end_more : (before : List Known) (name : List ℕ) (place end : ℕ) (v : Tree) (more : Members) (f : Frame) (close : ℕ) (later : List Told) → Shows before f.slots
     → End (known_of name ∷ before) (F.member_taken place (known_of name) v f) more close later
     → End before f (member place name end v more) close (Told.named end place (known_of name) v ∷ (told v ++ later))
 end_more before name place end v more f close later s c =
     let n : Known = known_of name in record {
-      here = subst (λ (ws : List What). Here before f.shown (members_taken (member place name end v more) f.shown) (W.Name n ∷ ws)) (sym (own_value v later))
-          (here_more before name place end v f.shown (members_taken (member place name end v more) f.shown) (own 1 later) s c.here);
+      here = subst (λ (ws : List What). Here before f.slots (members_taken (member place name end v more) f.slots) (W.Name n ∷ ws)) (sym (own_value v later))
+          (here_more before name place end v f.slots (members_taken (member place name end v more) f.slots) (own 1 later) s c.here);
       whole = ap (λ (ts : List Told). Told.named end place n v ∷ (told v ++ ts)) c.whole
           ∙ ap (λ (ts : List Told). Told.named end place n v ∷ ts) (sym (append_assoc (told v) (members_told more) (last_of close ∷ [])));
     }
@@ -502,17 +502,17 @@ nothing_more [] ys e = refl
 nothing_more (x ∷ xs) ys e = cc
 
 -- these events are a part of them
-abbrev pub Partly : List Known → Frame → Members → Found → ℕ → List Told → Type 0
-Partly before f ms a close done = Cut before f.shown (members_taken ms f.shown) a (own 1 done) (run done (st 0 Names f [] a)) ⊎ End before f ms close done
+abbrev pub Partly : List Known → Frame → Members → Findings → ℕ → List Told → Type 0
+Partly before f ms a close done = Cut before f.slots (members_taken ms f.slots) a (own 1 done) (run done (st 0 Names f [] a)) ⊎ End before f ms close done
 
-pub members_cut : (ms : Members) (before : List Known) (f : Frame) (a : Found) (close : ℕ) (done rest : List Told) → Shows before f.shown → members_told ms ++ last_of close ∷ [] ≡ done ++ rest
+pub members_cut : (ms : Members) (before : List Known) (f : Frame) (a : Findings) (close : ℕ) (done rest : List Told) → Shows before f.slots → members_told ms ++ last_of close ∷ [] ≡ done ++ rest
     → Partly before f ms a close done
-members_cut ms before f a close [] rest h e = inl (record { here = here_start before f.shown h; onward = lost_members ms before f.shown h; still = refl })
+members_cut ms before f a close [] rest h e = inl (record { here = here_start before f.slots h; onward = lost_members ms before f.slots h; still = refl })
 members_cut end_of_object before f a close (x ∷ d) rest h e =
     let first : last_of close ≡ x = cc in
     let none : d ≡ [] = nothing_more d rest cc in
     let whole : x ∷ d ≡ last_of close ∷ [] = ap (λ (z : Told). z ∷ d) (sym first) ∙ ap (λ (ts : List Told). last_of close ∷ ts) none in
-    subst (λ (ts : List Told). Partly before f end_of_object a close ts) (sym whole) (inr (record { here = here_end before f.shown h; whole = refl }))
+    subst (λ (ts : List Told). Partly before f end_of_object a close ts) (sym whole) (inr (record { here = here_end before f.slots h; whole = refl }))
 members_cut (member place name end v more) before f a close (x ∷ d) rest h e =
     let n : Known = known_of name in
     let first : Told.named end place n v ≡ x = cc in
@@ -521,13 +521,13 @@ members_cut (member place name end v more) before f a close (x ∷ d) rest h e =
     subst (λ (z : Told). Partly before f ms a close (z ∷ d)) first
     (elim (split (told v) (members_told more ++ last_of close ∷ []) d rest (sym (append_assoc (told v) (members_told more) (last_of close ∷ [])) ∙ after)) [
       | inl part ↦
-          inl (cut_onward before f.shown (member_taken place n v f.shown) (members_taken ms f.shown) a (W.Name n ∷ own 1 d) _
-          (lost_members more (n ∷ before) (member_taken place n v f.shown) (shows_more before name place end v f.shown h))
+          inl (cut_onward before f.slots (member_taken place n v f.slots) (members_taken ms f.slots) a (W.Name n ∷ own 1 d) _
+          (lost_members more (n ∷ before) (member_taken place n v f.slots) (shows_more before name place end v f.slots h))
           (inside before name place end v f a d part.1 part.0 h part.2))
       | inr part ↦
           subst (λ (ts : List Told). Partly before f ms a close (Told.named end place n v ∷ ts)) (sym part.1)
-          (elim (members_cut more (n ∷ before) (F.member_taken place n v f) a close part.0 rest (shows_more before name place end v f.shown h) part.2) [
-            | inl c ↦ inl (cut_more before name place end v f (members_taken ms f.shown) a part.0 h c)
+          (elim (members_cut more (n ∷ before) (F.member_taken place n v f) a close part.0 rest (shows_more before name place end v f.slots h) part.2) [
+            | inl c ↦ inl (cut_more before name place end v f (members_taken ms f.slots) a part.0 h c)
             | inr c ↦ inr (end_more before name place end v more f close part.0 h c)
           ])
     ])

@@ -4,11 +4,11 @@ use Rattle.gj_json.specs.declared.names.Known.{Known}
 use Rattle.gj_json.specs.declared.names.Known.TheVariants.{TypeName, Coordinates, Geometries, Geometry, Properties, Features, Bbox, Id, Crs, Other}
 use Rattle.gj_coords.specs.declared.fault.Fault.{Fault}
 use Rattle.gj_rules.specs.declared.role.Role.{Role}
-use Rattle.gj_rules.specs.declared.shown.Slot.{Slot}
-use Rattle.gj_rules.specs.declared.shown.TypeValue.{TypeValue}
-use Rattle.gj_rules.specs.Internal.FrameMeaning.{Shown}
+use Rattle.gj_rules.specs.declared.member_slots.Slot.{Slot}
+use Rattle.gj_rules.specs.declared.member_slots.TypeValue.{TypeValue}
+use Rattle.gj_rules.specs.Internal.FrameMeaning.{MemberSlots}
 use Rattle.gj_coords.specs.Fault.{lesser, least}
-use Rattle.gj_rules.specs.Internal.ShownMembers.{slot_of, with_slot, joined_to, uses, named, named_known, due_known, due_after}
+use Rattle.gj_rules.specs.Internal.OpenMembers.{slot_of, with_slot, joined_to, uses, named, named_known, due_known, due_after}
 use Rattle.gj_rules.specs.Internal.FrameMeaning.{Shapes}
 use Rattle.gj_rules.specs.Internal.Summaries.{shapes_of, asked}
 use Rattle.gj_json.specs.Tree.{Tree, Members, end_of_object, member}
@@ -16,26 +16,26 @@ use Rattle.gj_rules.specs.Faults.{First, first, judge}
 use Rattle.gj_coords.specs.Items.{place_of}
 use Rattle.gj_rules.specs.Members.{is_known, same, type_of, first_type, repeated, again, mentions}
 use Rattle.gj_json.specs.Names.{known_of}
-use Rattle.gj_rules.specs.Internal.ShownMembers.{filled, member_taken, members_taken}
+use Rattle.gj_rules.specs.Internal.OpenMembers.{filled, member_taken, members_taken}
 use Rattle.gj_coords.specs.Internal.LeastLaws.{lesser-none, lesser_assoc, least-append}
 use Rattle.gj_rules.proofs.Objects.AskedShapes.{TypeStays, asked_twice}
 use Rattle.gj_rules.proofs.Objects.OneMember.{same_is, slot-other, slot-own, or_slot, slot_from}
 
 -- ---- what no member changes
 
-pub record IsSameObject (old new : Shown) : Type 0 where
+pub record IsSameObject (old new : MemberSlots) : Type 0 where
   pub place : new.place ≡ old.place
   pub role : new.role ≡ old.role
 
-with_slot_object : (m : Known) (s : Slot) (f : Shown) → IsSameObject f (with_slot m s f)
+with_slot_object : (m : Known) (s : Slot) (f : MemberSlots) → IsSameObject f (with_slot m s f)
 with_slot_object TypeName s f = record { place = refl; role = refl }
 with_slot_object _ s f = record { place = refl; role = refl }
 
-pub joined_object : (m : Known) (x : Option Fault) (o : Option Slot) (f : Shown) → IsSameObject f (joined_to m x o f)
+pub joined_object : (m : Known) (x : Option Fault) (o : Option Slot) (f : MemberSlots) → IsSameObject f (joined_to m x o f)
 joined_object m x None f = record { place = refl; role = refl }
 joined_object m x (Some slot) f = with_slot_object m (record { name_at = slot.name_at; fault = lesser slot.fault x }) f
 
-pub filled_object : (m : Known) (v : Tree) (f : Shown) → IsSameObject f (filled m v f)
+pub filled_object : (m : Known) (v : Tree) (f : MemberSlots) → IsSameObject f (filled m v f)
 filled_object TypeName v f = record { place = refl; role = refl }
 filled_object Other v f = record { place = refl; role = refl }
 filled_object Crs v f = record { place = refl; role = refl }
@@ -47,18 +47,18 @@ filled_object Features v f = joined_object Features (least (judge Features v)) f
 filled_object Bbox v f = joined_object Bbox (least (judge Bbox v)) f.bbox f
 filled_object Id v f = joined_object Id (least (judge Id v)) f.id f
 
-pub named_object : (m : Known) (place : ℕ) (f : Shown) (k : Bool) (o : Option Slot) → IsSameObject f (if k then named_known m place o f else f)
+pub named_object : (m : Known) (place : ℕ) (f : MemberSlots) (k : Bool) (o : Option Slot) → IsSameObject f (if k then named_known m place o f else f)
 named_object m place f true (Some slot) = record { place = refl; role = refl }
 named_object m place f true None = with_slot_object m (record { name_at = place; fault = None }) f
 named_object m place f false o = record { place = refl; role = refl }
 
-pub member_object : (m : Known) (place : ℕ) (v : Tree) (f : Shown) → IsSameObject f (member_taken place m v f)
+pub member_object : (m : Known) (place : ℕ) (v : Tree) (f : MemberSlots) → IsSameObject f (member_taken place m v f)
 member_object m place v f =
     let a = filled_object (due_after m f) v (named m place f) in
     let b = named_object m place f (is_known m) (slot_of m f) in
     record { place = a.place ∙ b.place; role = a.role ∙ b.role }
 
-pub members_object : (ms : Members) (f : Shown) → IsSameObject f (members_taken ms f)
+pub members_object : (ms : Members) (f : MemberSlots) → IsSameObject f (members_taken ms f)
 members_object end_of_object f = record { place = refl; role = refl }
 members_object (member place name end value more) f =
     let a = members_object more (member_taken place (known_of name) value f) in
@@ -71,7 +71,7 @@ or_none : (o : Option Slot) → or_slot o None ≡ o
 or_none None = refl
 or_none (Some s) = refl
 
-slots_step : (n name : Known) (place : ℕ) (value : Tree) (f : Shown) (b : Bool) (rest : Option First) → is_known n ≡ true → same n name ≡ b
+slots_step : (n name : Known) (place : ℕ) (value : Tree) (f : MemberSlots) (b : Bool) (rest : Option First) → is_known n ≡ true → same n name ≡ b
     → or_slot (slot_of n (member_taken place name value f)) (slot_from (uses f.role n) rest) ≡ or_slot (slot_of n f) (slot_from (uses f.role n) (if b then Some (record { name_at = place; value = value; faults = judge n value }) else rest))
 slots_step n name place value f false rest k e = ap (λ o. or_slot o (slot_from (uses f.role n) rest)) (slot-other n name place value f k e)
 slots_step n name place value f true rest k e =
@@ -82,7 +82,7 @@ slots_step n name place value f true rest k e =
     twice None x u rest = refl
     twice (Some s) x u rest = refl
 
-pub slots_after : (n : Known) (ms : Members) (f : Shown) → is_known n ≡ true → slot_of n (members_taken ms f) ≡ or_slot (slot_of n f) (slot_from (uses f.role n) (first n ms))
+pub slots_after : (n : Known) (ms : Members) (f : MemberSlots) → is_known n ≡ true → slot_of n (members_taken ms f) ≡ or_slot (slot_of n f) (slot_from (uses f.role n) (first n ms))
 slots_after n end_of_object f k = sym (or_none (slot_of n f))
 slots_after n (member place name end value more) f k =
     slots_after n more (member_taken place (known_of name) value f) k
@@ -96,15 +96,15 @@ type_from (Some slot) had found = had
 type_from None had None = had
 type_from None had (Some value) = Some value
 
-with_slot_type : (m : Known) (s : Slot) (f : Shown) → (with_slot m s f).type_value ≡ f.type_value
+with_slot_type : (m : Known) (s : Slot) (f : MemberSlots) → (with_slot m s f).type_value ≡ f.type_value
 with_slot_type TypeName s f = refl
 with_slot_type _ s f = refl
 
-joined_type : (m : Known) (x : Option Fault) (o : Option Slot) (f : Shown) → (joined_to m x o f).type_value ≡ f.type_value
+joined_type : (m : Known) (x : Option Fault) (o : Option Slot) (f : MemberSlots) → (joined_to m x o f).type_value ≡ f.type_value
 joined_type m x None f = refl
 joined_type m x (Some slot) f = with_slot_type m (record { name_at = slot.name_at; fault = lesser slot.fault x }) f
 
-filled_type : (m : Known) (v : Tree) (f : Shown) → same TypeName m ≡ false → (filled m v f).type_value ≡ f.type_value
+filled_type : (m : Known) (v : Tree) (f : MemberSlots) → same TypeName m ≡ false → (filled m v f).type_value ≡ f.type_value
 filled_type TypeName v f e = cc
 filled_type Other v f e = refl
 filled_type Crs v f e = refl
@@ -116,18 +116,18 @@ filled_type Features v f e = joined_type Features (least (judge Features v)) f.f
 filled_type Bbox v f e = joined_type Bbox (least (judge Bbox v)) f.bbox f
 filled_type Id v f e = joined_type Id (least (judge Id v)) f.id f
 
-named_type : (m : Known) (place : ℕ) (f : Shown) (k : Bool) (o : Option Slot) → (if k then named_known m place o f else f).type_value ≡ f.type_value
+named_type : (m : Known) (place : ℕ) (f : MemberSlots) (k : Bool) (o : Option Slot) → (if k then named_known m place o f else f).type_value ≡ f.type_value
 named_type m place f true (Some slot) = refl
 named_type m place f true None = with_slot_type m (record { name_at = place; fault = None }) f
 named_type m place f false o = refl
 
-due_no_type : (m : Known) (f : Shown) (k u : Bool) (o : Option Slot) → uses f.role m ≡ u → same TypeName m ≡ false → same TypeName (if k then due_known m o f.role else Other) ≡ false
+due_no_type : (m : Known) (f : MemberSlots) (k u : Bool) (o : Option Slot) → uses f.role m ≡ u → same TypeName m ≡ false → same TypeName (if k then due_known m o f.role else Other) ≡ false
 due_no_type m f true u (Some slot) i e = refl
 due_no_type m f true true None i e = rw i e
 due_no_type m f true false None i e = rw i refl
 due_no_type m f false u o i e = refl
 
-type_other : (m : Known) (place : ℕ) (v : Tree) (f : Shown) → same TypeName m ≡ false → (member_taken place m v f).type_value ≡ f.type_value
+type_other : (m : Known) (place : ℕ) (v : Tree) (f : MemberSlots) → same TypeName m ≡ false → (member_taken place m v f).type_value ≡ f.type_value
 type_other m place v f e = filled_type (due_after m f) v (named m place f) (due_no_type m f (is_known m) (uses f.role m) (slot_of m f) refl e) ∙ named_type m place f (is_known m) (slot_of m f)
 
 uses_type : (p : Role) → uses p TypeName ≡ true
@@ -135,20 +135,20 @@ uses_type Role.Root = refl
 uses_type _ = refl
 
 -- the first `type` sets it
-type_own : (place : ℕ) (v : Tree) (f : Shown) (o : Option Slot) (u : Bool) (more : Option TypeValue) → uses f.role TypeName ≡ true → f.type_name ≡ o
+type_own : (place : ℕ) (v : Tree) (f : MemberSlots) (o : Option Slot) (u : Bool) (more : Option TypeValue) → uses f.role TypeName ≡ true → f.type_name ≡ o
     → type_from (slot_of TypeName (filled (due_known TypeName o f.role) v (named_known TypeName place o f))) (filled (due_known TypeName o f.role) v (named_known TypeName place o f)).type_value more
     ≡ type_from o f.type_value (Some (record { place = place_of v; word = type_of v }))
 type_own place v f (Some slot) u more i e = rw e refl
 type_own place v f None u more i e = rw i refl
 
-type_step : (name : Known) (place : ℕ) (value : Tree) (f : Shown) (b : Bool) (rest : Option TypeValue) → same TypeName name ≡ b
+type_step : (name : Known) (place : ℕ) (value : Tree) (f : MemberSlots) (b : Bool) (rest : Option TypeValue) → same TypeName name ≡ b
     → type_from (slot_of TypeName (member_taken place name value f)) (member_taken place name value f).type_value rest ≡ type_from f.type_name f.type_value (if b then Some (record { place = place_of value; word = type_of value }) else rest)
 type_step name place value f false rest e = rw (slot-other TypeName name place value f refl e, type_other name place value f e) refl
 type_step name place value f true rest e =
     subst (λ m. type_from (slot_of TypeName (member_taken place m value f)) (member_taken place m value f).type_value rest ≡ type_from f.type_name f.type_value (Some (record { place = place_of value; word = type_of value }))) (same_is TypeName name e)
     (type_own place value f f.type_name true rest (uses_type f.role) refl)
 
-pub type_after : (ms : Members) (f : Shown) → (members_taken ms f).type_value ≡ type_from f.type_name f.type_value (first_type ms)
+pub type_after : (ms : Members) (f : MemberSlots) → (members_taken ms f).type_value ≡ type_from f.type_name f.type_value (first_type ms)
 type_after end_of_object f = none f.type_name
   where
     none : (o : Option Slot) → f.type_value ≡ type_from o f.type_value None
@@ -157,7 +157,7 @@ type_after end_of_object f = none f.type_name
 type_after (member place name end value more) f = type_after more (member_taken place (known_of name) value f) ∙ type_step (known_of name) place value f (same TypeName (known_of name)) (first_type more) refl
 
 -- the first type stays, where it has come with its name
-abbrev pub IsTyped : Shown → Type 0
+abbrev pub IsTyped : MemberSlots → Type 0
 IsTyped f = is_some f.type_value ≡ is_some f.type_name
 
 type_stays : (t : Option Slot) (o x : Option TypeValue) → is_some o ≡ is_some t → TypeStays o (type_from t o x)
@@ -165,7 +165,7 @@ type_stays t None x e = tt
 type_stays (Some slot) (Some value) x e = refl
 type_stays None (Some value) x e = cc
 
-pub stays_after : (ms : Members) (f : Shown) → IsTyped f → TypeStays f.type_value (members_taken ms f).type_value
+pub stays_after : (ms : Members) (f : MemberSlots) → IsTyped f → TypeStays f.type_value (members_taken ms f).type_value
 stays_after ms f h = subst (λ (o : Option TypeValue). TypeStays f.type_value o) (sym (type_after ms f)) (type_stays f.type_name f.type_value (first_type ms) h)
 
 typed_is : (t : Option Slot) (o : Option TypeValue) (b : Bool) (x : TypeValue) (y : First) → is_some o ≡ is_some t
@@ -175,7 +175,7 @@ typed_is (Some slot) o false x y e = e
 typed_is None o true x y e = refl
 typed_is None o false x y e = e
 
-pub typed_after : (place end : ℕ) (name : List ℕ) (value : Tree) (f : Shown) → IsTyped f → IsTyped (member_taken place (known_of name) value f)
+pub typed_after : (place end : ℕ) (name : List ℕ) (value : Tree) (f : MemberSlots) → IsTyped f → IsTyped (member_taken place (known_of name) value f)
 typed_after place end name value f h =
     let x : TypeValue = record { place = place_of value; word = type_of value } in
     let y : First = record { name_at = place; value = value; faults = judge TypeName value } in
@@ -193,15 +193,15 @@ shapes_from used (Some slot) known had found = had
 shapes_from used None known had None = had
 shapes_from used None known had (Some first) = if used then asked known (shapes_of first.value) else had
 
-with_slot_shapes : (m : Known) (s : Slot) (f : Shown) → (with_slot m s f).shapes ≡ f.shapes
+with_slot_shapes : (m : Known) (s : Slot) (f : MemberSlots) → (with_slot m s f).shapes ≡ f.shapes
 with_slot_shapes TypeName s f = refl
 with_slot_shapes _ s f = refl
 
-joined_shapes : (m : Known) (x : Option Fault) (o : Option Slot) (f : Shown) → (joined_to m x o f).shapes ≡ f.shapes
+joined_shapes : (m : Known) (x : Option Fault) (o : Option Slot) (f : MemberSlots) → (joined_to m x o f).shapes ≡ f.shapes
 joined_shapes m x None f = refl
 joined_shapes m x (Some slot) f = with_slot_shapes m (record { name_at = slot.name_at; fault = lesser slot.fault x }) f
 
-filled_shapes : (m : Known) (v : Tree) (f : Shown) → same Coordinates m ≡ false → (filled m v f).shapes ≡ f.shapes
+filled_shapes : (m : Known) (v : Tree) (f : MemberSlots) → same Coordinates m ≡ false → (filled m v f).shapes ≡ f.shapes
 filled_shapes Coordinates v f e = cc
 filled_shapes TypeName v f e = refl
 filled_shapes Other v f e = refl
@@ -213,21 +213,21 @@ filled_shapes Features v f e = joined_shapes Features (least (judge Features v))
 filled_shapes Bbox v f e = joined_shapes Bbox (least (judge Bbox v)) f.bbox f
 filled_shapes Id v f e = joined_shapes Id (least (judge Id v)) f.id f
 
-named_shapes : (m : Known) (place : ℕ) (f : Shown) (k : Bool) (o : Option Slot) → (if k then named_known m place o f else f).shapes ≡ f.shapes
+named_shapes : (m : Known) (place : ℕ) (f : MemberSlots) (k : Bool) (o : Option Slot) → (if k then named_known m place o f else f).shapes ≡ f.shapes
 named_shapes m place f true (Some slot) = refl
 named_shapes m place f true None = with_slot_shapes m (record { name_at = place; fault = None }) f
 named_shapes m place f false o = refl
 
-due_no_shapes : (m : Known) (f : Shown) (k u : Bool) (o : Option Slot) → uses f.role m ≡ u → same Coordinates m ≡ false → same Coordinates (if k then due_known m o f.role else Other) ≡ false
+due_no_shapes : (m : Known) (f : MemberSlots) (k u : Bool) (o : Option Slot) → uses f.role m ≡ u → same Coordinates m ≡ false → same Coordinates (if k then due_known m o f.role else Other) ≡ false
 due_no_shapes m f true u (Some slot) i e = refl
 due_no_shapes m f true true None i e = rw i e
 due_no_shapes m f true false None i e = rw i refl
 due_no_shapes m f false u o i e = refl
 
-shapes_other : (m : Known) (place : ℕ) (v : Tree) (f : Shown) → same Coordinates m ≡ false → (member_taken place m v f).shapes ≡ f.shapes
+shapes_other : (m : Known) (place : ℕ) (v : Tree) (f : MemberSlots) → same Coordinates m ≡ false → (member_taken place m v f).shapes ≡ f.shapes
 shapes_other m place v f e = filled_shapes (due_after m f) v (named m place f) (due_no_shapes m f (is_known m) (uses f.role m) (slot_of m f) refl e) ∙ named_shapes m place f (is_known m) (slot_of m f)
 
-shapes_own : (place : ℕ) (v : Tree) (f : Shown) (o : Option Slot) (u : Bool) → uses f.role Coordinates ≡ u → f.coordinates ≡ o
+shapes_own : (place : ℕ) (v : Tree) (f : MemberSlots) (o : Option Slot) (u : Bool) → uses f.role Coordinates ≡ u → f.coordinates ≡ o
     → (filled (due_known Coordinates o f.role) v (named_known Coordinates place o f)).shapes
     ≡ shapes_from u o f.type_value f.shapes (Some (record { name_at = place; value = v; faults = judge Coordinates v }))
 shapes_own place v f (Some slot) u i e = refl
@@ -239,7 +239,7 @@ none_found None u known had = refl
 none_found (Some s) u known had = refl
 
 -- after one member
-pub shapes_one : (name : Known) (place : ℕ) (value : Tree) (f : Shown) (b : Bool) → same Coordinates name ≡ b
+pub shapes_one : (name : Known) (place : ℕ) (value : Tree) (f : MemberSlots) (b : Bool) → same Coordinates name ≡ b
     → (member_taken place name value f).shapes
     ≡ shapes_from (uses f.role Coordinates) f.coordinates f.type_value f.shapes (if b then Some (record { name_at = place; value = value; faults = judge Coordinates value }) else None)
 shapes_one name place value f false e = shapes_other name place value f e ∙ none_found f.coordinates (uses f.role Coordinates) f.type_value f.shapes
@@ -258,13 +258,13 @@ asked_step t known false true None had x rest h = refl
 asked_step t known u false (Some slot) had x rest h = refl
 asked_step t known u false None had x rest h = refl
 
-pub shapes_after : (ms : Members) (f : Shown) → IsTyped f
+pub shapes_after : (ms : Members) (f : MemberSlots) → IsTyped f
     → asked (members_taken ms f).type_value (members_taken ms f).shapes
     ≡ asked (members_taken ms f).type_value (shapes_from (uses f.role Coordinates) f.coordinates None f.shapes (first Coordinates ms))
 shapes_after end_of_object f h = ap (asked f.type_value) (none_found f.coordinates (uses f.role Coordinates) None f.shapes)
 shapes_after (member place name end value more) f h =
     let m : Known = known_of name in
-    let g : Shown = member_taken place m value f in
+    let g : MemberSlots = member_taken place m value f in
     let t : Option TypeValue = (members_taken more g).type_value in
     let u : Bool = uses f.role Coordinates in
     let x : First = record { name_at = place; value = value; faults = judge Coordinates value } in
@@ -277,15 +277,15 @@ shapes_after (member place name end value more) f h =
 
 -- ---- repeated names
 
-with_slot_repeated : (m : Known) (s : Slot) (f : Shown) → (with_slot m s f).repeated ≡ f.repeated
+with_slot_repeated : (m : Known) (s : Slot) (f : MemberSlots) → (with_slot m s f).repeated ≡ f.repeated
 with_slot_repeated TypeName s f = refl
 with_slot_repeated _ s f = refl
 
-joined_repeated : (m : Known) (x : Option Fault) (o : Option Slot) (f : Shown) → (joined_to m x o f).repeated ≡ f.repeated
+joined_repeated : (m : Known) (x : Option Fault) (o : Option Slot) (f : MemberSlots) → (joined_to m x o f).repeated ≡ f.repeated
 joined_repeated m x None f = refl
 joined_repeated m x (Some slot) f = with_slot_repeated m (record { name_at = slot.name_at; fault = lesser slot.fault x }) f
 
-filled_repeated : (m : Known) (v : Tree) (f : Shown) → (filled m v f).repeated ≡ f.repeated
+filled_repeated : (m : Known) (v : Tree) (f : MemberSlots) → (filled m v f).repeated ≡ f.repeated
 filled_repeated TypeName v f = refl
 filled_repeated Other v f = refl
 filled_repeated Crs v f = refl
@@ -297,20 +297,20 @@ filled_repeated Features v f = joined_repeated Features (least (judge Features v
 filled_repeated Bbox v f = joined_repeated Bbox (least (judge Bbox v)) f.bbox f
 filled_repeated Id v f = joined_repeated Id (least (judge Id v)) f.id f
 
-named_repeated : (m : Known) (place : ℕ) (f : Shown) (k : Bool) (o : Option Slot) → (if k then named_known m place o f else f).repeated ≡ lesser f.repeated (least (again k (is_some o) place))
+named_repeated : (m : Known) (place : ℕ) (f : MemberSlots) (k : Bool) (o : Option Slot) → (if k then named_known m place o f else f).repeated ≡ lesser f.repeated (least (again k (is_some o) place))
 named_repeated m place f true (Some slot) = refl
 named_repeated m place f true None = with_slot_repeated m (record { name_at = place; fault = None }) f ∙ sym (lesser-none f.repeated)
 named_repeated m place f false o = sym (lesser-none f.repeated)
 
 -- the names of the slots that are set
-pub record Mentions (before : List Known) (f : Shown) : Type 0 where
+pub record Mentions (before : List Known) (f : MemberSlots) : Type 0 where
   pub each : (n : Known) → is_known n ≡ true → is_some (slot_of n f) ≡ mentions before n
 
 again_same : (k : Bool) (o : Option Slot) (b : Bool) (place : ℕ) → (k ≡ true → is_some o ≡ b) → again k (is_some o) place ≡ again k b place
 again_same true o b place h = ap (λ x. again true x place) (h refl)
 again_same false o b place h = refl
 
-pub mentions_step : (before : List Known) (n name : Known) (place : ℕ) (value : Tree) (f : Shown) (b : Bool) → Mentions before f → is_known n ≡ true → same n name ≡ b
+pub mentions_step : (before : List Known) (n name : Known) (place : ℕ) (value : Tree) (f : MemberSlots) (b : Bool) → Mentions before f → is_known n ≡ true → same n name ≡ b
     → is_some (slot_of n (member_taken place name value f)) ≡ (if b then true else mentions before n)
 mentions_step before n name place value f false h k e = ap is_some (slot-other n name place value f k e) ∙ h.each n k
 mentions_step before n name place value f true h k e =
@@ -321,7 +321,7 @@ mentions_step before n name place value f true h k e =
     set None u x = refl
     set (Some s) u x = refl
 
-pub repeated_after : (ms : Members) (before : List Known) (f : Shown) → Mentions before f → (members_taken ms f).repeated ≡ lesser f.repeated (least (repeated before ms))
+pub repeated_after : (ms : Members) (before : List Known) (f : MemberSlots) → Mentions before f → (members_taken ms f).repeated ≡ lesser f.repeated (least (repeated before ms))
 repeated_after end_of_object before f h = sym (lesser-none f.repeated)
 repeated_after (member place name end value more) before f h =
     let found : List Fault = again (is_known (known_of name)) (mentions before (known_of name)) place in

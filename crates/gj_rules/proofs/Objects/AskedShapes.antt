@@ -3,8 +3,8 @@ use Rattle.std.specs.Prelude.{◌≡◌, Option, Some, None}
 use Rattle.std.proofs.Common.{refl, ap, subst, sym, ◌∙◌}
 use Rattle.gj_json.specs.declared.names.Word.{Word}
 use Rattle.gj_json.specs.Tree.{Tree}
-use Rattle.gj_coords.specs.declared.walk.first_level.FirstSummary.{FirstSummary}
-use Rattle.gj_coords.specs.declared.walk.first_level.FirstSummary.TheVariants as Summary
+use Rattle.gj_coords.specs.declared.walk.outer_array.OuterSummary.{OuterSummary}
+use Rattle.gj_coords.specs.declared.walk.outer_array.OuterSummary.TheVariants as Summary
 use Rattle.gj_coords.specs.declared.simple.Simple.{Simple}
 use Rattle.gj_coords.specs.declared.warned.Warned.{Warned}
 use Rattle.gj_coords.specs.declared.warnings.Warnings.{Warnings}
@@ -15,8 +15,8 @@ use Rattle.gj_coords.specs.Internal.GatheredWarnings.{all_in}
 use Rattle.gj_coords.specs.Internal.KeptWarnings.{no_warnings, joined}
 use Rattle.gj_coords.specs.Internal.LevelGather.{warned_as}
 use Rattle.gj_coords.specs.Internal.WarningLaws.{joined_none_last}
-use Rattle.gj_rules.specs.declared.shown.TypeValue.{TypeValue}
-use Rattle.gj_rules.specs.Internal.FrameMeaning.{Found, Shapes}
+use Rattle.gj_rules.specs.declared.member_slots.TypeValue.{TypeValue}
+use Rattle.gj_rules.specs.Internal.FrameMeaning.{Findings, Shapes}
 use Rattle.gj_rules.specs.Internal.Summaries.{no_shapes, shape_for, warned_for, found_as, shapes_of, shape_found, alike, simple_of, asked_as, asked}
 
 -- ---- none is kept: there is no fault for any type, and no warning
@@ -34,16 +34,16 @@ no_warnings_more w simple = ap (joined w) (no_warnings_for simple) ∙ joined_no
 
 -- ---- that of one type is kept
 
-pub one_fault : (simple : Simple) (found : Found) → shape_for simple (alike found) ≡ found.fault
+pub one_fault : (simple : Simple) (found : Findings) → shape_for simple (alike found) ≡ found.fault
 one_fault Simple.Point found = refl
 one_fault _ found = refl
 
-pub one_warned : (simple : Simple) (found : Found) → warned_for simple (alike found) ≡ found.warned
+pub one_warned : (simple : Simple) (found : Findings) → warned_for simple (alike found) ≡ found.warned
 one_warned Simple.Point found = refl
 one_warned _ found = refl
 
 -- a LineString has the warnings of a MultiPoint
-line_warned : (s : FirstSummary) → warned_as Simple.MultiPoint s ≡ warned_as Simple.LineString s
+line_warned : (s : OuterSummary) → warned_as Simple.MultiPoint s ≡ warned_as Simple.LineString s
 line_warned (Summary.Other place) = refl
 line_warned (Summary.Level s) = refl
 

@@ -11,14 +11,14 @@ use Rattle.gj_coords.specs.Internal.KeptWarnings.{no_warnings, joined}
 use Rattle.gj_coords.specs.Internal.WarningLaws.{joined_none_last}
 use Rattle.gj_rules.specs.declared.frame.Frame as D
 use Rattle.gj_rules.specs.declared.role.Role.{Role}
-use Rattle.gj_rules.specs.declared.shown.TypeValue.{TypeValue}
+use Rattle.gj_rules.specs.declared.member_slots.TypeValue.{TypeValue}
 use Rattle.gj_rules.specs.Internal.FrameCalls.{collected, warned_as, warned_by, settled, is_collection, is_nested, taken_in}
 use Rattle.gj_rules.specs.Internal.EventSteps.{Core, member_of, mode_behind, popped}
 use Rattle.gj_rules.specs.Internal.FrameReading.{frame_in}
 use Rattle.gj_rules.specs.Internal.RulesState.{no_frame}
-use Rattle.gj_rules.specs.Internal.FrameMeaning.{Frame, Gathered, Shown}
+use Rattle.gj_rules.specs.Internal.FrameMeaning.{Frame, MemberWarnings, MemberSlots}
 use Rattle.gj_rules.specs.Internal.GatheredWarnings.{none_gathered, gathered}
-use Rattle.gj_rules.specs.Internal.ShownMembers as S
+use Rattle.gj_rules.specs.Internal.OpenMembers as S
 use Rattle.gj_rules.specs.Internal.Summaries.{none_found, warned_for}
 use Rattle.gj_rules.specs.Role.{is_allowed}
 use Rattle.gj_rules.proofs.Objects.MemberSlots.{joined-none}
@@ -26,45 +26,45 @@ use Rattle.gj_rules.proofs.Objects.MemberSlots.{joined-none}
 -- ---- nothing is found where a few looks show it
 
 collected_none : (f : Frame) (role : Role) (value : TypeValue) → value.word ≡ Word.GeometryCollection → is_nested role (Some value) ≡ false
-    → f.gathered.geometries ≡ no_warnings → collected role f.shown.place f.gathered.geometries ≡ no_warnings
+    → f.gathered.geometries ≡ no_warnings → collected role f.slots.place f.gathered.geometries ≡ no_warnings
 collected_none f Role.Part value w n g =
     let e : is_collection value.word ≡ is_collection Word.GeometryCollection = ap is_collection w in
     cc
 collected_none f _ value w n g = g
 
-as_none : (word : Word) (f : Frame) (value : TypeValue) → value.word ≡ word → is_nested f.shown.role (Some value) ≡ false → f.gathered ≡ none_gathered
-    → ((simple : Simple) → warned_for simple f.shown.shapes ≡ no_warnings) → warned_as word f ≡ no_warnings
+as_none : (word : Word) (f : Frame) (value : TypeValue) → value.word ≡ word → is_nested f.slots.role (Some value) ≡ false → f.gathered ≡ none_gathered
+    → ((simple : Simple) → warned_for simple f.slots.shapes ≡ no_warnings) → warned_as word f ≡ no_warnings
 as_none Word.Point f value w n g h = h Simple.Point
 as_none Word.MultiPoint f value w n g h = h Simple.MultiPoint
 as_none Word.LineString f value w n g h = h Simple.LineString
 as_none Word.MultiLineString f value w n g h = h Simple.MultiLineString
 as_none Word.Polygon f value w n g h = h Simple.Polygon
 as_none Word.MultiPolygon f value w n g h = h Simple.MultiPolygon
-as_none Word.GeometryCollection f value w n g h = collected_none f f.shown.role value w n (ap (λ (x : Gathered). x.geometries) g)
-as_none Word.Feature f value w n g h = ap (λ (x : Gathered). x.geometry) g
-as_none Word.FeatureCollection f value w n g h = ap (λ (x : Gathered). x.features) g
+as_none Word.GeometryCollection f value w n g h = collected_none f f.slots.role value w n (ap (λ (x : MemberWarnings). x.geometries) g)
+as_none Word.Feature f value w n g h = ap (λ (x : MemberWarnings). x.geometry) g
+as_none Word.FeatureCollection f value w n g h = ap (λ (x : MemberWarnings). x.features) g
 as_none Word.Other f value w n g h = refl
 
 if_none : (b : Bool) (w : Warnings) → w ≡ no_warnings → (if b then w else no_warnings) ≡ no_warnings
 if_none true w e = e
 if_none false w e = refl
 
-by_none : (o : Option TypeValue) (f : Frame) → is_nested f.shown.role o ≡ false → f.gathered ≡ none_gathered
-    → ((simple : Simple) → warned_for simple f.shown.shapes ≡ no_warnings) → warned_by o f ≡ no_warnings
+by_none : (o : Option TypeValue) (f : Frame) → is_nested f.slots.role o ≡ false → f.gathered ≡ none_gathered
+    → ((simple : Simple) → warned_for simple f.slots.shapes ≡ no_warnings) → warned_by o f ≡ no_warnings
 by_none None f n g h = refl
-by_none (Some value) f n g h = if_none (is_allowed f.shown.role value.word) (warned_as value.word f) (as_none value.word f value refl n g h)
+by_none (Some value) f n g h = if_none (is_allowed f.slots.role value.word) (warned_as value.word f) (as_none value.word f value refl n g h)
 
-pub clean_is : (f : Frame) → f.gathered ≡ none_gathered → ((simple : Simple) → warned_for simple f.shown.shapes ≡ no_warnings)
-    → is_nested f.shown.role f.shown.type_value ≡ false → S.settled f.shown ≡ None → settled f ≡ none_found
+pub clean_is : (f : Frame) → f.gathered ≡ none_gathered → ((simple : Simple) → warned_for simple f.slots.shapes ≡ no_warnings)
+    → is_nested f.slots.role f.slots.type_value ≡ false → S.settled f.slots ≡ None → settled f ≡ none_found
 clean_is f g h n e =
-    let own : f.gathered.own ≡ no_warnings = ap (λ (x : Gathered). x.own) g in
-    let w : joined f.gathered.own (warned_by f.shown.type_value f) ≡ no_warnings =
-    ap (joined f.gathered.own) (by_none f.shown.type_value f n g h) ∙ (joined_none_last f.gathered.own ∙ own) in
+    let own : f.gathered.own ≡ no_warnings = ap (λ (x : MemberWarnings). x.own) g in
+    let w : joined f.gathered.own (warned_by f.slots.type_value f) ≡ no_warnings =
+    ap (joined f.gathered.own) (by_none f.slots.type_value f n g h) ∙ (joined_none_last f.gathered.own ∙ own) in
     λ i. record { fault = e i; warned = w i }
 
 -- ---- and it changes nothing
 
-none_gathered_more : (name : Known) (g : Gathered) → gathered name no_warnings g ≡ g
+none_gathered_more : (name : Known) (g : MemberWarnings) → gathered name no_warnings g ≡ g
 none_gathered_more Geometries g = ap (λ (w : Warnings). record g { geometries = w }) (joined_none_last g.geometries)
 none_gathered_more Geometry g = ap (λ (w : Warnings). record g { geometry = w }) (joined_none_last g.geometry)
 none_gathered_more Features g = ap (λ (w : Warnings). record g { features = w }) (joined_none_last g.features)
@@ -73,8 +73,8 @@ none_gathered_more _ g = refl
 
 pub nothing_taken : (name : Known) (f : Frame) → taken_in name none_found f ≡ f
 nothing_taken name f =
-    ap (λ (s : Shown). record { shown = s; gathered = gathered name no_warnings f.gathered }) (joined-none name f.shown)
-    ∙ ap (λ (g : Gathered). record { shown = f.shown; gathered = g }) (none_gathered_more name f.gathered)
+    ap (λ (s : MemberSlots). record { slots = s; gathered = gathered name no_warnings f.gathered }) (joined-none name f.slots)
+    ∙ ap (λ (g : MemberWarnings). record { slots = f.slots; gathered = g }) (none_gathered_more name f.gathered)
 
 -- the frame that was kept before it is the innermost one
 pub left_clean : (role : Role) (s : Core) (frames : List D.Frame) (n : ℕ) → 0 < n → n < length frames

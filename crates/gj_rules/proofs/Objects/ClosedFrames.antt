@@ -11,16 +11,16 @@ use Rattle.gj_coords.specs.declared.warnings.Warnings.{Warnings}
 use Rattle.gj_coords.specs.Fault.{least}
 use Rattle.gj_coords.specs.Internal.KeptWarnings.{no_warnings, warnings_of, joined, added}
 use Rattle.gj_coords.specs.Internal.WarningLaws.{joined_none_first}
-use Rattle.gj_rules.specs.Internal.FrameMeaning.{Found}
-use Rattle.gj_rules.specs.Internal.FrameMeaning.{Frame, Shapes, Shown}
+use Rattle.gj_rules.specs.Internal.FrameMeaning.{Findings}
+use Rattle.gj_rules.specs.Internal.FrameMeaning.{Frame, Shapes, MemberSlots}
 use Rattle.gj_rules.specs.declared.role.Role.{Role}
-use Rattle.gj_rules.specs.declared.shown.Slot.{Slot}
-use Rattle.gj_rules.specs.declared.shown.TypeValue.{TypeValue}
+use Rattle.gj_rules.specs.declared.member_slots.Slot.{Slot}
+use Rattle.gj_rules.specs.declared.member_slots.TypeValue.{TypeValue}
 use Rattle.gj_rules.specs.Faults.{First, FirstMembers, faults, first}
 use Rattle.gj_rules.specs.Internal.FrameCalls.{blank, warned_as, warned_by, settled, members_taken}
 use Rattle.gj_rules.specs.Members.{same, first_type}
 use Rattle.gj_rules.specs.Role.{is_allowed}
-use Rattle.gj_rules.specs.Internal.ShownMembers as S
+use Rattle.gj_rules.specs.Internal.OpenMembers as S
 use Rattle.gj_rules.specs.Internal.Summaries.{no_shapes, warned_for, simple_of, asked_as, asked}
 use Rattle.gj_rules.specs.Internal.TextKept.{or_none, and_kept, simple_kept, typed_kept, by_type_kept, kept, first_kept}
 use Rattle.gj_rules.specs.TextWarnings.{crs_warnings, first_value}
@@ -71,7 +71,7 @@ any_is (Some w) = joined_none_first w
 -- the frame that an object leaves, of which the first members have these warnings
 abbrev left_with : Role → ℕ → Option Slot → Shapes → FirstMembers → Warnings → Option Warnings → Option Warnings → Option Warnings → Frame
 left_with role place t shapes p own geometries geometry features = record {
-  shown = shown_with role place t shapes p;
+  slots = shown_with role place t shapes p;
   gathered = record {
     own = own;
     geometries = gathered_from (S.uses role Geometries) None no_warnings geometries;
@@ -133,9 +133,9 @@ warned_asked (Some value) role place t x p own a b c =
 -- ---- the object
 
 -- a frame is its fields
-fields_are : (f g : Frame) → f.shown ≡ g.shown → f.gathered.own ≡ g.gathered.own → f.gathered.geometries ≡ g.gathered.geometries
+fields_are : (f g : Frame) → f.slots ≡ g.slots → f.gathered.own ≡ g.gathered.own → f.gathered.geometries ≡ g.gathered.geometries
     → f.gathered.geometry ≡ g.gathered.geometry → f.gathered.features ≡ g.gathered.features → f ≡ g
-fields_are f g a b c d e = λ i. record { shown = a i; gathered = record { own = b i; geometries = c i; geometry = d i; features = e i } }
+fields_are f g a b c d e = λ i. record { slots = a i; gathered = record { own = b i; geometries = c i; geometry = d i; features = e i } }
 
 -- the warnings of an object that hang on no type
 abbrev own_kept : Members → Warnings
@@ -153,17 +153,17 @@ left_after role place ms =
     (gathered_after Geometry tt ms f)
     (gathered_after Features tt ms f)
 
-abbrev pub found_in : Role → ℕ → ℕ → Members → Found
+abbrev pub found_in : Role → ℕ → ℕ → Members → Findings
 found_in role place close ms = record { fault = least (faults role (object place ms close)); warned = or_none (kept role (object place ms close)) }
 
 pub all_closed : (role : Role) (place close : ℕ) (ms : Members) → settled (members_taken ms (blank role place)) ≡ found_in role place close ms
 all_closed role place close ms =
     let own : Warnings = own_kept ms in
     let p : FirstMembers = parts_of ms in
-    let f : (members_taken ms (blank role place)).shown ≡ S.members_taken ms (S.blank role place) = members_shown ms (blank role place) in
-    let a : S.settled (members_taken ms (blank role place)).shown ≡ least (faults role (object place ms close)) = ap S.settled f ∙ closed role place close ms in
+    let f : (members_taken ms (blank role place)).slots ≡ S.members_taken ms (S.blank role place) = members_shown ms (blank role place) in
+    let a : S.settled (members_taken ms (blank role place)).slots ≡ least (faults role (object place ms close)) = ap S.settled f ∙ closed role place close ms in
     let e = left_after role place ms in
-    let s : Shown = S.members_taken ms (S.blank role place) in
+    let s : MemberSlots = S.members_taken ms (S.blank role place) in
     let geometries = first_kept Geometries ms in
     let geometry = first_kept Geometry ms in
     let features = first_kept Features ms in
@@ -172,7 +172,7 @@ all_closed role place close ms =
     ∙ (ap (λ (x : Shapes). warned_by (first_type ms) (left_with role place s.type_name x p own geometries geometry features)) (asked_after role place ms)
     ∙ sym (warned_asked (first_type ms) role place s.type_name (first_shapes role p) p own geometries geometry features)) in
     let b : (settled (members_taken ms (blank role place))).warned ≡ or_none (kept role (object place ms close)) =
-    ap (λ (g : Frame). joined g.gathered.own (warned_by g.shown.type_value g)) e
+    ap (λ (g : Frame). joined g.gathered.own (warned_by g.slots.type_value g)) e
     ∙ (ap (joined own) (with_type ∙ by_type_is role place s.type_name p own geometries geometry features (first_type ms))
     ∙ ap (λ (o : Option Tree). joined own (by_type_kept (first_type ms) role place o (or_none geometries) (or_none geometry) (or_none features))) (value_is Coordinates ms)) in
     λ i. record { fault = a i; warned = b i }

@@ -11,14 +11,14 @@ use Rattle.gj_coords.specs.Internal.KeptWarnings.{warnings_of, no_warnings, join
 use Rattle.gj_coords.specs.Warnings.{warning_at}
 use Rattle.gj_coords.specs.Internal.WarningLaws.{joined_none_first, joined_none_last, joined_assoc, joined_comm, warnings_of_none, warnings_of-append, added_is}
 use Rattle.gj_rules.specs.Internal.FrameMeaning.{Frame}
-use Rattle.gj_rules.specs.Internal.FrameMeaning.{Gathered}
+use Rattle.gj_rules.specs.Internal.FrameMeaning.{MemberWarnings}
 use Rattle.gj_rules.specs.declared.role.Role.{Role}
-use Rattle.gj_rules.specs.declared.shown.Slot.{Slot}
+use Rattle.gj_rules.specs.declared.member_slots.Slot.{Slot}
 use Rattle.gj_rules.specs.Faults.{First, judge}
 use Rattle.gj_rules.specs.Internal.FrameCalls.{due_after, member_taken, members_taken}
 use Rattle.gj_rules.specs.Internal.GatheredWarnings.{gathered_any, gathered_at}
 use Rattle.gj_rules.specs.Members.{is_known, same}
-use Rattle.gj_rules.specs.Internal.ShownMembers.{slot_of, uses, due_known}
+use Rattle.gj_rules.specs.Internal.OpenMembers.{slot_of, uses, due_known}
 use Rattle.gj_rules.specs.Internal.TextKept.{or_none, and_kept, first_kept, judged_kept}
 use Rattle.gj_rules.specs.TextWarnings.{crs_warnings}
 use Rattle.gj_rules.proofs.Objects.OneMember.{same_is, due_other, slot-other, slot-own, or_slot, slot_from}
@@ -29,10 +29,10 @@ or_set : (o : Option Slot) (u : Bool) (x : First) → (s : Slot) × (or_slot o (
 or_set None u x = (_, refl)
 or_set (Some s) u x = (s, refl)
 
-own_set : (n : Known) (place : ℕ) (v : Tree) (f : Frame) → is_known n ≡ true → (s : Slot) × (slot_of n (member_taken place n v f).shown ≡ Some s)
+own_set : (n : Known) (place : ℕ) (v : Tree) (f : Frame) → is_known n ≡ true → (s : Slot) × (slot_of n (member_taken place n v f).slots ≡ Some s)
 own_set n place v f k =
-    let h = or_set (slot_of n f.shown) (uses f.shown.role n) (record { name_at = place; value = v; faults = judge n v }) in
-    (h.0, slot-own n place v f.shown k ∙ h.1)
+    let h = or_set (slot_of n f.slots) (uses f.slots.role n) (record { name_at = place; value = v; faults = judge n v }) in
+    (h.0, slot-own n place v f.slots k ∙ h.1)
 
 -- ---- of the values that hold values with a role
 
@@ -48,7 +48,7 @@ holder_known Geometry i = refl
 holder_known Features i = refl
 holder_known _ i = absurd i
 
-abbrev pub gathered_of : Known → Gathered → Warnings
+abbrev pub gathered_of : Known → MemberWarnings → Warnings
 gathered_of Geometries g = g.geometries
 gathered_of Geometry g = g.geometry
 gathered_of Features g = g.features
@@ -60,7 +60,7 @@ gathered_from used (Some slot) had found = had
 gathered_from true None had found = and_kept had found
 gathered_from false None had found = had
 
-any_other : (n m : Known) → IsHolder n → (w : Option Warnings) (g : Gathered) → same n m ≡ false → gathered_of n (gathered_any m w g) ≡ gathered_of n g
+any_other : (n m : Known) → IsHolder n → (w : Option Warnings) (g : MemberWarnings) → same n m ≡ false → gathered_of n (gathered_any m w g) ≡ gathered_of n g
 any_other n m i None g e = refl
 any_other Geometries Geometries i (Some w) g e = cc
 any_other Geometry Geometry i (Some w) g e = cc
@@ -70,7 +70,7 @@ any_other Geometry _ i (Some w) g e = refl
 any_other Features _ i (Some w) g e = refl
 any_other _ m i (Some w) g e = absurd i
 
-at_holder : (n m : Known) → IsHolder n → (place : ℕ) (g : Gathered) → gathered_of n (gathered_at m place g) ≡ gathered_of n g
+at_holder : (n m : Known) → IsHolder n → (place : ℕ) (g : MemberWarnings) → gathered_of n (gathered_at m place g) ≡ gathered_of n g
 at_holder Geometries Crs i place g = refl
 at_holder Geometry Crs i place g = refl
 at_holder Features Crs i place g = refl
@@ -79,7 +79,7 @@ at_holder Geometry _ i place g = refl
 at_holder Features _ i place g = refl
 at_holder _ m i place g = absurd i
 
-any_own : (n : Known) → IsHolder n → (place : ℕ) (w : Option Warnings) (g : Gathered) → gathered_of n (gathered_any n w (gathered_at n place g)) ≡ and_kept (gathered_of n g) w
+any_own : (n : Known) → IsHolder n → (place : ℕ) (w : Option Warnings) (g : MemberWarnings) → gathered_of n (gathered_any n w (gathered_at n place g)) ≡ and_kept (gathered_of n g) w
 any_own Geometries i place None g = refl
 any_own Geometries i place (Some w) g = refl
 any_own Geometry i place None g = refl
@@ -92,34 +92,34 @@ any_own _ i place w g = absurd i
 holder_other : (n m : Known) → IsHolder n → (place : ℕ) (v : Tree) (f : Frame) → same n m ≡ false → gathered_of n (member_taken place m v f).gathered ≡ gathered_of n f.gathered
 holder_other n m i place v f e =
     any_other n (due_after m f) i (judged_kept (due_after m f) v) (gathered_at m place f.gathered)
-    (due_other n m (is_known m) (uses f.shown.role m) (slot_of m f.shown) f.shown.role refl (holder_known n i) e)
+    (due_other n m (is_known m) (uses f.slots.role m) (slot_of m f.slots) f.slots.role refl (holder_known n i) e)
     ∙ at_holder n m i place f.gathered
 
 -- a member of its own name
-holder_due : (n : Known) → IsHolder n → (place : ℕ) (v : Tree) (g : Gathered) (o : Option Slot) (u : Bool) (role : Role) → uses role n ≡ u
+holder_due : (n : Known) → IsHolder n → (place : ℕ) (v : Tree) (g : MemberWarnings) (o : Option Slot) (u : Bool) (role : Role) → uses role n ≡ u
     → gathered_of n (gathered_any (due_known n o role) (judged_kept (due_known n o role) v) (gathered_at n place g)) ≡ gathered_from u o (gathered_of n g) (judged_kept n v)
 holder_due n i place v g (Some s) u role e = at_holder n n i place g
 holder_due n i place v g None true role e = rw e (any_own n i place (judged_kept n v) g)
 holder_due n i place v g None false role e = rw e (at_holder n n i place g)
 
 holder_own : (n : Known) → IsHolder n → (place : ℕ) (v : Tree) (f : Frame)
-    → gathered_of n (member_taken place n v f).gathered ≡ gathered_from (uses f.shown.role n) (slot_of n f.shown) (gathered_of n f.gathered) (judged_kept n v)
-holder_own n i place v f = rw (holder_known n i) (holder_due n i place v f.gathered (slot_of n f.shown) (uses f.shown.role n) f.shown.role refl)
+    → gathered_of n (member_taken place n v f).gathered ≡ gathered_from (uses f.slots.role n) (slot_of n f.slots) (gathered_of n f.gathered) (judged_kept n v)
+holder_own n i place v f = rw (holder_known n i) (holder_due n i place v f.gathered (slot_of n f.slots) (uses f.slots.role n) f.slots.role refl)
 
 from_set : (u : Bool) (o : Option Slot) (s : Slot) (had : Warnings) (found : Option Warnings) → o ≡ Some s → gathered_from u o had found ≡ had
 from_set u o s had found e = rw e refl
 
 holder_step : (n m : Known) → IsHolder n → (place : ℕ) (v : Tree) (f : Frame) (b : Bool) (rest : Option Warnings) → same n m ≡ b
-    → gathered_from (uses f.shown.role n) (slot_of n (member_taken place m v f).shown) (gathered_of n (member_taken place m v f).gathered) rest
-    ≡ gathered_from (uses f.shown.role n) (slot_of n f.shown) (gathered_of n f.gathered) (if b then judged_kept n v else rest)
+    → gathered_from (uses f.slots.role n) (slot_of n (member_taken place m v f).slots) (gathered_of n (member_taken place m v f).gathered) rest
+    ≡ gathered_from (uses f.slots.role n) (slot_of n f.slots) (gathered_of n f.gathered) (if b then judged_kept n v else rest)
 holder_step n m i place v f false rest e =
-    ap (λ (o : Option Slot). gathered_from (uses f.shown.role n) o (gathered_of n (member_taken place m v f).gathered) rest) (slot-other n m place v f.shown (holder_known n i) e)
-    ∙ ap (λ (w : Warnings). gathered_from (uses f.shown.role n) (slot_of n f.shown) w rest) (holder_other n m i place v f e)
+    ap (λ (o : Option Slot). gathered_from (uses f.slots.role n) o (gathered_of n (member_taken place m v f).gathered) rest) (slot-other n m place v f.slots (holder_known n i) e)
+    ∙ ap (λ (w : Warnings). gathered_from (uses f.slots.role n) (slot_of n f.slots) w rest) (holder_other n m i place v f e)
 holder_step n m i place v f true rest e =
-    subst (λ (q : Known). gathered_from (uses f.shown.role n) (slot_of n (member_taken place q v f).shown) (gathered_of n (member_taken place q v f).gathered) rest
-    ≡ gathered_from (uses f.shown.role n) (slot_of n f.shown) (gathered_of n f.gathered) (judged_kept n v)) (same_is n m e)
+    subst (λ (q : Known). gathered_from (uses f.slots.role n) (slot_of n (member_taken place q v f).slots) (gathered_of n (member_taken place q v f).gathered) rest
+    ≡ gathered_from (uses f.slots.role n) (slot_of n f.slots) (gathered_of n f.gathered) (judged_kept n v)) (same_is n m e)
     (let s = own_set n place v f (holder_known n i) in
-    from_set (uses f.shown.role n) (slot_of n (member_taken place n v f).shown) s.0 (gathered_of n (member_taken place n v f).gathered) rest s.1
+    from_set (uses f.slots.role n) (slot_of n (member_taken place n v f).slots) s.0 (gathered_of n (member_taken place n v f).gathered) rest s.1
     ∙ holder_own n i place v f)
 
 none_from : (u : Bool) (o : Option Slot) (had : Warnings) → had ≡ gathered_from u o had None
@@ -128,12 +128,12 @@ none_from true None had = refl
 none_from false None had = refl
 
 pub gathered_after : (n : Known) → IsHolder n → (ms : Members) (f : Frame)
-    → gathered_of n (members_taken ms f).gathered ≡ gathered_from (uses f.shown.role n) (slot_of n f.shown) (gathered_of n f.gathered) (first_kept n ms)
-gathered_after n i end_of_object f = none_from (uses f.shown.role n) (slot_of n f.shown) (gathered_of n f.gathered)
+    → gathered_of n (members_taken ms f).gathered ≡ gathered_from (uses f.slots.role n) (slot_of n f.slots) (gathered_of n f.gathered) (first_kept n ms)
+gathered_after n i end_of_object f = none_from (uses f.slots.role n) (slot_of n f.slots) (gathered_of n f.gathered)
 gathered_after n i (member place name end value more) f =
     let g : Frame = member_taken place (known_of name) value f in
     gathered_after n i more g
-    ∙ (ap (λ (r : Role). gathered_from (uses r n) (slot_of n g.shown) (gathered_of n g.gathered) (first_kept n more)) (member_object (known_of name) place value f.shown).role
+    ∙ (ap (λ (r : Role). gathered_from (uses r n) (slot_of n g.slots) (gathered_of n g.gathered) (first_kept n more)) (member_object (known_of name) place value f.slots).role
     ∙ holder_step n (known_of name) i place value f (same n (known_of name)) (first_kept n more) refl)
 
 -- ---- of `crs` and `bbox`
@@ -146,17 +146,17 @@ own_from None found = found
 nothing_more : (w : Warnings) → joined (joined w (warnings_of [])) no_warnings ≡ w
 nothing_more w = joined_none_last (joined w (warnings_of [])) ∙ (ap (joined w) warnings_of_none ∙ joined_none_last w)
 
-any_not_bbox : (m : Known) (w : Option Warnings) (g : Gathered) → same Bbox m ≡ false → (gathered_any m w g).own ≡ g.own
+any_not_bbox : (m : Known) (w : Option Warnings) (g : MemberWarnings) → same Bbox m ≡ false → (gathered_any m w g).own ≡ g.own
 any_not_bbox m None g e = refl
 any_not_bbox Bbox (Some w) g e = cc
 any_not_bbox Geometries (Some w) g e = refl
 any_not_bbox _ (Some w) g e = refl
 
-at_not_crs : (m : Known) (place : ℕ) (g : Gathered) → same Crs m ≡ false → (gathered_at m place g).own ≡ g.own
+at_not_crs : (m : Known) (place : ℕ) (g : MemberWarnings) → same Crs m ≡ false → (gathered_at m place g).own ≡ g.own
 at_not_crs Crs place g e = cc
 at_not_crs _ place g e = refl
 
-bbox_due : (place : ℕ) (v : Tree) (g : Gathered) (o : Option Slot) (role : Role)
+bbox_due : (place : ℕ) (v : Tree) (g : MemberWarnings) (o : Option Slot) (role : Role)
     → (gathered_any (due_known Bbox o role) (judged_kept (due_known Bbox o role) v) g).own ≡ joined (joined g.own (warnings_of [])) (or_none (own_from o (judged_kept Bbox v)))
 bbox_due place v g (Some s) role = sym (nothing_more g.own)
 bbox_due place v g None role = rw (uses_bbox role) (ap (λ (w : Warnings). joined w (or_none (judged_kept Bbox v))) (sym (ap (joined g.own) warnings_of_none ∙ joined_none_last g.own)))
@@ -170,14 +170,14 @@ abbrev pub added_own : Bool → Bool → ℕ → Tree → Option Slot → Warnin
 added_own b c place v o had = joined (joined had (warnings_of (warned_if c place W9))) (or_none (if b then own_from o (judged_kept Bbox v) else None))
 
 own_step : (m : Known) (place : ℕ) (v : Tree) (f : Frame) (b c : Bool) → same Bbox m ≡ b → same Crs m ≡ c
-    → (member_taken place m v f).gathered.own ≡ added_own b c place v (slot_of Bbox f.shown) f.gathered.own
-own_step Bbox place v f b c d e = rw (← d, ← e) (bbox_due place v f.gathered (slot_of Bbox f.shown) f.shown.role)
+    → (member_taken place m v f).gathered.own ≡ added_own b c place v (slot_of Bbox f.slots) f.gathered.own
+own_step Bbox place v f b c d e = rw (← d, ← e) (bbox_due place v f.gathered (slot_of Bbox f.slots) f.slots.role)
 own_step Crs place v f b c d e = rw (← d, ← e) (added_is f.gathered.own W9 place ∙ sym (joined_none_last (joined f.gathered.own (warnings_of (warning_at place W9 ∷ [])))))
 own_step _ place v f true c d e = cc
 own_step _ place v f false true d e = cc
 own_step m place v f false false d e =
     any_not_bbox (due_after m f) (judged_kept (due_after m f) v) (gathered_at m place f.gathered)
-    (due_other Bbox m (is_known m) (uses f.shown.role m) (slot_of m f.shown) f.shown.role refl refl d)
+    (due_other Bbox m (is_known m) (uses f.slots.role m) (slot_of m f.slots) f.slots.role refl refl d)
     ∙ (at_not_crs m place f.gathered e ∙ sym (nothing_more f.gathered.own))
 
 -- what the first `bbox` adds behind a member
@@ -185,11 +185,11 @@ own_from_set : (o : Option Slot) (s : Slot) (found : Option Warnings) → o ≡ 
 own_from_set o s found e = rw e refl
 
 later_own : (m : Known) (place : ℕ) (v : Tree) (f : Frame) (b : Bool) (found : Option Warnings) → same Bbox m ≡ b
-    → own_from (slot_of Bbox (member_taken place m v f).shown) found ≡ (if b then None else own_from (slot_of Bbox f.shown) found)
-later_own m place v f false found e = ap (λ (o : Option Slot). own_from o found) (slot-other Bbox m place v f.shown refl e)
+    → own_from (slot_of Bbox (member_taken place m v f).slots) found ≡ (if b then None else own_from (slot_of Bbox f.slots) found)
+later_own m place v f false found e = ap (λ (o : Option Slot). own_from o found) (slot-other Bbox m place v f.slots refl e)
 later_own m place v f true found e =
-    subst (λ (q : Known). own_from (slot_of Bbox (member_taken place q v f).shown) found ≡ None) (same_is Bbox m e)
-    (let s = own_set Bbox place v f refl in own_from_set (slot_of Bbox (member_taken place Bbox v f).shown) s.0 found s.1)
+    subst (λ (q : Known). own_from (slot_of Bbox (member_taken place q v f).slots) found ≡ None) (same_is Bbox m e)
+    (let s = own_set Bbox place v f refl in own_from_set (slot_of Bbox (member_taken place Bbox v f).slots) s.0 found s.1)
 
 first_own : (b : Bool) (o : Option Slot) (here later : Option Warnings)
     → joined (or_none (if b then own_from o here else None)) (or_none (if b then None else own_from o later)) ≡ or_none (own_from o (if b then here else later))
@@ -205,8 +205,8 @@ shuffle o x y c z =
     ∙ sym (joined_assoc x c (joined y z))))
 
 pub own_after : (ms : Members) (f : Frame)
-    → (members_taken ms f).gathered.own ≡ joined f.gathered.own (joined (warnings_of (crs_warnings ms)) (or_none (own_from (slot_of Bbox f.shown) (first_kept Bbox ms))))
-own_after end_of_object f = sym (ap (joined f.gathered.own) (ap (joined (warnings_of [])) (none (slot_of Bbox f.shown))) ∙ (sym (joined_assoc f.gathered.own (warnings_of []) no_warnings) ∙ nothing_more f.gathered.own))
+    → (members_taken ms f).gathered.own ≡ joined f.gathered.own (joined (warnings_of (crs_warnings ms)) (or_none (own_from (slot_of Bbox f.slots) (first_kept Bbox ms))))
+own_after end_of_object f = sym (ap (joined f.gathered.own) (ap (joined (warnings_of [])) (none (slot_of Bbox f.slots))) ∙ (sym (joined_assoc f.gathered.own (warnings_of []) no_warnings) ∙ nothing_more f.gathered.own))
   where
     none : (o : Option Slot) → or_none (own_from o None) ≡ no_warnings
     none None = refl
@@ -214,16 +214,16 @@ own_after end_of_object f = sym (ap (joined f.gathered.own) (ap (joined (warning
 own_after (member place name end value more) f =
     let m : Known = known_of name in
     let g : Frame = member_taken place m value f in
-    let o : Option Slot = slot_of Bbox f.shown in
+    let o : Option Slot = slot_of Bbox f.slots in
     let had : Warnings = f.gathered.own in
     let x : Warnings = warnings_of (warned_if (same Crs m) place W9) in
     let y : Warnings = or_none (if same Bbox m then own_from o (judged_kept Bbox value) else None) in
     let z : Warnings = or_none (if same Bbox m then None else own_from o (first_kept Bbox more)) in
     let c : Warnings = warnings_of (crs_warnings more) in
     let e : g.gathered.own ≡ joined (joined had x) y = own_step m place value f (same Bbox m) (same Crs m) refl refl in
-    let l : or_none (own_from (slot_of Bbox g.shown) (first_kept Bbox more)) ≡ z = ap or_none (later_own m place value f (same Bbox m) (first_kept Bbox more) refl) in
+    let l : or_none (own_from (slot_of Bbox g.slots) (first_kept Bbox more)) ≡ z = ap or_none (later_own m place value f (same Bbox m) (first_kept Bbox more) refl) in
     own_after more g
-    ∙ (ap (λ (w : Warnings). joined w (joined c (or_none (own_from (slot_of Bbox g.shown) (first_kept Bbox more))))) e
+    ∙ (ap (λ (w : Warnings). joined w (joined c (or_none (own_from (slot_of Bbox g.slots) (first_kept Bbox more))))) e
     ∙ (ap (λ (w : Warnings). joined (joined (joined had x) y) (joined c w)) l
     ∙ (shuffle had x y c z
     ∙ (ap (λ (w : Warnings). joined had (joined w (joined y z))) (sym (warnings_of-append (warned_if (same Crs m) place W9) (crs_warnings more)))

@@ -8,12 +8,12 @@ use Rattle.gj_coords.specs.declared.fault.Fault.{Fault}
 use Rattle.gj_coords.specs.declared.fault.Rule.TheVariants.{G10}
 use Rattle.gj_coords.specs.declared.simple.Simple.{Simple}
 use Rattle.gj_coords.specs.Fault.{lesser, fault_at, comes_first}
-use Rattle.gj_rules.specs.Internal.FrameMeaning.{Shapes, Shown}
-use Rattle.gj_rules.specs.declared.shown.Slot.{Slot}
-use Rattle.gj_rules.specs.declared.shown.TypeValue.{TypeValue}
+use Rattle.gj_rules.specs.Internal.FrameMeaning.{Shapes, MemberSlots}
+use Rattle.gj_rules.specs.declared.member_slots.Slot.{Slot}
+use Rattle.gj_rules.specs.declared.member_slots.TypeValue.{TypeValue}
 use Rattle.gj_rules.specs.Internal.LostObjects.{slot_fails, geometry_forbids, simple_fails, feature_forbids, feature_fails, features_forbid, fails_as, all_fail, is_lost, type_lost}
 use Rattle.gj_rules.specs.Members.{is_known, same}
-use Rattle.gj_rules.specs.Internal.ShownMembers.{slot_of, with_slot, joined, joined_to, shapes_set, named_known, repeated_at}
+use Rattle.gj_rules.specs.Internal.OpenMembers.{slot_of, with_slot, joined, joined_to, shapes_set, named_known, repeated_at}
 use Rattle.gj_rules.specs.Internal.Summaries.{no_shapes, shape_for}
 use Rattle.gj_rules.proofs.Objects.OneMember.{same_is, slot_of-other}
 use Rattle.gj_rules.proofs.Objects.MemberSlots.{slot_of-with}
@@ -51,16 +51,16 @@ lesser_second (Some a) b e = some_kept a b
 
 -- ---- what fails in the one fails in the other
 
-pub record Worse (f g : Shown) : Type 0 where
+pub record Worse (f g : MemberSlots) : Type 0 where
   pub repeated : Keeps (is_some f.repeated) (is_some g.repeated)
   pub slots : (n : Known) → Keeps (is_some (slot_of n f)) (is_some (slot_of n g))
   pub values : (n : Known) → Keeps (slot_fails (slot_of n f)) (slot_fails (slot_of n g))
   pub shapes : (s : Simple) → Keeps (is_some (shape_for s f.shapes)) (is_some (shape_for s g.shapes))
 
-pub worse_same : (f : Shown) → Worse f f
+pub worse_same : (f : MemberSlots) → Worse f f
 worse_same f = record { repeated = λ e. e; slots = λ n e. e; values = λ n e. e; shapes = λ s e. e }
 
-pub worse_twice : (f g h : Shown) → Worse f g → Worse g h → Worse f h
+pub worse_twice : (f g h : MemberSlots) → Worse f g → Worse g h → Worse f h
 worse_twice f g h a b = record {
   repeated = λ e. b.repeated (a.repeated e);
   slots = λ n e. b.slots n (a.slots n e);
@@ -68,15 +68,15 @@ worse_twice f g h a b = record {
   shapes = λ s e. b.shapes s (a.shapes s e);
 }
 
-geometry_worse : (f g : Shown) → Worse f g → Keeps (geometry_forbids f) (geometry_forbids g)
+geometry_worse : (f g : MemberSlots) → Worse f g → Keeps (geometry_forbids f) (geometry_forbids g)
 geometry_worse f g w =
     or_keeps (is_some f.geometry) _ (is_some g.geometry) _ (w.slots Geometry)
     (or_keeps (is_some f.properties) _ (is_some g.properties) _ (w.slots Properties) (w.slots Features))
 
-simple_worse : (s : Simple) (f g : Shown) → Worse f g → Keeps (simple_fails s f) (simple_fails s g)
+simple_worse : (s : Simple) (f g : MemberSlots) → Worse f g → Keeps (simple_fails s f) (simple_fails s g)
 simple_worse s f g w = or_keeps (geometry_forbids f) _ (geometry_forbids g) _ (geometry_worse f g w) (w.shapes s)
 
-feature_worse : (f g : Shown) → Worse f g → Keeps (feature_fails f) (feature_fails g)
+feature_worse : (f g : MemberSlots) → Worse f g → Keeps (feature_fails f) (feature_fails g)
 feature_worse f g w =
     or_keeps (feature_forbids f) _ (feature_forbids g) _
     (or_keeps (is_some f.coordinates) _ (is_some g.coordinates) _ (w.slots Coordinates)
@@ -84,13 +84,13 @@ feature_worse f g w =
     (or_keeps (slot_fails f.geometry) _ (slot_fails g.geometry) _ (w.values Geometry)
     (or_keeps (slot_fails f.properties) _ (slot_fails g.properties) _ (w.values Properties) (w.values Id)))
 
-features_worse : (f g : Shown) → Worse f g → Keeps (features_forbid f) (features_forbid g)
+features_worse : (f g : MemberSlots) → Worse f g → Keeps (features_forbid f) (features_forbid g)
 features_worse f g w =
     or_keeps (is_some f.coordinates || is_some f.geometries) _ (is_some g.coordinates || is_some g.geometries) _
     (or_keeps (is_some f.coordinates) _ (is_some g.coordinates) _ (w.slots Coordinates) (w.slots Geometries))
     (or_keeps (is_some f.geometry) _ (is_some g.geometry) _ (w.slots Geometry) (w.slots Properties))
 
-pub fails_worse : (word : Word) (f g : Shown) → Worse f g → Keeps (fails_as word f) (fails_as word g)
+pub fails_worse : (word : Word) (f g : MemberSlots) → Worse f g → Keeps (fails_as word f) (fails_as word g)
 fails_worse Word.Point f g w = simple_worse Simple.Point f g w
 fails_worse Word.MultiPoint f g w = simple_worse Simple.MultiPoint f g w
 fails_worse Word.LineString f g w = simple_worse Simple.LineString f g w
@@ -103,7 +103,7 @@ fails_worse Word.FeatureCollection f g w = or_keeps (features_forbid f) _ (featu
 fails_worse Word.Other f g w = λ e. e
 
 -- where all types fail, each does
-pub each_fails : (word : Word) (f : Shown) → all_fail f ≡ true → fails_as word f ≡ true
+pub each_fails : (word : Word) (f : MemberSlots) → all_fail f ≡ true → fails_as word f ≡ true
 each_fails word f e = go word (fails_as Word.Point f) (fails_as Word.MultiPoint f) (fails_as Word.LineString f) (fails_as Word.MultiLineString f) (fails_as Word.Polygon f)
     (fails_as Word.MultiPolygon f) (fails_as Word.GeometryCollection f) (fails_as Word.Feature f) (fails_as Word.FeatureCollection f) refl refl refl refl refl refl refl refl refl e
   where
@@ -130,7 +130,7 @@ each_fails word f e = go word (fails_as Word.Point f) (fails_as Word.MultiPoint 
     go word true true true true true true true false o p q r s t u v w x e = cc
     go word true true true true true true true true false p q r s t u v w x e = cc
 
-all_worse : (f g : Shown) → Worse f g → Keeps (all_fail f) (all_fail g)
+all_worse : (f g : MemberSlots) → Worse f g → Keeps (all_fail f) (all_fail g)
 all_worse f g w =
     and_keeps (fails_as Word.Point f) _ (fails_as Word.Point g) _ (fails_worse Word.Point f g w)
     (and_keeps (fails_as Word.MultiPoint f) _ (fails_as Word.MultiPoint g) _ (fails_worse Word.MultiPoint f g w)
@@ -146,12 +146,12 @@ abbrev pub TypeGrows : Option TypeValue → Option TypeValue → Type 0
 TypeGrows None new = Unit {0}
 TypeGrows (Some value) new = new ≡ Some value
 
-type_worse : (f g : Shown) (old new : Option TypeValue) → Worse f g → TypeGrows old new → Keeps (type_lost old f) (type_lost new g)
+type_worse : (f g : MemberSlots) (old new : Option TypeValue) → Worse f g → TypeGrows old new → Keeps (type_lost old f) (type_lost new g)
 type_worse f g None None w t = all_worse f g w
 type_worse f g None (Some value) w t = λ e. fails_worse value.word f g w (each_fails value.word f e)
 type_worse f g (Some value) new w t = subst (λ (o : Option TypeValue). Keeps (fails_as value.word f) (type_lost o g)) (sym t) (fails_worse value.word f g w)
 
-pub lost_worse : (f g : Shown) → Worse f g → TypeGrows f.type_value g.type_value → Keeps (is_lost f) (is_lost g)
+pub lost_worse : (f g : MemberSlots) → Worse f g → TypeGrows f.type_value g.type_value → Keeps (is_lost f) (is_lost g)
 lost_worse f g w t =
     or_keeps (is_some f.repeated) _ (is_some g.repeated) _ w.repeated
     (or_keeps (slot_fails f.bbox) _ (slot_fails g.bbox) _ (w.values Bbox) (type_worse f g f.type_value g.type_value w t))
@@ -162,20 +162,20 @@ type_same (Some value) p e = e
 
 -- ---- a slot
 
-kept_shapes : (m : Known) (s : Slot) (f : Shown) → (with_slot m s f).shapes ≡ f.shapes
+kept_shapes : (m : Known) (s : Slot) (f : MemberSlots) → (with_slot m s f).shapes ≡ f.shapes
 kept_shapes TypeName s f = refl
 kept_shapes _ s f = refl
 
-kept_repeated : (m : Known) (s : Slot) (f : Shown) → (with_slot m s f).repeated ≡ f.repeated
+kept_repeated : (m : Known) (s : Slot) (f : MemberSlots) → (with_slot m s f).repeated ≡ f.repeated
 kept_repeated TypeName s f = refl
 kept_repeated _ s f = refl
 
-pub kept_type : (m : Known) (s : Slot) (f : Shown) → (with_slot m s f).type_value ≡ f.type_value
+pub kept_type : (m : Known) (s : Slot) (f : MemberSlots) → (with_slot m s f).type_value ≡ f.type_value
 kept_type TypeName s f = refl
 kept_type _ s f = refl
 
 -- of the slots, what may be said of the one that was set holds of each
-each_slot : (P : Option Slot → Option Slot → Type 0) → ((o : Option Slot) → P o o) → (m : Known) (s : Slot) (f : Shown) → P (slot_of m f) (Some s)
+each_slot : (P : Option Slot → Option Slot → Type 0) → ((o : Option Slot) → P o o) → (m : Known) (s : Slot) (f : MemberSlots) → P (slot_of m f) (Some s)
     → (n : Known) → P (slot_of n f) (slot_of n (with_slot m s f))
 each_slot P same_kept m s f h n = go (is_known m) (same n m) refl refl
   where
@@ -194,7 +194,7 @@ each_slot P same_kept m s f h n = go (is_known m) (same n m) refl refl
 some_set : (o : Option Slot) (s : Slot) → Keeps (is_some o) (is_some (Some s))
 some_set o s e = refl
 
-pub worse_slot : (m : Known) (s : Slot) (f : Shown) → Keeps (slot_fails (slot_of m f)) (is_some s.fault) → Worse f (with_slot m s f)
+pub worse_slot : (m : Known) (s : Slot) (f : MemberSlots) → Keeps (slot_fails (slot_of m f)) (is_some s.fault) → Worse f (with_slot m s f)
 worse_slot m s f h = record {
   repeated = λ e. ap is_some (kept_repeated m s f) ∙ e;
   slots = each_slot (λ (o p : Option Slot). Keeps (is_some o) (is_some p)) (λ o e. e) m s f (some_set (slot_of m f) s);
@@ -204,16 +204,16 @@ worse_slot m s f h = record {
 
 -- ---- and shows the same names
 
-pub record Grows (f g : Shown) : Type 0 where
+pub record Grows (f g : MemberSlots) : Type 0 where
   pub worse : Worse f g
   pub repeated : g.repeated ≡ f.repeated
   pub type_value : g.type_value ≡ f.type_value
   pub slots : (n : Known) → is_some (slot_of n g) ≡ is_some (slot_of n f)
 
-pub grows_same : (f : Shown) → Grows f f
+pub grows_same : (f : MemberSlots) → Grows f f
 grows_same f = record { worse = worse_same f; repeated = refl; type_value = refl; slots = λ n. refl }
 
-pub grows_twice : (f g h : Shown) → Grows f g → Grows g h → Grows f h
+pub grows_twice : (f g h : MemberSlots) → Grows f g → Grows g h → Grows f h
 grows_twice f g h a b = record {
   worse = worse_twice f g h a.worse b.worse;
   repeated = b.repeated ∙ a.repeated;
@@ -221,7 +221,7 @@ grows_twice f g h a b = record {
   slots = λ n. b.slots n ∙ a.slots n;
 }
 
-grows_joined_to : (m : Known) (x : Option Fault) (f : Shown) (o : Option Slot) → slot_of m f ≡ o → Grows f (joined_to m x o f)
+grows_joined_to : (m : Known) (x : Option Fault) (f : MemberSlots) (o : Option Slot) → slot_of m f ≡ o → Grows f (joined_to m x o f)
 grows_joined_to m x f None e = grows_same f
 grows_joined_to m x f (Some slot) e =
     let s : Slot = record { name_at = slot.name_at; fault = lesser slot.fault x } in
@@ -232,7 +232,7 @@ grows_joined_to m x f (Some slot) e =
       slots = each_slot (λ (o p : Option Slot). is_some p ≡ is_some o) (λ o. refl) m s f (sym (ap is_some e));
     }
 
-pub grows_joined : (m : Known) (x : Option Fault) (f : Shown) → Grows f (joined m x f)
+pub grows_joined : (m : Known) (x : Option Fault) (f : MemberSlots) → Grows f (joined m x f)
 grows_joined m x f = grows_joined_to m x f (slot_of m f) refl
 
 no_fault : (s : Simple) → shape_for s no_shapes ≡ None
@@ -243,12 +243,12 @@ no_fault Simple.MultiLineString = refl
 no_fault Simple.Polygon = refl
 no_fault Simple.MultiPolygon = refl
 
-shapes_same : (n : Known) (x : Shapes) (f : Shown) → slot_of n (shapes_set x f) ≡ slot_of n f
+shapes_same : (n : Known) (x : Shapes) (f : MemberSlots) → slot_of n (shapes_set x f) ≡ slot_of n f
 shapes_same TypeName x f = refl
 shapes_same _ x f = refl
 
 -- the shapes are set once
-pub grows_shapes : (x : Shapes) (f : Shown) → f.shapes ≡ no_shapes → Grows f (shapes_set x f)
+pub grows_shapes : (x : Shapes) (f : MemberSlots) → f.shapes ≡ no_shapes → Grows f (shapes_set x f)
 grows_shapes x f e = record {
   worse = record {
     repeated = λ h. h;
@@ -263,11 +263,11 @@ grows_shapes x f e = record {
 
 -- ---- a name
 
-repeated_same : (n : Known) (place : ℕ) (f : Shown) → slot_of n (repeated_at place f) ≡ slot_of n f
+repeated_same : (n : Known) (place : ℕ) (f : MemberSlots) → slot_of n (repeated_at place f) ≡ slot_of n f
 repeated_same TypeName place f = refl
 repeated_same _ place f = refl
 
-pub worse_named : (m : Known) (place : ℕ) (f : Shown) (k : Bool) (o : Option Slot) → slot_of m f ≡ o → Worse f (if k then named_known m place o f else f)
+pub worse_named : (m : Known) (place : ℕ) (f : MemberSlots) (k : Bool) (o : Option Slot) → slot_of m f ≡ o → Worse f (if k then named_known m place o f else f)
 worse_named m place f false o e = worse_same f
 worse_named m place f true (Some slot) e = record {
   repeated = λ h. lesser_first f.repeated (Some (fault_at place G10)) h;

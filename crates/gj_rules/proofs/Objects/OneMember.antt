@@ -5,14 +5,14 @@ use Rattle.gj_json.specs.declared.names.Known.TheVariants.{TypeName, Coordinates
 use Rattle.gj_coords.specs.declared.fault.Fault.{Fault}
 use Rattle.gj_coords.specs.declared.fault.Rule.TheVariants.{G10}
 use Rattle.gj_rules.specs.declared.role.Role.{Role}
-use Rattle.gj_rules.specs.declared.shown.Slot.{Slot}
-use Rattle.gj_rules.specs.Internal.FrameMeaning.{Shown}
+use Rattle.gj_rules.specs.declared.member_slots.Slot.{Slot}
+use Rattle.gj_rules.specs.Internal.FrameMeaning.{MemberSlots}
 use Rattle.gj_coords.specs.Fault.{lesser, least, fault_at}
-use Rattle.gj_rules.specs.Internal.ShownMembers.{slot_of, with_slot, joined_to, uses, named, named_known, due_known, due_after}
+use Rattle.gj_rules.specs.Internal.OpenMembers.{slot_of, with_slot, joined_to, uses, named, named_known, due_known, due_after}
 use Rattle.gj_json.specs.Tree.{Tree}
 use Rattle.gj_rules.specs.Faults.{First, judge}
 use Rattle.gj_rules.specs.Members.{is_known, same}
-use Rattle.gj_rules.specs.Internal.ShownMembers.{filled, member_taken}
+use Rattle.gj_rules.specs.Internal.OpenMembers.{filled, member_taken}
 use Rattle.gj_rules.proofs.Objects.MemberSlots.{slot_of-with}
 
 -- ---- names
@@ -37,7 +37,7 @@ other_same _ k = refl
 
 -- ---- slots of other names
 
-pub slot_of-other : (n m : Known) (s : Slot) (f : Shown) → same n m ≡ false → slot_of n (with_slot m s f) ≡ slot_of n f
+pub slot_of-other : (n m : Known) (s : Slot) (f : MemberSlots) → same n m ≡ false → slot_of n (with_slot m s f) ≡ slot_of n f
 slot_of-other TypeName TypeName s f e = cc
 slot_of-other Coordinates Coordinates s f e = cc
 slot_of-other Geometries Geometries s f e = cc
@@ -48,23 +48,23 @@ slot_of-other Bbox Bbox s f e = cc
 slot_of-other Id Id s f e = cc
 slot_of-other _ _ s f e = refl
 
-joined_other : (n m : Known) (x : Option Fault) (o : Option Slot) (f : Shown) → same n m ≡ false → slot_of n (joined_to m x o f) ≡ slot_of n f
+joined_other : (n m : Known) (x : Option Fault) (o : Option Slot) (f : MemberSlots) → same n m ≡ false → slot_of n (joined_to m x o f) ≡ slot_of n f
 joined_other n m x None f e = refl
 joined_other n m x (Some slot) f e = slot_of-other n m (record { name_at = slot.name_at; fault = lesser slot.fault x }) f e
 
-shapes_kept : (n : Known) (v : Tree) (f : Shown) → slot_of n (filled Coordinates v f) ≡ slot_of n f
+shapes_kept : (n : Known) (v : Tree) (f : MemberSlots) → slot_of n (filled Coordinates v f) ≡ slot_of n f
 shapes_kept TypeName v f = refl
 shapes_kept _ v f = refl
 
-type_kept : (n : Known) (v : Tree) (f : Shown) → slot_of n (filled TypeName v f) ≡ slot_of n f
+type_kept : (n : Known) (v : Tree) (f : MemberSlots) → slot_of n (filled TypeName v f) ≡ slot_of n f
 type_kept TypeName v f = refl
 type_kept _ v f = refl
 
-repeated_kept : (n : Known) (x : Option Fault) (f : Shown) → slot_of n (record f { repeated = x }) ≡ slot_of n f
+repeated_kept : (n : Known) (x : Option Fault) (f : MemberSlots) → slot_of n (record f { repeated = x }) ≡ slot_of n f
 repeated_kept TypeName x f = refl
 repeated_kept _ x f = refl
 
-filled_other : (n m : Known) (v : Tree) (f : Shown) → same n m ≡ false → slot_of n (filled m v f) ≡ slot_of n f
+filled_other : (n m : Known) (v : Tree) (f : MemberSlots) → same n m ≡ false → slot_of n (filled m v f) ≡ slot_of n f
 filled_other n TypeName v f e = type_kept n v f
 filled_other n Coordinates v f e = shapes_kept n v f
 filled_other n Geometries v f e = joined_other n Geometries (least (judge Geometries v)) f.geometries f e
@@ -76,7 +76,7 @@ filled_other n Id v f e = joined_other n Id (least (judge Id v)) f.id f e
 filled_other n Other v f e = refl
 filled_other n Crs v f e = refl
 
-named_other : (n m : Known) (place : ℕ) (f : Shown) (k : Bool) (o : Option Slot) → same n m ≡ false → slot_of n (if k then named_known m place o f else f) ≡ slot_of n f
+named_other : (n m : Known) (place : ℕ) (f : MemberSlots) (k : Bool) (o : Option Slot) → same n m ≡ false → slot_of n (if k then named_known m place o f else f) ≡ slot_of n f
 named_other n m place f true (Some slot) e = repeated_kept n (lesser f.repeated (Some (fault_at place G10))) f
 named_other n m place f true None e = slot_of-other n m (record { name_at = place; fault = None }) f e
 named_other n m place f false o e = refl
@@ -87,7 +87,7 @@ due_other n m true true None role i a e = rw i e
 due_other n m true false None role i a e = rw i (other_same n a)
 due_other n m false u o role i a e = other_same n a
 
-pub slot-other : (n m : Known) (place : ℕ) (v : Tree) (f : Shown) → is_known n ≡ true → same n m ≡ false → slot_of n (member_taken place m v f) ≡ slot_of n f
+pub slot-other : (n m : Known) (place : ℕ) (v : Tree) (f : MemberSlots) → is_known n ≡ true → same n m ≡ false → slot_of n (member_taken place m v f) ≡ slot_of n f
 slot-other n m place v f a e =
     filled_other n (due_after m f) v (named m place f) (due_other n m (is_known m) (uses f.role m) (slot_of m f) f.role refl a e)
     ∙ named_other n m place f (is_known m) (slot_of m f) e
@@ -102,17 +102,17 @@ abbrev pub slot_from : Bool → Option First → Option Slot
 slot_from used None = None
 slot_from used (Some first) = Some (record { name_at = first.name_at; fault = if used then least first.faults else None })
 
-filled_own : (m : Known) (place : ℕ) (v : Tree) (f : Shown) → is_known m ≡ true → slot_of m (filled m v (with_slot m (record { name_at = place; fault = None }) f)) ≡ Some (record { name_at = place; fault = least (judge m v) })
+filled_own : (m : Known) (place : ℕ) (v : Tree) (f : MemberSlots) → is_known m ≡ true → slot_of m (filled m v (with_slot m (record { name_at = place; fault = None }) f)) ≡ Some (record { name_at = place; fault = least (judge m v) })
 filled_own Other place v f k = cc
 filled_own Crs place v f k = cc
 filled_own _ place v f k = refl
 
-own_slot : (m : Known) (place : ℕ) (v : Tree) (f : Shown) (u : Bool) (o : Option Slot) → uses f.role m ≡ u → slot_of m f ≡ o → is_known m ≡ true
+own_slot : (m : Known) (place : ℕ) (v : Tree) (f : MemberSlots) (u : Bool) (o : Option Slot) → uses f.role m ≡ u → slot_of m f ≡ o → is_known m ≡ true
     → slot_of m (filled (due_known m o f.role) v (named_known m place o f)) ≡ or_slot o (slot_from u (Some (record { name_at = place; value = v; faults = judge m v })))
 own_slot m place v f u (Some slot) i e k = repeated_kept m (lesser f.repeated (Some (fault_at place G10))) f ∙ e
 own_slot m place v f true None i e k = rw i (filled_own m place v f k)
 own_slot m place v f false None i e k = rw i (slot_of-with m (record { name_at = place; fault = None }) f k)
 
-pub slot-own : (m : Known) (place : ℕ) (v : Tree) (f : Shown) → is_known m ≡ true
+pub slot-own : (m : Known) (place : ℕ) (v : Tree) (f : MemberSlots) → is_known m ≡ true
     → slot_of m (member_taken place m v f) ≡ or_slot (slot_of m f) (slot_from (uses f.role m) (Some (record { name_at = place; value = v; faults = judge m v })))
 slot-own m place v f k = rw k (own_slot m place v f (uses f.role m) (slot_of m f) refl refl k)

@@ -4,7 +4,7 @@ use Rattle.gj_json.specs.declared.event.What.{What}
 use Rattle.gj_json.specs.declared.names.Known.TheVariants.{Coordinates, Bbox}
 use Rattle.gj_coords.specs.declared.coordinates.Coordinates as C
 use Rattle.gj_coords.specs.declared.bbox.Bbox as B
-use Rattle.gj_rules.specs.Internal.FrameMeaning.{Found, Frame}
+use Rattle.gj_rules.specs.Internal.FrameMeaning.{Findings, Frame}
 use Rattle.gj_rules.specs.declared.mode.Mode.{Mode}
 use Rattle.gj_rules.specs.declared.mode.Mode.TheVariants.{RootDue, Names, Due, Elements, Done}
 use Rattle.gj_rules.specs.declared.rules.Rules.{Rules}
@@ -24,7 +24,7 @@ holds zero Done c b e = tt
 pub rests : (rules : Rules) → is_feeding 0 rules.mode ≡ false → Holds rules []
 rests rules e = holds rules.skipped rules.mode rules.coordinates rules.bbox e
 
-skip_at : (k : ℕ) (what : What) (place : ℕ) (m : Mode) (f : Frame) (o : List Frame) (a : Found) (s : Core)
+skip_at : (k : ℕ) (what : What) (place : ℕ) (m : Mode) (f : Frame) (o : List Frame) (a : Findings) (s : Core)
     → s ≡ record { skipped = k; mode = m; top = f; outer = o; answer = a } → 0 < k
     → record s { skipped = skip what k } ≡ core_step (record { place = place; what = what }) s
 skip_at zero what place m f o a s e h = absurd (omega arith)
@@ -35,7 +35,7 @@ pub skips : (rules : Rules) (what : What) (place : ℕ) → 0 < rules.skipped
 skips rules what place h = skip_at rules.skipped what place rules.mode (top_of rules) (core_of rules).outer (core_of rules).answer (core_of rules) refl h
 
 -- where a name or the end of an object is due
-named_at : (k : ℕ) (m : Mode) (what : What) (place : ℕ) (f : Frame) (o : List Frame) (a : Found) (s : Core)
+named_at : (k : ℕ) (m : Mode) (what : What) (place : ℕ) (f : Frame) (o : List Frame) (a : Findings) (s : Core)
     → s ≡ record { skipped = k; mode = m; top = f; outer = o; answer = a } → k ≡ 0 → m ≡ Names
     → names_step what place s ≡ core_step (record { place = place; what = what }) s
 named_at k m what place f o a s e p q = rw (e, p, q) refl

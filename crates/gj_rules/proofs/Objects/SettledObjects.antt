@@ -7,18 +7,18 @@ use Rattle.gj_coords.specs.declared.fault.Fault.{Fault}
 use Rattle.gj_coords.specs.declared.fault.Rule.{Rule}
 use Rattle.gj_coords.specs.declared.fault.Rule.TheVariants.{G3, G5, G6, G7, G8}
 use Rattle.gj_rules.specs.declared.role.Role.{Role}
-use Rattle.gj_rules.specs.declared.shown.Slot.{Slot}
-use Rattle.gj_rules.specs.declared.shown.TypeValue.{TypeValue}
-use Rattle.gj_rules.specs.Internal.FrameMeaning.{Shown}
+use Rattle.gj_rules.specs.declared.member_slots.Slot.{Slot}
+use Rattle.gj_rules.specs.declared.member_slots.TypeValue.{TypeValue}
+use Rattle.gj_rules.specs.Internal.FrameMeaning.{MemberSlots}
 use Rattle.gj_coords.specs.Fault.{lesser, least, fault_at}
-use Rattle.gj_rules.specs.Internal.ShownMembers as F
+use Rattle.gj_rules.specs.Internal.OpenMembers as F
 use Rattle.gj_json.specs.Tree.{Tree, Members, object}
 use Rattle.gj_rules.specs.Faults as R
 use Rattle.gj_rules.specs.Members.{one, first_type, repeated}
 use Rattle.gj_rules.specs.Role.{is_allowed}
 use Rattle.gj_coords.specs.declared.simple.Simple.{Simple}
 use Rattle.gj_rules.specs.Faults.{First, FirstMembers, faults}
-use Rattle.gj_rules.specs.Internal.ShownMembers.{members_taken}
+use Rattle.gj_rules.specs.Internal.OpenMembers.{members_taken}
 use Rattle.gj_coords.specs.Internal.LeastLaws.{least-append}
 use Rattle.gj_rules.proofs.Objects.OneMember.{slot_from}
 use Rattle.gj_rules.proofs.Objects.AllMembers.{members_object, slots_after, type_from, type_after, shapes_from, shapes_after, repeated_after}
@@ -29,7 +29,7 @@ use Rattle.gj_coords.specs.Shape.{coordinates_faults}
 use Rattle.gj_rules.specs.Internal.Summaries.{shapes_of}
 
 -- what an object has shown at its end
-abbrev pub shown_with : Role → ℕ → Option Slot → Shapes → FirstMembers → Shown
+abbrev pub shown_with : Role → ℕ → Option Slot → Shapes → FirstMembers → MemberSlots
 shown_with role place type_name shapes p = record {
   place = place;
   role = role;
@@ -47,7 +47,7 @@ shown_with role place type_name shapes p = record {
 }
 
 -- where its type had not come before its coordinates
-abbrev pub shown_for : Role → ℕ → Option Slot → FirstMembers → Shown
+abbrev pub shown_for : Role → ℕ → Option Slot → FirstMembers → MemberSlots
 shown_for role place type_name p = shown_with role place type_name (shapes_from (F.uses role Coordinates) None None no_shapes p.coordinates) p
 
 forbidden_is : (u : Bool) (o : Option First) → F.forbidden_slot (slot_from u o) ≡ least (R.forbidden o)
@@ -195,7 +195,7 @@ none_set role place TypeName = refl
 none_set role place _ = refl
 
 -- what is shown is its fields
-fields_are : (f : Shown) (place : ℕ) (role : Role) (repeated : Option Fault) (type_value : Option TypeValue) (shapes : Shapes) (type_name coordinates geometries geometry properties features bbox id : Option Slot)
+fields_are : (f : MemberSlots) (place : ℕ) (role : Role) (repeated : Option Fault) (type_value : Option TypeValue) (shapes : Shapes) (type_name coordinates geometries geometry properties features bbox id : Option Slot)
     → f.place ≡ place → f.role ≡ role → f.repeated ≡ repeated → f.type_value ≡ type_value → f.shapes ≡ shapes → f.type_name ≡ type_name → f.coordinates ≡ coordinates
     → f.geometries ≡ geometries → f.geometry ≡ geometry → f.properties ≡ properties → f.features ≡ features → f.bbox ≡ bbox → f.id ≡ id
     → f ≡ record {
@@ -225,7 +225,7 @@ pub shown_after : (role : Role) (place : ℕ) (members : Members)
     → members_taken members (F.blank role place)
     ≡ shown_with role place (members_taken members (F.blank role place)).type_name (members_taken members (F.blank role place)).shapes (parts_of members)
 shown_after role place members =
-    let f : Shown = F.blank role place in
+    let f : MemberSlots = F.blank role place in
     let same = members_object members f in
     fields_are (members_taken members f) _ _ _ _ _ _ _ _ _ _ _ _ _
     same.place same.role
@@ -246,7 +246,7 @@ pub asked_after : (role : Role) (place : ℕ) (members : Members)
     → asked (first_type members) (members_taken members (F.blank role place)).shapes
     ≡ asked (first_type members) (shapes_from (F.uses role Coordinates) None None no_shapes (R.first Coordinates members))
 asked_after role place members =
-    let f : Shown = F.blank role place in
+    let f : MemberSlots = F.blank role place in
     subst (λ (t : Option TypeValue). asked t (members_taken members f).shapes ≡ asked t (shapes_from (F.uses role Coordinates) None None no_shapes (R.first Coordinates members)))
     (type_after members f ∙ kind_is (first_type members)) (shapes_after members f refl)
 
@@ -284,7 +284,7 @@ settled_asked role place t x p =
 
 pub closed : (role : Role) (place close : ℕ) (members : Members) → F.settled (members_taken members (F.blank role place)) ≡ least (faults role (object place members close))
 closed role place close members =
-    let f : Shown = members_taken members (F.blank role place) in
+    let f : MemberSlots = members_taken members (F.blank role place) in
     let p : FirstMembers = parts_of members in
     let first : Shapes = shapes_from (F.uses role Coordinates) None None no_shapes p.coordinates in
     ap F.settled (shown_after role place members)

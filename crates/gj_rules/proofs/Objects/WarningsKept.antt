@@ -18,7 +18,7 @@ use Rattle.gj_coords.specs.Internal.KeptWarnings.{warnings_of, no_warnings, join
 use Rattle.gj_coords.specs.Warnings.{Warning, warning_at}
 use Rattle.gj_coords.specs.Internal.WarningLaws.{joined_none_first, joined_none_last, joined_assoc, joined_comm, warnings_of_none, warnings_of-append, added_is}
 use Rattle.gj_rules.specs.declared.role.Role.{Role}
-use Rattle.gj_rules.specs.declared.shown.TypeValue.{TypeValue}
+use Rattle.gj_rules.specs.declared.member_slots.TypeValue.{TypeValue}
 use Rattle.gj_rules.specs.Members.{same, first_type}
 use Rattle.gj_rules.specs.Role.{is_allowed}
 use Rattle.gj_rules.specs.Internal.TextKept.{both, or_none, simple_kept, typed_kept, by_type_kept, selected_kept, kept, list_kept, all_kept, first_kept, marked_kept, and_kept, text_kept}

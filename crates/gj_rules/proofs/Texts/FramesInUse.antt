@@ -18,15 +18,15 @@ use Rattle.gj_coords.specs.declared.fault.Rule.TheVariants.{G1}
 use Rattle.gj_coords.specs.Fault.{least, fault_at}
 use Rattle.gj_coords.specs.Internal.LeastLaws.{least-append}
 use Rattle.gj_coords.specs.declared.warnings.Warnings.{Warnings}
-use Rattle.gj_rules.specs.Internal.FrameMeaning.{Found}
+use Rattle.gj_rules.specs.Internal.FrameMeaning.{Findings}
 use Rattle.gj_rules.specs.Internal.FrameMeaning.{Frame}
-use Rattle.gj_rules.specs.declared.shown.Slot.{Slot}
+use Rattle.gj_rules.specs.declared.member_slots.Slot.{Slot}
 use Rattle.gj_rules.specs.declared.role.Role.{Role}
 use Rattle.gj_rules.specs.declared.mode.Mode.{Mode}
 use Rattle.gj_rules.specs.declared.mode.Mode.TheVariants.{Names, Elements, Done}
 use Rattle.gj_rules.specs.Faults.{faults, all_faults}
 use Rattle.gj_rules.specs.Internal.FrameCalls.{blank, named, due_after, joined, taken_in, taken_any, settled, filled, member_taken, members_taken}
-use Rattle.gj_rules.specs.Internal.ShownMembers.{slot_of, due_known}
+use Rattle.gj_rules.specs.Internal.OpenMembers.{slot_of, due_known}
 use Rattle.gj_rules.specs.Internal.TextKept.{marked_kept, kept, all_kept}
 use Rattle.gj_rules.specs.Judged.{gives, counted, judged_in, list_judged, elements_judged, members_judged, judged_at}
 use Rattle.gj_rules.specs.Members.{is_known, mentions, same}
@@ -112,7 +112,7 @@ regroup : (xs ys zs : List Told) → InOrder ((xs ++ ys) ++ zs) → InOrder (xs 
 regroup xs ys zs h = subst (λ ts. InOrder ts) (append_assoc xs ys zs) h
 
 mutual
-  cut_skipped : (v : Tree) (rest : List Told) (k : ℕ) (m : Mode) (f : Frame) (o : List Frame) (a : Found) (n c : ℕ) → InOrder (told v ++ rest)
+  cut_skipped : (v : Tree) (rest : List Told) (k : ℕ) (m : Mode) (f : Frame) (o : List Frame) (a : Findings) (n c : ℕ) → InOrder (told v ++ rest)
       → Cut n rest (st (suc k) m f o a) c → Cut n (told v ++ rest) (st (suc k) m f o a) c
   cut_skipped (constant Null place) rest k m f o a n c i h = (λ _. h, λ l. cut_behind n _ [] rest (st (suc k) m f o a) c i.0 h l)
   cut_skipped (constant True place) rest k m f o a n c i h = (λ _. h, λ l. cut_behind n _ [] rest (st (suc k) m f o a) c i.0 h l)
@@ -140,7 +140,7 @@ mutual
         λ l. cut_behind n _ (members_told ms ++ last ∷ []) rest (st (suc k) m f o a) c i.0 h l,
       )
 
-  cut_skipped_elements : (es : Tree.Elements) (rest : List Told) (k : ℕ) (m : Mode) (f : Frame) (o : List Frame) (a : Found) (n c : ℕ) → InOrder (elements_told es ++ rest)
+  cut_skipped_elements : (es : Tree.Elements) (rest : List Told) (k : ℕ) (m : Mode) (f : Frame) (o : List Frame) (a : Findings) (n c : ℕ) → InOrder (elements_told es ++ rest)
       → Cut n rest (st (suc k) m f o a) c → Cut n (elements_told es ++ rest) (st (suc k) m f o a) c
   cut_skipped_elements end_of_array rest k m f o a n c i h = h
   cut_skipped_elements (element v more) rest k m f o a n c i h =
@@ -148,7 +148,7 @@ mutual
       rw (append_assoc (told v) (elements_told more) rest)
       (cut_skipped v (elements_told more ++ rest) k m f o a n c j (cut_skipped_elements more rest k m f o a n c (order_behind (told v) (elements_told more ++ rest) j) h))
 
-  cut_skipped_members : (ms : Members) (rest : List Told) (k : ℕ) (m : Mode) (f : Frame) (o : List Frame) (a : Found) (n c : ℕ) → InOrder (members_told ms ++ rest)
+  cut_skipped_members : (ms : Members) (rest : List Told) (k : ℕ) (m : Mode) (f : Frame) (o : List Frame) (a : Findings) (n c : ℕ) → InOrder (members_told ms ++ rest)
       → Cut n rest (st (suc k) m f o a) c → Cut n (members_told ms ++ rest) (st (suc k) m f o a) c
   cut_skipped_members end_of_object rest k m f o a n c i h = h
   cut_skipped_members (member place name end v more) rest k m f o a n c i h =
@@ -159,7 +159,7 @@ mutual
       )
 
 -- the rest of an array or an object that is not looked into
-array_cut : (es : Tree.Elements) (close : ℕ) (rest : List Told) (m : Mode) (f : Frame) (o : List Frame) (a : Found) (n c : ℕ) → InOrder ((elements_told es ++ plain (close + 1) close What.CloseArray ∷ []) ++ rest)
+array_cut : (es : Tree.Elements) (close : ℕ) (rest : List Told) (m : Mode) (f : Frame) (o : List Frame) (a : Findings) (n c : ℕ) → InOrder ((elements_told es ++ plain (close + 1) close What.CloseArray ∷ []) ++ rest)
     → Cut n rest (st 0 m f o a) c → Cut n ((elements_told es ++ plain (close + 1) close What.CloseArray ∷ []) ++ rest) (st 1 m f o a) c
 array_cut es close rest m f o a n c i h =
     let last : Told = plain (close + 1) close What.CloseArray in
@@ -168,7 +168,7 @@ array_cut es close rest m f o a n c i h =
     rw (append_assoc (elements_told es) (last ∷ []) rest)
     (cut_skipped_elements es (last ∷ rest) 0 m f o a n c j (λ _. h, λ l. cut_behind n _ [] rest (st 0 m f o a) c b.0 h l))
 
-object_cut : (ms : Members) (close : ℕ) (rest : List Told) (m : Mode) (f : Frame) (o : List Frame) (a : Found) (n c : ℕ) → InOrder ((members_told ms ++ plain (close + 1) close What.CloseObject ∷ []) ++ rest)
+object_cut : (ms : Members) (close : ℕ) (rest : List Told) (m : Mode) (f : Frame) (o : List Frame) (a : Findings) (n c : ℕ) → InOrder ((members_told ms ++ plain (close + 1) close What.CloseObject ∷ []) ++ rest)
     → Cut n rest (st 0 m f o a) c → Cut n ((members_told ms ++ plain (close + 1) close What.CloseObject ∷ []) ++ rest) (st 1 m f o a) c
 object_cut ms close rest m f o a n c i h =
     let last : Told = plain (close + 1) close What.CloseObject in
@@ -179,7 +179,7 @@ object_cut ms close rest m f o a n c i h =
 
 -- ---- what a summary takes
 
-cut_feed : (name : Known) → IsFed name → (v : Tree) (taken : List Event) (x : Told) (xs rest : List Told) (f : Frame) (o : List Frame) (a : Found) (n c : ℕ) → InOrder ((x ∷ xs) ++ rest)
+cut_feed : (name : Known) → IsFed name → (v : Tree) (taken : List Event) (x : Told) (xs rest : List Told) (f : Frame) (o : List Frame) (a : Findings) (n c : ℕ) → InOrder ((x ∷ xs) ++ rest)
     → Cut n rest (st 0 Names (filled name v f) o a) c → Cut n ((x ∷ xs) ++ rest) (feeding name v taken (map event_of (x ∷ xs)) f o a) c
 cut_feed Coordinates q v taken x [] rest f o a n c i h = (λ _. h, λ l. cut_behind n (at_of x) [] rest (st 0 Names (filled Coordinates v f) o a) c i.0 h l)
 cut_feed Coordinates q v taken x (y ∷ ys) rest f o a n c i h =
@@ -189,14 +189,14 @@ cut_feed Bbox q v taken x (y ∷ ys) rest f o a n c i h =
     (λ _. cut_feed Bbox q v (taken ++ event_of x ∷ []) y ys rest f o a n c i.1 h, λ l. cut_behind n (at_of x) (y ∷ ys) rest (st 0 Names (filled Bbox v f) o a) c i.0 h l)
 cut_feed _ q v taken x xs rest f o a n c i h = absurd q
 
-cut_fed : (name : Known) → IsFed name → (v : Tree) (x : Told) (xs rest : List Told) (f : Frame) (o : List Frame) (a : Found) (n c : ℕ) → told v ≡ x ∷ xs → InOrder (told v ++ rest)
+cut_fed : (name : Known) → IsFed name → (v : Tree) (x : Told) (xs rest : List Told) (f : Frame) (o : List Frame) (a : Findings) (n c : ℕ) → told v ≡ x ∷ xs → InOrder (told v ++ rest)
     → Cut n rest (st 0 Names (filled name v f) o a) c → Cut n (told v ++ rest) (feeding name v [] (value_events v) f o a) c
 cut_fed name q v x xs rest f o a n c e i h =
     subst (λ (es : List Event). Cut n (told v ++ rest) (feeding name v [] es f o a) c) (told-events v)
     (subst (λ (ts : List Told). Cut n (ts ++ rest) (feeding name v [] (map event_of ts) f o a) c) (sym e)
     (cut_feed name q v [] x xs rest f o a n c (subst (λ (ts : List Told). InOrder (ts ++ rest)) e i) h))
 
-cut_value : (name : Known) → IsFed name → (v : Tree) (rest : List Told) (f : Frame) (o : List Frame) (a : Found) (n c : ℕ) → InOrder (told v ++ rest)
+cut_value : (name : Known) → IsFed name → (v : Tree) (rest : List Told) (f : Frame) (o : List Frame) (a : Findings) (n c : ℕ) → InOrder (told v ++ rest)
     → Cut n rest (st 0 Names (filled name v f) o a) c → Cut n (told v ++ rest) (feeding name v [] (value_events v) f o a) c
 cut_value name q v rest f o a n c i h = let s = some_told v in cut_fed name q v s.0 s.1 rest f o a n c s.2 i h
 
@@ -233,7 +233,7 @@ due_counted _ r (Some s) b g gs fs h = refl
 due_counted _ Role.Root None b g gs fs h = refl
 due_counted _ _ None b g gs fs h = refl
 
-blank_mentions : (r : Role) (place : ℕ) → Mentions [] (blank r place).shown
+blank_mentions : (r : Role) (place : ℕ) → Mentions [] (blank r place).slots
 blank_mentions r place = record { each = λ n k. ap is_some (none_set r place n) }
 
 pub opened : (n place close : ℕ) → place + 1 ≤ n → n < close + 1 → is_open n place close ≡ 1
@@ -265,17 +265,17 @@ listed_inner Role.Feature q = tt
 listed_inner _ q = absurd q
 
 -- the end of an object that has a role, below another
-cut_close : (r : Role) → IsInner r → (place close : ℕ) (ms : Members) (rest : List Told) (f : Frame) (o : List Frame) (a : Found) (n c : ℕ) → place + 1 ≤ n → InOrder (plain (close + 1) close What.CloseObject ∷ rest)
+cut_close : (r : Role) → IsInner r → (place close : ℕ) (ms : Members) (rest : List Told) (f : Frame) (o : List Frame) (a : Findings) (n c : ℕ) → place + 1 ≤ n → InOrder (plain (close + 1) close What.CloseObject ∷ rest)
     → Cut n rest (st 0 (mode_behind r) (taken_any (member_of r) (least (faults r (object place ms close))) (kept r (object place ms close)) f) o a) c
     → Cut n (plain (close + 1) close What.CloseObject ∷ rest) (st 0 Names (members_taken ms (blank r place)) (f ∷ o) a) (is_open n place close + c)
 cut_close r q place close ms rest f o a n c p i h =
     let inner : Frame = members_taken ms (blank r place) in
-    let e : inner.shown.role ≡ r = frame_role ms (blank r place) in (
+    let e : inner.slots.role ≡ r = frame_role ms (blank r place) in (
       λ l. let d : c ≡ is_open n place close + c = omega (arith, shut n place close p l) in
-          subst (λ x. Cut n rest (behind close inner.shown.role (settled inner) f o a) x) d
+          subst (λ x. Cut n rest (behind close inner.slots.role (settled inner) f o a) x) d
           (subst (λ (x : Role). Cut n rest (behind close x (settled inner) f o a) c) (sym e)
           (subst (λ (s : State). Cut n rest s c) (sym (behind_idle close r (settled inner) f o a))
-          (subst (λ (x : Found). Cut n rest (st 0 (mode_behind r) (taken_in (member_of r) x f) o a) c) (sym (all_closed r place close ms)) h))),
+          (subst (λ (x : Findings). Cut n rest (st 0 (mode_behind r) (taken_in (member_of r) x f) o a) c) (sym (all_closed r place close ms)) h))),
       λ l. let k = cut_behind n _ [] rest (st 0 (mode_behind r) (taken_any (member_of r) (least (faults r (object place ms close))) (kept r (object place ms close)) f) o a) c i.0 h l in
           omega (arith, opened n place close p l, k, inner_frames r q o),
     )
@@ -293,7 +293,7 @@ late_list_of : (n m : ℕ) (xs ys rest : List Told) → n < m → After m ((xs +
 late_list_of n m xs ys rest l h = late_front n xs ys (late_front n (xs ++ ys) rest (late_after n m ((xs ++ ys) ++ rest) l h))
 
 -- an array of values with a role
-cut_list : (es : Tree.Elements) (place close : ℕ) (r : Role) (rest : List Told) (f : Frame) (o : List Frame) (a : Found) (n c : ℕ)
+cut_list : (es : Tree.Elements) (place close : ℕ) (r : Role) (rest : List Told) (f : Frame) (o : List Frame) (a : Findings) (n c : ℕ)
     → InOrder (told (array place es close) ++ rest) → Cut n rest (st 0 Names (taken_any (member_of r) (least (all_faults r es)) (all_kept r es) f) o a) c
     → (InOrder (elements_told es ++ plain (close + 1) close What.CloseArray ∷ rest)
     → Cut n (plain (close + 1) close What.CloseArray ∷ rest) (st 0 (Elements r) (taken_any (member_of r) (least (all_faults r es)) (all_kept r es) f) o a) c
@@ -313,7 +313,7 @@ cut_list es place close r rest f o a n c i h g =
 
 mutual
   -- the value of a first member
-  cut_due : (v : Tree) (name : Known) (rest : List Told) (f : Frame) (o : List Frame) (a : Found) (n c : ℕ) → InOrder (told v ++ rest) → Cut n rest (st 0 Names (filled name v f) o a) c
+  cut_due : (v : Tree) (name : Known) (rest : List Told) (f : Frame) (o : List Frame) (a : Findings) (n c : ℕ) → InOrder (told v ++ rest) → Cut n rest (st 0 Names (filled name v f) o a) c
       → Cut n (told v ++ rest) (due_st name v f o a) (due_judged name (judged_in n Role.Geometry v) (list_judged n Role.Part v) (list_judged n Role.Feature v) + c)
   cut_due v Coordinates rest f o a n c i h = cut_zero n (told v ++ rest) (due_st Coordinates v f o a) c (cut_value Coordinates tt v rest f o a n c i h)
   cut_due v Bbox rest f o a n c i h = cut_zero n (told v ++ rest) (due_st Bbox v f o a) c (cut_value Bbox tt v rest f o a n c i h)
@@ -349,7 +349,7 @@ mutual
       )
 
   -- an element of an array of values with a role
-  cut_element : (v : Tree) (r : Role) → IsListed r → (rest : List Told) (f : Frame) (o : List Frame) (a : Found) (n c : ℕ) → InOrder (told v ++ rest)
+  cut_element : (v : Tree) (r : Role) → IsListed r → (rest : List Told) (f : Frame) (o : List Frame) (a : Findings) (n c : ℕ) → InOrder (told v ++ rest)
       → Cut n rest (st 0 (Elements r) (taken_any (member_of r) (least (faults r v)) (kept r v) f) o a) c → Cut n (told v ++ rest) (st 0 (Elements r) f o a) (judged_in n r v + c)
   cut_element (constant Null place) Role.Part q rest f o a n c i h = cut_zero n (told (constant Null place) ++ rest) (st 0 (Elements Role.Part) f o a) c (λ _. h, λ l. cut_behind n _ [] rest (st 0 (Elements Role.Part) (joined (member_of Role.Part) (Some (fault_at place G1)) f) o a) c i.0 h l)
   cut_element (constant Null place) Role.Feature q rest f o a n c i h = cut_zero n (told (constant Null place) ++ rest) (st 0 (Elements Role.Feature) f o a) c (λ _. h, λ l. cut_behind n _ [] rest (st 0 (Elements Role.Feature) (joined (member_of Role.Feature) (Some (fault_at place G1)) f) o a) c i.0 h l)
@@ -376,7 +376,7 @@ mutual
             (cut_behind n _ (members_told ms ++ last ∷ []) rest (st 0 (Elements r) (taken_any (member_of r) (least (faults r (object place ms close))) (kept r (object place ms close)) f) o a) c i.0 h l),
       )
 
-  cut_elements : (es : Tree.Elements) (r : Role) → IsListed r → (rest : List Told) (f : Frame) (o : List Frame) (a : Found) (n c : ℕ) → InOrder (elements_told es ++ rest)
+  cut_elements : (es : Tree.Elements) (r : Role) → IsListed r → (rest : List Told) (f : Frame) (o : List Frame) (a : Findings) (n c : ℕ) → InOrder (elements_told es ++ rest)
       → Cut n rest (st 0 (Elements r) (taken_any (member_of r) (least (all_faults r es)) (all_kept r es) f) o a) c → Cut n (elements_told es ++ rest) (st 0 (Elements r) f o a) (elements_judged n r es + c)
   cut_elements end_of_array r q rest f o a n c i h = cut_zero n rest (st 0 (Elements r) f o a) c (subst (λ (g : Frame). Cut n rest (st 0 (Elements r) g o a) c) (taken_none (member_of r) f) h)
   cut_elements (element v more) r q rest f o a n c i h =
@@ -390,7 +390,7 @@ mutual
       ∙ sym (taken_twice (member_of r) f (least (faults r v)) (least (all_faults r more)) (kept r v) (all_kept r more) (known_list r q))) h))))
 
   -- the members behind those of the names `before`
-  cut_members : (ms : Members) (rest : List Told) (f : Frame) (o : List Frame) (a : Found) (n c : ℕ) (r : Role) (before : List Known) → Mentions before f.shown → f.shown.role ≡ r → InOrder (members_told ms ++ rest)
+  cut_members : (ms : Members) (rest : List Told) (f : Frame) (o : List Frame) (a : Findings) (n c : ℕ) (r : Role) (before : List Known) → Mentions before f.slots → f.slots.role ≡ r → InOrder (members_told ms ++ rest)
       → Cut n rest (st 0 Names (members_taken ms f) o a) c → Cut n (members_told ms ++ rest) (st 0 Names f o a) (members_judged n r before ms + c)
   cut_members end_of_object rest f o a n c r before m e i h = cut_zero n rest (st 0 Names f o a) c h
   cut_members (member place name end v more) rest f o a n c r before m e i h =
@@ -401,13 +401,13 @@ mutual
       let fs : ℕ = list_judged n Role.Feature v in
       let more_count : ℕ = members_judged n r (known ∷ before) more in
       let next = cut_members more rest (member_taken place known v f) o a n c r (known ∷ before)
-      (record { each = λ q k. mentions_step before q known place v f.shown (same q known) m k refl })
-      ((member_object known place v f.shown).role ∙ e) (order_behind (told v) (members_told more ++ rest) j) h in (
+      (record { each = λ q k. mentions_step before q known place v f.slots (same q known) m k refl })
+      ((member_object known place v f.slots).role ∙ e) (order_behind (told v) (members_told more ++ rest) j) h in (
         λ _. rw (append_assoc (told v) (members_told more) rest)
             (subst (λ d. Cut n (told v ++ (members_told more ++ rest)) (due_st (due_after known f) v (named known place f) o a) d)
             (both_before (due_judged (due_after known f) g gs fs) (counted known (not (mentions before known) && gives r known) g gs fs) more_count c
-            (ap (λ (q : Role). due_judged (if is_known known then due_known known (slot_of known f.shown) q else Other) g gs fs) e
-            ∙ due_counted known r (slot_of known f.shown) (mentions before known) g gs fs (m.each known)))
+            (ap (λ (q : Role). due_judged (if is_known known then due_known known (slot_of known f.slots) q else Other) g gs fs) e
+            ∙ due_counted known r (slot_of known f.slots) (mentions before known) g gs fs (m.each known)))
             (cut_due v (due_after known f) (members_told more ++ rest) (named known place f) o a n (more_count + c) j next)),
         λ l. none_before (members_judged n r before (member place name end v more)) c (length o + 1)
             (late_members (member place name end v more) n r before (l, late_front n (told v ++ members_told more) rest (late_after n end ((told v ++ members_told more) ++ rest) l i.0)))

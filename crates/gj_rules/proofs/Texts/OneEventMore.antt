@@ -11,7 +11,7 @@ use Rattle.gj_json.specs.Tree.{Tree, Text, depth}
 use Rattle.gj_coords.specs.declared.coordinates.Coordinates as C
 use Rattle.gj_coords.specs.declared.bbox.Bbox as B
 use Rattle.gj_rules.specs.Levels.{most_levels, most_skipped}
-use Rattle.gj_rules.specs.Internal.FrameMeaning.{Found}
+use Rattle.gj_rules.specs.Internal.FrameMeaning.{Findings}
 use Rattle.gj_rules.specs.Internal.FrameReading.{found_in}
 use Rattle.gj_rules.specs.Internal.FrameMeaning.{Frame}
 use Rattle.gj_rules.specs.declared.mode.Mode.{Mode}
@@ -53,13 +53,13 @@ run-last (y ∷ ys) x s = run-last ys x (step y s)
 
 -- ---- an event that goes to no summary
 
-abbrev pub core : ℕ → Mode → Frame → List Frame → Found → Core
+abbrev pub core : ℕ → Mode → Frame → List Frame → Findings → Core
 core k m f o a = record { skipped = k; mode = m; top = f; outer = o; answer = a }
 
 abbrev pub with_feed : Core → Feed → State
 with_feed c feed = record { core = c; feed = feed }
 
-step_core : (x : Told) (feed : Feed) (k : ℕ) (m : Mode) (f : Frame) (o : List Frame) (a : Found) → is_feeding k m ≡ false
+step_core : (x : Told) (feed : Feed) (k : ℕ) (m : Mode) (f : Frame) (o : List Frame) (a : Findings) → is_feeding k m ≡ false
     → (step x (with_feed (core k m f o a) feed)).core ≡ core_step (event_of x) (core k m f o a)
 step_core x feed zero m f o a e = rw e refl
 step_core x feed (suc k) m f o a e = refl
@@ -77,17 +77,17 @@ behind_taken x Names = refl
 behind_taken x (Elements r) = refl
 behind_taken x Done = refl
 
-step_taken : (x : Told) (feed : Feed) (k : ℕ) (m : Mode) (f : Frame) (o : List Frame) (a : Found) → is_feeding k m ≡ false
+step_taken : (x : Told) (feed : Feed) (k : ℕ) (m : Mode) (f : Frame) (o : List Frame) (a : Findings) → is_feeding k m ≡ false
     → (step x (with_feed (core k m f o a) feed)).feed.taken ≡ []
 step_taken x feed zero m f o a e = rw e (behind_taken x (core_step (event_of x) (core zero m f o a)).mode)
 step_taken x feed (suc k) m f o a e = refl
 
-few_skipped : (x : Told) (rest : List Told) (feed : Feed) (k : ℕ) (m : Mode) (f : Frame) (o : List Frame) (a : Found)
+few_skipped : (x : Told) (rest : List Told) (feed : Feed) (k : ℕ) (m : Mode) (f : Frame) (o : List Frame) (a : Findings)
     → is_feeding k m ≡ false → Good x rest (with_feed (core k m f o a) feed) → k < most_skipped
 few_skipped x rest feed zero m f o a e g = omega arith
 few_skipped x rest feed (suc k) m f o a e g = g
 
-has_room : (x : Told) (rest : List Told) (feed : Feed) (k : ℕ) (m : Mode) (f : Frame) (o : List Frame) (a : Found)
+has_room : (x : Told) (rest : List Told) (feed : Feed) (k : ℕ) (m : Mode) (f : Frame) (o : List Frame) (a : Findings)
     → is_feeding k m ≡ false → Good x rest (with_feed (core k m f o a) feed) → k ≡ 0 → HasRoom (event_of x).what o
 has_room x rest feed (suc k) m f o a e g z = cc
 has_room x rest feed zero (Due Coordinates) f o a e g z = cc
@@ -110,12 +110,12 @@ taken_core old new x rest feed e g t h = (
 
 -- ---- an event that goes to a summary
 
-pub step_fed : (x : Told) (feed : Feed) (k : ℕ) (m : Mode) (f : Frame) (o : List Frame) (a : Found) → is_feeding k m ≡ true
+pub step_fed : (x : Told) (feed : Feed) (k : ℕ) (m : Mode) (f : Frame) (o : List Frame) (a : Findings) → is_feeding k m ≡ true
     → step x (with_feed (core k m f o a) feed) ≡ fed feed.left (event_of x) feed.value feed.taken (core k m f o a)
 step_fed x feed zero m f o a e = rw e refl
 step_fed x feed (suc k) m f o a e = cc
 
-pub ended_names : (v : Tree) (k : ℕ) (m : Mode) (f : Frame) (o : List Frame) (a : Found) → is_feeding k m ≡ true → (ended v (core k m f o a)).mode ≡ Names
+pub ended_names : (v : Tree) (k : ℕ) (m : Mode) (f : Frame) (o : List Frame) (a : Findings) → is_feeding k m ≡ true → (ended v (core k m f o a)).mode ≡ Names
 ended_names v zero (Due name) f o a e = refl
 ended_names v zero RootDue f o a e = cc
 ended_names v zero Names f o a e = cc
@@ -137,7 +137,7 @@ fed_core old new x v taken [] next e h =
     (h, holds_names new.skipped new.mode new.coordinates new.bbox [] (ap (λ (c : Core). c.mode) h ∙ ended_names v old.skipped old.mode (top_of old) (core_of old).outer (core_of old).answer e))
 fed_core old new x v taken (y ∷ ys) next e h = h
 
-pub fits_of : (x : Told) (rest : List Told) (feed : Feed) (k : ℕ) (m : Mode) (f : Frame) (o : List Frame) (a : Found)
+pub fits_of : (x : Told) (rest : List Told) (feed : Feed) (k : ℕ) (m : Mode) (f : Frame) (o : List Frame) (a : Findings)
     → is_feeding k m ≡ true → Good x rest (with_feed (core k m f o a) feed) → Fits feed (x ∷ rest)
 fits_of x rest feed zero (Due Coordinates) f o a e g = g
 fits_of x rest feed zero (Due Bbox) f o a e g = g

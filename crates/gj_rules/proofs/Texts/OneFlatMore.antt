@@ -10,7 +10,7 @@ use Rattle.gj_json.specs.Events as E
 use Rattle.gj_json.specs.Events.{value_events, elements_events, members_events, timed}
 use Rattle.gj_json.specs.Flat.{number_event, numbers_events}
 use Rattle.gj_json.specs.Tree.{Tree, constant, number, string, array, object}
-use Rattle.gj_rules.specs.Internal.FrameMeaning.{Found}
+use Rattle.gj_rules.specs.Internal.FrameMeaning.{Findings}
 use Rattle.gj_rules.specs.Internal.FrameMeaning.{Frame}
 use Rattle.gj_rules.specs.declared.mode.Mode.{Mode}
 use Rattle.gj_rules.specs.declared.rules.Rules.{Rules}
@@ -50,7 +50,7 @@ fed_is (y ∷ ys) event v taken c = refl
 abbrev feeding : Tree → List Event → List Event → Feed
 feeding v taken left = record { value = v; taken = taken; left = left }
 
-run_fed : (x : Told) (xs : List Told) (left : List Event) (v : Tree) (taken : List Event) (k : ℕ) (m : Mode) (f : Frame) (o : List Frame) (a : Found) → is_feeding k m ≡ true
+run_fed : (x : Told) (xs : List Told) (left : List Event) (v : Tree) (taken : List Event) (k : ℕ) (m : Mode) (f : Frame) (o : List Frame) (a : Findings) → is_feeding k m ≡ true
     → run (x ∷ xs) (with_feed (core k m f o a) (feeding v taken (map event_of (x ∷ xs) ++ left))) ≡ outcome left v (taken ++ map event_of (x ∷ xs)) (core k m f o a)
 run_fed x [] left v taken k m f o a e = step_fed x (feeding v taken (event_of x ∷ left)) k m f o a e ∙ fed_is left (event_of x) v taken (core k m f o a)
 run_fed x (y ∷ ys) left v taken k m f o a e =
@@ -177,7 +177,7 @@ module _ (old new : Rules) (place : ℕ) (numbers : List Numbered) (close : ℕ)
       subst (λ (s : State). Stands new s)
       (sym (ap (λ (es : List Event). run (x ∷ xs) (with_feed (core_of old) (feeding v taken es))) l ∙ (r ∙ ap (λ (es : List Event). outcome w.0 v (taken ++ es) (core_of old)) e))) done
 
-  flat_run : (xs rest : List Told) (s : State) (found : Found) → map event_of xs ≡ fs → Stands old s → Leads (xs ++ rest) s found → Stands new (run xs s)
+  flat_run : (xs rest : List Told) (s : State) (found : Findings) → map event_of xs ≡ fs → Stands old s → Leads (xs ++ rest) s found → Stands new (run xs s)
   flat_run [] rest s found e h g = cc
   flat_run (x ∷ xs) rest s found e h g =
       let fits = fits_of x (xs ++ rest) s.feed old.skipped old.mode (top_of old) (core_of old).outer (core_of old).answer feeds (good_core old x (xs ++ rest) s h.0 g.0) in

@@ -20,7 +20,7 @@ use Rattle.gj_coords.specs.Items.{items, elements_of, place_of}
 use Rattle.gj_coords.specs.Box.{box_number, is_wrong_length, bbox_faults}
 use Rattle.gj_coords.specs.Shape.{Shape, misshapen, few, unheld, held_number, any_number, position, several, list, line, unclosed, ring, or_empty, shape_of, coordinates_faults}
 use Rattle.gj_rules.specs.declared.role.Role.{Role}
-use Rattle.gj_rules.specs.declared.shown.TypeValue.{TypeValue}
+use Rattle.gj_rules.specs.declared.member_slots.TypeValue.{TypeValue}
 use Rattle.gj_rules.specs.Faults
 use Rattle.gj_rules.specs.Faults.{First, FirstMembers}
 use Rattle.gj_rules.specs.Members.{same, is_known, mentions, first_type, again, repeated}

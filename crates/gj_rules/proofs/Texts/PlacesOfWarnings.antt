@@ -18,7 +18,7 @@ use Rattle.gj_coords.specs.Shape.{position, ring}
 use Rattle.gj_coords.specs.Warnings.{Warning, same_kind, places_of, least_place, lesser_place, first_of}
 use Rattle.gj_coords.specs.Winding.{in_range, exterior_runs_wrong, hole_runs_wrong}
 use Rattle.gj_rules.specs.declared.role.Role.{Role}
-use Rattle.gj_rules.specs.declared.shown.TypeValue.{TypeValue}
+use Rattle.gj_rules.specs.declared.member_slots.TypeValue.{TypeValue}
 use Rattle.gj_rules.specs.Members.{same, first_type}
 use Rattle.gj_rules.specs.Role.{is_allowed}
 use Rattle.gj_rules.specs.TextWarnings

@@ -17,16 +17,16 @@ use Rattle.gj_coords.specs.Fault.{least, fault_at}
 use Rattle.gj_coords.specs.declared.warnings.Warnings.{Warnings}
 use Rattle.gj_coords.specs.Internal.KeptWarnings as Noted
 use Rattle.gj_rules.specs.Levels.{most_levels, most_skipped}
-use Rattle.gj_rules.specs.Internal.FrameMeaning.{Found}
+use Rattle.gj_rules.specs.Internal.FrameMeaning.{Findings}
 use Rattle.gj_rules.specs.Internal.FrameMeaning.{Frame}
-use Rattle.gj_rules.specs.Internal.FrameMeaning.{Shown}
-use Rattle.gj_rules.specs.declared.shown.Slot.{Slot}
+use Rattle.gj_rules.specs.Internal.FrameMeaning.{MemberSlots}
+use Rattle.gj_rules.specs.declared.member_slots.Slot.{Slot}
 use Rattle.gj_rules.specs.declared.role.Role.{Role}
 use Rattle.gj_rules.specs.declared.mode.Mode.{Mode}
 use Rattle.gj_rules.specs.declared.mode.Mode.TheVariants.{RootDue, Names, Due, Elements, Done}
 use Rattle.gj_rules.specs.Faults.{faults, all_faults, text_faults}
 use Rattle.gj_rules.specs.Internal.FrameCalls.{blank, named, due_after, joined, taken_in, taken_any, settled, filled, member_taken, members_taken}
-use Rattle.gj_rules.specs.Internal.ShownMembers.{slot_of, due_known, uses}
+use Rattle.gj_rules.specs.Internal.OpenMembers.{slot_of, due_known, uses}
 use Rattle.gj_rules.specs.Internal.TextKept.{marked_kept, kept, all_kept, and_kept, text_kept}
 use Rattle.gj_rules.specs.Members.{is_known}
 use Rattle.gj_rules.specs.Internal.RulesState.{HasRoom}
@@ -61,13 +61,13 @@ abbrev pub Good : Told → List Told → State → Type 0
 Good x xs s = GoodAt s.core.skipped s.core.mode x xs s
 
 -- the events lead from the state to the answer z, and each state before one of them is good
-abbrev pub Leads : List Told → State → Found → Type 0
+abbrev pub Leads : List Told → State → Findings → Type 0
 Leads [] s z = s.core.answer ≡ z
 Leads (x ∷ xs) s z = Good x xs s × Leads xs (step x s) z
 
 -- With no value under way. From here on k is the number of skipped levels, m the mode, f the innermost frame, o the
 -- frames around it, a the answer so far, and n the level of the object with that frame.
-abbrev pub st : ℕ → Mode → Frame → List Frame → Found → State
+abbrev pub st : ℕ → Mode → Frame → List Frame → Findings → State
 st skipped mode top outer answer = record { core = record { skipped = skipped; mode = mode; top = top; outer = outer; answer = answer }; feed = idle }
 
 -- ---- what is not looked into
@@ -79,7 +79,7 @@ pub down : (k : ℕ) → suc (suc k) - 1 ≡ suc k
 down k = omega arith
 
 mutual
-  skip_value : (v : Tree) (rest : List Told) (k : ℕ) (m : Mode) (f : Frame) (o : List Frame) (a z : Found) → k + depth v ≤ most_levels
+  skip_value : (v : Tree) (rest : List Told) (k : ℕ) (m : Mode) (f : Frame) (o : List Frame) (a z : Findings) → k + depth v ≤ most_levels
       → Leads rest (st (suc k) m f o a) z → Leads (told v ++ rest) (st (suc k) m f o a) z
   skip_value (constant Null place) rest k m f o a z d h = (omega arith, h)
   skip_value (constant True place) rest k m f o a z d h = (omega arith, h)
@@ -101,14 +101,14 @@ mutual
         (omega arith, subst (λ n. Leads rest (st n m f o a) z) (sym (down k)) h))),
   )
 
-  skip_elements : (es : Tree.Elements) (rest : List Told) (k : ℕ) (m : Mode) (f : Frame) (o : List Frame) (a z : Found) → k + elements_depth es ≤ most_levels
+  skip_elements : (es : Tree.Elements) (rest : List Told) (k : ℕ) (m : Mode) (f : Frame) (o : List Frame) (a z : Findings) → k + elements_depth es ≤ most_levels
       → Leads rest (st (suc k) m f o a) z → Leads (elements_told es ++ rest) (st (suc k) m f o a) z
   skip_elements end_of_array rest k m f o a z d h = h
   skip_elements (element v more) rest k m f o a z d h =
       rw (append_assoc (told v) (elements_told more) rest)
       (skip_value v (elements_told more ++ rest) k m f o a z (omega arith) (skip_elements more rest k m f o a z (omega arith) h))
 
-  skip_members : (ms : Members) (rest : List Told) (k : ℕ) (m : Mode) (f : Frame) (o : List Frame) (a z : Found) → k + members_depth ms ≤ most_levels
+  skip_members : (ms : Members) (rest : List Told) (k : ℕ) (m : Mode) (f : Frame) (o : List Frame) (a z : Findings) → k + members_depth ms ≤ most_levels
       → Leads rest (st (suc k) m f o a) z → Leads (members_told ms ++ rest) (st (suc k) m f o a) z
   skip_members end_of_object rest k m f o a z d h = h
   skip_members (member place name end v more) rest k m f o a z d h = (
@@ -118,13 +118,13 @@ mutual
   )
 
 -- the rest of an array or an object that is not looked into
-array_skipped : (es : Tree.Elements) (close : ℕ) (rest : List Told) (m : Mode) (f : Frame) (o : List Frame) (a z : Found) → elements_depth es ≤ most_levels
+array_skipped : (es : Tree.Elements) (close : ℕ) (rest : List Told) (m : Mode) (f : Frame) (o : List Frame) (a z : Findings) → elements_depth es ≤ most_levels
     → Leads rest (st 0 m f o a) z → Leads ((elements_told es ++ plain (close + 1) close What.CloseArray ∷ []) ++ rest) (st 1 m f o a) z
 array_skipped es close rest m f o a z d h =
     rw (append_assoc (elements_told es) (plain (close + 1) close What.CloseArray ∷ []) rest)
     (skip_elements es (plain (close + 1) close What.CloseArray ∷ rest) 0 m f o a z (omega arith) (omega arith, h))
 
-object_skipped : (ms : Members) (close : ℕ) (rest : List Told) (m : Mode) (f : Frame) (o : List Frame) (a z : Found) → members_depth ms ≤ most_levels
+object_skipped : (ms : Members) (close : ℕ) (rest : List Told) (m : Mode) (f : Frame) (o : List Frame) (a z : Findings) → members_depth ms ≤ most_levels
     → Leads rest (st 0 m f o a) z → Leads ((members_told ms ++ plain (close + 1) close What.CloseObject ∷ []) ++ rest) (st 1 m f o a) z
 object_skipped ms close rest m f o a z d h =
     rw (append_assoc (members_told ms) (plain (close + 1) close What.CloseObject ∷ []) rest)
@@ -132,7 +132,7 @@ object_skipped ms close rest m f o a z d h =
 
 -- ---- what a summary takes
 
-abbrev pub feeding : Known → Tree → List Event → List Event → Frame → List Frame → Found → State
+abbrev pub feeding : Known → Tree → List Event → List Event → Frame → List Frame → Findings → State
 feeding name v taken left f o a = record { core = record { skipped = 0; mode = Due name; top = f; outer = o; answer = a }; feed = record { value = v; taken = taken; left = left } }
 
 -- a name whose value a summary takes
@@ -148,7 +148,7 @@ fits v taken x xs rest d e = record { deep = d; next = event_of x; later = map e
 pub one_more : (v : Tree) (taken : List Event) (x : Told) (xs : List Told) → taken ++ map event_of (x ∷ xs) ≡ value_events v → (taken ++ event_of x ∷ []) ++ map event_of xs ≡ value_events v
 one_more v taken x xs e = append_assoc taken (event_of x ∷ []) (map event_of xs) ∙ e
 
-feed_all : (name : Known) → IsFed name → (v : Tree) (taken : List Event) (x : Told) (xs rest : List Told) (f : Frame) (o : List Frame) (a z : Found) → depth v ≤ most_levels → taken ++ map event_of (x ∷ xs) ≡ value_events v
+feed_all : (name : Known) → IsFed name → (v : Tree) (taken : List Event) (x : Told) (xs rest : List Told) (f : Frame) (o : List Frame) (a z : Findings) → depth v ≤ most_levels → taken ++ map event_of (x ∷ xs) ≡ value_events v
     → Leads rest (st 0 Names (filled name v f) o a) z → Leads ((x ∷ xs) ++ rest) (feeding name v taken (map event_of (x ∷ xs)) f o a) z
 feed_all Coordinates i v taken x [] rest f o a z d e h = (fits v taken x [] rest d e, h)
 feed_all Coordinates i v taken x (y ∷ ys) rest f o a z d e h =
@@ -166,14 +166,14 @@ some_told (string place content end) = (_, _, refl)
 some_told (array place es close) = (_, _, refl)
 some_told (object place ms close) = (_, _, refl)
 
-feed_told : (name : Known) → IsFed name → (v : Tree) (x : Told) (xs rest : List Told) (f : Frame) (o : List Frame) (a z : Found) → depth v ≤ most_levels → told v ≡ x ∷ xs
+feed_told : (name : Known) → IsFed name → (v : Tree) (x : Told) (xs rest : List Told) (f : Frame) (o : List Frame) (a z : Findings) → depth v ≤ most_levels → told v ≡ x ∷ xs
     → Leads rest (st 0 Names (filled name v f) o a) z → Leads (told v ++ rest) (feeding name v [] (value_events v) f o a) z
 feed_told name i v x xs rest f o a z d e h =
     subst (λ (es : List Event). Leads (told v ++ rest) (feeding name v [] es f o a) z) (told-events v)
     (subst (λ (ts : List Told). Leads (ts ++ rest) (feeding name v [] (map event_of ts) f o a) z) (sym e)
     (feed_all name i v [] x xs rest f o a z d (ap (λ (ts : List Told). map event_of ts) (sym e) ∙ told-events v) h))
 
-feed_value : (name : Known) → IsFed name → (v : Tree) (rest : List Told) (f : Frame) (o : List Frame) (a z : Found) → depth v ≤ most_levels
+feed_value : (name : Known) → IsFed name → (v : Tree) (rest : List Told) (f : Frame) (o : List Frame) (a z : Findings) → depth v ≤ most_levels
     → Leads rest (st 0 Names (filled name v f) o a) z → Leads (told v ++ rest) (feeding name v [] (value_events v) f o a) z
 feed_value name i v rest f o a z d h = let s = some_told v in feed_told name i v s.0 s.1 rest f o a z d s.2 h
 
@@ -235,40 +235,40 @@ mode_listed Role.Feature h = refl
 mode_listed _ h = absurd h
 
 -- the members change no role
-pub frame_role : (ms : Members) (f : Frame) → (members_taken ms f).shown.role ≡ f.shown.role
-frame_role ms f = ap (λ (s : Shown). s.role) (members_shown ms f) ∙ (members_object ms f.shown).role
+pub frame_role : (ms : Members) (f : Frame) → (members_taken ms f).slots.role ≡ f.slots.role
+frame_role ms f = ap (λ (s : MemberSlots). s.role) (members_shown ms f) ∙ (members_object ms f.slots).role
 
 -- the end of an object that has a role, below another
-abbrev pub behind : ℕ → Role → Found → Frame → List Frame → Found → State
+abbrev pub behind : ℕ → Role → Findings → Frame → List Frame → Findings → State
 behind close r found f o a =
     record { core = record { skipped = 0; mode = mode_behind r; top = taken_in (member_of r) found f; outer = o; answer = a }; feed = feed_behind (plain (close + 1) close What.CloseObject) (mode_behind r) }
 
-pub behind_idle : (close : ℕ) (r : Role) (found : Found) (f : Frame) (o : List Frame) (a : Found) → behind close r found f o a ≡ st 0 (mode_behind r) (taken_in (member_of r) found f) o a
+pub behind_idle : (close : ℕ) (r : Role) (found : Findings) (f : Frame) (o : List Frame) (a : Findings) → behind close r found f o a ≡ st 0 (mode_behind r) (taken_in (member_of r) found f) o a
 behind_idle close Role.Root found f o a = refl
 behind_idle close Role.Geometry found f o a = refl
 behind_idle close Role.Part found f o a = refl
 behind_idle close Role.Feature found f o a = refl
 
-close_below : (r : Role) (place close : ℕ) (ms : Members) (rest : List Told) (f : Frame) (o : List Frame) (a z : Found)
+close_below : (r : Role) (place close : ℕ) (ms : Members) (rest : List Told) (f : Frame) (o : List Frame) (a z : Findings)
     → Leads rest (st 0 (mode_behind r) (taken_any (member_of r) (least (faults r (object place ms close))) (kept r (object place ms close)) f) o a) z
     → Leads (plain (close + 1) close What.CloseObject ∷ rest) (st 0 Names (members_taken ms (blank r place)) (f ∷ o) a) z
 close_below r place close ms rest f o a z h =
     let inner : Frame = members_taken ms (blank r place) in
-    let e : inner.shown.role ≡ r = frame_role ms (blank r place) in (
+    let e : inner.slots.role ≡ r = frame_role ms (blank r place) in (
       tt,
       subst (λ (q : Role). Leads rest (behind close q (settled inner) f o a) z) (sym e)
           (subst (λ (s : State). Leads rest s z) (sym (behind_idle close r (settled inner) f o a))
-          (subst (λ (x : Found). Leads rest (st 0 (mode_behind r) (taken_in (member_of r) x f) o a) z) (sym (all_closed r place close ms)) h)),
+          (subst (λ (x : Findings). Leads rest (st 0 (mode_behind r) (taken_in (member_of r) x f) o a) z) (sym (all_closed r place close ms)) h)),
     )
 
 -- the value behind a name is due
-abbrev pub due_st : Known → Tree → Frame → List Frame → Found → State
+abbrev pub due_st : Known → Tree → Frame → List Frame → Findings → State
 due_st name v f o a = record { core = record { skipped = 0; mode = Due name; top = f; outer = o; answer = a }; feed = due_feed name v }
 
 mutual
   -- the value of a first member, in an object at level n
-  lead_due : (v : Tree) (name : Known) (rest : List Told) (f : Frame) (o : List Frame) (a z : Found) (n : ℕ) (r : Role)
-      → n + depth v ≤ most_levels → IsWithin n o r → f.shown.role ≡ r → MayHold r name → Leads rest (st 0 Names (filled name v f) o a) z → Leads (told v ++ rest) (due_st name v f o a) z
+  lead_due : (v : Tree) (name : Known) (rest : List Told) (f : Frame) (o : List Frame) (a z : Findings) (n : ℕ) (r : Role)
+      → n + depth v ≤ most_levels → IsWithin n o r → f.slots.role ≡ r → MayHold r name → Leads rest (st 0 Names (filled name v f) o a) z → Leads (told v ++ rest) (due_st name v f o a) z
   lead_due v Coordinates rest f o a z n r d w e m h = feed_value Coordinates tt v rest f o a z (omega arith) h
   lead_due v Bbox rest f o a z n r d w e m h = feed_value Bbox tt v rest f o a z (omega arith) h
   lead_due (constant Null place) name rest f o a z n r d w e m h = (tt, h)
@@ -296,7 +296,7 @@ mutual
   lead_due (object place ms close) name rest f o a z n r d w e m h = (omega (arith, credit_small r), object_skipped ms close rest Names (filled name (object place ms close) f) o a z (omega arith) h)
 
   -- an element of an array of values with a role, where the array is at level n
-  lead_element : (v : Tree) (r : Role) → IsListed r → (rest : List Told) (f : Frame) (o : List Frame) (a z : Found) (n : ℕ)
+  lead_element : (v : Tree) (r : Role) → IsListed r → (rest : List Told) (f : Frame) (o : List Frame) (a z : Findings) (n : ℕ)
       → n + depth v ≤ most_levels → 2 * (length o + 2) ≤ n + 1 + credit r → Leads rest (st 0 (Elements r) (taken_any (member_of r) (least (faults r v)) (kept r v) f) o a) z → Leads (told v ++ rest) (st 0 (Elements r) f o a) z
   lead_element (constant Null place) Role.Part i rest f o a z n d w h = (tt, h)
   lead_element (constant Null place) Role.Feature i rest f o a z n d w h = (tt, h)
@@ -314,7 +314,7 @@ mutual
         (subst (λ (m : Mode). Leads rest (st 0 m (taken_any (member_of r) (least (faults r (object place ms close))) (kept r (object place ms close)) f) o a) z) (sym (mode_listed r i)) h))),
   )
 
-  lead_elements : (es : Tree.Elements) (r : Role) → IsListed r → (rest : List Told) (f : Frame) (o : List Frame) (a z : Found) (n : ℕ)
+  lead_elements : (es : Tree.Elements) (r : Role) → IsListed r → (rest : List Told) (f : Frame) (o : List Frame) (a z : Findings) (n : ℕ)
       → n + elements_depth es ≤ most_levels → 2 * (length o + 2) ≤ n + 1 + credit r
       → Leads rest (st 0 (Elements r) (taken_any (member_of r) (least (all_faults r es)) (all_kept r es) f) o a) z → Leads (elements_told es ++ rest) (st 0 (Elements r) f o a) z
   lead_elements end_of_array r i rest f o a z n d w h = subst (λ (g : Frame). Leads rest (st 0 (Elements r) g o a) z) (taken_none (member_of r) f) h
@@ -327,26 +327,26 @@ mutual
       ∙ sym (taken_twice (member_of r) f (least (faults r v)) (least (all_faults r more)) (kept r v) (all_kept r more) (known_list r i))) h)))
 
   -- the members of an object at level n
-  lead_members : (ms : Members) (rest : List Told) (f : Frame) (o : List Frame) (a z : Found) (n : ℕ) (r : Role)
-      → n + members_depth ms ≤ most_levels → IsWithin n o r → f.shown.role ≡ r → Leads rest (st 0 Names (members_taken ms f) o a) z → Leads (members_told ms ++ rest) (st 0 Names f o a) z
+  lead_members : (ms : Members) (rest : List Told) (f : Frame) (o : List Frame) (a z : Findings) (n : ℕ) (r : Role)
+      → n + members_depth ms ≤ most_levels → IsWithin n o r → f.slots.role ≡ r → Leads rest (st 0 Names (members_taken ms f) o a) z → Leads (members_told ms ++ rest) (st 0 Names f o a) z
   lead_members end_of_object rest f o a z n r d w e h = h
   lead_members (member place name end v more) rest f o a z n r d w e h = (
     tt,
     rw (append_assoc (told v) (members_told more) rest)
         (lead_due v (due_after (known_of name) f) (members_told more ++ rest) (named (known_of name) place f) o a z n r (omega arith) w
-        ((named_object (known_of name) place f.shown (is_known (known_of name)) (slot_of (known_of name) f.shown)).role ∙ e)
-        (subst (λ (q : Role). MayHold r (if is_known (known_of name) then due_known (known_of name) (slot_of (known_of name) f.shown) q else Other)) (sym e)
-        (due_holds (known_of name) r (is_known (known_of name)) (uses r (known_of name)) (slot_of (known_of name) f.shown) refl))
-        (lead_members more rest (member_taken place (known_of name) v f) o a z n r (omega arith) w ((member_object (known_of name) place v f.shown).role ∙ e) h)),
+        ((named_object (known_of name) place f.slots (is_known (known_of name)) (slot_of (known_of name) f.slots)).role ∙ e)
+        (subst (λ (q : Role). MayHold r (if is_known (known_of name) then due_known (known_of name) (slot_of (known_of name) f.slots) q else Other)) (sym e)
+        (due_holds (known_of name) r (is_known (known_of name)) (uses r (known_of name)) (slot_of (known_of name) f.slots) refl))
+        (lead_members more rest (member_taken place (known_of name) v f) o a z n r (omega arith) w ((member_object (known_of name) place v f.slots).role ∙ e) h)),
   )
 
 -- ---- the text
 
 -- what is found in a text, given what was found before its value
-abbrev pub found_behind : Warnings → Tree → Found
+abbrev pub found_behind : Warnings → Tree → Findings
 found_behind had v = record { fault = least (faults Role.Root v); warned = and_kept had (kept Role.Root v) }
 
-abbrev pub had_found : Warnings → Found
+abbrev pub had_found : Warnings → Findings
 had_found had = record { fault = None; warned = had }
 
 -- before the value of the text
@@ -360,12 +360,12 @@ lead_root (constant False place) had d = (tt, refl)
 lead_root (number place literal end) had d = (tt, refl)
 lead_root (string place content end) had d = (tt, refl)
 lead_root (array place es close) had d =
-    let found : Found = found_behind had (array place es close) in
+    let found : Findings = found_behind had (array place es close) in
     (tt, skip_elements es (plain (close + 1) close What.CloseArray ∷ []) 0 Done (blank Role.Root 0) [] found found (omega arith) (omega arith, refl))
 lead_root (object place ms close) had d = (
   omega arith,
   lead_members ms (plain (close + 1) close What.CloseObject ∷ []) (blank Role.Root place) [] (had_found had) (found_behind had (object place ms close)) 1 Role.Root (omega arith) (omega arith) refl
-      (tt, ap (λ (x : Found). record { fault = x.fault; warned = Noted.joined had x.warned }) (all_closed Role.Root place close ms)),
+      (tt, ap (λ (x : Findings). record { fault = x.fault; warned = Noted.joined had x.warned }) (all_closed Role.Root place close ms)),
 )
 
 lead_marked : (marked : Bool) (v : Tree) → depth v ≤ most_levels → Leads (mark_told marked ++ told v) start (found_behind (marked_kept marked) v)
@@ -373,12 +373,12 @@ lead_marked true v d = (tt, lead_root v (marked_kept true) d)
 lead_marked false v d = lead_root v (marked_kept false) d
 
 -- what is found in a text
-abbrev pub text_found : Text → Found
+abbrev pub text_found : Text → Findings
 text_found text = record { fault = least (text_faults text); warned = text_kept text }
 
 pub lead_text : (text : Text) → depth text.value ≤ most_levels → Leads (text_told text) start (text_found text)
 lead_text text d = lead_marked text.marked text.value d
 
-pub leads_at : (done rest : List Told) (s : State) (z : Found) → Leads (done ++ rest) s z → Leads rest (run done s) z
+pub leads_at : (done rest : List Told) (s : State) (z : Findings) → Leads (done ++ rest) s z → Leads rest (run done s) z
 leads_at [] rest s z h = h
 leads_at (x ∷ xs) rest s z h = leads_at xs rest (step x s) z h.1

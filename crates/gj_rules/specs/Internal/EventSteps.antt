@@ -15,7 +15,7 @@ use Rattle.gj_coords.specs.Fault.{fault_at}
 use Rattle.gj_coords.specs.declared.kind.Kind.TheVariants.{W1}
 use Rattle.gj_coords.specs.Internal.KeptWarnings as Noted
 use Rattle.gj_coords.specs.Internal.KeptWarnings.{added}
-use Rattle.gj_rules.specs.Internal.FrameMeaning.{Found}
+use Rattle.gj_rules.specs.Internal.FrameMeaning.{Findings}
 use Rattle.gj_rules.specs.Internal.FrameMeaning.{Frame}
 use Rattle.gj_rules.specs.declared.role.Role.{Role}
 use Rattle.gj_rules.specs.declared.mode.Mode.{Mode}
@@ -32,7 +32,7 @@ pub record Core : Type 0 where
   pub mode : Mode
   pub top : Frame
   pub outer : List Frame
-  pub answer : Found
+  pub answer : Findings
 
 -- how many levels a value opens that is not looked into
 abbrev pub levels_in : What → ℕ
@@ -57,7 +57,7 @@ abbrev pub pushed : Role → ℕ → Core → Core
 pushed role place s = record s { mode = Names; top = blank role place; outer = s.top ∷ s.outer }
 
 -- at the end of an object in which this is found
-abbrev pub popped : List Frame → Role → Found → Core → Core
+abbrev pub popped : List Frame → Role → Findings → Core → Core
 popped [] role found s = record s { mode = Done; answer = record { fault = found.fault; warned = Noted.joined s.answer.warned found.warned } }
 popped (parent ∷ outer) role found s = record s { mode = mode_behind role; top = taken_in (member_of role) found parent; outer = outer }
 
@@ -68,7 +68,7 @@ root_step what place s = record s { mode = Done; skipped = levels_in what; answe
 
 abbrev pub names_step : What → ℕ → Core → Core
 names_step (What.Name name) place s = record s { mode = Due (due_after name s.top); top = named name place s.top }
-names_step _ place s = popped s.outer s.top.shown.role (settled s.top) s
+names_step _ place s = popped s.outer s.top.slots.role (settled s.top) s
 
 abbrev pub word_in : What → Word
 word_in (What.Text word) = word

@@ -3,22 +3,22 @@ use Rattle.std.specs.Prelude.{ℕ, Option}
 use Rattle.gj_coords.specs.declared.fault.Fault.{Fault}
 use Rattle.gj_coords.specs.declared.warnings.Warnings.{Warnings}
 use Rattle.gj_rules.specs.declared.role.Role.{Role}
-use Rattle.gj_rules.specs.declared.shown.Slot.{Slot}
-use Rattle.gj_rules.specs.declared.shown.TypeValue.{TypeValue}
+use Rattle.gj_rules.specs.declared.member_slots.Slot.{Slot}
+use Rattle.gj_rules.specs.declared.member_slots.TypeValue.{TypeValue}
 
-pub record Found : Type 0 where
+pub record Findings : Type 0 where
   pub fault : Option Fault
   pub warned : Warnings
 
 pub record Shapes : Type 0 where
-  pub point : Found
-  pub multi_point : Found
+  pub point : Findings
+  pub multi_point : Findings
   pub line_string : Option Fault
-  pub multi_line_string : Found
-  pub polygon : Found
-  pub multi_polygon : Found
+  pub multi_line_string : Findings
+  pub polygon : Findings
+  pub multi_polygon : Findings
 
-pub record Shown : Type 0 where
+pub record MemberSlots : Type 0 where
   pub place : ℕ
   pub role : Role
   pub repeated : Option Fault
@@ -33,12 +33,12 @@ pub record Shown : Type 0 where
   pub bbox : Option Slot
   pub id : Option Slot
 
-pub record Gathered : Type 0 where
+pub record MemberWarnings : Type 0 where
   pub own : Warnings
   pub geometries : Warnings
   pub geometry : Warnings
   pub features : Warnings
 
 pub record Frame : Type 0 where
-  pub shown : Shown
-  pub gathered : Gathered
+  pub slots : MemberSlots
+  pub gathered : MemberWarnings

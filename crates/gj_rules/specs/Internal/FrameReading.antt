@@ -10,19 +10,19 @@ use Rattle.gj_coords.specs.declared.warned.Warned.{Warned}
 use Rattle.gj_coords.specs.declared.warnings.Warnings.{Warnings}
 use Rattle.gj_coords.specs.Internal.KeptWarnings.{no_warnings}
 use Rattle.gj_coords.specs.Internal.GatheredWarnings.{all_in}
-use Rattle.gj_rules.specs.declared.found.Found as D
+use Rattle.gj_rules.specs.declared.findings.Findings as D
 use Rattle.gj_rules.specs.declared.frame.Frame as DF
-use Rattle.gj_rules.specs.declared.gathered.Gathered as DG
+use Rattle.gj_rules.specs.declared.member_warnings.MemberWarnings as DG
 use Rattle.gj_rules.specs.declared.lazy_warned.LazyWarned.{LazyWarned}
 use Rattle.gj_rules.specs.declared.shapes.Shapes as DS
-use Rattle.gj_rules.specs.declared.shown.Shown as DW
-use Rattle.gj_rules.specs.declared.shown.Present.{Present}
-use Rattle.gj_rules.specs.declared.shown.Shaped.{Shaped}
-use Rattle.gj_rules.specs.declared.shown.Slot.{Slot}
-use Rattle.gj_rules.specs.Internal.FrameMeaning.{Found, Shapes, Shown, Gathered, Frame}
+use Rattle.gj_rules.specs.declared.member_slots.MemberSlots as DW
+use Rattle.gj_rules.specs.declared.member_slots.Present.{Present}
+use Rattle.gj_rules.specs.declared.member_slots.Shaped.{Shaped}
+use Rattle.gj_rules.specs.declared.member_slots.Slot.{Slot}
+use Rattle.gj_rules.specs.Internal.FrameMeaning.{Findings, Shapes, MemberSlots, MemberWarnings, Frame}
 use Rattle.gj_rules.specs.Internal.Summaries.{no_shapes, alike}
 
-abbrev pub found_in : D.Found → Found
+abbrev pub found_in : D.Findings → Findings
 found_in x = record { fault = x.fault; warned = all_in x.warned }
 
 -- by the faults and the warnings for each type
@@ -48,7 +48,7 @@ abbrev pub shapes_in : DS.Shapes → Shapes
 shapes_in x = shapes_by x.faults (warned_in x)
 
 -- what is found for one type alone
-abbrev pub one_in : DS.Shapes → Found
+abbrev pub one_in : DS.Shapes → Findings
 one_in x = record { fault = x.faults.point; warned = all_in x.point }
 
 -- those that were set
@@ -69,8 +69,8 @@ abbrev pub repeated_in : Option ℕ → Option Fault
 repeated_in None = None
 repeated_in (Some place) = Some (fault_at place G10)
 
-abbrev pub shown_in : DW.Shown → Shown
-shown_in x = record {
+abbrev pub slots_in : DW.MemberSlots → MemberSlots
+slots_in x = record {
   place = x.place;
   role = x.role;
   repeated = repeated_in x.repeated;
@@ -94,8 +94,8 @@ warnings_if false warned = no_warnings
 abbrev pub counted_in : LazyWarned → Warnings
 counted_in x = warnings_if x.counts x.warned
 
-abbrev pub gathered_in : DG.Gathered → Gathered
+abbrev pub gathered_in : DG.MemberWarnings → MemberWarnings
 gathered_in x = record { own = counted_in x.own; geometries = counted_in x.geometries; geometry = counted_in x.geometry; features = counted_in x.features }
 
 abbrev pub frame_in : DF.Frame → Frame
-frame_in x = record { shown = shown_in x.shown; gathered = gathered_in x.gathered }
+frame_in x = record { slots = slots_in x.slots; gathered = gathered_in x.gathered }

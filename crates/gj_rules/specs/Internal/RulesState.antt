@@ -14,7 +14,7 @@ use Rattle.gj_rules.specs.Internal.FrameReading.{frame_in, found_in, none_presen
 use Rattle.gj_rules.specs.declared.mode.Mode.{Mode}
 use Rattle.gj_rules.specs.declared.mode.Mode.TheVariants.{RootDue, Due, Done}
 use Rattle.gj_rules.specs.declared.role.Role.{Role}
-use Rattle.gj_rules.specs.declared.shown.Shaped.{Shaped}
+use Rattle.gj_rules.specs.declared.member_slots.Shaped.{Shaped}
 use Rattle.gj_rules.specs.declared.rules.Rules.{Rules}
 use Rattle.gj_rules.specs.declared.rules.TheConstants.{MOST_AROUND}
 use Rattle.gj_coords.specs.SimpleFaults.{by_simple}
@@ -25,7 +25,7 @@ use Rattle.gj_rules.specs.Internal.Summaries.{StandsForCoordinates, StandsForBbo
 -- at an index where no frame lies: there is always one at that of the innermost object
 unfoldable pub no_frame : D.Frame
 no_frame = record {
-  shown = record {
+  slots = record {
     place = 0;
     role = Role.Root;
     repeated = None;

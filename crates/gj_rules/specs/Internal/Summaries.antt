@@ -14,8 +14,8 @@ use Rattle.gj_coords.specs.Bbox as TheBbox
 use Rattle.gj_coords.specs.declared.warnings.Warnings.{Warnings}
 use Rattle.gj_coords.specs.Internal.KeptWarnings.{no_warnings}
 use Rattle.gj_coords.specs.Internal.CoordinatesKept.{coordinates_kept}
-use Rattle.gj_rules.specs.declared.shown.TypeValue.{TypeValue}
-use Rattle.gj_rules.specs.Internal.FrameMeaning.{Found}
+use Rattle.gj_rules.specs.declared.member_slots.TypeValue.{TypeValue}
+use Rattle.gj_rules.specs.Internal.FrameMeaning.{Findings}
 use Rattle.gj_rules.specs.Internal.FrameMeaning.{Shapes}
 
 abbrev pub StandsForCoordinates : Coordinates → List Event → Type 0
@@ -24,7 +24,7 @@ StandsForCoordinates coordinates events = TheCoordinates.StandsFor coordinates e
 abbrev pub StandsForBbox : Bbox → List Event → Type 0
 StandsForBbox bbox events = TheBbox.StandsFor bbox events
 
-abbrev pub none_found : Found
+abbrev pub none_found : Findings
 none_found = record { fault = None; warned = no_warnings }
 
 abbrev pub no_shapes : Shapes
@@ -48,7 +48,7 @@ warned_for Simple.Polygon shapes = shapes.polygon.warned
 warned_for Simple.MultiPolygon shapes = shapes.multi_polygon.warned
 
 -- what is found in a value as the coordinates of a type
-abbrev pub found_as : Simple → Tree → Found
+abbrev pub found_as : Simple → Tree → Findings
 found_as simple value = record { fault = least (coordinates_faults simple value); warned = coordinates_kept simple value }
 
 -- of each type
@@ -64,11 +64,11 @@ shapes_of value = record {
 
 -- ---- where the type is known
 
-abbrev pub shape_found : Simple → Shapes → Found
+abbrev pub shape_found : Simple → Shapes → Findings
 shape_found simple shapes = record { fault = shape_for simple shapes; warned = warned_for simple shapes }
 
 -- the same for each type
-abbrev pub alike : Found → Shapes
+abbrev pub alike : Findings → Shapes
 alike found = record { point = found; multi_point = found; line_string = found.fault; multi_line_string = found; polygon = found; multi_polygon = found }
 
 -- as which an object of a type has its coordinates, where it has some

@@ -13,7 +13,7 @@ use Rattle.gj_coords.specs.Internal.KeptWarnings.{warnings_of, no_warnings, join
 use Rattle.gj_coords.specs.BoxWarnings.{bbox_warnings}
 use Rattle.gj_coords.specs.Internal.CoordinatesKept.{coordinates_kept}
 use Rattle.gj_rules.specs.declared.role.Role.{Role}
-use Rattle.gj_rules.specs.declared.shown.TypeValue.{TypeValue}
+use Rattle.gj_rules.specs.declared.member_slots.TypeValue.{TypeValue}
 use Rattle.gj_rules.specs.Members.{same, first_type}
 use Rattle.gj_rules.specs.Role.{is_allowed}
 use Rattle.gj_rules.specs.TextWarnings.{crs_warnings, first_value}

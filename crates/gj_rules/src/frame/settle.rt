@@ -2,7 +2,7 @@
 ghost use Rattle.std.specs.Prelude.{◌≡◌, IsTrue};
 
 use super::Frame;
-use crate::found::Found;
+use crate::findings::Findings;
 use crate::role::Role;
 use gj_coords::{Kind, Simple, Warned};
 use gj_json::Word;
@@ -17,11 +17,11 @@ impl Frame {
     /// Adds those of a GeometryCollection: of its geometries, and that it is one of another's (RFC 7946, section 3.1.8).
     #[tactic(auto, using(crate::proofs::Objects::WarningsInTurn::and_one))]
     fn warn_collected(&self, warned: &mut Warned)
-        ensures { all_in warned.new ≡ joined (all_in warned.old) (collected self.now.shown.role self.now.shown.place (counted_in self.now.gathered.geometries)) }
+        ensures { all_in warned.new ≡ joined (all_in warned.old) (collected self.now.slots.role self.now.slots.place (counted_in self.now.gathered.geometries)) }
     {
         self.gathered.geometries.add_to(warned);
-        match self.shown.role {
-            Role::Part => warned.note(Kind::W7, self.shown.place),
+        match self.slots.role {
+            Role::Part => warned.note(Kind::W7, self.slots.place),
             _ => {}
         }
     }
@@ -32,12 +32,12 @@ impl Frame {
         ensures { all_in warned.new ≡ joined (all_in warned.old) (warned_as word (frame_in self.now)) }
     {
         match word {
-            Word::Point => self.shown.warn_shape(Simple::Point, warned),
-            Word::MultiPoint => self.shown.warn_shape(Simple::MultiPoint, warned),
-            Word::LineString => self.shown.warn_shape(Simple::LineString, warned),
-            Word::MultiLineString => self.shown.warn_shape(Simple::MultiLineString, warned),
-            Word::Polygon => self.shown.warn_shape(Simple::Polygon, warned),
-            Word::MultiPolygon => self.shown.warn_shape(Simple::MultiPolygon, warned),
+            Word::Point => self.slots.warn_shape(Simple::Point, warned),
+            Word::MultiPoint => self.slots.warn_shape(Simple::MultiPoint, warned),
+            Word::LineString => self.slots.warn_shape(Simple::LineString, warned),
+            Word::MultiLineString => self.slots.warn_shape(Simple::MultiLineString, warned),
+            Word::Polygon => self.slots.warn_shape(Simple::Polygon, warned),
+            Word::MultiPolygon => self.slots.warn_shape(Simple::MultiPolygon, warned),
             Word::GeometryCollection => self.warn_collected(warned),
             Word::Feature => self.gathered.geometry.add_to(warned),
             Word::FeatureCollection => self.gathered.features.add_to(warned),
@@ -48,10 +48,10 @@ impl Frame {
     /// Adds those that hang on its type.
     #[tactic(auto, using(crate::proofs::Objects::WarningsInTurn::with_none))]
     fn warn_by_type(&self, warned: &mut Warned)
-        ensures { all_in warned.new ≡ joined (all_in warned.old) (warned_by self.now.shown.type_value (frame_in self.now)) }
+        ensures { all_in warned.new ≡ joined (all_in warned.old) (warned_by self.now.slots.type_value (frame_in self.now)) }
     {
-        if let Some(value) = self.shown.type_value {
-            if self.shown.role.allows(value.word) {
+        if let Some(value) = self.slots.type_value {
+            if self.slots.role.allows(value.word) {
                 self.warn_as(value.word, warned);
             }
         }
@@ -63,15 +63,15 @@ impl Frame {
         ensures { IsTrue result → settled (frame_in self.now) ≡ none_found }
     {
         self.gathered.is_nothing()
-            && (self.shown.is_unwarned() && (!self.shown.is_nested() && self.shown.is_sound()))
+            && (self.slots.is_unwarned() && (!self.slots.is_nested() && self.slots.is_sound()))
     }
 
     /// Sets what is found in the object, at its close.
     #[tactic(auto, using(crate::proofs::Objects::WarningsInTurn::to_none))]
-    pub fn settle(&self, found: &mut Found)
+    pub fn settle(&self, found: &mut Findings)
         ensures { found_in found.new ≡ settled (frame_in self.now) }
     {
-        found.fault = self.shown.settle();
+        found.fault = self.slots.settle();
         found.warned.clear();
         self.gathered.own.add_to(&mut found.warned);
         self.warn_by_type(&mut found.warned);

@@ -2,7 +2,7 @@
 ghost use Rattle.std.specs.Prelude.{◌≡◌, ◌≤◌, ℕ, [], List, true};
 
 use super::Rules;
-use crate::shown::Shown;
+use crate::member_slots::MemberSlots;
 
 impl Rules {
     ghost use Rattle.gj_json.specs.Tree.{Text, depth};
@@ -13,14 +13,14 @@ impl Rules {
     ghost use Rattle.gj_rules.specs.Internal.RulesState.{core_of};
     ghost use Rattle.gj_rules.specs.Levels.{most_levels};
     ghost use Rattle.gj_rules.specs.Internal.LostObjects.{core_lost, root_of};
-    ghost use Rattle.gj_rules.specs.Internal.FrameReading.{shown_in};
+    ghost use Rattle.gj_rules.specs.Internal.FrameReading.{slots_in};
     ghost use Rattle.gj_rules.specs.Rules.{StandsFor};
 
     /// What the outermost open object has shown.
-    fn outermost(&self) -> &Shown
-        ensures { shown_in result.now ≡ root_of (core_of self.now).top (core_of self.now).outer }
+    fn outermost(&self) -> &MemberSlots
+        ensures { slots_in result.now ≡ root_of (core_of self.now).top (core_of self.now).outer }
     {
-        &self.frames[0].shown
+        &self.frames[0].slots
     }
 
     fn is_lost(&self) -> bool

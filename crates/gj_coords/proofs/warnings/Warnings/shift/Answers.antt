@@ -1,21 +1,21 @@
 use Rattle.std.proofs.Common.{arith, ap, sym, ◌∙◌, ◌≡◌, ◌==◌, get_or, Option, Some, None, if◌then◌else◌, ℕ}
 use Rattle.gj_coords.specs.declared.kind.Kind.{Kind}
 use Rattle.gj_coords.specs.declared.kind.Kind.TheVariants.{W1}
-use Rattle.gj_coords.specs.declared.noted.Noted.{Noted}
+use Rattle.gj_coords.specs.declared.kind_warnings.KindWarnings.{KindWarnings}
 use Rattle.gj_coords.specs.Warnings.{kinds, index_of}
 use Rattle.gj_coords.specs.Internal.KeptWarnings.{kept, shifted_noted, shifted, replaced}
 use Rattle.gj_coords.specs.Internal.ByKind.{index_at}
 use Rattle.gj_coords.proofs.Lists.KindsInTurn.{all_turned, not_turned, one_turned}
 use Rattle.gj_coords.proofs.warnings.Warnings.shift.Goals as goal
 
-abbrev first_noted : Noted → Option ℕ
+abbrev first_noted : KindWarnings → Option ℕ
 first_noted noted = if noted.count == 0 then None else Some noted.first
 
 pub kept_shifted-noted-requires : goal.kept_shifted-noted-requires
 kept_shifted-noted-requires c place h =
     let i = c.loop-kind.kind-index in
     let a = c.args.self.now in
-    let value : Kind → Noted = λ kind. shifted_noted c.args.by (kept a kind) in
+    let value : Kind → KindWarnings = λ kind. shifted_noted c.args.by (kept a kind) in
     let kind = get_or kinds i W1 in
     let at : index_of kind ≡ i = index_at i c.loop-kind-test.true in
     let same : kept c.loop-kind.self kind ≡ kept a kind = ap (λ w. kept w kind) c.loop-kind.invariant ∙ not_turned i value a kind at in
@@ -25,7 +25,7 @@ pub loop-kind-preserved : goal.loop-kind-preserved
 loop-kind-preserved c =
     let i = c.loop-kind.kind-index in
     let a = c.args.self.now in
-    let value : Kind → Noted = λ kind. shifted_noted c.args.by (kept a kind) in
+    let value : Kind → KindWarnings = λ kind. shifted_noted c.args.by (kept a kind) in
     let kind = get_or kinds i W1 in
     let at : index_of kind ≡ i = index_at i c.loop-kind-test.true in
     let noted : c.kept_shifted-noted.result ≡ value kind =

@@ -1,7 +1,7 @@
 use Rattle.std.proofs.Common.{arith, ap, ◌∙◌, ◌≡◌, get_or}
 use Rattle.gj_coords.specs.declared.kind.Kind.{Kind}
 use Rattle.gj_coords.specs.declared.kind.Kind.TheVariants.{W1}
-use Rattle.gj_coords.specs.declared.noted.Noted.{Noted}
+use Rattle.gj_coords.specs.declared.kind_warnings.KindWarnings.{KindWarnings}
 use Rattle.gj_coords.specs.Warnings.{kinds, index_of}
 use Rattle.gj_coords.specs.Internal.KeptWarnings.{kept, joined_noted, joined, replaced}
 use Rattle.gj_coords.specs.Internal.ByKind.{index_at}
@@ -12,7 +12,7 @@ pub loop-kind-preserved : goal.loop-kind-preserved
 loop-kind-preserved c =
     let i = c.loop-kind.kind-index in
     let a = c.args.self.now in
-    let value : Kind → Noted = λ kind. joined_noted (kept a kind) (kept c.args.other.now kind) in
+    let value : Kind → KindWarnings = λ kind. joined_noted (kept a kind) (kept c.args.other.now kind) in
     let kind = get_or kinds i W1 in
     let at : index_of kind ≡ i = index_at i c.loop-kind-test.true in
     let noted : c.both-noted.result ≡ value kind =

@@ -6,6 +6,6 @@ pub returns : goal.returns
 returns g c = record {
   at_the_end = λ value events rest stands joined room.
       rw c.done.ensures
-      (ended_at_end g.R.Part.machine (type_answer g.R.TypeReader.simple) g.met.R.TypeReader.answers
+      (ended_at_end g.R.ValueReader.machine (type_answer g.R.TypeReader.simple) g.met.R.TypeReader.answers
       c.args.self.now.reader value events rest stands joined room);
 }

@@ -2,7 +2,7 @@ use Rattle.std.proofs.Common.{◌≡◌, ◌^◌, ◌<◌, ap, ◌∙◌, length
 use Rattle.gj_json.specs.Events.{value_events}
 use Rattle.gj_json.specs.Tree.{Text, depth}
 use Rattle.gj_json.specs.Events.{all_events}
-use Rattle.gj_rules.specs.Internal.FrameMeaning.{Found}
+use Rattle.gj_rules.specs.Internal.FrameMeaning.{Findings}
 use Rattle.gj_rules.specs.Internal.TextKept.{text_kept}
 use Rattle.gj_rules.proofs.Objects.WarningsKept.{text_is}
 use Rattle.gj_rules.proofs.Texts.LinterEvents.{fewer_of_value}
@@ -10,9 +10,9 @@ use Rattle.gj_rules.proofs.Texts.OneEventMore.{answered}
 use Rattle.gj_rules.proofs.rules.Rules.warnings.Goals as goal
 
 pub returns-clause-kept : goal.returns-clause-kept
-returns-clause-kept c = λ text d h. c.all.ensures ∙ ap (λ (x : Found). x.warned) (answered c.args.self.now text d h)
+returns-clause-kept c = λ text d h. c.all.ensures ∙ ap (λ (x : Findings). x.warned) (answered c.args.self.now text d h)
 
 pub returns-clause-stands : goal.returns-clause-stands
 returns-clause-stands c = λ text d h few.
     let short : length (value_events text.value) < 2 ^ 64 = omega (arith, fewer_of_value text, few) in
-    c.all.ensures ∙ (ap (λ (x : Found). x.warned) (answered c.args.self.now text d h) ∙ text_is (2 ^ 64) c.kept_warnings.ensures text short)
+    c.all.ensures ∙ (ap (λ (x : Findings). x.warned) (answered c.args.self.now text d h) ∙ text_is (2 ^ 64) c.kept_warnings.ensures text short)

@@ -1,16 +1,16 @@
 //! What an object with a role comes to at its close.
 ghost use Rattle.std.specs.Prelude.{◌≡◌};
 
-use super::{Shaped, Shown, Slot};
+use super::{MemberSlots, Shaped, Slot};
 use gj_coords::{Fault, Rule, Simple, Warned, lesser_fault};
 use gj_json::{Known, Word};
 
-impl Shown {
-    ghost use Rattle.gj_rules.specs.Internal.FrameReading.{shown_in, repeated_in};
+impl MemberSlots {
+    ghost use Rattle.gj_rules.specs.Internal.FrameReading.{slots_in, repeated_in};
     ghost use Rattle.gj_coords.specs.Internal.KeptWarnings.{joined};
     ghost use Rattle.gj_coords.specs.Internal.GatheredWarnings.{all_in};
     ghost use Rattle.gj_rules.specs.Internal.Summaries.{shape_for, warned_for};
-    ghost use Rattle.gj_rules.specs.Internal.ShownMembers.{due_shape, settled, rest_of, as_type, as_simple, geometry_forbids, feature_forbids, feature_dues, features_forbid, due_slot, forbidden_slot, slot_fault};
+    ghost use Rattle.gj_rules.specs.Internal.OpenMembers.{due_shape, settled, rest_of, as_type, as_simple, geometry_forbids, feature_forbids, feature_dues, features_forbid, due_slot, forbidden_slot, slot_fault};
 
     fn due(&self, slot: Option<Slot>, rule: Rule) -> Option<Fault>
         ensures { result ≡ due_slot self.now.place rule slot }
@@ -27,7 +27,7 @@ impl Shown {
     /// The fault of the first `coordinates` for one type.
     #[tactic(auto, using(crate::proofs::Objects::AskedShapes::no_fault, crate::proofs::Objects::AskedShapes::one_fault))]
     pub(super) fn shape_fault(&self, simple: Simple) -> Option<Fault>
-        ensures { result ≡ shape_for simple (shown_in self.now).shapes }
+        ensures { result ≡ shape_for simple (slots_in self.now).shapes }
     {
         match self.shaped {
             Shaped::One => self.shapes.faults.point,
@@ -39,7 +39,7 @@ impl Shown {
     /// Adds its warnings for one type.
     #[tactic(auto, using(crate::proofs::Objects::AskedShapes::no_warnings_more, crate::proofs::Objects::AskedShapes::one_warned))]
     pub fn warn_shape(&self, simple: Simple, warned: &mut Warned)
-        ensures { all_in warned.new ≡ joined (all_in warned.old) (warned_for simple (shown_in self.now).shapes) }
+        ensures { all_in warned.new ≡ joined (all_in warned.old) (warned_for simple (slots_in self.now).shapes) }
     {
         match self.shaped {
             Shaped::One => warned.take(&self.shapes.point),
@@ -49,7 +49,7 @@ impl Shown {
     }
 
     fn due_shape(&self, simple: Simple) -> Option<Fault>
-        ensures { result ≡ due_shape simple self.now.place (shown_in self.now).shapes (shown_in self.now).coordinates }
+        ensures { result ≡ due_shape simple self.now.place (slots_in self.now).shapes (slots_in self.now).coordinates }
     {
         if self.present.coordinates {
             self.shape_fault(simple)
@@ -84,60 +84,60 @@ impl Shown {
 
     /// The least of the members that a geometry may not have (RFC 7946, section 7.1).
     fn geometry_forbids(&self) -> Option<Fault>
-        ensures { result ≡ geometry_forbids (shown_in self.now) }
+        ensures { result ≡ geometry_forbids (slots_in self.now) }
     {
         let rest = lesser_fault(
-            Shown::forbidden(self.slot(Known::Properties)),
-            Shown::forbidden(self.slot(Known::Features)),
+            MemberSlots::forbidden(self.slot(Known::Properties)),
+            MemberSlots::forbidden(self.slot(Known::Features)),
         );
-        lesser_fault(Shown::forbidden(self.slot(Known::Geometry)), rest)
+        lesser_fault(MemberSlots::forbidden(self.slot(Known::Geometry)), rest)
     }
 
     /// The least of the members that a Feature may not have.
     fn feature_forbids(&self) -> Option<Fault>
-        ensures { result ≡ feature_forbids (shown_in self.now) }
+        ensures { result ≡ feature_forbids (slots_in self.now) }
     {
         let rest = lesser_fault(
-            Shown::forbidden(self.slot(Known::Geometries)),
-            Shown::forbidden(self.slot(Known::Features)),
+            MemberSlots::forbidden(self.slot(Known::Geometries)),
+            MemberSlots::forbidden(self.slot(Known::Features)),
         );
-        lesser_fault(Shown::forbidden(self.slot(Known::Coordinates)), rest)
+        lesser_fault(MemberSlots::forbidden(self.slot(Known::Coordinates)), rest)
     }
 
     /// The least fault of the members that a Feature uses.
     fn feature_dues(&self) -> Option<Fault>
-        ensures { result ≡ feature_dues (shown_in self.now) }
+        ensures { result ≡ feature_dues (slots_in self.now) }
     {
         let rest = lesser_fault(
             self.due(self.slot(Known::Properties), Rule::G7),
-            Shown::allowed(self.slot(Known::Id)),
+            MemberSlots::allowed(self.slot(Known::Id)),
         );
         lesser_fault(self.due(self.slot(Known::Geometry), Rule::G6), rest)
     }
 
     /// The least of the members that a FeatureCollection may not have.
     fn features_forbid(&self) -> Option<Fault>
-        ensures { result ≡ features_forbid (shown_in self.now) }
+        ensures { result ≡ features_forbid (slots_in self.now) }
     {
         let first = lesser_fault(
-            Shown::forbidden(self.slot(Known::Coordinates)),
-            Shown::forbidden(self.slot(Known::Geometries)),
+            MemberSlots::forbidden(self.slot(Known::Coordinates)),
+            MemberSlots::forbidden(self.slot(Known::Geometries)),
         );
         let rest = lesser_fault(
-            Shown::forbidden(self.slot(Known::Geometry)),
-            Shown::forbidden(self.slot(Known::Properties)),
+            MemberSlots::forbidden(self.slot(Known::Geometry)),
+            MemberSlots::forbidden(self.slot(Known::Properties)),
         );
         lesser_fault(first, rest)
     }
 
     fn as_simple(&self, simple: Simple) -> Option<Fault>
-        ensures { result ≡ as_simple simple (shown_in self.now) }
+        ensures { result ≡ as_simple simple (slots_in self.now) }
     {
         lesser_fault(self.geometry_forbids(), self.due_shape(simple))
     }
 
     fn as_type(&self, word: Word) -> Option<Fault>
-        ensures { result ≡ as_type word (shown_in self.now) }
+        ensures { result ≡ as_type word (slots_in self.now) }
     {
         match word {
             Word::Point => self.as_simple(Simple::Point),
@@ -160,7 +160,7 @@ impl Shown {
     }
 
     fn rest(&self) -> Option<Fault>
-        ensures { result ≡ rest_of (shown_in self.now) }
+        ensures { result ≡ rest_of (slots_in self.now) }
     {
         match self.type_value {
             None => Some(Fault {
@@ -192,7 +192,7 @@ impl Shown {
 
     /// The least fault of the object, at its close.
     pub fn settle(&self) -> Option<Fault>
-        ensures { result ≡ settled (shown_in self.now) }
+        ensures { result ≡ settled (slots_in self.now) }
     {
         if self.is_sound() {
             None
@@ -203,11 +203,11 @@ impl Shown {
 
     #[inline(never)]
     fn least_fault(&self) -> Option<Fault>
-        ensures { result ≡ settled (shown_in self.now) }
+        ensures { result ≡ settled (slots_in self.now) }
     {
         lesser_fault(
             self.repeated(),
-            lesser_fault(Shown::allowed(self.slot(Known::Bbox)), self.rest()),
+            lesser_fault(MemberSlots::allowed(self.slot(Known::Bbox)), self.rest()),
         )
     }
 }

@@ -7,7 +7,7 @@ use gj_json::Known;
 
 /// The warnings that an open object with a role has gathered so far, but for those of its `coordinates`.
 #[derive(Clone, Copy)]
-pub struct Gathered {
+pub struct MemberWarnings {
     /// Those that hang on no type: of each member `crs` and of the first `bbox`.
     pub own: LazyWarned,
     /// Those of the first member of each name whose value holds values with a role.
@@ -16,7 +16,7 @@ pub struct Gathered {
     pub features: LazyWarned,
 }
 
-impl Gathered {
+impl MemberWarnings {
     ghost use Rattle.gj_coords.specs.Internal.GatheredWarnings.{all_in};
     ghost use Rattle.gj_rules.specs.Internal.FrameReading.{gathered_in};
     ghost use Rattle.gj_rules.specs.Internal.GatheredWarnings.{none_gathered, gathered, gathered_at};
@@ -26,7 +26,7 @@ impl Gathered {
         ensures { gathered_in result ≡ none_gathered }
     {
         let none = LazyWarned::none();
-        Gathered {
+        MemberWarnings {
             own: none,
             geometries: none,
             geometry: none,

@@ -10,25 +10,25 @@ use Rattle.gj_coords.specs.Internal.Gathering.{Gathering, gathered, given}
 use Rattle.gj_coords.specs.Internal.KeptWarnings.{warnings_of, no_warnings}
 use Rattle.gj_coords.specs.Internal.GatheredWarnings.{no_warned, all_in}
 use Rattle.gj_coords.specs.Internal.Findings.{Judgement, empty_found, found_in}
-use Rattle.gj_coords.specs.Internal.WholeGather.{whole_gathering}
+use Rattle.gj_coords.specs.Internal.OrEmptyGather.{or_empty_gathering}
 use Rattle.gj_coords.specs.Internal.WarningLaws.{joined_none_first, added_is}
 use Rattle.gj_coords.proofs.Readers.WarningsOfElements.{IsShort}
 
 module _ {G A B : Type 0} (r : Gathering G A B) (j : Judgement B) (meaning : Tree → A) where
   some_gathered : (place : ℕ) (vs : List Tree) (g : G) →
-      gathered (whole_gathering r j) meaning (record { inner = g; place = place; empty = false }) vs ≡
+      gathered (or_empty_gathering r j) meaning (record { inner = g; place = place; empty = false }) vs ≡
       record { inner = gathered r meaning g vs; place = place; empty = false }
   some_gathered place [] g = refl
   some_gathered place (v ∷ more) g = some_gathered place more (r.added g (meaning v))
 
   -- of an array that is not empty
   some_found : (place : ℕ) (v : Tree) (more : Elements) (close : ℕ) →
-      given (whole_gathering r j) meaning (array place (element v more) close) ≡ found_in j (given r meaning (array place (element v more) close))
+      given (or_empty_gathering r j) meaning (array place (element v more) close) ≡ found_in j (given r meaning (array place (element v more) close))
   some_found place v more close =
       ap (λ s. if s.empty then empty_found s.place else found_in j (r.closed s.inner)) (some_gathered place (items more) (r.added (r.opened place) (meaning v)))
 
   pub whole_least : (shape : Shape) → ((v : Tree) → j.fault_of (given r meaning v) ≡ least (shape v)) →
-      (v : Tree) → (given (whole_gathering r j) meaning v).fault ≡ least (or_empty shape v)
+      (v : Tree) → (given (or_empty_gathering r j) meaning v).fault ≡ least (or_empty shape v)
   whole_least shape h (constant which place) = h (constant which place)
   whole_least shape h (number place literal end) = h (number place literal end)
   whole_least shape h (string place content end) = h (string place content end)
@@ -38,7 +38,7 @@ module _ {G A B : Type 0} (r : Gathering G A B) (j : Judgement B) (meaning : Tre
 
   pub whole_warned : (concern : Concern) →
       ((v : Tree) → IsShort v → all_in (j.warned_behind 0 no_warned (given r meaning v)) ≡ warnings_of (concern v)) →
-      (v : Tree) → IsShort v → all_in (given (whole_gathering r j) meaning v).warned ≡ warnings_of (or_empty_warning concern v)
+      (v : Tree) → IsShort v → all_in (given (or_empty_gathering r j) meaning v).warned ≡ warnings_of (or_empty_warning concern v)
   whole_warned concern h (constant which place) short = h (constant which place) short
   whole_warned concern h (number place literal end) short = h (number place literal end) short
   whole_warned concern h (string place content end) short = h (string place content end) short

@@ -1,14 +1,14 @@
 //! Whether a few looks show that nothing is wrong with an object with a role, as mostly nothing is.
 ghost use Rattle.std.specs.Prelude.{◌≡◌, IsTrue, None};
 
-use super::{Shaped, Shown};
+use super::{MemberSlots, Shaped};
 use crate::role::Role;
 use gj_coords::Simple;
 use gj_json::Word;
 
-impl Shown {
-    ghost use Rattle.gj_rules.specs.Internal.FrameReading.{shown_in};
-    ghost use Rattle.gj_rules.specs.Internal.ShownMembers.{settled, as_type, as_simple, as_collection, as_feature};
+impl MemberSlots {
+    ghost use Rattle.gj_rules.specs.Internal.FrameReading.{slots_in};
+    ghost use Rattle.gj_rules.specs.Internal.OpenMembers.{settled, as_type, as_simple, as_collection, as_feature};
     ghost use Rattle.gj_coords.specs.declared.simple.Simple.{Simple};
     ghost use Rattle.gj_coords.specs.Internal.KeptWarnings.{no_warnings};
     ghost use Rattle.gj_rules.specs.Internal.Summaries.{warned_for};
@@ -16,7 +16,7 @@ impl Shown {
 
     /// Whether it has the members of a geometry with coordinates, and nothing is wrong with any.
     fn is_sound_simple(&self, simple: Simple) -> bool
-        ensures { IsTrue result → as_simple simple (shown_in self.now) ≡ None }
+        ensures { IsTrue result → as_simple simple (slots_in self.now) ≡ None }
     {
         let present = &self.present;
         if present.geometry || present.properties || present.features || !present.coordinates {
@@ -27,7 +27,7 @@ impl Shown {
 
     /// Whether it has the members of a GeometryCollection, and nothing is wrong with any.
     fn is_sound_collection(&self) -> bool
-        ensures { IsTrue result → as_collection (shown_in self.now) ≡ None }
+        ensures { IsTrue result → as_collection (slots_in self.now) ≡ None }
     {
         let present = &self.present;
         if present.geometry || present.properties || present.features || !present.geometries {
@@ -38,7 +38,7 @@ impl Shown {
 
     /// Whether it has the members of a Feature, and nothing is wrong with any.
     fn is_sound_feature(&self) -> bool
-        ensures { IsTrue result → as_feature (shown_in self.now) ≡ None }
+        ensures { IsTrue result → as_feature (slots_in self.now) ≡ None }
     {
         let present = &self.present;
         if present.coordinates || present.geometries || present.features {
@@ -54,7 +54,7 @@ impl Shown {
     }
 
     fn is_sound_as(&self, word: Word) -> bool
-        ensures { IsTrue result → as_type word (shown_in self.now) ≡ None }
+        ensures { IsTrue result → as_type word (slots_in self.now) ≡ None }
     {
         match word {
             Word::Point => self.is_sound_simple(Simple::Point),
@@ -71,7 +71,7 @@ impl Shown {
 
     /// Whether a few looks show that nothing is wrong with the object, as mostly nothing is.
     pub fn is_sound(&self) -> bool
-        ensures { IsTrue result → settled (shown_in self.now) ≡ None }
+        ensures { IsTrue result → settled (slots_in self.now) ≡ None }
     {
         if self.repeated.is_some() || self.present.bbox {
             return false;
@@ -85,7 +85,7 @@ impl Shown {
     /// Whether a look shows that its coordinates give no warning, whatever the type.
     #[tactic(auto, using(crate::proofs::Objects::AskedShapes::no_warnings_for, crate::proofs::Objects::AskedShapes::one_warned))]
     pub fn is_unwarned(&self) -> bool
-        ensures { IsTrue result → (simple : Simple) → warned_for simple (shown_in self.now).shapes ≡ no_warnings }
+        ensures { IsTrue result → (simple : Simple) → warned_for simple (slots_in self.now).shapes ≡ no_warnings }
     {
         match self.shaped {
             Shaped::No => true,

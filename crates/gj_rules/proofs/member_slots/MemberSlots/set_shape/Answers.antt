@@ -1,16 +1,16 @@
 -- What is found for one type is what an object of that type asks for.
 use Rattle.std.proofs.Common.{Option, sym, ap, ◌∙◌}
 use Rattle.gj_coords.specs.declared.simple.Simple.{Simple}
-use Rattle.gj_rules.specs.Internal.FrameMeaning.{Found, Shapes, Shown}
-use Rattle.gj_rules.specs.Internal.FrameReading.{shown_in}
-use Rattle.gj_rules.specs.Internal.ShownMembers.{shapes_set}
+use Rattle.gj_rules.specs.Internal.FrameMeaning.{Findings, Shapes, MemberSlots}
+use Rattle.gj_rules.specs.Internal.FrameReading.{slots_in}
+use Rattle.gj_rules.specs.Internal.OpenMembers.{shapes_set}
 use Rattle.gj_rules.specs.Internal.Summaries.{shapes_of, alike, asked_as}
 use Rattle.gj_rules.proofs.Objects.AskedShapes.{asked_is}
-use Rattle.gj_rules.proofs.shown.Shown.set_shape.Goals as goal
+use Rattle.gj_rules.proofs.member_slots.MemberSlots.set_shape.Goals as goal
 
 pub returns-in-Some : goal.returns-in-Some
 returns-in-Some c = λ value d s.
-    let f : Shown = shown_in c.args.self.now in
-    ap (λ (x : Found). shapes_set (alike x) f) (c.set_one.ensures value d s)
+    let f : MemberSlots = slots_in c.args.self.now in
+    ap (λ (x : Findings). shapes_set (alike x) f) (c.set_one.ensures value d s)
     ∙ (ap (λ (x : Shapes). shapes_set x f) (sym (asked_is c.in-Some.simple value))
     ∙ ap (λ (o : Option Simple). shapes_set (asked_as o (shapes_of value)) f) (sym c.in-Some.is))

@@ -11,7 +11,7 @@ use crate::warned::Warned;
 use gj_json::{Event, What};
 
 /// Reads one value event by event, and answers.
-pub trait Part: Copy {
+pub trait ValueReader: Copy {
     type Answer: Copy;
 
     /// What its methods do, as functions.
@@ -69,7 +69,7 @@ pub trait Part: Copy {
 }
 
 /// What becomes of the elements of an array as they come, which `W` reads.
-pub trait Gather<W: Part>: Copy {
+pub trait Gather<W: ValueReader>: Copy {
     type Answer: Copy;
 
     /// What its methods do, as functions.

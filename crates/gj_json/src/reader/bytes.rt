@@ -16,10 +16,10 @@ use crate::fault::{Cause, JsonFault};
 use crate::levels::Level;
 use crate::limits::MOST_LEVELS;
 use crate::mode::{Ending, Mode, Move, StringMove, StringState};
+use crate::move_events::{is_on, tell_move};
 use crate::moves::{after_value, next, opened_mode};
 use crate::sink::EventSink;
 use crate::strings::next_string;
-use crate::told::{is_on, tell_move};
 use gj_number::{Decimal, Literal, Step};
 
 /// The number that the byte begins, where it begins one.

@@ -3,7 +3,7 @@ ghost use Rattle.std.specs.Prelude.{◌≡◌, ◌<◌, [], length, false, IsTru
 ghost use Rattle.gj_json.specs.declared.event.What.TheVariants as W;
 
 use super::{MOST_AROUND, Rules};
-use crate::found::Found;
+use crate::findings::Findings;
 use crate::mode::Mode;
 use crate::opening::{levels_in, opening_fault, word_in};
 use crate::role::Role;
@@ -34,7 +34,7 @@ impl Rules {
     #[inline(never)]
     fn pop(&mut self)
         ensures rests { is_feeding 0 self.new.mode ≡ false }
-        ensures core { core_of self.new ≡ popped (core_of self.old).outer (core_of self.old).top.shown.role (settled (core_of self.old).top) (core_of self.old) }
+        ensures core { core_of self.new ≡ popped (core_of self.old).outer (core_of self.old).top.slots.role (settled (core_of self.old).top) (core_of self.old) }
     {
         if self.is_top_clean() {
             self.pop_clean();
@@ -56,7 +56,7 @@ impl Rules {
     #[inline]
     fn pop_clean(&mut self)
         ensures rests { is_feeding 0 self.new.mode ≡ false }
-        ensures core { core_of self.new ≡ popped (core_of self.old).outer (core_of self.old).top.shown.role none_found (core_of self.old) }
+        ensures core { core_of self.new ≡ popped (core_of self.old).outer (core_of self.old).top.slots.role none_found (core_of self.old) }
     {
         let role = self.role();
         if self.around > 0 {
@@ -71,10 +71,10 @@ impl Rules {
     #[inline(never)]
     fn pop_found(&mut self)
         ensures rests { is_feeding 0 self.new.mode ≡ false }
-        ensures core { core_of self.new ≡ popped (core_of self.old).outer (core_of self.old).top.shown.role (settled (core_of self.old).top) (core_of self.old) }
+        ensures core { core_of self.new ≡ popped (core_of self.old).outer (core_of self.old).top.slots.role (settled (core_of self.old).top) (core_of self.old) }
     {
         let role = self.role();
-        let mut found = Found::none();
+        let mut found = Findings::none();
         self.settle(&mut found);
         if self.around > 0 {
             self.around -= 1;

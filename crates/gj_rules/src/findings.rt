@@ -5,14 +5,14 @@ use gj_coords::{Fault, Warned};
 
 /// What is found in a value.
 #[derive(Clone, Copy)]
-pub struct Found {
+pub struct Findings {
     /// The least fault.
     pub fault: Option<Fault>,
     /// Mostly there are none: then nothing else is written of them.
     pub warned: Warned,
 }
 
-impl Found {
+impl Findings {
     ghost use Rattle.gj_rules.specs.Internal.FrameReading.{found_in};
     ghost use Rattle.gj_rules.specs.Internal.Summaries.{none_found};
 
@@ -20,7 +20,7 @@ impl Found {
     pub fn none() -> Self
         ensures { found_in result ≡ none_found }
     {
-        Found {
+        Findings {
             fault: None,
             warned: Warned::none(),
         }

@@ -1,16 +1,16 @@
 //! The third level of the value of `coordinates`: as a position, and as a linear ring.
 use crate::array::{Array, Stage};
 use crate::fault::Fault;
-use crate::part::Gather;
 use crate::position::{Numbers, Position, PositionReader, misshapen};
 use crate::ring::Positions;
+use crate::value_reader::Gather;
 use crate::warned::Warned;
 use crate::winding::Turn;
 use gj_json::{Event, Flat};
 
 /// What is known of a value as a position and as a linear ring.
 #[derive(Clone, Copy)]
-pub struct ThirdSummary {
+pub struct InnerSummary {
     pub position: Position,
     pub ring: Option<Fault>,
     /// How its positions run.
@@ -21,15 +21,15 @@ pub struct ThirdSummary {
 
 /// What a value two arrays deep gathers of its elements: as numbers, and as positions.
 #[derive(Clone, Copy)]
-pub struct ThirdLevel {
+pub struct InnerArray {
     pub numbers: Numbers,
     pub positions: Positions,
 }
 
 /// Reads a value two arrays deep.
-pub type ThirdReader = Array<PositionReader, ThirdLevel>;
+pub type InnerReader = Array<PositionReader, InnerArray>;
 
-impl ThirdLevel {
+impl InnerArray {
     ghost use Rattle.std.specs.Prelude.{◌≡◌};
     ghost use Rattle.gj_coords.specs.Internal.PositionGather.{position_closed, no_position};
     ghost use Rattle.gj_coords.specs.Internal.PositionsGather.{ring_closed};
@@ -79,15 +79,15 @@ impl ThirdLevel {
     }
 }
 
-impl Gather<PositionReader> for ThirdLevel {
+impl Gather<PositionReader> for InnerArray {
     ghost use Rattle.gj_coords.specs.Internal.LevelGather.{third_gathering};
 
-    type Answer = ThirdSummary;
+    type Answer = InnerSummary;
 
     ghost gathering = { third_gathering };
 
-    fn new() -> ThirdLevel {
-        ThirdLevel {
+    fn new() -> InnerArray {
+        InnerArray {
             numbers: Numbers::none(),
             positions: Positions::none(),
         }
@@ -110,8 +110,8 @@ impl Gather<PositionReader> for ThirdLevel {
         self.add_other(event);
     }
 
-    fn close(&self) -> ThirdSummary {
-        ThirdSummary {
+    fn close(&self) -> InnerSummary {
+        InnerSummary {
             position: self.numbers.position(),
             ring: self.ring_fault(),
             turn: self.positions.winding.turn(),
@@ -119,8 +119,8 @@ impl Gather<PositionReader> for ThirdLevel {
         }
     }
 
-    fn other(head: &Event) -> ThirdSummary {
-        ThirdSummary {
+    fn other(head: &Event) -> InnerSummary {
+        InnerSummary {
             position: Position::none(head),
             ring: misshapen(head.place),
             turn: Turn::Unjudged,

@@ -2,18 +2,18 @@
 use crate::array::{Array, Stage};
 use crate::fault::{Fault, join_fault};
 use crate::flat;
-use crate::part::Gather;
 use crate::position::{Numbers, Position, misshapen};
 use crate::ring::{Positions, RingRole};
 use crate::several::line_fault;
-use crate::walk::third_level::{ThirdLevel, ThirdReader};
+use crate::value_reader::Gather;
+use crate::walk::inner_array::{InnerArray, InnerReader};
 use crate::warned::Warned;
 use crate::winding::Turn;
 use gj_json::{Event, Flat};
 
 /// What is known of a value as a position, a line, a linear ring and a polygon.
 #[derive(Clone, Copy)]
-pub struct SecondSummary {
+pub struct MiddleSummary {
     pub position: Position,
     pub line: Option<Fault>,
     pub ring: Option<Fault>,
@@ -28,7 +28,7 @@ pub struct SecondSummary {
 
 /// What a value one array deep gathers of its elements: as numbers, as positions, and as the linear rings of a polygon.
 #[derive(Clone, Copy)]
-pub struct SecondLevel {
+pub struct MiddleArray {
     pub numbers: Numbers,
     pub positions: Positions,
     pub rings_warned: Warned,
@@ -36,9 +36,9 @@ pub struct SecondLevel {
 }
 
 /// Reads a value one array deep.
-pub type SecondReader = Array<ThirdReader, SecondLevel>;
+pub type MiddleReader = Array<InnerReader, MiddleArray>;
 
-impl SecondLevel {
+impl MiddleArray {
     ghost use Rattle.std.specs.Prelude.{◌≡◌};
     ghost use Rattle.gj_coords.specs.Internal.PositionsGather.{ring_closed};
     ghost use Rattle.gj_coords.specs.Internal.ListGather.{line_closed};
@@ -47,7 +47,7 @@ impl SecondLevel {
     ghost use Rattle.gj_coords.specs.Internal.LevelGather.{third_gathering, second_gathering};
 
     /// Adds an element that is an array, by what it gathered.
-    fn add_array(&mut self, element: &ThirdLevel)
+    fn add_array(&mut self, element: &InnerArray)
         ensures { self.new ≡ second_gathering.added self.old (third_gathering.closed element.now) }
     {
         let place = element.numbers.tally.place;
@@ -104,15 +104,15 @@ impl SecondLevel {
     }
 }
 
-impl Gather<ThirdReader> for SecondLevel {
+impl Gather<InnerReader> for MiddleArray {
     ghost use Rattle.gj_coords.specs.Internal.LevelGather.{second_gathering};
 
-    type Answer = SecondSummary;
+    type Answer = MiddleSummary;
 
     ghost gathering = { second_gathering };
 
-    fn new() -> SecondLevel {
-        SecondLevel {
+    fn new() -> MiddleArray {
+        MiddleArray {
             numbers: Numbers::none(),
             positions: Positions::none(),
             rings_warned: Warned::none(),
@@ -127,7 +127,7 @@ impl Gather<ThirdReader> for SecondLevel {
         self.rings = None;
     }
 
-    fn add(&mut self, item: &ThirdReader) {
+    fn add(&mut self, item: &InnerReader) {
         match item.stage {
             Stage::Broken => self.add_other(&item.other.first),
             _ => self.add_array(&item.gather),
@@ -138,8 +138,8 @@ impl Gather<ThirdReader> for SecondLevel {
         self.add_other(event);
     }
 
-    fn close(&self) -> SecondSummary {
-        SecondSummary {
+    fn close(&self) -> MiddleSummary {
+        MiddleSummary {
             position: self.numbers.position(),
             line: self.line_fault(),
             ring: self.ring_fault(),
@@ -150,8 +150,8 @@ impl Gather<ThirdReader> for SecondLevel {
         }
     }
 
-    fn other(head: &Event) -> SecondSummary {
-        SecondSummary {
+    fn other(head: &Event) -> MiddleSummary {
+        MiddleSummary {
             position: Position::none(head),
             line: misshapen(head.place),
             ring: misshapen(head.place),

@@ -84,7 +84,7 @@ fn slot_if(present: bool, slot: &Slot) -> Option<Slot>
 /// Its `type` may come last. So the first member of each known name is kept with the least fault of
 /// its value, and of `coordinates` what is found for each type where the type has not come before them.
 #[derive(Clone, Copy)]
-pub struct Shown {
+pub struct MemberSlots {
     pub place: u64,
     pub role: Role,
     /// The least place of a repeated name.
@@ -105,24 +105,24 @@ pub struct Shown {
     pub id: Slot,
 }
 
-impl Shown {
+impl MemberSlots {
     ghost use Rattle.std.specs.Prelude.{◌≤◌};
     ghost use Rattle.gj_json.specs.Tree.{Tree, depth};
     ghost use Rattle.gj_json.specs.Events.{value_events};
     ghost use Rattle.gj_rules.specs.Levels.{most_levels};
-    ghost use Rattle.gj_rules.specs.Internal.FrameReading.{shown_in};
+    ghost use Rattle.gj_rules.specs.Internal.FrameReading.{slots_in};
     ghost use Rattle.gj_rules.specs.Internal.Summaries.{StandsForCoordinates, shapes_of, asked, asked_as};
-    ghost use Rattle.gj_rules.specs.Internal.ShownMembers.{blank, slot_of, with_slot, joined, named, named_known, due_after, due_known, repeated_at, used, type_set, shapes_set};
+    ghost use Rattle.gj_rules.specs.Internal.OpenMembers.{blank, slot_of, with_slot, joined, named, named_known, due_after, due_known, repeated_at, used, type_set, shapes_set};
 
     /// Of an object that opens at this place.
     pub fn new(role: Role, place: u64) -> Self
-        ensures { shown_in result ≡ blank role place }
+        ensures { slots_in result ≡ blank role place }
     {
         let slot = Slot {
             name_at: 0,
             fault: None,
         };
-        Shown {
+        MemberSlots {
             place,
             role,
             repeated: None,
@@ -144,7 +144,7 @@ impl Shown {
     /// Of another object that opens, whatever was shown: what is written is all that is looked at.
     #[inline]
     pub fn again(&mut self, role: Role, place: u64)
-        ensures { shown_in self.new ≡ blank role place }
+        ensures { slots_in self.new ≡ blank role place }
     {
         self.place = place;
         self.role = role;
@@ -157,7 +157,7 @@ impl Shown {
     /// The first member of a name, where there is one.
     #[inline(always)]
     pub fn slot(&self, name: Known) -> Option<Slot>
-        ensures { result ≡ slot_of name (shown_in self.now) }
+        ensures { result ≡ slot_of name (slots_in self.now) }
     {
         match name {
             Known::TypeName => slot_if(self.present.type_name, &self.type_name),
@@ -174,7 +174,7 @@ impl Shown {
 
     #[inline(always)]
     fn set_slot(&mut self, name: Known, slot: Slot)
-        ensures { shown_in self.new ≡ with_slot name slot (shown_in self.old) }
+        ensures { slots_in self.new ≡ with_slot name slot (slots_in self.old) }
     {
         match name {
             Known::TypeName => {
@@ -216,7 +216,7 @@ impl Shown {
     /// Adds a fault of the value of the first member `name`.
     #[inline]
     pub fn join(&mut self, name: Known, fault: Option<Fault>)
-        ensures { shown_in self.new ≡ joined name fault (shown_in self.old) }
+        ensures { slots_in self.new ≡ joined name fault (slots_in self.old) }
     {
         if fault.is_some() {
             self.join_some(name, fault);
@@ -225,7 +225,7 @@ impl Shown {
 
     #[inline(never)]
     fn join_some(&mut self, name: Known, fault: Option<Fault>)
-        ensures { shown_in self.new ≡ joined name fault (shown_in self.old) }
+        ensures { slots_in self.new ≡ joined name fault (slots_in self.old) }
     {
         if let Some(slot) = self.slot(name) {
             let joined = Slot {
@@ -238,14 +238,14 @@ impl Shown {
 
     /// Sets the value of the first `type`.
     pub fn set_type(&mut self, place: u64, word: Word)
-        ensures { shown_in self.new ≡ type_set place word (shown_in self.old) }
+        ensures { slots_in self.new ≡ type_set place word (slots_in self.old) }
     {
         self.type_value = Some(TypeValue { place, word });
     }
 
     /// Sets what is found in the value of the first `coordinates`: for the object's type, or for each where it has not come.
     pub fn set_shapes(&mut self, summary: &Coordinates)
-        ensures { (value : Tree) → depth value ≤ most_levels → StandsForCoordinates summary.now (value_events value) → shown_in self.new ≡ shapes_set (asked (shown_in self.old).type_value (shapes_of value)) (shown_in self.old) }
+        ensures { (value : Tree) → depth value ≤ most_levels → StandsForCoordinates summary.now (value_events value) → slots_in self.new ≡ shapes_set (asked (slots_in self.old).type_value (shapes_of value)) (slots_in self.old) }
     {
         match self.type_value {
             Some(value) => self.set_shape(simple_of(value.word), summary),
@@ -259,7 +259,7 @@ impl Shown {
     /// Sets it for one type.
     #[inline]
     fn set_shape(&mut self, simple: Option<Simple>, summary: &Coordinates)
-        ensures { (value : Tree) → depth value ≤ most_levels → StandsForCoordinates summary.now (value_events value) → shown_in self.new ≡ shapes_set (asked_as simple (shapes_of value)) (shown_in self.old) }
+        ensures { (value : Tree) → depth value ≤ most_levels → StandsForCoordinates summary.now (value_events value) → slots_in self.new ≡ shapes_set (asked_as simple (shapes_of value)) (slots_in self.old) }
     {
         match simple {
             Some(simple) => {
@@ -275,8 +275,8 @@ impl Shown {
     // In each arm the name is a constant, so that what is done for it is all that is left of the rest.
     #[inline]
     pub fn name(&mut self, name: Known, place: u64) -> Known
-        ensures shown { shown_in self.new ≡ named name place (shown_in self.old) }
-        ensures due { result ≡ due_after name (shown_in self.old) }
+        ensures slots { slots_in self.new ≡ named name place (slots_in self.old) }
+        ensures due { result ≡ due_after name (slots_in self.old) }
     {
         match name {
             Known::TypeName => self.known_name(Known::TypeName, place),
@@ -294,8 +294,8 @@ impl Shown {
     /// Takes a name that an object should have once.
     #[inline(always)]
     fn known_name(&mut self, name: Known, place: u64) -> Known
-        ensures shown { shown_in self.new ≡ named_known name place (slot_of name (shown_in self.old)) (shown_in self.old) }
-        ensures due { result ≡ due_known name (slot_of name (shown_in self.old)) self.old.role }
+        ensures slots { slots_in self.new ≡ named_known name place (slot_of name (slots_in self.old)) (slots_in self.old) }
+        ensures due { result ≡ due_known name (slot_of name (slots_in self.old)) self.old.role }
     {
         match self.slot(name) {
             Some(_) => self.repeated_name(place),
@@ -305,7 +305,7 @@ impl Shown {
 
     #[inline(never)]
     fn repeated_name(&mut self, place: u64) -> Known
-        ensures shown { shown_in self.new ≡ repeated_at place (shown_in self.old) }
+        ensures slots { slots_in self.new ≡ repeated_at place (slots_in self.old) }
         ensures due { result ≡ Known.Other }
     {
         self.repeated = match self.repeated {
@@ -317,7 +317,7 @@ impl Shown {
 
     #[inline(always)]
     fn first_name(&mut self, name: Known, place: u64) -> Known
-        ensures shown { shown_in self.new ≡ with_slot name (record { name_at = place; fault = None }) (shown_in self.old) }
+        ensures slots { slots_in self.new ≡ with_slot name (record { name_at = place; fault = None }) (slots_in self.old) }
         ensures due { result ≡ used self.old.role name }
     {
         let slot = Slot {

@@ -1,25 +1,25 @@
 //! The value of `coordinates` may be an empty array.
 use crate::findings::Findings;
-use crate::part::{Gather, Judged, Part};
+use crate::value_reader::{Gather, Judged, ValueReader};
 use gj_json::Event;
 
 /// What the value itself gathers: what its shape gathers, and whether it is empty.
 #[derive(Clone, Copy)]
-pub struct Whole<G> {
+pub struct OrEmpty<G> {
     pub inner: G,
     pub place: u64,
     pub empty: bool,
 }
 
-impl<W: Part, G: Gather<W, Answer: Judged>> Gather<W> for Whole<G> {
-    ghost use Rattle.gj_coords.specs.Internal.WholeGather.{whole_gathering};
+impl<W: ValueReader, G: Gather<W, Answer: Judged>> Gather<W> for OrEmpty<G> {
+    ghost use Rattle.gj_coords.specs.Internal.OrEmptyGather.{or_empty_gathering};
 
     type Answer = Findings;
 
-    ghost gathering = { whole_gathering G.gathering G.Answer.judgement };
+    ghost gathering = { or_empty_gathering G.gathering G.Answer.judgement };
 
     fn new() -> Self {
-        Whole {
+        OrEmpty {
             inner: G::new(),
             place: 0,
             empty: true,

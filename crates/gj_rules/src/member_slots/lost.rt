@@ -1,26 +1,26 @@
 //! Whether the object of a text can still become valid, whatever its members to come are.
 ghost use Rattle.std.specs.Prelude.{◌≡◌};
 
-use super::Shown;
+use super::MemberSlots;
 use gj_coords::Simple;
 use gj_json::{Known, Word};
 
-impl Shown {
+impl MemberSlots {
     ghost use Rattle.std.specs.Prelude.{is_some};
-    ghost use Rattle.gj_rules.specs.Internal.FrameReading.{shown_in};
-    ghost use Rattle.gj_rules.specs.Internal.ShownMembers.{slot_of};
+    ghost use Rattle.gj_rules.specs.Internal.FrameReading.{slots_in};
+    ghost use Rattle.gj_rules.specs.Internal.OpenMembers.{slot_of};
     ghost use Rattle.gj_rules.specs.Internal.LostObjects.{slot_fails, geometry_forbids, simple_fails, collection_fails, feature_forbids, feature_fails, features_forbid, features_fails, fails_as, all_fail, is_lost};
 
     /// It has a member of this name.
     fn has(&self, name: Known) -> bool
-        ensures { result ≡ is_some (slot_of name (shown_in self.now)) }
+        ensures { result ≡ is_some (slot_of name (slots_in self.now)) }
     {
         self.slot(name).is_some()
     }
 
     /// The value of the first member of this name has a fault.
     fn value_fails(&self, name: Known) -> bool
-        ensures { result ≡ slot_fails (slot_of name (shown_in self.now)) }
+        ensures { result ≡ slot_fails (slot_of name (slots_in self.now)) }
     {
         match self.slot(name) {
             Some(slot) => slot.fault.is_some(),
@@ -30,34 +30,34 @@ impl Shown {
 
     /// A member is there that a geometry may not have (RFC 7946, section 7.1).
     fn geometry_is_forbidden(&self) -> bool
-        ensures { result ≡ geometry_forbids (shown_in self.now) }
+        ensures { result ≡ geometry_forbids (slots_in self.now) }
     {
         self.has(Known::Geometry) || (self.has(Known::Properties) || self.has(Known::Features))
     }
 
     /// A member is there that a Feature may not have.
     fn feature_is_forbidden(&self) -> bool
-        ensures { result ≡ feature_forbids (shown_in self.now) }
+        ensures { result ≡ feature_forbids (slots_in self.now) }
     {
         self.has(Known::Coordinates) || (self.has(Known::Geometries) || self.has(Known::Features))
     }
 
     /// A member is there that a FeatureCollection may not have.
     fn features_are_forbidden(&self) -> bool
-        ensures { result ≡ features_forbid (shown_in self.now) }
+        ensures { result ≡ features_forbid (slots_in self.now) }
     {
         let shapes = self.has(Known::Coordinates) || self.has(Known::Geometries);
         shapes || (self.has(Known::Geometry) || self.has(Known::Properties))
     }
 
     fn simple_fails(&self, simple: Simple) -> bool
-        ensures { result ≡ simple_fails simple (shown_in self.now) }
+        ensures { result ≡ simple_fails simple (slots_in self.now) }
     {
         self.geometry_is_forbidden() || self.shape_fault(simple).is_some()
     }
 
     fn feature_fails(&self) -> bool
-        ensures { result ≡ feature_fails (shown_in self.now) }
+        ensures { result ≡ feature_fails (slots_in self.now) }
     {
         let rest = self.value_fails(Known::Properties) || self.value_fails(Known::Id);
         self.feature_is_forbidden() || (self.value_fails(Known::Geometry) || rest)
@@ -65,7 +65,7 @@ impl Shown {
 
     /// It has a fault as an object of this type; a missing member may still come.
     fn fails_as(&self, word: Word) -> bool
-        ensures { result ≡ fails_as word (shown_in self.now) }
+        ensures { result ≡ fails_as word (slots_in self.now) }
     {
         match word {
             Word::Point => self.simple_fails(Simple::Point),
@@ -87,7 +87,7 @@ impl Shown {
 
     /// It has a fault as an object of each type.
     fn fails_as_any(&self) -> bool
-        ensures { result ≡ all_fail (shown_in self.now) }
+        ensures { result ≡ all_fail (slots_in self.now) }
     {
         let collections = self.fails_as(Word::GeometryCollection)
             && (self.fails_as(Word::Feature) && self.fails_as(Word::FeatureCollection));
@@ -101,7 +101,7 @@ impl Shown {
 
     /// The object of a text has a fault, whatever its members to come are.
     pub fn is_lost(&self) -> bool
-        ensures { result ≡ is_lost (shown_in self.now) }
+        ensures { result ≡ is_lost (slots_in self.now) }
     {
         let by_type = match self.type_value {
             Some(value) => self.fails_as(value.word),

@@ -4,28 +4,28 @@ ghost use Rattle.gj_coords.specs.Internal.KeptWarnings.{noted_as, nothing_noted,
 
 /// How many warnings of one kind there are, and where the first stands.
 #[derive(Clone, Copy)]
-pub struct Noted {
+pub struct KindWarnings {
     /// How many there are. It stays at the greatest.
     pub count: u32,
     /// The least place, which is 0 where there are none.
     pub first: u64,
 }
 
-impl Noted {
+impl KindWarnings {
     /// What is kept of no warning.
     #[inline]
-    pub fn nothing() -> Noted
+    pub fn nothing() -> KindWarnings
         ensures { result ≡ nothing_noted }
     {
-        Noted { count: 0, first: 0 }
+        KindWarnings { count: 0, first: 0 }
     }
 
     /// What is kept of one warning.
     #[inline]
-    pub fn one(place: u64) -> Noted
+    pub fn one(place: u64) -> KindWarnings
         ensures { result ≡ noted_as 1 place }
     {
-        Noted {
+        KindWarnings {
             count: 1,
             first: place,
         }
@@ -41,7 +41,7 @@ impl Noted {
 
     /// Counts are added, and the lesser place is kept.
     #[inline]
-    pub fn join(self, other: Noted) -> Noted
+    pub fn join(self, other: KindWarnings) -> KindWarnings
         ensures { result ≡ joined_noted self other }
     {
         if self.is_nothing() {
@@ -49,7 +49,7 @@ impl Noted {
         } else if other.is_nothing() {
             self
         } else {
-            Noted {
+            KindWarnings {
                 count: self.count.saturating_add(other.count),
                 first: self.first.min(other.first),
             }

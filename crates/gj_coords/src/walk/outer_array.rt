@@ -3,20 +3,20 @@ use crate::array::Stage;
 use crate::fault::{Fault, join_fault};
 use crate::flat;
 use crate::kind::Kind;
-use crate::part::Gather;
 use crate::position::{Numbers, misshapen};
 use crate::ring::RingRole;
 use crate::several::line_fault;
 use crate::simple::Simple;
 use crate::simple_faults::SimpleFaults;
-use crate::walk::second_level::{SecondLevel, SecondReader};
+use crate::value_reader::Gather;
+use crate::walk::middle_array::{MiddleArray, MiddleReader};
 use crate::warned::Warned;
 use gj_json::{Event, Flat};
 
 /// What the whole value gathers of its elements: as numbers; and of them as positions, as lines, as linear rings and as
 /// polygons the least fault and what is worth a warning.
 #[derive(Clone, Copy)]
-pub struct FirstLevel {
+pub struct OuterArray {
     pub numbers: Numbers,
     pub positions_warned: Warned,
     pub lines_warned: Warned,
@@ -30,14 +30,14 @@ pub struct FirstLevel {
 
 /// What is known of the whole value.
 #[derive(Clone, Copy)]
-pub enum FirstSummary {
+pub enum OuterSummary {
     /// Where it begins. It is no array.
     Other(u64),
     /// What an array gathered.
-    Level(FirstLevel),
+    Level(OuterArray),
 }
 
-impl FirstLevel {
+impl OuterArray {
     ghost use Rattle.std.specs.Prelude.{◌≡◌};
     ghost use Rattle.gj_coords.specs.Internal.SteadyWalk.{IsCounted, first_steady};
     ghost use Rattle.gj_coords.specs.Internal.FlatPosition.{flat_second, flat_held, held_fault, held_warned};
@@ -46,7 +46,7 @@ impl FirstLevel {
     ghost use Rattle.gj_coords.specs.Internal.GatheredWarnings.{taken};
 
     /// Adds an element that is an array, by what it gathered.
-    fn add_array(&mut self, element: &SecondLevel)
+    fn add_array(&mut self, element: &MiddleArray)
         ensures { self.new ≡ first_gathering.added self.old (second_gathering.closed element.now) }
     {
         let place = element.numbers.tally.place;
@@ -270,15 +270,15 @@ impl FirstLevel {
     }
 }
 
-impl Gather<SecondReader> for FirstLevel {
+impl Gather<MiddleReader> for OuterArray {
     ghost use Rattle.gj_coords.specs.Internal.LevelGather.{first_gathering};
 
-    type Answer = FirstSummary;
+    type Answer = OuterSummary;
 
     ghost gathering = { first_gathering };
 
-    fn new() -> FirstLevel {
-        FirstLevel {
+    fn new() -> OuterArray {
+        OuterArray {
             numbers: Numbers::none(),
             positions_warned: Warned::none(),
             lines_warned: Warned::none(),
@@ -303,7 +303,7 @@ impl Gather<SecondReader> for FirstLevel {
         self.polygons = None;
     }
 
-    fn add(&mut self, item: &SecondReader) {
+    fn add(&mut self, item: &MiddleReader) {
         match item.stage {
             Stage::Broken => self.add_other(&item.other.first),
             _ => self.add_array(&item.gather),
@@ -314,11 +314,11 @@ impl Gather<SecondReader> for FirstLevel {
         self.add_other(event);
     }
 
-    fn close(&self) -> FirstSummary {
-        FirstSummary::Level(*self)
+    fn close(&self) -> OuterSummary {
+        OuterSummary::Level(*self)
     }
 
-    fn other(head: &Event) -> FirstSummary {
-        FirstSummary::Other(head.place)
+    fn other(head: &Event) -> OuterSummary {
+        OuterSummary::Other(head.place)
     }
 }
