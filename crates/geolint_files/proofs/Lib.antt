@@ -5,4 +5,5 @@ mod JoinedElements
 mod WorstOutcome
 mod FoundSites
 mod SoughtPlaces
+mod FollowedPaths
 mod FileCounts

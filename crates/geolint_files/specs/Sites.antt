@@ -1,8 +1,13 @@
--- The lines and columns of places that a second reading finds.
-use Rattle.std.specs.Prelude.{◌≡◌, ◌<◌, ◌≤◌, ◌-◌, ◌^◌, ℕ, List, length, take, map, get_or, Bool, true, ◌&&◌, nat_eq, Option, Some, None, ⊤}
+-- The lines, columns and paths of places that a second reading finds.
+use Rattle.std.specs.Prelude.{◌≡◌, ◌<◌, ◌≤◌, ◌+◌, ◌-◌, ◌^◌, ℕ, List, [], ◌∷◌, ◌++◌, length, take, map, get_or, Bool, true, false, ◌&&◌, nat_eq, if◌then◌else◌, Option, Some, None, ⊤}
 use Rattle.std.specs.List.{Contains, list_any}
 use Rattle.std.specs.Io.Iter.{u64_saturate}
+use Rattle.gj_json.specs.Path.{steps_of, path_at}
+use Rattle.gj_json.specs.Text.{IsText}
+use Rattle.gj_json.specs.Tree.{Text}
+use Rattle.gj_json.specs.declared.path.Path.{Path}
 use Rattle.gj_places.specs.Lines.{line_of, column_of}
+use Rattle.gj_rules.specs.Sequence.{is_separator, has_separator}
 use Rattle.geolint_files.specs.declared.sites.Site.{Site}
 use Rattle.geolint_files.specs.declared.sites.Sites.{Sites}
 use Rattle.geolint_files.specs.declared.sites.Spot.{Spot}
@@ -21,6 +26,36 @@ AreRight text sites = (i : ℕ) (other : Site) → i < length sites → (get_or 
 abbrev pub RightBy : Option (List ℕ) → List Site → Type 0
 RightBy None sites = ⊤
 RightBy (Some text) sites = AreRight text sites
+
+-- ---- paths
+
+-- the bytes behind the last separator, or all where there is none
+abbrev pub last_record : List ℕ → List ℕ
+last_record [] = []
+last_record (byte ∷ more) = if has_separator (byte ∷ more) then last_record more else byte ∷ more
+
+-- of the text that the first bytes of a file end in, the bytes among them: in a sequence a text is a record
+abbrev pub text_of : Bool → List ℕ → List ℕ
+text_of true front = last_record front
+text_of false front = front
+
+-- the path is the one that these bytes lead to in each text that begins with them
+abbrev pub IsPathOf : List ℕ → Path → Type 0
+IsPathOf front path = (rest : List ℕ) (text : Text) → IsText text (front ++ rest) → steps_of path ≡ path_at (length front) text
+
+-- a path that is told for a place is that of the bytes up to the one there
+abbrev pub LeadsTo : Bool → List ℕ → ℕ → Option Path → Type 0
+LeadsTo is_sequence bytes place None = ⊤
+LeadsTo is_sequence bytes place (Some path) = (place < length bytes) × IsPathOf (text_of is_sequence (take (place + 1) bytes)) path
+
+abbrev pub ArePaths : Bool → List ℕ → List Site → Type 0
+ArePaths is_sequence bytes sites =
+    (i : ℕ) (other : Site) → i < length sites → (get_or sites i other).is_found ≡ true → LeadsTo is_sequence bytes (get_or sites i other).place (get_or sites i other).path
+
+-- the same, where the reader told its bytes
+abbrev pub PathsBy : Bool → Option (List ℕ) → List Site → Type 0
+PathsBy is_sequence None sites = ⊤
+PathsBy is_sequence (Some bytes) sites = ArePaths is_sequence bytes sites
 
 -- ---- which places are found
 

@@ -15,6 +15,10 @@ pub struct Meter {
     is_visible: bool,
     files: u64,
     bytes: u64,
+    /// The bytes of the files that are still to be begun, where all are known.
+    ahead: Option<u64>,
+    /// The bytes of the file under way that are still to be read, where its size is known.
+    left: Option<u64>,
 }
 
 impl Meter {
@@ -31,18 +35,33 @@ impl Meter {
             is_visible: false,
             files: 0,
             bytes: 0,
+            ahead: None,
+            left: None,
         }
     }
 
-    /// One file more is read.
-    pub fn add_file(&mut self) {
+    /// Whether the line is to be seen at all.
+    pub fn is_shown(&self) -> bool {
+        self.begun.is_some()
+    }
+
+    /// So many bytes are to be read in all.
+    pub fn expect(&mut self, bytes: u64) {
+        self.ahead = Some(bytes);
+    }
+
+    /// One file more is begun, of this size where it is known.
+    pub fn add_file(&mut self, size: Option<u64>) {
         self.files = self.files.saturating_add(1);
+        self.ahead = rest_of(self.ahead, size.unwrap_or(0));
+        self.left = size;
         self.look();
     }
 
     /// So many bytes more are read.
     pub fn add_bytes(&mut self, count: usize) {
         self.bytes = self.bytes.saturating_add(count as u64);
+        self.left = rest_of(self.left, count as u64);
         self.look();
     }
 
@@ -66,13 +85,24 @@ impl Meter {
 
     fn show(&self, taken: Duration) {
         let millis = u64::try_from(taken.as_millis()).unwrap_or(u64::MAX).max(1);
-        let rate = self.bytes / millis / 1000;
+        let rate = self.bytes / millis;
         let files = self.files;
         let megabytes = self.bytes / 1_000_000;
+        let megabytes_a_second = rate / 1000;
         let _ = write!(
             self.rt.stderr(),
-            "\rgeolint-files: {files} files, {megabytes} MB, {rate} MB/s\x1b[K"
+            "\rgeolint-files: {files} files, {megabytes} MB, {megabytes_a_second} MB/s"
         );
+        if let Some(left) = self.left {
+            let (ahead, of) = match self.ahead {
+                Some(ahead) => (ahead, ""),
+                None => (0, " in this file"),
+            };
+            let seconds = left.saturating_add(ahead) / rate.max(1) / 1000;
+            let (minutes, seconds) = (seconds / 60, seconds % 60);
+            let _ = write!(self.rt.stderr(), ", {minutes} min {seconds} s left{of}");
+        }
+        let _ = self.rt.stderr().write_all(b"\x1b[K");
     }
 
     /// Takes the line away, so that what is written next stands alone.
@@ -82,4 +112,9 @@ impl Meter {
             let _ = self.rt.stderr().write_all(b"\r\x1b[K");
         }
     }
+}
+
+/// What is left of a number that is known, after so much of it.
+fn rest_of(known: Option<u64>, taken: u64) -> Option<u64> {
+    known.map(|number| number.saturating_sub(taken))
 }

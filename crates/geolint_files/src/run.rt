@@ -57,6 +57,7 @@ pub fn judge_all(rt: &HostRuntime, order: &Order) -> Result<Outcome, Failure> {
     let mut linter = Linter::new(order.options.limits);
     let mut run = Run::new(rt, order.options, &mut linter)?;
     run.begin()?;
+    run.expect(order);
     for path in &order.paths {
         run.judge_path(path.as_slice())?;
     }
@@ -144,6 +145,15 @@ impl<'a> Run<'a> {
             self.log.begin(&mut self.line)?;
         }
         self.write()
+    }
+
+    /// Tells the progress line how many bytes there are, where that is known without a walk: each path is a file.
+    fn expect(&mut self, order: &Order) {
+        if self.progress.is_shown() && order.list.is_none() {
+            if let Some(bytes) = bytes_of(&self.rt, order.paths.as_slice()) {
+                self.progress.expect(bytes);
+            }
+        }
     }
 
     /// The worst of all is the answer.
@@ -282,7 +292,7 @@ impl<'a> Run<'a> {
     /// Judges what can be read once only: no line is known of its places.
     fn judge_stream<R: Read + Drop>(&mut self, name: &[u8], mut reader: R) -> Result<(), Failure> {
         let reading = self.reading(name);
-        self.progress.add_file();
+        self.progress.add_file(None);
         match judge(
             &mut reader,
             self.options.limits,
@@ -299,7 +309,7 @@ impl<'a> Run<'a> {
     fn judge_file(&mut self, name: &[u8], mut file: File) -> Result<(), Failure> {
         let before = file.metadata().ok();
         let reading = self.reading(name);
-        self.progress.add_file();
+        self.progress.add_file(size_of(&before));
         match judge(
             &mut file,
             self.options.limits,
@@ -454,5 +464,26 @@ fn is_unchanged(before: &Option<Metadata>, after: &Option<Metadata>) -> bool {
                 && before.mtime_nsec() == after.mtime_nsec()
         }
         _ => false,
+    }
+}
+
+fn size_of(metadata: &Option<Metadata>) -> Option<u64> {
+    metadata.as_ref().map(|metadata| metadata.len())
+}
+
+/// How many bytes the paths have, where each is a file.
+fn bytes_of(rt: &HostRuntime, paths: &[Vec<u8>]) -> Option<u64> {
+    let mut bytes = 0u64;
+    for path in paths {
+        bytes = bytes.saturating_add(file_size(rt, path.as_slice())?);
+    }
+    Some(bytes)
+}
+
+/// The size of a file: none for what is no regular one.
+fn file_size(rt: &HostRuntime, name: &[u8]) -> Option<u64> {
+    match spell(rt.alloc(), name).and_then(|spelled| spelled.metadata(rt)) {
+        Ok(metadata) if metadata.is_file() => Some(metadata.len()),
+        _ => None,
     }
 }

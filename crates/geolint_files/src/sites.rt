@@ -56,17 +56,18 @@ pub struct Sites {
 }
 
 impl Sites {
-    ghost use Rattle.std.specs.Prelude.{◌≡◌, ◌<◌, ◌≤◌, ◌+◌, ◌-◌, ◌^◌, ◌++◌, ◌∷◌, [], ℕ, List, length, IfSome, OnOk, get_or, true, false};
+    ghost use Rattle.std.specs.Prelude.{◌≡◌, ◌<◌, ◌≤◌, ◌+◌, ◌-◌, ◌^◌, ◌++◌, ◌∷◌, [], ℕ, List, Bool, length, IfSome, OnOk, get_or, true, false};
     ghost use Rattle.std.specs.Option.{IsNone};
     ghost use Rattle.std.specs.List.{Contains};
     ghost use Rattle.std.specs.List.Sorted.{IsNonDecreasing};
     ghost use Rattle.geolint_files.specs.declared.sites.Site.{Site};
-    ghost use Rattle.geolint_files.specs.Sites.{IsSpot, AreRight, RightBy, sought, AllFound, FoundBy};
-    ghost use Rattle.geolint_files.specs.Internal.SecondReading.{Reaches, Seeks, Settles};
+    ghost use Rattle.geolint_files.specs.Sites.{IsSpot, AreRight, RightBy, LeadsTo, ArePaths, PathsBy, sought, AllFound, FoundBy};
+    ghost use Rattle.geolint_files.specs.Internal.SecondReading.{Reaches, Follows, Seeks, Settles};
 
     /// Where no place is sought.
     pub fn none() -> Sites
         ensures right { (text : List ℕ) → AreRight text result.sites }
+        ensures paths { (is_sequence : Bool) (text : List ℕ) → ArePaths is_sequence text result.sites }
         ensures sought { sought result ≡ [] }
     {
         Sites {
@@ -79,6 +80,7 @@ impl Sites {
     /// Seeks one place more, which is not before the others.
     pub fn seek(&mut self, place: u64)
         ensures right { (text : List ℕ) → AreRight text self.old.sites → AreRight text self.new.sites }
+        ensures paths { (is_sequence : Bool) (text : List ℕ) → ArePaths is_sequence text self.old.sites → ArePaths is_sequence text self.new.sites }
         ensures sought { length (sought self.old) < 10 → sought self.new ≡ sought self.old ++ place ∷ [] }
     {
         if self.count < MOST_PLACES {
@@ -101,6 +103,7 @@ impl Sites {
     pub fn at(&self, place: u64) -> Option<&Site>
         ensures missed { IsNone result → (text : List ℕ) → AllFound text self.now → Contains (sought self.now) place → place < 2 ^ 64 - 1 → length text < place }
         ensures spot { IfSome result (λ site. (site.now.place ≡ place) × ((text : List ℕ) → AreRight text self.now.sites → IsSpot text place site.now.spot)) }
+        ensures path { IfSome result (λ site. (is_sequence : Bool) (text : List ℕ) → ArePaths is_sequence text self.now.sites → LeadsTo is_sequence text place site.now.path) }
     {
         for site in &self.sites {
             if site.is_found && site.place == place {
@@ -112,7 +115,8 @@ impl Sites {
 
     /// Forgets what was found, where it may not hold.
     pub fn forget(&mut self)
-        ensures { (text : List ℕ) → AreRight text self.new.sites }
+        ensures right { (text : List ℕ) → AreRight text self.new.sites }
+        ensures paths { (is_sequence : Bool) (text : List ℕ) → ArePaths is_sequence text self.new.sites }
     {
         self.sites = [Site::of(0); MOST_PLACES];
     }
@@ -125,6 +129,7 @@ impl Sites {
         is_sequence: bool,
     ) -> io::Result<()>
         ensures right { AreRight [] self.old.sites → RightBy (R.remaining reader.old) self.new.sites }
+        ensures paths { AreRight [] self.old.sites → ArePaths is_sequence [] self.old.sites → PathsBy is_sequence (R.remaining reader.old) self.new.sites }
         ensures found { AreRight [] self.old.sites → IsNonDecreasing (sought self.old) → OnOk result (FoundBy (R.remaining reader.old) self.new) }
         ensures sought { sought self.new ≡ sought self.old }
     {
@@ -147,6 +152,8 @@ impl Sites {
     /// Takes the next bytes of the file.
     fn take(&mut self, finder: &mut Finder, piece: &[u8])
         ensures reaches { (text : List ℕ) → Reaches finder.old self.old text [] → Reaches finder.new self.new (text ++ piece.now) [] }
+        ensures follows { (is_sequence : Bool) (text : List ℕ) → Reaches finder.old self.old text [] → Follows is_sequence finder.old self.old text []
+            → Follows is_sequence finder.new self.new (text ++ piece.now) [] }
         ensures seeks { (text : List ℕ) → Reaches finder.old self.old text [] → IsNonDecreasing (sought self.old)
             → Seeks finder.old self.old (length text) → Seeks finder.new self.new (length (text ++ piece.now)) }
         ensures sought { sought self.new ≡ sought self.old }
@@ -158,6 +165,8 @@ impl Sites {
     /// Takes the bytes up to the next place, where it is among these: whether it is.
     fn reach(&mut self, finder: &mut Finder, piece: &[u8]) -> bool
         ensures reaches { (text : List ℕ) → Reaches finder.old self.old text piece.now → Reaches finder.new self.new text piece.now }
+        ensures follows { (is_sequence : Bool) (text : List ℕ) → Reaches finder.old self.old text piece.now → Follows is_sequence finder.old self.old text piece.now
+            → Follows is_sequence finder.new self.new text piece.now }
         ensures reached { result ≡ true → (text : List ℕ) → Reaches finder.old self.old text piece.now → IsNonDecreasing (sought self.old)
             → Seeks finder.old self.old (length text + finder.old.counted) → Seeks finder.new self.new (length text + finder.new.counted) }
         ensures passed { result ≡ false → (text : List ℕ) → Reaches finder.old self.old text piece.now → IsNonDecreasing (sought self.old)
@@ -191,6 +200,7 @@ impl Sites {
     /// Takes the rest of the bytes.
     fn pass(&mut self, finder: &mut Finder, piece: &[u8])
         ensures reaches { (text : List ℕ) → Reaches finder.old self.old text piece.now → Reaches finder.new self.new (text ++ piece.now) [] }
+        ensures follows { (is_sequence : Bool) (text : List ℕ) → Follows is_sequence finder.old self.old text piece.now → Follows is_sequence finder.new self.new (text ++ piece.now) [] }
         ensures seeks { (passed : ℕ) → Seeks finder.old self.old passed → Seeks finder.new self.new passed }
         ensures sought { sought self.new ≡ sought self.old }
     {
@@ -210,6 +220,7 @@ impl Sites {
     /// The place behind the last byte has a line and a column too.
     fn end(&mut self, finder: &Finder)
         ensures right { (text : List ℕ) → Reaches finder.now self.old text [] → AreRight text self.new.sites }
+        ensures paths { (is_sequence : Bool) (text : List ℕ) → ArePaths is_sequence text self.old.sites → ArePaths is_sequence text self.new.sites }
         ensures found { (text : List ℕ) → Reaches finder.now self.old text [] → IsNonDecreasing (sought self.old)
             → Seeks finder.now self.old (length text) → AllFound text self.new }
         ensures sought { sought self.new ≡ sought self.old }
@@ -227,6 +238,8 @@ impl Sites {
     fn settle(&mut self, i: usize, spot: Spot, path: Option<Path>)
         requires { i < 10 }
         ensures right { (text : List ℕ) (other : Site) → AreRight text self.old.sites → IsSpot text (get_or self.old.sites i other).place spot → AreRight text self.new.sites }
+        ensures paths { (is_sequence : Bool) (text : List ℕ) (other : Site) → ArePaths is_sequence text self.old.sites → LeadsTo is_sequence text (get_or self.old.sites i other).place path
+            → ArePaths is_sequence text self.new.sites }
         ensures settles { Settles self.old self.new i }
     {
         let place = self.sites[i].place;
@@ -274,13 +287,14 @@ fn record_limits(limits: Limits) -> Limits {
 }
 
 impl Finder {
-    ghost use Rattle.std.specs.Prelude.{◌≡◌, []};
+    ghost use Rattle.std.specs.Prelude.{◌≡◌, ◌≤◌, ◌++◌, ◌∷◌, [], ℕ, List, Bool, IfSome, length, take, true, false};
     ghost use Rattle.geolint_files.specs.declared.sites.Sites.{Sites};
-    ghost use Rattle.geolint_files.specs.Sites.{AreRight};
-    ghost use Rattle.geolint_files.specs.Internal.SecondReading.{Reaches, IsLocated};
+    ghost use Rattle.geolint_files.specs.Sites.{AreRight, ArePaths, IsPathOf, text_of};
+    ghost use Rattle.geolint_files.specs.Internal.SecondReading.{Reaches, Follows, IsLocated, Stands, StandsIn};
 
     fn new(limits: Limits, is_sequence: bool) -> Finder
         ensures begins { (sites : Sites) → AreRight [] sites.sites → Reaches result sites [] [] }
+        ensures follows { (sites : Sites) → ArePaths is_sequence [] sites.sites → Follows is_sequence result sites [] [] }
         ensures next { result.next ≡ 0 }
     {
         Finder {
@@ -298,7 +312,10 @@ impl Finder {
 
     /// Gives the locator the bytes of the piece up to an index.
     fn locate_to(&mut self, piece: &[u8], end: usize)
-        ensures { IsLocated self.old self.new }
+        ensures same { IsLocated self.old self.new }
+        ensures stands { (text : List ℕ) → self.old.located ≤ end → end ≤ length piece.now → StandsIn self.old (text ++ take self.old.located piece.now)
+            → StandsIn self.new (text ++ take end piece.now) }
+        ensures located { self.old.located ≤ end → end ≤ length piece.now → self.new.located ≡ end }
     {
         if self.located < end && end <= piece.len() {
             self.locate(&piece[self.located..end]);
@@ -307,7 +324,9 @@ impl Finder {
     }
 
     fn locate(&mut self, bytes: &[u8])
-        ensures { IsLocated self.old self.new }
+        ensures same { IsLocated self.old self.new }
+        ensures stands { (text : List ℕ) → StandsIn self.old text → StandsIn self.new (text ++ bytes.now) }
+        ensures located { self.new.located ≡ self.old.located }
     {
         if self.is_sequence {
             for byte in bytes {
@@ -319,7 +338,9 @@ impl Finder {
     }
 
     fn locate_in_record(&mut self, byte: u8)
-        ensures { IsLocated self.old self.new }
+        ensures same { IsLocated self.old self.new }
+        ensures stands { (text : List ℕ) → self.old.is_sequence ≡ true → StandsIn self.old text → StandsIn self.new (text ++ byte ∷ []) }
+        ensures located { self.new.located ≡ self.old.located }
     {
         if byte == SEPARATOR {
             self.locator = Locator::new(record_limits(self.limits));
@@ -330,7 +351,9 @@ impl Finder {
     }
 
     fn locate_in_text(&mut self, bytes: &[u8])
-        ensures { IsLocated self.old self.new }
+        ensures same { IsLocated self.old self.new }
+        ensures stands { (text : List ℕ) → Stands self.old text → Stands self.new (text ++ bytes.now) }
+        ensures located { self.new.located ≡ self.old.located }
     {
         if !self.is_lost && self.locator.feed(bytes).is_err() {
             self.is_lost = true;
@@ -346,7 +369,9 @@ impl Finder {
         }
     }
 
-    fn path(&self) -> Option<Path> {
+    fn path(&self) -> Option<Path>
+        ensures { (text : List ℕ) → StandsIn self.now text → IfSome result (λ path. IsPathOf (text_of self.now.is_sequence text) path) }
+    {
         if self.is_lost {
             None
         } else {

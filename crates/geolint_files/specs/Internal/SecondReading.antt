@@ -1,11 +1,12 @@
 -- What a second reading has reached.
-use Rattle.std.specs.Prelude.{◌≡◌, ◌<◌, ◌≤◌, ◌-◌, ◌^◌, ℕ, List, length, take, map, get_or, true, ◌++◌}
+use Rattle.std.specs.Prelude.{◌≡◌, ◌<◌, ◌≤◌, ◌+◌, ◌-◌, ◌^◌, ℕ, Bool, List, length, take, map, get_or, true, false, None, ◌++◌}
 use Rattle.std.specs.Io.Iter.{u64_saturate}
+use Rattle.gj_json.specs.Locator as Locator
 use Rattle.gj_places.specs.Counting.{StandsFor}
 use Rattle.geolint_files.specs.declared.sites.Finder.{Finder}
 use Rattle.geolint_files.specs.declared.sites.Site.{Site}
 use Rattle.geolint_files.specs.declared.sites.Sites.{Sites}
-use Rattle.geolint_files.specs.Sites.{AreRight, sought}
+use Rattle.geolint_files.specs.Sites.{AreRight, ArePaths, sought, text_of}
 
 -- behind a text and some bytes of the next piece
 pub record Reaches (finder : Finder) (sites : Sites) (text piece : List ℕ) : Type 0 where
@@ -14,12 +15,29 @@ pub record Reaches (finder : Finder) (sites : Sites) (text piece : List ℕ) : T
   pub lines : finder.next < sites.count → StandsFor finder.lines (text ++ take finder.counted piece)
   pub right : AreRight (text ++ piece) sites.sites
 
+-- until a byte of the text is refused, the locator has these bytes of it
+abbrev pub Stands : Finder → List ℕ → Type 0
+Stands finder front = finder.is_lost ≡ false → Locator.StandsFor finder.locator front × (Locator.refusal_of finder.locator ≡ None)
+
+-- it has those of the text that these bytes of the file end in
+abbrev pub StandsIn : Finder → List ℕ → Type 0
+StandsIn finder front = Stands finder (text_of finder.is_sequence front)
+
+-- the locator is behind a text and some bytes of the next piece, and each path so far is right
+pub record Follows (is_sequence : Bool) (finder : Finder) (sites : Sites) (text piece : List ℕ) : Type 0 where
+  pub kind : finder.is_sequence ≡ is_sequence
+  pub located : finder.located ≤ length piece
+  pub near : finder.located ≤ finder.counted + 1
+  pub stands : finder.next < sites.count → StandsIn finder (text ++ take finder.located piece)
+  pub paths : ArePaths is_sequence (text ++ piece) sites.sites
+
 -- the bytes that the locator has change nothing of the count
 pub record IsLocated (old new : Finder) : Type 0 where
   pub lines : new.lines ≡ old.lines
   pub offset : new.offset ≡ old.offset
   pub counted : new.counted ≡ old.counted
   pub next : new.next ≡ old.next
+  pub kind : new.is_sequence ≡ old.is_sequence
 
 -- the places before the next were found, and the others are not among so many bytes from the start
 pub record Seeks (finder : Finder) (sites : Sites) (passed : ℕ) : Type 0 where

@@ -20,6 +20,9 @@ returns-then-self-i-clause-right c = λ text reaches.
     let right = subst (λ (bytes : List ℕ). AreRight bytes c.args.self.now.sites) (append-nil text) reaches.right in
     c.settle.ensures.right text c.index-self-i.result right (IsSpot-end text _ finder.lines c.spot.result place stands c.spot.ensures.0 c.spot.ensures.1)
 
+pub returns-then-self-i-clause-paths : goal.returns-then-self-i-clause-paths
+returns-then-self-i-clause-paths c = λ is_sequence text are. c.settle.ensures.paths is_sequence text c.index-self-i.result are tt
+
 pub returns-then-self-i-clause-found : goal.returns-then-self-i-clause-found
 returns-then-self-i-clause-found c = λ text reaches ordered seeks place contained within small.
     let finder = c.args.finder.now in

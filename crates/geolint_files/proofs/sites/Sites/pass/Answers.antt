@@ -1,7 +1,10 @@
 use Rattle.std.proofs.Common.{arith, refl, ◌≡◌, ◌++◌, [], ℕ, List, take, ap, sym, ◌∙◌, subst, append_assoc, append-nil, length-append}
 use Rattle.std.proofs.lemmas.List.{take-append-drop}
 use Rattle.gj_places.specs.Counting.{StandsFor}
-use Rattle.geolint_files.specs.Sites.{AreRight}
+use Rattle.geolint_files.specs.Sites.{AreRight, ArePaths}
+use Rattle.geolint_files.specs.Internal.SecondReading.{StandsIn}
+use Rattle.std.proofs.lemmas.List.{take_all}
+use Rattle.std.proofs.Common.{length, ◌≤◌}
 use Rattle.geolint_files.proofs.sites.Sites.pass.Goals as goal
 use Rattle.geolint_files.proofs.sites.Sites.pass.Goals.{then-finder-self, else-finder-self}
 
@@ -21,15 +24,38 @@ returns-clause-reaches c = λ text reaches.
         right = right;
       })
       | else-finder-self w ↦ let sum = rw (w.finder-is) at end in rw (w.self-is, w.finder-is) (record {
-        offset = omega (arith, longer, offset, sum, w.locate_to.ensures.offset);
+        offset = omega (arith, longer, offset, sum, w.locate_to.ensures.same.offset);
         counted = omega arith;
         lines = λ fewer.
             let here = w.feed.ensures (text ++ take counted piece) (reaches.lines w.if-finder-self.false) in
             let all : (text ++ take counted piece) ++ c.rest_of-rest.result.now ≡ (text ++ piece) ++ [] =
             append_assoc text (take counted piece) _ ∙ ap (λ (ys : List ℕ). text ++ ys) (ap (λ (ys : List ℕ). take counted piece ++ ys) c.rest_of-rest.ensures ∙ take-append-drop counted piece) ∙ sym (append-nil (text ++ piece)) in
             let fed = subst (StandsFor w.feed.new.self) all here in
-            rw (w.locate_to.ensures.lines) fed;
+            rw (w.locate_to.ensures.same.lines) fed;
         right = right;
+      })
+    ]
+
+pub returns-clause-follows : goal.returns-clause-follows
+returns-clause-follows c = λ is_sequence text follows.
+    let piece = c.args.piece.now in
+    let paths = subst (λ (bytes : List ℕ). ArePaths is_sequence bytes c.args.self.now.sites) (sym (append-nil (text ++ piece))) follows.paths in
+    elim c.if-finder-self.branch [
+      | then-finder-self w ↦ rw (w.self-is, w.finder-is) (record {
+        kind = follows.kind;
+        located = omega arith;
+        near = omega arith;
+        stands = λ fewer. absurd (omega (arith, fewer, w.if-finder-self.true));
+        paths = paths;
+      })
+      | else-finder-self w ↦ rw (w.self-is, w.finder-is) (record {
+        kind = w.locate_to.ensures.same.kind ∙ follows.kind;
+        located = omega arith;
+        near = omega arith;
+        stands = λ fewer.
+            let all : text ++ take (length piece) piece ≡ (text ++ piece) ++ [] = ap (λ (ys : List ℕ). text ++ ys) (take_all (length piece) piece (omega arith)) ∙ sym (append-nil (text ++ piece)) in
+            subst (StandsIn w.locate_to.new.self) all (w.locate_to.ensures.stands text follows.located (omega arith) (follows.stands w.if-finder-self.false));
+        paths = paths;
       })
     ]
 
@@ -37,8 +63,8 @@ pub returns-clause-seeks : goal.returns-clause-seeks
 returns-clause-seeks c = λ passed seeks. elim c.if-finder-self.branch [
   | then-finder-self w ↦ rw (w.self-is, w.finder-is) (record { found = seeks.found; ahead = seeks.ahead })
   | else-finder-self w ↦ rw (w.self-is, w.finder-is) (record {
-    found = λ k other before within. seeks.found k other (omega (arith, before, w.locate_to.ensures.next)) within;
-    ahead = λ k e after within small. seeks.ahead k e (omega (arith, after, w.locate_to.ensures.next)) within small;
+    found = λ k other before within. seeks.found k other (omega (arith, before, w.locate_to.ensures.same.next)) within;
+    ahead = λ k e after within small. seeks.ahead k e (omega (arith, after, w.locate_to.ensures.same.next)) within small;
   })
 ]
 

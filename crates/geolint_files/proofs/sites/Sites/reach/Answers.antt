@@ -5,7 +5,11 @@ use Rattle.gj_places.specs.declared.lines.Lines.{Lines}
 use Rattle.geolint_files.specs.Sites.{IsSpot}
 use Rattle.geolint_files.proofs.FoundSites.{Spot-is, take-joined}
 use Rattle.std.proofs.Common.{inl, inr, refl}
-use Rattle.geolint_files.specs.Internal.SecondReading.{Settles}
+use Rattle.gj_json.specs.declared.path.Path.{Path}
+use Rattle.std.proofs.Common.{Bool, IfSome}
+use Rattle.geolint_files.specs.Internal.SecondReading.{Settles, StandsIn}
+use Rattle.geolint_files.specs.Sites.{LeadsTo, IsPathOf, text_of}
+use Rattle.geolint_files.proofs.FollowedPaths.{LeadsTo-here}
 use Rattle.geolint_files.proofs.SoughtPlaces.{Seeks-settled, Seeks-passed, sought-at, sought-first, sought-settled}
 use Rattle.geolint_files.proofs.sites.Sites.reach.Goals as goal
 
@@ -25,16 +29,40 @@ returns-clause-reaches c = λ text reaches.
     let fed = c.feed.ensures (text ++ take finder.counted piece) (reaches.lines open_place) in
     let joined = append_assoc text (take finder.counted piece) _ ∙ ap (λ (ys : List ℕ). text ++ ys) (take-joined finder.counted at piece c.if-at-finder.false) in
     let stands : StandsFor c.feed.new.self (text ++ take at piece) = subst (StandsFor c.feed.new.self) joined fed in
-    let lines = c.locate_to.ensures.lines in
+    let lines = c.locate_to.ensures.same.lines in
     let after = subst (λ (l : Lines). StandsFor l (text ++ take at piece)) (sym lines) stands in
     let spot = Spot-is text (take at piece) at site.place c.locate_to.new.self.lines c.spot.result (drop at piece) (length-take-le at piece (omega (arith, within))) here after c.spot.ensures.0 c.spot.ensures.1 in
     let whole : (text ++ take at piece) ++ drop at piece ≡ text ++ piece = append_assoc text (take at piece) (drop at piece) ∙ ap (λ (ys : List ℕ). text ++ ys) (take-append-drop at piece) in
     let is : IsSpot (text ++ piece) site.place c.spot.result = subst (λ (bytes : List ℕ). IsSpot bytes site.place c.spot.result) whole spot in
     record {
-      offset = c.locate_to.ensures.offset ∙ reaches.offset;
-      counted = omega (arith, within, c.locate_to.ensures.counted);
-      lines = λ fewer. subst (λ (k : ℕ). StandsFor c.locate_to.new.self.lines (text ++ take k piece)) (sym c.locate_to.ensures.counted) after;
+      offset = c.locate_to.ensures.same.offset ∙ reaches.offset;
+      counted = omega (arith, within, c.locate_to.ensures.same.counted);
+      lines = λ fewer. subst (λ (k : ℕ). StandsFor c.locate_to.new.self.lines (text ++ take k piece)) (sym c.locate_to.ensures.same.counted) after;
       right = c.settle.ensures.right (text ++ piece) c.index-self-i.result reaches.right is;
+    }
+
+pub returns-clause-follows : goal.returns-clause-follows
+returns-clause-follows c = λ is_sequence text reaches follows.
+    let finder = c.args.finder.now in
+    let piece = c.args.piece.now in
+    let site = get_or c.args.self.now.sites finder.next c.index-self-i.result in
+    let at = site.place - finder.offset in
+    let offset = reaches.offset in
+    let here : site.place ≡ length text + at = omega (arith, offset, c.saturating_add-end.ensures, c.if-place-finder.false, c.if-end-place.false) in
+    let within : at < length piece = omega (arith, offset, c.saturating_add-end.ensures, c.if-place-finder.false, c.if-end-place.false) in
+    let near_place = follows.near in
+    let near : finder.located ≤ at + 1 = omega (arith, near_place, c.if-at-finder.false) in
+    let stands : StandsIn c.locate_to.new.self (text ++ take (at + 1) piece) = c.locate_to.ensures.stands text near (omega (arith, within)) (follows.stands c.if-i-self.false) in
+    let located : c.locate_to.new.self.located ≡ at + 1 = c.locate_to.ensures.located near (omega (arith, within)) in
+    let kind : c.locate_to.new.self.is_sequence ≡ is_sequence = c.locate_to.ensures.same.kind ∙ follows.kind in
+    let path = subst (λ (b : Bool). IfSome c.path.result (λ (p : Path). IsPathOf (text_of b (text ++ take (at + 1) piece)) p)) kind (c.path.ensures (text ++ take (at + 1) piece) stands) in
+    let leads : LeadsTo is_sequence (text ++ piece) site.place c.path.result = LeadsTo-here is_sequence text piece at site.place c.path.result within here path in
+    record {
+      kind = kind;
+      located = omega (arith, within, located);
+      near = omega (arith, located, c.locate_to.ensures.same.counted);
+      stands = λ fewer. subst (λ (n : ℕ). StandsIn c.locate_to.new.self (text ++ take n piece)) (sym located) stands;
+      paths = c.settle.ensures.paths is_sequence (text ++ piece) c.index-self-i.result follows.paths leads;
     }
 
 -- what the excerpt takes changes no place
@@ -49,7 +77,7 @@ returns-clause-reached c = λ yes text reaches ordered seeks.
     let settles : Settles sites c.settle.new.self finder.next = before-excerpt c in
     let offset = reaches.offset in
     let site = get_or sites.sites finder.next c.index-self-i.result in
-    let here : site.place ≡ length text + c.locate_to.new.self.counted = omega (arith, offset, c.saturating_add-end.ensures, c.if-place-finder.false, c.if-end-place.false, c.locate_to.ensures.counted) in
+    let here : site.place ≡ length text + c.locate_to.new.self.counted = omega (arith, offset, c.saturating_add-end.ensures, c.if-place-finder.false, c.if-end-place.false, c.locate_to.ensures.same.counted) in
     Seeks-settled finder _ sites c.settle.new.self (length text + finder.counted) (length text + c.locate_to.new.self.counted) seeks settles refl
     (λ k e later within.
     let (counted, stored) = sought-first sites finder.next k (omega (arith, later)) within in

@@ -1,12 +1,17 @@
 use Rattle.std.proofs.Common.{arith, ◌≡◌, ◌+◌, ◌∙◌, ◌++◌, ℕ, List, length, sym, subst, length-append}
 use Rattle.std.specs.List.Sorted.{IsNonDecreasing}
 use Rattle.geolint_files.specs.Internal.SecondReading.{Seeks}
+use Rattle.geolint_files.proofs.FollowedPaths.{Follows-piece}
 use Rattle.geolint_files.proofs.FoundSites.{Reaches-piece}
 use Rattle.geolint_files.proofs.sites.Sites.take.Goals as goal
 
 pub returns : goal.returns
 returns c = record {
   reaches = λ text begun. c.pass.ensures.reaches text (c.reach.ensures.reaches text (c.loop.invariant.reaches text (Reaches-piece c.args.finder.now c.args.self.now text c.args.piece.now begun)));
+  follows = λ is_sequence text begun follows.
+      let here = Reaches-piece c.args.finder.now c.args.self.now text c.args.piece.now begun in
+      c.pass.ensures.follows is_sequence text (c.reach.ensures.follows is_sequence text (c.loop.invariant.reaches text here)
+      (c.loop.invariant.follows is_sequence text here (Follows-piece is_sequence c.args.finder.now c.args.self.now text c.args.piece.now follows)));
   seeks = λ text begun ordered seeks.
       let none = begun.counted in
       let start : length text ≡ length text + c.args.finder.now.counted = omega (arith, none) in
@@ -20,6 +25,7 @@ returns c = record {
 pub loop-preserved : goal.loop-preserved
 loop-preserved c = record {
   reaches = λ text begun. c.reach.ensures.reaches text (c.loop.invariant.reaches text begun);
+  follows = λ is_sequence text begun follows. c.reach.ensures.follows is_sequence text (c.loop.invariant.reaches text begun) (c.loop.invariant.follows is_sequence text begun follows);
   seeks = λ text begun ordered seeks. c.reach.ensures.reached c.loop-test.true text (c.loop.invariant.reaches text begun)
       (subst (λ (places : List ℕ). IsNonDecreasing places) (sym c.loop.invariant.sought) ordered) (c.loop.invariant.seeks text begun ordered seeks);
   sought = c.reach.ensures.sought ∙ c.loop.invariant.sought;

@@ -1,0 +1,115 @@
+-- Lemmas on the paths that a second reading finds.
+use Rattle.std.proofs.Common.{arith, refl, ◌≡◌, ◌≤◌, ◌<◌, ℕ, ◌+◌, ◌++◌, ◌∷◌, ◌||◌, [], List, Bool, length, take, drop, set, get_or, ap, sym, ◌∙◌, subst, true, false, append_assoc, append-nil, length-append, length-take-le, if◌then◌else◌, Option, Some, None, IfSome}
+use Rattle.std.specs.Io.KnownBytes.{Consumes}
+use Rattle.std.proofs.lemmas.List.{take-append-le, take_at, take-append-drop}
+use Rattle.gj_json.specs.declared.path.Path.{Path}
+use Rattle.gj_rules.specs.Sequence.{is_separator, has_separator}
+use Rattle.geolint_files.specs.declared.sites.Site.{Site}
+use Rattle.geolint_files.specs.declared.sites.Finder.{Finder}
+use Rattle.geolint_files.specs.declared.sites.Sites.{Sites}
+use Rattle.geolint_files.specs.Sites.{last_record, text_of, IsPathOf, LeadsTo, ArePaths, PathsBy}
+use Rattle.geolint_files.specs.Internal.SecondReading.{Follows, StandsIn}
+use Rattle.geolint_files.proofs.FoundSites.{each-set}
+
+-- ---- records, byte by byte
+
+has_separator-more : (bytes : List ℕ) (byte : ℕ) → has_separator (bytes ++ byte ∷ []) ≡ (has_separator bytes || is_separator byte)
+has_separator-more [] byte = or-false (is_separator byte)
+  where
+    or-false : (b : Bool) → (b || false) ≡ b
+    or-false true = refl
+    or-false false = refl
+has_separator-more (first ∷ more) byte = ap (λ (b : Bool). is_separator first || b) (has_separator-more more byte) ∙ or-assoc (is_separator first) (has_separator more) (is_separator byte)
+  where
+    or-assoc : (a b c : Bool) → (a || (b || c)) ≡ ((a || b) || c)
+    or-assoc true b c = refl
+    or-assoc false b c = refl
+
+or-true : (a : Bool) → (a || true) ≡ true
+or-true true = refl
+or-true false = refl
+
+or-none : (a : Bool) → (a || false) ≡ a
+or-none true = refl
+or-none false = refl
+
+has_separator-here : (bytes : List ℕ) (byte : ℕ) → is_separator byte ≡ true → has_separator (bytes ++ byte ∷ []) ≡ true
+has_separator-here bytes byte is = has_separator-more bytes byte ∙ (ap (λ (b : Bool). has_separator bytes || b) is ∙ or-true (has_separator bytes))
+
+has_separator-other : (bytes : List ℕ) (byte : ℕ) → is_separator byte ≡ false → has_separator (bytes ++ byte ∷ []) ≡ has_separator bytes
+has_separator-other bytes byte is = has_separator-more bytes byte ∙ (ap (λ (b : Bool). has_separator bytes || b) is ∙ or-none (has_separator bytes))
+
+pub last_record-begun : (bytes : List ℕ) (byte : ℕ) → is_separator byte ≡ true → last_record (bytes ++ byte ∷ []) ≡ []
+last_record-begun [] byte is = rw (has_separator-here [] byte is) refl
+last_record-begun (first ∷ more) byte is = rw (has_separator-here (first ∷ more) byte is) (last_record-begun more byte is)
+
+last_record-by : (has : Bool) (first : ℕ) (more : List ℕ) (byte : ℕ) → last_record (more ++ byte ∷ []) ≡ last_record more ++ byte ∷ []
+    → (if has then last_record (more ++ byte ∷ []) else first ∷ (more ++ byte ∷ [])) ≡ (if has then last_record more else first ∷ more) ++ byte ∷ []
+last_record-by true first more byte rest = rest
+last_record-by false first more byte rest = refl
+
+pub last_record-more : (bytes : List ℕ) (byte : ℕ) → is_separator byte ≡ false → last_record (bytes ++ byte ∷ []) ≡ last_record bytes ++ byte ∷ []
+last_record-more [] byte is = rw (has_separator-other [] byte is) refl
+last_record-more (first ∷ more) byte is =
+    rw (has_separator-other (first ∷ more) byte is) (last_record-by (has_separator (first ∷ more)) first more byte (last_record-more more byte is))
+
+pub text_of-nil : (is_sequence : Bool) → text_of is_sequence [] ≡ []
+text_of-nil true = refl
+text_of-nil false = refl
+
+-- ---- a path in a longer file
+
+LeadsTo-longer : (is_sequence : Bool) (text more : List ℕ) (place : ℕ) (path : Option Path) → LeadsTo is_sequence text place path → LeadsTo is_sequence (text ++ more) place path
+LeadsTo-longer is_sequence text more place None leads = tt
+LeadsTo-longer is_sequence text more place (Some path) (within, is) =
+    let sum = length-append text more in
+    (omega (arith, within, sum), subst (λ (front : List ℕ). IsPathOf (text_of is_sequence front) path) (sym (take-append-le (place + 1) text more (omega (arith, within)))) is)
+
+pub ArePaths-longer : (is_sequence : Bool) (text more : List ℕ) (sites : List Site) → ArePaths is_sequence text sites → ArePaths is_sequence (text ++ more) sites
+ArePaths-longer is_sequence text more sites are = λ i other within found. LeadsTo-longer is_sequence text more _ _ (are i other within found)
+
+-- behind the byte at the place
+pub LeadsTo-here : (is_sequence : Bool) (text piece : List ℕ) (at place : ℕ) (path : Option Path) → at < length piece → place ≡ length text + at
+    → IfSome path (λ (p : Path). IsPathOf (text_of is_sequence (text ++ take (at + 1) piece)) p) → LeadsTo is_sequence (text ++ piece) place path
+LeadsTo-here is_sequence text piece at place None within here is = tt
+LeadsTo-here is_sequence text piece at place (Some path) within here is =
+    let sum = length-append text piece in
+    let front = text ++ take (at + 1) piece in
+    let long : length front ≡ place + 1 = omega (arith, length-append text (take (at + 1) piece), length-take-le (at + 1) piece (omega (arith, within)), here) in
+    let whole : front ++ drop (at + 1) piece ≡ text ++ piece = append_assoc text (take (at + 1) piece) (drop (at + 1) piece) ∙ ap (λ (ys : List ℕ). text ++ ys) (take-append-drop (at + 1) piece) in
+    let same : take (place + 1) (text ++ piece) ≡ front = subst (λ (bytes : List ℕ). take (place + 1) bytes ≡ front) whole (take_at front (drop (at + 1) piece) (place + 1) long) in
+    (omega (arith, sum, within, here), subst (λ (bytes : List ℕ). IsPathOf (text_of is_sequence bytes) path) (sym same) is)
+
+-- ---- the sites
+
+pub paths-set : (is_sequence : Bool) (text : List ℕ) (sites : List Site) (i : ℕ) (site : Site) → ArePaths is_sequence text sites → LeadsTo is_sequence text site.place site.path
+    → ArePaths is_sequence text (set sites i site)
+paths-set is_sequence text sites i site are leads = each-set (λ (s : Site). s.is_found ≡ true → LeadsTo is_sequence text s.place s.path) sites i site are (λ found. leads)
+
+-- before the first of a piece
+pub Follows-piece : (is_sequence : Bool) (finder : Finder) (sites : Sites) (text piece : List ℕ) → Follows is_sequence finder sites text [] → Follows is_sequence finder sites text piece
+Follows-piece is_sequence finder sites text piece follows =
+    let located = follows.located in
+    let none : finder.located ≡ 0 = omega (arith, located) in
+    let same : take finder.located [] ≡ take finder.located piece = ap (λ (n : ℕ). take n []) none ∙ sym (ap (λ (n : ℕ). take n piece) none) in
+    record {
+      kind = follows.kind;
+      located = omega (arith, none);
+      near = follows.near;
+      stands = λ fewer. subst (λ (ys : List ℕ). StandsIn finder (text ++ ys)) same (follows.stands fewer);
+      paths = ArePaths-longer is_sequence text piece sites.sites (subst (λ (bytes : List ℕ). ArePaths is_sequence bytes sites.sites) (append-nil text) follows.paths);
+    }
+
+-- behind the bytes that a reader gave, of those that it told
+pub PathsBy-read : (is_sequence : Bool) (a b : Option (List ℕ)) (read : List ℕ) (sites : List Site) → Consumes a b read → ArePaths is_sequence read sites → PathsBy is_sequence a sites
+PathsBy-read is_sequence None b read sites took are = tt
+PathsBy-read is_sequence (Some all) None read sites took are = absurd took
+PathsBy-read is_sequence (Some all) (Some rest) read sites took are =
+    subst (λ (bytes : List ℕ). ArePaths is_sequence bytes sites) (sym took) (ArePaths-longer is_sequence read rest sites are)
+
+pub paths-followed : (is_sequence : Bool) (finder : Finder) (sites : Sites) (read : List ℕ) → Follows is_sequence finder sites read [] → ArePaths is_sequence read sites.sites
+paths-followed is_sequence finder sites read follows = subst (λ (bytes : List ℕ). ArePaths is_sequence bytes sites.sites) (append-nil read) follows.paths
+
+pub PathsBy-reached : (is_sequence : Bool) (a b : Option (List ℕ)) (read : List ℕ) (finder : Finder) (sites : Sites) → Consumes a b read → Follows is_sequence finder sites read []
+    → PathsBy is_sequence a sites.sites
+PathsBy-reached is_sequence a b read finder sites took follows = PathsBy-read is_sequence a b read sites.sites took (paths-followed is_sequence finder sites read follows)

@@ -1,0 +1,23 @@
+use Rattle.std.proofs.Common.{arith, ◌≡◌, ◌<◌, ◌+◌, ◌++◌, ◌∷◌, [], ℕ, List, length, take, ap, sym, subst, ◌∙◌, append_assoc}
+use Rattle.std.proofs.lemmas.List.{take_more}
+use Rattle.geolint_files.specs.Internal.SecondReading.{StandsIn}
+use Rattle.geolint_files.proofs.sites.Finder.locate.Goals as goal
+
+pub loop-byte-preserved : goal.loop-byte-preserved
+loop-byte-preserved c = record {
+  same = record {
+    lines = c.locate_in_record.ensures.same.lines ∙ c.loop-byte.invariant.same.lines;
+    offset = c.locate_in_record.ensures.same.offset ∙ c.loop-byte.invariant.same.offset;
+    counted = c.locate_in_record.ensures.same.counted ∙ c.loop-byte.invariant.same.counted;
+    next = c.locate_in_record.ensures.same.next ∙ c.loop-byte.invariant.same.next;
+    kind = c.locate_in_record.ensures.same.kind ∙ c.loop-byte.invariant.same.kind;
+  };
+  stands = λ text stands.
+      let i = c.loop-byte.byte-index in
+      let bytes = c.args.bytes.now in
+      let within : i < length bytes = omega (arith, c.loop-byte-test.true) in
+      let after = c.locate_in_record.ensures.stands (text ++ take i bytes) (c.loop-byte.invariant.same.kind ∙ c.if-self.true) (c.loop-byte.invariant.stands text stands) in
+      let more = append_assoc text (take i bytes) _ ∙ ap (λ (ys : List ℕ). text ++ ys) (sym (take_more bytes i 0 within)) in
+      subst (StandsIn c.locate_in_record.new.self) more after;
+  located = c.locate_in_record.ensures.located ∙ c.loop-byte.invariant.located;
+}
