@@ -107,10 +107,6 @@ pub fn read_flat(piece: &[u8], start: u64, flat: &mut Flat) -> usize
     ensures flat { 0 < result → IsFlat flat.new start (take result piece.now) }
 {
     let Some(pair) = pair_after_bracket(piece, &mut flat.first.value, &mut flat.second.value) else {
-        // What the end of a piece cuts is mostly not whole, so it is not looked at twice.
-        if piece.len() < PAIR_ROOM {
-            return 0;
-        }
         return read_any_flat(piece, start, flat);
     };
     flat.place = start;
