@@ -58,4 +58,4 @@ quick-lasting limits (Some all) (Some rest) read took never = record {
 pub refused_never : HasOne → (here limits : Allowed) (bytes : List ℕ) (fault : JsonFault) → here ≡ limits → ((more : List ℕ) → IsRefusal here (bytes ++ more) fault) → NeverValid limits bytes
 refused_never one here limits bytes fault same refused more is =
     other one limits (bytes ++ more) (NotJson fault) (subst (λ (l : Allowed). IsRefusal l (bytes ++ more) fault) same (refused more)) refl
-        (warnings_of (text_warnings is.0)) (is.0, is.1, is.2, refl)
+    (warnings_of (text_warnings is.0)) (is.0, is.1, is.2, refl)
