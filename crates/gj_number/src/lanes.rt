@@ -4,7 +4,7 @@ ghost use Rattle.std.specs.List.{fold};
 ghost use Rattle.std.specs.Option.{IsSome};
 ghost use Rattle.std.specs.Simd.Lanes.{Each1, mask_l};
 ghost use Rattle.gj_number.specs.Bytes.{IsDigit};
-ghost use Rattle.gj_number.specs.Internal.DigitLanes.{lane_of, with_value, by_fours, leading};
+ghost use Rattle.gj_number.specs.Internal.DigitLanes.{lane_of, with_value, by_twos, by_both, by_fours, leading};
 ghost use Rattle.gj_number.specs.Value.{with_digit};
 ghost use Rattle.gj_number.specs.Internal.DigitRuns.{IsRun, IsPointed, SpellsOn, SpellsUnsigned};
 
@@ -17,11 +17,11 @@ static PLACES: [u8; 32] = [
     5, 6, 7, 8, 9, 10, 11, 12, 13, 14, 15,
 ];
 
-/// What the lanes of the first two of four digits are worth.
-const FIRST_TWO: [u8; 16] = [10, 1, 0, 0, 10, 1, 0, 0, 10, 1, 0, 0, 10, 1, 0, 0];
+/// Two digits in a word, the first in its lower byte: times this, the upper byte is their number.
+const BY_TEN: u16 = 10 * 256 + 1;
 
-/// What the lanes of the last two of four digits are worth.
-const LAST_TWO: [u8; 16] = [0, 0, 10, 1, 0, 0, 10, 1, 0, 0, 10, 1, 0, 0, 10, 1];
+/// The same of two numbers below 100, each in a half of a word.
+const BY_HUNDRED: u32 = 100 * 65_536 + 1;
 
 /// Sixteen rows of places: in row `at` all but the place `at`, and one that is no lane.
 static OTHERS: [u8; 256] = [
@@ -83,6 +83,14 @@ fn from_ten(lanes: u8x16) -> u64
     lanes.simd_ge(u8x16::splat(10)).to_bitmask()
 }
 
+/// The same, and a bit after those of the lanes.
+#[inline(always)]
+fn from_ten_ended(lanes: u8x16) -> u64
+    ensures { result ≡ mask_l (map (nat_le 10) (lanes ++ 10 ∷ [])) }
+{
+    from_ten(lanes) + 0x1_0000
+}
+
 /// How many lanes come before the first that is 10 or more.
 #[inline(always)]
 fn leading_digits(lanes: u8x16) -> usize
@@ -127,14 +135,31 @@ fn without_point(lanes: u8x16, natural: usize, fraction: usize) -> u8x16
     lanes.swizzle_dyn(u8x16::from_slice(&POINTED[256 * (natural - 1) + 16 * fraction..]))
 }
 
+/// Each two of sixteen digits as one number.
+#[inline(always)]
+fn twos_of(digits: u8x16) -> u16x8
+    requires { Each1 (λ digit. digit < 10) digits }
+    ensures { result ≡ by_twos digits }
+{
+    (u16x8::from_le_bytes(digits) * u16x8::splat(BY_TEN)) >> u16x8::splat(8)
+}
+
+/// Each two of eight numbers below 100 as one number.
+#[inline(always)]
+fn both_of(twos: u16x8) -> u32x4
+    requires { Each1 (λ two. two < 100) twos }
+    ensures { result ≡ by_both twos }
+{
+    (u32x4::from_le_bytes(twos.to_le_bytes()) * u32x4::splat(BY_HUNDRED)) >> u32x4::splat(16)
+}
+
 /// Each four of sixteen digits as one number.
 #[inline(always)]
 fn fours_of(digits: u8x16) -> u32x4
     requires { Each1 (λ digit. digit < 10) digits }
     ensures { result ≡ by_fours digits }
 {
-    digits.dot4(u8x16::from_array(FIRST_TWO)) * u32x4::splat(100)
-        + digits.dot4(u8x16::from_array(LAST_TWO))
+    both_of(twos_of(digits))
 }
 
 /// The number that sixteen digits spell, of which the first may be zeros.
@@ -275,33 +300,27 @@ pub(crate) struct Pointed {
 }
 
 /// The number with one to three digits before its point, and digits after it, that the first sixteen bytes of a piece
-/// begin with, and in which it ends.
+/// begin with. Where it has as many bytes it may go on.
 #[inline(always)]
 pub(crate) fn pointed_prefix(piece: &[u8]) -> Option<Pointed>
     requires { 16 ≤ length piece.now }
     ensures some { IfSome result (λ found. 0 < found.natural) }
-    ensures few { IfSome result (λ found. found.natural + 1 + found.fraction < 16) }
+    ensures few { IfSome result (λ found. found.natural + 1 + found.fraction ≤ 16) }
     ensures digits { IfSome result (λ found. Each1 (λ digit. digit < 10) found.digits) }
     ensures spells { IfSome result (λ found.
         SpellsUnsigned piece.now found.natural found.fraction (found.natural + 1 + found.fraction) (fold with_value 0 found.digits)) }
     ensures point { IfSome result (λ found. IsDigit (get_or piece.now found.natural 0) → ⊥) }
-    ensures ends { IfSome result (λ found. IsDigit (get_or piece.now (found.natural + 1 + found.fraction) 0) → ⊥) }
+    ensures ends { IfSome result (λ found. found.natural + 1 + found.fraction < 16 →
+        IsDigit (get_or piece.now (found.natural + 1 + found.fraction) 0) → ⊥) }
     ensures taken { (natural fraction : ℕ) → IsPointed piece.now natural fraction → IsSome result }
 {
     let lanes = lanes_of(piece);
-    let others = from_ten(lanes);
-    if others == 0 {
-        return None;
-    }
+    let others = from_ten_ended(lanes);
     let natural = others.trailing_zeros() as usize;
     if natural == 0 || natural > 3 || piece[natural] != b'.' {
         return None;
     }
-    let rest = others >> (natural + 1);
-    if rest == 0 {
-        return None;
-    }
-    let fraction = rest.trailing_zeros() as usize;
+    let fraction = (others >> (natural + 1)).trailing_zeros() as usize;
     if fraction == 0 {
         return None;
     }

@@ -1,5 +1,5 @@
 //! Numbers as most are written: at most eighteen digits, and no exponent.
-ghost use Rattle.std.specs.Prelude.{◌≡◌, ◌≢◌, ◌↔◌, ◌-◌, ◌*◌, ◌/◌, ◌%◌, ◌^◌, ◌<◌, ◌≤◌, IsTrue, IfSome};
+ghost use Rattle.std.specs.Prelude.{◌≡◌, ◌≢◌, ◌↔◌, ◌-◌, ◌*◌, ◌/◌, ◌%◌, ◌^◌, ◌<◌, ◌≤◌, option_map, IsTrue, IfSome};
 ghost use Rattle.gj_number.specs.Exact.{SameValue, signed, cut_limit, cut_magnitude, cut_of, cut_places, cut_within, places_of};
 ghost use Rattle.gj_number.specs.Internal.KeptParts.{limited_cut, limited_to};
 
@@ -153,6 +153,35 @@ impl Short {
         without_last(self.digits, down) * ten_to(down as usize) != self.digits
     }
 
+    /// Both at once: the value times 10^7, cut toward zero, where it is at most `most` times 10^7 from zero, and whether
+    /// more than seven digits stand after the point where no zero is written at the end.
+    #[inline(always)]
+    pub fn judged_within(self, most: u8) -> Option<(i32, bool)>
+        requires { most ≤ 200 }
+        ensures cut { option_map (λ judged. judged.0) result ≡ cut_within (most * 10 ^ cut_places) (cut_of (exact_of self)) }
+        ensures precise { IfSome result (λ judged. IsTrue judged.1 ↔ (cut_places < places_of (exact_of self))) }
+    {
+        match self.magnitude_within(most as u64) {
+            Some(magnitude) => Some((
+                small_with_sign(self.negative, magnitude),
+                self.is_more_than(magnitude),
+            )),
+            None => None,
+        }
+    }
+
+    /// Whether digits are left of it where its magnitude is cut to seven places.
+    #[inline(always)]
+    fn is_more_than(self, magnitude: u64) -> bool
+        requires { magnitude ≡ cut_magnitude (exact_of self) }
+        ensures { IsTrue result ↔ (cut_places < places_of (exact_of self)) }
+    {
+        if self.places <= CUT_PLACES {
+            return false;
+        }
+        magnitude * ten_to((self.places - CUT_PLACES) as usize) != self.digits
+    }
+
     /// Whether both are the same number.
     #[inline]
     pub fn same(self, other: Short) -> bool
@@ -243,8 +272,28 @@ fn small_with_sign(negative: bool, magnitude: u64) -> i32
     }
 }
 
-/// The digits without the last `down`. Each division is by a constant, which costs a multiplication.
-#[inline]
+/// What the digits are multiplied by, of which the upper 64 bits of 128 are kept, so that with a shift by the bits below
+/// they are divided by ten to the power of the index.
+static RECIPROCALS: [u64; 12] = [
+    0,
+    1_844_674_407_370_955_162,
+    737_869_762_948_382_065,
+    147_573_952_589_676_413,
+    944_473_296_573_929_043,
+    1_511_157_274_518_286_469,
+    1_208_925_819_614_629_175,
+    241_785_163_922_925_835,
+    48_357_032_784_585_167,
+    309_485_009_821_345_069,
+    247_588_007_857_076_055,
+    49_517_601_571_415_211,
+];
+
+/// By how many bits the product is shifted then.
+static SHIFTS: [u32; 12] = [0, 0, 2, 3, 9, 13, 16, 17, 18, 24, 27, 28];
+
+/// The digits without the last `down`, by a multiplication.
+#[inline(always)]
 fn without_last(digits: u64, down: u8) -> u64
     requires digits { digits < 10 ^ 18 }
     requires some { 0 < down }
@@ -253,17 +302,14 @@ fn without_last(digits: u64, down: u8) -> u64
     ensures below { result < cut_limit }
     ensures back { result * 10 ^ down ≤ digits }
 {
-    match down {
-        1 => digits / 10,
-        2 => digits / 100,
-        3 => digits / 1_000,
-        4 => digits / 10_000,
-        5 => digits / 100_000,
-        6 => digits / 1_000_000,
-        7 => digits / 10_000_000,
-        8 => digits / 100_000_000,
-        9 => digits / 1_000_000_000,
-        10 => digits / 10_000_000_000,
-        _ => digits / 100_000_000_000,
-    }
+    let at = down as usize;
+    upper_product(digits, RECIPROCALS[at]) >> SHIFTS[at]
+}
+
+/// The upper 64 bits of a product.
+#[inline(always)]
+fn upper_product(first: u64, second: u64) -> u64
+    ensures { result ≡ first * second / 2 ^ 64 }
+{
+    ((first as u128 * second as u128) >> 64) as u64
 }

@@ -188,11 +188,11 @@ none_spells piece natural = record { within = omega arith; digits = (λ k d belo
 -- ---- a number of sixteen bytes at the most
 
 module _ (piece : List ℕ) (negative : Bool) (first n m bytes value : ℕ) (sign : SpellsSign negative (take first piece)) (k : SpellsUnsigned (drop first piece) n m bytes value) (some : 0 < n) (one : get_or (drop first piece) 0 0 ≡ zero_digit → n ≡ 1)
-    (few : bytes < 16) (room : first + 16 < length piece) where
+    (few : bytes ≤ 16) (room : first + 16 < length piece) where
   shapes : (bytes ≡ n) ⊎ (bytes ≡ n + 1 + m)
   shapes = elim k.shape [ inl s ↦ inl s.1 | inr s ↦ inr s.2 ]
 
-  n_few : n < 16
+  n_few : n ≤ 16
   n_few = elim k.shape [ inl s ↦ (let e = s.1 in omega arith) | inr s ↦ (let e = s.2 in omega arith) ]
 
   long : 16 ≤ length (drop first piece)
@@ -201,14 +201,14 @@ module _ (piece : List ℕ) (negative : Bool) (first n m bytes value : ℕ) (sig
   spelled : SpellsOn (drop first piece) 0 n (number_of (take n (drop first piece)))
   spelled = let l = n_few in let w = long in record { within = omega arith; digits = k.natural_digits; value_is = refl }
 
-  pub short_small : (n + m ≤ 15) × (value < 10 ^ 18)
+  pub short_small : (n + m ≤ 16) × (value < 10 ^ 18)
   short_small =
       let l = n_few in
-      let few' : n + m ≤ 15 = elim k.shape [ inl s ↦ (let e = s.0 in omega arith) | inr s ↦ (let e = s.2 in omega arith) ] in
+      let few' : n + m ≤ 16 = elim k.shape [ inl s ↦ (let e = s.0 in omega arith) | inr s ↦ (let e = s.2 in omega arith) ] in
       let digits = take n (drop first piece) ++ take m (drop (n + 1) (drop first piece)) in
       let all : All IsDigit digits = All-append IsDigit _ _ k.natural_digits k.fraction_digits in
       let b : number_of digits < 10 ^ length digits = number_bounded digits (recursion_from_All IsDigit digits all) in
-      let len : length digits ≤ 15 = omega (arith, length-append (take n (drop first piece)) (take m (drop (n + 1) (drop first piece))), length-take n (drop first piece), length-take m (drop (n + 1) (drop first piece))) in
+      let len : length digits ≤ 16 = omega (arith, length-append (take n (drop first piece)) (take m (drop (n + 1) (drop first piece))), length-take n (drop first piece), length-take m (drop (n + 1) (drop first piece))) in
       let w = scaled_below (number_of digits) (length digits) 0 18 b (omega arith) in
       let v = k.value_is in
       (few', omega arith)

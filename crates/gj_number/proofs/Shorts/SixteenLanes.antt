@@ -2,7 +2,7 @@
 use Rattle.std.proofs.Common.{min, All, append-nil, ◌/◌, ◌⊎◌, cond, length-drop, zero, suc, ◌≡◌, ℕ, ◌+◌, ◌-◌, ◌*◌, ◌%◌, ◌^◌, ◌<◌, ◌≤◌, ◌++◌, Bool, List, [], ◌∷◌, length, map, take, drop, get_or, replicate, fold, Fits, leb, ltb, T, true, false, not, ◌&&◌, ◌||◌, inl, inr, refl, sym, ◌∙◌, ap, subst, arith, w8}
 use mir.Val.{zeroes}
 use Rattle.gj_number.specs.declared.lanes.TheConstants.{PLACES, OTHERS, POINTED}
-use lib.Lanes.{zip2, Each1, chunk, pair_sums, products, mask_l}
+use lib.Lanes.{zip2, Each1, chunk, number_l, digits_l, mask_l}
 use lib.Count.{count_trailing_zeros}
 use Rattle.std.specs.List.{AllByRecursion}
 use Rattle.std.proofs.Math.Numerals.{one-add}
@@ -21,22 +21,80 @@ use Rattle.gj_number.proofs.Shorts.NumberPrefixes.{digit_byte}
 use Rattle.gj_number.proofs.Shorts.RunEnds.{digit_at, run_found}
 use Rattle.gj_number.proofs.Shorts.PiecePrefixes.{rest_is}
 use Rattle.gj_number.proofs.Literals.RunsOfDigits.{parts_digits}
-use Rattle.gj_number.specs.Internal.DigitLanes.{lane_of, with_value, by_fours, leading}
+use Rattle.gj_number.specs.Internal.DigitLanes.{lane_of, with_value, by_twos, by_both, by_fours, leading}
 
--- ---- four digits
+-- ---- four digits, by words of two
 
-four : (a b c d : ℕ) → a < 10 → b < 10 → c < 10 → d < 10 → (((a * 10 + b * 1) + (c * 0 + d * 0)) * 100 % 2 ^ 32 + ((a * 0 + b * 0) + (c * 10 + d * 1))) % 2 ^ 32 ≡ ((a * 10 + b) * 10 + c) * 10 + d
-four a b c d A B C D = omega arith
+-- what the code makes of the words of a number, the lowest first
+abbrev pub twos_in : ℕ → ℕ → List ℕ
+twos_in zero x = []
+twos_in (suc n) x = (x % 65536 * 2561 % 65536 / 256) ∷ twos_in n (x / 65536)
 
-abbrev pub dotted : List ℕ → List ℕ → List ℕ
-dotted xs ys = pair_sums (pair_sums (products xs ys))
+two : (a b rest : ℕ) → a < 10 → b < 10 → (a + 256 * (b + 256 * rest)) % 65536 * 2561 % 65536 / 256 ≡ a * 10 + b
+two a b rest A B = let e : (a + 256 * (b + 256 * rest)) % 65536 ≡ a + 256 * b = omega arith in rw e (omega arith)
 
-pub fours_is : (xs : List ℕ) → length xs ≡ 16 → Each1 (λ x. x < 10) xs
-    → zip2 (λ x y. (x + y) % 2 ^ 32) (zip2 (λ x y. x * y % 2 ^ 32) (dotted xs (10 ∷ 1 ∷ 0 ∷ 0 ∷ 10 ∷ 1 ∷ 0 ∷ 0 ∷ 10 ∷ 1 ∷ 0 ∷ 0 ∷ 10 ∷ 1 ∷ 0 ∷ 0 ∷ [])) (100 ∷ 100 ∷ 100 ∷ 100 ∷ []))
-    (dotted xs (0 ∷ 0 ∷ 10 ∷ 1 ∷ 0 ∷ 0 ∷ 10 ∷ 1 ∷ 0 ∷ 0 ∷ 10 ∷ 1 ∷ 0 ∷ 0 ∷ 10 ∷ 1 ∷ [])) ≡ by_fours xs
-fours_is (a ∷ b ∷ c ∷ d ∷ x ∷ f ∷ g ∷ h ∷ p ∷ q ∷ r ∷ s ∷ t ∷ u ∷ v ∷ w ∷ []) len all =
-    λ i. four a b c d all.0 all.1.0 all.1.1.0 all.1.1.1.0 i ∷ four x f g h all.1.1.1.1.0 all.1.1.1.1.1.0 all.1.1.1.1.1.1.0 all.1.1.1.1.1.1.1.0 i ∷ four p q r s all.1.1.1.1.1.1.1.1.0 all.1.1.1.1.1.1.1.1.1.0 all.1.1.1.1.1.1.1.1.1.1.0 all.1.1.1.1.1.1.1.1.1.1.1.0 i ∷ four t u v w all.1.1.1.1.1.1.1.1.1.1.1.1.0 all.1.1.1.1.1.1.1.1.1.1.1.1.1.0 all.1.1.1.1.1.1.1.1.1.1.1.1.1.1.0 all.1.1.1.1.1.1.1.1.1.1.1.1.1.1.1.0 i ∷ []
-fours_is _ len all = absurd (omega arith)
+past_two : (a b rest : ℕ) → a < 10 → b < 10 → (a + 256 * (b + 256 * rest)) / 65536 ≡ rest
+past_two a b rest A B = omega arith
+
+pub twos_are : (n : ℕ) (digits : List ℕ) → length digits ≡ 2 * n → Each1 (λ x. x < 10) digits → twos_in n (number_l 256 digits) ≡ by_twos digits
+twos_are zero [] len all = refl
+twos_are (suc n) (a ∷ b ∷ digits) len all =
+    let rest = number_l 256 digits in
+    (λ i. two a b rest all.0 all.1.0 i ∷ twos_in n (past_two a b rest all.0 all.1.0 i)) ∙ ap (λ xs. (a * 10 + b) ∷ xs) (twos_are n digits (omega arith) all.1.1)
+twos_are zero (_ ∷ _) len all = absurd (omega arith)
+twos_are (suc n) [] len all = absurd (omega arith)
+twos_are (suc n) (_ ∷ []) len all = absurd (omega arith)
+
+pub twos_small : (digits : List ℕ) → Each1 (λ x. x < 10) digits → Each1 (λ x. x < 100) (by_twos digits)
+twos_small [] all = tt
+twos_small (a ∷ []) all = tt
+twos_small (a ∷ b ∷ digits) all = let A = all.0 in let B = all.1.0 in (omega arith, twos_small digits all.1.1)
+
+abbrev pub both_in : ℕ → ℕ → List ℕ
+both_in zero x = []
+both_in (suc n) x = (x % 4294967296 * 6553601 % 4294967296 / 65536) ∷ both_in n (x / 4294967296)
+
+both : (a b rest : ℕ) → a < 100 → b < 100 → (a + 65536 * (b + 65536 * rest)) % 4294967296 * 6553601 % 4294967296 / 65536 ≡ a * 100 + b
+both a b rest A B = let e : (a + 65536 * (b + 65536 * rest)) % 4294967296 ≡ a + 65536 * b = omega arith in rw e (omega arith)
+
+past_both : (a b rest : ℕ) → a < 100 → b < 100 → (a + 65536 * (b + 65536 * rest)) / 4294967296 ≡ rest
+past_both a b rest A B = omega arith
+
+both_is : (n : ℕ) (numbers : List ℕ) → length numbers ≡ 2 * n → Each1 (λ x. x < 100) numbers → both_in n (number_l 65536 numbers) ≡ by_both numbers
+both_is zero [] len all = refl
+both_is (suc n) (a ∷ b ∷ numbers) len all =
+    let rest = number_l 65536 numbers in
+    (λ i. both a b rest all.0 all.1.0 i ∷ both_in n (past_both a b rest all.0 all.1.0 i)) ∙ ap (λ xs. (a * 100 + b) ∷ xs) (both_is n numbers (omega arith) all.1.1)
+both_is zero (_ ∷ _) len all = absurd (omega arith)
+both_is (suc n) [] len all = absurd (omega arith)
+both_is (suc n) (_ ∷ []) len all = absurd (omega arith)
+
+number_small : (numbers : List ℕ) → Each1 (λ x. x < 100) numbers → number_l 65536 numbers < 65536 ^ length numbers
+number_small [] all = omega arith
+number_small (a ∷ numbers) all = let A = all.0 in let k = number_small numbers all.1 in let e = pow-suc 65536 (length numbers) in omega arith
+
+bytes_back : (n x : ℕ) → x < 256 ^ n → number_l 256 (digits_l 256 n x) ≡ x
+bytes_back zero x few = omega arith
+bytes_back (suc n) x few =
+    let e = pow-suc 256 n in
+    let l : x / 256 < 256 ^ n = omega arith in
+    ap (λ r. x % 256 + 256 * r) (bytes_back n (x / 256) l) ∙ omega arith
+
+pub both_are : (numbers : List ℕ) → length numbers ≡ 8 → Each1 (λ x. x < 100) numbers → both_in 4 (number_l 256 (digits_l 256 16 (number_l 65536 numbers))) ≡ by_both numbers
+both_are numbers len all =
+    let P : ℕ → Type 0 = λ n. number_l 65536 numbers < 65536 ^ n in
+    let few : number_l 65536 numbers < 65536 ^ 8 = subst P len (number_small numbers all) in
+    ap (both_in 4) (bytes_back 16 (number_l 65536 numbers) (omega arith)) ∙ both_is 4 numbers (omega arith) all
+
+pub fours_are : (digits : List ℕ) (n : ℕ) → length digits ≡ 4 * n → by_both (by_twos digits) ≡ by_fours digits
+fours_are [] n len = refl
+fours_are (a ∷ b ∷ c ∷ d ∷ digits) (suc n) len =
+    let e : (a * 10 + b) * 100 + (c * 10 + d) ≡ ((a * 10 + b) * 10 + c) * 10 + d = omega arith in
+    (λ i. e i ∷ fours_are digits n (omega arith) i)
+fours_are (_ ∷ _) zero len = absurd (omega arith)
+fours_are (_ ∷ []) (suc n) len = absurd (omega arith)
+fours_are (_ ∷ _ ∷ []) (suc n) len = absurd (omega arith)
+fours_are (_ ∷ _ ∷ _ ∷ []) (suc n) len = absurd (omega arith)
 
 -- four digits of four, as one number of sixteen
 joined : (p q r s : ℕ) → p < 10000 → q < 10000 → r < 10000 → s < 10000 → (p * 10000 % 2 ^ 32 + q) % 2 ^ 32 * 100000000 + (r * 10000 % 2 ^ 32 + s) % 2 ^ 32 ≡ ((p * 10000 + q) * 10000 + r) * 10000 + s
@@ -397,6 +455,23 @@ module _ (piece lanes : List ℕ) (long : 16 ≤ length piece) (fits : (k : ℕ)
     both_spell value v point digits =
         let l = next.1 in
         two_spell piece lanes long fits e natural fraction value (natural + 1 + fraction) found.0 found.1 (omega arith) small v (inr (omega arith, point, refl))
+
+-- ---- a bit after those of the lanes
+
+pub mask_ended : (ms : List Bool) → mask_l (ms ++ true ∷ []) ≡ mask_l ms + 2 ^ length ms
+mask_ended [] = omega arith
+mask_ended (m ∷ ms) = let e = pow-suc 2 (length ms) in ap (λ n. cond m 1 0 + 2 * n) (mask_ended ms) ∙ omega arith
+
+pub leading_ended : (lanes : List ℕ) → leading (lanes ++ 10 ∷ []) ≡ leading lanes
+leading_ended [] = refl
+leading_ended (x ∷ xs) = elim (leb_tells 10 x) [
+  | inl e ↦ rw (e.0) refl
+  | inr e ↦ rw (e.0) (ap (λ n. 1 + n) (leading_ended xs))
+]
+
+pub ended_some : (lanes : List ℕ) → 0 < mask_l (map (leb 10) (lanes ++ 10 ∷ []))
+ended_some [] = omega arith
+ended_some (x ∷ xs) = let k = ended_some xs in omega arith
 
 -- ---- a byte that is no digit has its bit
 

@@ -10,6 +10,16 @@ lane_of b = (b + 208) % 256
 abbrev pub with_value : ℕ → ℕ → ℕ
 with_value n digit = n * 10 + digit
 
+-- each two digits as one number
+abbrev pub by_twos : List ℕ → List ℕ
+by_twos (a ∷ b ∷ digits) = (a * 10 + b) ∷ by_twos digits
+by_twos _ = []
+
+-- each two numbers below 100 as one number
+abbrev pub by_both : List ℕ → List ℕ
+by_both (a ∷ b ∷ numbers) = (a * 100 + b) ∷ by_both numbers
+by_both _ = []
+
 -- each four digits as one number
 abbrev pub by_fours : List ℕ → List ℕ
 by_fours (a ∷ b ∷ c ∷ d ∷ digits) = (((a * 10 + b) * 10 + c) * 10 + d) ∷ by_fours digits

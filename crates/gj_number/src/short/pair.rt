@@ -86,13 +86,13 @@ pub fn read_last_pair(piece: &[u8], first: &mut Short, second: &mut Short) -> Op
     Some(pair)
 }
 
-/// The number that the piece starts with, where one to three digits stand before its point, it ends within fifteen bytes
+/// The number that the piece starts with, where one to three digits stand before its point, it ends within sixteen bytes
 /// after its sign, and this byte stands after it.
 #[inline(always)]
 fn digits_before(piece: &[u8], negative: bool, after: u8) -> Option<Digits>
     requires room { 20 ≤ length piece.now }
     requires sign { StartsSigned piece.now negative }
-    ensures few { IfSome result (λ found. found.length ≤ 16) }
+    ensures few { IfSome result (λ found. found.length ≤ 17) }
     ensures places { IfSome result (λ found. found.places ≤ 18) }
     ensures digits { IfSome result (λ found. Each1 (λ digit. digit < 10) found.lanes) }
     ensures small { IfSome result (λ found. fold with_value 0 found.lanes < 10 ^ 18) }

@@ -138,6 +138,15 @@ fn cuts_and_compares(rt: HostRuntime) {
     assert!(rt; !precise("1.10000000,"));
     assert!(rt; !precise("1.1234567,"));
     assert!(rt; !precise("0.00000000,"));
+    let judged = |text: &str| match found(text) {
+        Some((short, _)) => short.judged_within(180),
+        None => None,
+    };
+    assert_eq!(rt; judged("-122.4194155,"), Some((-1224194155, false)));
+    assert_eq!(rt; judged("-122.41941550,"), Some((-1224194155, false)));
+    assert_eq!(rt; judged("-122.41941559,"), Some((-1224194155, true)));
+    assert_eq!(rt; judged("180.00000009,"), Some((1800000000, true)));
+    assert_eq!(rt; judged("180.0000001,"), None);
     let same = |a: &str, b: &str| match (found(a), found(b)) {
         (Some((a, _)), Some((b, _))) => a.same(b),
         _ => false,

@@ -1,13 +1,13 @@
-use Rattle.std.proofs.lemmas.Simd.{dot4_Fits}
-use Rattle.gj_number.proofs.Shorts.SixteenLanes.{fours_is}
-use Rattle.gj_number.specs.declared.lanes.TheConstants.{FIRST_TWO, LAST_TWO}
+use Rattle.std.proofs.Common.{List, ℕ, ◌<◌, sym, ap, ◌∙◌, subst, arith}
+use Rattle.std.specs.Simd.Lanes.{Each1}
+use Rattle.gj_number.specs.Internal.DigitLanes.{by_both}
+use Rattle.gj_number.proofs.Shorts.SixteenLanes.{twos_small, fours_are}
 use Rattle.gj_number.proofs.lanes.fours_of.Goals as goal
 
-pub dot4 : goal.dot4
-dot4 c = (dot4_Fits c.args.digits FIRST_TWO c.fits-digits.1 tt, tt)
-
-pub dot4-2 : goal.dot4-2
-dot4-2 c = (dot4_Fits c.args.digits LAST_TWO c.fits-digits.1 tt, tt)
+pub both_of-requires : goal.both_of-requires
+both_of-requires c =
+    let P : List ℕ → Type 0 = λ xs. Each1 (λ x. x < 100) xs in
+    subst P (sym c.twos_of.ensures) (twos_small c.args.digits c.requires)
 
 pub returns : goal.returns
-returns c = fours_is c.args.digits c.fits-digits.0 c.requires
+returns c = c.both_of.ensures ∙ ap by_both c.twos_of.ensures ∙ fours_are c.args.digits 4 c.fits-digits.0

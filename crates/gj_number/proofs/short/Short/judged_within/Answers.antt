@@ -1,0 +1,17 @@
+use Rattle.std.proofs.Common.{◌≡◌, ◌*◌, Some, ap, sym, ◌∙◌, rules, w32, arith}
+use Rattle.std.specs.Prelude.{option_map}
+use mir.Val.{SFits}
+use Rattle.std.proofs.lemmas.Int.{to_z-of_z}
+use Rattle.gj_number.specs.Exact.{signed, cut_within, cut_of}
+use Rattle.gj_number.specs.Short.{exact_of}
+use Rattle.gj_number.proofs.Shorts.ShortDecimals.{cut_within_is}
+use Rattle.gj_number.proofs.short.Short.judged_within.Goals as goal
+
+pub returns-in-Some-clause-cut : goal.returns-in-Some-clause-cut
+returns-in-Some-clause-cut c =
+    let s = c.args.self in
+    let fits : SFits w32 c.small_with_sign.result = search rules in
+    let e : option_map (signed s.negative) (Some c.in-Some.magnitude) ≡ cut_within (c.args.most * 10000000) (cut_of (exact_of s)) =
+    ap (option_map (signed s.negative)) (sym c.in-Some.is ∙ c.magnitude_within.ensures.magnitude)
+    ∙ cut_within_is s.negative s.digits s.places (c.args.most * 10000000) s.small (omega arith) in
+    rw (to_z-of_z w32 c.small_with_sign.result fits) (ap Some c.small_with_sign.ensures ∙ e)
