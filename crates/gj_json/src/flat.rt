@@ -1,5 +1,8 @@
 //! Arrays of a few ordinary numbers, which are told at once.
 
+ghost use Rattle.std.specs.Prelude.{◌≤◌};
+ghost use Rattle.std.specs.Option.{option_map_or};
+
 use gj_number::Short;
 
 /// An ordinary number, and the place of its first byte.
@@ -11,7 +14,7 @@ pub struct Numbered {
 }
 
 /// An array of two or three ordinary numbers, with the places of its brackets and of its numbers, as bytes from the start
-/// of the text.
+/// of the text. No number stands before the bracket.
 #[derive(Clone, Copy)]
 pub struct Flat {
     pub first: Numbered,
@@ -21,6 +24,9 @@ pub struct Flat {
     pub place: u64,
     /// The place of `]`.
     pub close: u64,
+    ghost first_on: { place ≤ first.place },
+    ghost second_on: { place ≤ second.place },
+    ghost third_on: { place ≤ option_map_or (λ number. number.place) third place },
 }
 
 impl Numbered {

@@ -61,6 +61,7 @@ fn read_item(piece: &[u8], at: usize, start: u64, number: &mut Numbered) -> usiz
     requires small { start + length piece.now ≤ 2 ^ 60 }
     ensures on { 0 < result → at ≤ result }
     ensures within { 0 < result → result < length piece.now }
+    ensures place { 0 < result → start + at ≤ number.new.place }
     ensures item { 0 < result → IsItem number.new (start + at) (cut piece.now at result) }
 {
     let first = white_end(piece, at);
@@ -126,6 +127,8 @@ fn read_any_flat(piece: &[u8], start: u64, flat: &mut Flat) -> usize
     ensures within { result ≤ length piece.now }
     ensures flat { 0 < result → IsFlat flat.new start (take result piece.now) }
 {
+    // No number stands before the start of the text, whichever are read.
+    flat.place = 0;
     let first = read_item(piece, 1, start, &mut flat.first);
     if first == 0 || piece[first] != b',' {
         return 0;
@@ -134,9 +137,9 @@ fn read_any_flat(piece: &[u8], start: u64, flat: &mut Flat) -> usize
     if second == 0 {
         return 0;
     }
+    flat.third = None;
     flat.place = start;
     if piece[second] == b']' {
-        flat.third = None;
         flat.close = start + second as u64;
         return second + 1;
     }
@@ -147,6 +150,7 @@ fn read_any_flat(piece: &[u8], start: u64, flat: &mut Flat) -> usize
 #[inline(never)]
 fn read_third(piece: &[u8], at: usize, start: u64, flat: &mut Flat) -> usize
     requires within { at < length piece.now }
+    requires place { flat.old.place ≤ start + at }
     requires small { start + length piece.now ≤ 2 ^ 60 }
     ensures within { result ≤ length piece.now }
     ensures first { flat.new.first ≡ flat.old.first }

@@ -1,7 +1,7 @@
 //! Arrays of numbers, taken at once.
 
-ghost use Rattle.std.specs.Prelude.{◌≡◌, ◌+◌, ◌^◌, ◌≤◌, ◌<◌, true, length, take, get_or, None, Some, IsTrue};
-ghost use Rattle.gj_json.specs.Bytes.{open_bracket};
+ghost use Rattle.std.specs.Prelude.{◌≡◌, ◌+◌, ◌^◌, ◌≤◌, ◌<◌, true, [], length, take, get_or, None, Some, IsTrue, IfSome};
+ghost use Rattle.gj_json.specs.Bytes.{open_bracket, comma};
 ghost use Rattle.gj_json.specs.Internal.FlatParts.{awaits};
 ghost use Rattle.gj_json.specs.Internal.OpenLevels.{levels_in, inner_of};
 ghost use Rattle.gj_json.specs.declared.levels.Level.TheVariants.{Array};
@@ -22,6 +22,15 @@ fn is_due(mode: Mode) -> bool
         Mode::ValueDue | Mode::ArrayOpened => true,
         _ => false,
     }
+}
+
+/// Whether a comma and an opening bracket follow, as mostly after a position.
+#[inline(always)]
+fn begins_next(piece: &[u8]) -> bool
+    ensures within { IsTrue result → 1 ≤ length piece.now }
+    ensures comma { IsTrue result → get_or piece.now 0 0 ≡ comma }
+{
+    piece.len() > 1 && piece[0] == b',' && piece[1] == b'['
 }
 
 impl Reader {
@@ -56,7 +65,7 @@ impl Reader {
         in_array: bool,
         flat: &mut Flat,
         sink: &mut S,
-    ) -> usize
+    ) -> Option<usize>
         requires some { 0 < length piece.now }
         requires bracket { get_or piece.now 0 0 ≡ open_bracket }
         requires live { self.old.fault ≡ None }
@@ -65,20 +74,25 @@ impl Reader {
         requires inner { IsTrue in_array → inner_of (levels_in self.old.levels) ≡ Some Array }
         requires room { self.old.offset + length piece.now ≤ self.old.limits.bytes }
         requires small { self.old.limits.bytes ≤ 2 ^ 60 }
-        ensures within { result ≤ length piece.now }
+        ensures some { IfSome result (λ count. 0 < count) }
+        ensures within { IfSome result (λ count. count ≤ length piece.now) }
         ensures levels { self.new.levels ≡ self.old.levels }
-        ensures feeds { FeedsAll (S.heard sink.old) (S.heard sink.new) self.old self.new (take result piece.now) }
+        ensures feeds { IfSome result (λ count. FeedsAll (S.heard sink.old) (S.heard sink.new) self.old self.new (take count piece.now)) }
+        ensures nothing { result ≡ None → FeedsAll (S.heard sink.old) (S.heard sink.new) self.old self.new [] }
     {
         let count = read_flat(piece, self.offset, flat);
         if count == 0 {
-            return 0;
+            return None;
         }
         sink.tell_flat(flat);
+        if in_array && begins_next(&piece[count..]) {
+            return Some(self.skip(count + 1, Mode::ValueDue));
+        }
         let comma = comma_run(&piece[count..]);
         if in_array && comma > 0 {
-            return self.skip(count + comma, Mode::ValueDue);
+            return Some(self.skip(count + comma, Mode::ValueDue));
         }
-        self.skip(count, Mode::ValueDone)
+        Some(self.skip(count, Mode::ValueDone))
     }
 
     /// Takes the arrays of two or three ordinary numbers that stand whole at the start of the piece, one after another:
@@ -98,10 +112,9 @@ impl Reader {
         let mut flat = Flat::blank();
         let mut at = 0;
         while at < piece.len() && piece[at] == b'[' {
-            let count = self.take_flat(&piece[at..], in_array, &mut flat, sink);
-            if count == 0 {
+            let Some(count) = self.take_flat(&piece[at..], in_array, &mut flat, sink) else {
                 return at;
-            }
+            };
             at += count;
             if !is_due(self.mode) {
                 return at;
