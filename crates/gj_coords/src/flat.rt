@@ -5,16 +5,26 @@ ghost use Rattle.gj_coords.specs.CoordinateWarnings.{is_precise};
 ghost use Rattle.gj_coords.specs.Internal.PositionGather.{position_noted, sound_noted};
 ghost use Rattle.gj_coords.specs.Winding.{corner_of};
 ghost use Rattle.gj_coords.specs.Internal.KeptWarnings.{nothing_noted};
-ghost use Rattle.gj_coords.specs.Internal.FlatPosition.{flat_values, flat_position, flat_precise, pair_noted, precise_noted, third_value, third_precise, number_precise, flat_count, least_place, flat_misshapen, flat_ring, IsPlain};
+ghost use Rattle.gj_coords.specs.Internal.FlatPosition.{flat_values, flat_position, flat_precise, pair_noted, precise_noted, third_value, third_precise, number_precise, flat_count, least_place, flat_misshapen, flat_ring, IsJudged, IsPlain};
 
 use crate::fault::{Fault, Rule};
 use crate::kind_warnings::KindWarnings;
 use crate::position::{MOST_PLACES, Values, misshapen};
 use crate::position_warned::note_position;
 use crate::warned::Warned;
-use crate::winding::Corner;
+use crate::winding::{Corner, LATITUDE_DEGREES, LONGITUDE_DEGREES, judged_within};
 use gj_json::{Flat, Numbered};
 use gj_number::{Decimal, Short};
+
+/// What is known of a position of two numbers that is in range.
+#[derive(Clone, Copy)]
+pub struct JudgedPair {
+    pub corner: Corner,
+    /// Whether its first number is too precise.
+    pub first: bool,
+    /// Whether its second is.
+    pub second: bool,
+}
 
 /// How many numbers it has.
 #[inline]
@@ -50,22 +60,11 @@ pub fn values(flat: &Flat) -> Values
     }
 }
 
-/// Whether the last of more than seven written places is no zero.
-#[inline(always)]
-fn is_written_long(number: Short) -> bool
-    ensures { result ≡ true → is_precise (Some (exact_of number)) ≡ true }
-{
-    number.places > MOST_PLACES && number.digits % 10 != 0
-}
-
-/// Whether a number is too precise. Mostly its last digit tells.
+/// Whether a number is too precise.
 #[inline(always)]
 fn is_too_precise(number: Short) -> bool
     ensures { result ≡ is_precise (Some (exact_of number)) }
 {
-    if is_written_long(number) {
-        return true;
-    }
     number.is_precise()
 }
 
@@ -117,15 +116,6 @@ fn precise_with(noted: KindWarnings, number: &Numbered) -> KindWarnings
     }
 }
 
-/// Whether it has two numbers, of which both are written so long that they are too precise.
-#[inline(always)]
-fn is_pair_long(flat: &Flat) -> bool
-    ensures { result ≡ true → flat_precise flat.now ≡ pair_noted flat.now }
-{
-    flat.third.is_none()
-        && (is_written_long(flat.first.value) && is_written_long(flat.second.value))
-}
-
 /// What is noted of two numbers that are too precise.
 #[inline(always)]
 fn pair_noted(flat: &Flat) -> KindWarnings
@@ -134,6 +124,20 @@ fn pair_noted(flat: &Flat) -> KindWarnings
     KindWarnings {
         count: 2,
         first: flat.first.place.min(flat.second.place),
+    }
+}
+
+/// Notes those of two numbers that are too precise.
+#[inline(always)]
+pub fn warn_judged(flat: &Flat, pair: &JudgedPair, warned: &mut Warned)
+    requires { IsJudged flat.now pair.now }
+    ensures { warned.new ≡ sound_noted warned.old (flat_position flat.now) }
+{
+    match (pair.first, pair.second) {
+        (true, true) => warned.note_precise(pair_noted(flat)),
+        (true, false) => warned.note_precise(KindWarnings::one(flat.first.place)),
+        (false, true) => warned.note_precise(KindWarnings::one(flat.second.place)),
+        (false, false) => {}
     }
 }
 
@@ -158,6 +162,26 @@ pub fn corner(flat: &Flat) -> Option<Corner>
     ensures { result ≡ corner_of (Some (exact_of flat.now.first.value)) (Some (exact_of flat.now.second.value)) }
 {
     Corner::of(flat.first.value, flat.second.value)
+}
+
+/// Judges a position of two numbers that is in range. `None` promises nothing.
+#[inline(always)]
+pub fn judged(flat: &Flat) -> Option<JudgedPair>
+    ensures { IfSome result (λ pair. IsJudged flat.now pair) }
+{
+    if flat.third.is_some() {
+        return None;
+    }
+    let longitude = judged_within(flat.first.value, LONGITUDE_DEGREES);
+    let latitude = judged_within(flat.second.value, LATITUDE_DEGREES);
+    match (longitude, latitude) {
+        (Some((x, first)), Some((y, second))) => Some(JudgedPair {
+            corner: Corner { x, y },
+            first,
+            second,
+        }),
+        _ => None,
+    }
 }
 
 /// The corner of a position in which a look at how it is written shows nothing worth a warning, as it mostly does.
@@ -209,15 +233,12 @@ pub fn ring_fault(flat: &Flat) -> Option<Fault>
     }
 }
 
-/// Notes what is worth a warning in it, by its corner. Mostly there is nothing, or all numbers are too precise.
-#[inline(always)]
+/// Notes what is worth a warning in it, by its corner.
 pub fn warn(flat: &Flat, corner: &Option<Corner>, warned: &mut Warned)
     ensures { warned.new ≡ position_noted warned.old flat.now.place (flat_count flat.now.third) corner.now (flat_precise flat.now) }
 {
     if corner.is_none() {
         warn_beyond(flat, corner, warned);
-    } else if is_pair_long(flat) {
-        warned.note_precise(pair_noted(flat));
     } else {
         warn_precise(flat, warned);
     }
@@ -252,8 +273,20 @@ pub fn warn_quick(flat: &Flat, warned: &mut Warned)
     }
 }
 
+/// The same of a position in which there may be something. Mostly it has two numbers and is in range.
 #[inline(never)]
 fn warn_slow(flat: &Flat, warned: &mut Warned)
+    ensures { warned.new ≡ sound_noted warned.old (flat_position flat.now) }
+{
+    match judged(flat) {
+        Some(pair) => warn_judged(flat, &pair, warned),
+        None => warn_other(flat, warned),
+    }
+}
+
+/// The same of any position.
+#[inline(never)]
+fn warn_other(flat: &Flat, warned: &mut Warned)
     ensures { warned.new ≡ sound_noted warned.old (flat_position flat.now) }
 {
     warn(flat, &corner(flat), warned);

@@ -4,7 +4,7 @@ ghost use Rattle.gj_coords.specs.Internal.PositionsGather.{role_behind, runs_wro
 
 use crate::array::{Array, Stage};
 use crate::fault::{Fault, Rule, join_fault, lesser_fault};
-use crate::flat;
+use crate::flat::{self, JudgedPair};
 use crate::kind::Kind;
 use crate::position::{Numbers, PositionReader, Values, misshapen};
 use crate::tally::Tally;
@@ -76,7 +76,7 @@ impl Positions {
     ghost use Rattle.std.specs.Prelude.{◌≡◌};
     ghost use Rattle.gj_coords.specs.Internal.WindingGather.{turn_in};
     ghost use Rattle.gj_coords.specs.Internal.PositionGather.{position_closed, misshapen_at};
-    ghost use Rattle.gj_coords.specs.Internal.FlatPosition.{flat_position, flat_values};
+    ghost use Rattle.gj_coords.specs.Internal.FlatPosition.{flat_position, flat_values, IsJudged};
     ghost use Rattle.gj_coords.specs.Internal.PositionsGather.{no_positions, position_added, misshapen_added, sound_joined, ring_closed, ring_noted};
 
     pub fn none() -> Positions
@@ -140,9 +140,32 @@ impl Positions {
         }
     }
 
-    /// The same where it may be worth a warning.
+    /// The same where it may be worth a warning. Mostly it has two numbers and is in range.
     #[inline(never)]
     fn add_warned(&mut self, position: &Flat)
+        ensures { self.new ≡ position_added self.old (flat_position position.now) }
+    {
+        match flat::judged(position) {
+            Some(pair) => self.add_judged(position, &pair),
+            None => self.add_other(position),
+        }
+    }
+
+    /// The same of two numbers in range, by what is known of them.
+    #[inline(always)]
+    fn add_judged(&mut self, position: &Flat, pair: &JudgedPair)
+        requires { IsJudged position.now pair.now }
+        ensures { self.new ≡ position_added self.old (flat_position position.now) }
+    {
+        flat::warn_judged(position, pair, &mut self.warned);
+        if self.fault.is_none() {
+            self.add_sound_flat(position, pair.corner);
+        }
+    }
+
+    /// The same of any position.
+    #[inline(never)]
+    fn add_other(&mut self, position: &Flat)
         ensures { self.new ≡ position_added self.old (flat_position position.now) }
     {
         let corner = flat::corner(position);

@@ -1,18 +1,19 @@
 //! How a linear ring runs (RFC 7946, section 3.1.6).
 
-ghost use Rattle.std.specs.Prelude.{◌≡◌, ◌*◌, ◌^◌, ◌≤◌, pos, ◌+ℤ◌, ◌*ℤ◌, Some};
+ghost use Rattle.std.specs.Prelude.{◌≡◌, ◌*◌, ◌^◌, ◌≤◌, pos, ◌+ℤ◌, ◌*ℤ◌, Some, IfSome, option_map};
 ghost use Rattle.gj_number.specs.Exact.{cut_places};
 ghost use Rattle.std.specs.Int.{int_wrap, w128};
 ghost use Rattle.gj_number.specs.Short.{exact_of};
+ghost use Rattle.gj_coords.specs.CoordinateWarnings.{is_precise};
 ghost use Rattle.gj_coords.specs.Winding.{bounded, bounded_cut, cut_value, both, sign_of};
 
 use gj_number::{Decimal, Short};
 
 /// The most degrees of a longitude.
-const LONGITUDE_DEGREES: u8 = 180;
+pub const LONGITUDE_DEGREES: u8 = 180;
 
 /// The most degrees of a latitude.
-const LATITUDE_DEGREES: u8 = 90;
+pub const LATITUDE_DEGREES: u8 = 90;
 
 /// 180 degrees as a cut number.
 const MOST_LONGITUDE: i32 = 1_800_000_000;
@@ -92,6 +93,16 @@ fn cut_within(number: Short, degrees: u8) -> Option<i32>
     ensures { result ≡ bounded_cut (pos (degrees * 10 ^ cut_places)) (cut_value (Some (exact_of number))) }
 {
     number.cut_within(degrees)
+}
+
+/// The same, and whether the number is too precise.
+#[inline(always)]
+pub fn judged_within(number: Short, degrees: u8) -> Option<(i32, bool)>
+    requires { degrees ≤ 200 }
+    ensures cut { option_map (λ judged. judged.0) result ≡ bounded_cut (pos (degrees * 10 ^ cut_places)) (cut_value (Some (exact_of number))) }
+    ensures precise { IfSome result (λ judged. is_precise (Some (exact_of number)) ≡ judged.1) }
+{
+    number.judged_within(degrees)
 }
 
 /// The cut number of a number, where it is at most so far from zero.

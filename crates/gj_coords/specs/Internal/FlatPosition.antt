@@ -1,5 +1,5 @@
 -- What each level of a value gathers of a position that is told as one.
-use Rattle.std.specs.Prelude.{◌≡◌, ℕ, min, Option, Some, None, if◌then◌else◌, nat_lt}
+use Rattle.std.specs.Prelude.{◌≡◌, ℕ, min, Option, Some, None, true, is_none, if◌then◌else◌, nat_lt}
 use Rattle.gj_number.specs.Exact.{Exact}
 use Rattle.gj_number.specs.Short.{exact_of}
 use Rattle.gj_json.specs.declared.event.What.{What}
@@ -13,6 +13,7 @@ use Rattle.gj_coords.specs.declared.element.Element.{Element}
 use Rattle.gj_coords.specs.declared.fault.Fault.{Fault}
 use Rattle.gj_coords.specs.declared.fault.Rule.TheVariants.{G11, G14}
 use Rattle.gj_coords.specs.declared.walk.outer_array.OuterArray.{OuterArray}
+use Rattle.gj_coords.specs.declared.flat.JudgedPair.{JudgedPair}
 use Rattle.gj_coords.specs.declared.kind_warnings.KindWarnings.{KindWarnings}
 use Rattle.gj_coords.specs.declared.position.Numbers.{Numbers}
 use Rattle.gj_coords.specs.declared.position.Position.{Position}
@@ -83,6 +84,13 @@ flat_position f = record {
   count = flat_count f.third;
   precise = flat_precise f;
 }
+
+-- it has two numbers and is in range, with this corner, and these of its numbers are too precise
+pub record IsJudged (f : Flat) (pair : JudgedPair) : Type 0 where
+  pub two : is_none f.third ≡ true
+  pub in_range : corner_in (flat_values f) ≡ Some pair.corner
+  pub first : is_precise (Some (exact_of f.first.value)) ≡ pair.first
+  pub second : is_precise (Some (exact_of f.second.value)) ≡ pair.second
 
 -- it is in range, with this corner, and nothing in it is worth a warning
 pub record IsPlain (f : Flat) (corner : Corner) : Type 0 where

@@ -4,14 +4,14 @@
 //! from the second position on it stays as it is.
 ghost use Rattle.std.specs.Prelude.{◌≡◌, true};
 ghost use Rattle.gj_coords.specs.declared.array.Stage.TheVariants.{Due, Between, Within};
-ghost use Rattle.gj_coords.specs.Internal.SteadyWalk.{IsFaultBy, IsSettled, IsIdle, IsFirst, IsSecond, IsThird, IsSteady, IsThirdPast, IsPast};
+ghost use Rattle.gj_coords.specs.Internal.SteadyWalk.{IsFaultBy, IsSettled, IsIdle, IsFirst, IsSecond, IsThird, IsSteady, IsPast};
 
 use crate::array::Stage;
 use crate::element::Element;
 use crate::fault::Fault;
 use crate::position::Numbers;
 use crate::walk::Walk;
-use gj_json::{Flat, Numbered};
+use gj_json::Flat;
 
 /// In how many open arrays a position is due.
 #[derive(Clone, Copy)]
@@ -138,23 +138,10 @@ pub fn depth_of(floor: u64, walk: &Walk) -> Depth
     }
 }
 
-#[inline(always)]
-fn is_third_past(floor: u64, third: &Option<Numbered>) -> bool
-    ensures { result ≡ true → IsThirdPast floor third.now }
-{
-    match third {
-        Some(number) => floor < number.place,
-        None => true,
-    }
-}
-
-/// Whether all of the position stands after the place.
+/// Whether all of the position stands after the place: no number of it stands before its bracket.
 #[inline(always)]
 pub fn is_past(floor: u64, position: &Flat) -> bool
     ensures { result ≡ true → IsPast floor position.now }
 {
     floor < position.place
-        && floor < position.first.place
-        && floor < position.second.place
-        && is_third_past(floor, &position.third)
 }
