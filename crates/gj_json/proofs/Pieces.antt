@@ -3,6 +3,7 @@ pub mod PieceRests
 pub mod LaneTests
 pub mod WideLanes
 pub mod WideRuns
+pub mod EscapeLanes
 pub mod QuietModes
 pub mod StringRuns
 pub mod QuietRuns
