@@ -1,6 +1,7 @@
 -- Runs of bytes that complete nothing, and tokens that stand whole in a piece.
 pub mod PieceRests
 pub mod LaneTests
+pub mod LaneTables
 pub mod WideLanes
 pub mod WideRuns
 pub mod EscapeLanes

@@ -3,7 +3,7 @@ use Rattle.std.proofs.Common.{bit_and, arith}
 use Rattle.std.proofs.lemmas.Nat.{and_le_r}
 use Rattle.std.proofs.lemmas.Simd.{zip2_splat}
 use Rattle.gj_json.specs.declared.escapes.TheConstants.{LOWER}
-use Rattle.gj_json.proofs.Pieces.EscapeLanes.{lower_ok, looked_up}
+use Rattle.gj_json.proofs.Pieces.LaneTables.{lower_ok, looked_up}
 use Rattle.gj_json.proofs.escapes.by_lower.Goals as goal
 
 pub swizzle : goal.swizzle

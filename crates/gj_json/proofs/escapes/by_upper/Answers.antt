@@ -2,7 +2,7 @@
 use Rattle.std.proofs.Common.{◌/◌, arith}
 use Rattle.std.proofs.lemmas.Simd.{zip2_splat}
 use Rattle.gj_json.specs.declared.escapes.TheConstants.{UPPER}
-use Rattle.gj_json.proofs.Pieces.EscapeLanes.{down, upper_ok, looked_up}
+use Rattle.gj_json.proofs.Pieces.LaneTables.{down, upper_ok, looked_up}
 use Rattle.gj_json.proofs.escapes.by_upper.Goals as goal
 
 pub swizzle : goal.swizzle
