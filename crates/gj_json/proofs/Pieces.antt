@@ -1,8 +1,10 @@
 -- Runs of bytes that complete nothing, and tokens that stand whole in a piece.
 pub mod PieceRests
 pub mod LaneTests
+pub mod LaneTables
 pub mod WideLanes
 pub mod WideRuns
+pub mod EscapeLanes
 pub mod QuietModes
 pub mod StringRuns
 pub mod QuietRuns

@@ -10,6 +10,7 @@ pub mod UnderWay
 pub mod ReaderState
 pub mod QuietBytes
 pub mod WideCharacters
+pub mod EscapeRuns
 pub mod ReaderStep
 pub mod PathTrail
 pub mod FedReader

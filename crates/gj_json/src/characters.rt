@@ -5,6 +5,7 @@ ghost use Rattle.gj_json.specs.Bytes.{backslash};
 ghost use Rattle.gj_json.specs.Characters.{escape_of, hex_of};
 ghost use Rattle.gj_json.specs.Internal.WholeTokens.{IsCharacter, AreCharacters};
 
+use crate::escapes::end_of_escapes;
 use crate::lanes::ascii_run;
 use crate::wide::{end_of_wide, is_tail};
 
@@ -128,6 +129,36 @@ fn escapes_run(piece: &[u8]) -> usize
     at
 }
 
+/// How many bytes of escapes are read one by one, before many are looked at together.
+const FEW: usize = 32;
+
+/// How many bytes the escapes have that a piece starts with. The last ones may be left out.
+#[inline(never)]
+fn many_escapes(piece: &[u8]) -> usize
+    requires some { 32 < length piece.now }
+    ensures within { result ≤ length piece.now }
+    ensures characters { AreCharacters (take result piece.now) }
+{
+    let few = escapes_run(&piece[..FEW]);
+    if few + 6 <= FEW {
+        return few;
+    }
+    end_of_escapes(piece, few)
+}
+
+/// The same, where a look at the first shows that there may be many; else 0.
+#[inline(always)]
+fn first_escapes(piece: &[u8]) -> usize
+    ensures within { result ≤ length piece.now }
+    ensures characters { AreCharacters (take result piece.now) }
+{
+    if piece.len() > 2 * FEW && piece[0] == b'\\' && piece[1] != b'\\' {
+        many_escapes(piece)
+    } else {
+        0
+    }
+}
+
 /// How many bytes the characters have that stand whole at the start of the piece, unescaped, the first of several bytes. A
 /// last one that the piece ends soon after may be left out.
 #[inline(always)]
@@ -175,7 +206,7 @@ pub fn characters_run(piece: &[u8]) -> usize
     ensures within { result ≤ length piece.now }
     ensures characters { AreCharacters (take result piece.now) }
 {
-    let mut at = 0;
+    let mut at = first_escapes(piece);
     while at < piece.len() {
         let count = some_characters(&piece[at..]);
         if count == 0 {

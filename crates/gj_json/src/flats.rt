@@ -20,9 +20,6 @@ pub fn white_end(piece: &[u8], at: usize) -> usize
     ensures within { result ≤ length piece.now }
     ensures white { AllByRecursion IsWhite (cut piece.now at result) }
 {
-    if at < piece.len() && piece[at] > b' ' {
-        return at;
-    }
     at + white_run(&piece[at..])
 }
 
@@ -93,6 +90,9 @@ fn pair_after_bracket(piece: &[u8], first: &mut Short, second: &mut Short) -> Op
 {
     if piece.len() < PAIR_ROOM {
         return read_last_pair(&piece[1..], first, second);
+    }
+    if piece[1] <= b' ' {
+        return None;
     }
     read_pair(&piece[1..], first, second)
 }

@@ -55,16 +55,18 @@ fn plain_stops(lanes: u8x16) -> u64
     (quotes | backslashes | controls).to_bitmask()
 }
 
+/// The byte of white space with each lower half, and else a byte with another one.
+const WHITE: [u8; 16] = [
+    b' ', 0, 0, 0, 0, 0, 0, 0, 0, b'\t', b'\n', 0, 0, b'\r', 0, 0,
+];
+
 /// One bit for each lane that is no white space.
 #[inline(always)]
 fn white_stops(lanes: u8x16) -> u64
     ensures { result ≡ mask_l (map (λ b. not (is_white b)) lanes) }
 {
-    let spaces = lanes.simd_eq(u8x16::splat(b' '));
-    let tabs = lanes.simd_eq(u8x16::splat(b'\t'));
-    let line_feeds = lanes.simd_eq(u8x16::splat(b'\n'));
-    let returns = lanes.simd_eq(u8x16::splat(b'\r'));
-    (!(spaces | tabs | line_feeds | returns)).to_bitmask()
+    let same = u8x16::from_array(WHITE).swizzle_dyn(lanes & u8x16::splat(15));
+    lanes.simd_ne(same).to_bitmask()
 }
 
 fn few_ascii(piece: &[u8]) -> usize
@@ -139,13 +141,19 @@ pub fn plain_run(piece: &[u8]) -> usize
 pub fn white_run(piece: &[u8]) -> usize
     ensures { result ≡ prefix_len is_white piece.now }
 {
-    if piece.is_empty() || !is_white(piece[0]) {
+    if piece.is_empty() || piece[0] > b' ' {
         return 0;
     }
     if piece.len() >= LANES {
         let stops = white_stops(u8x16::from_slice(piece));
         if stops != 0 {
             return stops.trailing_zeros() as usize;
+        }
+    }
+    if piece.len() >= 2 * LANES {
+        let stops = white_stops(u8x16::from_slice(&piece[LANES..]));
+        if stops != 0 {
+            return LANES + stops.trailing_zeros() as usize;
         }
     }
     long_white_run(piece)

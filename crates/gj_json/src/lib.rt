@@ -10,6 +10,7 @@ mod characters;
 mod class;
 mod constant;
 mod content;
+mod escapes;
 mod event;
 mod fault;
 mod flat;

@@ -2,7 +2,7 @@
 
 ghost use Rattle.std.specs.Prelude.{◌≡◌, ◌<◌, ◌≤◌, ◌+◌, ◌⊎◌, length};
 ghost use Rattle.std.specs.Simd.Lanes.{mask_l};
-ghost use Rattle.gj_json.specs.Internal.WideCharacters.{is_tail, ends_of, EndsThere, NoneEnds};
+ghost use Rattle.gj_json.specs.Internal.WideCharacters.{is_tail, kinds_of, ends_of, EndsThere, NoneEnds};
 
 use crate::lanes::LANES;
 use std::simd::prelude::*;
@@ -15,22 +15,42 @@ pub fn is_tail(byte: u8) -> bool
     0x80 <= byte && byte <= 0xBF
 }
 
+/// What a byte may be, by its lower half and by its upper. 1: a quote, 2: a backslash, 4: C0 or C1, 8: a control character or
+/// from F0 on, 16: E0, 32: ED, 64: a first byte of several up to EF, 128: any other.
+const LOWER: [u8; 16] = [
+    220, 204, 201, 200, 200, 200, 200, 200, 200, 200, 200, 200, 202, 232, 200, 200,
+];
+
+const UPPER: [u8; 16] = [
+    136, 136, 129, 128, 128, 130, 128, 128, 128, 128, 128, 128, 68, 64, 112, 136,
+];
+
+/// Which of these end a character or go on wrongly, by the upper half of the next byte.
+const BEFORE: [u8; 16] = [
+    79, 79, 79, 79, 79, 79, 79, 79, 159, 159, 175, 175, 79, 79, 79, 79,
+];
+
+/// What each byte is, where it comes after these.
+#[inline(always)]
+fn kinds(before: u8x16, here: u8x16) -> u8x16
+    ensures { result ≡ kinds_of before here }
+{
+    let lower = u8x16::from_array(LOWER).swizzle_dyn(here & u8x16::splat(15));
+    let upper = u8x16::from_array(UPPER).swizzle_dyn(here >> u8x16::splat(4));
+    let kinds = lower & upper;
+    let third = kinds & u8x16::splat(127) | u8x16::splat(64);
+    before.simd_ge(u8x16::splat(0xE0)).select(third, kinds)
+}
+
 /// One bit for each lane at which such characters end, or which is followed by a byte that no character has there.
 #[inline(always)]
 fn ends(before: u8x16, here: u8x16, next: u8x16) -> u64
     ensures { result ≡ mask_l (ends_of before here next) }
 {
-    let stops = here.simd_eq(u8x16::splat(b'"'))
-        | here.simd_eq(u8x16::splat(b'\\'))
-        | here.simd_lt(u8x16::splat(b' '))
-        | here.simd_ge(u8x16::splat(0xF0))
-        | here.simd_eq(u8x16::splat(0xC0))
-        | here.simd_eq(u8x16::splat(0xC1));
-    let goes_on = here.simd_ge(u8x16::splat(0xC2)) | before.simd_ge(u8x16::splat(0xE0));
-    let tails = (next & u8x16::splat(0xC0)).simd_eq(u8x16::splat(0x80));
-    let narrow = here.simd_eq(u8x16::splat(0xE0)) & next.simd_lt(u8x16::splat(0xA0))
-        | here.simd_eq(u8x16::splat(0xED)) & next.simd_ge(u8x16::splat(0xA0));
-    (stops | (goes_on & !tails | !goes_on & tails) | narrow).to_bitmask()
+    let ending = u8x16::from_array(BEFORE).swizzle_dyn(next >> u8x16::splat(4));
+    (kinds(before, here) & ending)
+        .simd_ne(u8x16::splat(0))
+        .to_bitmask()
 }
 
 /// At which byte after the first such characters end. The piece may end soon after it instead.

@@ -27,10 +27,10 @@ at_of (p ∷ ps) (a ∷ hs) [] i h k l = absurd (omega arith)
 abbrev pub sixteen : List ℕ → ℕ → List ℕ
 sixteen piece k = take 16 (drop k piece)
 
-sixteen_long : (piece : List ℕ) (k : ℕ) → k + 16 ≤ length piece → length (sixteen piece k) ≡ 16
+pub sixteen_long : (piece : List ℕ) (k : ℕ) → k + 16 ≤ length piece → length (sixteen piece k) ≡ 16
 sixteen_long piece k h = length-take-le 16 (drop k piece) (omega (arith, length-drop k piece))
 
-sixteen_at : (piece : List ℕ) (k i : ℕ) → i < 16 → get_or (sixteen piece k) i 0 ≡ get_or piece (k + i) 0
+pub sixteen_at : (piece : List ℕ) (k i : ℕ) → i < 16 → get_or (sixteen piece k) i 0 ≡ get_or piece (k + i) 0
 sixteen_at piece k i h = get_or-take 16 (drop k piece) i 0 h ∙ get_or-drop k piece i 0
 
 -- where a bit is set, a lane stops

@@ -1,6 +1,7 @@
 -- Unescaped characters of up to three bytes (RFC 3629, section 4), seen at each byte with the one before and the one after it.
-use Rattle.std.specs.Prelude.{ℕ, ◌+◌, ◌-◌, ◌<◌, ◌≡◌, ◌==◌, ◌&&◌, ◌||◌, Bool, true, false, not, nat_lt, nat_le, List, [], ◌∷◌, get_or}
+use Rattle.std.specs.Prelude.{ℕ, ◌+◌, ◌-◌, ◌/◌, ◌<◌, ◌≡◌, ◌==◌, ◌&&◌, ◌||◌, if◌then◌else◌, bit_and, bit_or, Bool, true, false, not, nat_lt, nat_le, List, [], ◌∷◌, get_or}
 use Rattle.gj_json.specs.Bytes.{space, quote, backslash}
+use Rattle.gj_json.specs.declared.wide.TheConstants.{LOWER, UPPER}
 
 -- a byte of a character, but not its first
 abbrev pub is_tail : ℕ → Bool
@@ -26,6 +27,21 @@ ends_at before here next = is_stop here || (goes_on before here && not (is_tail 
 abbrev pub ends_of : List ℕ → List ℕ → List ℕ → List Bool
 ends_of (p ∷ before) (a ∷ here) (b ∷ next) = ends_at p a b ∷ ends_of before here next
 ends_of _ _ _ = []
+
+-- what the tables say of a byte by its halves: of each kind one bit, 64 for one after which its character goes on
+abbrev pub lower_of : ℕ → ℕ
+lower_of b = get_or LOWER (bit_and b 15) 0
+
+abbrev pub upper_of : ℕ → ℕ
+upper_of b = get_or UPPER (b / 16) 0
+
+-- after the first byte of three the second goes on
+abbrev pub kind_at : ℕ → ℕ → ℕ
+kind_at before here = if nat_le 0xE0 before then bit_or (bit_and (bit_and (lower_of here) (upper_of here)) 127) 64 else bit_and (lower_of here) (upper_of here)
+
+abbrev pub kinds_of : List ℕ → List ℕ → List ℕ
+kinds_of (p ∷ before) (a ∷ here) = kind_at p a ∷ kinds_of before here
+kinds_of _ _ = []
 
 -- at the byte of this index
 abbrev pub EndsThere : List ℕ → ℕ → Type 0

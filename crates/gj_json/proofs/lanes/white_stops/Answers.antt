@@ -1,13 +1,23 @@
--- The mask of four comparisons, turned.
-use Rattle.std.proofs.Common.{map, not, ap, ◌∙◌, refl, arith}
-use Rattle.std.proofs.lemmas.Simd.{map-map, zip2_splat}
+-- The table, read at the lower halves, and the bytes that differ from what it says.
+use Rattle.std.proofs.Common.{ℕ, eqb, cond, get_or, bit_and, not, refl, sym, arith}
+use Rattle.std.proofs.lemmas.List.{map-id}
+use Rattle.std.proofs.lemmas.Nat.{and_le_r}
+use Rattle.std.proofs.lemmas.Simd.{zip2_splat, zip2_of_maps}
 use Rattle.gj_json.specs.Internal.QuietBytes.{is_white}
-use Rattle.gj_json.proofs.Pieces.LaneTests.{equal, either, mask_is}
+use Rattle.gj_json.specs.declared.lanes.TheConstants.{WHITE}
+use Rattle.gj_json.proofs.Pieces.LaneTables.{lower_ok, looked_up}
+use Rattle.gj_json.proofs.Pieces.LaneTests.{mask_is}
 use Rattle.gj_json.proofs.lanes.white_stops.Goals as goal
+
+abbrev differs : ℕ → ℕ → ℕ
+differs a b = cond (not (eqb a b)) 255 0
+
+pub swizzle-same : goal.swizzle-same
+swizzle-same c = lower_ok c.args.lanes c.fits-lanes.0
 
 pub returns : goal.returns
 returns c =
     let v = c.args.lanes in
     let long = c.fits-lanes.0 in
-    mask_is _ (λ b. not (is_white b)) v _ (omega arith) c.fits-lanes.1
-    (ap (map _) (either _ _ v (either _ _ v (either _ _ v (zip2_splat equal v 16 32 long) (zip2_splat equal v 16 9 long)) (zip2_splat equal v 16 10 long)) (zip2_splat equal v 16 13 long)) ∙ map-map _ _ v) refl
+    let same = looked_up WHITE (λ x. bit_and x 15) v _ long c.fits-lanes.1 (zip2_splat bit_and v 16 15 long) (λ x h. omega (arith, and_le_r x 15)) in
+    mask_is _ (λ b. not (is_white b)) v _ (omega arith) c.fits-lanes.1 (zip2_of_maps differs (λ x. x) (λ x. get_or WHITE (bit_and x 15) 0) v (sym (map-id v)) same) refl

@@ -61,3 +61,27 @@ fn strings_end_behind_whole_characters(rt: HostRuntime) {
         assert!(rt; place(&bytes) == Some(behind as u64), "{at}");
     }
 }
+
+/// A string of escapes of two and of six bytes, with another byte at each place.
+#[test]
+fn escapes_stop_at_each_index(rt: HostRuntime) {
+    let row = b"\\n\\u00e9";
+    let begins = [true, false, true, false, false, false, false, false];
+    let mut bytes = [b'"'; 146];
+    for index in 0..144usize {
+        bytes[index + 1] = row[index % 8];
+    }
+    assert!(rt; place(&bytes) == None);
+    for at in 0..144usize {
+        bytes[at + 1] = 1;
+        assert!(rt; place(&bytes) == Some(at as u64 + 1), "{at}");
+        bytes[at + 1] = b'g';
+        let wanted = if begins[at % 8] {
+            None
+        } else {
+            Some(at as u64 + 1)
+        };
+        assert!(rt; place(&bytes) == wanted, "{at}");
+        bytes[at + 1] = row[at % 8];
+    }
+}
