@@ -1,7 +1,7 @@
 -- Tokens that stand whole and open and close nothing: a string, a literal name, a number with the comma behind it, a name,
 -- a colon and a comma.
 use Rattle.std.proofs.Common.{◌≡◌, ℕ, zero, suc, ◌+◌, ◌-◌, ◌≤◌, ◌<◌, Bool, true, false, List, [], ◌∷◌, ◌++◌, get_or, length, take, take-add, drop, Option, Some, None, refl, sym, ap, subst, ◌∙◌, arith, append_assoc}
-use Rattle.std.proofs.lemmas.List.{drop-drop, length-append, length-take-le, map-append, take_more}
+use Rattle.std.proofs.lemmas.List.{drop-drop, get_or-drop, length-append, length-drop, length-take-le, map-append, take_more}
 use Rattle.gj_json.specs.Bytes.{quote as quote_byte, comma as comma_byte, colon as colon_byte}
 use Rattle.gj_json.specs.declared.class.Class.TheVariants.{Quote as quote_class, Comma as comma_class, Colon as colon_class, Letter as letter}
 use Rattle.gj_json.specs.declared.constant.Constant.{Constant}
@@ -338,6 +338,22 @@ level_more first next last piece at n f g = record {
   feeds = piece_all first next last piece at n f.feeds (rest_all next last piece at n (all_by {before = Stays} {within = Stays} next last _ (λ events inner h l. stay_more events inner h l) g.feeds));
   levels = g.levels ∙ f.levels;
 }
+
+-- a string and the comma after it
+pub text_and_comma : (old new : Reader) (piece : List ℕ) (n : ℕ) (level : Level) (next : Mode) → old.fault ≡ None → awaits old.mode ≡ true → old.offset + length piece ≤ old.limits.bytes → n < length piece → IsString (take n piece) → get_or piece n 0 ≡ comma_byte
+    → inner_of (levels_in old.levels) ≡ Some level
+    → ((middle : Reader) (rest : List ℕ) → middle.fault ≡ None → middle.mode ≡ ValueDone → inner_of (levels_in middle.levels) ≡ Some level → 0 < length rest → middle.offset + length rest ≤ middle.limits.bytes → get_or rest 0 0 ≡ comma_byte → Passed 1 next middle new → FeedsLevel middle new (take 1 rest))
+    → Passed (n + 1) next old new → FeedsLevel old new (take (n + 1) piece)
+text_and_comma old new piece n level next live due room w quoted e i comma p =
+    let middle : Reader = record { limits = old.limits; offset = old.offset + n; start = old.start; levels = old.levels; literal = old.literal; content = old.content; mode = ValueDone; fault = old.fault; sound = omega arith; within = omega (arith, room, w); nested = old.nested } in
+    let first : FeedsLevel old middle (take n piece) = text_passed old middle piece n live due room (omega arith) quoted (record { limits = refl; fault = refl; levels = refl; start = refl; literal = refl; content = refl; offset = refl; mode_is = refl }) in
+    let rest : List ℕ = take (length piece - n) (drop n piece) in
+    let long : length rest ≡ length piece - n = ap length (rest_of piece n) ∙ length-drop n piece in
+    let there : get_or rest 0 0 ≡ comma_byte = ap (λ xs. get_or xs 0 0) (rest_of piece n) ∙ get_or-drop n piece 0 0 ∙ ap (λ k. get_or piece k 0) (omega arith) ∙ e in
+    let more : old.offset + n + 1 ≡ old.offset + (n + 1) = omega arith in
+    let second : FeedsLevel middle new (take 1 rest) =
+    comma middle rest live refl i (omega arith) (omega arith) there (record { limits = p.limits; fault = p.fault; levels = p.levels; start = p.start; literal = p.literal; content = p.content; offset = p.offset ∙ sym more; mode_is = p.mode_is }) in
+    level_more old middle new piece n 1 first second
 
 pub level_within : (floor : ℕ) (old new : Reader) (given : List ℕ) → floor < length (levels_in old.levels) → FeedsLevel old new given → FeedsWithin floor old new given
 level_within floor old new given w f =

@@ -36,11 +36,14 @@ impl Reader {
         if count == 0 {
             return 0;
         }
-        self.skip(count, Mode::ValueDone);
-        if count == piece.len() || piece[count] != b',' {
-            return count;
+        if count < piece.len() && piece[count] == b',' {
+            match self.levels.inner() {
+                Some(Level::Array) => return self.skip(count + 1, Mode::ValueDue),
+                Some(Level::Object) => return self.skip(count + 1, Mode::NameDue),
+                None => {}
+            }
         }
-        count + self.pass_comma(&piece[count..])
+        self.skip(count, Mode::ValueDone)
     }
 
     /// Takes the literal name at the front of the piece, where it stands whole, and the comma after it: how many bytes.

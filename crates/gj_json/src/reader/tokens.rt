@@ -46,6 +46,21 @@ fn colon_run(piece: &[u8]) -> usize
     white_end(piece, white + 1)
 }
 
+/// Whether a short piece may end in the number that it starts with, since each of its bytes may stand in one.
+#[inline(always)]
+fn is_cut(piece: &[u8]) -> bool {
+    if piece.len() > LONG {
+        return false;
+    }
+    for byte in piece {
+        match byte {
+            b'0'..=b'9' | b'-' | b'.' => {}
+            _ => return false,
+        }
+    }
+    true
+}
+
 /// How many numbers an array has at the least that is not told at once.
 const MANY: u8 = 4;
 
@@ -313,6 +328,9 @@ impl Reader {
         ensures within { result ≤ length piece.now }
         ensures feeds { FeedsAll (S.heard sink.old) (S.heard sink.new) self.old self.new (take result piece.now) }
     {
+        if is_cut(piece) {
+            return 0;
+        }
         let mut number = Short::zero();
         let count = read_short(piece, &mut number);
         if count == 0 {
