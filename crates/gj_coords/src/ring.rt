@@ -141,7 +141,7 @@ impl Positions {
     }
 
     /// The same where it may be worth a warning. Mostly it has two numbers and is in range.
-    #[inline(never)]
+    #[inline(always)]
     fn add_warned(&mut self, position: &Flat)
         ensures { self.new ≡ position_added self.old (flat_position position.now) }
     {
