@@ -1,8 +1,7 @@
 -- An array of two numbers is spelled by a pair between brackets.
-use Rattle.std.proofs.Common.{◌≡◌, ℕ, ◌+◌, ◌-◌, ◌≤◌, ◌<◌, ◌⊎◌, List, [], ◌∷◌, get_or, length, take, drop, inl, inr, refl, sym, ap, subst, ◌∙◌, arith, length-drop}
+use Rattle.std.proofs.Common.{◌≡◌, ℕ, ◌+◌, ◌-◌, ◌≤◌, ◌<◌, ◌⊎◌, List, [], ◌∷◌, get_or, length, take, drop, inl, inr, sym, ap, subst, ◌∙◌, arith, length-drop}
 use Rattle.std.proofs.lemmas.List.{get_or-drop, drop-drop}
 use Rattle.std.specs.List.{AllByRecursion}
-use Rattle.gj_number.specs.Exact.{Exact}
 use Rattle.gj_number.specs.Short.{StartsWithNumber, StartsWithPair, exact_of}
 use Rattle.gj_number.specs.declared.short.Short.{Short}
 use Rattle.gj_json.specs.Bytes.{open_bracket, comma, space, IsWhite}

@@ -1,11 +1,10 @@
 -- Lanes of escapes: what the tables say of each byte, and which kind each must have.
-use Rattle.std.proofs.Common.{◌≡◌, ℕ, zero, suc, ◌+◌, ◌-◌, ◌/◌, ◌<◌, ◌≤◌, ◌%◌, ◌^◌, Bool, true, false, not, ◌&&◌, ◌||◌, cond, Fits, w8, eqb, List, [], ◌∷◌, map, length, get_or, replicate, bit_and, bit_or, is_some, refl, sym, ap, ap₂, ◌∙◌, arith}
+use Rattle.std.proofs.Common.{◌≡◌, ℕ, zero, suc, ◌+◌, ◌-◌, ◌<◌, ◌≤◌, ◌%◌, ◌^◌, Bool, true, false, not, ◌&&◌, ◌||◌, cond, Fits, w8, eqb, List, [], ◌∷◌, map, length, get_or, replicate, bit_and, bit_or, is_some, refl, sym, ap, ap₂, ◌∙◌, arith}
 use Rattle.std.proofs.lemmas.Bool.{agree_below, agree_below_at}
-use Rattle.std.proofs.lemmas.List.{get_or-map, length-map, ext_get_or, map-id}
+use Rattle.std.proofs.lemmas.List.{map-id}
 use Rattle.std.proofs.lemmas.List.Sums.{prefix_len_passes}
 use Rattle.std.specs.List.{prefix_len}
-use Rattle.std.proofs.lemmas.Nat.{and_le_r}
-use Rattle.std.proofs.lemmas.Simd.{Each1-all, Each1-weaker, Each1-zip2, Each2-splat, Each1-get_or, below_from_Fits, length-zip2, mask_l-mod, leading_from_mask_l, swz_l, SwzOk, SwzOk-from_below, length-swz_l, get_or-swz_l_below}
+use Rattle.std.proofs.lemmas.Simd.{mask_l-mod, leading_from_mask_l}
 use lib.Lanes.{zip2, sel_l, mask_l, top, Each1}
 use Rattle.gj_json.specs.Characters.{escape_of, hex_of}
 use Rattle.gj_json.specs.Internal.EscapeRuns.{lower_of, upper_of, wanted_at, wanted_of, may_follow, wrong_at, wrong_of, NoneWrong}

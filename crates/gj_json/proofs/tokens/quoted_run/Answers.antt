@@ -1,8 +1,5 @@
 -- Plain characters and others, and the quotes around them.
-use Rattle.std.proofs.Common.{◌≡◌, ℕ, ◌+◌, ◌-◌, ◌++◌, List, length, take, drop, sym, ap, subst, ◌∙◌, arith}
-use Rattle.gj_json.specs.declared.mode.StringState.TheVariants.{Plain}
-use Rattle.gj_json.specs.Internal.QuietBytes.{Reads}
-use Rattle.gj_json.specs.Internal.WholeTokens.{IsString}
+use Rattle.std.proofs.Common.{arith}
 use Rattle.gj_json.proofs.Pieces.PassedTokens.{quoted_is, more_quoted}
 use Rattle.gj_json.proofs.tokens.quoted_run.Goals as goal
 

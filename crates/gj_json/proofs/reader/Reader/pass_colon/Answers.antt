@@ -1,5 +1,5 @@
 -- After a colon a value is due, and white space may stand before it.
-use Rattle.std.proofs.Common.{◌≡◌, refl, sym, subst, take}
+use Rattle.std.proofs.Common.{refl, sym, subst, take}
 use Rattle.std.proofs.lemmas.List.{length-take-le}
 use Rattle.gj_json.specs.declared.mode.Mode.{Mode}
 use Rattle.gj_json.specs.declared.mode.Mode.TheVariants.{ValueDue}
