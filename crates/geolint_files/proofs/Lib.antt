@@ -7,3 +7,4 @@ mod FoundSites
 mod SoughtPlaces
 mod FollowedPaths
 mod FileCounts
+pub mod ReportedSites

@@ -403,7 +403,7 @@ impl<'a> Run<'a> {
             Format::Text => text::put(report, &mut self.line),
             Format::Lines => lines::put(alloc, report, self.style, &mut self.line),
             Format::Json => json::put_report(alloc, report, &mut self.line),
-            Format::Github => github::put(alloc, report, &self.options, &mut self.line),
+            Format::Github => github::put_report(alloc, report, &self.options, &mut self.line),
             Format::Sarif => self.log.put(report, &self.options, &mut self.line),
         }
     }
