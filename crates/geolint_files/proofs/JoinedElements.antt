@@ -21,3 +21,9 @@ pub one-more : {A : Type 0} (line : A → List ℕ) (xs : List A) (i : ℕ) (d :
 one-more {A = A} line xs i d start middle new within before is =
     is ∙ (ap (λ (ys : List ℕ). ys ++ line (get_or xs i d)) before
     ∙ (append_assoc start (flat_map line (take i xs)) (line (get_or xs i d)) ∙ ap (λ (ys : List ℕ). start ++ ys) (sym (lines-more line xs i d within))))
+
+-- the same of lists of any kind
+pub parts-more : {A B : Type 0} (part : A → List B) (xs : List A) (i : ℕ) (d : A) → i < length xs
+    → flat_map part (take (i + 1) xs) ≡ flat_map part (take i xs) ++ part (get_or xs i d)
+parts-more {A = A} {B = B} part xs i d within =
+    ap (λ (ys : List A). flat_map part ys) (take_more xs i d within) ∙ (flat_map-append part (take i xs) (get_or xs i d ∷ []) ∙ ap (λ (ys : List B). flat_map part (take i xs) ++ ys) (append-nil (part (get_or xs i d))))

@@ -7,4 +7,5 @@ mod FoundSites
 mod SoughtPlaces
 mod FollowedPaths
 mod FileCounts
-pub mod ReportedSites
+mod ReportedSites
+mod CommasBetween
