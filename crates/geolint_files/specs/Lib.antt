@@ -3,6 +3,7 @@ pub mod Texts
 pub mod Judged
 pub mod Finding
 pub mod Counts
+pub mod Summary
 pub mod Sites
 pub mod Report
 pub mod Forms
