@@ -1,5 +1,5 @@
 -- Lemmas on the first site of a place.
-use Rattle.std.proofs.Common.{arith, refl, sym, ap, ◌≡◌, ◌≤◌, ◌<◌, ◌+◌, ◌∙◌, ◌||◌, ℕ, zero, suc, Bool, true, false, List, [], ◌∷◌, length, take, get_or, Some, None}
+use Rattle.std.proofs.Common.{arith, refl, ap, ◌≡◌, ◌≤◌, ◌<◌, ◌∙◌, ◌||◌, ℕ, zero, suc, Bool, true, false, List, [], ◌∷◌, length, take, get_or, Some, None}
 use Rattle.std.specs.Prelude.{cond}
 use Rattle.std.specs.List.{find, list_any}
 use Rattle.std.proofs.lemmas.Bool.Decides.{nat_tests}

@@ -6,17 +6,21 @@ use Rattle.std.specs.Str.Lossy.{utf8_lossy}
 use Rattle.gj_coords.specs.declared.kind.Kind.{Kind}
 use Rattle.gj_coords.specs.declared.warnings.Warnings.{Warnings}
 use Rattle.gj_coords.specs.Warnings.{kinds}
+use Rattle.std.specs.Prelude.{Vec}
+use Rattle.std.specs.declared.alloc.Global.{Global}
+use Rattle.gj_places.specs.Strings.{SpellsString}
 use Rattle.gj_json.specs.declared.path.Path.{Path}
 use Rattle.gj_json.specs.declared.path.PathStep.{PathStep}
 use Rattle.gj_json.specs.Path.{steps_of}
 use Rattle.geolint_files.specs.declared.judge.Finding.{Finding}
+use Rattle.geolint_files.specs.declared.options.Format.{Format}
 use Rattle.geolint_files.specs.declared.options.Kinds.{Kinds}
 use Rattle.geolint_files.specs.declared.report.Report.{Report}
 use Rattle.geolint_files.specs.declared.report.Told.{Told}
 use Rattle.geolint_files.specs.declared.sites.Spot.{Spot}
 use Rattle.geolint_files.specs.declared.texts.Code.{Code}
 use Rattle.geolint_files.specs.Finding.{word_of, record_of, records_of, fault_of, warnings_of}
-use Rattle.geolint_files.specs.Line.{optional_number, truth}
+use Rattle.geolint_files.specs.Line.{Adds, optional_number, truth}
 use Rattle.geolint_files.specs.Report.{warning_of, of_warning, fails, spot_of, path_of}
 use Rattle.geolint_files.specs.Texts.{code_name, code_text, path_text}
 
@@ -176,3 +180,17 @@ github_told report strict allowed = github_of report strict allowed (fault_of re
 -- the command of a file that could not be opened or read
 unfoldable pub github_unread : List ℕ → List ℕ → List ℕ
 github_unread name reason = github_file (codes "error") name ++ (codes "::" ++ (flat_map escaped_in_message reason ++ codes "\n"))
+
+-- ---- by the form that is asked for
+
+-- what is added for a file that was judged; of the other forms nothing is said
+abbrev pub TellsReport : Format → Report → Bool → Kinds → Vec ℕ Global → Vec ℕ Global → Type 0
+TellsReport Format.Json report strict allowed old new = (name : List ℕ) × SpellsString report.name.now name × Adds old new (json_line name report)
+TellsReport Format.Github report strict allowed old new = Adds old new (github_told report strict allowed)
+TellsReport format report strict allowed old new = Unit {0}
+
+-- and for one that could not be opened or read
+abbrev pub TellsUnread : Format → List ℕ → List ℕ → Vec ℕ Global → Vec ℕ Global → Type 0
+TellsUnread Format.Json name reason old new = (file why : List ℕ) × SpellsString name file × SpellsString reason why × Adds old new (json_unread file why)
+TellsUnread Format.Github name reason old new = Adds old new (github_unread name reason)
+TellsUnread format name reason old new = Unit {0}

@@ -119,6 +119,7 @@ impl<'a> Run<'a> {
     ghost use Rattle.geolint_files.specs.declared.outcome.Outcome.{Outcome};
     ghost use Rattle.geolint_files.specs.declared.outcome.Outcome.TheVariants.{Unread};
     ghost use Rattle.geolint_files.specs.Finding.{outcome_of, passes, worst};
+    ghost use Rattle.geolint_files.specs.Forms.{TellsReport, TellsUnread};
 
     fn new(rt: &HostRuntime, options: Options, linter: &'a mut Linter) -> Result<Run<'a>, Failure>
         ensures outcome { IfOk result (λ run. run.outcome ≡ worst []) }
@@ -397,6 +398,7 @@ impl<'a> Run<'a> {
     fn put(&mut self, report: &Report<'_>) -> Result<(), AllocError>
         ensures outcome { self.new.outcome ≡ self.old.outcome }
         ensures summary { self.new.summary ≡ self.old.summary }
+        ensures told { OnOk result (TellsReport self.old.options.format report.now self.old.options.strict self.old.options.allowed self.old.line self.new.line) }
     {
         let alloc = self.rt.alloc();
         match self.options.format {
@@ -433,6 +435,7 @@ impl<'a> Run<'a> {
     fn put_unread(&mut self, name: &[u8], reason: &str) -> Result<(), AllocError>
         ensures outcome { self.new.outcome ≡ self.old.outcome }
         ensures summary { self.new.summary ≡ self.old.summary }
+        ensures told { OnOk result (TellsUnread self.old.options.format name.now reason.now self.old.line self.new.line) }
     {
         let alloc = self.rt.alloc();
         match self.options.format {
