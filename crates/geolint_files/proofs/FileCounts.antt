@@ -59,6 +59,16 @@ cause-range Truncated = (omega arith, omega arith)
 cause-range Depth = (omega arith, omega arith)
 cause-range Length = (omega arith, omega arith)
 
+-- each rule, kind and cause has a count
+pub rule-slot : (rule : Rule) → slot_of (Code.Rule rule) < CODES
+rule-slot rule = let w = rule-range rule in omega (arith, w.0, w.1)
+
+pub kind-slot : (kind : Kind) → slot_of (Code.Kind kind) < CODES
+kind-slot kind = let w = kind_range kind in omega (arith, w.0, w.1)
+
+pub cause-slot : (cause : Cause) → slot_of (Code.Cause cause) < CODES
+cause-slot cause = let w = cause-range cause in omega (arith, w.0, w.1)
+
 below : (m n : ℕ) → m ≤ n → nat_le m n ≡ true
 below m n less = grind (arith, nat_tests, less)
 

@@ -7,3 +7,5 @@ mod FoundSites
 mod SoughtPlaces
 mod FollowedPaths
 mod FileCounts
+mod ReportedSites
+mod CommasBetween

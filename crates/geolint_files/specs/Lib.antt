@@ -3,6 +3,8 @@ pub mod Texts
 pub mod Judged
 pub mod Finding
 pub mod Counts
-pub mod Forms
+pub mod Summary
 pub mod Sites
+pub mod Report
+pub mod Forms
 pub mod Internal

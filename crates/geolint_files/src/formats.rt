@@ -1,6 +1,7 @@
 //! The forms of the report. Each puts what it tells of a file behind the bytes of a line.
 ghost use Rattle.std.specs.Prelude.{◌≡◌, OnOk};
 ghost use Rattle.gj_json.specs.Path.{steps_of};
+ghost use Rattle.geolint_files.specs.Forms.{and_record, and_times, path_behind, and_path};
 ghost use Rattle.geolint_files.specs.Line.{Adds};
 ghost use Rattle.geolint_files.specs.Texts.{step_text, steps_text, path_text};
 
@@ -45,6 +46,49 @@ fn put_step(step: PathStep, line: &mut Vec<u8>) -> Result<(), AllocError>
         }
         PathStep::Member(name) => put_all(line, &[b".", name.text().as_bytes()]),
     }
+}
+
+/// Puts the record that a message speaks of, where there is one.
+pub fn put_and_record(number: Option<u64>, line: &mut Vec<u8>) -> Result<(), AllocError>
+    ensures { OnOk result (Adds line.old line.new (and_record number)) }
+{
+    match number {
+        Some(number) => {
+            let mut digits = Buffer::new();
+            put_all(line, &[b", record ", digits.format(number).as_bytes()])
+        }
+        None => Ok(()),
+    }
+}
+
+/// Puts how often a message holds, where that is more than once.
+pub fn put_and_times(count: u32, line: &mut Vec<u8>) -> Result<(), AllocError>
+    ensures { OnOk result (Adds line.old line.new (and_times count)) }
+{
+    if count > 1 {
+        let mut digits = Buffer::new();
+        put_all(line, &[b", ", digits.format(count).as_bytes(), b" times"])
+    } else {
+        Ok(())
+    }
+}
+
+/// Puts the path that a message speaks of, where there is one.
+pub fn put_and_path(path: Option<Path>, line: &mut Vec<u8>) -> Result<(), AllocError>
+    ensures { OnOk result (Adds line.old line.new (and_path path)) }
+{
+    match path {
+        Some(path) => put_path_behind(&path, line),
+        None => Ok(()),
+    }
+}
+
+#[tactic(auto, unfolding(crate::specs::Forms::path_behind))]
+fn put_path_behind(path: &Path, line: &mut Vec<u8>) -> Result<(), AllocError>
+    ensures { OnOk result (Adds line.old line.new (path_behind (steps_of path.now))) }
+{
+    put(line, b", ")?;
+    put_path(path, line)
 }
 
 const HEX_DIGITS: &[u8; 16] = b"0123456789abcdef";

@@ -60,6 +60,7 @@ pub struct Options {
 impl Options {
     ghost use Rattle.std.specs.Prelude.{◌≡◌, Some};
     ghost use Rattle.geolint_files.specs.Finding.{passes, passes_with, lets, lets_all};
+    ghost use Rattle.geolint_files.specs.Report.{fails};
 
     /// Whether a file passes of which this is found.
     pub fn passes(&self, finding: &Finding) -> bool
@@ -94,7 +95,9 @@ impl Options {
     }
 
     /// Whether a warning of this kind fails a file.
-    pub fn fails(&self, kind: Kind) -> bool {
+    pub fn fails(&self, kind: Kind) -> bool
+        ensures { result ≡ fails self.now.strict self.now.allowed kind }
+    {
         self.strict && !self.allowed.contains(kind)
     }
 }

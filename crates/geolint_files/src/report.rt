@@ -26,6 +26,7 @@ pub struct Told {
 
 ghost use Rattle.std.specs.Prelude.{◌≡◌};
 ghost use Rattle.geolint_files.specs.Finding.{fault_in};
+ghost use Rattle.geolint_files.specs.Report.{warning_of};
 
 impl Finding {
     ghost use Rattle.std.specs.Prelude.{◌≡◌};
@@ -141,8 +142,13 @@ fn fault_in(verdict: Verdict) -> Option<Told>
 }
 
 impl<'a> Report<'a> {
+    ghost use Rattle.std.specs.Prelude.{◌≡◌};
+    ghost use Rattle.geolint_files.specs.Report.{site_at, spot_of, path_from, path_of};
+
     /// Where a place stands, if that was found.
-    pub fn spot(&self, place: u64) -> Option<Spot> {
+    pub fn spot(&self, place: u64) -> Option<Spot>
+        ensures { result ≡ spot_of self.now place }
+    {
         match self.sites {
             Some(sites) => sites.at(place).map(|site| site.spot),
             None => None,
@@ -150,16 +156,29 @@ impl<'a> Report<'a> {
     }
 
     /// The path of the value at a place: none for a text that is refused, which need not have one there.
-    pub fn path(&self, told: &Told) -> Option<Path> {
-        match (told.code, self.sites) {
-            (Code::Cause(_), _) | (_, None) => None,
-            (_, Some(sites)) => sites.at(told.place).and_then(|site| site.path),
+    pub fn path(&self, told: &Told) -> Option<Path>
+        ensures { result ≡ path_of self.now told.now }
+    {
+        match told.code {
+            Code::Cause(_) => None,
+            _ => self.path_at(told.place),
+        }
+    }
+
+    fn path_at(&self, place: u64) -> Option<Path>
+        ensures { result ≡ path_from (site_at place self.now.sites) }
+    {
+        match self.sites {
+            Some(sites) => sites.at(place).and_then(|site| site.path),
+            None => None,
         }
     }
 }
 
 /// What is told of a kind of warning.
-pub fn warning(kind: Kind, warnings: &Warnings) -> Option<(Told, u32)> {
+pub fn warning(kind: Kind, warnings: &Warnings) -> Option<(Told, u32)>
+    ensures { result ≡ warning_of kind warnings.now }
+{
     let told = Told {
         code: Code::Kind(kind),
         place: warnings.first(kind)?,

@@ -119,6 +119,7 @@ impl<'a> Run<'a> {
     ghost use Rattle.geolint_files.specs.declared.outcome.Outcome.{Outcome};
     ghost use Rattle.geolint_files.specs.declared.outcome.Outcome.TheVariants.{Unread};
     ghost use Rattle.geolint_files.specs.Finding.{outcome_of, passes, worst};
+    ghost use Rattle.geolint_files.specs.Forms.{TellsReport, TellsUnread};
 
     fn new(rt: &HostRuntime, options: Options, linter: &'a mut Linter) -> Result<Run<'a>, Failure>
         ensures outcome { IfOk result (λ run. run.outcome ≡ worst []) }
@@ -397,13 +398,14 @@ impl<'a> Run<'a> {
     fn put(&mut self, report: &Report<'_>) -> Result<(), AllocError>
         ensures outcome { self.new.outcome ≡ self.old.outcome }
         ensures summary { self.new.summary ≡ self.old.summary }
+        ensures told { OnOk result (TellsReport self.old.options.format report.now self.old.options.strict self.old.options.allowed self.old.line self.new.line) }
     {
         let alloc = self.rt.alloc();
         match self.options.format {
             Format::Text => text::put(report, &mut self.line),
             Format::Lines => lines::put(alloc, report, self.style, &mut self.line),
             Format::Json => json::put_report(alloc, report, &mut self.line),
-            Format::Github => github::put(alloc, report, &self.options, &mut self.line),
+            Format::Github => github::put_report(alloc, report, &self.options, &mut self.line),
             Format::Sarif => self.log.put(report, &self.options, &mut self.line),
         }
     }
@@ -433,6 +435,7 @@ impl<'a> Run<'a> {
     fn put_unread(&mut self, name: &[u8], reason: &str) -> Result<(), AllocError>
         ensures outcome { self.new.outcome ≡ self.old.outcome }
         ensures summary { self.new.summary ≡ self.old.summary }
+        ensures told { OnOk result (TellsUnread self.old.options.format name.now reason.now self.old.line self.new.line) }
     {
         let alloc = self.rt.alloc();
         match self.options.format {

@@ -56,13 +56,14 @@ pub struct Sites {
 }
 
 impl Sites {
-    ghost use Rattle.std.specs.Prelude.{◌≡◌, ◌<◌, ◌≤◌, ◌+◌, ◌-◌, ◌^◌, ◌++◌, ◌∷◌, [], ℕ, List, Bool, length, IfSome, OnOk, get_or, true, false};
+    ghost use Rattle.std.specs.Prelude.{◌≡◌, ◌<◌, ◌≤◌, ◌+◌, ◌-◌, ◌^◌, ◌++◌, ◌∷◌, [], ℕ, List, Bool, length, IfSome, MatchOption, None, Some, OnOk, get_or, true, false};
     ghost use Rattle.std.specs.Option.{IsNone};
     ghost use Rattle.std.specs.List.{Contains};
     ghost use Rattle.std.specs.List.Sorted.{IsNonDecreasing};
     ghost use Rattle.geolint_files.specs.declared.sites.Site.{Site};
     ghost use Rattle.geolint_files.specs.Sites.{IsSpot, AreRight, RightBy, LeadsTo, ArePaths, PathsBy, sought, AllFound, FoundBy};
     ghost use Rattle.geolint_files.specs.Internal.SecondReading.{Reaches, Follows, Seeks, Settles};
+    ghost use Rattle.geolint_files.specs.Report.{site_in};
 
     /// Where no place is sought.
     pub fn none() -> Sites
@@ -104,6 +105,7 @@ impl Sites {
         ensures missed { IsNone result → (text : List ℕ) → AllFound text self.now → Contains (sought self.now) place → place < 2 ^ 64 - 1 → length text < place }
         ensures spot { IfSome result (λ site. (site.now.place ≡ place) × ((text : List ℕ) → AreRight text self.now.sites → IsSpot text place site.now.spot)) }
         ensures path { IfSome result (λ site. (is_sequence : Bool) (text : List ℕ) → ArePaths is_sequence text self.now.sites → LeadsTo is_sequence text place site.now.path) }
+        ensures first { MatchOption result (site_in place self.now.sites ≡ None) (λ site. site_in place self.now.sites ≡ Some site.now) }
     {
         for site in &self.sites {
             if site.is_found && site.place == place {

@@ -1,10 +1,12 @@
 //! How many files are what.
-ghost use Rattle.std.specs.Prelude.{◌≡◌};
+ghost use Rattle.std.specs.Prelude.{◌≡◌, OnOk};
 ghost use Rattle.geolint_files.specs.declared.summary.TheConstants.{CODES};
 ghost use Rattle.geolint_files.specs.Internal.FileCounts.{slot_of};
+ghost use Rattle.geolint_files.specs.Line.{Adds as Appends};
+ghost use Rattle.geolint_files.specs.Summary.{and_not_valid, spaces_before, in_eight_places, count_line, count_line_if};
 
 use crate::judge::Finding;
-use crate::line::put_all;
+use crate::line::{put, put_all, put_number};
 use crate::texts::{CAUSES, Code, RULES, has};
 use gj_coords::{KINDS, Warnings};
 use itoa::Buffer;
@@ -34,6 +36,7 @@ impl Summary {
     ghost use Rattle.geolint_files.specs.declared.judge.Finding.{Finding};
     ghost use Rattle.geolint_files.specs.Counts.{is_cause, same, warns, tells};
     ghost use Rattle.geolint_files.specs.Internal.FileCounts.{Counts, Adds, slot_of};
+    ghost use Rattle.geolint_files.specs.Summary.{files_line, code_line, rule_lines, kind_lines, cause_lines, summary_of};
 
     pub fn new() -> Summary
         ensures { Counts result [] }
@@ -113,53 +116,117 @@ impl Summary {
     }
 
     /// Puts the counts, and how many files each rule is told of.
-    pub fn put(&self, line: &mut Vec<u8>) -> Result<(), AllocError> {
+    pub fn put(&self, line: &mut Vec<u8>) -> Result<(), AllocError>
+        ensures { (files : List (Option Finding)) → Counts self.now files → OnOk result (Appends line.old line.new (summary_of files)) }
+    {
         self.put_files(line)?;
+        self.put_rules(line)?;
+        self.put_kinds(line)?;
+        self.put_causes(line)
+    }
+
+    fn put_files(&self, line: &mut Vec<u8>) -> Result<(), AllocError>
+        ensures { (files : List (Option Finding)) → Counts self.now files → OnOk result (Appends line.old line.new (files_line files)) }
+    {
+        put_number(line, self.valid)?;
+        put(line, b" valid, ")?;
+        put_number(line, self.warned)?;
+        put(line, b" valid with warnings, ")?;
+        put_number(line, self.broken)?;
+        put(line, b" broken, ")?;
+        put_number(line, self.refused)?;
+        put(line, b" not JSON, ")?;
+        put_number(line, self.unread)?;
+        put(line, b" not read")?;
+        put_and_not_valid(self.not_valid, line)?;
+        put(line, b"\n")
+    }
+
+    fn put_rules(&self, line: &mut Vec<u8>) -> Result<(), AllocError>
+        ensures { (files : List (Option Finding)) → Counts self.now files → OnOk result (Appends line.old line.new (rule_lines files)) }
+    {
         for rule in &RULES {
             self.put_count(Code::Rule(*rule), line)?;
         }
+        Ok(())
+    }
+
+    fn put_kinds(&self, line: &mut Vec<u8>) -> Result<(), AllocError>
+        ensures { (files : List (Option Finding)) → Counts self.now files → OnOk result (Appends line.old line.new (kind_lines files)) }
+    {
         for kind in &KINDS {
             self.put_count(Code::Kind(*kind), line)?;
         }
+        Ok(())
+    }
+
+    fn put_causes(&self, line: &mut Vec<u8>) -> Result<(), AllocError>
+        ensures { (files : List (Option Finding)) → Counts self.now files → OnOk result (Appends line.old line.new (cause_lines files)) }
+    {
         for cause in &CAUSES {
             self.put_count(Code::Cause(*cause), line)?;
         }
         Ok(())
     }
 
-    fn put_files(&self, line: &mut Vec<u8>) -> Result<(), AllocError> {
-        put_files_of(self.valid, b" valid, ", line)?;
-        put_files_of(self.warned, b" valid with warnings, ", line)?;
-        put_files_of(self.broken, b" broken, ", line)?;
-        put_files_of(self.refused, b" not JSON, ", line)?;
-        put_files_of(self.unread, b" not read", line)?;
-        if self.not_valid > 0 {
-            put_all(line, &[b", "])?;
-            put_files_of(self.not_valid, b" not valid", line)?;
-        }
-        put_all(line, &[b"\n"])
-    }
-
-    /// The count of a rule, in eight places, where there is one.
-    fn put_count(&self, code: Code, line: &mut Vec<u8>) -> Result<(), AllocError> {
-        let count = self.of(code);
-        if count == 0 {
-            return Ok(());
-        }
-        let mut digits = Buffer::new();
-        let count = digits.format(count).as_bytes();
-        for _ in count.len()..8 {
-            line.push(b' ')?;
-        }
-        put_all(line, &[count, b" "])?;
-        code.put_name(line)?;
-        put_all(line, &[b": ", code.text(), b"\n"])
+    fn put_count(&self, code: Code, line: &mut Vec<u8>) -> Result<(), AllocError>
+        ensures { slot_of code < CODES → (files : List (Option Finding)) → Counts self.now files → OnOk result (Appends line.old line.new (code_line files code)) }
+    {
+        put_count_if(code, self.of(code), line)
     }
 }
 
-fn put_files_of(count: u64, text: &[u8], line: &mut Vec<u8>) -> Result<(), AllocError> {
-    let mut digits = Buffer::new();
-    put_all(line, &[digits.format(count).as_bytes(), text])
+fn put_and_not_valid(count: u64, line: &mut Vec<u8>) -> Result<(), AllocError>
+    ensures { OnOk result (Appends line.old line.new (and_not_valid count)) }
+{
+    if count > 0 {
+        let mut digits = Buffer::new();
+        put_all(
+            line,
+            &[b", ", digits.format(count).as_bytes(), b" not valid"],
+        )
+    } else {
+        Ok(())
+    }
+}
+
+/// The line of a code, where it is told of a file.
+fn put_count_if(code: Code, count: u64, line: &mut Vec<u8>) -> Result<(), AllocError>
+    ensures { OnOk result (Appends line.old line.new (count_line_if code count)) }
+{
+    if count == 0 {
+        Ok(())
+    } else {
+        put_count_line(code, count, line)
+    }
+}
+
+fn put_count_line(code: Code, count: u64, line: &mut Vec<u8>) -> Result<(), AllocError>
+    ensures { OnOk result (Appends line.old line.new (count_line code count)) }
+{
+    put_in_eight_places(count, line)?;
+    put(line, b" ")?;
+    code.put_name(line)?;
+    put(line, b": ")?;
+    code.put_text(line)?;
+    put(line, b"\n")
+}
+
+#[tactic(auto, unfolding(crate::specs::Summary::in_eight_places))]
+fn put_in_eight_places(number: u64, line: &mut Vec<u8>) -> Result<(), AllocError>
+    ensures { OnOk result (Appends line.old line.new (in_eight_places number)) }
+{
+    let mut room = Buffer::new();
+    let digits = room.format(number).as_bytes();
+    put_all(line, &[spaces_before(digits.len()), digits])
+}
+
+/// The spaces before so many digits, for eight places.
+fn spaces_before(digits: usize) -> &'static [u8]
+    ensures { result.now ≡ spaces_before digits }
+{
+    let spaces: &[u8] = b"        ";
+    &spaces[..8usize.saturating_sub(digits)]
 }
 
 /// Where the count of a code lies.

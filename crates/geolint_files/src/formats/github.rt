@@ -1,56 +1,112 @@
 //! Workflow commands of GitHub, which shows them at the line.
 ghost use Rattle.std.specs.Prelude.{◌≡◌, OnOk};
 ghost use Rattle.std.specs.List.{flat_map};
-ghost use Rattle.geolint_files.specs.Forms.{escaped_in_message, escaped_in_property};
+ghost use Rattle.geolint_files.specs.Finding.{warnings_of};
+ghost use Rattle.geolint_files.specs.Forms.{escaped_in_message, escaped_in_property, github_file, github_spot, github_mark, github_message, github_command, github_level, github_warning, github_warnings, github_not_valid, github_rest, github_told, github_unread};
 ghost use Rattle.geolint_files.specs.Line.{Adds};
 
-use crate::formats::put_path;
-use crate::line::{put_all, put_number};
+use crate::formats::{put_and_path, put_and_record, put_and_times};
+use crate::line::{put, put_all, put_number};
 use crate::options::Options;
 use crate::report::{Report, Told, warning};
+use crate::sites::Spot;
 use crate::texts::Code;
-use gj_coords::KINDS;
+use gj_coords::{KINDS, Kind, Warnings};
 use itoa::Buffer;
 use std::alloc::{AllocError, Global};
 
 /// Puts the commands of a file: none for one that is valid without a warning.
-pub fn put(
+pub fn put_report(
     alloc: Global,
     report: &Report<'_>,
     options: &Options,
     line: &mut Vec<u8>,
-) -> Result<(), AllocError> {
-    if let Some(told) = report.finding.fault() {
-        return put_command(alloc, b"error", report, &told, 1, line);
-    }
-    match report.finding.warnings() {
-        None => {
-            put_file(alloc, b"error", report.name, line)?;
-            put_all(line, &[b"::not valid\n"])
-        }
-        Some(warnings) => {
-            for kind in &KINDS {
-                if let Some((told, count)) = warning(*kind, &warnings) {
-                    let level: &[u8] = if options.fails(*kind) {
-                        b"error"
-                    } else {
-                        b"warning"
-                    };
-                    put_command(alloc, level, report, &told, count, line)?;
-                }
-            }
-            Ok(())
-        }
+) -> Result<(), AllocError>
+    ensures { OnOk result (Adds line.old line.new (github_told report.now options.now.strict options.now.allowed)) }
+{
+    match report.finding.fault() {
+        Some(told) => put_command(alloc, b"error", report, &told, 1, line),
+        None => put_rest(alloc, report, options, line),
     }
 }
 
-/// The level and the file, with U+FFFD for what is no Unicode text.
-fn put_file(
+/// The commands where there is no fault to tell.
+fn put_rest(
     alloc: Global,
-    level: &[u8],
-    name: &[u8],
+    report: &Report<'_>,
+    options: &Options,
     line: &mut Vec<u8>,
-) -> Result<(), AllocError> {
+) -> Result<(), AllocError>
+    ensures { OnOk result (Adds line.old line.new (github_rest report.now options.now.strict options.now.allowed (warnings_of report.now.finding))) }
+{
+    match report.finding.warnings() {
+        Some(warnings) => put_warnings(alloc, report, options, &warnings, line),
+        None => put_not_valid(alloc, report.name, line),
+    }
+}
+
+fn put_warnings(
+    alloc: Global,
+    report: &Report<'_>,
+    options: &Options,
+    warnings: &Warnings,
+    line: &mut Vec<u8>,
+) -> Result<(), AllocError>
+    ensures { OnOk result (Adds line.old line.new (github_warnings report.now options.now.strict options.now.allowed warnings.now)) }
+{
+    for kind in &KINDS {
+        put_warning(alloc, report, options, warnings, *kind, line)?;
+    }
+    Ok(())
+}
+
+/// The command of a kind of warning, where there is one.
+fn put_warning(
+    alloc: Global,
+    report: &Report<'_>,
+    options: &Options,
+    warnings: &Warnings,
+    kind: Kind,
+    line: &mut Vec<u8>,
+) -> Result<(), AllocError>
+    ensures { OnOk result (Adds line.old line.new (github_warning report.now options.now.strict options.now.allowed warnings.now kind)) }
+{
+    match warning(kind, warnings) {
+        Some((told, count)) => {
+            put_command(
+                alloc,
+                level(options.fails(kind)),
+                report,
+                &told,
+                count,
+                line,
+            )
+        }
+        None => Ok(()),
+    }
+}
+
+/// The level of a warning.
+fn level(fails: bool) -> &'static [u8]
+    ensures { result.now ≡ github_level fails }
+{
+    match fails {
+        true => b"error",
+        false => b"warning",
+    }
+}
+
+fn put_not_valid(alloc: Global, name: &[u8], line: &mut Vec<u8>) -> Result<(), AllocError>
+    ensures { OnOk result (Adds line.old line.new (github_not_valid name.now)) }
+{
+    put_file(alloc, b"error", name, line)?;
+    put(line, b"::not valid\n")
+}
+
+/// The level and the file, with U+FFFD for what is no Unicode text.
+fn put_file(alloc: Global, level: &[u8], name: &[u8], line: &mut Vec<u8>) -> Result<(), AllocError>
+    ensures { OnOk result (Adds line.old line.new (github_file level.now name.now)) }
+{
     put_all(line, &[b"::", level, b" file="])?;
     let name = String::from_utf8_lossy(alloc, name)?;
     put_in_property(name.as_bytes(), line)
@@ -63,24 +119,35 @@ fn put_command(
     told: &Told,
     count: u32,
     line: &mut Vec<u8>,
-) -> Result<(), AllocError> {
+) -> Result<(), AllocError>
+    ensures { OnOk result (Adds line.old line.new (github_command report.now level.now told.now count)) }
+{
     put_file(alloc, level, report.name, line)?;
-    if let Some(spot) = report.spot(told.place) {
-        let mut line_digits = Buffer::new();
-        let mut column_digits = Buffer::new();
-        put_all(
-            line,
-            &[
-                b",line=",
-                line_digits.format(spot.line).as_bytes(),
-                b",col=",
-                column_digits.format(spot.column).as_bytes(),
-            ],
-        )?;
-    }
-    put_all(line, &[b",title="])?;
+    put_spot(report.spot(told.place), line)?;
+    put(line, b",title=")?;
     told.code.put_name(line)?;
     put_message(report, told, count, line)
+}
+
+fn put_spot(spot: Option<Spot>, line: &mut Vec<u8>) -> Result<(), AllocError>
+    ensures { OnOk result (Adds line.old line.new (github_spot spot)) }
+{
+    match spot {
+        Some(spot) => {
+            let mut line_digits = Buffer::new();
+            let mut column_digits = Buffer::new();
+            put_all(
+                line,
+                &[
+                    b",line=",
+                    line_digits.format(spot.line).as_bytes(),
+                    b",col=",
+                    column_digits.format(spot.column).as_bytes(),
+                ],
+            )
+        }
+        None => Ok(()),
+    }
 }
 
 fn put_message(
@@ -88,28 +155,27 @@ fn put_message(
     told: &Told,
     count: u32,
     line: &mut Vec<u8>,
-) -> Result<(), AllocError> {
-    let before: &[u8] = match told.code {
+) -> Result<(), AllocError>
+    ensures { OnOk result (Adds line.old line.new (github_message report.now told.now count)) }
+{
+    put(line, mark(told.code))?;
+    told.code.put_text(line)?;
+    put_and_record(report.finding.record(), line)?;
+    put_and_times(count, line)?;
+    put(line, b", at byte ")?;
+    put_number(line, told.place)?;
+    put_and_path(report.path(told), line)?;
+    put(line, b"\n")
+}
+
+/// What comes before the text of a message.
+fn mark(code: Code) -> &'static [u8]
+    ensures { result.now ≡ github_mark code }
+{
+    match code {
         Code::Cause(_) => b"::not JSON: ",
         _ => b"::",
-    };
-    put_all(line, &[before, told.code.text()])?;
-    if let Some(record) = report.finding.record() {
-        put_all(line, &[b", record "])?;
-        put_number(line, record)?;
     }
-    if count > 1 {
-        put_all(line, &[b", "])?;
-        put_number(line, count as u64)?;
-        put_all(line, &[b" times"])?;
-    }
-    put_all(line, &[b", at byte "])?;
-    put_number(line, told.place)?;
-    if let Some(path) = report.path(told) {
-        put_all(line, &[b", "])?;
-        put_path(&path, line)?;
-    }
-    put_all(line, &[b"\n"])
 }
 
 /// Puts the command of a file that could not be opened or read.
@@ -118,11 +184,13 @@ pub fn put_unread(
     name: &[u8],
     reason: &str,
     line: &mut Vec<u8>,
-) -> Result<(), AllocError> {
+) -> Result<(), AllocError>
+    ensures { OnOk result (Adds line.old line.new (github_unread name.now reason.now)) }
+{
     put_file(alloc, b"error", name, line)?;
-    put_all(line, &[b"::"])?;
+    put(line, b"::")?;
     put_in_message(reason.as_bytes(), line)?;
-    put_all(line, &[b"\n"])
+    put(line, b"\n")
 }
 
 fn put_in_property(text: &[u8], line: &mut Vec<u8>) -> Result<(), AllocError>

@@ -1,8 +1,10 @@
 //! One JSON object for each file, on a line of its own.
-ghost use Rattle.std.specs.Prelude.{OnOk};
+ghost use Rattle.std.specs.Prelude.{◌≡◌, ◌&&◌, ℕ, List, OnOk, IfOk};
 ghost use Rattle.gj_json.specs.Path.{steps_of};
-ghost use Rattle.geolint_files.specs.Finding.{word_of, record_of, records_of};
-ghost use Rattle.geolint_files.specs.Forms.{json_spot, json_path, json_path_string, json_told, json_head};
+ghost use Rattle.gj_places.specs.Strings.{SpellsString};
+ghost use Rattle.geolint_files.specs.Finding.{word_of, record_of, records_of, fault_of, warnings_of};
+ghost use Rattle.geolint_files.specs.Forms.{json_spot, json_path, json_path_string, json_told, json_head, json_nothing, json_placed, json_fault, json_object, json_kind, json_warnings, json_warnings_of, json_line, json_unread};
+ghost use Rattle.geolint_files.specs.Internal.WrittenCommas.{is_none_yet, next_items, comma_unless};
 ghost use Rattle.geolint_files.specs.Line.{Adds, optional_number};
 
 use crate::formats::put_path;
@@ -10,34 +12,50 @@ use crate::judge::Finding;
 use crate::line::{put, put_all, put_number, put_optional, put_truth};
 use crate::report::{Report, Told, warning};
 use crate::sites::Spot;
-use gj_coords::{KINDS, Warnings};
+use gj_coords::{KINDS, Kind, Warnings};
 use gj_json::Path;
 use gj_places::json_string;
 use itoa::Buffer;
 use std::alloc::{AllocError, Global};
 
 /// Puts the line of a file.
-pub fn put_report(
-    alloc: Global,
-    report: &Report<'_>,
-    line: &mut Vec<u8>,
-) -> Result<(), AllocError> {
+pub fn put_report(alloc: Global, report: &Report<'_>, line: &mut Vec<u8>) -> Result<(), AllocError>
+    ensures { OnOk result ((name : List ℕ) × SpellsString report.now.name.now name × Adds line.old line.new (json_line name report.now)) }
+{
     let name = json_string(alloc, report.name)?;
-    put_head(name.as_bytes(), &report.finding, report.passes, line)?;
-    match report.finding.fault() {
-        Some(told) => put_told(&told, report.spot(told.place), report.path(&told), line)?,
-        None => put(line, NOTHING_TOLD)?,
-    }
+    put_line(name.as_bytes(), report, line)
+}
+
+/// The line; the name is spelled as a JSON string.
+fn put_line(name: &[u8], report: &Report<'_>, line: &mut Vec<u8>) -> Result<(), AllocError>
+    ensures { OnOk result (Adds line.old line.new (json_line name.now report.now)) }
+{
+    put_head(name, &report.finding, report.passes, line)?;
+    put_fault(report, line)?;
     put(line, b",\"warnings\":[")?;
-    if let Some(warnings) = report.finding.warnings() {
-        put_warnings(report, &warnings, line)?;
-    }
+    put_all_warnings(report, line)?;
     put(line, b"]}\n")
 }
 
+fn put_fault(report: &Report<'_>, line: &mut Vec<u8>) -> Result<(), AllocError>
+    ensures { OnOk result (Adds line.old line.new (json_fault report.now (fault_of report.now.finding))) }
+{
+    match report.finding.fault() {
+        Some(told) => put_placed(report, &told, line),
+        None => put_nothing(line),
+    }
+}
+
 /// The members where no rule is broken.
-const NOTHING_TOLD: &[u8] =
-    b",\"rule\":null,\"text\":null,\"offset\":null,\"line\":null,\"column\":null,\"json_path\":null";
+#[tactic(auto, unfolding(crate::specs::Forms::json_nothing))]
+fn put_nothing(line: &mut Vec<u8>) -> Result<(), AllocError>
+    ensures { OnOk result (Adds line.old line.new json_nothing) }
+{
+    put(
+        line,
+        b",\"rule\":null,\"text\":null,\"offset\":null,\"line\":null,\"column\":null,\"json_path\":null",
+    )
+}
 
 /// The members for the file; its name is spelled as a JSON string.
 fn put_head(
@@ -78,26 +96,77 @@ fn put_records(finding: &Finding, line: &mut Vec<u8>) -> Result<(), AllocError>
     put_optional(line, finding.records())
 }
 
+fn put_all_warnings(report: &Report<'_>, line: &mut Vec<u8>) -> Result<(), AllocError>
+    ensures { OnOk result (Adds line.old line.new (json_warnings_of report.now (warnings_of report.now.finding))) }
+{
+    match report.finding.warnings() {
+        Some(warnings) => put_warnings(report, &warnings, line),
+        None => Ok(()),
+    }
+}
+
 /// The kinds of warning, each as an object.
 fn put_warnings(
     report: &Report<'_>,
     warnings: &Warnings,
     line: &mut Vec<u8>,
-) -> Result<(), AllocError> {
+) -> Result<(), AllocError>
+    ensures { OnOk result (Adds line.old line.new (json_warnings report.now warnings.now)) }
+{
     let mut is_first = true;
     for kind in &KINDS {
-        if let Some((told, count)) = warning(*kind, warnings) {
-            if !is_first {
-                put(line, b",")?;
-            }
-            is_first = false;
-            put_all(line, &[b"{\"count\":"])?;
-            put_number(line, count as u64)?;
-            put_told(&told, report.spot(told.place), report.path(&told), line)?;
-            put(line, b"}")?;
-        }
+        let still = put_kind(report, warnings, *kind, is_first, line)?;
+        is_first = still;
     }
     Ok(())
+}
+
+/// The object of a kind, where there is a warning of it: whether none has been put yet.
+fn put_kind(
+    report: &Report<'_>,
+    warnings: &Warnings,
+    kind: Kind,
+    is_first: bool,
+    line: &mut Vec<u8>,
+) -> Result<bool, AllocError>
+    ensures bytes { OnOk result (Adds line.old line.new (next_items is_first (json_kind report.now warnings.now kind))) }
+    ensures still { IfOk result (λ still. still ≡ (is_first && is_none_yet (json_kind report.now warnings.now kind))) }
+{
+    match warning(kind, warnings) {
+        Some((told, count)) => {
+            put_comma_unless(is_first, line)?;
+            put_object(report, &told, count, line)?;
+            Ok(false)
+        }
+        None => Ok(is_first),
+    }
+}
+
+fn put_comma_unless(is_first: bool, line: &mut Vec<u8>) -> Result<(), AllocError>
+    ensures { OnOk result (Adds line.old line.new (comma_unless is_first)) }
+{
+    if is_first { Ok(()) } else { put(line, b",") }
+}
+
+fn put_object(
+    report: &Report<'_>,
+    told: &Told,
+    count: u32,
+    line: &mut Vec<u8>,
+) -> Result<(), AllocError>
+    ensures { OnOk result (Adds line.old line.new (json_object report.now told.now count)) }
+{
+    put(line, b"{\"count\":")?;
+    put_number(line, count as u64)?;
+    put_placed(report, told, line)?;
+    put(line, b"}")
+}
+
+/// The members for what is told, with the place as it was found.
+fn put_placed(report: &Report<'_>, told: &Told, line: &mut Vec<u8>) -> Result<(), AllocError>
+    ensures { OnOk result (Adds line.old line.new (json_placed report.now told.now)) }
+{
+    put_told(told, report.spot(told.place), report.path(told), line)
 }
 
 /// The members for what is told at a place. Texts and paths have no character that a JSON string escapes.
@@ -163,17 +232,27 @@ pub fn put_unread(
     name: &[u8],
     reason: &str,
     line: &mut Vec<u8>,
-) -> Result<(), AllocError> {
-    let name = json_string(alloc, name)?;
-    let reason = json_string(alloc, reason.as_bytes())?;
-    put_all(
+) -> Result<(), AllocError>
+    ensures { OnOk result ((file why : List ℕ) × SpellsString name.now file × SpellsString reason.now why × Adds line.old line.new (json_unread file why)) }
+{
+    let file = json_string(alloc, name)?;
+    let why = json_string(alloc, reason.as_bytes())?;
+    put_unread_line(file.as_bytes(), why.as_bytes(), line)
+}
+
+/// That line; both are spelled as JSON strings.
+fn put_unread_line(name: &[u8], reason: &[u8], line: &mut Vec<u8>) -> Result<(), AllocError>
+    ensures { OnOk result (Adds line.old line.new (json_unread name.now reason.now)) }
+{
+    put(line, b"{\"path\":")?;
+    put(line, name)?;
+    put(
         line,
-        &[
-            b"{\"path\":",
-            name.as_bytes(),
-            b",\"verdict\":\"not read\",\"passes\":false,\"record\":null,\"records\":null,\"rule\":null,\"text\":",
-            reason.as_bytes(),
-            b",\"offset\":null,\"line\":null,\"column\":null,\"json_path\":null,\"warnings\":[]}\n",
-        ],
+        b",\"verdict\":\"not read\",\"passes\":false,\"record\":null,\"records\":null,\"rule\":null,\"text\":",
+    )?;
+    put(line, reason)?;
+    put(
+        line,
+        b",\"offset\":null,\"line\":null,\"column\":null,\"json_path\":null,\"warnings\":[]}\n",
     )
 }

@@ -1,6 +1,6 @@
 //! A log in SARIF 2.1.0, written file by file.
 
-use crate::formats::put_path;
+use crate::formats::{put_and_record, put_and_times, put_path};
 use crate::line::{put, put_all, put_number, put_truth};
 use crate::options::Options;
 use crate::report::{Report, Told, warning};
@@ -158,17 +158,9 @@ fn put_message(
     count: u32,
     line: &mut Vec<u8>,
 ) -> Result<(), AllocError> {
-    put_all(line, &[told.code.text()])?;
-    if let Some(record) = report.finding.record() {
-        put_all(line, &[b", record "])?;
-        put_number(line, record)?;
-    }
-    if count > 1 {
-        put_all(line, &[b", "])?;
-        put_number(line, count as u64)?;
-        put_all(line, &[b" times"])?;
-    }
-    Ok(())
+    told.code.put_text(line)?;
+    put_and_record(report.finding.record(), line)?;
+    put_and_times(count, line)
 }
 
 fn put_region(report: &Report<'_>, told: &Told, line: &mut Vec<u8>) -> Result<(), AllocError> {

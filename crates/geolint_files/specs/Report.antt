@@ -1,0 +1,63 @@
+-- What a report tells besides the finding: how often, and the line, the column and the path that were found for a place.
+use Rattle.std.specs.Prelude.{ℕ, Bool, not, ◌&&◌, List, [], Option, Some, None, if◌then◌else◌}
+use Rattle.std.specs.List.{find}
+use Rattle.std.specs.Borrow.{Bor}
+use Rattle.gj_coords.specs.declared.kind.Kind.{Kind}
+use Rattle.gj_coords.specs.declared.warnings.Warnings.{Warnings}
+use Rattle.gj_coords.specs.Internal.KeptWarnings.{first_in, count_in}
+use Rattle.gj_json.specs.declared.path.Path.{Path}
+use Rattle.geolint_files.specs.declared.options.Kinds.{Kinds}
+use Rattle.geolint_files.specs.declared.report.Report.{Report}
+use Rattle.geolint_files.specs.declared.report.Told.{Told}
+use Rattle.geolint_files.specs.declared.sites.Site.{Site}
+use Rattle.geolint_files.specs.declared.sites.Sites.{Sites}
+use Rattle.geolint_files.specs.declared.sites.Spot.{Spot}
+use Rattle.geolint_files.specs.declared.texts.Code.{Code}
+use Rattle.geolint_files.specs.Counts.{is_cause}
+use Rattle.geolint_files.specs.Finding.{contains}
+use Rattle.geolint_files.specs.Sites.{is_found_at}
+
+-- ---- kinds of warning
+
+-- a kind of warning with its least place, and how often it is given
+abbrev pub told_from : Kind → ℕ → Option ℕ → Option (Told × ℕ)
+told_from kind count (Some place) = Some (record { code = Code.Kind kind; place = place }, count)
+told_from kind count None = None
+
+abbrev pub warning_of : Kind → Warnings → Option (Told × ℕ)
+warning_of kind warnings = told_from kind (count_in kind warnings) (first_in kind warnings)
+
+-- a warning of the kind fails a file
+abbrev pub fails : Bool → Kinds → Kind → Bool
+fails strict allowed kind = strict && not (contains allowed kind)
+
+-- what is written of a kind of warning: nothing where there is none
+abbrev pub of_warning : (Told → ℕ → List ℕ) → Option (Told × ℕ) → List ℕ
+of_warning write (Some warning) = write warning.0 warning.1
+of_warning write None = []
+
+-- ---- places
+
+-- the site that was found for a place
+abbrev pub site_in : ℕ → List Site → Option Site
+site_in place sites = find (is_found_at place) sites
+
+abbrev pub site_at : ℕ → Option (Bor Sites) → Option Site
+site_at place (Some sites) = site_in place sites.now.sites
+site_at place None = None
+
+abbrev pub spot_from : Option Site → Option Spot
+spot_from (Some site) = Some site.spot
+spot_from None = None
+
+abbrev pub path_from : Option Site → Option Path
+path_from (Some site) = site.path
+path_from None = None
+
+-- where the place stands, if that was found
+abbrev pub spot_of : Report → ℕ → Option Spot
+spot_of report place = spot_from (site_at place report.sites)
+
+-- its path, if one was found: none for a text that is refused, which need not have one there
+abbrev pub path_of : Report → Told → Option Path
+path_of report told = if is_cause told.code then None else path_from (site_at told.place report.sites)
