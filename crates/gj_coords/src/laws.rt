@@ -40,8 +40,10 @@ pub fn joined_warnings()
     ensures append { (warnings others : List Warning) → warnings_of (warnings ++ others) ≡ joined (warnings_of warnings) (warnings_of others) }
 {}
 
-/// What is kept of a value of fewer than 2^64 events is what is kept of the list of its warnings.
+/// What is kept of a value of fewer than 2^64 events is what is kept of the list of its warnings. A LineString has those of
+/// a MultiPoint.
 pub fn kept_warnings()
-    ensures { (simple : Simple) (value : Tree) → length (value_events value) < 2 ^ 64 →
+    ensures short { (simple : Simple) (value : Tree) → length (value_events value) < 2 ^ 64 →
         coordinates_kept simple value ≡ warnings_of (coordinates_warnings simple value) }
+    ensures line { (value : Tree) → coordinates_kept Simple.MultiPoint value ≡ coordinates_kept Simple.LineString value }
 {}

@@ -1,12 +1,16 @@
 -- What is kept of the warnings of a value of fewer than 2^64 events is what is kept of the list of them.
-use Rattle.std.proofs.Common.{◌≡◌, ◌<◌, ◌^◌, length, List, ap, arith}
+use Rattle.std.proofs.Common.{◌≡◌, ◌<◌, ◌^◌, length, List, refl, ap, arith}
 use Rattle.gj_json.specs.declared.event.Event.{Event}
 use Rattle.gj_json.specs.Tree.{Tree, depth}
 use Rattle.gj_json.specs.Events.{value_events}
 use Rattle.gj_coords.specs.declared.simple.Simple.{Simple}
+use Rattle.gj_coords.specs.declared.walk.outer_array.OuterSummary.{OuterSummary}
+use Rattle.gj_coords.specs.declared.walk.outer_array.OuterSummary.TheVariants as Summary
+use Rattle.gj_coords.specs.Internal.GatheredWarnings.{all_in}
+use Rattle.gj_coords.specs.Internal.LevelGather.{warned_as}
 use Rattle.gj_coords.specs.Internal.KeptWarnings.{warnings_of}
 use Rattle.gj_coords.specs.CoordinateWarnings.{coordinates_warnings}
-use Rattle.gj_coords.specs.Internal.CoordinatesKept.{coordinates_kept}
+use Rattle.gj_coords.specs.Internal.CoordinatesKept.{coordinates_kept, first_answer}
 use Rattle.gj_coords.proofs.Readers.SentLaws.{value_sent}
 use Rattle.gj_coords.proofs.Readers.EventCounts.{depth_below}
 use Rattle.gj_coords.proofs.Readers.WarningsOfElements.{IsShort}
@@ -18,6 +22,15 @@ short v few = let h : length (value_events v) ≡ length _ = ap (λ (es : List E
 pub kept_is : (simple : Simple) (v : Tree) → length (value_events v) < 2 ^ 64 → coordinates_kept simple v ≡ warnings_of (coordinates_warnings simple v)
 unfolding coordinates_kept
 kept_is simple v few = first_warned simple v (short v few)
+
+-- a LineString has the warnings of a MultiPoint
+line_warned : (s : OuterSummary) → warned_as Simple.MultiPoint s ≡ warned_as Simple.LineString s
+line_warned (Summary.Other place) = refl
+line_warned (Summary.Level s) = refl
+
+pub line_kept : (v : Tree) → coordinates_kept Simple.MultiPoint v ≡ coordinates_kept Simple.LineString v
+unfolding coordinates_kept
+line_kept v = ap all_in (line_warned (first_answer v))
 
 pub countable : (v : Tree) → length (value_events v) < 2 ^ 64 → depth v < 2 ^ 64
 countable v few =

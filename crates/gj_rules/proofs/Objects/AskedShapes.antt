@@ -3,18 +3,13 @@ use Rattle.std.specs.Prelude.{◌≡◌, Option, Some, None}
 use Rattle.std.proofs.Common.{refl, ap, subst, sym, ◌∙◌}
 use Rattle.gj_json.specs.declared.names.Word.{Word}
 use Rattle.gj_json.specs.Tree.{Tree}
-use Rattle.gj_coords.specs.declared.walk.outer_array.OuterSummary.{OuterSummary}
-use Rattle.gj_coords.specs.declared.walk.outer_array.OuterSummary.TheVariants as Summary
 use Rattle.gj_coords.specs.declared.simple.Simple.{Simple}
-use Rattle.gj_coords.specs.declared.warned.Warned.{Warned}
 use Rattle.gj_coords.specs.declared.warnings.Warnings.{Warnings}
 use Rattle.gj_coords.specs.Fault.{least}
 use Rattle.gj_coords.specs.Shape.{coordinates_faults}
-use Rattle.gj_coords.specs.Internal.CoordinatesKept.{coordinates_kept, first_answer}
-use Rattle.gj_coords.specs.Internal.GatheredWarnings.{all_in}
 use Rattle.gj_coords.specs.Internal.KeptWarnings.{no_warnings, joined}
-use Rattle.gj_coords.specs.Internal.LevelGather.{warned_as}
 use Rattle.gj_coords.specs.Internal.WarningLaws.{joined_none_last}
+use Rattle.gj_coords.proofs.Lists.KeptOfShortValues.{line_kept}
 use Rattle.gj_rules.specs.declared.member_slots.TypeValue.{TypeValue}
 use Rattle.gj_rules.specs.Internal.FrameMeaning.{Findings, Shapes}
 use Rattle.gj_rules.specs.Internal.Summaries.{no_shapes, shape_for, warned_for, found_as, shapes_of, shape_found, alike, simple_of, asked_as, asked}
@@ -42,15 +37,9 @@ pub one_warned : (simple : Simple) (found : Findings) → warned_for simple (ali
 one_warned Simple.Point found = refl
 one_warned _ found = refl
 
--- a LineString has the warnings of a MultiPoint
-line_warned : (s : OuterSummary) → warned_as Simple.MultiPoint s ≡ warned_as Simple.LineString s
-line_warned (Summary.Other place) = refl
-line_warned (Summary.Level s) = refl
-
 pub found_is : (simple : Simple) (value : Tree) → shape_found simple (shapes_of value) ≡ found_as simple value
-unfolding coordinates_kept
 found_is Simple.LineString value =
-    ap (λ (w : Warned). record { fault = least (coordinates_faults Simple.LineString value); warned = all_in w }) (line_warned (first_answer value))
+    ap (λ (w : Warnings). record { fault = least (coordinates_faults Simple.LineString value); warned = w }) (line_kept value)
 found_is Simple.Point value = refl
 found_is _ value = refl
 

@@ -15,4 +15,4 @@ returns-clause-kept c = λ text d h. c.all.ensures ∙ ap (λ (x : Findings). x.
 pub returns-clause-stands : goal.returns-clause-stands
 returns-clause-stands c = λ text d h few.
     let short : length (value_events text.value) < 2 ^ 64 = omega (arith, fewer_of_value text, few) in
-    c.all.ensures ∙ (ap (λ (x : Findings). x.warned) (answered c.args.self.now text d h) ∙ text_is (2 ^ 64) c.kept_warnings.ensures text short)
+    c.all.ensures ∙ (ap (λ (x : Findings). x.warned) (answered c.args.self.now text d h) ∙ text_is (2 ^ 64) c.kept_warnings.ensures.short text short)
