@@ -123,20 +123,17 @@ impl Coordinates {
             depth value < 2 ^ 64 → IsTrue result ↔ (rest ≡ []) }
     {
         if is_past(self.floor, flat) {
-            match self.depth {
-                Depth::Second => {
-                    self.walk.item.gather.add_steady(flat);
-                    return false;
-                }
-                Depth::Third => {
-                    self.walk.item.item.gather.add_steady(flat);
-                    return false;
-                }
-                Depth::First => {
-                    self.walk.gather.add_steady(flat);
-                    return false;
-                }
-                _ => {}
+            if self.depth.is_second() {
+                self.walk.item.gather.add_steady(flat);
+                return false;
+            }
+            if self.depth.is_first() {
+                self.walk.gather.add_steady(flat);
+                return false;
+            }
+            if self.depth.is_third() {
+                self.walk.item.item.gather.add_steady(flat);
+                return false;
             }
         }
         self.take_anywhere(flat);

@@ -172,16 +172,17 @@ pub fn judged(flat: &Flat) -> Option<JudgedPair>
     if flat.third.is_some() {
         return None;
     }
-    let longitude = judged_within(flat.first.value, LONGITUDE_DEGREES);
-    let latitude = judged_within(flat.second.value, LATITUDE_DEGREES);
-    match (longitude, latitude) {
-        (Some((x, first)), Some((y, second))) => Some(JudgedPair {
-            corner: Corner { x, y },
-            first,
-            second,
-        }),
-        _ => None,
-    }
+    let Some((x, first)) = judged_within(flat.first.value, LONGITUDE_DEGREES) else {
+        return None;
+    };
+    let Some((y, second)) = judged_within(flat.second.value, LATITUDE_DEGREES) else {
+        return None;
+    };
+    Some(JudgedPair {
+        corner: Corner { x, y },
+        first,
+        second,
+    })
 }
 
 /// The corner of a position in which a look at how it is written shows nothing worth a warning, as it mostly does.

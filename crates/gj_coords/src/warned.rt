@@ -97,7 +97,7 @@ impl Warned {
     }
 
     /// Takes some warnings of numbers that are too precise, of which a text that has some mostly has many.
-    #[inline]
+    #[inline(always)]
     pub(crate) fn note_precise(&mut self, noted: KindWarnings)
         ensures { self.new ≡ all_noted_in self.old W4 noted }
     {

@@ -54,7 +54,7 @@ impl Warnings {
 
     /// Takes some warnings of a kind.
     #[tactic(auto, unfolding(crate::specs::Internal::KeptWarnings::with_noted))]
-    #[inline]
+    #[inline(always)]
     pub(crate) fn note_all(&mut self, kind: Kind, noted: KindWarnings)
         ensures { self.new ≡ with_noted self.old kind noted }
     {

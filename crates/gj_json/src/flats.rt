@@ -1,6 +1,6 @@
 //! Reads the array of ordinary numbers that a piece starts with.
 
-ghost use Rattle.std.specs.Prelude.{◌≡◌, ◌+◌, ◌^◌, ◌<◌, ◌≤◌, length, take, drop, get_or, IfSome};
+ghost use Rattle.std.specs.Prelude.{◌≡◌, ◌+◌, ◌^◌, ◌<◌, ◌≤◌, length, take, drop, get_or, IfSome, None};
 ghost use Rattle.std.specs.List.{AllByRecursion};
 ghost use Rattle.std.specs.Option.{option_to_list};
 ghost use Rattle.gj_number.specs.Short.{exact_of, StartsWithPair};
@@ -97,6 +97,16 @@ fn pair_after_bracket(piece: &[u8], first: &mut Short, second: &mut Short) -> Op
     read_pair(&piece[1..], first, second)
 }
 
+/// Drops the third number of an array that was read before. Mostly there is none.
+#[inline(always)]
+fn drop_third(third: &mut Option<Numbered>)
+    ensures { third.new ≡ None }
+{
+    if third.is_some() {
+        *third = None;
+    }
+}
+
 /// Reads the array of two or three ordinary numbers that stands whole at the start of a piece, which begins at the place
 /// `start`: how many bytes it has, or 0. Mostly it is a pair.
 #[inline(always)]
@@ -113,7 +123,7 @@ pub fn read_flat(piece: &[u8], start: u64, flat: &mut Flat) -> usize
     flat.place = start;
     flat.first.place = start + 1;
     flat.second.place = start + 1 + pair.second as u64;
-    flat.third = None;
+    drop_third(&mut flat.third);
     flat.close = start + 1 + pair.end as u64;
     pair.end + 2
 }

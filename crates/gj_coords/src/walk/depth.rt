@@ -27,7 +27,42 @@ pub enum Depth {
 }
 
 impl Depth {
+    ghost use Rattle.std.specs.Prelude.{◌≡◌, true};
+    ghost use Rattle.gj_coords.specs.declared.walk.depth.Depth.TheVariants.{First, Second, Third};
     ghost use Rattle.gj_coords.specs.Internal.SteadyWalk.{is_whole};
+
+    /// Whether a position is due in one open array.
+    #[inline(always)]
+    pub fn is_first(&self) -> bool
+        ensures { result ≡ true → self.now ≡ First }
+    {
+        match self {
+            Depth::First => true,
+            _ => false,
+        }
+    }
+
+    /// In two.
+    #[inline(always)]
+    pub fn is_second(&self) -> bool
+        ensures { result ≡ true → self.now ≡ Second }
+    {
+        match self {
+            Depth::Second => true,
+            _ => false,
+        }
+    }
+
+    /// In three.
+    #[inline(always)]
+    pub fn is_third(&self) -> bool
+        ensures { result ≡ true → self.now ≡ Third }
+    {
+        match self {
+            Depth::Third => true,
+            _ => false,
+        }
+    }
 
     /// Whether the value is a position that was told as one.
     #[inline(always)]

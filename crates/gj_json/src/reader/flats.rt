@@ -86,7 +86,7 @@ impl Reader {
         }
         sink.tell_flat(flat);
         if in_array && begins_next(&piece[count..]) {
-            return Some(self.skip(count + 1, Mode::ValueDue));
+            return Some(self.skip_to_value(count + 1));
         }
         let comma = comma_run(&piece[count..]);
         if in_array && comma > 0 {
