@@ -1,5 +1,6 @@
 mod PathSearches
 mod ReadVerdicts
+mod WindowReads
 mod RoomWrites
 mod QuickReadings
 mod DecidedSequences

@@ -5,13 +5,15 @@ ghost use Rattle.geolint.specs.Counts.{CountsFailure};
 ghost use Rattle.geolint.specs.Judged.{JudgesRead};
 
 use crate::fault::ReadFault;
-use crate::source::{PIECE, Source};
+use crate::source::Source;
+use crate::window::Window;
 use gj_json::Limits;
 use gj_rules::{Linter, Progress, Verdict};
 
 /// Reads an input until it ends or is refused, and answers its verdict.
 ///
-/// No read follows a refusal, and there are at most as many reads as the input may have bytes, and one. An error is
+/// No read follows a refusal, and there are at most as many reads as the input may have bytes, and one. The last bytes of a
+/// full piece, 48 at the most, are judged with the next one, so that mostly no token lies across a cut. An error is
 /// answered where a read failed, with the number of bytes that had come before.
 pub fn lint_reader<S: Source>(reader: &mut S, limits: Limits) -> Result<Verdict, ReadFault>
     ensures few { S.reads reader.new ≤ S.reads reader.old + (limits.bytes + 1) }
@@ -25,19 +27,26 @@ pub fn lint_reader<S: Source>(reader: &mut S, limits: Limits) -> Result<Verdict,
 {
     let _most = limits.bytes();
     let mut linter = Linter::new(limits);
-    let mut piece = [0; PIECE];
+    let mut window = Window::new();
     let mut offset = 0;
     loop {
-        match reader.read_piece(&mut piece) {
+        match window.fill(reader) {
             Err(_) => return Err(ReadFault { offset }),
             // A linter is large: it stays where it lies.
-            Ok(0) => return Ok(linter.finish_and_begin(limits)),
+            Ok(0) => {
+                return match linter.feed(window.bytes()) {
+                    Progress::Open => Ok(linter.finish_and_begin(limits)),
+                    Progress::Refused(fault) => Ok(Verdict::NotJson(fault)),
+                };
+            }
             Ok(count) => {
                 offset += count as u64;
-                match linter.feed(&piece[..count]) {
+                let whole = window.whole();
+                match linter.feed(&window.bytes()[..whole]) {
                     Progress::Open => {}
                     Progress::Refused(fault) => return Ok(Verdict::NotJson(fault)),
                 }
+                window.pass(whole);
             }
         }
     }

@@ -19,6 +19,7 @@ mod sink;
 mod source;
 #[cfg(test)]
 mod testing;
+mod window;
 mod words;
 
 use crate::fault::{ProgramFault, RunFault, USAGE, WriteFault};
