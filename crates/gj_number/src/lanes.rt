@@ -218,10 +218,11 @@ pub(crate) fn digit_run(piece: &[u8]) -> usize
     let mut at = 0;
     while piece.len() - at >= 16 {
         let count = leading_digits(lanes_of(&piece[at..]));
-        at += count;
         if count < 16 {
-            return at;
+            return at + count;
         }
+        // By a number of its own, so that no turn waits for the count of the one before.
+        at += 16;
     }
     at
 }
