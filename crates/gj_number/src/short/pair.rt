@@ -2,10 +2,12 @@
 //!
 //! Most positions are two numbers of a few digits before a point and up to a dozen after it. Such numbers are found by
 //! few looks, and the digits of both make their values together.
-ghost use Rattle.std.specs.Prelude.{◌≡◌, ℕ, ◌+◌, ◌^◌, ◌<◌, ◌≤◌, length, get_or, IfSome};
+ghost use mir.Val.{bool_byte};
+ghost use Rattle.std.specs.Prelude.{◌≡◌, ◌==◌, ℕ, ◌+◌, ◌^◌, ◌<◌, ◌≤◌, length, get_or, IfSome};
 ghost use Rattle.std.specs.List.{fold};
 ghost use Rattle.std.specs.Option.{IsSome};
 ghost use Rattle.std.specs.Simd.Lanes.{Each1};
+ghost use Rattle.gj_number.specs.Bytes.{space};
 ghost use Rattle.gj_number.specs.Short.{exact_of, StartsUsual, StartsUsualPair, StartsWithPair};
 ghost use Rattle.gj_number.specs.Internal.DigitLanes.{with_value};
 ghost use Rattle.gj_number.specs.Internal.DigitRuns.{StartsSigned};
@@ -34,6 +36,31 @@ struct Digits {
     length: usize,
 }
 
+/// The index two bytes after that of a comma.
+///
+/// It is a call of its own, so that the processor guesses whether a space follows, and does not wait for the byte before it
+/// reads on.
+#[inline(never)]
+fn after_space(comma: usize) -> usize
+    requires { comma + 2 < 2 ^ 64 }
+    ensures { result ≡ comma + 2 }
+{
+    comma + 2
+}
+
+/// The index after a comma and the space that may follow it.
+#[inline(always)]
+fn after_comma(piece: &[u8], comma: usize) -> usize
+    requires { comma + 1 < length piece.now }
+    ensures { result ≡ comma + 1 + bool_byte (get_or piece.now (comma + 1) 0 == space) }
+{
+    if piece[comma + 1] == b' ' {
+        after_space(comma)
+    } else {
+        comma + 1
+    }
+}
+
 /// Reads the two ordinary numbers that the piece starts with, where a comma stands between them, with one space after it
 /// or none, and a closing bracket after the second. They are always found where each has a point, with one to three digits
 /// before it and at most eleven after it.
@@ -49,7 +76,7 @@ pub fn read_pair(piece: &[u8], first: &mut Short, second: &mut Short) -> Option<
         return None;
     };
     let comma = one.length;
-    let at = comma + 1 + (piece[comma + 1] == b' ') as usize;
+    let at = after_comma(piece, comma);
     let other_negative = piece[at] == b'-';
     let Some(other) = digits_before(&piece[at..], other_negative, b']') else {
         return None;
