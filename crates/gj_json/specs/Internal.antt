@@ -1,4 +1,5 @@
 -- What the proofs and the private functions of this crate need.
+pub mod NamedBytes
 pub mod OpenLevels
 pub mod ByteClasses
 pub mod TextMachine

@@ -4,7 +4,8 @@ use Rattle.std.specs.List.{AllByRecursion}
 use Rattle.std.specs.Str.{IsUtf8}
 use Rattle.std.proofs.lemmas.List.{length-append}
 use Rattle.gj_json.specs.Internal.ByteClasses.{class_of}
-use Rattle.gj_json.specs.Characters.{lead_of, hex_of, escape_of}
+use Rattle.gj_json.specs.Characters.{hex_of, escape_of}
+use Rattle.gj_json.specs.Utf8Bytes.{lead_of}
 use Rattle.gj_json.specs.declared.class.Class.TheVariants.{Other as other}
 use Rattle.gj_json.specs.declared.constant.Constant.{Constant}
 use Rattle.gj_json.specs.declared.constant.Constant.TheVariants.{Null, True, False}
