@@ -26,7 +26,7 @@ returns-in-Refused-clause-verdict g c =
     let is = rw (c.in-Refused.is) at (c.feed.ensures.answer read stands) in (
       refused c.in-Refused.fault,
       refl,
-      Judges-lasting IsJudgement _ _ _ (read ++ piece) _ fed
+      Judges-lasting IsJudgement c.args.limits _ _ (read ++ piece) (refused c.in-Refused.fault) fed
           (IsJudgement-of_refusal (limits_of c.loop-linter.linter) c.args.limits (read ++ piece) c.in-Refused.fault c.loop-linter.invariant.limits is),
     )
 
