@@ -26,11 +26,3 @@ word_of content =
     if bytes_eq content (codes "GeometryCollection") then Word.GeometryCollection else
     if bytes_eq content (codes "Feature") then Word.Feature else
     if bytes_eq content (codes "FeatureCollection") then Word.FeatureCollection else Word.Other
-
--- which name and which type a content is
-pub record Words : Type 0 where
-  pub known : Known
-  pub word : Word
-
-abbrev pub words_of : List ℕ → Words
-words_of content = record { known = known_of content; word = word_of content }

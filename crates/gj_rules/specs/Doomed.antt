@@ -1,6 +1,6 @@
 -- Whether the first events of a text show that it is no GeoJSON (RFC 7946), whatever comes after them: its value is no
 -- object, or the members that stand directly in its object break a rule by their names and by the first `type`.
-use Rattle.std.specs.Prelude.{ℕ, zero, suc, ◌+◌, ◌-◌, Bool, true, false, ◌&&◌, ◌||◌, IsTrue, List, [], ◌∷◌, ◌++◌, length, Option, Some, None}
+use Rattle.std.specs.Prelude.{ℕ, zero, suc, Bool, true, false, ◌&&◌, ◌||◌, IsTrue, List, [], ◌∷◌, ◌++◌, length, Option, Some, None}
 use Rattle.std.specs.List.{list_any}
 use Rattle.gj_json.specs.declared.event.Event.{Event}
 use Rattle.gj_json.specs.declared.event.What.{What}
@@ -8,19 +8,12 @@ use Rattle.gj_json.specs.declared.names.Known.{Known}
 use Rattle.gj_json.specs.declared.names.Known.TheVariants.{TypeName}
 use Rattle.gj_json.specs.declared.names.Word.{Word}
 use Rattle.gj_json.specs.Events.{events_by}
+use Rattle.gj_json.specs.Ignored.{levels_behind}
 use Rattle.gj_json.specs.Text.{IsTextWithin}
 use Rattle.gj_json.specs.Tree.{Text}
 use Rattle.gj_rules.specs.Members.{is_known, mentions, forbidden_by}
 
 -- ---- what stands directly in the text's object
-
--- the arrays and objects that are open after an event
-abbrev pub levels_after : What → ℕ → ℕ
-levels_after What.OpenObject levels = levels + 1
-levels_after What.OpenArray levels = levels + 1
-levels_after What.CloseObject levels = levels - 1
-levels_after What.CloseArray levels = levels - 1
-levels_after _ levels = levels
 
 abbrev pub at_level : ℕ → What → List What → List What
 at_level (suc zero) what more = what ∷ more
@@ -30,7 +23,7 @@ at_level _ what more = more
 -- first event of each value, and the object's end
 abbrev pub outermost : ℕ → List Event → List What
 outermost levels [] = []
-outermost levels (event ∷ more) = at_level levels event.what (outermost (levels_after event.what levels) more)
+outermost levels (event ∷ more) = at_level levels event.what (outermost (levels_behind event.what levels) more)
 
 -- the names of the members
 abbrev pub names : List What → List Known

@@ -136,10 +136,6 @@ abbrev mutual
         faults = selected name value (faults Role.Geometry value) (listed Role.Part value) (listed Role.Feature value);
       }) else first name more
 
--- the faults of the value of a first member
-abbrev pub judge : Known → Tree → List Fault
-judge name value = selected name value (faults Role.Geometry value) (listed Role.Part value) (listed Role.Feature value)
-
 -- the faults of a text
 abbrev pub text_faults : Text → List Fault
 text_faults text = faults Role.Root text.value

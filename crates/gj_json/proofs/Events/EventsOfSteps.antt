@@ -8,7 +8,7 @@ use Rattle.gj_json.specs.declared.constant.Constant.{Constant}
 use Rattle.gj_json.specs.declared.constant.Constant.TheVariants.{Null, True, False}
 use Rattle.gj_number.specs.Exact.{Exact}
 use Rattle.gj_number.specs.Value.{value_of}
-use Rattle.gj_json.specs.Names.{Words, words_of}
+use Rattle.gj_json.specs.Internal.ContentWords.{Words, words_of}
 use Rattle.gj_number.specs.DecidedNumbers.{is_number, begins_number}
 use Rattle.gj_json.specs.Internal.UnderWay.{under_leaf, under_of, Turns, HasValue, HasWords}
 use Rattle.gj_json.specs.declared.mode.StringState.{StringState}

@@ -19,7 +19,7 @@ use Rattle.gj_json.specs.declared.mode.Mode.TheVariants.{TextDue, MarkOne, MarkT
 use Rattle.gj_json.specs.declared.mode.Move.{Move}
 use Rattle.gj_json.specs.declared.mode.Move.TheVariants.{Refuse, Go}
 use Rattle.gj_json.specs.declared.mode.Ending.TheVariants.{Nothing}
-use Rattle.gj_json.specs.Names.{words_of}
+use Rattle.gj_json.specs.Internal.ContentWords.{words_of}
 use Rattle.gj_json.specs.declared.mode.StringState.{StringState}
 use Rattle.gj_json.specs.declared.mode.StringState.TheVariants.{Plain, Escape, HexDue, HexOne, HexTwo, HexThree, InCharacter}
 use Rattle.gj_json.specs.declared.reader.Reader.{Reader}

@@ -11,7 +11,7 @@ use Rattle.gj_json.specs.declared.levels.Level.TheVariants.{Array, Object}
 use Rattle.gj_json.specs.declared.mode.Mode.{Mode}
 use Rattle.gj_json.specs.declared.mode.Mode.TheVariants.{ValueDone, ConstantOn, MarkOne, MarkTwo, ValueDue}
 use Rattle.gj_json.specs.declared.mode.Ending.{Ending}
-use Rattle.gj_json.specs.Names.{Words}
+use Rattle.gj_json.specs.Internal.ContentWords.{Words}
 use Rattle.gj_json.specs.declared.mode.Move.{Move}
 use Rattle.gj_json.specs.declared.mode.Move.TheVariants.{Refuse, Go, Open, Close}
 use Rattle.gj_json.specs.Tree.{Tree, constant, number, end_of_array, element, end_of_object, member, depth}

@@ -1,5 +1,5 @@
 -- The places that the faults and the warnings of a text tell are places of it.
-use Rattle.std.proofs.Common.{◌≡◌, ℕ, zero, suc, ◌+◌, ◌≤◌, Bool, true, false, if◌then◌else◌, List, [], ◌∷◌, ◌++◌, length, length-append, take, drop, Option, Some, None, ap, ◌∙◌, subst, arith}
+use Rattle.std.proofs.Common.{◌≡◌, ℕ, zero, suc, ◌+◌, ◌≤◌, Bool, true, false, if◌then◌else◌, List, [], ◌∷◌, ◌++◌, length, length-append, take, drop, Option, Some, None, is_some, ap, ◌∙◌, subst, arith}
 use Rattle.std.specs.List.{AllByRecursion, flat_map}
 use Rattle.gj_json.specs.declared.constant.Constant.{Constant}
 use Rattle.gj_json.specs.declared.constant.Constant.TheVariants.{Null, True, False}
@@ -17,8 +17,8 @@ use Rattle.gj_coords.specs.declared.fault.Rule.{Rule}
 use Rattle.gj_coords.specs.declared.simple.Simple.{Simple}
 use Rattle.gj_coords.specs.Fault.{fault_at, comes_first, lesser, least}
 use Rattle.gj_coords.specs.Items.{items, elements_of, place_of}
-use Rattle.gj_coords.specs.Box.{box_number, is_wrong_length, bbox_faults}
-use Rattle.gj_coords.specs.Shape.{Shape, misshapen, few, unheld, held_number, any_number, position, several, list, line, unclosed, ring, or_empty, shape_of, coordinates_faults}
+use Rattle.gj_coords.specs.Box.{is_wrong_length, bbox_faults}
+use Rattle.gj_coords.specs.Shape.{Shape, misshapen, few, held_number, number_or, position, several, list, line, unclosed, ring, or_empty, shape_of, coordinates_faults}
 use Rattle.gj_rules.specs.declared.role.Role.{Role}
 use Rattle.gj_rules.specs.declared.member_slots.TypeValue.{TypeValue}
 use Rattle.gj_rules.specs.Faults
@@ -160,7 +160,7 @@ one_if n false place rule h = tt
 few_in : (n needed : ℕ) (rule : Rule) (place : ℕ) (values : List Tree) → place ≤ n → FaultsIn n (few needed rule place values)
 few_in n needed rule place values h = one_if n _ place rule h
 
-unheld_in : (n place : ℕ) (value : Option Exact) → place ≤ n → FaultsIn n (unheld place value)
+unheld_in : (n place : ℕ) (value : Option Exact) → place ≤ n → FaultsIn n (if is_some value then [] else fault_at place Rule.G16 ∷ [])
 unheld_in n place None h = (h, tt)
 unheld_in n place (Some value) h = tt
 
@@ -171,20 +171,20 @@ held_in n (string place content end) h = (h, tt)
 held_in n (array place es close) h = (h.0, tt)
 held_in n (object place ms close) h = (h.0, tt)
 
-any_in : (n : ℕ) → FitsShape n any_number
-any_in n (number place literal end) h = tt
-any_in n (constant which place) h = (h, tt)
-any_in n (string place content end) h = (h, tt)
-any_in n (array place es close) h = (h.0, tt)
-any_in n (object place ms close) h = (h.0, tt)
+number_in : (n : ℕ) (rule : Rule) → FitsShape n (number_or rule)
+number_in n rule (number place literal end) h = tt
+number_in n rule (constant which place) h = (h, tt)
+number_in n rule (string place content end) h = (h, tt)
+number_in n rule (array place es close) h = (h.0, tt)
+number_in n rule (object place ms close) h = (h.0, tt)
 
 position_in : (n : ℕ) → FitsShape n position
 position_in n (array place es close) h =
     let i = items_within n es h.1 in
     all_append (InFault n) _ _ (few_in n 2 Rule.G12 place (items es) h.0)
-    (all_append (InFault n) (flat_map held_number (take 3 (items es))) (flat_map any_number (drop 3 (items es)))
+    (all_append (InFault n) (flat_map held_number (take 3 (items es))) (flat_map (number_or Rule.G11) (drop 3 (items es)))
     (all_flat (Within n) (InFault n) held_number (held_in n) (take 3 (items es)) (all_take (Within n) 3 (items es) i))
-    (all_flat (Within n) (InFault n) any_number (any_in n) (drop 3 (items es)) (all_drop (Within n) 3 (items es) i)))
+    (all_flat (Within n) (InFault n) (number_or Rule.G11) (number_in n Rule.G11) (drop 3 (items es)) (all_drop (Within n) 3 (items es) i)))
 position_in n (constant which place) h = (h, tt)
 position_in n (number place literal end) h = (h, tt)
 position_in n (string place content end) h = (h, tt)
@@ -233,17 +233,10 @@ or_empty_in n shape one (object place ms close) h = one (object place ms close) 
 coordinates_in : (n : ℕ) (simple : Simple) → FitsShape n (coordinates_faults simple)
 coordinates_in n simple = or_empty_in n (shape_of simple) (shape_in n simple)
 
-box_number_in : (n : ℕ) → FitsShape n box_number
-box_number_in n (number place literal end) h = tt
-box_number_in n (constant which place) h = (h, tt)
-box_number_in n (string place content end) h = (h, tt)
-box_number_in n (array place es close) h = (h.0, tt)
-box_number_in n (object place ms close) h = (h.0, tt)
-
 bbox_in : (n : ℕ) → FitsShape n bbox_faults
 bbox_in n (array place es close) h =
-    all_append (InFault n) _ (flat_map box_number (items es)) (one_if n (is_wrong_length (length (items es))) place Rule.G21 h.0)
-    (all_flat (Within n) (InFault n) box_number (box_number_in n) (items es) (items_within n es h.1))
+    all_append (InFault n) _ (flat_map (number_or Rule.G20) (items es)) (one_if n (is_wrong_length (length (items es))) place Rule.G21 h.0)
+    (all_flat (Within n) (InFault n) (number_or Rule.G20) (number_in n Rule.G20) (items es) (items_within n es h.1))
 bbox_in n (constant which place) h = (h, tt)
 bbox_in n (number place literal end) h = (h, tt)
 bbox_in n (string place content end) h = (h, tt)
