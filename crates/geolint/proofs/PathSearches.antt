@@ -27,29 +27,27 @@ pub path_found : (limits : Allowed) (place : ℕ) (old new : Option (List ℕ)) 
     → IsViableWithin limits.depth (read ++ take wanted piece)
     → ((text : Text) (rest : List ℕ) → IsText text ((read ++ take wanted piece) ++ rest) → steps_of path ≡ path_at (place + 1) text)
     → Locates limits place old new (Some path)
-path_found limits place None new read piece wanted path took long within small viable leads = tt
-path_found limits place (Some all) None read piece wanted path took long within small viable leads = took
+path_found limits place None new read piece wanted path took long within small viable leads = ((read ++ piece, took), tt)
+path_found limits place (Some all) None read piece wanted path took long within small viable leads = absurd took
 path_found limits place (Some all) (Some rest) read piece wanted path took long within small viable leads =
     let front : up_to place all ≡ read ++ take wanted piece = ap (up_to place) took ∙ taken_front read piece rest wanted place long within in
-    let total : length all ≡ length read + length piece + length rest = ap length took ∙ simp length-append in
-    record {
-      read = read ++ piece;
-      split = took;
-      path = (
+    let total : length all ≡ length read + length piece + length rest = ap length took ∙ simp length-append in (
+      (read ++ piece, took),
+      (
         omega arith,
         small,
         subst (IsViableWithin limits.depth) (sym front) viable,
         λ text more h. leads text more (subst (λ (xs : List ℕ). IsText text (xs ++ more)) front h),
-      );
-    }
+      ),
+    )
 
 pub path_ended : (limits : Allowed) (place : ℕ) (old new : Option (List ℕ)) (read : List ℕ)
     → Consumes old new read → IsAtEnd new → length read ≤ place → Locates limits place old new None
-path_ended limits place None new read took ended short = tt
-path_ended limits place (Some all) None read took ended short = took
+path_ended limits place None new read took ended short = ((read, took), tt)
+path_ended limits place (Some all) None read took ended short = absurd took
 path_ended limits place (Some all) (Some rest) read took ended short =
     let nothing_more : all ≡ read = took ∙ ap (λ (ys : List ℕ). read ++ ys) ended ∙ append-nil read in
-    record { read = read; split = took; path = inl (rw nothing_more short) }
+    ((read, took), inl (rw nothing_more short))
 
 -- the bytes up to a place begin with fewer of them
 longer_front : (place : ℕ) (front rest : List ℕ) → length front ≤ place + 1 → up_to place (front ++ rest) ≡ front ++ take (place + 1 - length front) rest
@@ -60,8 +58,8 @@ pub path_refused : (limits : Allowed) (place : ℕ) (old new : Option (List ℕ)
     → Consumes old new (read ++ piece) → length read + wanted ≤ place + 1 → wanted ≤ length piece
     → ((more : List ℕ) → IsRefusal limits ((read ++ take wanted piece) ++ more) fault)
     → Locates limits place old new None
-path_refused limits place None new read piece wanted fault took long within refused = tt
-path_refused limits place (Some all) None read piece wanted fault took long within refused = took
+path_refused limits place None new read piece wanted fault took long within refused = ((read ++ piece, took), tt)
+path_refused limits place (Some all) None read piece wanted fault took long within refused = absurd took
 path_refused limits place (Some all) (Some rest) read piece wanted fault took long within refused =
     let front : List ℕ = read ++ take wanted piece in
     let behind : List ℕ = drop wanted piece ++ rest in
@@ -69,18 +67,16 @@ path_refused limits place (Some all) (Some rest) read piece wanted fault took lo
     took ∙ (ap (λ (xs : List ℕ). (read ++ xs) ++ rest) (sym (take-append-drop wanted piece))
     ∙ (ap (λ (xs : List ℕ). xs ++ rest) (sym (append_assoc read (take wanted piece) (drop wanted piece))) ∙ append_assoc front (drop wanted piece) rest)) in
     let few : length front ≤ place + 1 = (let l : length front ≡ length read + length (take wanted piece) = length-append read (take wanted piece) in let k = length-take-le wanted piece within in omega arith) in
-    let begins : up_to place all ≡ front ++ take (place + 1 - length front) behind = ap (up_to place) split ∙ longer_front place front behind few in
-    record {
-      read = read ++ piece;
-      split = took;
-      path = inr (
+    let begins : up_to place all ≡ front ++ take (place + 1 - length front) behind = ap (up_to place) split ∙ longer_front place front behind few in (
+      (read ++ piece, took),
+      inr (
         fault,
         λ more.
             subst (λ (xs : List ℕ). IsRefusal limits (xs ++ more) fault) (sym begins)
             (subst (λ (xs : List ℕ). IsRefusal limits xs fault) (sym (append_assoc front (take (place + 1 - length front) behind) more))
             (refused (take (place + 1 - length front) behind ++ more))),
-      );
-    }
+      ),
+    )
 
 -- a front of a front
 pub taken_again : (m n : ℕ) (xs : List ℕ) → m ≤ n → take m (take n xs) ≡ take m xs

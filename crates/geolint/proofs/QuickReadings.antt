@@ -35,16 +35,11 @@ other one limits bytes verdict is none warnings is_valid =
 -- an input that is not valid, read to its end
 at_end : HasOne → (limits : Allowed) (old new : Option (List ℕ)) (read : List ℕ) (verdict : Verdict)
     → Consumes old new read → IsAtEnd new → IsVerdict limits read verdict → valid_in verdict ≡ None → JudgesQuickly limits old new None
-at_end one limits None new read verdict took ended is none = tt
-at_end one limits (Some all) None read verdict took ended is none = took
+at_end one limits None new read verdict took ended is none = (read, took, tt)
+at_end one limits (Some all) None read verdict took ended is none = absurd took
 at_end one limits (Some all) (Some rest) read verdict took ended is none =
     let same : all ≡ read = took ∙ ap (λ (ys : List ℕ). read ++ ys) ended ∙ append-nil read in
-    record {
-      read = read;
-      split = took;
-      lasting = λ more_is_left. absurd (more_is_left ended);
-      of_all = other one limits all verdict (subst (λ (bytes : List ℕ). IsVerdict limits bytes verdict) (sym same) is) none;
-    }
+    (read, took, (other one limits all verdict (subst (λ (bytes : List ℕ). IsVerdict limits bytes verdict) (sym same) is) none, λ more_is_left. absurd (more_is_left ended)))
 
 abbrev pub QuicklySays : Allowed → Option (List ℕ) → Option (List ℕ) → Option Warnings → Type 0
 QuicklySays limits old new told = (warnings : Option (List Warning)) × SaysValid told warnings × JudgesQuickly limits old new warnings
@@ -56,23 +51,19 @@ quick-end one limits old new read (Valid told) took ended is = (Some (text_warni
   where
     go : (from to : Option (List ℕ)) → Consumes from to read → IsAtEnd to → JudgesQuickly limits from to (Some (text_warnings is.0))
     go None to took ended = tt
-    go (Some all) None took ended = took
+    go (Some all) None took ended = absurd took
     go (Some all) (Some rest) took ended =
         let same : all ≡ read = took ∙ ap (λ (ys : List ℕ). read ++ ys) ended ∙ append-nil read in
-        (ended, subst (λ (bytes : List ℕ). IsJudgement limits bytes (valid (text_warnings is.0))) (sym same) (is.0, is.1, is.2, refl))
+        (subst (λ (bytes : List ℕ). all ≡ bytes ++ rest) (sym same) took, subst (λ (bytes : List ℕ). IsJudgement limits bytes (valid (text_warnings is.0))) (sym same) (is.0, is.1, is.2, refl))
 quick-end one limits old new read (Broken fault) took ended is = (None, tt, at_end one limits old new read (Broken fault) took ended is refl)
 quick-end one limits old new read (NotJson fault) took ended is = (None, tt, at_end one limits old new read (NotJson fault) took ended is refl)
 
 -- no bytes make it valid
 never_quick : (limits : Allowed) (old new : Option (List ℕ)) (read : List ℕ) → Consumes old new read → NeverValid limits read → JudgesQuickly limits old new None
-never_quick limits None new read took never = tt
-never_quick limits (Some all) None read took never = took
-never_quick limits (Some all) (Some rest) read took never = record {
-  read = read;
-  split = took;
-  lasting = λ more_is_left. never;
-  of_all = λ warnings is. never rest (in_any warnings (subst (λ (bytes : List ℕ). IsJudgement limits bytes (valid warnings)) took is));
-}
+never_quick limits None new read took never = (read, took, tt)
+never_quick limits (Some all) None read took never = absurd took
+never_quick limits (Some all) (Some rest) read took never =
+    (read, took, (λ warnings is. never rest (in_any warnings (subst (λ (bytes : List ℕ). IsJudgement limits bytes (valid warnings)) took is)), λ more_is_left. never))
   where
     in_any : (warnings : List Warning) → IsJudgement limits (read ++ rest) (valid warnings) → IsValidWith limits (read ++ rest) (λ all. Unit {0})
     in_any warnings is = (is.0, is.1, is.2, tt)
@@ -102,16 +93,9 @@ one_read begin here there offset read count grown before =
 -- the last read gave these bytes, or none
 pub stops : (limits : Allowed) (old new : Option (List ℕ)) (before last : List ℕ) (reads now_read : ℕ) → Consumes old new (before ++ last)
     → (before ≡ []) ⊎ ShowNoFault limits before → now_read ≤ reads + (length before + 1) → length last ≤ 8192 → StopsAtOnce limits old new reads now_read
-stops limits None new before last reads now_read took clean few short = tt
-stops limits (Some all) None before last reads now_read took clean few short = took
-stops limits (Some all) (Some rest) before last reads now_read took clean few short = record {
-  before = before;
-  last = last;
-  split = took;
-  clean = clean;
-  few = few;
-  short = short;
-}
+stops limits None new before last reads now_read took clean few short = (before, last, took, tt)
+stops limits (Some all) None before last reads now_read took clean few short = absurd took
+stops limits (Some all) (Some rest) before last reads now_read took clean few short = (before, last, took, (clean, few, short))
 
 -- what is right for each list that the warnings of a valid text stand for
 pub for_some : (P : Option (List Warning) → Type 0) (answer : Option Warnings) (told : Warnings) → answer ≡ Some told

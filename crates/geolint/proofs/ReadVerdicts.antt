@@ -15,32 +15,20 @@ use Rattle.geolint.specs.Judged.{JudgesBy}
 -- the reader has come to its end
 pub Judges-end : {V : Type 0} (Is : Allowed → List ℕ → V → Type 0) (limits : Allowed) (old new : Option (List ℕ)) (read : List ℕ) (verdict : V)
     → Consumes old new read → IsAtEnd new → Is limits read verdict → JudgesBy Is limits old new verdict
-Judges-end Is limits None new read verdict took ended is = (read, is)
-Judges-end Is limits (Some all) None read verdict took ended is = took
+Judges-end Is limits None new read verdict took ended is = (read, took, is, tt)
+Judges-end Is limits (Some all) None read verdict took ended is = absurd took
 Judges-end Is limits (Some all) (Some rest) read verdict took ended is =
     let nothing_more : all ≡ read = took ∙ ap (λ (ys : List ℕ). read ++ ys) ended ∙ append-nil read in
-    record {
-      read = read;
-      split = took;
-      of_read = is;
-      lasting = λ more_is_left. absurd (more_is_left ended);
-      of_all = subst (λ (bytes : List ℕ). Is limits bytes verdict) (sym nothing_more) is;
-    }
+    (read, took, is, (subst (λ (bytes : List ℕ). Is limits bytes verdict) (sym nothing_more) is, λ more_is_left. absurd (more_is_left ended)))
 
 -- the verdict lasts, whatever follows
 pub Judges-lasting : {V : Type 0} (Is : Allowed → List ℕ → V → Type 0) (limits : Allowed) (old new : Option (List ℕ)) (read : List ℕ) (verdict : V)
     → Consumes old new read → ((more : List ℕ) → Is limits (read ++ more) verdict) → JudgesBy Is limits old new verdict
-Judges-lasting Is limits None new read verdict took lasts = (read, subst (λ (bytes : List ℕ). Is limits bytes verdict) (append-nil read) (lasts []))
-Judges-lasting Is limits (Some all) None read verdict took lasts = took
+Judges-lasting Is limits None new read verdict took lasts = (read, took, subst (λ (bytes : List ℕ). Is limits bytes verdict) (append-nil read) (lasts []), tt)
+Judges-lasting Is limits (Some all) None read verdict took lasts = absurd took
 Judges-lasting Is limits (Some all) (Some rest) read verdict took lasts =
     let here : Is limits read verdict = subst (λ (bytes : List ℕ). Is limits bytes verdict) (append-nil read) (lasts []) in
-    record {
-      read = read;
-      split = took;
-      of_read = here;
-      lasting = λ more_is_left. lasts;
-      of_all = subst (λ (bytes : List ℕ). Is limits bytes verdict) (sym took) (lasts rest);
-    }
+    (read, took, here, (subst (λ (bytes : List ℕ). Is limits bytes verdict) (sym took) (lasts rest), λ more_is_left. lasts))
 
 -- a read of 0 bytes
 pub Consumes-none : (a b c : Option (List ℕ)) (read piece : List ℕ) (n : ℕ) → n ≡ 0 → Consumes a b read → Consumes b c (take n piece) → Consumes a c read

@@ -1,5 +1,6 @@
 -- What the search for the path to a place finds.
-use Rattle.std.specs.Prelude.{◌≡◌, ℕ, ◌+◌, ◌<◌, ◌≤◌, ◌⊎◌, List, ◌++◌, Option, Some, None, ⊤, length, take}
+use Rattle.std.specs.Prelude.{◌≡◌, ℕ, ◌+◌, ◌<◌, ◌≤◌, ◌⊎◌, List, ◌++◌, Option, Some, None, IfSome, length, take}
+use Rattle.std.specs.Io.KnownBytes.{Consumes}
 use Rattle.gj_json.specs.declared.fault.JsonFault.{JsonFault}
 use Rattle.gj_json.specs.declared.path.Path.{Path}
 use Rattle.gj_json.specs.Limits.{Allowed}
@@ -21,14 +22,6 @@ IsPathTo limits place bytes (Some path) =
 IsPathTo limits place bytes None =
     (length bytes ≤ place) ⊎ ((fault : JsonFault) × ((more : List ℕ) → IsRefusal limits (up_to place bytes ++ more) fault))
 
--- a reader had all these bytes, and when it was left it had the rest
-pub record IsLocated (limits : Allowed) (place : ℕ) (all rest : List ℕ) (found : Option Path) : Type 0 where
-  pub read : List ℕ
-  pub split : all ≡ read ++ rest
-  pub path : IsPathTo limits place all found
-
--- the same, where the reader tells its bytes
-abbrev pub Locates : Allowed → ℕ → Option (List ℕ) → Option (List ℕ) → Option Path → Type 0
-Locates limits place None new found = ⊤
-Locates limits place (Some all) None found = ⊥
-Locates limits place (Some all) (Some rest) found = IsLocated limits place all rest found
+-- What a reader has to give was `had` and is `left`: what was found is that in all its bytes, where it tells them.
+abbrev pub Locates : Allowed → ℕ → (had left : Option (List ℕ)) → Option Path → Type 0
+Locates limits place had left found = ((read : List ℕ) × Consumes had left read) × IfSome had (λ all. IsPathTo limits place all found)

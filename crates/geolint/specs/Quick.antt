@@ -1,6 +1,6 @@
 -- What a run does that asks only whether an input is valid: nothing is said of an input that is not but that it is not.
-use Rattle.std.specs.Prelude.{◌≡◌, ◌⊎◌, ℕ, ◌+◌, ◌≤◌, Bool, List, [], ◌++◌, length, Option, Some, None, ⊤, Result, Ok, Err}
-use Rattle.std.specs.Io.KnownBytes.{Appends, Consumes, Keeps}
+use Rattle.std.specs.Prelude.{◌≡◌, ◌⊎◌, ℕ, ◌+◌, ◌≤◌, Bool, List, [], ◌++◌, length, Option, Some, None, IfSome, OnSome, ⊤, Result, Ok, Err}
+use Rattle.std.specs.Io.KnownBytes.{Appends, Consumes, IsAtEnd, Keeps}
 use Rattle.gj_json.specs.Limits.{Allowed}
 use Rattle.gj_json.specs.Text.{IsViableWithin}
 use Rattle.gj_coords.specs.Warnings.{Warning}
@@ -32,24 +32,13 @@ SaysValid (Some told) (Some warnings) = WarningsStandFor told warnings
 SaysValid None None = ⊤
 SaysValid _ _ = ⊥
 
--- a reader had all these bytes, and when it was left it had the rest: they are no valid text
-pub record IsNotValid (limits : Allowed) (all rest : List ℕ) : Type 0 where
-  pub read : List ℕ
-  pub split : all ≡ read ++ rest
-  -- where it was left before its end, no bytes behind those that were read make them one
-  pub lasting : (rest ≡ [] → ⊥) → NeverValid limits read
-  pub of_all : (warnings : List Warning) → IsJudgement limits all (valid warnings) → ⊥
-
--- a valid text was read to its end
-abbrev pub IsQuick : Allowed → List ℕ → List ℕ → Option (List Warning) → Type 0
-IsQuick limits all rest (Some warnings) = (rest ≡ []) × IsJudgement limits all (valid warnings)
-IsQuick limits all rest None = IsNotValid limits all rest
-
--- the same, where the reader tells its bytes
-abbrev pub JudgesQuickly : Allowed → Option (List ℕ) → Option (List ℕ) → Option (List Warning) → Type 0
-JudgesQuickly limits None new warnings = ⊤
-JudgesQuickly limits (Some all) None warnings = ⊥
-JudgesQuickly limits (Some all) (Some rest) warnings = IsQuick limits all rest warnings
+-- What a reader has to give was `had` and is `left`. Where it tells its bytes, a valid text was read to its end. Another one is no
+-- valid text, and where it was left before its end, no bytes behind those that were read make them one.
+abbrev pub JudgesQuickly : Allowed → (had left : Option (List ℕ)) → Option (List Warning) → Type 0
+JudgesQuickly limits had left (Some warnings) = IfSome had (λ all. Consumes had left all × IsJudgement limits all (valid warnings))
+JudgesQuickly limits had left None =
+    (read : List ℕ) × Consumes had left read
+    × IfSome had (λ all. ((warnings : List Warning) → IsJudgement limits all (valid warnings) → ⊥) × ((IsAtEnd left → ⊥) → NeverValid limits read))
 
 -- ---- its end
 
@@ -59,19 +48,10 @@ ShowNoFault limits bytes = IsViableWithin limits.depth bytes × (length bytes �
 
 -- No read follows one whose bytes show it: those that came `before` the last read do not. There were no more reads than these
 -- bytes are, and one, as a read gives a byte at least. So where each gives one byte, none is made too many.
-pub record IsLeft (limits : Allowed) (all rest : List ℕ) (reads now_read : ℕ) : Type 0 where
-  pub before : List ℕ
-  pub last : List ℕ
-  pub split : all ≡ (before ++ last) ++ rest
-  pub clean : (before ≡ []) ⊎ ShowNoFault limits before
-  pub few : now_read ≤ reads + (length before + 1)
-  pub short : length last ≤ 8192
-
--- the same, where the reader tells its bytes
-abbrev pub StopsAtOnce : Allowed → Option (List ℕ) → Option (List ℕ) → (reads now_read : ℕ) → Type 0
-StopsAtOnce limits None new reads now_read = ⊤
-StopsAtOnce limits (Some all) None reads now_read = ⊥
-StopsAtOnce limits (Some all) (Some rest) reads now_read = IsLeft limits all rest reads now_read
+abbrev pub StopsAtOnce : Allowed → (had left : Option (List ℕ)) → (reads now_read : ℕ) → Type 0
+StopsAtOnce limits had left reads now_read =
+    (before : List ℕ) × (last : List ℕ) × Consumes had left (before ++ last)
+    × OnSome had (((before ≡ []) ⊎ ShowNoFault limits before) × (now_read ≤ reads + (length before + 1)) × (length last ≤ 8192))
 
 -- ---- the report
 

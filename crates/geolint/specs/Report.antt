@@ -55,23 +55,13 @@ step_text (Member name) = codes "." ++ name_text name
 unfoldable pub steps_text : List PathStep → List ℕ
 steps_text steps = flat_map step_text steps
 
--- the steps and the end of the line
-unfoldable pub path_rest : List PathStep → List ℕ
-path_rest steps = steps_text steps ++ codes "\n"
-
-abbrev pub path_line : List PathStep → List ℕ
-path_line steps = codes "path $" ++ path_rest steps
-
 unfoldable pub path_line_if : Option Path → List ℕ
 path_line_if None = []
-path_line_if (Some path) = path_line (steps_of path)
-
-abbrev pub broken_report : Fault → Option Path → List ℕ
-broken_report fault path = broken_line fault ++ path_line_if path
+path_line_if (Some path) = codes "path $" ++ (steps_text (steps_of path) ++ codes "\n")
 
 abbrev pub report : Judgement → Option Path → List ℕ
 report (valid warnings) path = valid_report warnings
-report (broken fault) path = broken_report fault path
+report (broken fault) path = broken_line fault ++ path_line_if path
 report (refused fault) path = refusal_line fault
 
 -- where nothing more is asked than whether an input is valid

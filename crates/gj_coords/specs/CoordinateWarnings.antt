@@ -12,7 +12,9 @@ use Rattle.gj_coords.specs.Items.{elements_of, place_of}
 use Rattle.gj_coords.specs.Ring.{exact_value}
 use Rattle.gj_coords.specs.Shape.{Shape, is_empty, position, ring}
 use Rattle.gj_coords.specs.Warnings.{Warning, warning_at}
-use Rattle.gj_coords.specs.Winding.{in_range, exterior_runs_wrong, hole_runs_wrong}
+use Rattle.gj_coords.specs.declared.winding.Turn.{Turn}
+use Rattle.gj_coords.specs.declared.winding.Turn.TheVariants.{Left, Right}
+use Rattle.gj_coords.specs.Winding.{in_range, ring_turn, same_turn}
 
 -- A concern says what to warn of in a value: all warnings, in reading order.
 abbrev pub Concern : Type 0
@@ -49,16 +51,14 @@ position_warnings value = if is_sound position value then sound_position_warning
 
 -- ---- linear rings
 
-abbrev pub exterior_warnings : Concern
-exterior_warnings value = warned_if (is_sound ring value && exterior_runs_wrong (elements_of value)) (place_of value) W2 ++ each position_warnings value
+-- of a ring that is wrong where it runs so
+abbrev pub ring_warnings : Turn → Concern
+ring_warnings wrong value = warned_if (is_sound ring value && same_turn (ring_turn (elements_of value)) wrong) (place_of value) W2 ++ each position_warnings value
 
-abbrev pub hole_warnings : Concern
-hole_warnings value = warned_if (is_sound ring value && hole_runs_wrong (elements_of value)) (place_of value) W2 ++ each position_warnings value
-
--- the first ring is the exterior one, and those behind it are holes
+-- the first ring is the exterior one, which must not run clockwise, and those behind it are holes, which must not run the other way
 abbrev pub rings_warnings : List Tree → List Warning
 rings_warnings [] = []
-rings_warnings (exterior ∷ holes) = exterior_warnings exterior ++ flat_map hole_warnings holes
+rings_warnings (exterior ∷ holes) = ring_warnings Right exterior ++ flat_map (ring_warnings Left) holes
 
 abbrev pub polygon_warnings : Concern
 polygon_warnings value = rings_warnings (elements_of value)

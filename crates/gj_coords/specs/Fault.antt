@@ -1,31 +1,13 @@
 -- What is wrong with a text: rules that are broken, each with a place, and the least of them.
-use Rattle.std.specs.Prelude.{ℕ, List, [], ◌∷◌, Option, Some, None, Bool, nat_lt, nat_eq, nat_le, ◌&&◌, ◌||◌, if◌then◌else◌}
+use denote.Enum.Declared.{tag_of}
+use Rattle.std.specs.Prelude.{ℕ, ◌+◌, List, [], ◌∷◌, Option, Some, None, Bool, nat_lt, nat_eq, nat_le, ◌&&◌, ◌||◌, if◌then◌else◌}
 use Rattle.gj_coords.specs.declared.fault.Fault.{Fault}
 use Rattle.gj_coords.specs.declared.fault.Rule.{Rule}
+use Rattle.gj_coords.specs.contracts.fault.Rule.{the_type}
 
--- the number in a rule's name
+-- the number in a rule's name: its place among all rules, as they are declared
 abbrev pub number_of : Rule → ℕ
-number_of Rule.G1 = 1
-number_of Rule.G2 = 2
-number_of Rule.G3 = 3
-number_of Rule.G4 = 4
-number_of Rule.G5 = 5
-number_of Rule.G6 = 6
-number_of Rule.G7 = 7
-number_of Rule.G8 = 8
-number_of Rule.G9 = 9
-number_of Rule.G10 = 10
-number_of Rule.G11 = 11
-number_of Rule.G12 = 12
-number_of Rule.G13 = 13
-number_of Rule.G14 = 14
-number_of Rule.G15 = 15
-number_of Rule.G16 = 16
-number_of Rule.G17 = 17
-number_of Rule.G18 = 18
-number_of Rule.G19 = 19
-number_of Rule.G20 = 20
-number_of Rule.G21 = 21
+number_of rule = tag_of the_type rule + 1
 
 abbrev pub fault_at : ℕ → Rule → Fault
 fault_at place rule = record { place = place; rule = rule }

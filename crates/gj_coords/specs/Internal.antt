@@ -10,6 +10,7 @@ pub mod ElementCount
 pub mod ByKind
 pub mod KeptWarnings
 pub mod GatheredWarnings
+pub mod AllCorners
 pub mod WindingGather
 pub mod PositionGather
 pub mod Findings

@@ -1,7 +1,6 @@
 -- What is wrong with the value of `coordinates`, for each of the six types (RFC 7946, sections 3.1.1 to 3.1.7).
-use Rattle.std.specs.Prelude.{ℕ, List, [], ◌∷◌, ◌++◌, Option, Some, None, Bool, true, false, ◌&&◌, not, if◌then◌else◌, nat_lt, length, take, drop}
+use Rattle.std.specs.Prelude.{ℕ, List, [], ◌∷◌, ◌++◌, Bool, true, false, ◌&&◌, is_some, not, if◌then◌else◌, nat_lt, length, take, drop}
 use Rattle.std.specs.List.{flat_map}
-use Rattle.gj_number.specs.Exact.{Exact}
 use Rattle.gj_number.specs.Value.{value_of}
 use Rattle.gj_json.specs.Tree.{Tree, number, array, end_of_array}
 use Rattle.gj_coords.specs.declared.fault.Fault.{Fault}
@@ -27,24 +26,20 @@ few needed rule place values = if nat_lt (length values) needed then fault_at pl
 
 -- ---- positions (section 3.1.1)
 
-abbrev pub unheld : ℕ → Option Exact → List Fault
-unheld place (Some value) = []
-unheld place None = fault_at place G16 ∷ []
-
 -- a number that is held
 abbrev pub held_number : Shape
-held_number (number place literal end) = unheld place (value_of literal)
+held_number (number place literal end) = if is_some (value_of literal) then [] else fault_at place G16 ∷ []
 held_number value = misshapen value
 
--- a number, held or not
-abbrev pub any_number : Shape
-any_number (number place literal end) = []
-any_number value = misshapen value
+-- a number, held or not; another value breaks this rule
+abbrev pub number_or : Rule → Shape
+number_or rule (number place literal end) = []
+number_or rule value = fault_at (place_of value) rule ∷ []
 
 -- the first three elements are judged as numbers that are held, and those behind them as numbers
 abbrev pub position : Shape
 position (array place elements close) =
-    few 2 G12 place (items elements) ++ (flat_map held_number (take 3 (items elements)) ++ flat_map any_number (drop 3 (items elements)))
+    few 2 G12 place (items elements) ++ (flat_map held_number (take 3 (items elements)) ++ flat_map (number_or G11) (drop 3 (items elements)))
 position value = misshapen value
 
 -- ---- lists, lines and linear rings (sections 3.1.3 to 3.1.7)

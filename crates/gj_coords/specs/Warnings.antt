@@ -1,18 +1,12 @@
 -- What is worth a warning in a text that breaks no rule: warnings, each with a kind and a place, and what is reported of them.
+use denote.Enum.Declared.{tag_of}
 use Rattle.std.specs.Prelude.{ℕ, ◌+◌, ◌-◌, min, List, [], ◌∷◌, map, length, filter, Option, Some, None, Bool, nat_eq}
 use Rattle.gj_coords.specs.declared.kind.Kind.{Kind}
+use Rattle.gj_coords.specs.contracts.kind.Kind.{the_type}
 
--- the number in a kind's name
+-- the number in a kind's name: its place among all kinds, as they are declared
 abbrev pub kind_number : Kind → ℕ
-kind_number Kind.W1 = 1
-kind_number Kind.W2 = 2
-kind_number Kind.W3 = 3
-kind_number Kind.W4 = 4
-kind_number Kind.W5 = 5
-kind_number Kind.W6 = 6
-kind_number Kind.W7 = 7
-kind_number Kind.W8 = 8
-kind_number Kind.W9 = 9
+kind_number kind = tag_of the_type kind + 1
 
 -- all kinds, in the order of their numbers
 abbrev pub kinds : List Kind

@@ -1,10 +1,13 @@
 -- The winding of a linear ring: an exterior ring runs counterclockwise and a hole clockwise (RFC 7946, section 3.1.6).
-use Rattle.std.specs.Prelude.{zero, suc, ◌*◌, ◌^◌, List, [], ◌∷◌, Option, Some, None, Bool, true, false, ◌&&◌, if◌then◌else◌, map, is_some, ℤ, pos, negsuc, ◌+ℤ◌, ◌-ℤ◌, ◌*ℤ◌, neg_ℤ, int_le}
+use denote.Enum.Bare.{sameb}
+use Rattle.std.specs.Prelude.{zero, suc, ◌*◌, ◌^◌, List, [], ◌∷◌, Option, Some, None, Bool, ◌&&◌, if◌then◌else◌, filter_map, is_some, option_and_then, ℤ, pos, negsuc, ◌+ℤ◌, ◌-ℤ◌, ◌*ℤ◌, neg_ℤ, int_le}
+use Rattle.std.specs.List.{list_all}
 use Rattle.gj_number.specs.Exact.{Exact, cut_places, cut_of}
 use Rattle.gj_json.specs.Tree.{Tree}
 use Rattle.gj_coords.specs.declared.winding.Corner.{Corner}
 use Rattle.gj_coords.specs.declared.winding.Turn.{Turn}
 use Rattle.gj_coords.specs.declared.winding.Turn.TheVariants.{Left, Right, Straight, Unjudged}
+use Rattle.gj_coords.specs.contracts.winding.Turn.{the_type}
 use Rattle.gj_coords.specs.Items.{elements_of}
 use Rattle.gj_coords.specs.Ring.{exact_value}
 
@@ -24,13 +27,11 @@ bounded most number = if int_le (neg_ℤ most) number && int_le number most then
 
 -- the cut number of a number that is held
 abbrev pub cut_value : Option Exact → Option ℤ
-cut_value (Some value) = cut_of value
-cut_value None = None
+cut_value value = option_and_then cut_of value
 
 -- a cut number, where there is one and it is at most so far from zero
 abbrev pub bounded_cut : ℤ → Option ℤ → Option ℤ
-bounded_cut most (Some number) = bounded most number
-bounded_cut most None = None
+bounded_cut most cut = option_and_then (bounded most) cut
 
 -- both, where there are both
 abbrev pub both : Option ℤ → Option ℤ → Option Corner
@@ -72,41 +73,14 @@ area_of (a ∷ more) = area_from a more
 
 -- ---- the winding
 
--- one corner more in front
-abbrev pub with_corner : Option Corner → Option (List Corner) → Option (List Corner)
-with_corner (Some corner) (Some corners) = Some (corner ∷ corners)
-with_corner _ _ = None
-
--- all corners, where all are there
-abbrev pub all_corners : List (Option Corner) → Option (List Corner)
-all_corners [] = Some []
-all_corners (corner ∷ more) = with_corner corner (all_corners more)
-
 abbrev pub sign_of : ℤ → Turn
 sign_of (pos zero) = Straight
 sign_of (pos (suc n)) = Left
 sign_of (negsuc n) = Right
 
-abbrev pub turn_of : Option (List Corner) → Turn
-turn_of (Some corners) = sign_of (area_of corners)
-turn_of None = Unjudged
-
 -- how the positions of a linear ring run; a ring with a position out of range is not judged
 abbrev pub ring_turn : List Tree → Turn
-ring_turn positions = turn_of (all_corners (map cut_position positions))
+ring_turn positions = if list_all in_range positions then sign_of (area_of (filter_map cut_position positions)) else Unjudged
 
-abbrev pub wrong_for_exterior : Turn → Bool
-wrong_for_exterior Right = true
-wrong_for_exterior _ = false
-
-abbrev pub wrong_for_hole : Turn → Bool
-wrong_for_hole Left = true
-wrong_for_hole _ = false
-
--- whether an exterior ring of these positions runs the wrong way
-abbrev pub exterior_runs_wrong : List Tree → Bool
-exterior_runs_wrong positions = wrong_for_exterior (ring_turn positions)
-
--- whether a hole of these positions runs the wrong way
-abbrev pub hole_runs_wrong : List Tree → Bool
-hole_runs_wrong positions = wrong_for_hole (ring_turn positions)
+abbrev pub same_turn : Turn → Turn → Bool
+same_turn = sameb the_type

@@ -167,7 +167,7 @@ fn sign(area: i128) -> Turn
 
 impl Turn {
     ghost use Rattle.std.specs.Prelude.{◌≡◌};
-    ghost use Rattle.gj_coords.specs.Winding.{wrong_for_exterior, wrong_for_hole};
+    ghost use Rattle.gj_coords.specs.Internal.AllCorners.{wrong_for_exterior, wrong_for_hole};
 
     /// Whether an exterior ring that runs so runs the wrong way.
     pub fn wrong_for_exterior(&self) -> bool
@@ -187,7 +187,7 @@ impl Turn {
 impl Winding {
     ghost use Rattle.std.specs.Prelude.{◌≡◌, ◌++◌, ◌∷◌, ◌<◌, ◌^◌, List, [], Option, length};
     ghost use Rattle.gj_coords.specs.declared.winding.Corner.{Corner};
-    ghost use Rattle.gj_coords.specs.Winding.{turn_of, all_corners};
+    ghost use Rattle.gj_coords.specs.Internal.AllCorners.{turn_of, all_corners};
     ghost use Rattle.gj_coords.specs.Internal.WindingGather.{StandsFor, no_winding, term_of, corner_added, winding_added, turn_in};
 
     /// No position has come.

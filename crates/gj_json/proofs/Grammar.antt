@@ -1,6 +1,7 @@
 -- Which bytes are spelled as what.
 pub mod ClassOfBytes
 pub mod SpelledForms
+pub mod Utf8Tables
 pub mod SpelledTexts
 pub mod WideCharacterEnds
 pub mod Utf8Characters

@@ -1,14 +1,15 @@
 -- A text that is broken off: its tree so far, its bytes, its depth, and the texts that go on from it.
-use Rattle.std.specs.Prelude.{◌≡◌, ◌≢◌, ℕ, zero, suc, ◌+◌, ◌*◌, ◌%◌, ◌≤◌, max, Bool, true, List, [], ◌∷◌, ◌++◌, length, Some}
+use Rattle.std.specs.Prelude.{◌≡◌, ◌≢◌, ℕ, zero, suc, ◌+◌, ◌*◌, ◌%◌, ◌≤◌, max, Bool, true, List, [], ◌∷◌, ◌++◌, length, take, Some}
 use Rattle.gj_json.specs.declared.constant.Constant.{Constant}
 use Rattle.gj_json.specs.declared.mode.Bounds.{Bounds}
 use Rattle.gj_json.specs.declared.mode.Bounds.TheVariants.{Any}
 use Rattle.gj_json.specs.declared.mode.StringState.{StringState}
 use Rattle.gj_json.specs.declared.mode.StringState.TheVariants.{Plain, Escape, HexDue, HexOne, HexTwo, HexThree, InCharacter}
-use Rattle.gj_json.specs.Bytes.{open_bracket, open_brace, comma, colon, quote, backslash, letter_u, mark_first, mark_second}
+use Rattle.gj_json.specs.Bytes.{open_bracket, open_brace, comma, colon, quote, backslash, letter_u, mark_bytes}
 use Rattle.gj_json.specs.Tree.{Text, Tree, constant, number, string, array, object, Elements, element, Members, member, depth}
 use Rattle.gj_number.specs.Grammar.{BeginsNumber as NumberFront}
-use Rattle.gj_json.specs.Characters.{hex_of, Lead, lead_of, low_of, high_of, SpellsContent}
+use Rattle.gj_json.specs.Characters.{hex_of, SpellsContent}
+use Rattle.gj_json.specs.Utf8Bytes.{Lead, lead_of, low_of, high_of}
 use Rattle.gj_json.specs.Grammar.{Then, White, Exactly, Quoted, letters_of, Spells}
 use Rattle.gj_json.specs.Text.{SpellsMark}
 
@@ -135,8 +136,8 @@ SpellsLeaf stack (colon_due place done np name ne) start bytes = ObjectOpened pl
 -- These bytes are this text, broken off. White space alone has a value due; no bytes at all do not.
 abbrev pub SpellsBroken : Broken → List ℕ → Type 0
 SpellsBroken text_due bytes = bytes ≡ []
-SpellsBroken mark_one bytes = bytes ≡ mark_first ∷ []
-SpellsBroken mark_two bytes = bytes ≡ mark_first ∷ mark_second ∷ []
+SpellsBroken mark_one bytes = bytes ≡ take 1 mark_bytes
+SpellsBroken mark_two bytes = bytes ≡ take 2 mark_bytes
 SpellsBroken (begun marked s) bytes = (bytes ≢ []) × Then (SpellsMark marked) (Opened s.stack (Then White (SpellsLeaf s.stack s.leaf))) 0 bytes
 
 -- ---- how deep it nests

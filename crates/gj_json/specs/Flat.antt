@@ -1,14 +1,11 @@
--- An array of two or three numbers, which is told at once: the events that it stands for, and the bytes that spell it.
-use Rattle.std.specs.Prelude.{◌≡◌, ℕ, List, [], ◌∷◌, ◌++◌, map, Some}
+-- An array of two or three numbers, which is told at once: the events that it stands for.
+use Rattle.std.specs.Prelude.{ℕ, List, [], ◌∷◌, ◌++◌, map, Some}
 use Rattle.std.specs.Option.{option_to_list}
 use Rattle.gj_number.specs.Short.{exact_of}
 use Rattle.gj_json.specs.declared.event.Event.{Event}
 use Rattle.gj_json.specs.declared.event.What.{What}
 use Rattle.gj_json.specs.declared.flat.Flat.{Flat}
 use Rattle.gj_json.specs.declared.flat.Numbered.{Numbered}
-use Rattle.gj_json.specs.Tree.{array, Elements, elements_depth}
-use Rattle.gj_json.specs.Grammar.{Spells}
-use Rattle.gj_json.specs.Events.{elements_events}
 
 abbrev pub numbers_of : Flat → List Numbered
 numbers_of flat = flat.first ∷ flat.second ∷ option_to_list flat.third
@@ -22,13 +19,3 @@ numbers_events place numbers close = record { place = place; what = What.OpenArr
 -- the bracket, the numbers and the closing bracket, each told by itself
 abbrev pub flat_events : Flat → List Event
 flat_events flat = numbers_events flat.place (numbers_of flat) flat.close
-
--- these bytes, of which the first stands at `start`, are an array of these numbers
-pub record SpellsNumbers (place : ℕ) (numbers : List Numbered) (close start : ℕ) (bytes : List ℕ) : Type 0 where
-  pub elements : Elements
-  pub spelled : Spells (array place elements close) start bytes
-  pub flat : elements_depth elements ≡ 0
-  pub told : map (λ x. x.event) (elements_events elements) ≡ map number_event numbers
-
-abbrev pub IsFlat : Flat → ℕ → List ℕ → Type 0
-IsFlat flat start bytes = SpellsNumbers flat.place (numbers_of flat) flat.close start bytes

@@ -1,7 +1,7 @@
 -- How a value is spelled: the grammar of RFC 8259, sections 2 to 7, by cases on its tree, in UTF-8 (RFC 3629, section 4).
-use Rattle.std.specs.Prelude.{◌≡◌, ℕ, ◌+◌, List, [], ◌∷◌, ◌++◌, length}
+use Rattle.std.specs.Prelude.{◌≡◌, ℕ, ◌+◌, List, [], ◌∷◌, ◌++◌, length, codes}
 use Rattle.std.specs.List.{AllByRecursion}
-use Rattle.gj_json.specs.Bytes.{open_bracket, close_bracket, open_brace, close_brace, comma, colon, quote, letter_n, letter_t, letter_f, after_n, after_t, after_f, IsWhite}
+use Rattle.gj_json.specs.Bytes.{open_bracket, close_bracket, open_brace, close_brace, comma, colon, quote, IsWhite}
 use Rattle.gj_number.specs.Grammar.{IsNumber}
 use Rattle.gj_json.specs.Characters.{SpellsContent}
 use Rattle.gj_json.specs.declared.constant.Constant.{Constant}
@@ -32,9 +32,9 @@ abbrev pub Closes : ℕ → ℕ → ℕ → List ℕ → Type 0
 Closes b close start bytes = (bytes ≡ b ∷ []) × (close ≡ start)
 
 abbrev pub letters_of : Constant → List ℕ
-letters_of Null = letter_n ∷ after_n
-letters_of True = letter_t ∷ after_t
-letters_of False = letter_f ∷ after_f
+letters_of Null = codes "null"
+letters_of True = codes "true"
+letters_of False = codes "false"
 
 -- a string in its quotes, which ends at `end`
 abbrev pub Quoted : ℕ → List ℕ → ℕ → ℕ → List ℕ → Type 0

@@ -1,5 +1,5 @@
 -- Events that do not matter: those within levels that have to close.
-use Rattle.std.specs.Prelude.{◌≡◌, ℕ, zero, suc, ◌+◌, ◌-◌, ◌<◌, List, [], ◌∷◌}
+use Rattle.std.specs.Prelude.{◌≡◌, ℕ, zero, suc, ◌+◌, ◌-◌, List, [], ◌∷◌}
 use Rattle.gj_json.specs.declared.event.Event.{Event}
 use Rattle.gj_json.specs.declared.event.What.{What}
 
@@ -16,7 +16,3 @@ abbrev pub Leaves : ℕ → List Event → ℕ → Type 0
 Leaves levels [] left = levels ≡ left
 Leaves zero (event ∷ events) left = ⊥
 Leaves (suc levels) (event ∷ events) left = Leaves (levels_behind event.what (suc levels)) events left
-
--- none of them opens or closes a level
-abbrev pub Stays : List Event → Type 0
-Stays events = (levels : ℕ) → 0 < levels → Leaves levels events levels

@@ -1,4 +1,8 @@
 -- What the proofs and the private functions of this crate need.
+pub mod NamedBytes
+pub mod ContentWords
+pub mod StayingEvents
+pub mod SpelledNumbers
 pub mod OpenLevels
 pub mod ByteClasses
 pub mod TextMachine

@@ -3,12 +3,13 @@ pub mod Tree
 pub mod Characters
 pub mod Grammar
 pub mod Text
+pub mod Utf8Bytes
 pub mod Broken
 pub mod Limits
 pub mod Refusal
 pub mod Longest
-pub mod Names
 pub mod Texts
+pub mod Names
 pub mod Events
 pub mod Open
 pub mod Path

@@ -1,6 +1,6 @@
 -- How many arrays and objects are open in a front of a text.
 use Rattle.std.specs.Prelude.{ℕ, ◌+◌, if◌then◌else◌, ◌&&◌, nat_le, nat_lt}
-use Rattle.gj_json.specs.Tree.{Tree, constant, number, string, array, object, Elements, end_of_array, element, Members, end_of_object, member, Text}
+use Rattle.gj_json.specs.Tree.{Tree, array, object, Elements, end_of_array, element, Members, end_of_object, member, Text}
 
 -- 1 where a container is open in a front of n bytes: its opening bracket stands there, and its closing one does not
 abbrev pub is_open : ℕ → ℕ → ℕ → ℕ
@@ -8,11 +8,9 @@ is_open n place close = if nat_lt place n && nat_le n close then 1 else 0
 
 abbrev mutual
   pub open_in : ℕ → Tree → ℕ
-  open_in n (constant which place) = 0
-  open_in n (number place literal end) = 0
-  open_in n (string place content end) = 0
   open_in n (array place elements close) = is_open n place close + elements_open n elements
   open_in n (object place members close) = is_open n place close + members_open n members
+  open_in n _ = 0
 
   pub elements_open : ℕ → Elements → ℕ
   elements_open n end_of_array = 0

@@ -1,8 +1,9 @@
 -- The path from the root of a text to the value that a front of the text leads to.
-use Rattle.std.specs.Prelude.{ℕ, ◌+◌, ◌==◌, ◌&&◌, if◌then◌else◌, nat_lt, nat_le, Bool, true, false, List, [], ◌∷◌, take, Option, Some, None}
+use Rattle.std.specs.Prelude.{ℕ, ◌+◌, ◌==◌, ◌&&◌, if◌then◌else◌, nat_lt, nat_le, Bool, List, [], ◌∷◌, take, Option, Some, None, unwrap_or, option_map}
+use Rattle.std.specs.Option.{option_or}
 use Rattle.gj_json.specs.declared.path.PathStep.{PathStep}
 use Rattle.gj_json.specs.declared.path.Path.{Path}
-use Rattle.gj_json.specs.Tree.{Tree, constant, number, string, array, object, Elements, end_of_array, element, Members, end_of_object, member, Text}
+use Rattle.gj_json.specs.Tree.{Tree, array, object, Elements, end_of_array, element, Members, end_of_object, member, Text, place_of}
 use Rattle.gj_json.specs.Names.{known_of}
 
 -- the steps of a path, the outermost first
@@ -16,9 +17,7 @@ to_value n place = if place + 1 == n then Some [] else None
 
 -- It leads into an array or an object that is open in the front: to what it leads to inside, or else to the container.
 abbrev pub to_container : Bool → Option (List PathStep) → Option (List PathStep)
-to_container true (Some steps) = Some steps
-to_container true None = Some []
-to_container false inside = None
+to_container is_open inside = if is_open then Some (unwrap_or inside []) else None
 
 -- as `is_open` of `Open`: its opening bracket stands in the front, and its closing one does not
 abbrev pub has_open : ℕ → ℕ → ℕ → Bool
@@ -26,35 +25,23 @@ has_open n place close = nat_lt place n && nat_le n close
 
 -- one step, and then these
 abbrev pub by_step : PathStep → Option (List PathStep) → Option (List PathStep)
-by_step step (Some steps) = Some (step ∷ steps)
-by_step step None = None
-
-abbrev pub or_else : Option (List PathStep) → Option (List PathStep) → Option (List PathStep)
-or_else (Some steps) other = Some steps
-or_else None other = other
+by_step step inside = option_map (λ steps. step ∷ steps) inside
 
 abbrev mutual
   pub path_in : ℕ → Tree → Option (List PathStep)
-  path_in n (constant which place) = to_value n place
-  path_in n (number place literal end) = to_value n place
-  path_in n (string place content end) = to_value n place
   path_in n (array place elements close) = to_container (has_open n place close) (elements_path n 0 elements)
   path_in n (object place members close) = to_container (has_open n place close) (members_path n members)
+  path_in n value = to_value n (place_of value)
 
   -- through one of these elements, of which the first has the index i
   pub elements_path : ℕ → ℕ → Elements → Option (List PathStep)
   elements_path n i end_of_array = None
-  elements_path n i (element value more) = or_else (by_step (PathStep.Index i) (path_in n value)) (elements_path n (i + 1) more)
+  elements_path n i (element value more) = option_or (by_step (PathStep.Index i) (path_in n value)) (elements_path n (i + 1) more)
 
   pub members_path : ℕ → Members → Option (List PathStep)
   members_path n end_of_object = None
-  members_path n (member place name end value more) = or_else (by_step (PathStep.Member (known_of name)) (path_in n value)) (members_path n more)
+  members_path n (member place name end value more) = option_or (by_step (PathStep.Member (known_of name)) (path_in n value)) (members_path n more)
 
--- where it leads nowhere else, it leads to the root
-abbrev pub from_root : Option (List PathStep) → List PathStep
-from_root (Some steps) = steps
-from_root None = []
-
--- the path that the first n bytes of the text lead to
+-- the path that the first n bytes of the text lead to; where they lead nowhere else, it leads to the root
 abbrev pub path_at : ℕ → Text → List PathStep
-path_at n text = from_root (path_in n text.value)
+path_at n text = unwrap_or (path_in n text.value) []

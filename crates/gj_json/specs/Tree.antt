@@ -25,14 +25,20 @@ pub record Text : Type 0 where
   pub marked : Bool
   pub value : Tree
 
+-- where the first byte of a value stands
+abbrev pub place_of : Tree → ℕ
+place_of (constant which place) = place
+place_of (number place literal end) = place
+place_of (string place content end) = place
+place_of (array place elements close) = place
+place_of (object place members close) = place
+
 -- the most arrays and objects that are open at once
 abbrev mutual
   pub depth : Tree → ℕ
-  depth (constant which place) = 0
-  depth (number place literal end) = 0
-  depth (string place content end) = 0
   depth (array place elements close) = elements_depth elements + 1
   depth (object place members close) = members_depth members + 1
+  depth _ = 0
 
   pub elements_depth : Elements → ℕ
   elements_depth end_of_array = 0

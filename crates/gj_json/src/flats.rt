@@ -5,7 +5,7 @@ ghost use Rattle.std.specs.List.{AllByRecursion};
 ghost use Rattle.std.specs.Option.{option_to_list};
 ghost use Rattle.gj_number.specs.Short.{exact_of, StartsWithPair};
 ghost use Rattle.gj_json.specs.Bytes.{IsWhite, open_bracket, comma};
-ghost use Rattle.gj_json.specs.Flat.{IsFlat};
+ghost use Rattle.gj_json.specs.Internal.SpelledNumbers.{IsFlat};
 ghost use Rattle.gj_json.specs.Internal.FlatParts.{cut, IsItem, IsMore};
 
 use crate::flat::{Flat, Numbered};

@@ -1,7 +1,7 @@
 //! What a byte does, from what the reader keeps.
 
 ghost use Rattle.std.specs.Prelude.{◌≡◌, ◌==◌, ◌<◌, if◌then◌else◌, length};
-ghost use Rattle.gj_json.specs.Bytes.{mark_first};
+ghost use Rattle.gj_json.specs.Internal.NamedBytes.{mark_first};
 ghost use Rattle.gj_json.specs.Internal.ByteClasses.{class_of};
 ghost use Rattle.gj_json.specs.Grammar.{letters_of};
 ghost use Rattle.gj_json.specs.Internal.Transitions.{begin_move, due_move, array_move, name_move, object_move, name_due_move, colon_move, after_move, constant_move, value_string_move, name_string_move, string_move, move_of, IsMode, IsMove, IsStringState};

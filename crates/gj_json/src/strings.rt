@@ -1,7 +1,8 @@
 //! The characters of a string (RFC 8259, section 7; RFC 3629, section 4), a byte at a time.
 
 ghost use Rattle.std.specs.Prelude.{◌≤◌, ◌-◌, ◌≡◌, ◌<◌, IfSome};
-ghost use Rattle.gj_json.specs.Characters.{escape_of, hex_of, lead_of};
+ghost use Rattle.gj_json.specs.Characters.{escape_of, hex_of};
+ghost use Rattle.gj_json.specs.Utf8Bytes.{lead_of};
 ghost use Rattle.gj_json.specs.Internal.TextMachine.{string_next, plain_step, lead_step, tail_step, within};
 ghost use Rattle.gj_json.specs.Internal.Transitions.{string_move, IsStringState, IsStringMove, value_limit};
 
@@ -42,7 +43,7 @@ fn hex(byte: u8) -> Option<u32>
     }
 }
 
-#[tactic(auto, unfolding(crate::specs::Characters::lead_of))]
+#[tactic(auto, unfolding(crate::specs::Utf8Bytes::lead_of))]
 fn lead(byte: u8) -> StringMove
     ensures value { result ≡ string_move (lead_step (lead_of byte)) }
     ensures state { IsStringMove result }

@@ -55,9 +55,6 @@ IsExponentLetter b = (b ≡ lower_e) ⊎ (b ≡ upper_e)
 abbrev pub is_exponent_letter : ℕ → Bool
 is_exponent_letter b = b == lower_e || b == upper_e
 
-abbrev pub is_point : ℕ → Bool
-is_point b = b == decimal_point
-
 -- a byte that some number has
 abbrev pub IsNumberByte : ℕ → Type 0
 IsNumberByte b = IsDigit b ⊎ (b ≡ minus_sign) ⊎ (b ≡ plus_sign) ⊎ (b ≡ decimal_point) ⊎ IsExponentLetter b

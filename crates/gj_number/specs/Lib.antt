@@ -3,6 +3,7 @@ pub mod Grammar
 pub mod DecidedNumbers
 pub mod Exact
 pub mod Value
+pub mod Denotation
 pub mod Literal
 pub mod Short
 pub mod Internal

@@ -3,7 +3,8 @@ use Rattle.std.specs.Prelude.{◌≡◌, ℕ, ◌+◌, ◌-◌, ◌<◌, ◌≤�
 use Rattle.gj_number.specs.Bytes.{comma, space, close_bracket, IsNumberByte}
 use Rattle.gj_number.specs.Grammar.{IsNumber, IsNatural, BeginsNumber}
 use Rattle.gj_number.specs.Exact.{Exact, zero_exact}
-use Rattle.gj_number.specs.Value.{Denotes, SpellsSign, SpellsFraction, value_of, stripped, tens_in}
+use Rattle.gj_number.specs.Value.{value_of, stripped, tens_in}
+use Rattle.gj_number.specs.Denotation.{Denotes, SpellsSign, SpellsFraction}
 use Rattle.gj_number.specs.declared.short.Short.{Short}
 
 -- ---- the bytes

@@ -4,7 +4,8 @@ ghost use Rattle.gj_number.specs.Bytes.{minus_sign, IsDigit, IsNumberByte};
 ghost use Rattle.gj_number.specs.Grammar.{IsNumber, BeginsNumber};
 ghost use Rattle.gj_number.specs.DecidedNumbers.{is_number, begins_number};
 ghost use Rattle.gj_number.specs.Exact.{Exact, IsNormal, SameValue};
-ghost use Rattle.gj_number.specs.Value.{Denotes, IsHeld, value_of};
+ghost use Rattle.gj_number.specs.Value.{value_of};
+ghost use Rattle.gj_number.specs.Denotation.{Denotes, IsHeld};
 
 /// Functions decide which bytes are a number and which begin one, and a number begins and goes on by certain bytes alone.
 pub fn decided_numbers()

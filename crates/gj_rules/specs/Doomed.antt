@@ -1,25 +1,19 @@
 -- Whether the first events of a text show that it is no GeoJSON (RFC 7946), whatever comes after them: its value is no
 -- object, or the members that stand directly in its object break a rule by their names and by the first `type`.
-use Rattle.std.specs.Prelude.{ℕ, zero, suc, ◌+◌, ◌-◌, Bool, true, false, ◌&&◌, ◌||◌, IsTrue, List, [], ◌∷◌, ◌++◌, length, Option, Some, None}
+use Rattle.std.specs.Prelude.{ℕ, zero, suc, Bool, true, false, ◌&&◌, ◌||◌, IsTrue, List, [], ◌∷◌, ◌++◌, length, Option, Some, None}
+use Rattle.std.specs.List.{list_any}
 use Rattle.gj_json.specs.declared.event.Event.{Event}
 use Rattle.gj_json.specs.declared.event.What.{What}
 use Rattle.gj_json.specs.declared.names.Known.{Known}
-use Rattle.gj_json.specs.declared.names.Known.TheVariants.{TypeName, Coordinates, Geometries, Geometry, Properties, Features}
+use Rattle.gj_json.specs.declared.names.Known.TheVariants.{TypeName}
 use Rattle.gj_json.specs.declared.names.Word.{Word}
 use Rattle.gj_json.specs.Events.{events_by}
+use Rattle.gj_json.specs.Ignored.{levels_behind}
 use Rattle.gj_json.specs.Text.{IsTextWithin}
 use Rattle.gj_json.specs.Tree.{Text}
-use Rattle.gj_rules.specs.Members.{is_known, mentions}
+use Rattle.gj_rules.specs.Members.{is_known, mentions, forbidden_by}
 
 -- ---- what stands directly in the text's object
-
--- the arrays and objects that are open after an event
-abbrev pub levels_after : What → ℕ → ℕ
-levels_after What.OpenObject levels = levels + 1
-levels_after What.OpenArray levels = levels + 1
-levels_after What.CloseObject levels = levels - 1
-levels_after What.CloseArray levels = levels - 1
-levels_after _ levels = levels
 
 abbrev pub at_level : ℕ → What → List What → List What
 at_level (suc zero) what more = what ∷ more
@@ -29,7 +23,7 @@ at_level _ what more = more
 -- first event of each value, and the object's end
 abbrev pub outermost : ℕ → List Event → List What
 outermost levels [] = []
-outermost levels (event ∷ more) = at_level levels event.what (outermost (levels_after event.what levels) more)
+outermost levels (event ∷ more) = at_level levels event.what (outermost (levels_behind event.what levels) more)
 
 -- the names of the members
 abbrev pub names : List What → List Known
@@ -55,22 +49,11 @@ abbrev pub repeats : List Known → List Known → Bool
 repeats before [] = false
 repeats before (name ∷ more) = (is_known name && mentions before name) || repeats (name ∷ before) more
 
--- the names that a type forbids (section 7.1)
-abbrev pub forbidden_by : Word → List Known
-forbidden_by Word.Feature = Coordinates ∷ Geometries ∷ Features ∷ []
-forbidden_by Word.FeatureCollection = Coordinates ∷ Geometries ∷ Geometry ∷ Properties ∷ []
-forbidden_by Word.Other = []
-forbidden_by _ = Geometry ∷ Properties ∷ Features ∷ []
-
-abbrev pub any_of : List Known → List Known → Bool
-any_of [] found = false
-any_of (name ∷ more) found = mentions found name || any_of more found
-
 -- the type is none of the nine (section 1.4), or it forbids a name that is there, whichever of the two came first
 abbrev pub type_fails : Option Word → List Known → Bool
 type_fails None found = false
 type_fails (Some Word.Other) found = true
-type_fails (Some word) found = any_of (forbidden_by word) found
+type_fails (Some word) found = list_any (mentions found) (forbidden_by word)
 
 abbrev pub members_fail : List What → Bool
 members_fail members = repeats [] (names members) || type_fails (first_type members) (names members)

@@ -14,3 +14,6 @@ pub mod OpenRecord
 pub mod OpenSequence
 pub mod JudgementLaws
 pub mod ToldPlaces
+pub mod VerdictParts
+pub mod DecidedSequence
+pub mod SkippedLevels

@@ -1,8 +1,10 @@
 -- The members of an object that the rules look at: of each known name the first one, and those that repeat a name
--- (RFC 7946, sections 3 to 3.3 and 5).
+-- (RFC 7946, sections 3 to 3.3, 5 and 7.1).
+use denote.Enum.Bare.{sameb}
 use Rattle.std.specs.Prelude.{ℕ, Bool, true, false, if◌then◌else◌, List, [], ◌∷◌, ◌++◌, Option, Some, None}
 use Rattle.gj_json.specs.declared.names.Known.{Known}
-use Rattle.gj_json.specs.declared.names.Known.TheVariants.{TypeName, Coordinates, Geometries, Geometry, Properties, Features, Bbox, Id, Crs, Other}
+use Rattle.gj_json.specs.declared.names.Known.TheVariants.{TypeName, Coordinates, Geometries, Geometry, Properties, Features, Crs, Other}
+use Rattle.gj_json.specs.contracts.names.Known.{the_type}
 use Rattle.gj_json.specs.declared.names.Word.{Word}
 use Rattle.gj_json.specs.Names.{known_of, word_of}
 use Rattle.gj_json.specs.Tree.{Tree, string, Members, end_of_object, member}
@@ -30,22 +32,19 @@ is_known Crs = false
 is_known _ = true
 
 abbrev pub same : Known → Known → Bool
-same TypeName TypeName = true
-same Coordinates Coordinates = true
-same Geometries Geometries = true
-same Geometry Geometry = true
-same Properties Properties = true
-same Features Features = true
-same Bbox Bbox = true
-same Id Id = true
-same Other Other = true
-same Crs Crs = true
-same _ _ = false
+same = sameb the_type
 
 -- whether the name is among these
 abbrev pub mentions : List Known → Known → Bool
 mentions [] name = false
 mentions (x ∷ xs) name = if same name x then true else mentions xs name
+
+-- the names that section 7.1 forbids to a type
+abbrev pub forbidden_by : Word → List Known
+forbidden_by Word.Feature = Coordinates ∷ Geometries ∷ Features ∷ []
+forbidden_by Word.FeatureCollection = Coordinates ∷ Geometries ∷ Geometry ∷ Properties ∷ []
+forbidden_by Word.Other = []
+forbidden_by _ = Geometry ∷ Properties ∷ Features ∷ []
 
 -- ---- members
 

@@ -116,12 +116,6 @@ is_valid (Valid warnings) = true
 is_valid (Broken fault) = false
 is_valid (NotJson fault) = false
 
--- the warnings of a verdict that says valid
-abbrev pub valid_warnings : Verdict → Option Warnings
-valid_warnings (Valid warnings) = Some warnings
-valid_warnings (Broken fault) = None
-valid_warnings (NotJson fault) = None
-
 -- all records are valid, with these warnings in all
 abbrev pub AllValid : ℕ → List SequenceRecord → Warnings → Type 0
 AllValid levels [] warnings = warnings ≡ no_warnings

@@ -41,10 +41,6 @@ has_decided (Some d) = true
 abbrev pub is_decided : Sequence → Bool
 is_decided s = has_decided s.decided
 
--- the sequence, of which a byte has decided
-abbrev pub decided_as : Sequence → ℕ → SeqVerdict → Sequence
-decided_as s place verdict = record s { decided = Some (record { place = place; verdict = verdict }) }
-
 -- ---- what its calls answer
 
 abbrev pub says_decided : SeqProgress → Bool

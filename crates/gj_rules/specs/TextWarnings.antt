@@ -5,7 +5,7 @@ use Rattle.gj_json.specs.declared.names.Known.{Known}
 use Rattle.gj_json.specs.declared.names.Known.TheVariants.{Coordinates, Geometries, Geometry, Features, Bbox, Crs}
 use Rattle.gj_json.specs.declared.names.Word.{Word}
 use Rattle.gj_json.specs.Names.{known_of}
-use Rattle.gj_json.specs.Tree.{Tree, constant, number, string, array, object, Elements, end_of_array, element, Members, end_of_object, member, Text}
+use Rattle.gj_json.specs.Tree.{Tree, array, object, Elements, end_of_array, element, Members, end_of_object, member, Text}
 use Rattle.gj_coords.specs.declared.kind.Kind.TheVariants.{W1, W7, W9}
 use Rattle.gj_coords.specs.declared.simple.Simple.{Simple}
 use Rattle.gj_coords.specs.Warnings.{Warning, warning_at}
@@ -70,18 +70,12 @@ abbrev mutual
       crs_warnings members ++ (first_warnings Bbox members
       ++ by_type_warnings (first_type members) role place (first_value Coordinates members)
       (first_warnings Geometries members) (first_warnings Geometry members) (first_warnings Features members))
-  warnings role (constant which place) = []
-  warnings role (number place literal end) = []
-  warnings role (string place content end) = []
-  warnings role (array place elements close) = []
+  warnings role _ = []
 
   -- the warnings of the elements of a value, which have this role
   pub list_warnings : Role → Tree → List Warning
   list_warnings role (array place elements close) = all_warnings role elements
-  list_warnings role (constant which place) = []
-  list_warnings role (number place literal end) = []
-  list_warnings role (string place content end) = []
-  list_warnings role (object place members close) = []
+  list_warnings role _ = []
 
   pub all_warnings : Role → Elements → List Warning
   all_warnings role end_of_array = []

@@ -50,8 +50,3 @@ IsVerdict limits bytes (NotJson fault) = IsRefusal limits bytes fault
 -- no input that begins with these bytes is valid, whatever its warnings
 abbrev pub NeverValid : Allowed → List ℕ → Type 0
 NeverValid limits bytes = (more : List ℕ) → IsValidWith limits (bytes ++ more) (λ warnings. Unit {0}) → ⊥
-
--- the verdict of a text with this least fault and these warnings
-abbrev pub verdict_of : Option Fault → Warnings → Verdict
-verdict_of None warnings = Valid warnings
-verdict_of (Some fault) warnings = Broken fault

@@ -11,7 +11,7 @@ ghost use Rattle.gj_json.specs.declared.event.Event.{Event};
 ghost use Rattle.std.specs.Option.{option_to_list};
 ghost use Rattle.gj_rules.specs.Judged.{judged_at};
 ghost use Rattle.gj_rules.specs.Rules.{StandsFor as RulesStandFor};
-ghost use Rattle.gj_rules.specs.Verdict.{verdict_of};
+ghost use Rattle.gj_rules.specs.Internal.VerdictParts.{verdict_of};
 
 use crate::frame::Frame;
 use crate::rules::Rules;

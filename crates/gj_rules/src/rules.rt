@@ -60,7 +60,8 @@ impl Rules {
     ghost use Rattle.gj_rules.specs.Internal.EventSteps.{start, core_step, is_feeding, ended_as};
     ghost use Rattle.gj_rules.specs.Internal.Summaries.{StandsForCoordinates, StandsForBbox};
     ghost use Rattle.gj_rules.specs.Internal.RulesState.{core_of, frames_by, Holds, HasRoom, Feeds};
-    ghost use Rattle.gj_rules.specs.Levels.{most_levels, most_skipped};
+    ghost use Rattle.gj_rules.specs.Levels.{most_levels};
+    ghost use Rattle.gj_rules.specs.Internal.SkippedLevels.{most_skipped};
     ghost use Rattle.gj_rules.specs.Rules.{StandsFor};
 
     /// Before the first event of a text.

@@ -66,7 +66,8 @@ impl Sequence {
     ghost use Rattle.gj_json.specs.Tree.{Text};
     ghost use Rattle.gj_rules.specs.Judged.{judged_at};
     ghost use Rattle.gj_rules.specs.Sequence.{SequenceRecord, IsSequenceVerdict, IsDecidedAt, records_of, has_separator, separator, not_json};
-    ghost use Rattle.gj_rules.specs.SequenceStands.{StandsFor, limits_of, is_decided, says_decided, Answers, decided_as};
+    ghost use Rattle.gj_rules.specs.SequenceStands.{StandsFor, limits_of, is_decided, says_decided, Answers};
+    ghost use Rattle.gj_rules.specs.Internal.DecidedSequence.{decided_as};
 
     /// Before the first byte of a sequence. The depth is allowed to each record, and the number of bytes to
     /// the whole input.

@@ -38,7 +38,7 @@ fn push_steps(path: &Path, room: &mut Room)
 }
 
 /// The line of a path, where there is one.
-#[tactic(auto, unfolding(crate::specs::Report::path_line_if, crate::specs::Report::path_rest))]
+#[tactic(auto, unfolding(crate::specs::Report::path_line_if))]
 pub fn push_path(path: Option<Path>, room: &mut Room)
     requires { length (written_in room.old) ≤ 2 * MOST_LINE }
     ensures { Adds room.old room.new (path_line_if path) }

@@ -1,12 +1,11 @@
 -- How some rings run, by computing.
-use Rattle.std.proofs.Common.{◌≡◌, ℕ, ◌+◌, List, [], ◌∷◌, ◌++◌, true, false, pos, Some, ◌*◌, ◌^◌, refl}
-use Rattle.std.specs.Prelude.{map}
-use Rattle.std.specs.Option.{option_map}
+use Rattle.std.proofs.Common.{◌≡◌, ℕ, ◌+◌, List, [], ◌∷◌, ◌++◌, true, false, pos, ◌*◌, ◌^◌, refl}
+use Rattle.std.specs.Prelude.{map, filter_map}
 use Rattle.gj_number.specs.Bytes.{zero_digit}
 use Rattle.gj_number.specs.Value.{value_of, held_value, within_limits}
 use Rattle.gj_json.specs.Tree.{Tree, number, array, end_of_array, element}
 use Rattle.gj_coords.specs.declared.winding.Turn.TheVariants.{Left, Right, Straight, Unjudged}
-use Rattle.gj_coords.specs.Winding.{cut_position, in_range, area_of, all_corners, ring_turn, exterior_runs_wrong, hole_runs_wrong}
+use Rattle.gj_coords.specs.Winding.{cut_position, in_range, area_of, ring_turn}
 
 abbrev digits_of : List ℕ → List ℕ
 digits_of = map (λ digit. zero_digit + digit)
@@ -36,13 +35,13 @@ square = south_west ∷ south_east ∷ north_east ∷ north_west ∷ south_west 
 abbrev turned : List Tree
 turned = south_west ∷ north_west ∷ north_east ∷ south_east ∷ south_west ∷ []
 
-square_runs : (ring_turn square ≡ Left) × (exterior_runs_wrong square ≡ false) × (hole_runs_wrong square ≡ true)
+square_runs : ring_turn square ≡ Left
 unfolding value_of held_value within_limits
-square_runs = (refl, refl, refl)
+square_runs = refl
 
-turned_runs : (ring_turn turned ≡ Right) × (exterior_runs_wrong turned ≡ true) × (hole_runs_wrong turned ≡ false)
+turned_runs : ring_turn turned ≡ Right
 unfolding value_of held_value within_limits
-turned_runs = (refl, refl, refl)
+turned_runs = refl
 
 -- there and back
 flat_runs : ring_turn (south_west ∷ north_east ∷ south_west ∷ []) ≡ Straight
@@ -59,7 +58,7 @@ unfolding value_of held_value within_limits
 open_runs = refl
 
 -- twice one square degree, on numbers of seven places
-square_area : option_map area_of (all_corners (map cut_position square)) ≡ Some (pos (2 * 10 ^ 14))
+square_area : area_of (filter_map cut_position square) ≡ pos (2 * 10 ^ 14)
 unfolding value_of held_value within_limits
 square_area = refl
 

@@ -18,10 +18,11 @@ use Rattle.gj_coords.specs.Ring.{exact_value}
 use Rattle.gj_coords.specs.Winding.{cut_value}
 use Rattle.gj_coords.specs.Internal.KeptWarnings.{warnings_of, no_warnings, added}
 use Rattle.gj_coords.specs.Internal.WarningLaws.{added_is, warnings_of_none, joined_none_first}
-use Rattle.gj_coords.specs.declared.fault.Rule.TheVariants.{G21}
+use Rattle.gj_coords.specs.declared.fault.Rule.TheVariants.{G20, G21}
 use Rattle.gj_coords.specs.Fault.{fault_at, least}
 use Rattle.gj_coords.specs.Items.{items, elements_of, place_of}
-use Rattle.gj_coords.specs.Box.{box_number, is_wrong_length, bbox_faults}
+use Rattle.gj_coords.specs.Shape.{number_or}
+use Rattle.gj_coords.specs.Box.{is_wrong_length, bbox_faults}
 use Rattle.gj_coords.specs.Internal.SentEvents.{head}
 use Rattle.gj_coords.specs.Internal.ValueMachine.{Answers, IsCountable}
 use Rattle.gj_coords.specs.Internal.Gathering.{gathered, given}
@@ -34,7 +35,7 @@ use Rattle.gj_coords.specs.Internal.LeastLaws.{least_if}
 use Rattle.gj_coords.specs.Internal.ElementCountLaws.{gathered_count, gathered_place, gathered_fault, both_least}
 use Rattle.gj_coords.proofs.Readers.RestsOfValues.{ended_at_end, answer_at_end}
 
-number_least : (v : Tree) → unlike_number (head v).place (head v).what ≡ least (box_number v)
+number_least : (v : Tree) → unlike_number (head v).place (head v).what ≡ least (number_or G20 v)
 number_least (constant Null place) = refl
 number_least (constant True place) = refl
 number_least (constant False place) = refl
@@ -65,12 +66,12 @@ box_least (array place es close) =
     gathered_count box_gathering head (λ g. g.tally) (λ g a. refl) 4 (omega arith) (items es) (box_gathering.opened place) ∙ ap (λ n. nat_lt n 4) (omega arith) in
     let odd : g.odd ≡ (length (items es) % 2 == 1) = gathered_odd (items es) (box_gathering.opened place) 0 refl ∙ ap (λ k. k % 2 == 1) (omega arith) in
     let at : g.tally.place ≡ place = gathered_place box_gathering head (λ g. g.tally) (λ g a. refl) (items es) (box_gathering.opened place) in
-    both_least _ _ (if is_wrong_length (length (items es)) then fault_at place G21 ∷ [] else []) (flat_map box_number (items es))
+    both_least _ _ (if is_wrong_length (length (items es)) then fault_at place G21 ∷ [] else []) (flat_map (number_or G20) (items es))
     (ap (λ b. if b || g.odd then Some (fault_at g.tally.place G21) else None) few ∙
     (ap (λ b. if nat_lt (length (items es)) 4 || b then Some (fault_at g.tally.place G21) else None) odd ∙
     (ap (λ p. if is_wrong_length (length (items es)) then Some (fault_at p G21) else None) at ∙
     least_if (is_wrong_length (length (items es))) (fault_at place G21))))
-    (gathered_fault box_gathering head (λ g. g.fault) (λ e. unlike_number e.place e.what) box_number (λ g a. refl) number_least (items es) (box_gathering.opened place))
+    (gathered_fault box_gathering head (λ g. g.fault) (λ e. unlike_number e.place e.what) (number_or G20) (λ g a. refl) number_least (items es) (box_gathering.opened place))
 
 box_answers : Answers box_machine box_answer
 box_answers = array_answers element_machine box_gathering head element_answers

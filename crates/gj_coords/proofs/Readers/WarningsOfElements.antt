@@ -7,7 +7,7 @@ use Rattle.gj_coords.specs.declared.fault.Fault.{Fault}
 use Rattle.gj_coords.specs.declared.fault.Rule.TheVariants.{G14}
 use Rattle.gj_coords.specs.declared.kind.Kind.TheVariants.{W2}
 use Rattle.gj_coords.specs.declared.ring.RingRole.{RingRole}
-use Rattle.gj_coords.specs.declared.ring.RingRole.TheVariants.{Hole}
+use Rattle.gj_coords.specs.declared.ring.RingRole.TheVariants.{Exterior, Hole}
 use Rattle.gj_coords.specs.declared.warned.Warned.{Warned}
 use Rattle.gj_coords.specs.declared.warnings.Warnings.{Warnings}
 use Rattle.gj_coords.specs.declared.winding.Turn.{Turn}
@@ -16,7 +16,7 @@ use Rattle.gj_coords.specs.Items.{items, elements_of, place_of}
 use Rattle.gj_coords.specs.Shape.{few, is_empty, position, ring, unclosed}
 use Rattle.gj_coords.specs.Winding.{ring_turn}
 use Rattle.gj_coords.specs.Warnings.{Warning}
-use Rattle.gj_coords.specs.CoordinateWarnings.{Concern, warned_if, is_sound, each, position_warnings, exterior_warnings, hole_warnings, rings_warnings}
+use Rattle.gj_coords.specs.CoordinateWarnings.{Concern, warned_if, is_sound, each, position_warnings, rings_warnings}
 use Rattle.gj_coords.specs.Internal.SentEvents.{sent}
 use Rattle.gj_coords.specs.Internal.Gathering.{Gathering, gathered}
 use Rattle.gj_coords.specs.Internal.ElementCount.{one_counted}
@@ -114,12 +114,12 @@ module _ {G A B : Type 0} (r : Gathering G A B) (meaning : Tree → A) (warned :
   gathered_rings counts step [] g start none few = none ∙ sym warnings_of_none
   gathered_rings counts step (v ∷ more) g start none few =
       from_none _ (all_in (warned g)) (rings_warnings (v ∷ more))
-      (joined_step (all_in (warned g)) (warnings_of (exterior_warnings v)) (exterior_warnings v) (flat_map hole_warnings more) _
-      (gathered_warned r meaning warned hole_warnings (λ h. role_behind (count h) ≡ Hole)
+      (joined_step (all_in (warned g)) (warnings_of (ring_warnings Exterior v)) (ring_warnings Exterior v) (flat_map (ring_warnings Hole) more) _
+      (gathered_warned r meaning warned (ring_warnings Hole) (λ h. role_behind (count h) ≡ Hole)
       (λ h a hole. ap role_behind (counts h a) ∙ still_hole (count h) hole)
       (λ h u hole short. step h u short ∙ ap (λ role. joined (all_in (warned h)) (warnings_of (ring_warnings role u))) hole)
       more (r.added g (meaning v)) (ap role_behind (counts g (meaning v) ∙ ap one_counted start)) (omega arith) ∙
-      ap (λ x. joined x (warnings_of (flat_map hole_warnings more)))
+      ap (λ x. joined x (warnings_of (flat_map (ring_warnings Hole) more)))
       (step g v (omega arith) ∙ ap (λ c. joined (all_in (warned g)) (warnings_of (ring_warnings (role_behind c) v))) start))
       refl)
       none

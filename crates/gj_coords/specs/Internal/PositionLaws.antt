@@ -1,5 +1,5 @@
 -- The reader of a position tells its least fault and its first values.
-use Rattle.std.specs.Prelude.{◌≡◌, ℕ, zero, suc, ◌+◌, List, [], ◌∷◌, ◌++◌, Option, Some, None, Bool, true, false, ◌&&◌, refl, map, take, drop, nat_lt}
+use Rattle.std.specs.Prelude.{◌≡◌, ℕ, zero, suc, ◌+◌, List, [], ◌∷◌, ◌++◌, Option, Some, None, Bool, true, false, ◌&&◌, if◌then◌else◌, is_some, refl, map, take, drop, nat_lt}
 use Rattle.std.specs.List.{flat_map}
 use Rattle.std.specs.Option.{option_eq}
 use Rattle.std.specs.Cmp.Lexicographic.{pointwise}
@@ -11,15 +11,15 @@ use Rattle.gj_json.specs.declared.constant.Constant.TheVariants.{Null, True, Fal
 use Rattle.gj_json.specs.declared.event.What.{What}
 use Rattle.gj_json.specs.Tree.{Tree, constant, number, string, array, object}
 use Rattle.gj_coords.specs.declared.fault.Fault.{Fault}
-use Rattle.gj_coords.specs.declared.fault.Rule.TheVariants.{G12}
+use Rattle.gj_coords.specs.declared.fault.Rule.TheVariants.{G11, G12, G16}
 use Rattle.gj_coords.specs.declared.kind_warnings.KindWarnings.{KindWarnings}
 use Rattle.gj_coords.specs.declared.position.Numbers.{Numbers}
 use Rattle.gj_coords.specs.declared.position.Values.{Values}
 use Rattle.gj_coords.specs.declared.tally.Tally.{Tally}
-use Rattle.gj_coords.specs.Fault.{lesser, least}
+use Rattle.gj_coords.specs.Fault.{fault_at, lesser, least}
 use Rattle.gj_coords.specs.Items.{items, elements_of}
 use Rattle.gj_coords.specs.Ring.{exact_value, first_values, agree}
-use Rattle.gj_coords.specs.Shape.{few, unheld, held_number, any_number, position}
+use Rattle.gj_coords.specs.Shape.{few, held_number, number_or, position}
 use Rattle.gj_coords.specs.Internal.SentEvents.{event_at, head}
 use Rattle.gj_coords.specs.Internal.Gathering.{gathered}
 use Rattle.gj_coords.specs.Internal.PositionGather.{no_values, pushed, same_values, number_fault, value_in, numbers_start, number_added, numbers_gathering, position_answer}
@@ -30,9 +30,9 @@ use Rattle.gj_coords.specs.Internal.ElementCountLaws.{gathered_place, few_gather
 
 -- the faults of a position's elements, of which so many are among the first three
 abbrev numbers_faults : ℕ → List Tree → List Fault
-numbers_faults left vs = flat_map held_number (take left vs) ++ flat_map any_number (drop left vs)
+numbers_faults left vs = flat_map held_number (take left vs) ++ flat_map (number_or G11) (drop left vs)
 
-held_least : (place : ℕ) (value : Option Exact) → number_fault true place (What.Number value) ≡ least (unheld place value)
+held_least : (place : ℕ) (value : Option Exact) → number_fault true place (What.Number value) ≡ least (if is_some value then [] else fault_at place G16 ∷ [])
 held_least place (Some value) = refl
 held_least place None = refl
 
@@ -49,7 +49,7 @@ held_number_least (string place content end) = refl
 held_number_least (array place es close) = refl
 held_number_least (object place ms close) = refl
 
-any_number_least : (v : Tree) → number_fault false (head v).place (head v).what ≡ least (any_number v)
+any_number_least : (v : Tree) → number_fault false (head v).place (head v).what ≡ least (number_or G11 v)
 any_number_least (constant Null place) = refl
 any_number_least (constant True place) = refl
 any_number_least (constant False place) = refl
@@ -81,14 +81,14 @@ numbers_fault : (vs : List Tree) (left : ℕ) (s : Numbers) → s.values.count +
 numbers_fault [] zero s h = sym (lesser-none s.fault)
 numbers_fault [] (suc left) s h = sym (lesser-none s.fault)
 numbers_fault (v ∷ more) zero s h =
-    lesser_step s.fault (number_fault (nat_lt s.values.count 3) (head v).place (head v).what) (any_number v) (numbers_faults 0 more) _
+    lesser_step s.fault (number_fault (nat_lt s.values.count 3) (head v).place (head v).what) (number_or G11 v) (numbers_faults 0 more) _
     (numbers_fault more 0 (number_added s (head v)) (ap (λ x. x.count + 0) (pushed_full s.values.count (value_in (head v).what) s.values h) ∙ h))
     (ap (λ b. number_fault b (head v).place (head v).what) (not_among_first s.values.count h) ∙ any_number_least v)
 numbers_fault (v ∷ more) (suc left) s h =
     lesser_step s.fault (number_fault (nat_lt s.values.count 3) (head v).place (head v).what) (held_number v) (numbers_faults left more) _
     (numbers_fault more left (number_added s (head v)) (pushed_count s.values.count left (value_in (head v).what) s.values h))
     (ap (λ b. number_fault b (head v).place (head v).what) (among_first s.values.count left h) ∙ held_number_least v) ∙
-    ap (λ xs. lesser s.fault (least xs)) (sym (append_assoc (held_number v) (flat_map held_number (take left more)) (flat_map any_number (drop left more))))
+    ap (λ xs. lesser s.fault (least xs)) (sym (append_assoc (held_number v) (flat_map held_number (take left more)) (flat_map (number_or G11) (drop left more))))
 
 pub position_fault : (v : Tree) → (position_answer v).fault ≡ least (position v)
 position_fault (constant which place) = refl

@@ -19,7 +19,7 @@ use Rattle.gj_coords.specs.Internal.Findings.{Judgement}
 use Rattle.gj_coords.specs.Internal.Gathering.{Gathering}
 use Rattle.gj_coords.specs.Internal.ElementCount.{tally_at, counted, few_in}
 use Rattle.gj_coords.specs.Internal.GatheredWarnings.{no_warned, noted_when, taken}
-use Rattle.gj_coords.specs.Winding.{wrong_for_exterior, wrong_for_hole}
+use Rattle.gj_coords.specs.Internal.AllCorners.{wrong_for_exterior, wrong_for_hole}
 use Rattle.gj_coords.specs.Internal.WindingGather.{no_winding, winding_added, turn_in}
 use Rattle.gj_coords.specs.Internal.PositionGather.{same_values, misshapen_at, corner_in, sound_noted}
 

@@ -5,7 +5,8 @@ use Rattle.gj_coords.specs.declared.winding.Corner.{Corner}
 use Rattle.gj_coords.specs.declared.winding.Turn.{Turn}
 use Rattle.gj_coords.specs.declared.winding.Turn.TheVariants.{Unjudged}
 use Rattle.gj_coords.specs.declared.winding.Winding.{Winding}
-use Rattle.gj_coords.specs.Winding.{cross, area_of, all_corners, sign_of}
+use Rattle.gj_coords.specs.Winding.{cross, area_of, sign_of}
+use Rattle.gj_coords.specs.Internal.AllCorners.{all_corners}
 
 abbrev pub no_winding : Winding
 no_winding = record { area = pos 0; last = None; unjudged = false }

@@ -1,6 +1,6 @@
 -- What a `Winding` holds of the corners that it was given, and that it turns as the definition says.
-use Rattle.std.specs.Prelude.{IfSome, is_some, ⊤, Bool, ◌&&◌, if◌then◌else◌, map, take, int_le, ◌-ℤ◌, ◌*ℤ◌, neg_ℤ}
-use Rattle.std.specs.List.{list_all}
+use Rattle.std.specs.Prelude.{IfSome, is_some, filter_map, ⊤, Bool, ◌&&◌, if◌then◌else◌, map, take, int_le, ◌-ℤ◌, ◌*ℤ◌, neg_ℤ}
+use Rattle.std.specs.List.{list_all, cons_option}
 use Rattle.std.specs.Int.{int_wrap, w32, w128}
 use Rattle.std.proofs.Common.{◌≡◌, ℕ, ◌+◌, ◌*◌, ◌^◌, ◌<◌, ◌≤◌, List, [], ◌∷◌, ◌++◌, Option, Some, None, true, false, length, ℤ, pos, ◌+ℤ◌, unsigned_abs, FitsSigned, refl, sym, subst, ◌∙◌, ap, append-nil, arith}
 use Rattle.std.proofs.lemmas.Nat.{mul-le}
@@ -9,12 +9,14 @@ use Rattle.std.proofs.lemmas.List.{append_assoc, length-map}
 use Rattle.gj_number.specs.Exact.{Exact, cut_places}
 use Rattle.gj_json.specs.Tree.{Tree}
 use Rattle.gj_coords.specs.declared.winding.Corner.{Corner}
+use Rattle.gj_coords.specs.declared.winding.Turn.TheVariants.{Unjudged}
 use Rattle.gj_coords.specs.declared.winding.Winding.{Winding}
 use Rattle.gj_coords.specs.Internal.PositionGather.{position_answer}
 use Rattle.gj_coords.specs.Items.{elements_of}
 use Rattle.gj_coords.specs.Ring.{exact_value}
 use Rattle.gj_coords.specs.Internal.PositionLaws.{position_values, values_from}
-use Rattle.gj_coords.specs.Winding.{most_longitude, most_latitude, bounded_cut, cut_value, both, corner_of, first_corner, cut_position, in_range, cross, area_from, area_of, with_corner, all_corners, sign_of, turn_of, ring_turn}
+use Rattle.gj_coords.specs.Winding.{most_longitude, most_latitude, bounded_cut, cut_value, both, corner_of, first_corner, cut_position, in_range, cross, area_from, area_of, sign_of, ring_turn}
+use Rattle.gj_coords.specs.Internal.AllCorners.{with_corner, all_corners, turn_of}
 use Rattle.gj_coords.specs.Internal.WindingGather.{no_winding, term_of, corner_added, winding_added, all_added, turn_in, last_from, last_corner, IsSmall, Runs, HasRun, StandsFor}
 
 -- ---- one corner behind the others
@@ -213,19 +215,28 @@ positions_stand (v ∷ more) w before stands =
     (positions_stand more (winding_added w (cut_position v)) (before ++ cut_position v ∷ [])
     (stands-append w before (cut_position v) (position_small v) stands))
 
+-- The corners of positions are all there exactly where all positions are in range, and then they are those that are there.
+corners_in_range : (first : Option Corner) (t : Bool) (corners : List Corner)
+    → with_corner first (if t then Some corners else None) ≡ (if is_some first && t then Some (cons_option first corners) else None)
+corners_in_range (Some first) true corners = refl
+corners_in_range (Some first) false corners = refl
+corners_in_range None true corners = refl
+corners_in_range None false corners = refl
+
+all_of_positions : (positions : List Tree) → all_corners (map cut_position positions) ≡ (if list_all in_range positions then Some (filter_map cut_position positions) else None)
+all_of_positions [] = refl
+all_of_positions (v ∷ more) = ap (with_corner (cut_position v)) (all_of_positions more) ∙ corners_in_range (cut_position v) (list_all in_range more) (filter_map cut_position more)
+
+turn_if : (t : Bool) (corners : List Corner) → turn_of (if t then Some corners else None) ≡ (if t then sign_of (area_of corners) else Unjudged)
+turn_if true corners = refl
+turn_if false corners = refl
+
+turn_of_positions : (positions : List Tree) → turn_of (all_corners (map cut_position positions)) ≡ ring_turn positions
+turn_of_positions positions = ap turn_of (all_of_positions positions) ∙ turn_if (list_all in_range positions) (filter_map cut_position positions)
+
 -- The positions of a linear ring, added in turn, run as the definition says.
 pub positions_turn : (positions : List Tree) → length positions < 2 ^ 64 → turn_in (all_added no_winding (map cut_position positions)) ≡ ring_turn positions
 positions_turn positions few =
     stands_turn (all_added no_winding (map cut_position positions)) (map cut_position positions) (positions_stand positions no_winding [] none_stands)
     (rw (length-map positions cut_position) few)
-
-one_in_range : (first : Option Corner) (corners : Option (List Corner)) → is_some (with_corner first corners) ≡ (is_some first && is_some corners)
-one_in_range (Some first) (Some corners) = refl
-one_in_range (Some first) None = refl
-one_in_range None (Some corners) = refl
-one_in_range None None = refl
-
--- The corners are all there exactly where all positions are in range.
-pub all_in_range : (positions : List Tree) → is_some (all_corners (map cut_position positions)) ≡ list_all in_range positions
-all_in_range [] = refl
-all_in_range (v ∷ more) = one_in_range (cut_position v) (all_corners (map cut_position more)) ∙ ap (λ b. in_range v && b) (all_in_range more)
+    ∙ turn_of_positions positions

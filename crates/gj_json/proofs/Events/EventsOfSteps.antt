@@ -1,14 +1,14 @@
 -- Which events a step of the machine completes.
 use Rattle.std.proofs.Common.{◌≤◌, ◌≡◌, ℕ, suc, ◌+◌, ◌==◌, ◌<◌, Bool, true, false, if◌then◌else◌, List, [], ◌∷◌, ◌++◌, length, drop, Option, Some, None, refl, sym, ap, subst, ◌∙◌, arith, append_assoc, eq-eqb, get_or, length-append, length-drop, drop-cons}
 use Rattle.std.proofs.lemmas.Bool.Decides.{nat_tests}
-use Rattle.gj_json.specs.Bytes.{mark_first, mark_second, mark_third}
+use Rattle.gj_json.specs.Internal.NamedBytes.{mark_first, mark_second, mark_third}
 use Rattle.gj_json.specs.declared.class.Class.{Class}
 use Rattle.gj_json.specs.declared.class.Class.TheVariants.{White, OpenArray, CloseArray, OpenObject, CloseObject, Comma, Colon, Quote, NumberStart, Letter, Other}
 use Rattle.gj_json.specs.declared.constant.Constant.{Constant}
 use Rattle.gj_json.specs.declared.constant.Constant.TheVariants.{Null, True, False}
 use Rattle.gj_number.specs.Exact.{Exact}
 use Rattle.gj_number.specs.Value.{value_of}
-use Rattle.gj_json.specs.Names.{Words, words_of}
+use Rattle.gj_json.specs.Internal.ContentWords.{Words, words_of}
 use Rattle.gj_number.specs.DecidedNumbers.{is_number, begins_number}
 use Rattle.gj_json.specs.Internal.UnderWay.{under_leaf, under_of, Turns, HasValue, HasWords}
 use Rattle.gj_json.specs.declared.mode.StringState.{StringState}

@@ -6,7 +6,9 @@ use Rattle.gj_json.specs.declared.mode.Bounds.{Bounds}
 use Rattle.gj_json.specs.declared.mode.Bounds.TheVariants.{Any}
 use Rattle.gj_json.specs.declared.mode.StringState.{StringState}
 use Rattle.gj_json.specs.declared.mode.StringState.TheVariants.{Plain as plain, Escape as escape, HexDue as hex_due, HexOne as hex_one, HexTwo as hex_two, HexThree as hex_three, InCharacter as in_character}
-use Rattle.gj_json.specs.Characters.{escape_of, hex_of, low_of, high_of, IsTail, SpellsCharacter, SpellsContent}
+use Rattle.gj_json.specs.Characters.{escape_of, hex_of, SpellsCharacter, SpellsContent}
+use Rattle.gj_json.specs.Utf8Bytes.{low_of, high_of}
+use Rattle.gj_json.proofs.Grammar.Utf8Tables.{IsTail, of_bytes}
 use Rattle.gj_json.specs.Broken.{BeginsTail, BeginsCharacter}
 use Rattle.gj_json.specs.Internal.TextMachine.{StringStep, string_ends, string_goes, string_refuses, string_next, plain_step, escape_step, hex_step, hex_end, tail_step, within}
 use Rattle.gj_json.proofs.Machine.Completions.{StringRest}
@@ -56,13 +58,13 @@ pub begun : (bytes : List ℕ) (state : StringState) (b : ℕ) → BeginsCharact
 begun bytes plain b h = rw h (begun_plain b (plain_step b) (said_plain b))
 begun bytes escape b h = rw h (first (b == letter_u) refl)
   where
-    second : (b ≢ letter_u) → (o : Option ℕ) → escape_of b ≡ o → Begun (backslash ∷ []) b (escape_step o)
-    second d (Some c) e = (refl, inr (inl (b, refl, d, e)))
-    second d None e = tt
+    second : (o : Option ℕ) → escape_of b ≡ o → Begun (backslash ∷ []) b (escape_step o)
+    second (Some c) e = (refl, inr (inl (b, refl, e)))
+    second None e = tt
 
     first : (t : Bool) → (b == letter_u) ≡ t → Begun (backslash ∷ []) b (if t then string_goes [] hex_due else escape_step (escape_of b))
     first true e = let f : b ≡ letter_u = grind (arith, nat_tests) in rw f refl
-    first false e = second (grind (arith, nat_tests)) (escape_of b) refl
+    first false e = second (escape_of b) refl
 begun bytes hex_due b h = rw h (go (hex_of b) refl)
   where
     go : (o : Option ℕ) → hex_of b ≡ o → Begun (backslash ∷ letter_u ∷ []) b (hex_step (λ d. string_goes [] (hex_one d)) o)
@@ -88,7 +90,7 @@ begun bytes (in_character more bounds value) b h = go (within bounds b) refl
     inner : low_of bounds ≤ b → b ≤ high_of bounds → (k : ℕ) → more ≡ k → Begun bytes b (tail_step k (value * 64 + b % 64))
     inner l u zero e =
         let t : BeginsTail h.2.more h.2.bounds h.2.value (in_character zero bounds value) h.1 = rw e at h.5 in
-        (refl, inr (inr (inr (h.0, h.1 ++ b ∷ [], h.2, ap (λ xs. xs ++ b ∷ []) h.3, h.4, tail_ends h.2.more h.2.bounds bounds h.2.value value b h.1 t l u))))
+        (refl, inr (inr (inr (of_bytes (value * 64 + b % 64) (bytes ++ b ∷ []) (h.0, h.1 ++ b ∷ [], h.2, ap (λ xs. xs ++ b ∷ []) h.3, h.4, tail_ends h.2.more h.2.bounds bounds h.2.value value b h.1 t l u)))))
     inner l u (suc k) e =
         let t : BeginsTail h.2.more h.2.bounds h.2.value (in_character (suc k) bounds value) h.1 = rw e at h.5 in
         (h.0, h.1 ++ b ∷ [], h.2, ap (λ xs. xs ++ b ∷ []) h.3, h.4, tail_goes h.2.more h.2.bounds bounds h.2.value value k b h.1 t l u)

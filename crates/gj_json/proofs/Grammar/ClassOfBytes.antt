@@ -1,7 +1,8 @@
 -- Which class of bytes a byte is of.
 use Rattle.std.proofs.Common.{◌≡◌, ℕ, ◌==◌, ◌⊎◌, inl, inr, Bool, true, false, if◌then◌else◌, ◌&&◌, [], ◌∷◌, refl, arith, nat_le}
 use Rattle.std.proofs.lemmas.Bool.Decides.{nat_tests, eqb_tells}
-use Rattle.gj_json.specs.Bytes.{carriage_return, close_brace, close_bracket, colon as colon_byte, comma as comma_byte, letter_f, letter_n, letter_t, line_feed, minus_sign, nine_digit, open_brace, open_bracket, quote as quote_byte, space, tab, zero_digit as zero_byte}
+use Rattle.gj_json.specs.Bytes.{carriage_return, close_brace, close_bracket, colon as colon_byte, comma as comma_byte, line_feed, minus_sign, nine_digit, open_brace, open_bracket, quote as quote_byte, space, tab, zero_digit as zero_byte}
+use Rattle.gj_json.specs.Internal.NamedBytes.{letter_f, letter_n, letter_t}
 use Rattle.gj_json.specs.Bytes.{IsDigit}
 use Rattle.gj_number.specs.Bytes.{IsNumberByte, plus_sign, decimal_point, lower_e, upper_e}
 use Rattle.gj_number.specs.Grammar.{BeginsNumber}

@@ -1,7 +1,8 @@
 -- A byte of a string ends one character at the most.
 use Rattle.std.proofs.Common.{◌≡◌, ℕ, zero, suc, ◌+◌, ◌*◌, ◌%◌, ◌==◌, ◌&&◌, nat_le, Bool, true, false, if◌then◌else◌, [], ◌∷◌, Option, Some, None, refl}
 use Rattle.gj_json.specs.Bytes.{space, quote, backslash, letter_u}
-use Rattle.gj_json.specs.Characters.{escape_of, hex_of, Lead, lead_of}
+use Rattle.gj_json.specs.Characters.{escape_of, hex_of}
+use Rattle.gj_json.specs.Utf8Bytes.{Lead, lead_of}
 use Rattle.gj_json.specs.declared.mode.StringState.{StringState}
 use Rattle.gj_json.specs.declared.mode.StringState.TheVariants.{Plain, Escape, HexDue, HexOne, HexTwo, HexThree, InCharacter}
 use Rattle.gj_json.specs.declared.mode.StringMove.TheVariants.{Goes, Reads}

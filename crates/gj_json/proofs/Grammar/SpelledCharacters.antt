@@ -9,7 +9,8 @@ use Rattle.gj_json.specs.Internal.QuietBytes.{is_plain}
 use Rattle.gj_json.specs.Internal.WholeTokens.{IsCharacter, AreCharacters}
 use Rattle.gj_json.proofs.Pieces.QuietModes
 use Rattle.gj_json.proofs.Grammar.SpelledTexts.{content_on}
-use Rattle.gj_json.proofs.Grammar.Utf8Characters.{as_read, lead_two, lead_e0, lead_low, lead_ed, lead_high, lead_f0, lead_four, lead_f4}
+use Rattle.gj_json.proofs.Grammar.Utf8Characters.{as_read}
+use Rattle.gj_json.proofs.Grammar.Utf8Tables.{IsWide, of_bytes, lead_two, lead_e0, lead_low, lead_ed, lead_high, lead_f0, lead_four, lead_f4}
 
 -- ---- the first bytes of a piece
 
@@ -42,27 +43,30 @@ take_six (a ∷ b ∷ c ∷ d ∷ e ∷ f ∷ xs) h = refl
 
 -- ---- in UTF-8
 
+wide : (c : ℕ) (bytes : List ℕ) → IsWide c bytes → IsCharacter bytes
+wide c bytes h = (c, inr (inr (inr (of_bytes c bytes h))))
+
 pub two : (a b : ℕ) → 0xC2 ≤ a → a ≤ 0xDF → 0x80 ≤ b → b ≤ 0xBF → IsCharacter (a ∷ b ∷ [])
-two a b l u p q = ((a - 0xC0) * 64 + b % 64, inr (inr (inr (a, b ∷ [], _, refl, lead_two a (omega arith) u, (b, refl, p, q, refl)))))
+two a b l u p q = wide ((a - 0xC0) * 64 + b % 64) (a ∷ b ∷ []) (a, b ∷ [], _, refl, lead_two a (omega arith) u, (b, refl, p, q, refl))
 
 pub three : (a b c : ℕ) → 0xE0 ≤ a → a ≤ 0xEF → 0x80 ≤ b → b ≤ 0xBF → 0x80 ≤ c → c ≤ 0xBF → (a ≡ 0xE0 → 0xA0 ≤ b) → (a ≡ 0xED → b ≤ 0x9F) → IsCharacter (a ∷ b ∷ c ∷ [])
 three a b c l u p q r s f g = elim (cases_eq a 0xE0) [
-  | inl e ↦ ((0 * 64 + b % 64) * 64 + c % 64, inr (inr (inr (a, b ∷ c ∷ [], _, refl, lead_e0 a e, (b, c ∷ [], refl, f e, q, (c, refl, r, s, refl))))))
+  | inl e ↦ wide ((0 * 64 + b % 64) * 64 + c % 64) (a ∷ b ∷ c ∷ []) (a, b ∷ c ∷ [], _, refl, lead_e0 a e, (b, c ∷ [], refl, f e, q, (c, refl, r, s, refl)))
   | inr m ↦ elim (cases_lt a 0xED) [
-    | inl v ↦ (((a - 0xE0) * 64 + b % 64) * 64 + c % 64, inr (inr (inr (a, b ∷ c ∷ [], _, refl, lead_low a (omega arith) (omega arith), (b, c ∷ [], refl, p, q, (c, refl, r, s, refl))))))
+    | inl v ↦ wide (((a - 0xE0) * 64 + b % 64) * 64 + c % 64) (a ∷ b ∷ c ∷ []) (a, b ∷ c ∷ [], _, refl, lead_low a (omega arith) (omega arith), (b, c ∷ [], refl, p, q, (c, refl, r, s, refl)))
     | inr v ↦ elim (cases_eq a 0xED) [
-      | inl e ↦ ((13 * 64 + b % 64) * 64 + c % 64, inr (inr (inr (a, b ∷ c ∷ [], _, refl, lead_ed a e, (b, c ∷ [], refl, p, g e, (c, refl, r, s, refl))))))
-      | inr n ↦ (((a - 0xE0) * 64 + b % 64) * 64 + c % 64, inr (inr (inr (a, b ∷ c ∷ [], _, refl, lead_high a (omega arith) u, (b, c ∷ [], refl, p, q, (c, refl, r, s, refl))))))
+      | inl e ↦ wide ((13 * 64 + b % 64) * 64 + c % 64) (a ∷ b ∷ c ∷ []) (a, b ∷ c ∷ [], _, refl, lead_ed a e, (b, c ∷ [], refl, p, g e, (c, refl, r, s, refl)))
+      | inr n ↦ wide (((a - 0xE0) * 64 + b % 64) * 64 + c % 64) (a ∷ b ∷ c ∷ []) (a, b ∷ c ∷ [], _, refl, lead_high a (omega arith) u, (b, c ∷ [], refl, p, q, (c, refl, r, s, refl)))
     ]
   ]
 ]
 
 four : (a b c d : ℕ) → 0xF0 ≤ a → a ≤ 0xF4 → 0x80 ≤ b → b ≤ 0xBF → 0x80 ≤ c → c ≤ 0xBF → 0x80 ≤ d → d ≤ 0xBF → (a ≡ 0xF0 → 0x90 ≤ b) → (a ≡ 0xF4 → b ≤ 0x8F) → IsCharacter (a ∷ b ∷ c ∷ d ∷ [])
 four a b c d l u p q r s v w f g = elim (cases_eq a 0xF0) [
-  | inl e ↦ (((0 * 64 + b % 64) * 64 + c % 64) * 64 + d % 64, inr (inr (inr (a, b ∷ c ∷ d ∷ [], _, refl, lead_f0 a e, (b, c ∷ d ∷ [], refl, f e, q, (c, d ∷ [], refl, r, s, (d, refl, v, w, refl)))))))
+  | inl e ↦ wide (((0 * 64 + b % 64) * 64 + c % 64) * 64 + d % 64) (a ∷ b ∷ c ∷ d ∷ []) (a, b ∷ c ∷ d ∷ [], _, refl, lead_f0 a e, (b, c ∷ d ∷ [], refl, f e, q, (c, d ∷ [], refl, r, s, (d, refl, v, w, refl))))
   | inr m ↦ elim (cases_eq a 0xF4) [
-    | inl e ↦ (((4 * 64 + b % 64) * 64 + c % 64) * 64 + d % 64, inr (inr (inr (a, b ∷ c ∷ d ∷ [], _, refl, lead_f4 a e, (b, c ∷ d ∷ [], refl, p, g e, (c, d ∷ [], refl, r, s, (d, refl, v, w, refl)))))))
-    | inr n ↦ ((((a - 0xF0) * 64 + b % 64) * 64 + c % 64) * 64 + d % 64, inr (inr (inr (a, b ∷ c ∷ d ∷ [], _, refl, lead_four a (omega arith) (omega arith), (b, c ∷ d ∷ [], refl, p, q, (c, d ∷ [], refl, r, s, (d, refl, v, w, refl)))))))
+    | inl e ↦ wide (((4 * 64 + b % 64) * 64 + c % 64) * 64 + d % 64) (a ∷ b ∷ c ∷ d ∷ []) (a, b ∷ c ∷ d ∷ [], _, refl, lead_f4 a e, (b, c ∷ d ∷ [], refl, p, g e, (c, d ∷ [], refl, r, s, (d, refl, v, w, refl))))
+    | inr n ↦ wide ((((a - 0xF0) * 64 + b % 64) * 64 + c % 64) * 64 + d % 64) (a ∷ b ∷ c ∷ d ∷ []) (a, b ∷ c ∷ d ∷ [], _, refl, lead_four a (omega arith) (omega arith), (b, c ∷ d ∷ [], refl, p, q, (c, d ∷ [], refl, r, s, (d, refl, v, w, refl))))
   ]
 ]
 
@@ -79,15 +83,15 @@ four_taken xs n l u p q r s v w f g = let P : List ℕ → Type 0 = λ ys. IsCha
 
 -- ---- and escaped
 
-short_is : (e : ℕ) → e ≢ letter_u → (o : Option ℕ) → escape_of e ≡ o → is_some o ≡ true → IsCharacter (backslash ∷ e ∷ [])
-short_is e n None h s = cc
-short_is e n (Some c) h s = (c, inr (inl (e, refl, n, h)))
+short_is : (e : ℕ) → (o : Option ℕ) → escape_of e ≡ o → is_some o ≡ true → IsCharacter (backslash ∷ e ∷ [])
+short_is e None h s = cc
+short_is e (Some c) h s = (c, inr (inl (e, refl, h)))
 
 pub short_taken : (xs : List ℕ) → 2 ≤ length xs → get_or xs 0 0 ≡ backslash → get_or xs 1 0 ≢ letter_u → is_some (escape_of (get_or xs 1 0)) ≡ true → IsCharacter (take 2 xs)
 short_taken xs n b u s =
     let P : List ℕ → Type 0 = λ ys. IsCharacter ys in
     let Q : ℕ → Type 0 = λ x. IsCharacter (x ∷ get_or xs 1 0 ∷ []) in
-    subst P (sym (take_two xs n)) (subst Q (sym b) (short_is _ u _ refl s))
+    subst P (sym (take_two xs n)) (subst Q (sym b) (short_is _ _ refl s))
 
 hex_some : (b : ℕ) (o : Option ℕ) → hex_of b ≡ o → is_some o ≡ true → (d : ℕ) × (hex_of b ≡ Some d)
 hex_some b None e h = cc

@@ -10,7 +10,8 @@ use Rattle.gj_json.specs.declared.flat.Numbered.{Numbered}
 use Rattle.gj_json.specs.Tree.{number, Elements, end_of_array, element}
 use Rattle.gj_json.specs.Grammar.{Then, White, Spells}
 use Rattle.gj_json.specs.Events.{elements_events}
-use Rattle.gj_json.specs.Flat.{number_event, SpellsNumbers}
+use Rattle.gj_json.specs.Flat.{number_event}
+use Rattle.gj_json.specs.Internal.SpelledNumbers.{SpellsNumbers}
 use Rattle.gj_json.specs.Internal.FlatParts.{cut, IsValued, IsItem, IsMore}
 use Rattle.gj_json.proofs.Pieces.PieceCuts.{cut_joins, cut_length, cut_byte}
 use Rattle.gj_json.proofs.Grammar.SpelledForms.{joins, byte_more, left3}

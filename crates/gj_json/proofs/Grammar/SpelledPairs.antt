@@ -6,7 +6,7 @@ use Rattle.gj_number.specs.Short.{StartsWithNumber, StartsWithPair, exact_of}
 use Rattle.gj_number.specs.declared.short.Short.{Short}
 use Rattle.gj_json.specs.Bytes.{open_bracket, comma, space, IsWhite}
 use Rattle.gj_json.specs.declared.flat.Numbered.{Numbered}
-use Rattle.gj_json.specs.Flat.{SpellsNumbers}
+use Rattle.gj_json.specs.Internal.SpelledNumbers.{SpellsNumbers}
 use Rattle.gj_json.specs.Internal.FlatParts.{cut, IsValued, IsItem}
 use Rattle.gj_json.proofs.Pieces.PieceCuts.{cut_byte}
 use Rattle.gj_json.proofs.Grammar.SpelledFlats.{item_cut, end_cut, more_cut, flat_cut}

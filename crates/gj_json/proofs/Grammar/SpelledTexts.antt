@@ -5,7 +5,9 @@ use Rattle.gj_json.specs.Bytes.{backslash, letter_u, quote as quote_byte, space}
 use Rattle.gj_json.specs.declared.mode.Bounds.{Bounds}
 use Rattle.gj_json.specs.declared.mode.Bounds.TheVariants.{Any, AfterE0, AfterED, AfterF0, AfterF4}
 use Rattle.gj_json.specs.Grammar.{Then, Exactly, Ends}
-use Rattle.gj_json.specs.Characters.{IsPlain, IsUnicode, SpellsContent, SpellsCharacter, escape_of, hex_of, Lead, lead, lead_of, IsTail, IsUtf8, low_of, high_of}
+use Rattle.gj_json.specs.Characters.{IsPlain, IsUnicode, SpellsContent, SpellsCharacter, escape_of, hex_of}
+use Rattle.gj_json.specs.Utf8Bytes.{Lead, lead, lead_of, low_of, high_of}
+use Rattle.gj_json.proofs.Grammar.Utf8Tables.{IsTail, IsWide, of_bytes, by_bytes}
 use Rattle.gj_json.proofs.Grammar.SpelledForms
 use Rattle.gj_json.specs.declared.mode.StringState.{StringState}
 use Rattle.gj_json.specs.declared.mode.StringState.TheVariants.{Plain as plain, Escape as escape, HexDue as hex_due, HexOne as hex_one, HexTwo as hex_two, HexThree as hex_three, InCharacter as in_character}
@@ -77,7 +79,7 @@ led_plain b (string_goes more next) h = elim h [
   | inl g ↦ rw (g.1, g.2) (refl, inl (g.0, refl))
   | inr k ↦ elim k [
     | inl g ↦ rw (g.1, g.2, g.0) refl
-    | inr g ↦ rw (g.2, g.3) (λ c tail t. inr (inr (inr (b, tail, g.0, refl, g.1, t))))
+    | inr g ↦ rw (g.2, g.3) (λ c tail t. inr (inr (inr (of_bytes c (b ∷ tail) (b, tail, g.0, refl, g.1, t)))))
   ]
 ]
 led_plain b string_refuses h = tt
@@ -86,13 +88,13 @@ led : (bytes : List ℕ) (state : StringState) (b : ℕ) → Leads bytes state �
 led bytes plain b h = rw h (led_plain b (plain_step b) (said_plain b))
 led bytes escape b h = rw h (first (b == letter_u) refl)
   where
-    second : (b ≢ letter_u) → (o : Option ℕ) → escape_of b ≡ o → Led (backslash ∷ []) b (escape_step o)
-    second d (Some c) e = (refl, inr (inl (b, refl, d, e)))
-    second d None e = tt
+    second : (o : Option ℕ) → escape_of b ≡ o → Led (backslash ∷ []) b (escape_step o)
+    second (Some c) e = (refl, inr (inl (b, refl, e)))
+    second None e = tt
 
     first : (t : Bool) → (b == letter_u) ≡ t → Led (backslash ∷ []) b (if t then string_goes [] hex_due else escape_step (escape_of b))
     first true e = let f : b ≡ letter_u = grind (arith, nat_tests) in rw f refl
-    first false e = second (grind (arith, nat_tests)) (escape_of b) refl
+    first false e = second (escape_of b) refl
 led bytes hex_due b h = rw h (go (hex_of b) refl)
   where
     go : (o : Option ℕ) → hex_of b ≡ o → Led (backslash ∷ letter_u ∷ []) b (hex_step (λ d. string_goes [] (hex_one d)) o)
@@ -147,8 +149,13 @@ pub backslash_on : plain_step backslash ≡ string_goes [] escape
 unfolding plain_step
 backslash_on = refl
 
-escape_on : (e c : ℕ) → e ≢ letter_u → escape_of e ≡ Some c → string_next escape e ≡ string_goes (c ∷ []) plain
-escape_on e c d h = let f : (e == letter_u) ≡ false = grind (arith, nat_tests) in rw (f, h) refl
+-- no short escape is that of a number
+never_u : (e c : ℕ) → escape_of e ≡ Some c → e ≢ letter_u
+unfolding escape_of
+never_u e c h = λ k. let f : escape_of letter_u ≡ Some c = rw k at h in cc
+
+escape_on : (e c : ℕ) → escape_of e ≡ Some c → string_next escape e ≡ string_goes (c ∷ []) plain
+escape_on e c h = let d : e ≢ letter_u = never_u e c h in let f : (e == letter_u) ≡ false = grind (arith, nat_tests) in rw (f, h) refl
 
 unicode_on : (c : ℕ) (first rest content : List ℕ) → IsUnicode c first → StringRest plain content rest → StringRest plain (c ∷ content) (first ++ rest)
 unicode_on c first rest content (b0, b1, b2, b3, d0, d1, d2, d3, e, h0, h1, h2, h3, v) r =
@@ -214,18 +221,18 @@ tail_on (suc more) bounds value c bytes rest content h r =
     let e : within bounds h.0 ≡ true = (let p : low_of bounds ≤ h.0 = h.3 in let q : h.0 ≤ high_of bounds = h.4 in grind (arith, nat_tests)) in
     rw (h.2) ([], in_character more Any (value * 64 + h.0 % 64), c ∷ content, rw e refl, refl, tail_on more Any (value * 64 + h.0 % 64) c h.1 rest content h.5 r)
 
-utf8_on : (c : ℕ) (first rest content : List ℕ) → IsUtf8 c first → StringRest plain content rest → StringRest plain (c ∷ content) (first ++ rest)
-utf8_on c first rest content h r =
+wide_on : (c : ℕ) (first rest content : List ℕ) → IsWide c first → StringRest plain content rest → StringRest plain (c ∷ content) (first ++ rest)
+wide_on c first rest content h r =
     rw (h.3) ([], in_character h.2.more h.2.bounds h.2.value, c ∷ content, lead_on h.0 h.2 h.4, refl, tail_on h.2.more h.2.bounds h.2.value c h.1 rest content h.5 r)
 
 character_on : (c : ℕ) (first rest content : List ℕ) → SpellsCharacter c first → StringRest plain content rest → StringRest plain (c ∷ content) (first ++ rest)
 character_on c first rest content h r = elim h [
   | inl g ↦ rw (g.1) (c ∷ [], plain, content, plain_on c g.0, refl, r)
   | inr k ↦ elim k [
-    | inl g ↦ rw (g.1) ([], escape, c ∷ content, backslash_on, refl, (c ∷ [], plain, content, escape_on g.0 c g.2 g.3, refl, r))
+    | inl g ↦ rw (g.1) ([], escape, c ∷ content, backslash_on, refl, (c ∷ [], plain, content, escape_on g.0 c g.2, refl, r))
     | inr j ↦ elim j [
       | inl g ↦ unicode_on c first rest content g r
-      | inr g ↦ utf8_on c first rest content g r
+      | inr g ↦ wide_on c first rest content (by_bytes c first g) r
     ]
   ]
 ]

@@ -11,9 +11,8 @@ use Rattle.gj_json.proofs.Pieces.PieceRests.{take_all_of}
 use Rattle.std.proofs.Math.Numerals.{one-add}
 use Rattle.std.proofs.lemmas.List.{length-append, take-take}
 use Rattle.std.proofs.lemmas.List.Sums.{prefix_len-le-length}
-use lib.Utf8.{scalar, scalars, encode, encodes, next, scalar_cases}
-use Rattle.gj_json.specs.Characters.{IsPlain, SpellsCharacter, SpellsContent, IsUtf8 as SpellsUtf8, lead, lead_of}
-use Rattle.gj_json.specs.declared.mode.Bounds.TheVariants.{Any, AfterE0, AfterED, AfterF0, AfterF4}
+use lib.Utf8.{scalar, scalars, encode, encodes}
+use Rattle.gj_json.specs.Characters.{IsPlain, SpellsCharacter, SpellsContent}
 use Rattle.gj_json.specs.declared.mode.StringState.{StringState}
 use Rattle.gj_json.specs.declared.mode.StringState.TheVariants.{Plain}
 use Rattle.gj_json.specs.Internal.QuietBytes.{Reads}
@@ -21,102 +20,13 @@ use Rattle.gj_json.specs.Runs.{is_unescaped, plain_run_of, IsLongestUtf8}
 use Rattle.gj_json.proofs.Pieces.QuietModes.{all_run}
 use Rattle.gj_json.proofs.Machine.Completions.{StringRest}
 use Rattle.gj_json.proofs.Grammar.SpelledTexts.{content_on}
+use Rattle.gj_json.proofs.Grammar.Utf8Tables.{encode_one, encode_two, encode_three, encode_four}
 
 -- a byte of an unescaped character
 abbrev pub IsUnescaped : ℕ → Type 0
 IsUnescaped b = is_unescaped b ≡ true
 
-le_yes : (a b : ℕ) → a ≤ b → nat_le a b ≡ true
-le_yes a b h = grind (arith, nat_tests)
-
-le_no : (a b : ℕ) → b < a → nat_le a b ≡ false
-le_no a b h = grind (arith, nat_tests)
-
-lt_yes : (a b : ℕ) → a < b → ltb a b ≡ true
-lt_yes a b h = grind (arith, nat_tests)
-
-lt_no : (a b : ℕ) → b ≤ a → ltb a b ≡ false
-lt_no a b h = grind (arith, nat_tests)
-
--- ---- the first byte of a character
-
-pub lead_two : (b : ℕ) → 0xC1 < b → b ≤ 0xDF → lead_of b ≡ lead 0 Any (b - 0xC0)
-unfolding lead_of
-lead_two b l u = rw (le_no b 0xC1 l, le_yes b 0xDF u) refl
-
-pub lead_e0 : (b : ℕ) → b ≡ 0xE0 → lead_of b ≡ lead 1 AfterE0 0
-unfolding lead_of
-lead_e0 b e = rw e refl
-
-eq_no : (a b : ℕ) → (a ≡ b → ⊥) → (a == b) ≡ false
-eq_no a b h = grind (arith, nat_tests)
-
-pub lead_low : (b : ℕ) → 0xE0 < b → b ≤ 0xEC → lead_of b ≡ lead 1 Any (b - 0xE0)
-unfolding lead_of
-lead_low b l u = rw (le_no b 0xC1 (omega arith), le_no b 0xDF (omega arith), eq_no b 0xE0 (λ e. omega arith), le_yes b 0xEC u) refl
-
-pub lead_ed : (b : ℕ) → b ≡ 0xED → lead_of b ≡ lead 1 AfterED 13
-unfolding lead_of
-lead_ed b e = rw e refl
-
-pub lead_high : (b : ℕ) → 0xED < b → b ≤ 0xEF → lead_of b ≡ lead 1 Any (b - 0xE0)
-unfolding lead_of
-lead_high b l u = rw (le_no b 0xC1 (omega arith), le_no b 0xDF (omega arith), eq_no b 0xE0 (λ e. omega arith), le_no b 0xEC (omega arith), eq_no b 0xED (λ e. omega arith), le_yes b 0xEF u) refl
-
-pub lead_f0 : (b : ℕ) → b ≡ 0xF0 → lead_of b ≡ lead 2 AfterF0 0
-unfolding lead_of
-lead_f0 b e = rw e refl
-
-pub lead_four : (b : ℕ) → 0xF0 < b → b ≤ 0xF3 → lead_of b ≡ lead 2 Any (b - 0xF0)
-unfolding lead_of
-lead_four b l u =
-    rw (le_no b 0xC1 (omega arith), le_no b 0xDF (omega arith), eq_no b 0xE0 (λ e. omega arith), le_no b 0xEC (omega arith), eq_no b 0xED (λ e. omega arith), le_no b 0xEF (omega arith), eq_no b 0xF0 (λ e. omega arith), le_yes b 0xF3 u) refl
-
-pub lead_f4 : (b : ℕ) → b ≡ 0xF4 → lead_of b ≡ lead 2 AfterF4 4
-unfolding lead_of
-lead_f4 b e = rw e refl
-
 -- ---- a character
-
-encode_one : (c : ℕ) → c < 128 → encode c ≡ c ∷ []
-unfolding encode
-encode_one c u = rw (lt_yes c 128 u) refl
-
-encode_two : (c : ℕ) → 128 ≤ c → c < 2048 → encode c ≡ (192 + c / 64) ∷ next c ∷ []
-unfolding encode
-encode_two c l u = rw (lt_no c 128 l, lt_yes c 2048 u) refl
-
-encode_three : (c : ℕ) → 2048 ≤ c → c < 65536 → encode c ≡ (224 + c / 4096) ∷ next (c / 64) ∷ next c ∷ []
-unfolding encode
-encode_three c l u = rw (lt_no c 128 (omega arith), lt_no c 2048 l, lt_yes c 65536 u) refl
-
-encode_four : (c : ℕ) → 65536 ≤ c → encode c ≡ (240 + c / 262144) ∷ next (c / 4096) ∷ next (c / 64) ∷ next c ∷ []
-unfolding encode
-encode_four c l = rw (lt_no c 128 (omega arith), lt_no c 2048 (omega arith), lt_no c 65536 l) refl
-
-two : (c : ℕ) → 128 ≤ c → c < 2048 → SpellsUtf8 c ((192 + c / 64) ∷ next c ∷ [])
-two c l u = (192 + c / 64, next c ∷ [], _, refl, lead_two (192 + c / 64) (omega arith) (omega arith), (next c, refl, omega arith, omega arith, omega arith))
-
-three : (c : ℕ) → 2048 ≤ c → c < 65536 → ((c < 55296) ⊎ (57344 ≤ c)) → SpellsUtf8 c ((224 + c / 4096) ∷ next (c / 64) ∷ next c ∷ [])
-three c l u s = elim (cases_lt c 4096) [
-  | inl a ↦ (224 + c / 4096, next (c / 64) ∷ next c ∷ [], _, refl, lead_e0 (224 + c / 4096) (omega arith), (next (c / 64), next c ∷ [], refl, omega arith, omega arith, (next c, refl, omega arith, omega arith, omega arith)))
-  | inr b ↦ elim (cases_lt c 53248) [
-    | inl a ↦ (224 + c / 4096, next (c / 64) ∷ next c ∷ [], _, refl, lead_low (224 + c / 4096) (omega arith) (omega arith), (next (c / 64), next c ∷ [], refl, omega arith, omega arith, (next c, refl, omega arith, omega arith, omega arith)))
-    | inr d ↦ elim s [
-      | inl a ↦ (224 + c / 4096, next (c / 64) ∷ next c ∷ [], _, refl, lead_ed (224 + c / 4096) (omega arith), (next (c / 64), next c ∷ [], refl, omega arith, omega arith, (next c, refl, omega arith, omega arith, omega arith)))
-      | inr a ↦ (224 + c / 4096, next (c / 64) ∷ next c ∷ [], _, refl, lead_high (224 + c / 4096) (omega arith) (omega arith), (next (c / 64), next c ∷ [], refl, omega arith, omega arith, (next c, refl, omega arith, omega arith, omega arith)))
-    ]
-  ]
-]
-
-four : (c : ℕ) → 65536 ≤ c → c < 1114112 → SpellsUtf8 c ((240 + c / 262144) ∷ next (c / 4096) ∷ next (c / 64) ∷ next c ∷ [])
-four c l u = elim (cases_lt c 262144) [
-  | inl a ↦ (240 + c / 262144, next (c / 4096) ∷ next (c / 64) ∷ next c ∷ [], _, refl, lead_f0 (240 + c / 262144) (omega arith), (next (c / 4096), next (c / 64) ∷ next c ∷ [], refl, omega arith, omega arith, (next (c / 64), next c ∷ [], refl, omega arith, omega arith, (next c, refl, omega arith, omega arith, omega arith))))
-  | inr b ↦ elim (cases_lt c 1048576) [
-    | inl a ↦ (240 + c / 262144, next (c / 4096) ∷ next (c / 64) ∷ next c ∷ [], _, refl, lead_four (240 + c / 262144) (omega arith) (omega arith), (next (c / 4096), next (c / 64) ∷ next c ∷ [], refl, omega arith, omega arith, (next (c / 64), next c ∷ [], refl, omega arith, omega arith, (next c, refl, omega arith, omega arith, omega arith))))
-    | inr a ↦ (240 + c / 262144, next (c / 4096) ∷ next (c / 64) ∷ next c ∷ [], _, refl, lead_f4 (240 + c / 262144) (omega arith), (next (c / 4096), next (c / 64) ∷ next c ∷ [], refl, omega arith, omega arith, (next (c / 64), next c ∷ [], refl, omega arith, omega arith, (next c, refl, omega arith, omega arith, omega arith))))
-  ]
-]
 
 text_plain : (c : ℕ) → c < 128 → IsUnescaped c → IsPlain c
 text_plain c u h = (grind (arith, nat_tests), omega arith, grind (arith, nat_tests), grind (arith, nat_tests))
@@ -128,13 +38,7 @@ all_front (x ∷ xs) ys h = let k = all_front xs ys h.1 in ((h.0, k.0), k.1)
 character : (c : ℕ) → scalar c ≡ true → AllByRecursion IsUnescaped (encode c) → SpellsCharacter c (encode c)
 character c s h = elim (cases_lt c 128) [
   | inl u ↦ let e = encode_one c u in let k : AllByRecursion IsUnescaped (c ∷ []) = subst (λ xs. AllByRecursion IsUnescaped xs) e h in inl (text_plain c u k.0, e)
-  | inr l ↦ elim (cases_lt c 2048) [
-    | inl u ↦ inr (inr (inr (subst (SpellsUtf8 c) (sym (encode_two c l u)) (two c l u))))
-    | inr m ↦ elim (cases_lt c 65536) [
-      | inl u ↦ inr (inr (inr (subst (SpellsUtf8 c) (sym (encode_three c m u)) (three c m u (elim (scalar_cases c s) [ inl a ↦ inl a | inr a ↦ inr a.0 ])))))
-      | inr n ↦ inr (inr (inr (subst (SpellsUtf8 c) (sym (encode_four c n)) (four c n (elim (scalar_cases c s) [ inl a ↦ omega arith | inr a ↦ a.1 ])))))
-    ]
-  ]
+  | inr l ↦ inr (inr (inr (s, l, refl)))
 ]
 
 content : (cs : List ℕ) → scalars cs ≡ true → AllByRecursion IsUnescaped (encodes cs) → SpellsContent cs (encodes cs)

@@ -1,7 +1,8 @@
 -- Each state completes, and no deeper than it is: what is under way is ended, and what is open is closed.
 use Rattle.std.proofs.Common.{zero, suc, ◌%◌, true, false, ◌≡◌, ℕ, ◌+◌, ◌*◌, ◌≤◌, List, [], ◌∷◌, ◌++◌, length, Option, Some, None, refl, ap, arith}
 use Rattle.std.specs.List.{AllByRecursion}
-use Rattle.gj_json.specs.Bytes.{close_brace, close_bracket, colon as colon_byte, letter_n, line_feed, mark_second, mark_third, quote as quote_byte, zero_digit as zero_byte}
+use Rattle.gj_json.specs.Bytes.{close_brace, close_bracket, colon as colon_byte, line_feed, quote as quote_byte, zero_digit as zero_byte}
+use Rattle.gj_json.specs.Internal.NamedBytes.{letter_n, mark_second, mark_third}
 use Rattle.gj_json.specs.declared.constant.Constant.{Constant}
 use Rattle.gj_json.specs.declared.constant.Constant.TheVariants.{Null}
 use Rattle.gj_json.specs.Tree.{Text, Tree, constant, number, string, array, object, Elements, end_of_array, element, Members, end_of_object, member, depth, elements_depth, members_depth}
@@ -16,7 +17,8 @@ use Rattle.gj_json.specs.Internal.ReaderState.{Fits, FitsName, FitsLeaf, FitsBro
 use Rattle.gj_json.proofs.Machine.MachineTexts.{text_goes_on, text_from}
 use Rattle.gj_json.specs.declared.mode.StringState.{StringState}
 use Rattle.gj_json.specs.declared.mode.StringState.TheVariants.{Plain as plain, Escape as escape, HexDue as hex_due, HexOne as hex_one, HexTwo as hex_two, HexThree as hex_three, InCharacter as in_character}
-use Rattle.gj_json.specs.Characters.{escape_of, hex_of, low_of}
+use Rattle.gj_json.specs.Characters.{escape_of, hex_of}
+use Rattle.gj_json.specs.Utf8Bytes.{low_of}
 use Rattle.gj_json.specs.Internal.TextMachine.{Broken, text_due, mark_one, mark_two, begun, Frame, in_array, in_object, Member, Leaf, value_due, value_done, array_opened, object_opened, constant_on, number_on, string_on, name_due, name_on, colon_due, back_elements, back_members, letters_after, run, string_next, string_goes, within}
 use Rattle.gj_json.specs.Internal.UnderWay.{under_leaf, under_of}
 use Rattle.gj_json.proofs.Machine.BytesUnderWay.{IsBegun, run_begun}

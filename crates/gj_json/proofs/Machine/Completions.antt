@@ -1,7 +1,8 @@
 -- Which bytes make a state of the machine the tree T, and the text T.
 use Rattle.std.proofs.Common.{◌≡◌, ℕ, true, List, [], ◌∷◌, ◌++◌, Option, Some, None}
 use Rattle.gj_json.specs.Text.{SpellsMark}
-use Rattle.gj_json.specs.Bytes.{colon as colon_byte, mark_second, mark_third, quote as quote_byte}
+use Rattle.gj_json.specs.Bytes.{colon as colon_byte, quote as quote_byte}
+use Rattle.gj_json.specs.Internal.NamedBytes.{mark_second, mark_third}
 use Rattle.gj_json.specs.Tree.{Text, Tree, constant, number, string, array, object, Elements, element, Members, member}
 use Rattle.gj_json.specs.Grammar.{Then, White, Exactly, Ends, Quoted, Spells, SpellsElements, SpellsMoreElements, SpellsMembers, SpellsMoreMembers}
 use Rattle.gj_number.specs.Grammar.{IsNumber}

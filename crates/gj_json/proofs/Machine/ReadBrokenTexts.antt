@@ -1,7 +1,8 @@
 -- The bytes of a text that is broken off lead the machine to it, and to nothing else.
 use Rattle.std.proofs.Common.{◌≡◌, ◌≢◌, ℕ, ◌+◌, inl, inr, true, false, List, [], ◌∷◌, ◌++◌, length, Some, None, refl, sym, ap, subst, ◌∙◌, arith, append-nil, eq-eqb}
 use Rattle.std.proofs.lemmas.Bool.Decides.{eqb_tells}
-use Rattle.gj_json.specs.Bytes.{comma as comma_byte, mark_first, mark_second, mark_third}
+use Rattle.gj_json.specs.Bytes.{comma as comma_byte}
+use Rattle.gj_json.specs.Internal.NamedBytes.{mark_first, mark_second, mark_third}
 use Rattle.gj_json.specs.declared.constant.Constant.{Constant}
 use Rattle.gj_json.specs.declared.constant.Constant.TheVariants.{Null, True, False}
 use Rattle.gj_json.specs.declared.class.Class.TheVariants.{Letter as letter, Other as other}

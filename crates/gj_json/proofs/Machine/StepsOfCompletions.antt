@@ -1,6 +1,7 @@
 -- Where a state completes by a byte and more, the step by that byte is made, and its state completes by the rest.
 use Rattle.std.proofs.Common.{Bool, true, false, Option, ◌≡◌, ℕ, ◌+◌, inl, inr, if◌then◌else◌, List, [], ◌∷◌, ◌++◌, Some, None, refl, sym, ap, subst, ◌∙◌, append_assoc, append-nil, eq-eqb}
-use Rattle.gj_json.specs.Bytes.{colon as colon_byte, mark_first, mark_second, mark_third, open_brace, open_bracket, quote as quote_byte}
+use Rattle.gj_json.specs.Bytes.{colon as colon_byte, open_brace, open_bracket, quote as quote_byte}
+use Rattle.gj_json.specs.Internal.NamedBytes.{mark_first, mark_second, mark_third}
 use Rattle.gj_json.specs.declared.constant.Constant.{Constant}
 use Rattle.gj_json.specs.declared.constant.Constant.TheVariants.{Null, True, False}
 use Rattle.std.proofs.lemmas.Bool.Decides.{eqb_tells}

@@ -1,6 +1,7 @@
 -- The path that a front of a text leads to, by the state of the machine.
-use Rattle.std.proofs.Common.{◌≡◌, ℕ, ◌+◌, ◌==◌, ◌≤◌, Bool, true, false, if◌then◌else◌, List, [], ◌∷◌, ◌++◌, length, Option, Some, None, refl, sym, ap, ◌∙◌, arith}
+use Rattle.std.proofs.Common.{◌≡◌, ℕ, ◌+◌, ◌==◌, ◌≤◌, Bool, true, false, if◌then◌else◌, List, [], ◌∷◌, ◌++◌, length, Option, Some, None, unwrap_or, refl, sym, ap, ◌∙◌, arith}
 use Rattle.std.proofs.lemmas.Bool.Decides.{nat_tests}
+use Rattle.std.specs.Option.{option_or}
 use Rattle.gj_json.specs.declared.constant.Constant.TheVariants.{Null, True, False}
 use Rattle.gj_json.specs.declared.event.What.TheVariants as What
 use Rattle.gj_json.specs.declared.levels.Level.{Level}
@@ -12,7 +13,7 @@ use Rattle.gj_json.specs.Tree.{Text, Tree, constant, number, string, array, obje
 use Rattle.gj_json.specs.Grammar.{Spells, SpellsElements, SpellsMoreElements, SpellsMembers, SpellsMoreMembers}
 use Rattle.gj_json.specs.Names.{known_of}
 use Rattle.gj_json.specs.Events.{timed, events, elements_events, members_events, mark_events}
-use Rattle.gj_json.specs.Path.{to_value, to_container, has_open, by_step, or_else, path_in, elements_path, members_path, from_root, path_at}
+use Rattle.gj_json.specs.Path.{to_value, to_container, has_open, by_step, path_in, elements_path, members_path, path_at}
 use Rattle.gj_json.specs.Internal.PathTrail.{outer_steps, stack_steps, stack_count, LeafTrail, TrailAt, begins, kept_steps}
 use Rattle.gj_json.specs.Internal.TextMachine.{run, Broken, text_due, mark_one, mark_two, begun, Frame, in_array, in_object, Member, Leaf, value_due, value_done, array_opened, object_opened, constant_on, number_on, string_on, name_due, name_on, colon_due, back_elements, back_members}
 use Rattle.gj_json.specs.Internal.ReaderState.{LeafAs, StandsAs}
@@ -100,7 +101,7 @@ back_members_path n (m ∷ done) more h w =
 
 -- what the elements lead to, from the value behind those that have ended
 abbrev at_element : ℕ → ℕ → Option (List PathStep) → Elements → Option (List PathStep)
-at_element n i o more = or_else (by_step (Index i) o) (elements_path n (i + 1) more)
+at_element n i o more = option_or (by_step (Index i) o) (elements_path n (i + 1) more)
 
 array_path : (n place close : ℕ) (done : List Tree) (t : Tree) (more : Elements) (o : Option (List PathStep)) → place + 1 ≤ n → n ≤ close → InTime n (done_elements done) → WholeDone done → path_in n t ≡ o
     → path_in n (array place (back_elements done (element t more)) close) ≡ to_container true (at_element n (length done) o more)
@@ -111,7 +112,7 @@ array_path n place close done t more o p c h w e =
     rw (opened n place close p c, k) refl
 
 abbrev at_member : ℕ → List ℕ → Option (List PathStep) → Members → Option (List PathStep)
-at_member n name o more = or_else (by_step (PathStep.Member (known_of name)) o) (members_path n more)
+at_member n name o more = option_or (by_step (PathStep.Member (known_of name)) o) (members_path n more)
 
 object_path : (n place close : ℕ) (done : List Member) (np : ℕ) (name : List ℕ) (ne : ℕ) (t : Tree) (more : Members) (o : Option (List PathStep)) → place + 1 ≤ n → n ≤ close → InTime n (done_members done) → WholeDoneMembers done → path_in n t ≡ o
     → path_in n (object place (back_members done (member np name ne t more)) close) ≡ to_container true (at_member n name o more)
@@ -154,10 +155,10 @@ through (in_object place done np name ne ∷ stack) t T n m bytes steps l i w h 
     through stack (object place (back_members done (member np name ne t h.0)) h.1) T n _ _ (PathStep.Member (known_of name) ∷ steps) (omega arith) g.0 w.1 h.2.after.after k
 
 abbrev Leads : ℕ → Tree → List PathStep → Type 0
-Leads n T steps = from_root (path_in n T) ≡ outward steps []
+Leads n T steps = unwrap_or (path_in n T) [] ≡ outward steps []
 
 to_it : (stack : List Frame) (t T : Tree) (n m : ℕ) (bytes : List ℕ) → n ≤ m → InTime n (stack_timed stack) → WholeStack stack → After stack t T m bytes → path_in n t ≡ Some [] → Leads n T (stack_steps stack)
-to_it stack t T n m bytes l i w h e = ap from_root (through stack t T n m bytes [] l i w h e)
+to_it stack t T n m bytes l i w h e = ap (λ o. unwrap_or o []) (through stack t T n m bytes [] l i w h e)
 
 -- where it leads nowhere in a member's value, though the name is yet to come, it leads to the object
 to_object : (stack : List Frame) (place : ℕ) (done : List Member) (np : ℕ) (name : List ℕ) (ne : ℕ) (t T : Tree) (n m : ℕ) (bytes : List ℕ) → n ≤ m → InTime n (stack_timed stack) → place + 1 ≤ n → InTime n (done_members done)
@@ -171,7 +172,7 @@ to_object stack place done np name ne t T n m bytes l i p j w h e =
 
 -- where it leads nowhere in the value t, it leads to the innermost container
 to_innermost : (stack : List Frame) (t T : Tree) (n m : ℕ) (bytes : List ℕ) → n ≤ m → InTime n (stack_timed stack) → WholeStack stack → After stack t T m bytes → path_in n t ≡ None → Leads n T (outer_steps (stack_steps stack))
-to_innermost [] t T n m bytes l i w h e = ap from_root (ap (path_in n) h.1 ∙ e)
+to_innermost [] t T n m bytes l i w h e = ap (λ o. unwrap_or o []) (ap (path_in n) h.1 ∙ e)
 to_innermost (in_array place done ∷ stack) t T n m bytes l i w h e =
     let g = front n (stack_timed stack) (timed (place + 1) place What.OpenArray ∷ done_elements done) i in
     let c = close_behind h.0 h.1 _ _ h.2.after.before in

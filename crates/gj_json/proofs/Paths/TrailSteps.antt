@@ -1,6 +1,6 @@
 -- The steps to the right edge, behind a byte.
 use Rattle.std.proofs.Common.{◌≡◌, ℕ, ◌+◌, ◌==◌, ◌≤◌, ◌<◌, Bool, true, false, if◌then◌else◌, List, [], ◌∷◌, length, drop, slice_index, Option, Some, None, refl, ap, ◌∙◌, arith, length-drop, ◌++◌}
-use Rattle.gj_json.specs.Bytes.{mark_first, mark_second, mark_third}
+use Rattle.gj_json.specs.Internal.NamedBytes.{mark_first, mark_second, mark_third}
 use Rattle.gj_json.specs.declared.class.Class.{Class}
 use Rattle.gj_json.specs.declared.class.Class.TheVariants.{White, OpenArray, CloseArray, OpenObject, CloseObject, Comma, Colon, Quote, NumberStart, Letter, Other}
 use Rattle.gj_json.specs.declared.constant.Constant.{Constant}
@@ -14,7 +14,8 @@ use Rattle.gj_json.specs.declared.path.PathStep.{PathStep}
 use Rattle.gj_json.specs.declared.path.PathStep.TheVariants.{Index}
 use Rattle.gj_json.specs.Grammar.{letters_of}
 use Rattle.gj_json.specs.Internal.ByteClasses.{class_of}
-use Rattle.gj_json.specs.Names.{Words, known_of, words_of}
+use Rattle.gj_json.specs.Names.{known_of}
+use Rattle.gj_json.specs.Internal.ContentWords.{Words, words_of}
 use Rattle.gj_json.specs.Internal.OpenLevels.{inner_of}
 use Rattle.gj_json.specs.Internal.Transitions.{begin_move, due_move, array_move, object_move, name_due_move, colon_move, after_move, constant_move, number_move, string_move, value_string_move, name_string_move, move_of}
 use Rattle.gj_json.specs.Tree.{Tree, constant, number}

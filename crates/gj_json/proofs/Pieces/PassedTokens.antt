@@ -24,12 +24,14 @@ use Rattle.gj_json.specs.Events.{Timed, timed, events, value_events, mark_events
 use Rattle.gj_json.specs.Internal.FedReader.{Passed, Skips, FeedsAll, FeedsLevel, FeedsWithin, above}
 use Rattle.gj_json.specs.Internal.FlatParts.{awaits}
 use Rattle.gj_json.specs.Grammar.{letters_of}
-use Rattle.gj_json.specs.Ignored.{levels_behind, Leaves, Stays}
+use Rattle.gj_json.specs.Ignored.{levels_behind, Leaves}
+use Rattle.gj_json.specs.Internal.StayingEvents.{Stays}
 use Rattle.gj_json.specs.Internal.OpenLevels.{levels_in, inner_of, outer_of}
 use Rattle.gj_json.specs.Limits.{Allowed}
 use Rattle.gj_json.specs.Internal.TextMachine.{Member, Frame, Leaf, value_due, value_done, array_opened, object_opened, constant_on, number_on, string_on, name_due, name_on, colon_due, Partial, Broken, text_due, mark_one, mark_two, begun, step_leaf, letters_after, to, run_from, run}
 use Rattle.gj_json.specs.Internal.Transitions.{move_of, after_move}
-use Rattle.gj_json.specs.Names.{known_of, word_of, Words}
+use Rattle.gj_json.specs.Names.{known_of, word_of}
+use Rattle.gj_json.specs.Internal.ContentWords.{Words}
 use Rattle.gj_json.specs.Internal.QuietBytes.{Reads}
 use Rattle.gj_json.specs.Internal.ReaderStep.{opened}
 use Rattle.gj_json.specs.Internal.SeenEvents.{seen, partial_timed, stack_timed, done_members, EdgeAt}

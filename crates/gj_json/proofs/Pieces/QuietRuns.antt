@@ -20,7 +20,7 @@ use Rattle.gj_json.specs.declared.content.Content.{Content}
 use Rattle.gj_json.specs.declared.mode.StringState.{StringState}
 use Rattle.gj_json.specs.declared.mode.Mode.TheVariants.{NumberOn, StringOn, NameOn}
 use Rattle.gj_json.specs.Internal.KeptContent.{Holds}
-use Rattle.gj_json.specs.Names.{Words}
+use Rattle.gj_json.specs.Internal.ContentWords.{Words}
 use Rattle.gj_json.specs.Internal.FedReader.{GoesOn}
 use Rattle.gj_json.proofs.Grammar.OneCharacter.{OneCharacter, one_character}
 use Rattle.gj_json.specs.declared.mode.Move.TheVariants.{Go}

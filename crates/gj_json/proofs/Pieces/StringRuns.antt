@@ -4,7 +4,8 @@ use Rattle.std.specs.List.{AllByRecursion}
 use Rattle.std.specs.Str.{IsUtf8}
 use Rattle.std.proofs.lemmas.List.{length-append}
 use Rattle.gj_json.specs.Internal.ByteClasses.{class_of}
-use Rattle.gj_json.specs.Characters.{lead_of, hex_of, escape_of}
+use Rattle.gj_json.specs.Characters.{hex_of, escape_of}
+use Rattle.gj_json.specs.Utf8Bytes.{lead_of}
 use Rattle.gj_json.specs.declared.class.Class.TheVariants.{Other as other}
 use Rattle.gj_json.specs.declared.constant.Constant.{Constant}
 use Rattle.gj_json.specs.declared.constant.Constant.TheVariants.{Null, True, False}
@@ -18,7 +19,7 @@ use Rattle.gj_json.specs.declared.mode.Mode.TheVariants.{TextDue, MarkOne, MarkT
 use Rattle.gj_json.specs.declared.mode.Move.{Move}
 use Rattle.gj_json.specs.declared.mode.Move.TheVariants.{Refuse, Go}
 use Rattle.gj_json.specs.declared.mode.Ending.TheVariants.{Nothing}
-use Rattle.gj_json.specs.Names.{words_of}
+use Rattle.gj_json.specs.Internal.ContentWords.{words_of}
 use Rattle.gj_json.specs.declared.mode.StringState.{StringState}
 use Rattle.gj_json.specs.declared.mode.StringState.TheVariants.{Plain, Escape, HexDue, HexOne, HexTwo, HexThree, InCharacter}
 use Rattle.gj_json.specs.declared.reader.Reader.{Reader}

@@ -24,7 +24,8 @@ use Rattle.gj_json.specs.Text.{IsText}
 use Rattle.gj_json.specs.Grammar.{Spells}
 use Rattle.gj_json.specs.Events.{Timed, timed, events, elements_events, value_events, mark_events, events_by}
 use Rattle.gj_json.specs.Internal.FedReader.{Passed, Skips, FeedsAll}
-use Rattle.gj_json.specs.Flat.{flat_events, IsFlat}
+use Rattle.gj_json.specs.Flat.{flat_events}
+use Rattle.gj_json.specs.Internal.SpelledNumbers.{IsFlat}
 use Rattle.gj_json.specs.Internal.FlatParts.{awaits, cut}
 use Rattle.gj_json.specs.Internal.OpenLevels.{levels_in, inner_of}
 use Rattle.gj_json.specs.Internal.TextMachine.{Frame, in_array, in_object, Leaf, value_due, value_done, array_opened, object_opened, constant_on, number_on, string_on, name_due, name_on, colon_due, Partial, Broken, text_due, mark_one, mark_two, begun, begin_value, step_leaf, to, run_from, run}

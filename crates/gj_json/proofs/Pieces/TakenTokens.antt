@@ -31,7 +31,8 @@ use Rattle.gj_json.specs.Internal.FlatParts.{awaits}
 use Rattle.gj_json.specs.Internal.OpenLevels.{levels_in, inner_of, outer_of}
 use Rattle.gj_json.specs.Internal.TextMachine.{Frame, Leaf, value_due, value_done, array_opened, object_opened, constant_on, number_on, string_on, name_due, name_on, colon_due, Partial, Member, Broken, text_due, mark_one, mark_two, begun, begin_value, letters_after, step_leaf, step, to, run_from, run}
 use Rattle.gj_json.specs.Internal.Transitions.{IsMode, move_of, after_move}
-use Rattle.gj_json.specs.Names.{Words, known_of, word_of}
+use Rattle.gj_json.specs.Names.{known_of, word_of}
+use Rattle.gj_json.specs.Internal.ContentWords.{Words}
 use Rattle.gj_number.specs.DecidedNumbers.{is_number, begins_number}
 use Rattle.gj_number.proofs.Grammar.DecidedNumbers.{number as decided_number}
 use Rattle.gj_json.specs.Broken.{BeginsNumber as NumberBegun}

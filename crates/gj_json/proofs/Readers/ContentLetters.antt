@@ -9,7 +9,8 @@ use Rattle.gj_json.specs.declared.content.Content.{Content}
 use Rattle.gj_json.specs.declared.names.Known.{Known}
 use Rattle.gj_json.specs.declared.names.Word.{Word}
 use Rattle.gj_json.specs.Internal.KeptContent.{IsAscii, IsOther, HoldsBy, Holds, words_in}
-use Rattle.gj_json.specs.Names.{known_of, word_of, words_of}
+use Rattle.gj_json.specs.Names.{known_of, word_of}
+use Rattle.gj_json.specs.Internal.ContentWords.{words_of}
 
 -- what is other stays so
 ascii_front : (xs ys : List ℕ) → AllByRecursion IsAscii (xs ++ ys) → AllByRecursion IsAscii xs

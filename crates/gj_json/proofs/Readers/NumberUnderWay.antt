@@ -13,7 +13,7 @@ use Rattle.gj_json.specs.Internal.ToldEvents.{in_number, text_state, NumberTurn,
 use Rattle.gj_json.specs.Internal.UnderWay.{Under, nothing, number, text, ComesFrom, Keeps, Turns, HasValue, HasWords, TurnSays, LiteralSays, LiteralGoes, ContentGoes}
 use Rattle.gj_json.specs.declared.content.Content.{Content}
 use Rattle.gj_json.specs.Internal.KeptContent.{words_in}
-use Rattle.gj_json.specs.Names.{Words, words_of}
+use Rattle.gj_json.specs.Internal.ContentWords.{Words, words_of}
 use Rattle.gj_json.proofs.Machine.BytesUnderWay.{has_number, state_under}
 use Rattle.gj_json.proofs.Readers.ContentLetters.{holds_words}
 use Rattle.gj_json.proofs.Grammar.NumberPrefixes.{is_false}

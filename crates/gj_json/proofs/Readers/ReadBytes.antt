@@ -27,7 +27,7 @@ use Rattle.gj_json.specs.Internal.ReaderStep.{RefusesWith, PassesTo, Applied, op
 use Rattle.gj_number.specs.Exact.{Exact}
 use Rattle.gj_json.specs.Internal.UnderWay.{under_of, Keeps, Turns, HasValue, HasWords, LiteralSays, LiteralGoes, ContentGoes}
 use Rattle.gj_json.specs.Internal.KeptContent.{words_in}
-use Rattle.gj_json.specs.Names.{Words}
+use Rattle.gj_json.specs.Internal.ContentWords.{Words}
 use Rattle.gj_json.proofs.Machine.BytesUnderWay.{CameTo, step_came, mode_under, mode_state}
 use Rattle.gj_json.proofs.Readers.NumberUnderWay.{turns_by, keeps_on, words_by}
 use Rattle.gj_json.specs.Internal.ToldEvents.{emitted, start_after, NumberTurn}

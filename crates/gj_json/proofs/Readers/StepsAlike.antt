@@ -15,7 +15,7 @@ use Rattle.gj_json.specs.declared.mode.StringState.{StringState}
 use Rattle.gj_json.specs.declared.mode.StringState.TheVariants.{Plain}
 use Rattle.gj_json.specs.Internal.FedReader.{GoesOn}
 use Rattle.gj_json.specs.Internal.TextMachine.{StringStep, string_next, string_goes}
-use Rattle.gj_json.specs.Names.{Words}
+use Rattle.gj_json.specs.Internal.ContentWords.{Words}
 use Rattle.gj_json.specs.declared.reader.Reader.{Reader}
 use Rattle.gj_json.specs.Internal.OpenLevels.{levels_in, inner_of, outer_of}
 use Rattle.gj_json.specs.Internal.Transitions.{move_of, string_move}

@@ -12,7 +12,8 @@ use Rattle.gj_json.specs.declared.fault.JsonFault.{JsonFault}
 use Rattle.gj_json.specs.declared.reader.Reader.{Reader}
 use Rattle.gj_json.specs.Internal.QuietBytes.{Leads, Reads}
 use Rattle.gj_json.specs.Internal.OpenLevels.{levels_in}
-use Rattle.gj_json.specs.Ignored.{Leaves, Stays}
+use Rattle.gj_json.specs.Ignored.{Leaves}
+use Rattle.gj_json.specs.Internal.StayingEvents.{Stays}
 use Rattle.gj_json.specs.Reader.{StandsFor, Hears, Completed}
 
 -- a string goes on as a string, or a name as a name

@@ -4,7 +4,8 @@ use Rattle.std.specs.List.{AllByRecursion}
 use Rattle.gj_json.specs.declared.content.Content.{Content}
 use Rattle.gj_json.specs.declared.names.Known.{Known}
 use Rattle.gj_json.specs.declared.names.Word.{Word}
-use Rattle.gj_json.specs.Names.{known_of, word_of, Words}
+use Rattle.gj_json.specs.Names.{known_of, word_of}
+use Rattle.gj_json.specs.Internal.ContentWords.{Words}
 
 abbrev pub IsAscii : ℕ → Type 0
 IsAscii c = c < 128

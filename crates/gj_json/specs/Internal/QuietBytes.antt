@@ -10,7 +10,7 @@ use Rattle.gj_json.specs.declared.mode.StringState.{StringState}
 use Rattle.gj_json.specs.declared.mode.StringState.TheVariants.{Plain}
 use Rattle.gj_json.specs.Internal.TextMachine.{string_next, string_ends, string_goes, string_refuses}
 use Rattle.gj_json.specs.Internal.Transitions.{move_of}
-use Rattle.gj_json.specs.Names.{Words}
+use Rattle.gj_json.specs.Internal.ContentWords.{Words}
 use Rattle.gj_json.specs.Internal.ToldEvents.{is_on, NumberTurn}
 
 -- the byte leads from one mode to another, completes nothing, and what is under way goes on

@@ -6,8 +6,10 @@ use Rattle.gj_json.specs.declared.constant.Constant.{Constant}
 use Rattle.gj_json.specs.declared.constant.Constant.TheVariants.{Null, True, False}
 use Rattle.gj_json.specs.declared.mode.Bounds.{Bounds}
 use Rattle.gj_json.specs.declared.mode.Bounds.TheVariants.{Any}
-use Rattle.gj_json.specs.Characters.{escape_of, hex_of, Lead, lead_of, low_of, high_of}
-use Rattle.gj_json.specs.Bytes.{mark_first, mark_second, mark_third, space, backslash, quote as quote_byte, letter_u, after_n, after_t, after_f}
+use Rattle.gj_json.specs.Characters.{escape_of, hex_of}
+use Rattle.gj_json.specs.Utf8Bytes.{Lead, lead_of, low_of, high_of}
+use Rattle.gj_json.specs.Bytes.{space, backslash, quote as quote_byte, letter_u}
+use Rattle.gj_json.specs.Internal.NamedBytes.{mark_first, mark_second, mark_third, after_n, after_t, after_f}
 use Rattle.gj_json.specs.Tree.{Text, Tree, constant, number, string, array, object, end_of_array, element, end_of_object, member}
 use Rattle.gj_json.specs.declared.class.Class.{Class}
 use Rattle.gj_json.specs.declared.class.Class.TheVariants.{White as white, OpenArray as open_array, CloseArray as close_array, OpenObject as open_object, CloseObject as close_object, Comma as comma, Colon as colon, Quote as quote, NumberStart as number_start, Letter as letter, Other as other}

@@ -13,10 +13,10 @@ use Rattle.gj_json.specs.declared.levels.Level.TheVariants.{Array, Object}
 use Rattle.gj_json.specs.declared.mode.Mode.{Mode}
 use Rattle.gj_json.specs.declared.mode.Mode.TheVariants.{ValueDue, ValueDone, ArrayOpened, ObjectOpened, ConstantOn, NumberOn, StringOn, NameDue, NameOn, ColonDue, TextDue, MarkOne, MarkTwo}
 use Rattle.gj_json.specs.declared.mode.Ending.TheVariants.{Nothing, Mark, Literal, Text, Name, Item}
-use Rattle.gj_json.specs.Names.{Words}
+use Rattle.gj_json.specs.Internal.ContentWords.{Words}
 use Rattle.gj_json.specs.declared.mode.Move.{Move}
 use Rattle.gj_json.specs.declared.mode.Move.TheVariants.{Refuse, Go, Open, Close}
-use Rattle.gj_json.specs.Bytes.{mark_first, mark_second, mark_third}
+use Rattle.gj_json.specs.Internal.NamedBytes.{mark_first, mark_second, mark_third}
 use Rattle.gj_json.specs.Internal.ByteClasses.{class_of}
 use Rattle.gj_json.specs.Grammar.{letters_of}
 use Rattle.gj_json.specs.Internal.TextMachine.{StringStep, string_ends, string_goes, string_refuses, string_next}

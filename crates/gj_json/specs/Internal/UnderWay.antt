@@ -11,7 +11,7 @@ use Rattle.gj_json.specs.declared.reader.Reader.{Reader}
 use Rattle.gj_json.specs.Internal.ToldEvents.{in_number, text_state, NumberTurn, turn_of}
 use Rattle.gj_json.specs.declared.content.Content.{Content}
 use Rattle.gj_json.specs.Internal.KeptContent.{Holds}
-use Rattle.gj_json.specs.Names.{Words, words_of}
+use Rattle.gj_json.specs.Internal.ContentWords.{Words, words_of}
 use Rattle.gj_number.specs.DecidedNumbers.{is_number, begins_number}
 use Rattle.gj_json.specs.Internal.TextMachine.{Leaf, number_on, string_on, name_on, Broken, begun, string_next, string_goes}
 

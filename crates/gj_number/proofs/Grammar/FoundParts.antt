@@ -3,10 +3,11 @@ use Rattle.std.proofs.Common.{◌≡◌, ℕ, ◌≤◌, Bool, true, false, ◌=
 use Rattle.std.proofs.Math.Seq.{take-append_seam, drop-append-add}
 use Rattle.std.proofs.lemmas.Bool.Decides.{nat_tests}
 use Rattle.std.specs.List.{AllByRecursion, position_or_len, before_first, after_first}
-use Rattle.gj_number.specs.Bytes.{minus_sign, plus_sign, lower_e, upper_e, zero_digit, IsDigit, IsExponentLetter, is_exponent_letter, is_point}
+use Rattle.gj_number.specs.Bytes.{minus_sign, plus_sign, lower_e, upper_e, zero_digit, IsDigit, IsExponentLetter, is_exponent_letter, decimal_point}
 use Rattle.gj_number.specs.Grammar.{IsNatural, IsDigits}
 use Rattle.gj_number.specs.Exact.{signed}
-use Rattle.gj_number.specs.Value.{number_of, Parts, Spells, SpellsSign, SpellsFraction, SpellsExponent, SpellsExponentSign, is_negative, unsigned_of, significand_of, natural_of, fraction_of, exponent_of, signed_number, held_value, value_of, whole_of}
+use Rattle.gj_number.specs.Value.{number_of, is_negative, unsigned_of, significand_of, natural_of, fraction_of, exponent_of, signed_number, held_value, value_of}
+use Rattle.gj_number.specs.Denotation.{Parts, Spells, SpellsSign, SpellsFraction, SpellsExponent, SpellsExponentSign, whole_of}
 
 -- ---- a list split at the first element that passes
 
@@ -47,6 +48,9 @@ all_on P (x ∷ xs) ys h k = (h.0, all_on P xs ys h.1 k)
 
 -- ---- bytes
 
+abbrev is_point : ℕ → Bool
+is_point b = b == decimal_point
+
 digit_no_point : (b : ℕ) → IsDigit b → is_point b ≡ false
 digit_no_point b h = grind (arith, nat_tests)
 
@@ -80,7 +84,8 @@ sign_split : (negative : Bool) (sign natural tail literal : List ℕ) → litera
 sign_split negative sign [] tail literal e s n = absurd n
 sign_split false sign (b ∷ natural) tail literal e s n =
     let d : (b == minus_sign) ≡ false = (let k = natural_digits (b ∷ natural) n in let low : zero_digit ≤ b = k.0.0 in grind (arith, nat_tests)) in
-    rw (e, s, d) (refl, refl)
+    let p : (b == plus_sign) ≡ false = (let k = natural_digits (b ∷ natural) n in let low : zero_digit ≤ b = k.0.0 in grind (arith, nat_tests)) in
+    rw (e, s, d, p) (refl, refl)
 sign_split true sign (b ∷ natural) tail literal e s n = rw (e, s) (refl, refl)
 
 fraction_ends : (digits bytes : List ℕ) → SpellsFraction digits bytes → BeginsBy is_point bytes × (behind bytes ≡ digits) × AllByRecursion (Fails is_exponent_letter) bytes

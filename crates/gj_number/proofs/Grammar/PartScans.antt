@@ -5,7 +5,8 @@ use Rattle.std.proofs.lemmas.List.Sums.{fold-append}
 use Rattle.gj_number.specs.Bytes.{minus_sign, plus_sign, zero_digit, IsDigit}
 use Rattle.gj_number.specs.Grammar.{IsNatural, IsDigits}
 use Rattle.gj_number.specs.Exact.{signed}
-use Rattle.gj_number.specs.Value.{with_digit, number_of, Parts, Spells, SpellsSign, SpellsFraction, SpellsExponent, SpellsExponentSign, whole_of}
+use Rattle.gj_number.specs.Value.{with_digit, number_of}
+use Rattle.gj_number.specs.Denotation.{Parts, Spells, SpellsSign, SpellsFraction, SpellsExponent, SpellsExponentSign, whole_of}
 use Rattle.gj_number.specs.declared.state.State.{State}
 use Rattle.gj_number.specs.declared.state.State.TheVariants.{Start, AfterMinus, AfterZero, InNatural, AfterPoint, InFraction, AfterLetter, AfterSign, InExponent}
 use Rattle.gj_number.specs.declared.state.Class.TheVariants.{Minus, Plus, Point, Letter, Zero, NonZero}

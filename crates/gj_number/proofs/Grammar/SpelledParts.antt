@@ -3,7 +3,8 @@ use Rattle.std.proofs.Common.{◌≡◌, ℕ, Bool, true, false, inl, inr, List,
 use Rattle.gj_number.specs.Bytes.{minus_sign}
 use Rattle.gj_number.specs.Grammar.{IsFraction, IsSign, IsExponent, IsUnsigned, IsNumber}
 use Rattle.gj_number.specs.Exact.{signed}
-use Rattle.gj_number.specs.Value.{number_of, Parts, Spells, SpellsSign, SpellsFraction, SpellsExponent, SpellsExponentSign}
+use Rattle.gj_number.specs.Value.{number_of}
+use Rattle.gj_number.specs.Denotation.{Parts, Spells, SpellsSign, SpellsFraction, SpellsExponent, SpellsExponentSign}
 
 fraction_parts : (bytes : List ℕ) → IsFraction bytes → (digits : List ℕ) × SpellsFraction digits bytes
 fraction_parts bytes h = elim h [ inl e ↦ ([], inl (e, refl)) | inr k ↦ (k.0, inr (k.1, k.2)) ]

@@ -2,7 +2,8 @@
 use Rattle.std.proofs.Common.{◌≡◌, ℕ, ◌+◌, ◌<◌, ◌^◌, true, ◌↔◌, Some, None, List, [], ◌∷◌, ◌++◌, length, refl, sym, subst, arith}
 use Rattle.gj_number.specs.Grammar.{IsNumber, BeginsNumber}
 use Rattle.gj_number.specs.Exact.{signed}
-use Rattle.gj_number.specs.Value.{Parts, Spells, with_digit, held_value, value_of}
+use Rattle.gj_number.specs.Value.{with_digit, held_value, value_of}
+use Rattle.gj_number.specs.Denotation.{Parts, Spells}
 use Rattle.gj_number.specs.declared.state.State.{State}
 use Rattle.gj_number.specs.Internal.NumberMachine.{class_of, next_of, may_end_in, Scan, start, Reaches}
 use Rattle.gj_number.proofs.Grammar.ScanPaths.{one_scan, reaches_on, reaches_part, ending}

@@ -10,7 +10,8 @@ use Rattle.std.proofs.lemmas.List.Elements.{recursion_from_All, All-append}
 use Rattle.std.proofs.lemmas.List.Sums.{fold-append}
 use Rattle.gj_number.specs.Bytes.{decimal_point, minus_sign, zero_digit, IsDigit}
 use Rattle.gj_number.specs.Grammar.{IsNatural, IsDigits}
-use Rattle.gj_number.specs.Value.{with_digit, number_of, SpellsSign}
+use Rattle.gj_number.specs.Value.{with_digit, number_of}
+use Rattle.gj_number.specs.Denotation.{SpellsSign}
 use Rattle.gj_number.specs.Internal.MovedPoint.{SpellsPlain}
 use Rattle.gj_number.specs.Internal.DigitRuns.{SpellsOn, SpellsUnsigned}
 use Rattle.gj_number.proofs.Literals.DigitBounds.{scaled_below}

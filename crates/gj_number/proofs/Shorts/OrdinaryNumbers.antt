@@ -7,7 +7,7 @@ use Rattle.std.proofs.lemmas.List.Elements.{All-from_recursion}
 use mir.Val.{bool_byte}
 use Rattle.gj_number.specs.Bytes.{minus_sign, decimal_point, zero_digit, IsDigit, IsNumberByte}
 use Rattle.gj_number.specs.Grammar.{IsNatural, IsDigits}
-use Rattle.gj_number.specs.Value.{SpellsSign, SpellsFraction}
+use Rattle.gj_number.specs.Denotation.{SpellsSign, SpellsFraction}
 use Rattle.gj_number.specs.Short.{StartsOrdinary, StartsUsual}
 use Rattle.gj_number.specs.Internal.DigitRuns.{IsRun, IsPointed, StartsSigned}
 use Rattle.gj_number.proofs.Shorts.PiecePrefixes.{rest_is}

@@ -9,7 +9,8 @@ use Rattle.std.proofs.lemmas.Int.{ints}
 use Rattle.std.specs.Bool.{beq}
 use Rattle.gj_number.specs.Exact.{Exact, zero_exact, cut_magnitude, places_of, IsNormal, SameValue, signed, cut_limit, cut_of, cut_within}
 use Rattle.gj_number.specs.Internal.KeptParts.{limited_cut, limited_to}
-use Rattle.gj_number.specs.Value.{Parts, whole_of, scale_of, IsDecimalOf, held_value, within_limits, stripped, tens_in}
+use Rattle.gj_number.specs.Value.{held_value, within_limits, stripped, tens_in}
+use Rattle.gj_number.specs.Denotation.{Parts, whole_of, scale_of, IsDecimalOf}
 use Rattle.gj_number.specs.Short.{short_value}
 use Rattle.gj_number.proofs.Shorts.CutNumbers.{limited_below, limited_past}
 use Rattle.gj_number.proofs.Value.OneDenotation.{same_exact}

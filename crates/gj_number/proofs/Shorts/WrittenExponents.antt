@@ -6,7 +6,8 @@ use Rattle.std.proofs.lemmas.List.{take_more, length-take-le}
 use Rattle.gj_number.specs.Bytes.{IsExponentLetter}
 use Rattle.gj_number.specs.Grammar.{BeginsNumber}
 use Rattle.gj_number.specs.Exact.{signed}
-use Rattle.gj_number.specs.Value.{number_of, Parts, Spells, SpellsExponentSign, whole_of, scale_of}
+use Rattle.gj_number.specs.Value.{number_of}
+use Rattle.gj_number.specs.Denotation.{Parts, Spells, SpellsExponentSign, whole_of, scale_of}
 use Rattle.gj_number.specs.Internal.NumberMachine.{class_of}
 use Rattle.gj_number.specs.declared.state.Class.TheVariants.{Other}
 use Rattle.gj_number.specs.Short.{short_value, StartsWithNumber}

@@ -3,7 +3,8 @@ use Rattle.std.proofs.Common.{◌≡◌, ◌≢◌, ℕ, ◌*◌, ◌%◌, ◌^�
 use Rattle.std.proofs.lemmas.Bool.Decides.{eqb_tells}
 use Rattle.gj_number.specs.Grammar.{IsNumber}
 use Rattle.gj_number.specs.Exact.{Exact, zero_exact, IsNormal}
-use Rattle.gj_number.specs.Value.{Parts, Spells, whole_of, scale_of, IsDecimalOf, Denotes, IsHeld, exponent_limit, within_limits, value_of, stripped, tens_in}
+use Rattle.gj_number.specs.Value.{exponent_limit, within_limits, value_of, stripped, tens_in}
+use Rattle.gj_number.specs.Denotation.{Parts, Spells, whole_of, scale_of, IsDecimalOf, Denotes, IsHeld}
 use Rattle.gj_number.proofs.Grammar.SpelledParts.{parts_of}
 use Rattle.gj_number.proofs.Grammar.FoundParts.{found, value_is, parts_digits}
 use Rattle.gj_number.proofs.Value.HeldLimits.{within}

@@ -1,7 +1,8 @@
 -- A number up to its exponent, and where the exponent moves its point.
 use Rattle.std.specs.Prelude.{◌≡◌, ℕ, ◌*◌, ◌^◌, Bool, ℤ, pos, ◌-ℤ◌, List, ◌++◌, length, take}
 use Rattle.gj_number.specs.Grammar.{IsNatural}
-use Rattle.gj_number.specs.Value.{SpellsSign, SpellsFraction, number_of}
+use Rattle.gj_number.specs.Value.{number_of}
+use Rattle.gj_number.specs.Denotation.{SpellsSign, SpellsFraction}
 use Rattle.gj_number.specs.declared.short.Short.{Short}
 
 -- The first `count` bytes of the piece are a number with no exponent: all its digits spell `digits`, and so many of them

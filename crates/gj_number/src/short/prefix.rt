@@ -8,7 +8,7 @@ ghost use Rattle.gj_number.specs.Bytes.{zero_digit, IsDigit, IsExponentLetter, I
 ghost use Rattle.gj_number.specs.Short.{exact_of, StartsWithNumber, StartsOrdinary};
 ghost use Rattle.gj_number.specs.Internal.DigitRuns.{IsRun, SpellsOn, StartsSigned};
 ghost use Rattle.gj_number.specs.Internal.MovedPoint.{SpellsPlain};
-ghost use Rattle.gj_number.specs.Value.{SpellsExponentSign};
+ghost use Rattle.gj_number.specs.Denotation.{SpellsExponentSign};
 
 use super::Short;
 use crate::lanes::{first_digits, unsigned_prefix};

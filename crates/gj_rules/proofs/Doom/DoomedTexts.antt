@@ -1,5 +1,6 @@
 -- What the first events of a text show of it, and what the rules keep of them.
 use Rattle.std.proofs.Common.{◌≡◌, ℕ, zero, suc, ◌+◌, ◌≤◌, Bool, true, false, ◌||◌, if◌then◌else◌, List, [], ◌∷◌, ◌++◌, map, inl, inr, Option, Some, None, is_some, refl, sym, ap, subst, ◌∙◌}
+use Rattle.std.specs.List.{list_any}
 use Rattle.std.proofs.lemmas.Bool.{or_left, or_right, or_cases}
 use Rattle.gj_json.specs.declared.constant.Constant.TheVariants.{Null, True, False}
 use Rattle.gj_json.specs.declared.event.Event.{Event}
@@ -27,7 +28,7 @@ use Rattle.gj_rules.specs.declared.mode.Mode.TheVariants.{Names, Done}
 use Rattle.gj_rules.specs.declared.rules.Rules.{Rules}
 use Rattle.gj_rules.specs.declared.member_slots.Slot.{Slot}
 use Rattle.gj_rules.specs.declared.member_slots.TypeValue.{TypeValue}
-use Rattle.gj_rules.specs.Doomed.{names, first_type, repeats, any_of, type_fails, members_fail, unmarked_fails, is_doomed}
+use Rattle.gj_rules.specs.Doomed.{names, first_type, repeats, type_fails, members_fail, unmarked_fails, is_doomed}
 use Rattle.gj_rules.specs.Faults.{faults, text_faults}
 use Rattle.gj_rules.specs.Internal.FrameCalls as F
 use Rattle.gj_rules.specs.Internal.RulesState.{core_of}
@@ -143,7 +144,7 @@ closed_faults place close ms some none =
     cc
 
 -- the names that are there
-three : (x y z : Known) (a b c : Bool) (found : List Known) → a ≡ mentions found x → b ≡ mentions found y → c ≡ mentions found z → any_of (x ∷ y ∷ z ∷ []) found ≡ true → (a || (b || c)) ≡ true
+three : (x y z : Known) (a b c : Bool) (found : List Known) → a ≡ mentions found x → b ≡ mentions found y → c ≡ mentions found z → list_any (mentions found) (x ∷ y ∷ z ∷ []) ≡ true → (a || (b || c)) ≡ true
 three x y z a b c found p q r e = go (mentions found x) (mentions found y) (mentions found z) p q r e
   where
     go : (l m n : Bool) → a ≡ l → b ≡ m → c ≡ n → (l || (m || (n || false))) ≡ true → (a || (b || c)) ≡ true
@@ -153,7 +154,7 @@ three x y z a b c found p q r e = go (mentions found x) (mentions found y) (ment
     go false false false p q r e = cc
 
 four : (x y z w : Known) (a b c d : Bool) (found : List Known) → a ≡ mentions found x → b ≡ mentions found y → c ≡ mentions found z → d ≡ mentions found w
-    → any_of (x ∷ y ∷ z ∷ w ∷ []) found ≡ true → ((a || b) || (c || d)) ≡ true
+    → list_any (mentions found) (x ∷ y ∷ z ∷ w ∷ []) ≡ true → ((a || b) || (c || d)) ≡ true
 four x y z w a b c d found p q r s e = go (mentions found x) (mentions found y) (mentions found z) (mentions found w) p q r s e
   where
     go : (l m n o : Bool) → a ≡ l → b ≡ m → c ≡ n → d ≡ o → (l || (m || (n || (o || false)))) ≡ true → ((a || b) || (c || d)) ≡ true

@@ -13,7 +13,8 @@ use Rattle.gj_json.specs.Names.{word_of}
 use Rattle.gj_json.specs.Tree as Tree
 use Rattle.gj_json.specs.Tree.{Tree, constant, number, string, array, object, end_of_array, element, Members, end_of_object, member}
 use Rattle.gj_number.specs.Value.{value_of}
-use Rattle.gj_rules.specs.Doomed.{outermost, at_level, levels_after, names, first_type, type_named}
+use Rattle.gj_json.specs.Ignored.{levels_behind}
+use Rattle.gj_rules.specs.Doomed.{outermost, at_level, names, first_type, type_named}
 use Rattle.gj_rules.specs.Members.{same, type_of}
 use Rattle.gj_rules.specs.Internal.LabelledEvents.{Told, plain, event_of, told, elements_told, members_told}
 use Rattle.gj_rules.proofs.Texts.ValuesByEvents.{up, down}
@@ -85,8 +86,8 @@ level_append (suc (suc k)) w xs ys = refl
 own_append : (n : ℕ) (xs ys : List Event) → (m : ℕ) × (outermost n (xs ++ ys) ≡ outermost n xs ++ outermost m ys)
 own_append n [] ys = (n, refl)
 own_append n (x ∷ xs) ys =
-    let k = own_append (levels_after x.what n) xs ys in
-    (k.0, ap (λ (ws : List What). at_level n x.what ws) k.1 ∙ level_append n x.what (outermost (levels_after x.what n) xs) (outermost k.0 ys))
+    let k = own_append (levels_behind x.what n) xs ys in
+    (k.0, ap (λ (ws : List What). at_level n x.what ws) k.1 ∙ level_append n x.what (outermost (levels_behind x.what n) xs) (outermost k.0 ys))
 
 no_front : (xs ys : List What) → xs ++ ys ≡ [] → xs ≡ []
 no_front [] ys e = refl
@@ -99,7 +100,7 @@ own_part v x done rest e =
     let whole : first_what v ∷ [] ≡ own 1 (x ∷ done) ++ outermost k.0 (map event_of rest) =
     sym (own_value v []) ∙ (ap (λ (ts : List Told). own 1 ts) (append-nil (told v) ∙ e)
     ∙ (ap (λ (es : List Event). outermost 1 es) (map-append event_of (x ∷ done) rest) ∙ k.1)) in
-    let later : List What = outermost (levels_after (event_of x).what 1) (map event_of done) in
+    let later : List What = outermost (levels_behind (event_of x).what 1) (map event_of done) in
     let none : later ≡ [] = no_front later (outermost k.0 (map event_of rest)) (let f : first_what v ∷ [] ≡ (event_of x).what ∷ (later ++ outermost k.0 (map event_of rest)) = whole in cc) in
     let first : (event_of x).what ≡ first_what v = (let f : first_what v ∷ [] ≡ (event_of x).what ∷ (later ++ outermost k.0 (map event_of rest)) = whole in cc) in
     ap (λ (w : What). w ∷ later) first ∙ ap (λ (ws : List What). first_what v ∷ ws) none

@@ -16,7 +16,8 @@ use Rattle.gj_rules.specs.declared.member_slots.Slot.{Slot}
 use Rattle.gj_rules.specs.declared.member_slots.TypeValue.{TypeValue}
 use Rattle.gj_coords.specs.Items.{place_of}
 use Rattle.gj_rules.specs.Doomed.{names, first_type, repeats}
-use Rattle.gj_rules.specs.Faults.{First, judge}
+use Rattle.gj_rules.specs.Faults.{First}
+use Rattle.gj_rules.specs.Internal.OpenMembers.{judge}
 use Rattle.gj_rules.specs.Internal.FrameCalls as F
 use Rattle.gj_rules.specs.Internal.LostObjects.{slot_fails, is_lost}
 use Rattle.gj_rules.specs.Members.{is_known, same, mentions, again, type_of}

@@ -12,7 +12,8 @@ use Rattle.gj_rules.specs.Internal.OpenMembers.{slot_of, with_slot, joined_to, u
 use Rattle.gj_rules.specs.Internal.FrameMeaning.{Shapes}
 use Rattle.gj_rules.specs.Internal.Summaries.{shapes_of, asked}
 use Rattle.gj_json.specs.Tree.{Tree, Members, end_of_object, member}
-use Rattle.gj_rules.specs.Faults.{First, first, judge}
+use Rattle.gj_rules.specs.Faults.{First, first}
+use Rattle.gj_rules.specs.Internal.OpenMembers.{judge}
 use Rattle.gj_coords.specs.Items.{place_of}
 use Rattle.gj_rules.specs.Members.{is_known, same, type_of, first_type, repeated, again, mentions}
 use Rattle.gj_json.specs.Names.{known_of}

@@ -16,7 +16,7 @@ use Rattle.gj_rules.specs.Internal.FrameMeaning.{Frame, Shapes, MemberSlots}
 use Rattle.gj_rules.specs.declared.role.Role.{Role}
 use Rattle.gj_rules.specs.declared.member_slots.Slot.{Slot}
 use Rattle.gj_rules.specs.declared.member_slots.TypeValue.{TypeValue}
-use Rattle.gj_rules.specs.Faults.{First, FirstMembers, faults, first}
+use Rattle.gj_rules.specs.Faults.{First, faults, first}
 use Rattle.gj_rules.specs.Internal.FrameCalls.{blank, warned_as, warned_by, settled, members_taken}
 use Rattle.gj_rules.specs.Members.{same, first_type}
 use Rattle.gj_rules.specs.Role.{is_allowed}
@@ -26,7 +26,7 @@ use Rattle.gj_rules.specs.Internal.TextKept.{or_none, and_kept, simple_kept, typ
 use Rattle.gj_rules.specs.TextWarnings.{crs_warnings, first_value}
 use Rattle.gj_rules.proofs.Objects.GatheredMembers.{gathered_from, gathered_after, own_after}
 use Rattle.gj_rules.proofs.Objects.AllMembers.{shapes_from}
-use Rattle.gj_rules.proofs.Objects.SettledObjects.{shown_with, shown_after, asked_after, parts_of, closed}
+use Rattle.gj_rules.proofs.Objects.SettledObjects.{ObjectMembers, shown_with, shown_after, asked_after, parts_of, closed}
 use Rattle.gj_rules.proofs.Objects.JoinedFindings.{members_shown}
 
 -- ---- the value of the first `coordinates`
@@ -69,7 +69,7 @@ any_is None = refl
 any_is (Some w) = joined_none_first w
 
 -- the frame that an object leaves, of which the first members have these warnings
-abbrev left_with : Role → ℕ → Option Slot → Shapes → FirstMembers → Warnings → Option Warnings → Option Warnings → Option Warnings → Frame
+abbrev left_with : Role → ℕ → Option Slot → Shapes → ObjectMembers → Warnings → Option Warnings → Option Warnings → Option Warnings → Frame
 left_with role place t shapes p own geometries geometry features = record {
   slots = shown_with role place t shapes p;
   gathered = record {
@@ -81,15 +81,15 @@ left_with role place t shapes p own geometries geometry features = record {
 }
 
 -- where its type had not come before its coordinates
-abbrev first_shapes : Role → FirstMembers → Shapes
-first_shapes role p = shapes_from (S.uses role Coordinates) None None no_shapes p.coordinates
+abbrev first_shapes : Role → ObjectMembers → Shapes
+first_shapes role p = shapes_from (S.uses role Coordinates) None None no_shapes (p.of Coordinates)
 
-abbrev left : Role → ℕ → Option Slot → FirstMembers → Warnings → Option Warnings → Option Warnings → Option Warnings → Frame
+abbrev left : Role → ℕ → Option Slot → ObjectMembers → Warnings → Option Warnings → Option Warnings → Option Warnings → Frame
 left role place t p own geometries geometry features = left_with role place t (first_shapes role p) p own geometries geometry features
 
-typed_is : (role : Role) (word : Word) (place : ℕ) (t : Option Slot) (p : FirstMembers) (own : Warnings) (a b c : Option Warnings)
+typed_is : (role : Role) (word : Word) (place : ℕ) (t : Option Slot) (p : ObjectMembers) (own : Warnings) (a b c : Option Warnings)
     → (if is_allowed role word then warned_as word (left role place t p own a b c) else no_warnings)
-    ≡ (if is_allowed role word then typed_kept word role place (value_in p.coordinates) (or_none a) (or_none b) (or_none c) else no_warnings)
+    ≡ (if is_allowed role word then typed_kept word role place (value_in (p.of Coordinates)) (or_none a) (or_none b) (or_none c) else no_warnings)
 typed_is role Word.Other place t p own a b c = refl
 typed_is Role.Root Word.Feature place t p own a b c = any_is b
 typed_is Role.Feature Word.Feature place t p own a b c = any_is b
@@ -100,31 +100,31 @@ typed_is Role.Part Word.GeometryCollection place t p own a b c = ap (λ (w : War
 typed_is role Word.Feature place t p own a b c = refl
 typed_is role Word.FeatureCollection place t p own a b c = refl
 typed_is Role.Feature word place t p own a b c = refl
-typed_is Role.Root Word.Point place t p own a b c = shape_warned Simple.Point p.coordinates
-typed_is role Word.Point place t p own a b c = shape_warned Simple.Point p.coordinates
-typed_is Role.Root Word.MultiPoint place t p own a b c = shape_warned Simple.MultiPoint p.coordinates
-typed_is role Word.MultiPoint place t p own a b c = shape_warned Simple.MultiPoint p.coordinates
-typed_is Role.Root Word.LineString place t p own a b c = shape_warned Simple.LineString p.coordinates
-typed_is role Word.LineString place t p own a b c = shape_warned Simple.LineString p.coordinates
-typed_is Role.Root Word.MultiLineString place t p own a b c = shape_warned Simple.MultiLineString p.coordinates
-typed_is role Word.MultiLineString place t p own a b c = shape_warned Simple.MultiLineString p.coordinates
-typed_is Role.Root Word.Polygon place t p own a b c = shape_warned Simple.Polygon p.coordinates
-typed_is role Word.Polygon place t p own a b c = shape_warned Simple.Polygon p.coordinates
-typed_is Role.Root Word.MultiPolygon place t p own a b c = shape_warned Simple.MultiPolygon p.coordinates
-typed_is role Word.MultiPolygon place t p own a b c = shape_warned Simple.MultiPolygon p.coordinates
+typed_is Role.Root Word.Point place t p own a b c = shape_warned Simple.Point (p.of Coordinates)
+typed_is role Word.Point place t p own a b c = shape_warned Simple.Point (p.of Coordinates)
+typed_is Role.Root Word.MultiPoint place t p own a b c = shape_warned Simple.MultiPoint (p.of Coordinates)
+typed_is role Word.MultiPoint place t p own a b c = shape_warned Simple.MultiPoint (p.of Coordinates)
+typed_is Role.Root Word.LineString place t p own a b c = shape_warned Simple.LineString (p.of Coordinates)
+typed_is role Word.LineString place t p own a b c = shape_warned Simple.LineString (p.of Coordinates)
+typed_is Role.Root Word.MultiLineString place t p own a b c = shape_warned Simple.MultiLineString (p.of Coordinates)
+typed_is role Word.MultiLineString place t p own a b c = shape_warned Simple.MultiLineString (p.of Coordinates)
+typed_is Role.Root Word.Polygon place t p own a b c = shape_warned Simple.Polygon (p.of Coordinates)
+typed_is role Word.Polygon place t p own a b c = shape_warned Simple.Polygon (p.of Coordinates)
+typed_is Role.Root Word.MultiPolygon place t p own a b c = shape_warned Simple.MultiPolygon (p.of Coordinates)
+typed_is role Word.MultiPolygon place t p own a b c = shape_warned Simple.MultiPolygon (p.of Coordinates)
 
-by_type_is : (role : Role) (place : ℕ) (t : Option Slot) (p : FirstMembers) (own : Warnings) (a b c : Option Warnings) (o : Option TypeValue)
-    → warned_by o (left role place t p own a b c) ≡ by_type_kept o role place (value_in p.coordinates) (or_none a) (or_none b) (or_none c)
+by_type_is : (role : Role) (place : ℕ) (t : Option Slot) (p : ObjectMembers) (own : Warnings) (a b c : Option Warnings) (o : Option TypeValue)
+    → warned_by o (left role place t p own a b c) ≡ by_type_kept o role place (value_in (p.of Coordinates)) (or_none a) (or_none b) (or_none c)
 by_type_is role place t p own a b c None = refl
 by_type_is role place t p own a b c (Some value) = typed_is role value.word place t p own a b c
 
 -- only what its type asks for counts
-word_asked : (word : Word) (role : Role) (place : ℕ) (t : Option Slot) (x : Shapes) (p : FirstMembers) (own : Warnings) (a b c : Option Warnings)
+word_asked : (word : Word) (role : Role) (place : ℕ) (t : Option Slot) (x : Shapes) (p : ObjectMembers) (own : Warnings) (a b c : Option Warnings)
     → warned_as word (left_with role place t x p own a b c) ≡ warned_as word (left_with role place t (asked_as (simple_of word) x) p own a b c)
 word_asked Word.Point role place t x p own a b c = refl
 word_asked _ role place t x p own a b c = refl
 
-warned_asked : (o : Option TypeValue) (role : Role) (place : ℕ) (t : Option Slot) (x : Shapes) (p : FirstMembers) (own : Warnings) (a b c : Option Warnings)
+warned_asked : (o : Option TypeValue) (role : Role) (place : ℕ) (t : Option Slot) (x : Shapes) (p : ObjectMembers) (own : Warnings) (a b c : Option Warnings)
     → warned_by o (left_with role place t x p own a b c) ≡ warned_by o (left_with role place t (asked o x) p own a b c)
 warned_asked None role place t x p own a b c = refl
 warned_asked (Some value) role place t x p own a b c =
@@ -159,7 +159,7 @@ found_in role place close ms = record { fault = least (faults role (object place
 pub all_closed : (role : Role) (place close : ℕ) (ms : Members) → settled (members_taken ms (blank role place)) ≡ found_in role place close ms
 all_closed role place close ms =
     let own : Warnings = own_kept ms in
-    let p : FirstMembers = parts_of ms in
+    let p : ObjectMembers = parts_of ms in
     let f : (members_taken ms (blank role place)).slots ≡ S.members_taken ms (S.blank role place) = members_shown ms (blank role place) in
     let a : S.settled (members_taken ms (blank role place)).slots ≡ least (faults role (object place ms close)) = ap S.settled f ∙ closed role place close ms in
     let e = left_after role place ms in

@@ -14,7 +14,8 @@ use Rattle.gj_rules.specs.Internal.FrameMeaning.{Frame}
 use Rattle.gj_rules.specs.Internal.FrameMeaning.{MemberWarnings}
 use Rattle.gj_rules.specs.declared.role.Role.{Role}
 use Rattle.gj_rules.specs.declared.member_slots.Slot.{Slot}
-use Rattle.gj_rules.specs.Faults.{First, judge}
+use Rattle.gj_rules.specs.Faults.{First}
+use Rattle.gj_rules.specs.Internal.OpenMembers.{judge}
 use Rattle.gj_rules.specs.Internal.FrameCalls.{due_after, member_taken, members_taken}
 use Rattle.gj_rules.specs.Internal.GatheredWarnings.{gathered_any, gathered_at}
 use Rattle.gj_rules.specs.Members.{is_known, same}

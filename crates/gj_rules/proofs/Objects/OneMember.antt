@@ -10,7 +10,8 @@ use Rattle.gj_rules.specs.Internal.FrameMeaning.{MemberSlots}
 use Rattle.gj_coords.specs.Fault.{lesser, least, fault_at}
 use Rattle.gj_rules.specs.Internal.OpenMembers.{slot_of, with_slot, joined_to, uses, named, named_known, due_known, due_after}
 use Rattle.gj_json.specs.Tree.{Tree}
-use Rattle.gj_rules.specs.Faults.{First, judge}
+use Rattle.gj_rules.specs.Faults.{First}
+use Rattle.gj_rules.specs.Internal.OpenMembers.{judge}
 use Rattle.gj_rules.specs.Members.{is_known, same}
 use Rattle.gj_rules.specs.Internal.OpenMembers.{filled, member_taken}
 use Rattle.gj_rules.proofs.Objects.MemberSlots.{slot_of-with}

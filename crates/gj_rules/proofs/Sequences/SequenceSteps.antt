@@ -17,12 +17,14 @@ use Rattle.gj_rules.specs.declared.sequence.Sequence.{Sequence}
 use Rattle.gj_rules.specs.declared.sequence.verdict.SeqVerdict.{SeqVerdict}
 use Rattle.gj_rules.specs.Verdict.{IsVerdict}
 use Rattle.gj_rules.specs.Sequence.{separator, has_separator, SequenceRecord, records_from, records_of, AllValid, IsSequenceVerdict, IsUndecided, is_stray}
-use Rattle.gj_rules.specs.SequenceStands.{IsSettled, StandsBy, StandsFor, has_decided, is_decided, decided_as, says_decided, Answers}
+use Rattle.gj_rules.specs.SequenceStands.{IsSettled, StandsBy, StandsFor, has_decided, is_decided, says_decided, Answers}
+use Rattle.gj_rules.specs.Internal.DecidedSequence.{decided_as}
 use Rattle.gj_rules.specs.Internal.OpenSequence.{closed, IsIn, IsBefore, IsAt, IsLive}
 use Rattle.gj_rules.specs.declared.verdict.Verdict.{Verdict}
 use Rattle.gj_rules.specs.declared.verdict.Verdict.TheVariants.{Valid, Broken, NotJson}
 use Rattle.gj_rules.specs.Internal.OpenRecord.{fault_shifted}
-use Rattle.gj_rules.specs.Sequence.{IsRecordVerdict, IsJudgedBy, is_separator, is_valid, valid_warnings, not_json}
+use Rattle.gj_rules.specs.Sequence.{IsRecordVerdict, IsJudgedBy, is_separator, is_valid, not_json}
+use Rattle.gj_rules.specs.Internal.VerdictParts.{valid_warnings}
 use Rattle.gj_rules.proofs.Sequences.RecordCuts.{record_at, plain-append, cut_open}
 use Rattle.gj_rules.proofs.Sequences.DecidingBytes.{Known, known_undecided, regroup, begun_more, closed_more, closed_again, first_failing, settled_refused, settled_failing, settled_long, settled_stray}
 use Rattle.gj_rules.proofs.Sequences.BytesOfSequences.{undecided_none, fitting, snoc_last, one_more, Lasting}

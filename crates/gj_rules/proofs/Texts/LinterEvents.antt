@@ -26,7 +26,8 @@ use Rattle.gj_rules.specs.Linter.{AreToldOf}
 use Rattle.gj_rules.specs.Rules.{StandsFor as RulesStandFor}
 use Rattle.gj_rules.specs.Internal.TextKept.{text_kept}
 use Rattle.gj_rules.specs.TextWarnings.{text_warnings}
-use Rattle.gj_rules.specs.Verdict.{IsVerdict, verdict_of}
+use Rattle.gj_rules.specs.Verdict.{IsVerdict}
+use Rattle.gj_rules.specs.Internal.VerdictParts.{verdict_of}
 use Rattle.gj_rules.proofs.Objects.WarningsKept.{text_is}
 
 -- ---- a piece

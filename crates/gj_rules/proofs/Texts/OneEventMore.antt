@@ -10,7 +10,8 @@ use Rattle.gj_json.specs.Events as E
 use Rattle.gj_json.specs.Tree.{Tree, Text, depth}
 use Rattle.gj_coords.specs.declared.coordinates.Coordinates as C
 use Rattle.gj_coords.specs.declared.bbox.Bbox as B
-use Rattle.gj_rules.specs.Levels.{most_levels, most_skipped}
+use Rattle.gj_rules.specs.Levels.{most_levels}
+use Rattle.gj_rules.specs.Internal.SkippedLevels.{most_skipped}
 use Rattle.gj_rules.specs.Internal.FrameMeaning.{Findings}
 use Rattle.gj_rules.specs.Internal.FrameReading.{found_in}
 use Rattle.gj_rules.specs.Internal.FrameMeaning.{Frame}

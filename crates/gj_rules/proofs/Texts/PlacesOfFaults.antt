@@ -1,5 +1,5 @@
 -- The places that the faults and the warnings of a text tell are places of it.
-use Rattle.std.proofs.Common.{◌≡◌, ℕ, zero, suc, ◌+◌, ◌≤◌, Bool, true, false, if◌then◌else◌, List, [], ◌∷◌, ◌++◌, length, length-append, take, drop, Option, Some, None, ap, ◌∙◌, subst, arith}
+use Rattle.std.proofs.Common.{◌≡◌, ℕ, zero, suc, ◌+◌, ◌≤◌, Bool, true, false, if◌then◌else◌, List, [], ◌∷◌, ◌++◌, length, length-append, take, drop, Option, Some, None, is_some, ap, ◌∙◌, subst, arith}
 use Rattle.std.specs.List.{AllByRecursion, flat_map}
 use Rattle.gj_json.specs.declared.constant.Constant.{Constant}
 use Rattle.gj_json.specs.declared.constant.Constant.TheVariants.{Null, True, False}
@@ -17,13 +17,13 @@ use Rattle.gj_coords.specs.declared.fault.Rule.{Rule}
 use Rattle.gj_coords.specs.declared.simple.Simple.{Simple}
 use Rattle.gj_coords.specs.Fault.{fault_at, comes_first, lesser, least}
 use Rattle.gj_coords.specs.Items.{items, elements_of, place_of}
-use Rattle.gj_coords.specs.Box.{box_number, is_wrong_length, bbox_faults}
-use Rattle.gj_coords.specs.Shape.{Shape, misshapen, few, unheld, held_number, any_number, position, several, list, line, unclosed, ring, or_empty, shape_of, coordinates_faults}
+use Rattle.gj_coords.specs.Box.{is_wrong_length, bbox_faults}
+use Rattle.gj_coords.specs.Shape.{Shape, misshapen, few, held_number, number_or, position, several, list, line, unclosed, ring, or_empty, shape_of, coordinates_faults}
 use Rattle.gj_rules.specs.declared.role.Role.{Role}
 use Rattle.gj_rules.specs.declared.member_slots.TypeValue.{TypeValue}
 use Rattle.gj_rules.specs.Faults
 use Rattle.gj_rules.specs.Faults.{First, FirstMembers}
-use Rattle.gj_rules.specs.Members.{same, is_known, mentions, first_type, again, repeated}
+use Rattle.gj_rules.specs.Members.{same, is_known, mentions, forbidden_by, first_type, again, repeated}
 
 -- ---- the places of a tree
 
@@ -160,7 +160,7 @@ one_if n false place rule h = tt
 few_in : (n needed : ℕ) (rule : Rule) (place : ℕ) (values : List Tree) → place ≤ n → FaultsIn n (few needed rule place values)
 few_in n needed rule place values h = one_if n _ place rule h
 
-unheld_in : (n place : ℕ) (value : Option Exact) → place ≤ n → FaultsIn n (unheld place value)
+unheld_in : (n place : ℕ) (value : Option Exact) → place ≤ n → FaultsIn n (if is_some value then [] else fault_at place Rule.G16 ∷ [])
 unheld_in n place None h = (h, tt)
 unheld_in n place (Some value) h = tt
 
@@ -171,20 +171,20 @@ held_in n (string place content end) h = (h, tt)
 held_in n (array place es close) h = (h.0, tt)
 held_in n (object place ms close) h = (h.0, tt)
 
-any_in : (n : ℕ) → FitsShape n any_number
-any_in n (number place literal end) h = tt
-any_in n (constant which place) h = (h, tt)
-any_in n (string place content end) h = (h, tt)
-any_in n (array place es close) h = (h.0, tt)
-any_in n (object place ms close) h = (h.0, tt)
+number_in : (n : ℕ) (rule : Rule) → FitsShape n (number_or rule)
+number_in n rule (number place literal end) h = tt
+number_in n rule (constant which place) h = (h, tt)
+number_in n rule (string place content end) h = (h, tt)
+number_in n rule (array place es close) h = (h.0, tt)
+number_in n rule (object place ms close) h = (h.0, tt)
 
 position_in : (n : ℕ) → FitsShape n position
 position_in n (array place es close) h =
     let i = items_within n es h.1 in
     all_append (InFault n) _ _ (few_in n 2 Rule.G12 place (items es) h.0)
-    (all_append (InFault n) (flat_map held_number (take 3 (items es))) (flat_map any_number (drop 3 (items es)))
+    (all_append (InFault n) (flat_map held_number (take 3 (items es))) (flat_map (number_or Rule.G11) (drop 3 (items es)))
     (all_flat (Within n) (InFault n) held_number (held_in n) (take 3 (items es)) (all_take (Within n) 3 (items es) i))
-    (all_flat (Within n) (InFault n) any_number (any_in n) (drop 3 (items es)) (all_drop (Within n) 3 (items es) i)))
+    (all_flat (Within n) (InFault n) (number_or Rule.G11) (number_in n Rule.G11) (drop 3 (items es)) (all_drop (Within n) 3 (items es) i)))
 position_in n (constant which place) h = (h, tt)
 position_in n (number place literal end) h = (h, tt)
 position_in n (string place content end) h = (h, tt)
@@ -233,17 +233,10 @@ or_empty_in n shape one (object place ms close) h = one (object place ms close) 
 coordinates_in : (n : ℕ) (simple : Simple) → FitsShape n (coordinates_faults simple)
 coordinates_in n simple = or_empty_in n (shape_of simple) (shape_in n simple)
 
-box_number_in : (n : ℕ) → FitsShape n box_number
-box_number_in n (number place literal end) h = tt
-box_number_in n (constant which place) h = (h, tt)
-box_number_in n (string place content end) h = (h, tt)
-box_number_in n (array place es close) h = (h.0, tt)
-box_number_in n (object place ms close) h = (h.0, tt)
-
 bbox_in : (n : ℕ) → FitsShape n bbox_faults
 bbox_in n (array place es close) h =
-    all_append (InFault n) _ (flat_map box_number (items es)) (one_if n (is_wrong_length (length (items es))) place Rule.G21 h.0)
-    (all_flat (Within n) (InFault n) box_number (box_number_in n) (items es) (items_within n es h.1))
+    all_append (InFault n) _ (flat_map (number_or Rule.G20) (items es)) (one_if n (is_wrong_length (length (items es))) place Rule.G21 h.0)
+    (all_flat (Within n) (InFault n) (number_or Rule.G20) (number_in n Rule.G20) (items es) (items_within n es h.1))
 bbox_in n (constant which place) h = (h, tt)
 bbox_in n (number place literal end) h = (h, tt)
 bbox_in n (string place content end) h = (h, tt)
@@ -283,16 +276,10 @@ abbrev TypeIn : ℕ → Option TypeValue → Type 0
 TypeIn n None = Unit {0}
 TypeIn n (Some value) = value.place ≤ n
 
-record MembersIn (n : ℕ) (m : FirstMembers) : Type 0 where
-  repeated_in : FaultsIn n m.repeated
-  type_in : TypeIn n m.type_value
-  coordinates_at : FirstIn n m.coordinates
-  geometries_at : FirstIn n m.geometries
-  geometry_at : FirstIn n m.geometry
-  properties_at : FirstIn n m.properties
-  features_at : FirstIn n m.features
-  bbox_at : FirstIn n m.bbox
-  id_at : FirstIn n m.id
+record MembersIn (n : ℕ) (repeats : List Fault) (type_value : Option TypeValue) (m : FirstMembers) : Type 0 where
+  repeated_in : FaultsIn n repeats
+  type_in : TypeIn n type_value
+  at : (name : Known) → FirstIn n (m name)
 
 forbidden_in : (n : ℕ) (first : Option First) → FirstIn n first → FaultsIn n (Faults.forbidden first)
 forbidden_in n None h = tt
@@ -310,48 +297,37 @@ due_coordinates_in : (n : ℕ) (simple : Simple) (place : ℕ) (first : Option F
 due_coordinates_in n simple place None l h = (l, tt)
 due_coordinates_in n simple place (Some first) l h = coordinates_in n simple first.value h.1
 
-module _ (n place : ℕ) (m : FirstMembers) (l : place ≤ n) (h : MembersIn n m) where
-  geometry_forbids_in : FaultsIn n (Faults.geometry_forbids m)
-  geometry_forbids_in =
-      all_append (InFault n) _ _ (forbidden_in n m.geometry h.geometry_at)
-      (all_append (InFault n) _ _ (forbidden_in n m.properties h.properties_at) (forbidden_in n m.features h.features_at))
-
-  as_simple_in : (simple : Simple) → FaultsIn n (Faults.as_simple simple place m)
-  as_simple_in simple = all_append (InFault n) _ _ geometry_forbids_in (due_coordinates_in n simple place m.coordinates l h.coordinates_at)
+module _ (n place : ℕ) (repeats : List Fault) (type_value : Option TypeValue) (m : FirstMembers) (l : place ≤ n) (h : MembersIn n repeats type_value m) where
+  all_forbidden_in : (names : List Known) → FaultsIn n (flat_map (λ name. Faults.forbidden (m name)) names)
+  all_forbidden_in [] = tt
+  all_forbidden_in (name ∷ more) = all_append (InFault n) _ _ (forbidden_in n (m name) (h.at name)) (all_forbidden_in more)
 
   as_type_in : (word : Word) → FaultsIn n (Faults.as_type word place m)
-  as_type_in Word.Point = as_simple_in Simple.Point
-  as_type_in Word.MultiPoint = as_simple_in Simple.MultiPoint
-  as_type_in Word.LineString = as_simple_in Simple.LineString
-  as_type_in Word.MultiLineString = as_simple_in Simple.MultiLineString
-  as_type_in Word.Polygon = as_simple_in Simple.Polygon
-  as_type_in Word.MultiPolygon = as_simple_in Simple.MultiPolygon
-  as_type_in Word.GeometryCollection = all_append (InFault n) _ _ geometry_forbids_in (due_in n place Rule.G5 m.geometries l h.geometries_at)
+  as_type_in Word.Point = due_coordinates_in n Simple.Point place (m Coordinates) l (h.at Coordinates)
+  as_type_in Word.MultiPoint = due_coordinates_in n Simple.MultiPoint place (m Coordinates) l (h.at Coordinates)
+  as_type_in Word.LineString = due_coordinates_in n Simple.LineString place (m Coordinates) l (h.at Coordinates)
+  as_type_in Word.MultiLineString = due_coordinates_in n Simple.MultiLineString place (m Coordinates) l (h.at Coordinates)
+  as_type_in Word.Polygon = due_coordinates_in n Simple.Polygon place (m Coordinates) l (h.at Coordinates)
+  as_type_in Word.MultiPolygon = due_coordinates_in n Simple.MultiPolygon place (m Coordinates) l (h.at Coordinates)
+  as_type_in Word.GeometryCollection = due_in n place Rule.G5 (m Geometries) l (h.at Geometries)
   as_type_in Word.Feature =
-      all_append (InFault n) _ _
-      (all_append (InFault n) _ _ (forbidden_in n m.coordinates h.coordinates_at)
-      (all_append (InFault n) _ _ (forbidden_in n m.geometries h.geometries_at) (forbidden_in n m.features h.features_at)))
-      (all_append (InFault n) _ _ (due_in n place Rule.G6 m.geometry l h.geometry_at)
-      (all_append (InFault n) _ _ (due_in n place Rule.G7 m.properties l h.properties_at) (optional_in n m.id h.id_at)))
-  as_type_in Word.FeatureCollection =
-      all_append (InFault n) _ _
-      (all_append (InFault n) _ _
-      (all_append (InFault n) _ _ (forbidden_in n m.coordinates h.coordinates_at) (forbidden_in n m.geometries h.geometries_at))
-      (all_append (InFault n) _ _ (forbidden_in n m.geometry h.geometry_at) (forbidden_in n m.properties h.properties_at)))
-      (due_in n place Rule.G8 m.features l h.features_at)
+      all_append (InFault n) _ _ (due_in n place Rule.G6 (m Geometry) l (h.at Geometry))
+      (all_append (InFault n) _ _ (due_in n place Rule.G7 (m Properties) l (h.at Properties)) (optional_in n (m Id) (h.at Id)))
+  as_type_in Word.FeatureCollection = due_in n place Rule.G8 (m Features) l (h.at Features)
   as_type_in Word.Other = tt
 
-  chosen_in : (b : Bool) (value : TypeValue) → value.place ≤ n → FaultsIn n (if b then Faults.as_type value.word place m else (record { place = value.place; rule = Rule.G3 }) ∷ [])
-  chosen_in true value k = as_type_in value.word
+  chosen_in : (b : Bool) (value : TypeValue) → value.place ≤ n
+      → FaultsIn n (if b then flat_map (λ name. Faults.forbidden (m name)) (forbidden_by value.word) ++ Faults.as_type value.word place m else (record { place = value.place; rule = Rule.G3 }) ∷ [])
+  chosen_in true value k = all_append (InFault n) _ _ (all_forbidden_in (forbidden_by value.word)) (as_type_in value.word)
   chosen_in false value k = (k, tt)
 
   by_type_in : (role : Role) (value : Option TypeValue) → TypeIn n value → FaultsIn n (Faults.by_type value role place m)
   by_type_in role None k = (l, tt)
   by_type_in role (Some value) k = chosen_in _ value k
 
-  object_in : (role : Role) → FaultsIn n (Faults.object_faults role place m)
+  object_in : (role : Role) → FaultsIn n (Faults.object_faults role place repeats type_value m)
   object_in role =
-      all_append (InFault n) _ _ h.repeated_in (all_append (InFault n) _ _ (optional_in n m.bbox h.bbox_at) (by_type_in role m.type_value h.type_in))
+      all_append (InFault n) _ _ h.repeated_in (all_append (InFault n) _ _ (optional_in n (m Bbox) (h.at Bbox)) (by_type_in role type_value h.type_in))
 
 again_in : (n : ℕ) (a b : Bool) (place : ℕ) → place ≤ n → FaultsIn n (again a b place)
 again_in n true true place h = (h, tt)
@@ -391,16 +367,10 @@ selected_in n Other v geometry geometries features h a b c = tt
 
 mutual
   faults_in : (n : ℕ) (role : Role) (t : Tree) → Within n t → FaultsIn n (Faults.faults role t)
-  faults_in n role (object place ms close) h = object_in n place _ h.0 (record {
+  faults_in n role (object place ms close) h = object_in n place _ _ (λ name. Faults.first name ms) h.0 (record {
     repeated_in = repeated_in_members n [] ms h.1;
     type_in = first_type_in n ms h.1;
-    coordinates_at = first_member_in n Coordinates ms h.1;
-    geometries_at = first_member_in n Geometries ms h.1;
-    geometry_at = first_member_in n Geometry ms h.1;
-    properties_at = first_member_in n Properties ms h.1;
-    features_at = first_member_in n Features ms h.1;
-    bbox_at = first_member_in n Bbox ms h.1;
-    id_at = first_member_in n Id ms h.1;
+    at = λ name. first_member_in n name ms h.1;
   }) role
   faults_in n role (constant which place) h = constant_in n which role place h
   faults_in n role (number place literal end) h = (h, tt)

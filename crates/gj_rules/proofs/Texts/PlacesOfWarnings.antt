@@ -12,11 +12,13 @@ use Rattle.gj_coords.specs.declared.kind.Kind.TheVariants.{W1, W2, W3, W4, W5, W
 use Rattle.gj_coords.specs.declared.simple.Simple.{Simple}
 use Rattle.gj_coords.specs.Items.{elements_of, place_of}
 use Rattle.gj_coords.specs.BoxWarnings.{south_above_north, bbox_warnings}
-use Rattle.gj_coords.specs.CoordinateWarnings.{Concern, warned_if, is_sound, each, is_precise, number_warnings, sound_position_warnings, position_warnings, exterior_warnings, hole_warnings, rings_warnings, polygon_warnings, concern_of, or_empty_warning, coordinates_warnings}
+use Rattle.gj_coords.specs.CoordinateWarnings.{Concern, warned_if, is_sound, each, is_precise, number_warnings, sound_position_warnings, position_warnings, ring_warnings, rings_warnings, polygon_warnings, concern_of, or_empty_warning, coordinates_warnings}
 use Rattle.gj_coords.specs.Ring.{exact_value}
 use Rattle.gj_coords.specs.Shape.{position, ring}
 use Rattle.gj_coords.specs.Warnings.{Warning, same_kind, places_of, least_place, lesser_place, first_of}
-use Rattle.gj_coords.specs.Winding.{in_range, exterior_runs_wrong, hole_runs_wrong}
+use Rattle.gj_coords.specs.declared.winding.Turn.{Turn}
+use Rattle.gj_coords.specs.declared.winding.Turn.TheVariants.{Left, Right}
+use Rattle.gj_coords.specs.Winding.{in_range, ring_turn, same_turn}
 use Rattle.gj_rules.specs.declared.role.Role.{Role}
 use Rattle.gj_rules.specs.declared.member_slots.TypeValue.{TypeValue}
 use Rattle.gj_rules.specs.Members.{same, first_type}
@@ -52,22 +54,16 @@ sound_position_in n t h =
 position_in : (n : ℕ) → FitsConcern n position_warnings
 position_in n t h = all_if (InWarning n) (is_sound position t) (sound_position_warnings t) (sound_position_in n t h)
 
-exterior_in : (n : ℕ) → FitsConcern n exterior_warnings
-exterior_in n t h =
+ring_in : (n : ℕ) (wrong : Turn) → FitsConcern n (ring_warnings wrong)
+ring_in n wrong t h =
     all_append (InWarning n) _ (each position_warnings t)
-    (warned_in n (is_sound ring t && exterior_runs_wrong (elements_of t)) (place_of t) W2 (place_within n t h))
-    (each_in n position_warnings (position_in n) t h)
-
-hole_in : (n : ℕ) → FitsConcern n hole_warnings
-hole_in n t h =
-    all_append (InWarning n) _ (each position_warnings t)
-    (warned_in n (is_sound ring t && hole_runs_wrong (elements_of t)) (place_of t) W2 (place_within n t h))
+    (warned_in n (is_sound ring t && same_turn (ring_turn (elements_of t)) wrong) (place_of t) W2 (place_within n t h))
     (each_in n position_warnings (position_in n) t h)
 
 rings_in : (n : ℕ) (ts : List Tree) → AllByRecursion (Within n) ts → WarningsIn n (rings_warnings ts)
 rings_in n [] h = tt
 rings_in n (exterior ∷ holes) h =
-    all_append (InWarning n) (exterior_warnings exterior) (flat_map hole_warnings holes) (exterior_in n exterior h.0) (all_flat (Within n) (InWarning n) hole_warnings (hole_in n) holes h.1)
+    all_append (InWarning n) (ring_warnings Right exterior) (flat_map (ring_warnings Left) holes) (ring_in n Right exterior h.0) (all_flat (Within n) (InWarning n) (ring_warnings Left) (ring_in n Left) holes h.1)
 
 polygon_in : (n : ℕ) → FitsConcern n polygon_warnings
 polygon_in n t h = rings_in n (elements_of t) (elements_within n t h)

@@ -1,5 +1,5 @@
 -- What the calls do to what an open object has shown.
-use Rattle.std.specs.Prelude.{ℕ, Bool, true, false, if◌then◌else◌, Option, Some, None}
+use Rattle.std.specs.Prelude.{ℕ, Bool, true, false, if◌then◌else◌, List, Option, Some, None}
 use Rattle.gj_json.specs.declared.names.Known.{Known}
 use Rattle.gj_json.specs.declared.names.Known.TheVariants.{TypeName, Coordinates, Geometries, Geometry, Properties, Features, Bbox, Id, Crs, Other}
 use Rattle.gj_json.specs.declared.names.Word.{Word}
@@ -18,8 +18,12 @@ use Rattle.gj_rules.specs.Internal.FrameMeaning.{Shapes}
 use Rattle.gj_coords.specs.Items.{place_of}
 use Rattle.gj_rules.specs.Members.{is_known, type_of}
 use Rattle.gj_rules.specs.Role.{is_allowed}
-use Rattle.gj_rules.specs.Faults.{judge}
+use Rattle.gj_rules.specs.Faults.{selected, faults, listed}
 use Rattle.gj_rules.specs.Internal.Summaries.{no_shapes, shape_for, shapes_of, asked}
+
+-- the faults of the value of a first member
+abbrev pub judge : Known → Tree → List Fault
+judge name value = selected name value (faults Role.Geometry value) (listed Role.Part value) (listed Role.Feature value)
 
 abbrev pub blank : Role → ℕ → MemberSlots
 blank role place = record {

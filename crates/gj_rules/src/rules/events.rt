@@ -15,7 +15,7 @@ impl Rules {
     ghost use Rattle.gj_rules.specs.Internal.Summaries.{none_found};
     ghost use Rattle.gj_rules.specs.Internal.EventSteps.{skip, pushed, popped, root_step, names_step, due_step, begun, element_step, is_feeding};
     ghost use Rattle.gj_rules.specs.Internal.RulesState.{core_of, HasRoom, Holds};
-    ghost use Rattle.gj_rules.specs.Levels.{most_skipped};
+    ghost use Rattle.gj_rules.specs.Internal.SkippedLevels.{most_skipped};
 
     /// An object with a role opens. A text within the limits has at most [`MOST_AROUND`] of them open around it.
     #[inline(never)]

@@ -17,7 +17,8 @@ pub enum SeqVerdict {
     Record { number: u64, verdict: Verdict },
 }
 
-ghost use Rattle.gj_rules.specs.Sequence.{if_ended, shifted_verdict, valid_warnings, SequenceJudgement, SequenceSays, IsSequenceVerdict};
+ghost use Rattle.gj_rules.specs.Sequence.{if_ended, shifted_verdict, SequenceJudgement, SequenceSays, IsSequenceVerdict};
+ghost use Rattle.gj_rules.specs.Internal.VerdictParts.{valid_warnings};
 
 /// Under any limits each input has one verdict as a sequence, and no other, and its warnings are those of a list. It does
 /// nothing: its contract is a law of the definitions.

@@ -25,7 +25,7 @@ returns-in-Open-clause-verdict g c =
     let verdict = subst (λ (limits : Allowed). IsVerdict limits all c.finish_and_begin.result) (c.feed.ensures.limits ∙ c.loop-linter.invariant.limits)
         (c.finish_and_begin.ensures.verdict all (c.feed.ensures.stands fed stands)) in
     let (judgement, is, says) = said c.args.limits all c.finish_and_begin.result verdict in
-    (judgement, says, Judges-end IsJudgement _ _ _ all judgement consumed (ended c.in-Ok-eq0.field-0-test) is)
+    (judgement, says, Judges-end IsJudgement c.args.limits _ _ all judgement consumed (ended c.in-Ok-eq0.field-0-test) is)
 
 pub returns-in-Refused-clause-verdict : goal.returns-in-Refused-clause-verdict
 returns-in-Refused-clause-verdict g c =
@@ -36,7 +36,7 @@ returns-in-Refused-clause-verdict g c =
     let is = rw (c.in-Refused.is) at (c.feed.ensures.answer fed stands) in (
       refused c.in-Refused.fault,
       refl,
-      Judges-lasting IsJudgement _ _ _ all _ consumed
+      Judges-lasting IsJudgement c.args.limits _ _ all (refused c.in-Refused.fault) consumed
           (IsJudgement-of_refusal (limits_of c.loop-linter.linter) c.args.limits all c.in-Refused.fault c.loop-linter.invariant.limits is),
     )
 
@@ -52,7 +52,7 @@ returns-in-Refused-feed-clause-verdict g c =
     let lasts = IsJudgement-of_refusal (limits_of c.loop-linter.linter) c.args.limits first c.in-Refused-feed.fault c.loop-linter.invariant.limits is in (
       refused c.in-Refused-feed.fault,
       refl,
-      Judges-lasting IsJudgement _ _ _ (first ++ rest) _ (subst (Consumes (g.S.Source.remaining c.args.reader.now) (g.S.Source.remaining c.fill.new.reader)) (sym same) all)
+      Judges-lasting IsJudgement c.args.limits _ _ (first ++ rest) (refused c.in-Refused-feed.fault) (subst (Consumes (g.S.Source.remaining c.args.reader.now) (g.S.Source.remaining c.fill.new.reader)) (sym same) all)
           (λ more. subst (λ (ys : List ℕ). IsJudgement c.args.limits ys (refused c.in-Refused-feed.fault)) (sym (append_assoc first rest more)) (lasts (rest ++ more))),
     )
 

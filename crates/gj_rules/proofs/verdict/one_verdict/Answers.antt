@@ -13,7 +13,8 @@ use Rattle.gj_rules.specs.TextWarnings.{text_warnings}
 use Rattle.gj_rules.specs.declared.verdict.Verdict.{Verdict}
 use Rattle.gj_rules.specs.declared.verdict.Verdict.TheVariants.{Valid, Broken, NotJson}
 use Rattle.gj_rules.specs.Faults.{text_faults}
-use Rattle.gj_rules.specs.Verdict.{IsVerdict, verdict_of}
+use Rattle.gj_rules.specs.Verdict.{IsVerdict}
+use Rattle.gj_rules.specs.Internal.VerdictParts.{verdict_of}
 use Rattle.gj_rules.specs.Internal.JudgementLaws.{said, says}
 use Rattle.gj_rules.proofs.Texts.LinterEvents.{text_verdict}
 use Rattle.gj_rules.proofs.verdict.one_verdict.Goals as goal

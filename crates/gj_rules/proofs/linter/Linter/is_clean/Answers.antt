@@ -8,7 +8,8 @@ use Rattle.gj_rules.specs.Linter.{StandsFor, limits_of}
 use Rattle.gj_rules.specs.Rules.{StandsFor as RulesStandFor}
 use Rattle.gj_rules.specs.Internal.FrameMeaning.{Findings}
 use Rattle.gj_rules.specs.TextWarnings.{text_warnings}
-use Rattle.gj_rules.specs.Verdict.{IsVerdict, verdict_of}
+use Rattle.gj_rules.specs.Verdict.{IsVerdict}
+use Rattle.gj_rules.specs.Internal.VerdictParts.{verdict_of}
 use Rattle.gj_rules.proofs.Texts.LinterEvents
 use Rattle.gj_rules.proofs.Texts.OneEventMore.{answered}
 use Rattle.gj_rules.proofs.linter.Linter.is_clean.Goals as goal
