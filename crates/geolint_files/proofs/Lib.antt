@@ -6,6 +6,7 @@ mod WorstOutcome
 mod FoundSites
 mod SoughtPlaces
 mod FollowedPaths
+mod ToldPaths
 mod FileCounts
 mod ReportedSites
 mod CommasBetween
