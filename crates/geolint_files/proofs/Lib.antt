@@ -7,6 +7,7 @@ mod FoundSites
 mod SoughtPlaces
 mod FollowedPaths
 mod ToldPaths
+mod TextPlaces
 mod FileCounts
 mod ReportedSites
 mod CommasBetween

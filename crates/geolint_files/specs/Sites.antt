@@ -4,11 +4,12 @@ use Rattle.std.specs.List.{Contains, list_any}
 use Rattle.std.specs.Io.Iter.{u64_saturate}
 use Rattle.gj_json.specs.Limits.{Allowed}
 use Rattle.gj_json.specs.Path.{steps_of, path_at}
-use Rattle.gj_json.specs.Text.{IsText, IsViableWithin}
+use Rattle.gj_json.specs.Refusal.{IsAdmitted}
+use Rattle.gj_json.specs.Text.{IsText, IsTextWithin, IsViableWithin}
 use Rattle.gj_json.specs.Tree.{Text}
 use Rattle.gj_json.specs.declared.path.Path.{Path}
 use Rattle.gj_places.specs.Lines.{line_of, column_of}
-use Rattle.gj_rules.specs.Sequence.{is_separator, has_separator}
+use Rattle.gj_rules.specs.Sequence.{has_separator, SequenceRecord, records_of}
 use Rattle.geolint_files.specs.declared.sites.Site.{Site}
 use Rattle.geolint_files.specs.declared.sites.Sites.{Sites}
 use Rattle.geolint_files.specs.declared.sites.Spot.{Spot}
@@ -86,6 +87,22 @@ AreTold limits is_sequence bytes sites =
 abbrev pub ToldBy : Allowed → Bool → Option (List ℕ) → List Site → Type 0
 ToldBy limits is_sequence None sites = ⊤
 ToldBy limits is_sequence (Some bytes) sites = AreTold limits is_sequence bytes sites
+
+-- the place of a byte of a text: of the file, or in a sequence of one of its records
+abbrev pub IsInText : Allowed → Bool → List ℕ → ℕ → Type 0
+IsInText limits true bytes place =
+    (r : SequenceRecord) × (text : Text) × Contains (records_of limits bytes) r × IsTextWithin limits.depth text r.bytes × (r.start ≤ place) × (place < r.start + length r.bytes)
+IsInText limits false bytes place = (text : Text) × IsAdmitted limits text bytes × (place < length bytes)
+
+-- each place of a text that was found is told
+abbrev pub AreToldInTexts : Allowed → Bool → List ℕ → List Site → Type 0
+AreToldInTexts limits is_sequence bytes sites =
+    (i : ℕ) (other : Site) → i < length sites → (get_or sites i other).is_found ≡ true → IsInText limits is_sequence bytes (get_or sites i other).place → IsSome (get_or sites i other).path
+
+-- the same, where the reader told its bytes
+abbrev pub ToldInTextsBy : Allowed → Bool → Option (List ℕ) → List Site → Type 0
+ToldInTextsBy limits is_sequence None sites = ⊤
+ToldInTextsBy limits is_sequence (Some bytes) sites = AreToldInTexts limits is_sequence bytes sites
 
 -- ---- which places are found
 

@@ -62,7 +62,7 @@ impl Sites {
     ghost use Rattle.std.specs.List.{Contains};
     ghost use Rattle.std.specs.List.Sorted.{IsNonDecreasing};
     ghost use Rattle.geolint_files.specs.declared.sites.Site.{Site};
-    ghost use Rattle.geolint_files.specs.Sites.{IsSpot, AreRight, RightBy, LeadsTo, ArePaths, PathsBy, IsTold, AreTold, ToldBy, NoneFound, sought, AllFound, FoundBy};
+    ghost use Rattle.geolint_files.specs.Sites.{IsSpot, AreRight, RightBy, LeadsTo, ArePaths, PathsBy, IsTold, AreTold, ToldBy, ToldInTextsBy, NoneFound, sought, AllFound, FoundBy};
     ghost use Rattle.gj_json.specs.Limits.{Allowed};
     ghost use Rattle.geolint_files.specs.Internal.SecondReading.{Reaches, Follows, Tells, AreWithin, Seeks, Settles};
     ghost use Rattle.geolint_files.specs.Report.{site_in};
@@ -140,9 +140,11 @@ impl Sites {
         ensures right { AreRight [] self.old.sites → RightBy (R.remaining reader.old) self.new.sites }
         ensures paths { AreRight [] self.old.sites → ArePaths is_sequence [] self.old.sites → PathsBy is_sequence (R.remaining reader.old) self.new.sites }
         ensures told { NoneFound self.old.sites → ToldBy limits is_sequence (R.remaining reader.old) self.new.sites }
+        ensures texts { NoneFound self.old.sites → ToldInTextsBy limits is_sequence (R.remaining reader.old) self.new.sites }
         ensures found { AreRight [] self.old.sites → IsNonDecreasing (sought self.old) → OnOk result (FoundBy (R.remaining reader.old) self.new) }
         ensures sought { sought self.new ≡ sought self.old }
     {
+        let _most = limits.bytes();
         let mut finder = Finder::new(limits, is_sequence);
         let mut piece = [0; PIECE];
         for _ in 0..u64::MAX {

@@ -4,6 +4,7 @@ use Rattle.std.proofs.KnownBytes.{Consumes-nil, Consumes-trans}
 use Rattle.std.proofs.lemmas.List.{length-take-le}
 use Rattle.geolint_files.proofs.FoundSites.{RightBy-read, RightBy-reached}
 use Rattle.geolint_files.proofs.FollowedPaths.{PathsBy-read, PathsBy-reached, paths-followed}
+use Rattle.geolint_files.proofs.TextPlaces.{ToldInTexts-by}
 use Rattle.geolint_files.proofs.ToldPaths.{ToldBy-reached, ToldBy-end, told-now, unfound-right, unfound-paths}
 use Rattle.geolint_files.proofs.SoughtPlaces.{FoundBy-read, FoundBy-reached, Seeks-begins}
 use Rattle.geolint_files.proofs.FileVerdicts.{Consumes-none}
@@ -40,6 +41,12 @@ returns-then-is_whole-clause-told g c = λ none.
     let more = Consumes-trans _ _ _ read piece took c.in_ok-count.ensures.bytes.0 in
     ToldBy-reached c.args.limits c.args.is_sequence _ _ (read ++ piece) _ _ more
     (c.take.ensures.tells c.args.limits c.args.is_sequence read reaches (follows (unfound-paths c.args.is_sequence [] c.args.self.now.sites none)) (tells none))
+
+pub returns-in_err-count-clause-texts : goal.returns-in_err-count-clause-texts
+returns-in_err-count-clause-texts g c = λ none. ToldInTexts-by c.args.limits c.args.is_sequence _ _ c.bytes-most.ensures.allowed (returns-in_err-count-clause-told g c none)
+
+pub returns-then-is_whole-clause-texts : goal.returns-then-is_whole-clause-texts
+returns-then-is_whole-clause-texts g c = λ none. ToldInTexts-by c.args.limits c.args.is_sequence _ _ c.bytes-most.ensures.allowed (returns-then-is_whole-clause-told g c none)
 
 pub returns-then-is_whole-clause-paths : goal.returns-then-is_whole-clause-paths
 returns-then-is_whole-clause-paths g c = λ begun paths.
@@ -120,6 +127,9 @@ returns-clause-told g c = λ none.
           ToldBy-end limits is_sequence _ _ read c.end.new.self.sites (Consumes-none _ _ _ read w.read.new.buf w.in_ok-count.count w.if-count-eq0.true took bytes.0) (bytes.1 w.if-count-eq0.true room)
           (c.end.ensures.told limits is_sequence read reaches (told-now limits is_sequence _ _ read told)))
     ]
+
+pub returns-clause-texts : goal.returns-clause-texts
+returns-clause-texts g c = λ none. ToldInTexts-by c.args.limits c.args.is_sequence _ _ c.bytes-most.ensures.allowed (returns-clause-told g c none)
 
 pub returns-clause-sought : goal.returns-clause-sought
 returns-clause-sought g c = c.end.ensures.sought ∙ c.loop.invariant.sought
