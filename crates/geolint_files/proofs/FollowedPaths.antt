@@ -33,10 +33,10 @@ or-none : (a : Bool) → (a || false) ≡ a
 or-none true = refl
 or-none false = refl
 
-has_separator-here : (bytes : List ℕ) (byte : ℕ) → is_separator byte ≡ true → has_separator (bytes ++ byte ∷ []) ≡ true
+pub has_separator-here : (bytes : List ℕ) (byte : ℕ) → is_separator byte ≡ true → has_separator (bytes ++ byte ∷ []) ≡ true
 has_separator-here bytes byte is = has_separator-more bytes byte ∙ (ap (λ (b : Bool). has_separator bytes || b) is ∙ or-true (has_separator bytes))
 
-has_separator-other : (bytes : List ℕ) (byte : ℕ) → is_separator byte ≡ false → has_separator (bytes ++ byte ∷ []) ≡ has_separator bytes
+pub has_separator-other : (bytes : List ℕ) (byte : ℕ) → is_separator byte ≡ false → has_separator (bytes ++ byte ∷ []) ≡ has_separator bytes
 has_separator-other bytes byte is = has_separator-more bytes byte ∙ (ap (λ (b : Bool). has_separator bytes || b) is ∙ or-none (has_separator bytes))
 
 pub last_record-begun : (bytes : List ℕ) (byte : ℕ) → is_separator byte ≡ true → last_record (bytes ++ byte ∷ []) ≡ []
@@ -68,17 +68,21 @@ LeadsTo-longer is_sequence text more place (Some path) (within, is) =
 pub ArePaths-longer : (is_sequence : Bool) (text more : List ℕ) (sites : List Site) → ArePaths is_sequence text sites → ArePaths is_sequence (text ++ more) sites
 ArePaths-longer is_sequence text more sites are = λ i other within found. LeadsTo-longer is_sequence text more _ _ (are i other within found)
 
+-- the bytes up to a place in the next piece
+pub take-here : (text piece : List ℕ) (at place : ℕ) → at < length piece → place ≡ length text + at → take (place + 1) (text ++ piece) ≡ text ++ take (at + 1) piece
+take-here text piece at place within here =
+    let front = text ++ take (at + 1) piece in
+    let long : length front ≡ place + 1 = omega (arith, length-append text (take (at + 1) piece), length-take-le (at + 1) piece (omega (arith, within)), here) in
+    let whole : front ++ drop (at + 1) piece ≡ text ++ piece = append_assoc text (take (at + 1) piece) (drop (at + 1) piece) ∙ ap (λ (ys : List ℕ). text ++ ys) (take-append-drop (at + 1) piece) in
+    subst (λ (bytes : List ℕ). take (place + 1) bytes ≡ front) whole (take_at front (drop (at + 1) piece) (place + 1) long)
+
 -- behind the byte at the place
 pub LeadsTo-here : (is_sequence : Bool) (text piece : List ℕ) (at place : ℕ) (path : Option Path) → at < length piece → place ≡ length text + at
     → IfSome path (λ (p : Path). IsPathOf (text_of is_sequence (text ++ take (at + 1) piece)) p) → LeadsTo is_sequence (text ++ piece) place path
 LeadsTo-here is_sequence text piece at place None within here is = tt
 LeadsTo-here is_sequence text piece at place (Some path) within here is =
     let sum = length-append text piece in
-    let front = text ++ take (at + 1) piece in
-    let long : length front ≡ place + 1 = omega (arith, length-append text (take (at + 1) piece), length-take-le (at + 1) piece (omega (arith, within)), here) in
-    let whole : front ++ drop (at + 1) piece ≡ text ++ piece = append_assoc text (take (at + 1) piece) (drop (at + 1) piece) ∙ ap (λ (ys : List ℕ). text ++ ys) (take-append-drop (at + 1) piece) in
-    let same : take (place + 1) (text ++ piece) ≡ front = subst (λ (bytes : List ℕ). take (place + 1) bytes ≡ front) whole (take_at front (drop (at + 1) piece) (place + 1) long) in
-    (omega (arith, sum, within, here), subst (λ (bytes : List ℕ). IsPathOf (text_of is_sequence bytes) path) (sym same) is)
+    (omega (arith, sum, within, here), subst (λ (bytes : List ℕ). IsPathOf (text_of is_sequence bytes) path) (sym (take-here text piece at place within here)) is)
 
 -- ---- the sites
 

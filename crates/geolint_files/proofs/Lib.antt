@@ -6,6 +6,8 @@ mod WorstOutcome
 mod FoundSites
 mod SoughtPlaces
 mod FollowedPaths
+mod ToldPaths
+mod TextPlaces
 mod FileCounts
 mod ReportedSites
 mod CommasBetween

@@ -1,13 +1,15 @@
 -- The lines, columns and paths of places that a second reading finds.
-use Rattle.std.specs.Prelude.{◌≡◌, ◌<◌, ◌≤◌, ◌+◌, ◌-◌, ◌^◌, ℕ, List, [], ◌∷◌, ◌++◌, length, take, map, get_or, Bool, true, false, ◌&&◌, nat_eq, if◌then◌else◌, Option, Some, None, ⊤}
+use Rattle.std.specs.Prelude.{◌≡◌, ◌<◌, ◌≤◌, ◌+◌, ◌-◌, ◌^◌, ℕ, List, [], ◌∷◌, ◌++◌, length, take, map, get_or, Bool, true, false, ◌&&◌, nat_eq, if◌then◌else◌, Option, Some, None, IsSome, ⊤}
 use Rattle.std.specs.List.{Contains, list_any}
 use Rattle.std.specs.Io.Iter.{u64_saturate}
+use Rattle.gj_json.specs.Limits.{Allowed}
 use Rattle.gj_json.specs.Path.{steps_of, path_at}
-use Rattle.gj_json.specs.Text.{IsText}
+use Rattle.gj_json.specs.Refusal.{IsAdmitted}
+use Rattle.gj_json.specs.Text.{IsText, IsTextWithin, IsViableWithin}
 use Rattle.gj_json.specs.Tree.{Text}
 use Rattle.gj_json.specs.declared.path.Path.{Path}
 use Rattle.gj_places.specs.Lines.{line_of, column_of}
-use Rattle.gj_rules.specs.Sequence.{is_separator, has_separator}
+use Rattle.gj_rules.specs.Sequence.{has_separator, SequenceRecord, records_of}
 use Rattle.geolint_files.specs.declared.sites.Site.{Site}
 use Rattle.geolint_files.specs.declared.sites.Sites.{Sites}
 use Rattle.geolint_files.specs.declared.sites.Spot.{Spot}
@@ -57,7 +59,56 @@ abbrev pub PathsBy : Bool → Option (List ℕ) → List Site → Type 0
 PathsBy is_sequence None sites = ⊤
 PathsBy is_sequence (Some bytes) sites = ArePaths is_sequence bytes sites
 
+-- ---- which paths are told
+
+-- what a text of the file is read under: the limit on the bytes is not that of a record
+abbrev pub text_limits : Bool → Allowed → Allowed
+text_limits true limits = record { depth = limits.depth; bytes = 2 ^ 60 }
+text_limits false limits = limits
+
+-- these bytes are no more than are allowed, and some more make them a text within the depth
+abbrev pub CanGoOn : Allowed → List ℕ → Type 0
+CanGoOn limits bytes = IsViableWithin limits.depth bytes × (length bytes ≤ limits.bytes)
+
+-- the text that the first bytes of a file end in can go on; in a sequence, a separator has begun it
+abbrev pub IsUnderWay : Allowed → Bool → List ℕ → Type 0
+IsUnderWay limits is_sequence front = (is_sequence ≡ true → has_separator front ≡ true) × CanGoOn (text_limits is_sequence limits) (text_of is_sequence front)
+
+-- where the text of the bytes up to a place can go on, the path is told
+abbrev pub IsTold : Allowed → Bool → List ℕ → ℕ → Option Path → Type 0
+IsTold limits is_sequence bytes place path = place < length bytes → IsUnderWay limits is_sequence (take (place + 1) bytes) → IsSome path
+
+-- that of each place that was found
+abbrev pub AreTold : Allowed → Bool → List ℕ → List Site → Type 0
+AreTold limits is_sequence bytes sites =
+    (i : ℕ) (other : Site) → i < length sites → (get_or sites i other).is_found ≡ true → IsTold limits is_sequence bytes (get_or sites i other).place (get_or sites i other).path
+
+-- the same, where the reader told its bytes
+abbrev pub ToldBy : Allowed → Bool → Option (List ℕ) → List Site → Type 0
+ToldBy limits is_sequence None sites = ⊤
+ToldBy limits is_sequence (Some bytes) sites = AreTold limits is_sequence bytes sites
+
+-- the place of a byte of a text: of the file, or in a sequence of one of its records
+abbrev pub IsInText : Allowed → Bool → List ℕ → ℕ → Type 0
+IsInText limits true bytes place =
+    (r : SequenceRecord) × (text : Text) × Contains (records_of limits bytes) r × IsTextWithin limits.depth text r.bytes × (r.start ≤ place) × (place < r.start + length r.bytes)
+IsInText limits false bytes place = (text : Text) × IsAdmitted limits text bytes × (place < length bytes)
+
+-- each place of a text that was found is told
+abbrev pub AreToldInTexts : Allowed → Bool → List ℕ → List Site → Type 0
+AreToldInTexts limits is_sequence bytes sites =
+    (i : ℕ) (other : Site) → i < length sites → (get_or sites i other).is_found ≡ true → IsInText limits is_sequence bytes (get_or sites i other).place → IsSome (get_or sites i other).path
+
+-- the same, where the reader told its bytes
+abbrev pub ToldInTextsBy : Allowed → Bool → Option (List ℕ) → List Site → Type 0
+ToldInTextsBy limits is_sequence None sites = ⊤
+ToldInTextsBy limits is_sequence (Some bytes) sites = AreToldInTexts limits is_sequence bytes sites
+
 -- ---- which places are found
+
+-- as before a reading
+abbrev pub NoneFound : List Site → Type 0
+NoneFound sites = (i : ℕ) (other : Site) → i < length sites → (get_or sites i other).is_found ≡ false
 
 -- the places that are sought, in the order in which they came
 abbrev pub sought : Sites → List ℕ

@@ -1,6 +1,7 @@
 //! The second reading: the lines, columns and paths of places.
 
-ghost use Rattle.std.specs.Prelude.{◌≡◌, drop};
+ghost use Rattle.std.specs.Prelude.{◌≡◌, drop, true};
+ghost use Rattle.geolint_files.specs.Sites.{text_limits};
 
 use crate::judge::PIECE;
 use gj_json::{Limits, Locator, Path};
@@ -61,14 +62,16 @@ impl Sites {
     ghost use Rattle.std.specs.List.{Contains};
     ghost use Rattle.std.specs.List.Sorted.{IsNonDecreasing};
     ghost use Rattle.geolint_files.specs.declared.sites.Site.{Site};
-    ghost use Rattle.geolint_files.specs.Sites.{IsSpot, AreRight, RightBy, LeadsTo, ArePaths, PathsBy, sought, AllFound, FoundBy};
-    ghost use Rattle.geolint_files.specs.Internal.SecondReading.{Reaches, Follows, Seeks, Settles};
+    ghost use Rattle.geolint_files.specs.Sites.{IsSpot, AreRight, RightBy, LeadsTo, ArePaths, PathsBy, IsTold, AreTold, ToldBy, ToldInTextsBy, NoneFound, sought, AllFound, FoundBy};
+    ghost use Rattle.gj_json.specs.Limits.{Allowed};
+    ghost use Rattle.geolint_files.specs.Internal.SecondReading.{Reaches, Follows, Tells, AreWithin, Seeks, Settles};
     ghost use Rattle.geolint_files.specs.Report.{site_in};
 
     /// Where no place is sought.
     pub fn none() -> Sites
         ensures right { (text : List ℕ) → AreRight text result.sites }
         ensures paths { (is_sequence : Bool) (text : List ℕ) → ArePaths is_sequence text result.sites }
+        ensures unfound { NoneFound result.sites }
         ensures sought { sought result ≡ [] }
     {
         Sites {
@@ -82,6 +85,7 @@ impl Sites {
     pub fn seek(&mut self, place: u64)
         ensures right { (text : List ℕ) → AreRight text self.old.sites → AreRight text self.new.sites }
         ensures paths { (is_sequence : Bool) (text : List ℕ) → ArePaths is_sequence text self.old.sites → ArePaths is_sequence text self.new.sites }
+        ensures unfound { NoneFound self.old.sites → NoneFound self.new.sites }
         ensures sought { length (sought self.old) < 10 → sought self.new ≡ sought self.old ++ place ∷ [] }
     {
         if self.count < MOST_PLACES {
@@ -105,6 +109,8 @@ impl Sites {
         ensures missed { IsNone result → (text : List ℕ) → AllFound text self.now → Contains (sought self.now) place → place < 2 ^ 64 - 1 → length text < place }
         ensures spot { IfSome result (λ site. (site.now.place ≡ place) × ((text : List ℕ) → AreRight text self.now.sites → IsSpot text place site.now.spot)) }
         ensures path { IfSome result (λ site. (is_sequence : Bool) (text : List ℕ) → ArePaths is_sequence text self.now.sites → LeadsTo is_sequence text place site.now.path) }
+        ensures told { IfSome result (λ site. (limits : Allowed) (is_sequence : Bool) (text : List ℕ) → AreTold limits is_sequence text self.now.sites
+            → IsTold limits is_sequence text place site.now.path) }
         ensures first { MatchOption result (site_in place self.now.sites ≡ None) (λ site. site_in place self.now.sites ≡ Some site.now) }
     {
         for site in &self.sites {
@@ -119,6 +125,7 @@ impl Sites {
     pub fn forget(&mut self)
         ensures right { (text : List ℕ) → AreRight text self.new.sites }
         ensures paths { (is_sequence : Bool) (text : List ℕ) → ArePaths is_sequence text self.new.sites }
+        ensures unfound { NoneFound self.new.sites }
     {
         self.sites = [Site::of(0); MOST_PLACES];
     }
@@ -132,9 +139,12 @@ impl Sites {
     ) -> io::Result<()>
         ensures right { AreRight [] self.old.sites → RightBy (R.remaining reader.old) self.new.sites }
         ensures paths { AreRight [] self.old.sites → ArePaths is_sequence [] self.old.sites → PathsBy is_sequence (R.remaining reader.old) self.new.sites }
+        ensures told { NoneFound self.old.sites → ToldBy limits is_sequence (R.remaining reader.old) self.new.sites }
+        ensures texts { NoneFound self.old.sites → ToldInTextsBy limits is_sequence (R.remaining reader.old) self.new.sites }
         ensures found { AreRight [] self.old.sites → IsNonDecreasing (sought self.old) → OnOk result (FoundBy (R.remaining reader.old) self.new) }
         ensures sought { sought self.new ≡ sought self.old }
     {
+        let _most = limits.bytes();
         let mut finder = Finder::new(limits, is_sequence);
         let mut piece = [0; PIECE];
         for _ in 0..u64::MAX {
@@ -156,6 +166,8 @@ impl Sites {
         ensures reaches { (text : List ℕ) → Reaches finder.old self.old text [] → Reaches finder.new self.new (text ++ piece.now) [] }
         ensures follows { (is_sequence : Bool) (text : List ℕ) → Reaches finder.old self.old text [] → Follows is_sequence finder.old self.old text []
             → Follows is_sequence finder.new self.new (text ++ piece.now) [] }
+        ensures tells { (limits : Allowed) (is_sequence : Bool) (text : List ℕ) → Reaches finder.old self.old text [] → Follows is_sequence finder.old self.old text []
+            → Tells limits is_sequence finder.old self.old text [] → Tells limits is_sequence finder.new self.new (text ++ piece.now) [] }
         ensures seeks { (text : List ℕ) → Reaches finder.old self.old text [] → IsNonDecreasing (sought self.old)
             → Seeks finder.old self.old (length text) → Seeks finder.new self.new (length (text ++ piece.now)) }
         ensures sought { sought self.new ≡ sought self.old }
@@ -169,6 +181,8 @@ impl Sites {
         ensures reaches { (text : List ℕ) → Reaches finder.old self.old text piece.now → Reaches finder.new self.new text piece.now }
         ensures follows { (is_sequence : Bool) (text : List ℕ) → Reaches finder.old self.old text piece.now → Follows is_sequence finder.old self.old text piece.now
             → Follows is_sequence finder.new self.new text piece.now }
+        ensures tells { (limits : Allowed) (is_sequence : Bool) (text : List ℕ) → Reaches finder.old self.old text piece.now → Follows is_sequence finder.old self.old text piece.now
+            → Tells limits is_sequence finder.old self.old text piece.now → Tells limits is_sequence finder.new self.new text piece.now }
         ensures reached { result ≡ true → (text : List ℕ) → Reaches finder.old self.old text piece.now → IsNonDecreasing (sought self.old)
             → Seeks finder.old self.old (length text + finder.old.counted) → Seeks finder.new self.new (length text + finder.new.counted) }
         ensures passed { result ≡ false → (text : List ℕ) → Reaches finder.old self.old text piece.now → IsNonDecreasing (sought self.old)
@@ -203,6 +217,8 @@ impl Sites {
     fn pass(&mut self, finder: &mut Finder, piece: &[u8])
         ensures reaches { (text : List ℕ) → Reaches finder.old self.old text piece.now → Reaches finder.new self.new (text ++ piece.now) [] }
         ensures follows { (is_sequence : Bool) (text : List ℕ) → Follows is_sequence finder.old self.old text piece.now → Follows is_sequence finder.new self.new (text ++ piece.now) [] }
+        ensures tells { (limits : Allowed) (is_sequence : Bool) (text : List ℕ) → Follows is_sequence finder.old self.old text piece.now
+            → Tells limits is_sequence finder.old self.old text piece.now → Tells limits is_sequence finder.new self.new (text ++ piece.now) [] }
         ensures seeks { (passed : ℕ) → Seeks finder.old self.old passed → Seeks finder.new self.new passed }
         ensures sought { sought self.new ≡ sought self.old }
     {
@@ -223,6 +239,9 @@ impl Sites {
     fn end(&mut self, finder: &Finder)
         ensures right { (text : List ℕ) → Reaches finder.now self.old text [] → AreRight text self.new.sites }
         ensures paths { (is_sequence : Bool) (text : List ℕ) → ArePaths is_sequence text self.old.sites → ArePaths is_sequence text self.new.sites }
+        ensures told { (limits : Allowed) (is_sequence : Bool) (text : List ℕ) → Reaches finder.now self.old text [] → AreTold limits is_sequence text self.old.sites
+            → AreTold limits is_sequence text self.new.sites }
+        ensures long { (text : List ℕ) → Reaches finder.now self.old text [] → 2 ^ 64 - 1 ≤ length text → self.new.sites ≡ self.old.sites }
         ensures found { (text : List ℕ) → Reaches finder.now self.old text [] → IsNonDecreasing (sought self.old)
             → Seeks finder.now self.old (length text) → AllFound text self.new }
         ensures sought { sought self.new ≡ sought self.old }
@@ -242,6 +261,9 @@ impl Sites {
         ensures right { (text : List ℕ) (other : Site) → AreRight text self.old.sites → IsSpot text (get_or self.old.sites i other).place spot → AreRight text self.new.sites }
         ensures paths { (is_sequence : Bool) (text : List ℕ) (other : Site) → ArePaths is_sequence text self.old.sites → LeadsTo is_sequence text (get_or self.old.sites i other).place path
             → ArePaths is_sequence text self.new.sites }
+        ensures told { (limits : Allowed) (is_sequence : Bool) (text : List ℕ) (other : Site) → AreTold limits is_sequence text self.old.sites
+            → IsTold limits is_sequence text (get_or self.old.sites i other).place path → AreTold limits is_sequence text self.new.sites }
+        ensures within { (text : List ℕ) (other : Site) → AreWithin text self.old.sites → (get_or self.old.sites i other).place < length text → AreWithin text self.new.sites }
         ensures settles { Settles self.old self.new i }
     {
         let place = self.sites[i].place;
@@ -281,7 +303,9 @@ struct Finder {
 }
 
 /// What a record is read under.
-fn record_limits(limits: Limits) -> Limits {
+fn record_limits(limits: Limits) -> Limits
+    ensures { result ≡ text_limits true limits }
+{
     match Limits::new(limits.depth(), MOST_BYTES) {
         Some(limits) => limits,
         None => limits,
@@ -289,14 +313,16 @@ fn record_limits(limits: Limits) -> Limits {
 }
 
 impl Finder {
-    ghost use Rattle.std.specs.Prelude.{◌≡◌, ◌≤◌, ◌++◌, ◌∷◌, [], ℕ, List, Bool, IfSome, length, take, true, false};
+    ghost use Rattle.std.specs.Prelude.{◌≡◌, ◌≤◌, ◌++◌, ◌∷◌, [], ℕ, List, Bool, IfSome, IsSome, length, take, true, false};
     ghost use Rattle.geolint_files.specs.declared.sites.Sites.{Sites};
-    ghost use Rattle.geolint_files.specs.Sites.{AreRight, ArePaths, IsPathOf, text_of};
-    ghost use Rattle.geolint_files.specs.Internal.SecondReading.{Reaches, Follows, IsLocated, Stands, StandsIn};
+    ghost use Rattle.gj_json.specs.Limits.{Allowed};
+    ghost use Rattle.geolint_files.specs.Sites.{AreRight, ArePaths, IsPathOf, NoneFound, text_of};
+    ghost use Rattle.geolint_files.specs.Internal.SecondReading.{Reaches, Follows, Tells, IsLocated, Stands, StandsIn, Keeps, KeepsIn};
 
     fn new(limits: Limits, is_sequence: bool) -> Finder
         ensures begins { (sites : Sites) → AreRight [] sites.sites → Reaches result sites [] [] }
         ensures follows { (sites : Sites) → ArePaths is_sequence [] sites.sites → Follows is_sequence result sites [] [] }
+        ensures tells { (sites : Sites) → NoneFound sites.sites → Tells limits is_sequence result sites [] [] }
         ensures next { result.next ≡ 0 }
     {
         Finder {
@@ -317,6 +343,8 @@ impl Finder {
         ensures same { IsLocated self.old self.new }
         ensures stands { (text : List ℕ) → self.old.located ≤ end → end ≤ length piece.now → StandsIn self.old (text ++ take self.old.located piece.now)
             → StandsIn self.new (text ++ take end piece.now) }
+        ensures keeps { (text : List ℕ) → self.old.located ≤ end → end ≤ length piece.now → StandsIn self.old (text ++ take self.old.located piece.now)
+            → KeepsIn self.old (text ++ take self.old.located piece.now) → KeepsIn self.new (text ++ take end piece.now) }
         ensures located { self.old.located ≤ end → end ≤ length piece.now → self.new.located ≡ end }
     {
         if self.located < end && end <= piece.len() {
@@ -328,6 +356,7 @@ impl Finder {
     fn locate(&mut self, bytes: &[u8])
         ensures same { IsLocated self.old self.new }
         ensures stands { (text : List ℕ) → StandsIn self.old text → StandsIn self.new (text ++ bytes.now) }
+        ensures keeps { (text : List ℕ) → StandsIn self.old text → KeepsIn self.old text → KeepsIn self.new (text ++ bytes.now) }
         ensures located { self.new.located ≡ self.old.located }
     {
         if self.is_sequence {
@@ -342,6 +371,7 @@ impl Finder {
     fn locate_in_record(&mut self, byte: u8)
         ensures same { IsLocated self.old self.new }
         ensures stands { (text : List ℕ) → self.old.is_sequence ≡ true → StandsIn self.old text → StandsIn self.new (text ++ byte ∷ []) }
+        ensures keeps { (text : List ℕ) → self.old.is_sequence ≡ true → StandsIn self.old text → KeepsIn self.old text → KeepsIn self.new (text ++ byte ∷ []) }
         ensures located { self.new.located ≡ self.old.located }
     {
         if byte == SEPARATOR {
@@ -355,6 +385,7 @@ impl Finder {
     fn locate_in_text(&mut self, bytes: &[u8])
         ensures same { IsLocated self.old self.new }
         ensures stands { (text : List ℕ) → Stands self.old text → Stands self.new (text ++ bytes.now) }
+        ensures keeps { (limits : Allowed) (text : List ℕ) → Stands self.old text → Keeps limits self.old text → Keeps limits self.new (text ++ bytes.now) }
         ensures located { self.new.located ≡ self.old.located }
     {
         if !self.is_lost && self.locator.feed(bytes).is_err() {
@@ -372,7 +403,8 @@ impl Finder {
     }
 
     fn path(&self) -> Option<Path>
-        ensures { (text : List ℕ) → StandsIn self.now text → IfSome result (λ path. IsPathOf (text_of self.now.is_sequence text) path) }
+        ensures told { self.now.is_lost ≡ false → IsSome result }
+        ensures is { (text : List ℕ) → StandsIn self.now text → IfSome result (λ path. IsPathOf (text_of self.now.is_sequence text) path) }
     {
         if self.is_lost {
             None

@@ -1,12 +1,13 @@
 -- What a second reading has reached.
 use Rattle.std.specs.Prelude.{◌≡◌, ◌<◌, ◌≤◌, ◌+◌, ◌-◌, ◌^◌, ℕ, Bool, List, length, take, map, get_or, true, false, None, ◌++◌}
 use Rattle.std.specs.Io.Iter.{u64_saturate}
+use Rattle.gj_json.specs.Limits.{Allowed}
 use Rattle.gj_json.specs.Locator as Locator
 use Rattle.gj_places.specs.Counting.{StandsFor}
 use Rattle.geolint_files.specs.declared.sites.Finder.{Finder}
 use Rattle.geolint_files.specs.declared.sites.Site.{Site}
 use Rattle.geolint_files.specs.declared.sites.Sites.{Sites}
-use Rattle.geolint_files.specs.Sites.{AreRight, ArePaths, sought, text_of}
+use Rattle.geolint_files.specs.Sites.{AreRight, ArePaths, AreTold, CanGoOn, IsUnderWay, sought, text_limits, text_of}
 
 -- behind a text and some bytes of the next piece
 pub record Reaches (finder : Finder) (sites : Sites) (text piece : List ℕ) : Type 0 where
@@ -31,6 +32,25 @@ pub record Follows (is_sequence : Bool) (finder : Finder) (sites : Sites) (text 
   pub stands : finder.next < sites.count → StandsIn finder (text ++ take finder.located piece)
   pub paths : ArePaths is_sequence (text ++ piece) sites.sites
 
+-- while a text can go on, the locator is in it, under its limits
+abbrev pub Keeps : Allowed → Finder → List ℕ → Type 0
+Keeps limits finder front = CanGoOn limits front → (finder.is_lost ≡ false) × (Locator.limits_of finder.locator ≡ limits)
+
+-- while the text that these bytes of the file end in can go on
+abbrev pub KeepsIn : Finder → List ℕ → Type 0
+KeepsIn finder front = IsUnderWay finder.limits finder.is_sequence front → (finder.is_lost ≡ false) × (Locator.limits_of finder.locator ≡ text_limits finder.is_sequence finder.limits)
+
+-- each place that was found is one of a byte
+abbrev pub AreWithin : List ℕ → List Site → Type 0
+AreWithin bytes sites = (i : ℕ) (other : Site) → i < length sites → (get_or sites i other).is_found ≡ true → (get_or sites i other).place < length bytes
+
+-- the locator is behind a text and some bytes of the next piece, unless a byte was refused, and each path so far is told
+pub record Tells (limits : Allowed) (is_sequence : Bool) (finder : Finder) (sites : Sites) (text piece : List ℕ) : Type 0 where
+  pub under : finder.limits ≡ limits
+  pub keeps : finder.next < sites.count → KeepsIn finder (text ++ take finder.located piece)
+  pub within : AreWithin (text ++ piece) sites.sites
+  pub told : AreTold limits is_sequence (text ++ piece) sites.sites
+
 -- the bytes that the locator has change nothing of the count
 pub record IsLocated (old new : Finder) : Type 0 where
   pub lines : new.lines ≡ old.lines
@@ -38,6 +58,7 @@ pub record IsLocated (old new : Finder) : Type 0 where
   pub counted : new.counted ≡ old.counted
   pub next : new.next ≡ old.next
   pub kind : new.is_sequence ≡ old.is_sequence
+  pub limits : new.limits ≡ old.limits
 
 -- the places before the next were found, and the others are not among so many bytes from the start
 pub record Seeks (finder : Finder) (sites : Sites) (passed : ℕ) : Type 0 where

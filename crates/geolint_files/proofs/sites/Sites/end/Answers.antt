@@ -23,6 +23,15 @@ returns-then-self-i-clause-right c = λ text reaches.
 pub returns-then-self-i-clause-paths : goal.returns-then-self-i-clause-paths
 returns-then-self-i-clause-paths c = λ is_sequence text are. c.settle.ensures.paths is_sequence text c.index-self-i.result are tt
 
+pub returns-then-self-i-clause-told : goal.returns-then-self-i-clause-told
+returns-then-self-i-clause-told c = λ limits is_sequence text reaches are.
+    let offset = reaches.offset in
+    c.settle.ensures.told limits is_sequence text c.index-self-i.result are
+    (λ within. absurd (omega (arith, offset, within, c.if-self-i.true, c.if-finder-lt18446744073709551615.true)))
+
+pub returns-then-self-i-clause-long : goal.returns-then-self-i-clause-long
+returns-then-self-i-clause-long c = λ text reaches long. let offset = reaches.offset in absurd (omega (arith, offset, long, c.if-finder-lt18446744073709551615.true))
+
 pub returns-then-self-i-clause-found : goal.returns-then-self-i-clause-found
 returns-then-self-i-clause-found c = λ text reaches ordered seeks place contained within small.
     let finder = c.args.finder.now in

@@ -1,8 +1,8 @@
 use Rattle.std.proofs.Common.{arith, refl, ◌≡◌, ◌++◌, [], ℕ, List, take, ap, sym, ◌∙◌, subst, append_assoc, append-nil, length-append}
 use Rattle.std.proofs.lemmas.List.{take-append-drop}
 use Rattle.gj_places.specs.Counting.{StandsFor}
-use Rattle.geolint_files.specs.Sites.{AreRight, ArePaths}
-use Rattle.geolint_files.specs.Internal.SecondReading.{StandsIn}
+use Rattle.geolint_files.specs.Sites.{AreRight, ArePaths, AreTold}
+use Rattle.geolint_files.specs.Internal.SecondReading.{AreWithin, StandsIn, KeepsIn}
 use Rattle.std.proofs.lemmas.List.{take_all}
 use Rattle.std.proofs.Common.{length, ◌≤◌}
 use Rattle.geolint_files.proofs.sites.Sites.pass.Goals as goal
@@ -56,6 +56,30 @@ returns-clause-follows c = λ is_sequence text follows.
             let all : text ++ take (length piece) piece ≡ (text ++ piece) ++ [] = ap (λ (ys : List ℕ). text ++ ys) (take_all (length piece) piece (omega arith)) ∙ sym (append-nil (text ++ piece)) in
             subst (StandsIn w.locate_to.new.self) all (w.locate_to.ensures.stands text follows.located (omega arith) (follows.stands w.if-finder-self.false));
         paths = paths;
+      })
+    ]
+
+pub returns-clause-tells : goal.returns-clause-tells
+returns-clause-tells c = λ limits is_sequence text follows tells.
+    let piece = c.args.piece.now in
+    let sites = c.args.self.now.sites in
+    let within = subst (λ (bytes : List ℕ). AreWithin bytes sites) (sym (append-nil (text ++ piece))) tells.within in
+    let told = subst (λ (bytes : List ℕ). AreTold limits is_sequence bytes sites) (sym (append-nil (text ++ piece))) tells.told in
+    elim c.if-finder-self.branch [
+      | then-finder-self w ↦ rw (w.self-is, w.finder-is) (record {
+        under = tells.under;
+        keeps = λ fewer. absurd (omega (arith, fewer, w.if-finder-self.true));
+        within = within;
+        told = told;
+      })
+      | else-finder-self w ↦ rw (w.self-is, w.finder-is) (record {
+        under = w.locate_to.ensures.same.limits ∙ tells.under;
+        keeps = λ fewer.
+            let all : text ++ take (length piece) piece ≡ (text ++ piece) ++ [] = ap (λ (ys : List ℕ). text ++ ys) (take_all (length piece) piece (omega arith)) ∙ sym (append-nil (text ++ piece)) in
+            subst (KeepsIn w.locate_to.new.self) all
+            (w.locate_to.ensures.keeps text follows.located (omega arith) (follows.stands w.if-finder-self.false) (tells.keeps w.if-finder-self.false));
+        within = within;
+        told = told;
       })
     ]
 

@@ -1,4 +1,4 @@
-use Rattle.std.proofs.Common.{arith, ◌≡◌, ◌≤◌, ◌<◌, ◌+◌, ◌-◌, ◌++◌, ℕ, List, length, take, drop, get_or, ap, sym, ◌∙◌, subst, append_assoc, length-take-le}
+use Rattle.std.proofs.Common.{arith, ◌≡◌, ◌≤◌, ◌<◌, ◌+◌, ◌-◌, ◌++◌, ℕ, List, length, take, drop, get_or, ap, sym, ◌∙◌, subst, append_assoc, length-append, length-take-le}
 use Rattle.std.proofs.lemmas.List.{take-append-drop}
 use Rattle.gj_places.specs.Counting.{StandsFor}
 use Rattle.gj_places.specs.declared.lines.Lines.{Lines}
@@ -7,9 +7,11 @@ use Rattle.geolint_files.proofs.FoundSites.{Spot-is, take-joined}
 use Rattle.std.proofs.Common.{inl, inr, refl}
 use Rattle.gj_json.specs.declared.path.Path.{Path}
 use Rattle.std.proofs.Common.{Bool, IfSome}
-use Rattle.geolint_files.specs.Internal.SecondReading.{Settles, StandsIn}
-use Rattle.geolint_files.specs.Sites.{LeadsTo, IsPathOf, text_of}
+use Rattle.geolint_files.specs.Internal.SecondReading.{Settles, StandsIn, KeepsIn}
+use Rattle.geolint_files.specs.Sites.{LeadsTo, IsPathOf, IsTold, IsUnderWay, text_of}
 use Rattle.geolint_files.proofs.FollowedPaths.{LeadsTo-here}
+use Rattle.geolint_files.proofs.ToldPaths.{IsTold-here}
+use Rattle.gj_json.specs.Limits.{Allowed}
 use Rattle.geolint_files.proofs.SoughtPlaces.{Seeks-settled, Seeks-passed, sought-at, sought-first, sought-settled}
 use Rattle.geolint_files.proofs.sites.Sites.reach.Goals as goal
 
@@ -55,7 +57,7 @@ returns-clause-follows c = λ is_sequence text reaches follows.
     let stands : StandsIn c.locate_to.new.self (text ++ take (at + 1) piece) = c.locate_to.ensures.stands text near (omega (arith, within)) (follows.stands c.if-i-self.false) in
     let located : c.locate_to.new.self.located ≡ at + 1 = c.locate_to.ensures.located near (omega (arith, within)) in
     let kind : c.locate_to.new.self.is_sequence ≡ is_sequence = c.locate_to.ensures.same.kind ∙ follows.kind in
-    let path = subst (λ (b : Bool). IfSome c.path.result (λ (p : Path). IsPathOf (text_of b (text ++ take (at + 1) piece)) p)) kind (c.path.ensures (text ++ take (at + 1) piece) stands) in
+    let path = subst (λ (b : Bool). IfSome c.path.result (λ (p : Path). IsPathOf (text_of b (text ++ take (at + 1) piece)) p)) kind (c.path.ensures.is (text ++ take (at + 1) piece) stands) in
     let leads : LeadsTo is_sequence (text ++ piece) site.place c.path.result = LeadsTo-here is_sequence text piece at site.place c.path.result within here path in
     record {
       kind = kind;
@@ -63,6 +65,32 @@ returns-clause-follows c = λ is_sequence text reaches follows.
       near = omega (arith, located, c.locate_to.ensures.same.counted);
       stands = λ fewer. subst (λ (n : ℕ). StandsIn c.locate_to.new.self (text ++ take n piece)) (sym located) stands;
       paths = c.settle.ensures.paths is_sequence (text ++ piece) c.index-self-i.result follows.paths leads;
+    }
+
+pub returns-clause-tells : goal.returns-clause-tells
+returns-clause-tells c = λ limits is_sequence text reaches follows tells.
+    let finder = c.args.finder.now in
+    let after = c.locate_to.new.self in
+    let piece = c.args.piece.now in
+    let site = get_or c.args.self.now.sites finder.next c.index-self-i.result in
+    let at = site.place - finder.offset in
+    let offset = reaches.offset in
+    let here : site.place ≡ length text + at = omega (arith, offset, c.saturating_add-end.ensures, c.if-place-finder.false, c.if-end-place.false) in
+    let within : at < length piece = omega (arith, offset, c.saturating_add-end.ensures, c.if-place-finder.false, c.if-end-place.false) in
+    let near_place = follows.near in
+    let near : finder.located ≤ at + 1 = omega (arith, near_place, c.if-at-finder.false) in
+    let front = text ++ take (at + 1) piece in
+    let keeps : KeepsIn after front = c.locate_to.ensures.keeps text near (omega (arith, within)) (follows.stands c.if-i-self.false) (tells.keeps c.if-i-self.false) in
+    let located : after.located ≡ at + 1 = c.locate_to.ensures.located near (omega (arith, within)) in
+    let kind : after.is_sequence ≡ is_sequence = c.locate_to.ensures.same.kind ∙ follows.kind in
+    let under : after.limits ≡ limits = c.locate_to.ensures.same.limits ∙ tells.under in
+    let told : IsTold limits is_sequence (text ++ piece) site.place c.path.result = IsTold-here limits is_sequence text piece at site.place c.path.result within here
+    (λ goes. c.path.ensures.told (keeps (subst (λ (l : Allowed). IsUnderWay l after.is_sequence front) (sym under) (subst (λ (b : Bool). IsUnderWay limits b front) (sym kind) goes))).0) in
+    record {
+      under = under;
+      keeps = λ fewer. subst (λ (n : ℕ). KeepsIn after (text ++ take n piece)) (sym located) keeps;
+      within = c.settle.ensures.within (text ++ piece) c.index-self-i.result tells.within (omega (arith, here, within, length-append text piece));
+      told = c.settle.ensures.told limits is_sequence (text ++ piece) c.index-self-i.result tells.told told;
     }
 
 -- what the excerpt takes changes no place

@@ -2,6 +2,7 @@ use Rattle.std.proofs.Common.{arith, ◌≡◌, ◌+◌, ◌∙◌, ◌++◌, �
 use Rattle.std.specs.List.Sorted.{IsNonDecreasing}
 use Rattle.geolint_files.specs.Internal.SecondReading.{Seeks}
 use Rattle.geolint_files.proofs.FollowedPaths.{Follows-piece}
+use Rattle.geolint_files.proofs.ToldPaths.{Tells-piece}
 use Rattle.geolint_files.proofs.FoundSites.{Reaches-piece}
 use Rattle.geolint_files.proofs.sites.Sites.take.Goals as goal
 
@@ -12,6 +13,16 @@ returns c = record {
       let here = Reaches-piece c.args.finder.now c.args.self.now text c.args.piece.now begun in
       c.pass.ensures.follows is_sequence text (c.reach.ensures.follows is_sequence text (c.loop.invariant.reaches text here)
       (c.loop.invariant.follows is_sequence text here (Follows-piece is_sequence c.args.finder.now c.args.self.now text c.args.piece.now follows)));
+  tells = λ limits is_sequence text begun follows tells.
+      let located = follows.located in
+      let here = Reaches-piece c.args.finder.now c.args.self.now text c.args.piece.now begun in
+      let near = Follows-piece is_sequence c.args.finder.now c.args.self.now text c.args.piece.now follows in
+      let reaches = c.loop.invariant.reaches text here in
+      let after = c.loop.invariant.follows is_sequence text here near in
+      c.pass.ensures.tells limits is_sequence text (c.reach.ensures.follows is_sequence text reaches after)
+      (c.reach.ensures.tells limits is_sequence text reaches after
+      (c.loop.invariant.tells limits is_sequence text here near
+      (Tells-piece limits is_sequence c.args.finder.now c.args.self.now text c.args.piece.now (omega (arith, located)) tells)));
   seeks = λ text begun ordered seeks.
       let none = begun.counted in
       let start : length text ≡ length text + c.args.finder.now.counted = omega (arith, none) in
@@ -26,6 +37,8 @@ pub loop-preserved : goal.loop-preserved
 loop-preserved c = record {
   reaches = λ text begun. c.reach.ensures.reaches text (c.loop.invariant.reaches text begun);
   follows = λ is_sequence text begun follows. c.reach.ensures.follows is_sequence text (c.loop.invariant.reaches text begun) (c.loop.invariant.follows is_sequence text begun follows);
+  tells = λ limits is_sequence text begun follows tells. c.reach.ensures.tells limits is_sequence text (c.loop.invariant.reaches text begun) (c.loop.invariant.follows is_sequence text begun follows)
+      (c.loop.invariant.tells limits is_sequence text begun follows tells);
   seeks = λ text begun ordered seeks. c.reach.ensures.reached c.loop-test.true text (c.loop.invariant.reaches text begun)
       (subst (λ (places : List ℕ). IsNonDecreasing places) (sym c.loop.invariant.sought) ordered) (c.loop.invariant.seeks text begun ordered seeks);
   sought = c.reach.ensures.sought ∙ c.loop.invariant.sought;

@@ -1,7 +1,8 @@
 use Rattle.std.proofs.Common.{Bool, ◌≡◌, ◌+◌, ◌-◌, ℕ, List, length}
 use Rattle.std.specs.List.Sorted.{IsNonDecreasing}
+use Rattle.gj_json.specs.Limits.{Allowed}
 use Rattle.geolint_files.specs.Sites.{sought}
-use Rattle.geolint_files.specs.Internal.SecondReading.{Reaches, Follows, Seeks}
+use Rattle.geolint_files.specs.Internal.SecondReading.{Reaches, Follows, Tells, Seeks}
 use Rattle.geolint_files.proofs.sites.Sites.take.Given as goal
 
 abbrev pub decreases-loop : goal.decreases-loop
@@ -11,6 +12,8 @@ abbrev pub invariant-loop : goal.invariant-loop
 invariant-loop l = record {
   reaches : (text : List ℕ) → Reaches l.fn.finder l.fn.self text l.piece → Reaches l.finder l.self text l.piece;
   follows : (is_sequence : Bool) (text : List ℕ) → Reaches l.fn.finder l.fn.self text l.piece → Follows is_sequence l.fn.finder l.fn.self text l.piece → Follows is_sequence l.finder l.self text l.piece;
+  tells : (limits : Allowed) (is_sequence : Bool) (text : List ℕ) → Reaches l.fn.finder l.fn.self text l.piece → Follows is_sequence l.fn.finder l.fn.self text l.piece
+      → Tells limits is_sequence l.fn.finder l.fn.self text l.piece → Tells limits is_sequence l.finder l.self text l.piece;
   seeks : (text : List ℕ) → Reaches l.fn.finder l.fn.self text l.piece → IsNonDecreasing (sought l.fn.self) → Seeks l.fn.finder l.fn.self (length text + l.fn.finder.counted)
       → Seeks l.finder l.self (length text + l.finder.counted);
   sought : sought l.self ≡ sought l.fn.self;

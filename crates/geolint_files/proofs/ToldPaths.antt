@@ -1,0 +1,160 @@
+-- Lemmas on the places whose path a second reading tells.
+use Rattle.std.proofs.Common.{arith, rules, refl, ◌≡◌, ◌≤◌, ◌<◌, ℕ, ◌+◌, ◌++◌, ◌∷◌, [], List, Bool, length, take, set, get_or, ap, sym, ◌∙◌, subst, true, false, append_assoc, append-nil, length-append, Option, Some, None}
+use Rattle.std.specs.Prelude.{IsSome, Result, Ok, Err, is_err}
+use Rattle.std.specs.Io.KnownBytes.{Consumes, IsAtEnd}
+use Rattle.std.proofs.lemmas.List.{take_all, take-append-le}
+use Rattle.gj_json.specs.declared.fault.Cause.{Cause}
+use Rattle.gj_json.specs.declared.fault.Cause.TheVariants.{Syntax, Truncated, Depth, Length}
+use Rattle.gj_json.specs.declared.fault.JsonFault.{JsonFault}
+use Rattle.gj_json.specs.declared.path.Path.{Path}
+use Rattle.gj_json.specs.Limits.{Allowed}
+use Rattle.gj_json.specs.Reader.{Answers}
+use Rattle.gj_json.specs.Refusal.{Stops, RefusedFor}
+use Rattle.gj_json.specs.Text.{IsTextWithin, IsViableWithin}
+use Rattle.gj_rules.specs.Sequence.{has_separator}
+use Rattle.geolint_files.specs.declared.sites.Site.{Site}
+use Rattle.geolint_files.specs.declared.sites.Finder.{Finder}
+use Rattle.geolint_files.specs.declared.sites.Sites.{Sites}
+use Rattle.geolint_files.specs.Sites.{AreRight, ArePaths, text_of, text_limits, CanGoOn, IsUnderWay, IsTold, AreTold, ToldBy, NoneFound}
+use Rattle.geolint_files.specs.Internal.SecondReading.{AreWithin, Keeps, KeepsIn, Tells}
+use Rattle.geolint_files.proofs.FollowedPaths.{take-here}
+use Rattle.geolint_files.proofs.FoundSites.{each-set}
+
+-- ---- no byte of a text that can go on is refused
+
+pub CanGoOn-front : (limits : Allowed) (bytes more : List ℕ) → CanGoOn limits (bytes ++ more) → CanGoOn limits bytes
+CanGoOn-front limits bytes more ((rest, text, is), fits) =
+    ((more ++ rest, text, subst (λ (ys : List ℕ). IsTextWithin limits.depth text ys) (append_assoc bytes more rest) is), omega (arith, length-append bytes more, fits))
+
+-- what begins with bytes that can become a text begins with these, the refused one among them
+viable-stop : (limits : Allowed) (bytes : List ℕ) (place levels : ℕ) (stop : Stops limits bytes place) → IsViableWithin levels bytes → IsViableWithin levels (stop.good ++ stop.byte ∷ [])
+viable-stop limits bytes place levels stop (rest, text, is) = (stop.rest ++ rest, text, subst (λ (ys : List ℕ). IsTextWithin levels text ys) joined is)
+  where
+    joined : bytes ++ rest ≡ (stop.good ++ stop.byte ∷ []) ++ (stop.rest ++ rest)
+    joined = ap (λ (ys : List ℕ). ys ++ rest) stop.split
+        ∙ (append_assoc stop.good (stop.byte ∷ stop.rest) rest ∙ sym (append_assoc stop.good (stop.byte ∷ []) (stop.rest ++ rest)))
+
+stop-within : (limits : Allowed) (bytes : List ℕ) (place : ℕ) → Stops limits bytes place → place < length bytes
+stop-within limits bytes place stop =
+    let long = ap (λ (ys : List ℕ). length ys) stop.split ∙ length-append stop.good (stop.byte ∷ stop.rest) in
+    omega (arith, stop.at, long)
+
+never-refused : (cause : Cause) (limits : Allowed) (bytes : List ℕ) (place : ℕ) → RefusedFor cause limits bytes place → ((more : List ℕ) → RefusedFor cause limits (bytes ++ more) place)
+    → CanGoOn limits bytes → ⊥
+never-refused Syntax limits bytes place (stop, before, never) lasting (viable, fits) =
+    let (rest, text, is) = viable-stop limits bytes place limits.depth stop viable in never (rest, text, is.0)
+never-refused Depth limits bytes place (stop, before, some, never) lasting (viable, fits) = never (viable-stop limits bytes place limits.depth stop viable)
+never-refused Length limits bytes place (stop, here) lasting (viable, fits) = omega (arith, stop-within limits bytes place stop, here, fits)
+never-refused Truncated limits bytes place refused lasting ((rest, text, is), fits) = let (here, allowed, viable, never) = lasting rest in never text is
+
+pub never-err : (A : Type 0) (limits : Allowed) (bytes : List ℕ) (result : Result A JsonFault) → Answers limits bytes result → CanGoOn limits bytes → is_err result ≡ false
+never-err A limits bytes (Ok done) answers goes = refl
+never-err A limits bytes (Err fault) (refused, lasting) goes = absurd (never-refused fault.cause limits bytes fault.place refused lasting goes)
+
+-- bytes that begin no record
+pub KeepsIn-more : (old new : Finder) (text bytes : List ℕ) → new.is_sequence ≡ old.is_sequence → new.limits ≡ old.limits
+    → text_of old.is_sequence (text ++ bytes) ≡ text_of old.is_sequence text ++ bytes → (old.is_sequence ≡ true → has_separator (text ++ bytes) ≡ has_separator text)
+    → (Keeps (text_limits old.is_sequence old.limits) old (text_of old.is_sequence text) → Keeps (text_limits old.is_sequence old.limits) new (text_of old.is_sequence text ++ bytes))
+    → KeepsIn old text → KeepsIn new (text ++ bytes)
+KeepsIn-more old new text bytes kind limits joined same step keeps = λ (begun, goes).
+    let here : CanGoOn (text_limits old.is_sequence old.limits) (text_of old.is_sequence (text ++ bytes)) =
+    subst (λ (b : Bool). CanGoOn (text_limits b old.limits) (text_of b (text ++ bytes))) kind
+    (subst (λ (l : Allowed). CanGoOn (text_limits new.is_sequence l) (text_of new.is_sequence (text ++ bytes))) limits goes) in
+    let can : CanGoOn (text_limits old.is_sequence old.limits) (text_of old.is_sequence text ++ bytes) = subst (λ (ys : List ℕ). CanGoOn (text_limits old.is_sequence old.limits) ys) joined here in
+    let (live, under) = step (λ front. keeps ((λ yes. sym (same yes) ∙ begun (kind ∙ yes)), front)) can in
+    (live, under ∙ (ap (λ (b : Bool). text_limits b old.limits) (sym kind) ∙ ap (λ (l : Allowed). text_limits new.is_sequence l) (sym limits)))
+
+pub begun-nil : (is_sequence : Bool) → (is_sequence ≡ true → has_separator [] ≡ true) → is_sequence ≡ false
+begun-nil true begun = sym (begun refl)
+begun-nil false begun = refl
+
+-- ---- in a longer file
+
+AreWithin-longer : (text more : List ℕ) (sites : List Site) → AreWithin text sites → AreWithin (text ++ more) sites
+AreWithin-longer text more sites within = λ i other stored found.
+    let before = within i other stored found in
+    omega (arith, before, length-append text more)
+
+IsTold-longer : (limits : Allowed) (is_sequence : Bool) (text more : List ℕ) (place : ℕ) (path : Option Path) → place < length text → IsTold limits is_sequence text place path
+    → IsTold limits is_sequence (text ++ more) place path
+IsTold-longer limits is_sequence text more place path within told = λ longer under.
+    told within (subst (λ (front : List ℕ). IsUnderWay limits is_sequence front) (take-append-le (place + 1) text more (omega (arith, within))) under)
+
+AreTold-longer : (limits : Allowed) (is_sequence : Bool) (text more : List ℕ) (sites : List Site) → AreWithin text sites → AreTold limits is_sequence text sites
+    → AreTold limits is_sequence (text ++ more) sites
+AreTold-longer limits is_sequence text more sites within told = λ i other stored found.
+    IsTold-longer limits is_sequence text more _ _ (within i other stored found) (told i other stored found)
+
+-- behind the byte at the place
+pub IsTold-here : (limits : Allowed) (is_sequence : Bool) (text piece : List ℕ) (at place : ℕ) (path : Option Path) → at < length piece → place ≡ length text + at
+    → (IsUnderWay limits is_sequence (text ++ take (at + 1) piece) → IsSome path) → IsTold limits is_sequence (text ++ piece) place path
+IsTold-here limits is_sequence text piece at place path within here is = λ longer under.
+    is (subst (λ (front : List ℕ). IsUnderWay limits is_sequence front) (take-here text piece at place within here) under)
+
+-- ---- the sites
+
+pub unfound-set : (sites : List Site) (i : ℕ) (site : Site) → NoneFound sites → site.is_found ≡ false → NoneFound (set sites i site)
+unfound-set sites i site none sought = each-set (λ (s : Site). s.is_found ≡ false) sites i site none sought
+
+pub told-set : (limits : Allowed) (is_sequence : Bool) (text : List ℕ) (sites : List Site) (i : ℕ) (site : Site) → AreTold limits is_sequence text sites
+    → IsTold limits is_sequence text site.place site.path → AreTold limits is_sequence text (set sites i site)
+told-set limits is_sequence text sites i site are told =
+    each-set (λ (s : Site). s.is_found ≡ true → IsTold limits is_sequence text s.place s.path) sites i site are (λ found. told)
+
+pub within-set : (text : List ℕ) (sites : List Site) (i : ℕ) (site : Site) → AreWithin text sites → site.place < length text → AreWithin text (set sites i site)
+within-set text sites i site are within = each-set (λ (s : Site). s.is_found ≡ true → s.place < length text) sites i site are (λ found. within)
+
+-- of what was not found, all is right
+pub unfound-right : (text : List ℕ) (sites : List Site) → NoneFound sites → AreRight text sites
+unfound-right text sites none = λ i other stored found. let sought = none i other stored in absurd (cc)
+
+pub unfound-paths : (is_sequence : Bool) (text : List ℕ) (sites : List Site) → NoneFound sites → ArePaths is_sequence text sites
+unfound-paths is_sequence text sites none = λ i other stored found. let sought = none i other stored in absurd (cc)
+
+-- before a reading
+pub Tells-begins : (limits : Allowed) (is_sequence : Bool) (finder : Finder) (sites : Sites) → finder.limits ≡ limits → NoneFound sites.sites → KeepsIn finder [] → Tells limits is_sequence finder sites [] []
+Tells-begins limits is_sequence finder sites under none keeps = record {
+  under = under;
+  keeps = λ fewer. subst (λ (ys : List ℕ). KeepsIn finder ys) (sym (take_all finder.located [] (omega arith))) keeps;
+  within = λ i other stored found. let sought = none i other stored in cc;
+  told = λ i other stored found. let sought = none i other stored in absurd (cc);
+}
+
+-- before the first of a piece
+pub Tells-piece : (limits : Allowed) (is_sequence : Bool) (finder : Finder) (sites : Sites) (text piece : List ℕ) → finder.located ≡ 0 → Tells limits is_sequence finder sites text []
+    → Tells limits is_sequence finder sites text piece
+Tells-piece limits is_sequence finder sites text piece none tells =
+    let same : take finder.located [] ≡ take finder.located piece = ap (λ (n : ℕ). take n []) none ∙ sym (ap (λ (n : ℕ). take n piece) none) in
+    let within = subst (λ (bytes : List ℕ). AreWithin bytes sites.sites) (append-nil text) tells.within in
+    record {
+      under = tells.under;
+      keeps = λ fewer. subst (λ (ys : List ℕ). KeepsIn finder (text ++ ys)) same (tells.keeps fewer);
+      within = AreWithin-longer text piece sites.sites within;
+      told = AreTold-longer limits is_sequence text piece sites.sites within (subst (λ (bytes : List ℕ). AreTold limits is_sequence bytes sites.sites) (append-nil text) tells.told);
+    }
+
+-- ---- where the reader told its bytes
+
+ToldBy-read : (limits : Allowed) (is_sequence : Bool) (a b : Option (List ℕ)) (read : List ℕ) (sites : List Site) → Consumes a b read → AreWithin read sites → AreTold limits is_sequence read sites
+    → ToldBy limits is_sequence a sites
+ToldBy-read limits is_sequence None b read sites took within are = tt
+ToldBy-read limits is_sequence (Some all) None read sites took within are = absurd took
+ToldBy-read limits is_sequence (Some all) (Some rest) read sites took within are =
+    subst (λ (bytes : List ℕ). AreTold limits is_sequence bytes sites) (sym took) (AreTold-longer limits is_sequence read rest sites within are)
+
+pub told-now : (limits : Allowed) (is_sequence : Bool) (finder : Finder) (sites : Sites) (read : List ℕ) → Tells limits is_sequence finder sites read [] → AreTold limits is_sequence read sites.sites
+told-now limits is_sequence finder sites read tells = subst (λ (bytes : List ℕ). AreTold limits is_sequence bytes sites.sites) (append-nil read) tells.told
+
+pub ToldBy-reached : (limits : Allowed) (is_sequence : Bool) (a b : Option (List ℕ)) (read : List ℕ) (finder : Finder) (sites : Sites) → Consumes a b read → Tells limits is_sequence finder sites read []
+    → ToldBy limits is_sequence a sites.sites
+ToldBy-reached limits is_sequence a b read finder sites took tells =
+    ToldBy-read limits is_sequence a b read sites.sites took (subst (λ (bytes : List ℕ). AreWithin bytes sites.sites) (append-nil read) tells.within)
+    (told-now limits is_sequence finder sites read tells)
+
+-- at the end
+pub ToldBy-end : (limits : Allowed) (is_sequence : Bool) (a b : Option (List ℕ)) (read : List ℕ) (sites : List Site) → Consumes a b read → IsAtEnd b → AreTold limits is_sequence read sites
+    → ToldBy limits is_sequence a sites
+ToldBy-end limits is_sequence None b read sites took ended are = tt
+ToldBy-end limits is_sequence (Some all) None read sites took ended are = absurd took
+ToldBy-end limits is_sequence (Some all) (Some rest) read sites took ended are =
+    subst (λ (bytes : List ℕ). AreTold limits is_sequence bytes sites) (sym (took ∙ ap (λ (ys : List ℕ). read ++ ys) ended ∙ append-nil read)) are
