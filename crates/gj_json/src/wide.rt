@@ -1,6 +1,6 @@
 //! Unescaped characters of up to three bytes, found sixteen bytes at a time.
 
-ghost use Rattle.std.specs.Prelude.{◌≡◌, ◌<◌, ◌≤◌, ◌+◌, ◌⊎◌, length};
+ghost use Rattle.std.specs.Prelude.{◌≡◌, ◌<◌, ◌≤◌, ◌+◌, ◌⊎◌, length, true};
 ghost use Rattle.std.specs.Simd.Lanes.{mask_l};
 ghost use Rattle.gj_json.specs.Internal.WideCharacters.{is_tail, kinds_of, ends_of, EndsThere, NoneEnds};
 
@@ -53,6 +53,38 @@ fn ends(before: u8x16, here: u8x16, next: u8x16) -> u64
         .to_bitmask()
 }
 
+/// Whether no such characters end among the sixteen bytes from an index on.
+#[inline(always)]
+fn pass(piece: &[u8], at: usize) -> bool
+    requires behind { 0 < at }
+    requires room { at + 16 < length piece.now }
+    ensures { result ≡ true → NoneEnds piece.now at → NoneEnds piece.now (at + 16) }
+{
+    let before = u8x16::from_slice(&piece[at - 1..]);
+    let here = u8x16::from_slice(&piece[at..]);
+    let next = u8x16::from_slice(&piece[at + 1..]);
+    ends(before, here, next) == 0
+}
+
+/// The same of twice as many bytes, as long as they are there: the index after the last of them.
+#[inline(always)]
+fn end_of_pairs(piece: &[u8]) -> usize
+    requires some { 1 < length piece.now }
+    ensures on { 0 < result }
+    ensures within { result < length piece.now }
+    ensures none { NoneEnds piece.now result }
+{
+    let mut at = 1;
+    while piece.len() - at > 2 * LANES {
+        let goes_on = pass(piece, at) & pass(piece, at + LANES);
+        if !goes_on {
+            return at;
+        }
+        at += 2 * LANES;
+    }
+    at
+}
+
 /// At which byte after the first such characters end. The piece may end soon after it instead.
 #[inline(always)]
 pub fn end_of_wide(piece: &[u8]) -> usize
@@ -61,7 +93,7 @@ pub fn end_of_wide(piece: &[u8]) -> usize
     ensures none { NoneEnds piece.now result }
     ensures end { EndsThere piece.now result ⊎ (length piece.now ≤ result + 16) }
 {
-    let mut at = 1;
+    let mut at = end_of_pairs(piece);
     while piece.len() - at > LANES {
         let before = u8x16::from_slice(&piece[at - 1..]);
         let here = u8x16::from_slice(&piece[at..]);
