@@ -1,6 +1,6 @@
 -- What a GeoJSON text sequence is, as a whole (RFC 8142; RFC 7464, section 2): the records that an input is cut into, what
 -- each of them is, and what the sequence is by the first that is not valid.
-use Rattle.std.specs.Prelude.{◌≡◌, ℕ, ◌+◌, ◌≤◌, ◌<◌, List, [], ◌∷◌, ◌++◌, length, take, Bool, true, false, ◌&&◌, ◌||◌, not, nat_eq, nat_lt, if◌then◌else◌, Option, Some, None}
+use Rattle.std.specs.Prelude.{◌≡◌, ℕ, ◌+◌, ◌≤◌, ◌<◌, List, [], ◌∷◌, ◌++◌, length, take, Bool, true, false, ◌&&◌, ◌||◌, not, nat_eq, nat_lt, if◌then◌else◌}
 use Rattle.gj_json.specs.Limits.{Allowed}
 use Rattle.gj_json.specs.Bytes.{line_feed}
 use Rattle.gj_json.specs.Text.{IsViableWithin}

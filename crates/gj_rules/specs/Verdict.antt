@@ -1,5 +1,5 @@
 -- What an input is, as a whole: a GeoJSON text (RFC 7946), a JSON text that breaks a rule, or no JSON text (RFC 8259).
-use Rattle.std.specs.Prelude.{◌≡◌, ℕ, List, [], ◌++◌, Option, Some, None}
+use Rattle.std.specs.Prelude.{◌≡◌, ℕ, List, [], ◌++◌, Some}
 use Rattle.gj_json.specs.declared.fault.JsonFault.{JsonFault}
 use Rattle.gj_json.specs.Limits.{Allowed}
 use Rattle.gj_json.specs.Refusal.{IsRefusal, IsAdmitted}
@@ -8,7 +8,6 @@ use Rattle.gj_coords.specs.Fault.{least}
 use Rattle.gj_coords.specs.Warnings.{Warning}
 use Rattle.gj_coords.specs.WarningsStand.{StandsFor as WarningsStandFor}
 use Rattle.gj_coords.specs.declared.fault.Fault.{Fault}
-use Rattle.gj_coords.specs.declared.warnings.Warnings.{Warnings}
 use Rattle.gj_rules.specs.Faults.{text_faults}
 use Rattle.gj_rules.specs.TextWarnings.{text_warnings}
 use Rattle.gj_rules.specs.declared.verdict.Verdict.{Verdict}

@@ -1,5 +1,5 @@
 -- Whole characters in UTF-8 are read as such in a string.
-use Rattle.std.proofs.Common.{◌≡◌, ℕ, ◌+◌, ◌-◌, zero, suc, ◌==◌, ◌⊎◌, ◌/◌, ◌<◌, ◌≤◌, inl, inr, Bool, true, false, nat_le, ltb, cond, min, slice_index, List, [], ◌∷◌, ◌++◌, take, length, refl, sym, ap, subst, ◌∙◌, arith}
+use Rattle.std.proofs.Common.{◌≡◌, ℕ, ◌+◌, zero, suc, ◌⊎◌, ◌<◌, ◌≤◌, inl, inr, Bool, true, false, cond, min, slice_index, List, [], ◌∷◌, ◌++◌, take, length, refl, sym, ap, subst, ◌∙◌, arith}
 use Rattle.std.proofs.lemmas.Bool.{and_parts, cases_lt}
 use Rattle.std.proofs.lemmas.Bool.Decides.{nat_tests}
 use Rattle.std.specs.List.{AllByRecursion}

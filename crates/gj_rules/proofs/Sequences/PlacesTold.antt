@@ -1,5 +1,5 @@
 -- The places that a verdict tells are those of what it says.
-use Rattle.std.proofs.Common.{◌≡◌, ◌<◌, ◌==◌, ℕ, ◌≤◌, List, length, Bool, true, false, if◌then◌else◌, Option, Some, None, refl, sym, ◌∙◌, arith}
+use Rattle.std.proofs.Common.{◌≡◌, ◌<◌, ◌==◌, ℕ, ◌≤◌, List, length, Bool, true, false, if◌then◌else◌, Some, None, refl, sym, ◌∙◌, arith}
 use Rattle.std.proofs.lemmas.Bool.Decides.{nat_tests}
 use Rattle.gj_json.specs.Limits.{Allowed}
 use Rattle.gj_coords.specs.Internal.KeptWarnings.{kept, first_in}

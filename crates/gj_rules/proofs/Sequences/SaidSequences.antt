@@ -1,7 +1,6 @@
 -- The verdict of a sequence says what the sequence is.
-use Rattle.std.proofs.Common.{◌≡◌, ℕ, Bool, true, false, List, [], ◌∷◌, ◌++◌, length, refl, sym, subst, ◌∙◌}
+use Rattle.std.proofs.Common.{ℕ, Bool, true, false, List, [], ◌∷◌, ◌++◌, length, refl, sym, subst, ◌∙◌}
 use Rattle.std.specs.Prelude.{map}
-use Rattle.gj_json.specs.Limits.{Allowed}
 use Rattle.gj_json.specs.declared.fault.Cause.{Cause}
 use Rattle.gj_json.specs.declared.fault.Cause.TheVariants.{Syntax, Truncated, Depth, Length}
 use Rattle.gj_coords.specs.Internal.WarningLaws.{warnings_of_none}
@@ -11,7 +10,7 @@ use Rattle.gj_coords.specs.declared.warnings.Warnings.{Warnings}
 use Rattle.gj_coords.proofs.Lists.ListsStoodFor.{joined_stands}
 use Rattle.gj_coords.proofs.Lists.ShiftedWarnings.{shifted_stands}
 use Rattle.gj_rules.specs.Internal.JudgementLaws.{said}
-use Rattle.gj_rules.specs.Sequence.{SequenceRecord, shifted_verdict, not_json, if_ended, cut_fault, if_cut, record_end, ends_in_line_feed, IsRecordVerdict, AllValid, IsJudgedBy, SequenceJudgement, all_valid, failing, SequenceSays}
+use Rattle.gj_rules.specs.Sequence.{SequenceRecord, shifted_verdict, if_ended, cut_fault, if_cut, record_end, ends_in_line_feed, IsRecordVerdict, AllValid, IsJudgedBy, SequenceJudgement, all_valid, failing, SequenceSays}
 use Rattle.gj_rules.specs.Verdict.{Judgement, valid, broken, refused, Says}
 use Rattle.gj_rules.specs.declared.sequence.verdict.SeqVerdict.{SeqVerdict}
 use Rattle.gj_rules.specs.declared.verdict.Verdict.{Verdict}
