@@ -115,6 +115,10 @@ impl Rule {
 }
 
 impl fmt::Display for Rule {
+    ghost use Rattle.std.specs.Prelude.{Some};
+
+    ghost output = { λ rule. Some (rule_text rule) };
+
     fn fmt<W: fmt::Write>(&self, f: &mut fmt::Formatter<W>) -> fmt::Result {
         f.write_str(self.text())
     }

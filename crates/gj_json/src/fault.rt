@@ -32,6 +32,10 @@ impl Cause {
 }
 
 impl fmt::Display for Cause {
+    ghost use Rattle.std.specs.Prelude.{Some};
+
+    ghost output = { λ cause. Some (cause_text cause) };
+
     fn fmt<W: fmt::Write>(&self, f: &mut fmt::Formatter<W>) -> fmt::Result {
         f.write_str(self.text())
     }
@@ -46,6 +50,11 @@ pub struct JsonFault {
 }
 
 impl fmt::Display for JsonFault {
+    ghost use Rattle.std.specs.Prelude.{◌++◌, Some, codes};
+    ghost use Rattle.std.specs.Fmt.{decimal};
+
+    ghost output = { λ fault. Some (codes "not JSON at " ++ (decimal fault.place ++ (codes ": " ++ cause_text fault.cause))) };
+
     fn fmt<W: fmt::Write>(&self, f: &mut fmt::Formatter<W>) -> fmt::Result {
         write!(f, "not JSON at {}: {}", self.place, self.cause)
     }

@@ -54,6 +54,10 @@ impl Known {
 }
 
 impl fmt::Display for Known {
+    ghost use Rattle.std.specs.Prelude.{Some};
+
+    ghost output = { λ name. Some (name_text name) };
+
     fn fmt<W: fmt::Write>(&self, f: &mut fmt::Formatter<W>) -> fmt::Result {
         f.write_str(self.text())
     }
