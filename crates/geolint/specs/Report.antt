@@ -1,6 +1,6 @@
 -- The bytes of the report: a line that says what the input is; behind `valid` a line for each kind of warning that there is; behind
 -- `broken` a line with the path, where there is one.
-use Rattle.std.specs.Prelude.{ℕ, List, [], ◌∷◌, ◌++◌, Option, Some, None, codes}
+use Rattle.std.specs.Prelude.{ℕ, List, [], ◌++◌, Option, Some, None, codes}
 use Rattle.std.specs.List.{flat_map}
 use Rattle.std.specs.Fmt.{decimal}
 use Rattle.gj_coords.specs.declared.fault.Fault.{Fault}

@@ -1,5 +1,4 @@
 use Rattle.std.proofs.Common.{rules, inl, inr, refl, arith, [], ℕ, List, ◌++◌, ◌+◌, ◌≡◌, ◌∙◌, ap, sym, take, length, ◌<◌, ◌≤◌, subst, length-append, append-nil, IsTrue, true, false}
-use Rattle.std.specs.Prelude.{Option}
 use Rattle.std.proofs.lemmas.List.{length-take-le}
 use Rattle.std.specs.Io.KnownBytes.{Consumes}
 use Rattle.std.proofs.KnownBytes.{Consumes-nil, Consumes-trans, Consumes-kept}
@@ -8,7 +7,6 @@ use Rattle.gj_json.specs.Text.{IsViableWithin}
 use Rattle.gj_rules.specs.Verdict.{IsVerdict}
 use Rattle.gj_rules.specs.Verdict.{NeverValid}
 use Rattle.gj_rules.specs.Doomed.{BeginNoGeoJson}
-use Rattle.gj_coords.specs.declared.warnings.Warnings.{Warnings}
 use Rattle.geolint.specs.Quick.{ShowNoFault}
 use Rattle.geolint.proofs.ReadVerdicts.{Consumes-none, given_more}
 use Rattle.geolint.proofs.QuickReadings.{QuicklySays, quick-end, quick-lasting, refused_never, stops, one_read}
