@@ -8,6 +8,7 @@ mod SoughtPlaces
 mod FollowedPaths
 mod ToldPaths
 mod TextPlaces
+mod KeptExcerpts
 mod FileCounts
 mod ReportedSites
 mod CommasBetween

@@ -21,7 +21,7 @@ pub sought-at : (sites : Sites) (i e : ℕ) (other : Site) → i < sites.count �
 sought-at sites i e other counted within =
     get_or-take sites.count (map (λ (s : Site). s.place) sites.sites) i e counted ∙ get_or-map (λ (s : Site). s.place) sites.sites i other e within
 
-sought-length : (sites : Sites) → length (sought sites) ≡ min sites.count (length sites.sites)
+pub sought-length : (sites : Sites) → length (sought sites) ≡ min sites.count (length sites.sites)
 sought-length sites = length-take sites.count (map (λ (s : Site). s.place) sites.sites) ∙ ap (λ (n : ℕ). min sites.count n) (length-map sites.sites (λ (s : Site). s.place))
 
 pub sought-counted : (sites : Sites) (i : ℕ) → i < length (sought sites) → i < sites.count
@@ -76,7 +76,7 @@ Settles-set old i site other same found = record {
 pub sought-settled : (old new : Sites) (i : ℕ) → Settles old new i → sought new ≡ sought old
 sought-settled old new i settles = ap (λ (n : ℕ). take n (map (λ (s : Site). s.place) new.sites)) settles.count ∙ ap (λ (places : List ℕ). take old.count places) settles.places
 
-settled-length : (old new : Sites) (i : ℕ) → Settles old new i → length new.sites ≡ length old.sites
+pub settled-length : (old new : Sites) (i : ℕ) → Settles old new i → length new.sites ≡ length old.sites
 settled-length old new i settles =
     sym (length-map new.sites (λ (s : Site). s.place)) ∙ (ap (λ (places : List ℕ). length places) settles.places ∙ length-map old.sites (λ (s : Site). s.place))
 

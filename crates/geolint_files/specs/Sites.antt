@@ -1,5 +1,5 @@
 -- The lines, columns and paths of places that a second reading finds.
-use Rattle.std.specs.Prelude.{◌≡◌, ◌<◌, ◌≤◌, ◌+◌, ◌-◌, ◌^◌, ℕ, List, [], ◌∷◌, ◌++◌, length, take, map, get_or, Bool, true, false, ◌&&◌, nat_eq, if◌then◌else◌, Option, Some, None, IsSome, ⊤}
+use Rattle.std.specs.Prelude.{◌≡◌, ◌<◌, ◌≤◌, ◌+◌, ◌-◌, ◌^◌, ℕ, List, [], ◌∷◌, ◌++◌, length, take, drop, map, get_or, Bool, true, false, ◌&&◌, nat_eq, if◌then◌else◌, Option, Some, None, IsSome, ⊤}
 use Rattle.std.specs.List.{Contains, list_any}
 use Rattle.std.specs.Io.Iter.{u64_saturate}
 use Rattle.gj_json.specs.Limits.{Allowed}
@@ -8,6 +8,7 @@ use Rattle.gj_json.specs.Refusal.{IsAdmitted}
 use Rattle.gj_json.specs.Text.{IsText, IsTextWithin, IsViableWithin}
 use Rattle.gj_json.specs.Tree.{Text}
 use Rattle.gj_json.specs.declared.path.Path.{Path}
+use Rattle.gj_places.specs.Keeping.{Keeps}
 use Rattle.gj_places.specs.Lines.{line_of, column_of}
 use Rattle.gj_rules.specs.Sequence.{has_separator, SequenceRecord, records_of}
 use Rattle.geolint_files.specs.declared.sites.Site.{Site}
@@ -125,3 +126,18 @@ AllFound text sites = (place : ℕ) → Contains (sought sites) place → place 
 abbrev pub FoundBy : Option (List ℕ) → Sites → Type 0
 FoundBy None sites = ⊤
 FoundBy (Some text) sites = AllFound text sites
+
+-- ---- the excerpt
+
+-- before a reading
+abbrev pub IsUnread : Sites → Type 0
+IsUnread sites = Keeps sites.excerpt [] [] × (sites.count ≤ length sites.sites)
+
+-- the excerpt is that of the last place, where that is in the text or at its end, as far as a u64 goes
+abbrev pub IsExcerpt : List ℕ → Sites → Type 0
+IsExcerpt text sites = (before : List ℕ) (place : ℕ) → sought sites ≡ before ++ place ∷ [] → place ≤ length text → length text < 2 ^ 64 - 1 → Keeps sites.excerpt (take place text) (drop place text)
+
+-- the same, where the reader told its bytes
+abbrev pub ExcerptBy : Option (List ℕ) → Sites → Type 0
+ExcerptBy None sites = ⊤
+ExcerptBy (Some text) sites = IsExcerpt text sites

@@ -57,14 +57,14 @@ pub struct Sites {
 }
 
 impl Sites {
-    ghost use Rattle.std.specs.Prelude.{◌≡◌, ◌<◌, ◌≤◌, ◌+◌, ◌-◌, ◌^◌, ◌++◌, ◌∷◌, [], ℕ, List, Bool, length, IfSome, MatchOption, None, Some, OnOk, get_or, true, false};
+    ghost use Rattle.std.specs.Prelude.{◌≡◌, ◌<◌, ◌≤◌, ◌+◌, ◌-◌, ◌^◌, ◌++◌, ◌∷◌, [], ℕ, List, Bool, length, IfSome, MatchOption, None, Some, OnOk, IsTrue, ◌↔◌, get_or, true, false};
     ghost use Rattle.std.specs.Option.{IsNone};
     ghost use Rattle.std.specs.List.{Contains};
     ghost use Rattle.std.specs.List.Sorted.{IsNonDecreasing};
     ghost use Rattle.geolint_files.specs.declared.sites.Site.{Site};
-    ghost use Rattle.geolint_files.specs.Sites.{IsSpot, AreRight, RightBy, LeadsTo, ArePaths, PathsBy, IsTold, AreTold, ToldBy, ToldInTextsBy, NoneFound, sought, AllFound, FoundBy};
+    ghost use Rattle.geolint_files.specs.Sites.{IsSpot, AreRight, RightBy, LeadsTo, ArePaths, PathsBy, IsTold, AreTold, ToldBy, ToldInTextsBy, NoneFound, sought, AllFound, FoundBy, IsUnread, ExcerptBy};
     ghost use Rattle.gj_json.specs.Limits.{Allowed};
-    ghost use Rattle.geolint_files.specs.Internal.SecondReading.{Reaches, Follows, Tells, AreWithin, Seeks, Settles};
+    ghost use Rattle.geolint_files.specs.Internal.SecondReading.{Reaches, Follows, Tells, AreWithin, Shows, Seeks, Settles};
     ghost use Rattle.geolint_files.specs.Report.{site_in};
 
     /// Where no place is sought.
@@ -73,6 +73,7 @@ impl Sites {
         ensures paths { (is_sequence : Bool) (text : List ℕ) → ArePaths is_sequence text result.sites }
         ensures unfound { NoneFound result.sites }
         ensures sought { sought result ≡ [] }
+        ensures unread { IsUnread result }
     {
         Sites {
             sites: [Site::of(0); MOST_PLACES],
@@ -87,6 +88,7 @@ impl Sites {
         ensures paths { (is_sequence : Bool) (text : List ℕ) → ArePaths is_sequence text self.old.sites → ArePaths is_sequence text self.new.sites }
         ensures unfound { NoneFound self.old.sites → NoneFound self.new.sites }
         ensures sought { length (sought self.old) < 10 → sought self.new ≡ sought self.old ++ place ∷ [] }
+        ensures unread { IsUnread self.old → IsUnread self.new }
     {
         if self.count < MOST_PLACES {
             self.sites[self.count] = Site::of(place);
@@ -95,12 +97,16 @@ impl Sites {
     }
 
     /// The line around the last of the places.
-    pub fn excerpt(&self) -> &Excerpt {
+    pub fn excerpt(&self) -> &Excerpt
+        ensures { result.now ≡ self.now.excerpt }
+    {
         &self.excerpt
     }
 
     /// Whether no place is sought.
-    pub fn is_empty(&self) -> bool {
+    pub fn is_empty(&self) -> bool
+        ensures { IsTrue result ↔ sought self.now ≡ [] }
+    {
         self.count == 0
     }
 
@@ -142,6 +148,7 @@ impl Sites {
         ensures told { NoneFound self.old.sites → ToldBy limits is_sequence (R.remaining reader.old) self.new.sites }
         ensures texts { NoneFound self.old.sites → ToldInTextsBy limits is_sequence (R.remaining reader.old) self.new.sites }
         ensures found { AreRight [] self.old.sites → IsNonDecreasing (sought self.old) → OnOk result (FoundBy (R.remaining reader.old) self.new) }
+        ensures excerpt { IsUnread self.old → AreRight [] self.old.sites → IsNonDecreasing (sought self.old) → OnOk result (ExcerptBy (R.remaining reader.old) self.new) }
         ensures sought { sought self.new ≡ sought self.old }
     {
         let _most = limits.bytes();
@@ -170,6 +177,7 @@ impl Sites {
             → Tells limits is_sequence finder.old self.old text [] → Tells limits is_sequence finder.new self.new (text ++ piece.now) [] }
         ensures seeks { (text : List ℕ) → Reaches finder.old self.old text [] → IsNonDecreasing (sought self.old)
             → Seeks finder.old self.old (length text) → Seeks finder.new self.new (length (text ++ piece.now)) }
+        ensures shows { (text : List ℕ) → Reaches finder.old self.old text [] → Shows finder.old self.old text [] → Shows finder.new self.new (text ++ piece.now) [] }
         ensures sought { sought self.new ≡ sought self.old }
     {
         while self.reach(finder, piece) {}
@@ -183,6 +191,7 @@ impl Sites {
             → Follows is_sequence finder.new self.new text piece.now }
         ensures tells { (limits : Allowed) (is_sequence : Bool) (text : List ℕ) → Reaches finder.old self.old text piece.now → Follows is_sequence finder.old self.old text piece.now
             → Tells limits is_sequence finder.old self.old text piece.now → Tells limits is_sequence finder.new self.new text piece.now }
+        ensures shows { (text : List ℕ) → Reaches finder.old self.old text piece.now → Shows finder.old self.old text piece.now → Shows finder.new self.new text piece.now }
         ensures reached { result ≡ true → (text : List ℕ) → Reaches finder.old self.old text piece.now → IsNonDecreasing (sought self.old)
             → Seeks finder.old self.old (length text + finder.old.counted) → Seeks finder.new self.new (length text + finder.new.counted) }
         ensures passed { result ≡ false → (text : List ℕ) → Reaches finder.old self.old text piece.now → IsNonDecreasing (sought self.old)
@@ -219,6 +228,7 @@ impl Sites {
         ensures follows { (is_sequence : Bool) (text : List ℕ) → Follows is_sequence finder.old self.old text piece.now → Follows is_sequence finder.new self.new (text ++ piece.now) [] }
         ensures tells { (limits : Allowed) (is_sequence : Bool) (text : List ℕ) → Follows is_sequence finder.old self.old text piece.now
             → Tells limits is_sequence finder.old self.old text piece.now → Tells limits is_sequence finder.new self.new (text ++ piece.now) [] }
+        ensures shows { (text : List ℕ) → Shows finder.old self.old text piece.now → Shows finder.new self.new (text ++ piece.now) [] }
         ensures seeks { (passed : ℕ) → Seeks finder.old self.old passed → Seeks finder.new self.new passed }
         ensures sought { sought self.new ≡ sought self.old }
     {
@@ -245,6 +255,7 @@ impl Sites {
         ensures found { (text : List ℕ) → Reaches finder.now self.old text [] → IsNonDecreasing (sought self.old)
             → Seeks finder.now self.old (length text) → AllFound text self.new }
         ensures sought { sought self.new ≡ sought self.old }
+        ensures excerpt { self.new.excerpt ≡ self.old.excerpt }
     {
         let i = finder.next;
         if i < self.count
@@ -265,6 +276,7 @@ impl Sites {
             → IsTold limits is_sequence text (get_or self.old.sites i other).place path → AreTold limits is_sequence text self.new.sites }
         ensures within { (text : List ℕ) (other : Site) → AreWithin text self.old.sites → (get_or self.old.sites i other).place < length text → AreWithin text self.new.sites }
         ensures settles { Settles self.old self.new i }
+        ensures excerpt { self.new.excerpt ≡ self.old.excerpt }
     {
         let place = self.sites[i].place;
         self.sites[i] = Site {

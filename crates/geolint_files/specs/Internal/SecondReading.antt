@@ -1,9 +1,11 @@
 -- What a second reading has reached.
-use Rattle.std.specs.Prelude.{◌≡◌, ◌<◌, ◌≤◌, ◌+◌, ◌-◌, ◌^◌, ℕ, Bool, List, length, take, map, get_or, true, false, None, ◌++◌}
+use Rattle.std.specs.Prelude.{◌≡◌, ◌<◌, ◌≤◌, ◌+◌, ◌-◌, ◌^◌, ℕ, Bool, List, [], length, take, drop, map, get_or, true, false, None, ◌++◌}
 use Rattle.std.specs.Io.Iter.{u64_saturate}
 use Rattle.gj_json.specs.Limits.{Allowed}
 use Rattle.gj_json.specs.Locator as Locator
 use Rattle.gj_places.specs.Counting.{StandsFor}
+use Rattle.gj_places.specs.Keeping.{Keeps as KeepsLine}
+use Rattle.gj_places.specs.declared.excerpt.Excerpt.{Excerpt}
 use Rattle.geolint_files.specs.declared.sites.Finder.{Finder}
 use Rattle.geolint_files.specs.declared.sites.Site.{Site}
 use Rattle.geolint_files.specs.declared.sites.Sites.{Sites}
@@ -64,6 +66,17 @@ pub record IsLocated (old new : Finder) : Type 0 where
 pub record Seeks (finder : Finder) (sites : Sites) (passed : ℕ) : Type 0 where
   pub found : (k : ℕ) (other : Site) → k < finder.next → k < length sites.sites → (get_or sites.sites k other).is_found ≡ true
   pub ahead : (k : ℕ) (other : ℕ) → finder.next ≤ k → k < length (sought sites) → get_or (sought sites) k other < 2 ^ 64 - 1 → passed ≤ get_or (sought sites) k other
+
+-- the excerpt is that of a place in these bytes
+pub record IsAt (excerpt : Excerpt) (place : ℕ) (bytes : List ℕ) : Type 0 where
+  pub within : place ≤ length bytes
+  pub keeps : KeepsLine excerpt (take place bytes) (drop place bytes)
+
+-- behind a text and some bytes of the next piece, the excerpt has all of these before the last place, or is that of the last place
+pub record Shows (finder : Finder) (sites : Sites) (text piece : List ℕ) : Type 0 where
+  pub stored : sites.count ≤ length sites.sites
+  pub before : finder.next < sites.count → KeepsLine sites.excerpt (text ++ take finder.counted piece) []
+  pub behind : (other : Site) → 0 < sites.count → sites.count ≤ finder.next → IsAt sites.excerpt (get_or sites.sites (sites.count - 1) other).place (text ++ take finder.counted piece)
 
 -- one place is found, and nothing else changes
 pub record Settles (old new : Sites) (i : ℕ) : Type 0 where

@@ -1,8 +1,8 @@
 use Rattle.std.proofs.Common.{◌≡◌, ◌≤◌, ℕ, List, [], length}
 use Rattle.std.specs.Io.KnownBytes.{Consumes}
 use Rattle.std.specs.List.Sorted.{IsNonDecreasing}
-use Rattle.geolint_files.specs.Sites.{AreRight, ArePaths, NoneFound, sought}
-use Rattle.geolint_files.specs.Internal.SecondReading.{Reaches, Follows, Tells, Seeks}
+use Rattle.geolint_files.specs.Sites.{AreRight, ArePaths, NoneFound, IsUnread, sought}
+use Rattle.geolint_files.specs.Internal.SecondReading.{Reaches, Follows, Tells, Shows, Seeks}
 use Rattle.geolint_files.proofs.sites.Sites.find.Given as goal
 
 -- the sites and their paths are right behind the bytes that the reader told, and the places in these are found; each read gave a byte
@@ -11,6 +11,7 @@ invariant-loop g l = record {
   reached : AreRight [] l.fn.self.sites → (read : List ℕ) × Consumes (g.R.Read.remaining l.fn.reader) (g.R.Read.remaining l.reader) read × Reaches l.finder l.self read []
       × (IsNonDecreasing (sought l.fn.self) → Seeks l.finder l.self (length read)) × (l.counter ≤ length read)
       × (ArePaths l.is_sequence [] l.fn.self.sites → Follows l.is_sequence l.finder l.self read [])
-      × (NoneFound l.fn.self.sites → Tells l.fn.limits l.is_sequence l.finder l.self read []);
+      × (NoneFound l.fn.self.sites → Tells l.fn.limits l.is_sequence l.finder l.self read [])
+      × (IsUnread l.fn.self → Shows l.finder l.self read []);
   sought : sought l.self ≡ sought l.fn.self;
 }

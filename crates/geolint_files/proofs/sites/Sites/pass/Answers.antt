@@ -2,7 +2,10 @@ use Rattle.std.proofs.Common.{arith, refl, ◌≡◌, ◌++◌, [], ℕ, List, t
 use Rattle.std.proofs.lemmas.List.{take-append-drop}
 use Rattle.gj_places.specs.Counting.{StandsFor}
 use Rattle.geolint_files.specs.Sites.{AreRight, ArePaths, AreTold}
-use Rattle.geolint_files.specs.Internal.SecondReading.{AreWithin, StandsIn, KeepsIn}
+use Rattle.geolint_files.specs.Internal.SecondReading.{AreWithin, StandsIn, KeepsIn, IsAt}
+use Rattle.gj_places.specs.Keeping.{Keeps as KeepsLine}
+use Rattle.std.proofs.Common.{get_or, ◌-◌}
+use Rattle.geolint_files.proofs.KeptExcerpts.{IsAt-more}
 use Rattle.std.proofs.lemmas.List.{take_all}
 use Rattle.std.proofs.Common.{length, ◌≤◌}
 use Rattle.geolint_files.proofs.sites.Sites.pass.Goals as goal
@@ -80,6 +83,28 @@ returns-clause-tells c = λ limits is_sequence text follows tells.
             (w.locate_to.ensures.keeps text follows.located (omega arith) (follows.stands w.if-finder-self.false) (tells.keeps w.if-finder-self.false));
         within = within;
         told = told;
+      })
+    ]
+
+pub returns-clause-shows : goal.returns-clause-shows
+returns-clause-shows c = λ text shows.
+    let piece = c.args.piece.now in
+    let counted = c.args.finder.now.counted in
+    let sites = c.args.self.now in
+    let all : (text ++ take counted piece) ++ c.rest_of-rest.result.now ≡ (text ++ piece) ++ [] =
+    append_assoc text (take counted piece) _ ∙ ap (λ (ys : List ℕ). text ++ ys) (ap (λ (ys : List ℕ). take counted piece ++ ys) c.rest_of-rest.ensures ∙ take-append-drop counted piece) ∙ sym (append-nil (text ++ piece)) in
+    elim c.if-finder-self.branch [
+      | then-finder-self w ↦ rw (w.self-is, w.finder-is) (record {
+        stored = shows.stored;
+        before = λ fewer. absurd (omega (arith, fewer, w.if-finder-self.true));
+        behind = λ other some reached.
+            subst (λ (bytes : List ℕ). IsAt w.feed_after.new.self (get_or sites.sites (sites.count - 1) other).place bytes) all
+            (IsAt-more sites.excerpt w.feed_after.new.self _ (text ++ take counted piece) c.rest_of-rest.result.now (shows.behind other some w.if-finder-self.true) w.feed_after.ensures);
+      })
+      | else-finder-self w ↦ rw (w.self-is, w.finder-is) (record {
+        stored = shows.stored;
+        before = λ fewer. subst (λ (bytes : List ℕ). KeepsLine w.feed_before.new.self bytes []) all (w.feed_before.ensures (text ++ take counted piece) (shows.before w.if-finder-self.false));
+        behind = λ other some reached. absurd (omega (arith, reached, w.locate_to.ensures.same.next, w.if-finder-self.false));
       })
     ]
 

@@ -11,6 +11,10 @@ use Rattle.geolint_files.specs.Internal.SecondReading.{Settles, StandsIn, KeepsI
 use Rattle.geolint_files.specs.Sites.{LeadsTo, IsPathOf, IsTold, IsUnderWay, text_of}
 use Rattle.geolint_files.proofs.FollowedPaths.{LeadsTo-here}
 use Rattle.geolint_files.proofs.ToldPaths.{IsTold-here}
+use Rattle.geolint_files.proofs.KeptExcerpts.{Shows-settled}
+use Rattle.gj_places.specs.Keeping.{Keeps as KeepsLine}
+use Rattle.gj_places.specs.declared.excerpt.Excerpt.{Excerpt}
+use Rattle.std.proofs.Common.{[]}
 use Rattle.gj_json.specs.Limits.{Allowed}
 use Rattle.geolint_files.proofs.SoughtPlaces.{Seeks-settled, Seeks-passed, sought-at, sought-first, sought-settled}
 use Rattle.geolint_files.proofs.sites.Sites.reach.Goals as goal
@@ -97,6 +101,28 @@ returns-clause-tells c = λ limits is_sequence text reaches follows tells.
 before-excerpt : (c : goal.After-finder-2-1) → Settles c.args.self.now c.settle.new.self c.args.finder.now.next
 before-excerpt c =
     record { count = c.settle.ensures.settles.count; places = c.settle.ensures.settles.places; here = c.settle.ensures.settles.here; kept = c.settle.ensures.settles.kept }
+
+pub returns-clause-shows : goal.returns-clause-shows
+returns-clause-shows c = λ text reaches shows.
+    let finder = c.args.finder.now in
+    let piece = c.args.piece.now in
+    let sites = c.args.self.now in
+    let new = c.settle.new.self in
+    let site = get_or sites.sites finder.next c.index-self-i.result in
+    let at = site.place - finder.offset in
+    let offset = reaches.offset in
+    let here : site.place ≡ length text + at = omega (arith, offset, c.saturating_add-end.ensures, c.if-place-finder.false, c.if-end-place.false) in
+    let within : at < length piece = omega (arith, offset, c.saturating_add-end.ensures, c.if-place-finder.false, c.if-end-place.false) in
+    let counted : c.locate_to.new.self.counted ≡ at = c.locate_to.ensures.same.counted in
+    let joined = append_assoc text (take finder.counted piece) _ ∙ ap (λ (ys : List ℕ). text ++ ys) (take-joined finder.counted at piece c.if-at-finder.false) in
+    let kept : KeepsLine c.feed_before.new.self (text ++ take at piece) [] =
+    subst (λ (bytes : List ℕ). KeepsLine c.feed_before.new.self bytes []) joined (c.feed_before.ensures (text ++ take finder.counted piece) (shows.before c.if-i-self.false)) in
+    let keeps : KeepsLine new.excerpt (text ++ take c.locate_to.new.self.counted piece) [] =
+    subst (λ (n : ℕ). KeepsLine new.excerpt (text ++ take n piece) []) (sym counted)
+    (subst (λ (e : Excerpt). KeepsLine e (text ++ take at piece) []) (sym c.settle.ensures.excerpt) kept) in
+    let place : site.place ≡ length (text ++ take c.locate_to.new.self.counted piece) =
+    omega (arith, here, length-append text (take c.locate_to.new.self.counted piece), length-take-le c.locate_to.new.self.counted piece (omega (arith, counted, within)), counted) in
+    Shows-settled finder _ sites new text piece c.index-self-i.result shows (before-excerpt c) refl c.if-i-self.false place keeps
 
 pub returns-clause-reached : goal.returns-clause-reached
 returns-clause-reached c = λ yes text reaches ordered seeks.

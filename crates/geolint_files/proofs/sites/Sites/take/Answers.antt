@@ -3,6 +3,7 @@ use Rattle.std.specs.List.Sorted.{IsNonDecreasing}
 use Rattle.geolint_files.specs.Internal.SecondReading.{Seeks}
 use Rattle.geolint_files.proofs.FollowedPaths.{Follows-piece}
 use Rattle.geolint_files.proofs.ToldPaths.{Tells-piece}
+use Rattle.geolint_files.proofs.KeptExcerpts.{Shows-piece}
 use Rattle.geolint_files.proofs.FoundSites.{Reaches-piece}
 use Rattle.geolint_files.proofs.sites.Sites.take.Goals as goal
 
@@ -30,6 +31,11 @@ returns c = record {
       let reached = c.loop.invariant.seeks text here ordered (subst (λ (n : ℕ). Seeks c.args.finder.now c.args.self.now n) start seeks) in
       let passed = c.reach.ensures.passed c.loop-test.false text (c.loop.invariant.reaches text here) (subst (λ (places : List ℕ). IsNonDecreasing places) (sym c.loop.invariant.sought) ordered) reached in
       c.pass.ensures.seeks (length (text ++ c.args.piece.now)) (subst (λ (n : ℕ). Seeks c.reach.new.finder c.reach.new.self n) (sym (length-append text c.args.piece.now)) passed);
+  shows = λ text begun shows.
+      let none = begun.counted in
+      let here = Reaches-piece c.args.finder.now c.args.self.now text c.args.piece.now begun in
+      c.pass.ensures.shows text (c.reach.ensures.shows text (c.loop.invariant.reaches text here)
+      (c.loop.invariant.shows text here (Shows-piece c.args.finder.now c.args.self.now text c.args.piece.now (omega (arith, none)) shows)));
   sought = c.pass.ensures.sought ∙ (c.reach.ensures.sought ∙ c.loop.invariant.sought);
 }
 
@@ -41,5 +47,6 @@ loop-preserved c = record {
       (c.loop.invariant.tells limits is_sequence text begun follows tells);
   seeks = λ text begun ordered seeks. c.reach.ensures.reached c.loop-test.true text (c.loop.invariant.reaches text begun)
       (subst (λ (places : List ℕ). IsNonDecreasing places) (sym c.loop.invariant.sought) ordered) (c.loop.invariant.seeks text begun ordered seeks);
+  shows = λ text begun shows. c.reach.ensures.shows text (c.loop.invariant.reaches text begun) (c.loop.invariant.shows text begun shows);
   sought = c.reach.ensures.sought ∙ c.loop.invariant.sought;
 }

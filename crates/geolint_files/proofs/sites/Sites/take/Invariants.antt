@@ -2,7 +2,7 @@ use Rattle.std.proofs.Common.{Bool, ◌≡◌, ◌+◌, ◌-◌, ℕ, List, leng
 use Rattle.std.specs.List.Sorted.{IsNonDecreasing}
 use Rattle.gj_json.specs.Limits.{Allowed}
 use Rattle.geolint_files.specs.Sites.{sought}
-use Rattle.geolint_files.specs.Internal.SecondReading.{Reaches, Follows, Tells, Seeks}
+use Rattle.geolint_files.specs.Internal.SecondReading.{Reaches, Follows, Tells, Shows, Seeks}
 use Rattle.geolint_files.proofs.sites.Sites.take.Given as goal
 
 abbrev pub decreases-loop : goal.decreases-loop
@@ -16,5 +16,6 @@ invariant-loop l = record {
       → Tells limits is_sequence l.fn.finder l.fn.self text l.piece → Tells limits is_sequence l.finder l.self text l.piece;
   seeks : (text : List ℕ) → Reaches l.fn.finder l.fn.self text l.piece → IsNonDecreasing (sought l.fn.self) → Seeks l.fn.finder l.fn.self (length text + l.fn.finder.counted)
       → Seeks l.finder l.self (length text + l.finder.counted);
+  shows : (text : List ℕ) → Reaches l.fn.finder l.fn.self text l.piece → Shows l.fn.finder l.fn.self text l.piece → Shows l.finder l.self text l.piece;
   sought : sought l.self ≡ sought l.fn.self;
 }
