@@ -9,3 +9,4 @@ mod FollowedPaths
 mod FileCounts
 mod ReportedSites
 mod CommasBetween
+mod ShownNames

@@ -402,7 +402,7 @@ impl<'a> Run<'a> {
     {
         let alloc = self.rt.alloc();
         match self.options.format {
-            Format::Text => text::put(report, &mut self.line),
+            Format::Text => text::put_report(report, &mut self.line),
             Format::Lines => lines::put(alloc, report, self.style, &mut self.line),
             Format::Json => json::put_report(alloc, report, &mut self.line),
             Format::Github => github::put_report(alloc, report, &self.options, &mut self.line),
