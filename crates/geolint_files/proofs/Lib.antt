@@ -10,3 +10,5 @@ mod FileCounts
 mod ReportedSites
 mod CommasBetween
 mod ShownNames
+mod DetailsInParentheses
+mod ResultsBetween

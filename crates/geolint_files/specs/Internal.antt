@@ -2,3 +2,4 @@
 pub mod SecondReading
 pub mod FileCounts
 pub mod WrittenCommas
+pub mod WrittenDetails

@@ -2,7 +2,7 @@
 ghost use Rattle.std.specs.Prelude.{◌≡◌, ◌<◌, OnOk};
 ghost use Rattle.std.specs.List.{flat_map};
 ghost use Rattle.gj_json.specs.Path.{steps_of};
-ghost use Rattle.geolint_files.specs.Forms.Messages.{and_record, and_times, path_behind, and_path};
+ghost use Rattle.geolint_files.specs.Forms.Messages.{and_record, and_times, path_behind, and_path, level_of};
 ghost use Rattle.geolint_files.specs.Line.{Adds};
 ghost use Rattle.geolint_files.specs.Names.{shown_name, shown_text, shown_char, by_number, digit_in};
 ghost use Rattle.geolint_files.specs.Texts.{step_text, steps_text, path_text};
@@ -93,6 +93,16 @@ fn put_path_behind(path: &Path, line: &mut Vec<u8>) -> Result<(), AllocError>
     put_path(path, line)
 }
 
+/// The level of a warning.
+pub fn level(fails: bool) -> &'static [u8]
+    ensures { result.now ≡ level_of fails }
+{
+    match fails {
+        true => b"error",
+        false => b"warning",
+    }
+}
+
 /// Puts a name as it is, but for control characters, which a terminal would obey and a reader of lines would take for the
 /// end of one, and for bytes that are no Unicode text: of these the number, as `\x0a`.
 pub fn put_name(name: &[u8], line: &mut Vec<u8>) -> Result<(), AllocError>
@@ -147,7 +157,7 @@ fn put_number_of(byte: u8, line: &mut Vec<u8>) -> Result<(), AllocError>
 }
 
 /// The digit of a number below 16.
-fn digit_in(digits: &[u8; 16], number: u8) -> u8
+pub fn digit_in(digits: &[u8; 16], number: u8) -> u8
     requires { number < 16 }
     ensures { result ≡ digit_in digits.now number }
 {

@@ -398,15 +398,15 @@ impl<'a> Run<'a> {
     fn put(&mut self, report: &Report<'_>) -> Result<(), AllocError>
         ensures outcome { self.new.outcome ≡ self.old.outcome }
         ensures summary { self.new.summary ≡ self.old.summary }
-        ensures told { OnOk result (TellsReport self.old.options.format report.now self.old.options.strict self.old.options.allowed self.old.line self.new.line) }
+        ensures told { OnOk result (TellsReport self.old.options.format self.old.style self.old.log.is_first report.now self.old.options.strict self.old.options.allowed self.old.line self.new.line) }
     {
         let alloc = self.rt.alloc();
         match self.options.format {
             Format::Text => text::put_report(report, &mut self.line),
-            Format::Lines => lines::put(alloc, report, self.style, &mut self.line),
+            Format::Lines => lines::put_report(alloc, report, self.style, &mut self.line),
             Format::Json => json::put_report(alloc, report, &mut self.line),
             Format::Github => github::put_report(alloc, report, &self.options, &mut self.line),
-            Format::Sarif => self.log.put(report, &self.options, &mut self.line),
+            Format::Sarif => self.log.put_report(report, &self.options, &mut self.line),
         }
     }
 

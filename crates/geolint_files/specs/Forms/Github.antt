@@ -12,7 +12,7 @@ use Rattle.geolint_files.specs.declared.report.Told.{Told}
 use Rattle.geolint_files.specs.declared.sites.Spot.{Spot}
 use Rattle.geolint_files.specs.declared.texts.Code.{Code}
 use Rattle.geolint_files.specs.Finding.{record_of, fault_of, warnings_of}
-use Rattle.geolint_files.specs.Forms.Messages.{and_record, and_times, and_path}
+use Rattle.geolint_files.specs.Forms.Messages.{and_record, and_times, and_path, level_of}
 use Rattle.geolint_files.specs.Report.{warning_of, of_warning, fails, spot_of, path_of}
 use Rattle.geolint_files.specs.Texts.{code_name, code_text}
 
@@ -49,11 +49,8 @@ github_command report level told count =
     github_file level report.name.now
     ++ (github_spot (spot_of report told.place) ++ (codes ",title=" ++ (code_name told.code ++ github_message report told count)))
 
-abbrev pub github_level : Bool → List ℕ
-github_level fails = if fails then codes "error" else codes "warning"
-
 abbrev pub github_warning : Report → Bool → Kinds → Warnings → Kind → List ℕ
-github_warning report strict allowed warnings kind = of_warning (github_command report (github_level (fails strict allowed kind))) (warning_of kind warnings)
+github_warning report strict allowed warnings kind = of_warning (github_command report (level_of (fails strict allowed kind))) (warning_of kind warnings)
 
 unfoldable pub github_warnings : Report → Bool → Kinds → Warnings → List ℕ
 github_warnings report strict allowed warnings = flat_map (github_warning report strict allowed warnings) kinds

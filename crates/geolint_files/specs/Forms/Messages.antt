@@ -1,5 +1,5 @@
 -- What a message may say besides the text.
-use Rattle.std.specs.Prelude.{ℕ, List, [], ◌++◌, Option, Some, None, codes, if◌then◌else◌, nat_lt}
+use Rattle.std.specs.Prelude.{ℕ, Bool, List, [], ◌++◌, Option, Some, None, codes, if◌then◌else◌, nat_lt}
 use Rattle.std.specs.Fmt.{decimal}
 use Rattle.gj_json.specs.declared.path.Path.{Path}
 use Rattle.gj_json.specs.declared.path.PathStep.{PathStep}
@@ -19,3 +19,7 @@ path_behind steps = codes ", " ++ path_text steps
 abbrev pub and_path : Option Path → List ℕ
 and_path (Some path) = path_behind (steps_of path)
 and_path None = []
+
+-- of a warning, which fails a file or not
+abbrev pub level_of : Bool → List ℕ
+level_of fails = if fails then codes "error" else codes "warning"
