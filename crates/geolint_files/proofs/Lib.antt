@@ -12,3 +12,4 @@ mod CommasBetween
 mod ShownNames
 mod DetailsInParentheses
 mod ResultsBetween
+mod PlacesInOrder

@@ -9,6 +9,7 @@ use Rattle.std.specs.Prelude.{◌≡◌, ℕ, Bool, List, Vec}
 use Rattle.std.specs.declared.alloc.Global.{Global}
 use Rattle.gj_places.specs.Strings.{SpellsString}
 use Rattle.geolint_files.specs.declared.formats.lines.Style.{Style}
+use Rattle.geolint_files.specs.declared.formats.sarif.Log.{Log}
 use Rattle.geolint_files.specs.declared.options.Format.{Format}
 use Rattle.geolint_files.specs.declared.options.Kinds.{Kinds}
 use Rattle.geolint_files.specs.declared.report.Report.{Report}
@@ -16,7 +17,7 @@ use Rattle.geolint_files.specs.Finding.{fault_of}
 use Rattle.geolint_files.specs.Forms.Github.{github_told, github_unread}
 use Rattle.geolint_files.specs.Forms.Json.{json_line, json_unread}
 use Rattle.geolint_files.specs.Forms.Lines.{AreLines}
-use Rattle.geolint_files.specs.Forms.Sarif.{next_results, sarif_told}
+use Rattle.geolint_files.specs.Forms.Sarif.{next_results, next_unread, sarif_told}
 use Rattle.geolint_files.specs.Forms.Text.{text_told}
 use Rattle.geolint_files.specs.Line.{Adds}
 
@@ -35,3 +36,8 @@ TellsUnread Format.Lines name reason old new = new ≡ old
 TellsUnread Format.Json name reason old new = (file why : List ℕ) × SpellsString name file × SpellsString reason why × Adds old new (json_unread file why)
 TellsUnread Format.Github name reason old new = Adds old new (github_unread name reason)
 TellsUnread Format.Sarif name reason old new = new ≡ old
+
+-- and what a log keeps of one, for its end
+abbrev pub KeepsInLog : Format → List ℕ → List ℕ → Log → Log → Type 0
+KeepsInLog Format.Sarif name reason old new = (why : List ℕ) × SpellsString reason why × Adds old.unread new.unread (next_unread old.unread.items name why)
+KeepsInLog format name reason old new = new ≡ old

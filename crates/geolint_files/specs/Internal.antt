@@ -3,3 +3,4 @@ pub mod SecondReading
 pub mod FileCounts
 pub mod WrittenCommas
 pub mod WrittenDetails
+pub mod SoughtPlaces

@@ -137,6 +137,14 @@ next_results is_first (first ∷ more) = break_unless is_first ++ (first ++ behi
 unfoldable pub sarif_unread : List ℕ → List ℕ → List ℕ
 sarif_unread name reason = codes "{\"level\":\"error\",\"message\":{\"text\":" ++ (reason ++ (codes "}" ++ (location name ++ codes "}}]}")))
 
+abbrev pub is_nothing : List ℕ → Bool
+is_nothing [] = true
+is_nothing (byte ∷ more) = false
+
+-- behind those before it
+abbrev pub next_unread : List ℕ → List ℕ → List ℕ → List ℕ
+next_unread before name reason = break_unless (is_nothing before) ++ sarif_unread name reason
+
 -- ---- what comes before the results, and behind them
 
 unfoldable pub name_and_text : Code → List ℕ
@@ -175,10 +183,6 @@ unfoldable pub sarif_begin : List ℕ
 sarif_begin =
     codes "{\"$schema\":\"https://json.schemastore.org/sarif-2.1.0.json\",\"version\":\"2.1.0\",\"runs\":[{\"columnKind\":\"unicodeCodePoints\",\"tool\":{\"driver\":{\"name\":\"geolint-files\",\"version\":\"0.1.0\",\"rules\":[\n"
     ++ (sarif_rules ++ (sarif_causes ++ (sarif_rule Code.NotValid (codes "error") ++ (sarif_kinds ++ codes "]}},\"results\":[\n"))))
-
-abbrev pub is_nothing : List ℕ → Bool
-is_nothing [] = true
-is_nothing (byte ∷ more) = false
 
 -- what comes behind the last: whether each file was read, and those that were not
 unfoldable pub sarif_end : List ℕ → List ℕ

@@ -32,7 +32,7 @@ impl Log {
     ghost use Rattle.std.specs.Prelude.{◌≡◌, ◌&&◌, ◌++◌, ◌∷◌, [], ℕ, List, OnOk, true};
     ghost use Rattle.gj_places.specs.Strings.{SpellsString};
     ghost use Rattle.geolint_files.specs.Finding.{warnings_of};
-    ghost use Rattle.geolint_files.specs.Forms.Sarif.{sarif_result, sarif_kind, sarif_warnings, sarif_rest, sarif_told, break_unless, next_results, sarif_unread, sarif_begin, sarif_end, is_nothing};
+    ghost use Rattle.geolint_files.specs.Forms.Sarif.{sarif_result, sarif_kind, sarif_warnings, sarif_rest, sarif_told, next_results, next_unread, sarif_begin, sarif_end, is_nothing};
     ghost use Rattle.geolint_files.specs.Internal.WrittenCommas.{is_none_yet};
     ghost use Rattle.geolint_files.specs.Line.{Adds};
 
@@ -162,8 +162,7 @@ impl Log {
         name: &[u8],
         reason: &str,
     ) -> Result<(), AllocError>
-        ensures kept { OnOk result ((why : List ℕ) × SpellsString reason.now why
-            × Adds self.old.unread self.new.unread (break_unless (is_nothing self.old.unread.items) ++ sarif_unread name.now why)) }
+        ensures kept { OnOk result ((why : List ℕ) × SpellsString reason.now why × Adds self.old.unread self.new.unread (next_unread self.old.unread.items name.now why)) }
         ensures first { self.new.is_first ≡ self.old.is_first }
     {
         let why = json_string(alloc, reason.as_bytes())?;

@@ -1,6 +1,6 @@
-use Rattle.std.proofs.Common.{ap, subst, ◌≡◌, ◌++◌, ◌∷◌, [], ℕ, List}
+use Rattle.std.proofs.Common.{subst, ◌≡◌, ◌++◌, ℕ, List}
 use Rattle.std.specs.Prelude.{OnOk}
-use Rattle.geolint_files.specs.Forms.Sarif.{sarif_result, break_unless, next_results}
+use Rattle.geolint_files.specs.Forms.Sarif.{sarif_result, break_unless}
 use Rattle.geolint_files.proofs.JoinedElements.{behind}
 use Rattle.geolint_files.proofs.ResultsBetween.{one-result}
 use Rattle.geolint_files.proofs.formats.sarif.Log.put_result.Goals as goal

@@ -1,4 +1,4 @@
-use Rattle.std.proofs.Common.{arith, ap, sym, subst, ◌∙◌, ◌≡◌, ◌++◌, ◌+◌, ◌&&◌, ℕ, Bool, List, length, take, get_or, append_assoc, refl}
+use Rattle.std.proofs.Common.{arith, ap, sym, subst, ◌∙◌, ◌≡◌, ◌++◌, ◌+◌, ◌&&◌, ℕ, Bool, List, length, take, get_or, append_assoc}
 use Rattle.std.specs.List.{flat_map}
 use Rattle.gj_coords.specs.declared.kind.Kind.TheVariants.{W1}
 use Rattle.gj_coords.specs.Warnings.{kinds}
