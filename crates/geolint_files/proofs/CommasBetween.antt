@@ -1,7 +1,7 @@
 -- Lemmas on a list that is written with commas, some items at a time.
 use Rattle.std.proofs.Common.{◌≡◌, ◌&&◌, ℕ, Bool, true, false, List, [], ◌∷◌, ◌++◌, refl, ap, sym, ◌∙◌, append_assoc, append-nil}
 use Rattle.std.proofs.lemmas.List.Concat.{flat_map-append}
-use Rattle.geolint_files.specs.Forms.{with_commas, behind_commas}
+use Rattle.geolint_files.specs.Forms.Json.{with_commas, behind_commas}
 use Rattle.geolint_files.specs.Internal.WrittenCommas.{is_none_yet, next_items, comma_unless}
 
 pub commas-more : (xs ys : List (List ℕ)) → with_commas (xs ++ ys) ≡ with_commas xs ++ next_items (is_none_yet xs) ys

@@ -12,3 +12,7 @@ mod KeptExcerpts
 mod FileCounts
 mod ReportedSites
 mod CommasBetween
+mod ShownNames
+mod DetailsInParentheses
+mod ResultsBetween
+mod PlacesInOrder

@@ -2,3 +2,5 @@
 pub mod SecondReading
 pub mod FileCounts
 pub mod WrittenCommas
+pub mod WrittenDetails
+pub mod SoughtPlaces

@@ -1,5 +1,6 @@
 pub mod Line
 pub mod Texts
+pub mod Names
 pub mod Judged
 pub mod Finding
 pub mod Counts

@@ -1,11 +1,12 @@
--- What a report tells besides the finding: how often, and the line, the column and the path that were found for a place.
-use Rattle.std.specs.Prelude.{ℕ, Bool, not, ◌&&◌, List, [], Option, Some, None, if◌then◌else◌}
+-- What a report tells besides the finding: how often, which places, and the line, the column and the path that were found for a place.
+use Rattle.std.specs.Prelude.{◌≡◌, ℕ, Bool, not, ◌&&◌, List, [], Option, Some, None, is_some, if◌then◌else◌}
 use Rattle.std.specs.List.{find}
 use Rattle.std.specs.Borrow.{Bor}
 use Rattle.gj_coords.specs.declared.kind.Kind.{Kind}
 use Rattle.gj_coords.specs.declared.warnings.Warnings.{Warnings}
-use Rattle.gj_coords.specs.Internal.KeptWarnings.{first_in, count_in}
+use Rattle.gj_coords.specs.Internal.KeptWarnings.{first_in, count_in, none_in}
 use Rattle.gj_json.specs.declared.path.Path.{Path}
+use Rattle.geolint_files.specs.declared.judge.Finding.{Finding}
 use Rattle.geolint_files.specs.declared.options.Kinds.{Kinds}
 use Rattle.geolint_files.specs.declared.report.Report.{Report}
 use Rattle.geolint_files.specs.declared.report.Told.{Told}
@@ -14,7 +15,7 @@ use Rattle.geolint_files.specs.declared.sites.Sites.{Sites}
 use Rattle.geolint_files.specs.declared.sites.Spot.{Spot}
 use Rattle.geolint_files.specs.declared.texts.Code.{Code}
 use Rattle.geolint_files.specs.Counts.{is_cause}
-use Rattle.geolint_files.specs.Finding.{contains}
+use Rattle.geolint_files.specs.Finding.{contains, fault_of, warnings_of}
 use Rattle.geolint_files.specs.Sites.{is_found_at}
 
 -- ---- kinds of warning
@@ -61,3 +62,25 @@ spot_of report place = spot_from (site_at place report.sites)
 -- its path, if one was found: none for a text that is refused, which need not have one there
 abbrev pub path_of : Report → Told → Option Path
 path_of report told = if is_cause told.code then None else path_from (site_at told.place report.sites)
+
+-- ---- which places are told
+
+abbrev pub IsFirstPlace : Warnings → ℕ → Type 0
+IsFirstPlace warnings place = (kind : Kind) × (first_in kind warnings ≡ Some place)
+
+abbrev pub IsPlaceOf : Option Told → Option Warnings → ℕ → Type 0
+IsPlaceOf (Some told) warnings place = place ≡ told.place
+IsPlaceOf None (Some warnings) place = IsFirstPlace warnings place
+IsPlaceOf None None place = ⊥
+
+-- that of its fault, or the first of a kind of warning
+abbrev pub IsToldPlace : Finding → ℕ → Type 0
+IsToldPlace finding place = IsPlaceOf (fault_of finding) (warnings_of finding) place
+
+abbrev pub has_places_of : Option Told → Option Warnings → Bool
+has_places_of told (Some warnings) = not (none_in warnings)
+has_places_of told None = is_some told
+
+-- it has a fault, or a warning
+abbrev pub has_places : Finding → Bool
+has_places finding = has_places_of (fault_of finding) (warnings_of finding)

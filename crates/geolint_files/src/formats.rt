@@ -1,8 +1,10 @@
 //! The forms of the report. Each puts what it tells of a file behind the bytes of a line.
-ghost use Rattle.std.specs.Prelude.{◌≡◌, OnOk};
+ghost use Rattle.std.specs.Prelude.{◌≡◌, ◌<◌, OnOk};
+ghost use Rattle.std.specs.List.{flat_map};
 ghost use Rattle.gj_json.specs.Path.{steps_of};
-ghost use Rattle.geolint_files.specs.Forms.{and_record, and_times, path_behind, and_path};
+ghost use Rattle.geolint_files.specs.Forms.Messages.{and_record, and_times, path_behind, and_path, level_of};
 ghost use Rattle.geolint_files.specs.Line.{Adds};
+ghost use Rattle.geolint_files.specs.Names.{shown_name, shown_text, shown_char, by_number, digit_in};
 ghost use Rattle.geolint_files.specs.Texts.{step_text, steps_text, path_text};
 
 pub mod github;
@@ -83,7 +85,7 @@ pub fn put_and_path(path: Option<Path>, line: &mut Vec<u8>) -> Result<(), AllocE
     }
 }
 
-#[tactic(auto, unfolding(crate::specs::Forms::path_behind))]
+#[tactic(auto, unfolding(crate::specs::Forms::Messages::path_behind))]
 fn put_path_behind(path: &Path, line: &mut Vec<u8>) -> Result<(), AllocError>
     ensures { OnOk result (Adds line.old line.new (path_behind (steps_of path.now))) }
 {
@@ -91,33 +93,73 @@ fn put_path_behind(path: &Path, line: &mut Vec<u8>) -> Result<(), AllocError>
     put_path(path, line)
 }
 
-const HEX_DIGITS: &[u8; 16] = b"0123456789abcdef";
+/// The level of a warning.
+pub fn level(fails: bool) -> &'static [u8]
+    ensures { result.now ≡ level_of fails }
+{
+    match fails {
+        true => b"error",
+        false => b"warning",
+    }
+}
 
 /// Puts a name as it is, but for control characters, which a terminal would obey and a reader of lines would take for the
 /// end of one, and for bytes that are no Unicode text: of these the number, as `\x0a`.
-pub fn put_name(name: &[u8], line: &mut Vec<u8>) -> Result<(), AllocError> {
+pub fn put_name(name: &[u8], line: &mut Vec<u8>) -> Result<(), AllocError>
+    ensures { OnOk result (Adds line.old line.new (shown_name name.now)) }
+{
     for chunk in name.utf8_chunks() {
-        for c in chunk.valid().chars() {
-            let mut room = [0; 4];
-            let bytes = c.encode_utf8(&mut room).as_bytes();
-            if c.is_control() {
-                put_numbers(bytes, line)?;
-            } else {
-                line.extend_from_slice(bytes)?;
-            }
-        }
+        put_text(chunk.valid(), line)?;
         put_numbers(chunk.invalid(), line)?;
     }
     Ok(())
 }
 
-fn put_numbers(bytes: &[u8], line: &mut Vec<u8>) -> Result<(), AllocError> {
-    for byte in bytes {
-        let digits = [
-            HEX_DIGITS[(*byte >> 4) as usize],
-            HEX_DIGITS[(*byte & 15) as usize],
-        ];
-        put_all(line, &[b"\\x", &digits])?;
+fn put_text(text: &str, line: &mut Vec<u8>) -> Result<(), AllocError>
+    ensures { OnOk result (Adds line.old line.new (shown_text text.now)) }
+{
+    for c in text.chars() {
+        put_char(c, line)?;
     }
     Ok(())
+}
+
+fn put_char(c: char, line: &mut Vec<u8>) -> Result<(), AllocError>
+    ensures { OnOk result (Adds line.old line.new (shown_char c)) }
+{
+    let mut room = [0; 4];
+    let bytes = c.encode_utf8(&mut room).as_bytes();
+    if c.is_control() {
+        put_numbers(bytes, line)
+    } else {
+        put(line, bytes)
+    }
+}
+
+fn put_numbers(bytes: &[u8], line: &mut Vec<u8>) -> Result<(), AllocError>
+    ensures { OnOk result (Adds line.old line.new (flat_map by_number bytes.now)) }
+{
+    for byte in bytes {
+        put_number_of(*byte, line)?;
+    }
+    Ok(())
+}
+
+const LOWER_DIGITS: &[u8; 16] = b"0123456789abcdef";
+
+/// Puts the number of a byte.
+fn put_number_of(byte: u8, line: &mut Vec<u8>) -> Result<(), AllocError>
+    ensures { OnOk result (Adds line.old line.new (by_number byte)) }
+{
+    let high = digit_in(LOWER_DIGITS, byte / 16);
+    let low = digit_in(LOWER_DIGITS, byte % 16);
+    put_all(line, &[b"\\x", &[high, low]])
+}
+
+/// The digit of a number below 16.
+pub fn digit_in(digits: &[u8; 16], number: u8) -> u8
+    requires { number < 16 }
+    ensures { result ≡ digit_in digits.now number }
+{
+    digits[number as usize]
 }

@@ -24,13 +24,23 @@ pub struct Told {
     pub place: u64,
 }
 
-ghost use Rattle.std.specs.Prelude.{◌≡◌};
+ghost use Rattle.std.specs.Prelude.{◌≡◌, ◌<◌, ◌≤◌, ◌-◌, ◌^◌, ◌++◌, ◌∷◌, [], ℕ, Bool, List, length, get_or};
+ghost use Rattle.std.specs.List.{Contains, filter};
+ghost use Rattle.std.specs.List.Sorted.{IsNonDecreasing};
+ghost use Rattle.gj_coords.specs.Warnings.{kinds};
+ghost use Rattle.gj_coords.specs.declared.kind.Kind.TheVariants.{W1};
 ghost use Rattle.geolint_files.specs.Finding.{fault_in};
-ghost use Rattle.geolint_files.specs.Report.{warning_of};
+ghost use Rattle.geolint_files.specs.Internal.SoughtPlaces.{first_or_none, is_sought};
+ghost use Rattle.geolint_files.specs.Report.{warning_of, IsFirstPlace};
+ghost use Rattle.geolint_files.specs.Sites.{AreRight, ArePaths, sought};
 
 impl Finding {
-    ghost use Rattle.std.specs.Prelude.{◌≡◌};
+    ghost use Rattle.std.specs.Prelude.{◌≡◌, ◌<◌, ◌-◌, ◌^◌, ℕ, Bool, List, None};
+    ghost use Rattle.std.specs.List.{Contains};
+    ghost use Rattle.std.specs.List.Sorted.{IsNonDecreasing};
     ghost use Rattle.geolint_files.specs.Finding.{fault_of, warnings_of, record_of, records_of, word_of};
+    ghost use Rattle.geolint_files.specs.Report.{has_places, IsPlaceOf, IsToldPlace};
+    ghost use Rattle.geolint_files.specs.Sites.{AreRight, ArePaths, sought};
 
     /// The warnings, where the file is valid.
     pub fn warnings(&self) -> Option<Warnings>
@@ -94,7 +104,9 @@ impl Finding {
     }
 
     /// Whether a place of it is told.
-    pub fn has_places(&self) -> bool {
+    pub fn has_places(&self) -> bool
+        ensures { result ≡ has_places self.now }
+    {
         match self.warnings() {
             Some(warnings) => !warnings.is_empty(),
             None => self.fault().is_some(),
@@ -102,26 +114,96 @@ impl Finding {
     }
 
     /// The places that are to be sought, in their order.
-    pub fn places(&self) -> Sites {
-        let mut sites = Sites::none();
-        if let Some(told) = self.fault() {
-            sites.seek(told.place);
+    pub fn places(&self) -> Sites
+        ensures right { (text : List ℕ) → AreRight text result.sites }
+        ensures paths { (is_sequence : Bool) (text : List ℕ) → ArePaths is_sequence text result.sites }
+        ensures all { (place : ℕ) → IsToldPlace self.now place → place < 2 ^ 64 - 1 → Contains (sought result) place }
+        ensures only { (place : ℕ) → Contains (sought result) place → IsToldPlace self.now place }
+        ensures ordered { IsNonDecreasing (sought result) }
+    {
+        match self.fault() {
+            Some(told) => one_place(told.place),
+            None => self.places_of_warnings(),
         }
-        if let Some(warnings) = self.warnings() {
-            let mut places = [u64::MAX; MOST_PLACES];
-            for (place, kind) in places.iter_mut().zip(KINDS.iter()) {
-                if let Some(first) = warnings.first(*kind) {
-                    *place = first;
-                }
-            }
-            places.sort_unstable();
-            for place in &places {
-                if *place != u64::MAX {
-                    sites.seek(*place);
-                }
-            }
+    }
+
+    /// The places where there is no fault to tell.
+    fn places_of_warnings(&self) -> Sites
+        ensures right { (text : List ℕ) → AreRight text result.sites }
+        ensures paths { (is_sequence : Bool) (text : List ℕ) → ArePaths is_sequence text result.sites }
+        ensures all { (place : ℕ) → IsPlaceOf None (warnings_of self.now) place → place < 2 ^ 64 - 1 → Contains (sought result) place }
+        ensures only { (place : ℕ) → Contains (sought result) place → IsPlaceOf None (warnings_of self.now) place }
+        ensures ordered { IsNonDecreasing (sought result) }
+    {
+        match self.warnings() {
+            Some(warnings) => warned_places(&warnings),
+            None => Sites::none(),
         }
-        sites
+    }
+}
+
+fn one_place(place: u64) -> Sites
+    ensures right { (text : List ℕ) → AreRight text result.sites }
+    ensures paths { (is_sequence : Bool) (text : List ℕ) → ArePaths is_sequence text result.sites }
+    ensures sought { sought result ≡ place ∷ [] }
+{
+    let mut sites = Sites::none();
+    sites.seek(place);
+    sites
+}
+
+/// The first place of each kind of warning.
+fn warned_places(warnings: &Warnings) -> Sites
+    ensures right { (text : List ℕ) → AreRight text result.sites }
+    ensures paths { (is_sequence : Bool) (text : List ℕ) → ArePaths is_sequence text result.sites }
+    ensures all { (place : ℕ) → IsFirstPlace warnings.now place → place < 2 ^ 64 - 1 → Contains (sought result) place }
+    ensures only { (place : ℕ) → Contains (sought result) place → IsFirstPlace warnings.now place }
+    ensures ordered { IsNonDecreasing (sought result) }
+{
+    let mut places = first_places(warnings);
+    places.sort_unstable();
+    sites_at(&places)
+}
+
+/// The first place of each kind, and `u64::MAX` where there is no warning of it, which is no place that is sought.
+fn first_places(warnings: &Warnings) -> [u64; MOST_PLACES]
+    ensures ten { length result ≡ 10 }
+    ensures kinds { (k : ℕ) → k < 9 → get_or result k 0 ≡ first_or_none (get_or kinds k W1) warnings.now }
+    ensures last { get_or result 9 0 ≡ 2 ^ 64 - 1 }
+{
+    let mut places = [u64::MAX; MOST_PLACES];
+    for i in 0..KINDS.len() {
+        places[i] = first_or_none(KINDS[i], warnings);
+    }
+    places
+}
+
+fn first_or_none(kind: Kind, warnings: &Warnings) -> u64
+    ensures { result ≡ first_or_none kind warnings.now }
+{
+    warnings.first(kind).unwrap_or(u64::MAX)
+}
+
+fn sites_at(places: &[u64]) -> Sites
+    requires { length places.now ≤ 10 }
+    ensures right { (text : List ℕ) → AreRight text result.sites }
+    ensures paths { (is_sequence : Bool) (text : List ℕ) → ArePaths is_sequence text result.sites }
+    ensures sought { sought result ≡ filter is_sought places.now }
+{
+    let mut sites = Sites::none();
+    for place in places {
+        seek_if(&mut sites, *place);
+    }
+    sites
+}
+
+fn seek_if(sites: &mut Sites, place: u64)
+    ensures right { (text : List ℕ) → AreRight text sites.old.sites → AreRight text sites.new.sites }
+    ensures paths { (is_sequence : Bool) (text : List ℕ) → ArePaths is_sequence text sites.old.sites → ArePaths is_sequence text sites.new.sites }
+    ensures sought { length (sought sites.old) < 10 → sought sites.new ≡ sought sites.old ++ filter is_sought (place ∷ []) }
+{
+    if place != u64::MAX {
+        sites.seek(place);
     }
 }
 

@@ -1,4 +1,8 @@
 //! Judges what the words name, file by file, and tells each.
+ghost use Rattle.std.specs.Prelude.{◌≡◌, ◌<◌, ◌-◌, ◌^◌, ℕ, IfOk};
+ghost use Rattle.std.specs.List.{Contains};
+ghost use Rattle.geolint_files.specs.Report.{IsToldPlace};
+ghost use Rattle.geolint_files.specs.Sites.{RightBy, PathsBy, FoundBy, sought};
 
 use crate::files::{is_memory, reason, spell};
 use crate::formats::lines::Style;
@@ -15,6 +19,7 @@ use crate::sites::Sites;
 use crate::summary::Summary;
 use crate::walk::{Pending, Walk, is_sequence, is_taken};
 use crate::words::Order;
+use gj_json::Limits;
 use gj_rules::Linter;
 use std::alloc::AllocError;
 use std::env;
@@ -113,13 +118,16 @@ fn style_of(rt: &HostRuntime, is_terminal: bool) -> Style {
 }
 
 impl<'a> Run<'a> {
-    ghost use Rattle.std.specs.Prelude.{◌≡◌, ◌++◌, ◌∷◌, [], List, Option, Some, None, IfOk, OnOk};
+    ghost use Rattle.std.specs.Prelude.{◌≡◌, ◌++◌, ◌∷◌, [], ℕ, List, Option, Some, None, IfOk, OnOk};
     ghost use Rattle.geolint_files.specs.declared.judge.Finding.{Finding};
     ghost use Rattle.geolint_files.specs.Internal.FileCounts.{Counts};
     ghost use Rattle.geolint_files.specs.declared.outcome.Outcome.{Outcome};
     ghost use Rattle.geolint_files.specs.declared.outcome.Outcome.TheVariants.{Unread};
     ghost use Rattle.geolint_files.specs.Finding.{outcome_of, passes, worst};
-    ghost use Rattle.geolint_files.specs.Forms.{TellsReport, TellsUnread};
+    ghost use Rattle.std.specs.List.{Contains};
+    ghost use Rattle.geolint_files.specs.Forms.{TellsReport, TellsUnread, KeepsInLog};
+    ghost use Rattle.geolint_files.specs.Report.{IsToldPlace};
+    ghost use Rattle.geolint_files.specs.Sites.{sought};
 
     fn new(rt: &HostRuntime, options: Options, linter: &'a mut Linter) -> Result<Run<'a>, Failure>
         ensures outcome { IfOk result (λ run. run.outcome ≡ worst []) }
@@ -356,21 +364,22 @@ impl<'a> Run<'a> {
         file: &mut File,
         before: &Option<Metadata>,
         reading: Reading,
-    ) -> Sites {
-        let mut sites = finding.places();
-        if sites.is_empty() {
-            return sites;
-        }
-        let is_found = match file.seek(SeekFrom::Start(0)) {
-            Ok(_) => sites
-                .find(file, self.options.limits, reading == Reading::Sequence)
-                .is_ok(),
-            Err(_) => false,
+    ) -> Sites
+        ensures only { (place : ℕ) → Contains (sought result) place → IsToldPlace finding.now place }
+    {
+        let found = match file.seek(SeekFrom::Start(0)) {
+            Ok(_) => sites_in(
+                finding,
+                file,
+                self.options.limits,
+                reading == Reading::Sequence,
+            ),
+            Err(error) => Err(error),
         };
-        if !is_found || !is_unchanged(before, &file.metadata().ok()) {
-            sites.forget();
+        match found {
+            Ok(sites) if is_unchanged(before, &file.metadata().ok()) => sites,
+            _ => Sites::none(),
         }
-        sites
     }
 
     /// Tells a file that was judged.
@@ -398,15 +407,15 @@ impl<'a> Run<'a> {
     fn put(&mut self, report: &Report<'_>) -> Result<(), AllocError>
         ensures outcome { self.new.outcome ≡ self.old.outcome }
         ensures summary { self.new.summary ≡ self.old.summary }
-        ensures told { OnOk result (TellsReport self.old.options.format report.now self.old.options.strict self.old.options.allowed self.old.line self.new.line) }
+        ensures told { OnOk result (TellsReport self.old.options.format self.old.style self.old.log.is_first report.now self.old.options.strict self.old.options.allowed self.old.line self.new.line) }
     {
         let alloc = self.rt.alloc();
         match self.options.format {
-            Format::Text => text::put(report, &mut self.line),
-            Format::Lines => lines::put(alloc, report, self.style, &mut self.line),
+            Format::Text => text::put_report(report, &mut self.line),
+            Format::Lines => lines::put_report(alloc, report, self.style, &mut self.line),
             Format::Json => json::put_report(alloc, report, &mut self.line),
             Format::Github => github::put_report(alloc, report, &self.options, &mut self.line),
-            Format::Sarif => self.log.put(report, &self.options, &mut self.line),
+            Format::Sarif => self.log.put_report(report, &self.options, &mut self.line),
         }
     }
 
@@ -436,6 +445,7 @@ impl<'a> Run<'a> {
         ensures outcome { self.new.outcome ≡ self.old.outcome }
         ensures summary { self.new.summary ≡ self.old.summary }
         ensures told { OnOk result (TellsUnread self.old.options.format name.now reason.now self.old.line self.new.line) }
+        ensures log { OnOk result (KeepsInLog self.old.options.format name.now reason.now self.old.log self.new.log) }
     {
         let alloc = self.rt.alloc();
         match self.options.format {
@@ -456,6 +466,24 @@ impl<'a> Run<'a> {
         }
         Ok(())
     }
+}
+
+/// The lines, columns and paths of what is told of a finding, in what a reader has left.
+fn sites_in<R: Read>(
+    finding: &Finding,
+    reader: &mut R,
+    limits: Limits,
+    is_sequence: bool,
+) -> io::Result<Sites>
+    ensures right { IfOk result (λ sites. RightBy (R.remaining reader.old) sites.sites) }
+    ensures paths { IfOk result (λ sites. PathsBy is_sequence (R.remaining reader.old) sites.sites) }
+    ensures found { IfOk result (λ sites. FoundBy (R.remaining reader.old) sites) }
+    ensures all { IfOk result (λ sites. (place : ℕ) → IsToldPlace finding.now place → place < 2 ^ 64 - 1 → Contains (sought sites) place) }
+    ensures only { IfOk result (λ sites. (place : ℕ) → Contains (sought sites) place → IsToldPlace finding.now place) }
+{
+    let mut sites = finding.places();
+    sites.find(reader, limits, is_sequence)?;
+    Ok(sites)
 }
 
 /// Whether a file is as it was, as far as the system tells.

@@ -1,6 +1,6 @@
 -- What is put of a list with commas, some items at a time.
 use Rattle.std.specs.Prelude.{ℕ, Bool, true, false, List, [], ◌∷◌}
-use Rattle.geolint_files.specs.Forms.{with_commas, behind_commas}
+use Rattle.geolint_files.specs.Forms.Json.{with_commas, behind_commas}
 
 abbrev pub is_none_yet : List (List ℕ) → Bool
 is_none_yet [] = true

@@ -2,10 +2,10 @@
 ghost use Rattle.std.specs.Prelude.{◌≡◌, OnOk};
 ghost use Rattle.std.specs.List.{flat_map};
 ghost use Rattle.geolint_files.specs.Finding.{warnings_of};
-ghost use Rattle.geolint_files.specs.Forms.{escaped_in_message, escaped_in_property, github_file, github_spot, github_mark, github_message, github_command, github_level, github_warning, github_warnings, github_not_valid, github_rest, github_told, github_unread};
+ghost use Rattle.geolint_files.specs.Forms.Github.{escaped_in_message, escaped_in_property, github_file, github_spot, github_mark, github_message, github_command, github_warning, github_warnings, github_not_valid, github_rest, github_told, github_unread};
 ghost use Rattle.geolint_files.specs.Line.{Adds};
 
-use crate::formats::{put_and_path, put_and_record, put_and_times};
+use crate::formats::{level, put_and_path, put_and_record, put_and_times};
 use crate::line::{put, put_all, put_number};
 use crate::options::Options;
 use crate::report::{Report, Told, warning};
@@ -83,16 +83,6 @@ fn put_warning(
             )
         }
         None => Ok(()),
-    }
-}
-
-/// The level of a warning.
-fn level(fails: bool) -> &'static [u8]
-    ensures { result.now ≡ github_level fails }
-{
-    match fails {
-        true => b"error",
-        false => b"warning",
     }
 }
 

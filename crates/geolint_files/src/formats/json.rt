@@ -3,7 +3,7 @@ ghost use Rattle.std.specs.Prelude.{◌≡◌, ◌&&◌, ℕ, List, OnOk, IfOk};
 ghost use Rattle.gj_json.specs.Path.{steps_of};
 ghost use Rattle.gj_places.specs.Strings.{SpellsString};
 ghost use Rattle.geolint_files.specs.Finding.{word_of, record_of, records_of, fault_of, warnings_of};
-ghost use Rattle.geolint_files.specs.Forms.{json_spot, json_path, json_path_string, json_told, json_head, json_nothing, json_placed, json_fault, json_object, json_kind, json_warnings, json_warnings_of, json_line, json_unread};
+ghost use Rattle.geolint_files.specs.Forms.Json.{json_spot, json_path, json_path_string, json_told, json_head, json_nothing, json_placed, json_fault, json_object, json_kind, json_warnings, json_warnings_of, json_line, json_unread};
 ghost use Rattle.geolint_files.specs.Internal.WrittenCommas.{is_none_yet, next_items, comma_unless};
 ghost use Rattle.geolint_files.specs.Line.{Adds, optional_number};
 
@@ -47,7 +47,7 @@ fn put_fault(report: &Report<'_>, line: &mut Vec<u8>) -> Result<(), AllocError>
 }
 
 /// The members where no rule is broken.
-#[tactic(auto, unfolding(crate::specs::Forms::json_nothing))]
+#[tactic(auto, unfolding(crate::specs::Forms::Json::json_nothing))]
 fn put_nothing(line: &mut Vec<u8>) -> Result<(), AllocError>
     ensures { OnOk result (Adds line.old line.new json_nothing) }
 {

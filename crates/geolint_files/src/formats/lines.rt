@@ -1,10 +1,21 @@
 //! One line for each thing that is told, as compilers write them, and the place it is told of.
+ghost use Rattle.std.specs.Prelude.{◌≡◌, ◌||◌, ◌++◌, ℕ, List, OnOk, IfOk, codes, replicate};
+ghost use Rattle.std.specs.Fmt.{decimal};
+ghost use Rattle.gj_places.specs.declared.excerpt.Excerpt.{Excerpt};
+ghost use Rattle.geolint_files.specs.Finding.{word_of, fault_of, warnings_of, record_of};
+ghost use Rattle.geolint_files.specs.Forms.Lines.{beginning, ending, and_spot, lines_place, lines_code, record_detail, times_detail, byte_detail, path_detail, details, in_parentheses, lines_line, lines_warning, lines_kind, lines_warnings, lines_not_valid, lines_rest, lines_excerpt, IsShown, IsExcerpt, AreLines};
+ghost use Rattle.geolint_files.specs.Internal.WrittenDetails.{next_details, has_details, separator, end};
+ghost use Rattle.geolint_files.specs.Line.{Adds};
+ghost use Rattle.geolint_files.specs.Report.{spot_of, path_of};
 
 use crate::formats::{put_name, put_path};
-use crate::line::{put_all, put_number};
+use crate::line::{put, put_all, put_number};
 use crate::report::{Report, Told, warning};
+use crate::sites::Spot;
 use crate::texts::Code;
-use gj_coords::KINDS;
+use gj_coords::{KINDS, Kind, Warnings};
+use gj_json::Path;
+use gj_places::Excerpt;
 use itoa::Buffer;
 use std::alloc::{AllocError, Global};
 
@@ -25,7 +36,9 @@ enum Part {
 }
 
 /// What begins a part in colour, and what ends it; nothing where the style is plain.
-fn beginning(part: Part, style: Style) -> &'static [u8] {
+fn beginning(part: Part, style: Style) -> &'static [u8]
+    ensures { result.now ≡ beginning part style }
+{
     match (style, part) {
         (Style::Plain, _) => b"",
         (Style::Colour, Part::Name) => b"\x1b[1m",
@@ -35,139 +48,298 @@ fn beginning(part: Part, style: Style) -> &'static [u8] {
     }
 }
 
-fn end(style: Style) -> &'static [u8] {
+fn ending(style: Style) -> &'static [u8]
+    ensures { result.now ≡ ending style }
+{
     match style {
         Style::Plain => b"",
         Style::Colour => b"\x1b[0m",
     }
 }
 
+fn put_beginning(part: Part, style: Style, line: &mut Vec<u8>) -> Result<(), AllocError>
+    ensures { OnOk result (Adds line.old line.new (beginning part style)) }
+{
+    put(line, beginning(part, style))
+}
+
+fn put_ending(style: Style, line: &mut Vec<u8>) -> Result<(), AllocError>
+    ensures { OnOk result (Adds line.old line.new (ending style)) }
+{
+    put(line, ending(style))
+}
+
 /// Puts the lines of a file: none for one that is valid without a warning.
-pub fn put(
+pub fn put_report(
     alloc: Global,
     report: &Report<'_>,
     style: Style,
     line: &mut Vec<u8>,
-) -> Result<(), AllocError> {
-    if let Some(told) = report.finding.fault() {
-        put_place(report, &told, style, line)?;
-        put_all(
-            line,
-            &[beginning(Part::Fault, style), report.finding.word()],
-        )?;
-        put_code(told.code, style, line)?;
-        put_detail(report, &told, 1, line)?;
-        return put_excerpt(alloc, report, &told, style, line);
-    }
-    match report.finding.warnings() {
-        None => {
-            put_all(line, &[beginning(Part::Name, style)])?;
-            put_name(report.name, line)?;
-            put_all(line, &[end(style), b": not valid\n"])
-        }
-        Some(warnings) => {
-            for kind in &KINDS {
-                if let Some((told, count)) = warning(*kind, &warnings) {
-                    put_warning(report, &told, count, style, line)?;
-                }
-            }
-            Ok(())
-        }
+) -> Result<(), AllocError>
+    ensures { OnOk result ((bytes : List ℕ) × AreLines style report.now (fault_of report.now.finding) bytes × Adds line.old line.new bytes) }
+{
+    match report.finding.fault() {
+        Some(told) => put_fault(alloc, report, &told, style, line),
+        None => put_rest(report, style, line),
     }
 }
 
-fn put_warning(
+fn put_fault(
+    alloc: Global,
+    report: &Report<'_>,
+    told: &Told,
+    style: Style,
+    line: &mut Vec<u8>,
+) -> Result<(), AllocError>
+    ensures { OnOk result ((excerpt : List ℕ) × IsExcerpt style (spot_of report.now told.now.place) excerpt
+        × Adds line.old line.new (lines_line style Part.Fault (word_of report.now.finding) report.now told.now 1 ++ excerpt)) }
+{
+    put_line(
+        Part::Fault,
+        report.finding.word(),
+        report,
+        told,
+        1,
+        style,
+        line,
+    )?;
+    put_excerpt(alloc, report, told, style, line)
+}
+
+/// Where there is no fault to tell.
+fn put_rest(report: &Report<'_>, style: Style, line: &mut Vec<u8>) -> Result<(), AllocError>
+    ensures { OnOk result (Adds line.old line.new (lines_rest style report.now (warnings_of report.now.finding))) }
+{
+    match report.finding.warnings() {
+        Some(warnings) => put_warnings(report, &warnings, style, line),
+        None => put_not_valid(report.name, style, line),
+    }
+}
+
+fn put_not_valid(name: &[u8], style: Style, line: &mut Vec<u8>) -> Result<(), AllocError>
+    ensures { OnOk result (Adds line.old line.new (lines_not_valid style name.now)) }
+{
+    put_beginning(Part::Name, style, line)?;
+    put_name(name, line)?;
+    put_ending(style, line)?;
+    put(line, b": not valid\n")
+}
+
+fn put_warnings(
+    report: &Report<'_>,
+    warnings: &Warnings,
+    style: Style,
+    line: &mut Vec<u8>,
+) -> Result<(), AllocError>
+    ensures { OnOk result (Adds line.old line.new (lines_warnings style report.now warnings.now)) }
+{
+    for kind in &KINDS {
+        put_kind(report, warnings, *kind, style, line)?;
+    }
+    Ok(())
+}
+
+/// The line of a kind of warning, where there is one.
+fn put_kind(
+    report: &Report<'_>,
+    warnings: &Warnings,
+    kind: Kind,
+    style: Style,
+    line: &mut Vec<u8>,
+) -> Result<(), AllocError>
+    ensures { OnOk result (Adds line.old line.new (lines_kind style report.now warnings.now kind)) }
+{
+    match warning(kind, warnings) {
+        Some((told, count)) => put_line(
+            Part::Warning,
+            b"warning",
+            report,
+            &told,
+            count,
+            style,
+            line,
+        ),
+        None => Ok(()),
+    }
+}
+
+fn put_line(
+    part: Part,
+    word: &[u8],
     report: &Report<'_>,
     told: &Told,
     count: u32,
     style: Style,
     line: &mut Vec<u8>,
-) -> Result<(), AllocError> {
-    put_place(report, told, style, line)?;
-    put_all(line, &[beginning(Part::Warning, style), b"warning"])?;
+) -> Result<(), AllocError>
+    ensures { OnOk result (Adds line.old line.new (lines_line style part word.now report.now told.now count)) }
+{
+    put_place(report, told.place, style, line)?;
+    put_beginning(part, style, line)?;
+    put(line, word)?;
     put_code(told.code, style, line)?;
-    put_detail(report, told, count, line)
+    put_details(report, told, count, line)?;
+    put(line, b"\n")
 }
 
 fn put_place(
     report: &Report<'_>,
-    told: &Told,
+    place: u64,
     style: Style,
     line: &mut Vec<u8>,
-) -> Result<(), AllocError> {
-    put_all(line, &[beginning(Part::Name, style)])?;
+) -> Result<(), AllocError>
+    ensures { OnOk result (Adds line.old line.new (lines_place style report.now place)) }
+{
+    put_beginning(Part::Name, style, line)?;
     put_name(report.name, line)?;
-    if let Some(spot) = report.spot(told.place) {
-        let mut line_digits = Buffer::new();
-        let mut column_digits = Buffer::new();
-        put_all(
-            line,
-            &[
-                b":",
-                line_digits.format(spot.line).as_bytes(),
-                b":",
-                column_digits.format(spot.column).as_bytes(),
-            ],
-        )?;
-    }
-    put_all(line, &[end(style), b": "])
+    put_spot(report.spot(place), line)?;
+    put_ending(style, line)?;
+    put(line, b": ")
 }
 
-fn put_code(code: Code, style: Style, line: &mut Vec<u8>) -> Result<(), AllocError> {
-    line.push(b' ')?;
+fn put_spot(spot: Option<Spot>, line: &mut Vec<u8>) -> Result<(), AllocError>
+    ensures { OnOk result (Adds line.old line.new (and_spot spot)) }
+{
+    match spot {
+        Some(spot) => {
+            let mut line_digits = Buffer::new();
+            let mut column_digits = Buffer::new();
+            put_all(
+                line,
+                &[
+                    b":",
+                    line_digits.format(spot.line).as_bytes(),
+                    b":",
+                    column_digits.format(spot.column).as_bytes(),
+                ],
+            )
+        }
+        None => Ok(()),
+    }
+}
+
+fn put_code(code: Code, style: Style, line: &mut Vec<u8>) -> Result<(), AllocError>
+    ensures { OnOk result (Adds line.old line.new (lines_code style code)) }
+{
+    put(line, b" ")?;
     code.put_name(line)?;
-    put_all(line, &[end(style), b": ", code.text()])
+    put_ending(style, line)?;
+    put(line, b": ")?;
+    code.put_text(line)
 }
 
 /// What stands in parentheses at the end of the line: the record, the count, the offset where the line is not known, and
 /// the path.
-fn put_detail(
+fn put_details(
     report: &Report<'_>,
     told: &Told,
     count: u32,
     line: &mut Vec<u8>,
-) -> Result<(), AllocError> {
-    let mut is_begun = false;
-    if let Some(record) = report.finding.record() {
-        put_number_in_detail(is_begun, b"record ", record, b"", line)?;
-        is_begun = true;
+) -> Result<(), AllocError>
+    ensures { OnOk result (Adds line.old line.new (in_parentheses (details report.now told.now count))) }
+{
+    let with_record = put_record(false, report.finding.record(), line)?;
+    let with_times = put_times(with_record, count, line)?;
+    let with_byte = put_byte(with_times, told.place, report.spot(told.place), line)?;
+    let with_path = put_path_of(with_byte, report.path(told), line)?;
+    put_end(with_path, line)
+}
+
+/// Puts the record, where there is one: whether a parenthesis is open then, as each of these says.
+fn put_record(is_open: bool, number: Option<u64>, line: &mut Vec<u8>) -> Result<bool, AllocError>
+    ensures bytes { OnOk result (Adds line.old line.new (next_details is_open (record_detail number))) }
+    ensures begun { IfOk result (λ begun. begun ≡ (is_open || has_details (record_detail number))) }
+{
+    match number {
+        Some(number) => {
+            put_separator(is_open, line)?;
+            put_record_number(number, line)?;
+            Ok(true)
+        }
+        None => Ok(is_open),
     }
+}
+
+fn put_record_number(number: u64, line: &mut Vec<u8>) -> Result<(), AllocError>
+    ensures { OnOk result (Adds line.old line.new (codes "record " ++ decimal number)) }
+{
+    let mut digits = Buffer::new();
+    put_all(line, &[b"record ", digits.format(number).as_bytes()])
+}
+
+fn put_times(is_open: bool, count: u32, line: &mut Vec<u8>) -> Result<bool, AllocError>
+    ensures bytes { OnOk result (Adds line.old line.new (next_details is_open (times_detail count))) }
+    ensures begun { IfOk result (λ begun. begun ≡ (is_open || has_details (times_detail count))) }
+{
     if count > 1 {
-        put_number_in_detail(is_begun, b"", count as u64, b" times", line)?;
-        is_begun = true;
+        put_separator(is_open, line)?;
+        put_count(count, line)?;
+        Ok(true)
+    } else {
+        Ok(is_open)
     }
-    if report.spot(told.place).is_none() {
-        put_number_in_detail(is_begun, b"at byte ", told.place, b"", line)?;
-        is_begun = true;
-    }
-    if let Some(path) = report.path(told) {
-        put_all(line, &[separator(is_begun)])?;
-        put_path(&path, line)?;
-        is_begun = true;
-    }
-    if is_begun {
-        put_all(line, &[b")"])?;
-    }
-    put_all(line, &[b"\n"])
 }
 
-fn put_number_in_detail(
-    is_begun: bool,
-    before: &'static [u8],
-    number: u64,
-    behind: &'static [u8],
+fn put_count(count: u32, line: &mut Vec<u8>) -> Result<(), AllocError>
+    ensures { OnOk result (Adds line.old line.new (decimal count ++ codes " times")) }
+{
+    let mut digits = Buffer::new();
+    put_all(line, &[digits.format(count).as_bytes(), b" times"])
+}
+
+fn put_byte(
+    is_open: bool,
+    place: u64,
+    spot: Option<Spot>,
     line: &mut Vec<u8>,
-) -> Result<(), AllocError> {
-    put_all(line, &[separator(is_begun), before])?;
-    put_number(line, number)?;
-    put_all(line, &[behind])
+) -> Result<bool, AllocError>
+    ensures bytes { OnOk result (Adds line.old line.new (next_details is_open (byte_detail place spot))) }
+    ensures begun { IfOk result (λ begun. begun ≡ (is_open || has_details (byte_detail place spot))) }
+{
+    match spot {
+        Some(_) => Ok(is_open),
+        None => {
+            put_separator(is_open, line)?;
+            put_offset(place, line)?;
+            Ok(true)
+        }
+    }
 }
 
-fn separator(is_begun: bool) -> &'static [u8] {
-    match is_begun {
-        false => b" (",
-        true => b", ",
+fn put_offset(place: u64, line: &mut Vec<u8>) -> Result<(), AllocError>
+    ensures { OnOk result (Adds line.old line.new (codes "at byte " ++ decimal place)) }
+{
+    let mut digits = Buffer::new();
+    put_all(line, &[b"at byte ", digits.format(place).as_bytes()])
+}
+
+fn put_path_of(is_open: bool, path: Option<Path>, line: &mut Vec<u8>) -> Result<bool, AllocError>
+    ensures bytes { OnOk result (Adds line.old line.new (next_details is_open (path_detail path))) }
+    ensures begun { IfOk result (λ begun. begun ≡ (is_open || has_details (path_detail path))) }
+{
+    match path {
+        Some(path) => {
+            put_separator(is_open, line)?;
+            put_path(&path, line)?;
+            Ok(true)
+        }
+        None => Ok(is_open),
     }
+}
+
+fn put_separator(is_open: bool, line: &mut Vec<u8>) -> Result<(), AllocError>
+    ensures { OnOk result (Adds line.old line.new (separator is_open)) }
+{
+    match is_open {
+        false => put(line, b" ("),
+        true => put(line, b", "),
+    }
+}
+
+fn put_end(is_open: bool, line: &mut Vec<u8>) -> Result<(), AllocError>
+    ensures { OnOk result (Adds line.old line.new (end is_open)) }
+{
+    if is_open { put(line, b")") } else { Ok(()) }
 }
 
 /// The line around the place, with a caret under the character at it.
@@ -177,18 +349,52 @@ fn put_excerpt(
     told: &Told,
     style: Style,
     line: &mut Vec<u8>,
-) -> Result<(), AllocError> {
-    let sites = match report.sites {
-        Some(sites) if report.spot(told.place).is_some() => sites,
-        _ => return Ok(()),
-    };
-    let shown = sites.excerpt().shown(alloc)?;
-    put_all(line, &[b"    ", shown.text.as_bytes(), b"\n    "])?;
-    for _ in 0..shown.before {
+) -> Result<(), AllocError>
+    ensures { OnOk result ((excerpt : List ℕ) × IsExcerpt style (spot_of report.now told.now.place) excerpt × Adds line.old line.new excerpt) }
+{
+    match report.sites {
+        Some(sites) if report.spot(told.place).is_some() => {
+            put_line_around(alloc, sites.excerpt(), style, line)
+        }
+        _ => Ok(()),
+    }
+}
+
+fn put_line_around(
+    alloc: Global,
+    excerpt: &Excerpt,
+    style: Style,
+    line: &mut Vec<u8>,
+) -> Result<(), AllocError>
+    ensures { OnOk result ((text : List ℕ) × (columns : ℕ) × IsShown excerpt.now text columns × Adds line.old line.new (lines_excerpt style text columns)) }
+{
+    let shown = excerpt.shown(alloc)?;
+    put_shown(shown.text.as_bytes(), shown.before, style, line)
+}
+
+fn put_shown(
+    text: &[u8],
+    columns: usize,
+    style: Style,
+    line: &mut Vec<u8>,
+) -> Result<(), AllocError>
+    ensures { OnOk result (Adds line.old line.new (lines_excerpt style text.now columns)) }
+{
+    put(line, b"    ")?;
+    put(line, text)?;
+    put(line, b"\n    ")?;
+    put_spaces(columns, line)?;
+    put_beginning(Part::Caret, style, line)?;
+    put(line, b"^")?;
+    put_ending(style, line)?;
+    put(line, b"\n")
+}
+
+fn put_spaces(columns: usize, line: &mut Vec<u8>) -> Result<(), AllocError>
+    ensures { OnOk result (Adds line.old line.new (replicate columns 32)) }
+{
+    for _i in 0..columns {
         line.push(b' ')?;
     }
-    put_all(
-        line,
-        &[beginning(Part::Caret, style), b"^", end(style), b"\n"],
-    )
+    Ok(())
 }

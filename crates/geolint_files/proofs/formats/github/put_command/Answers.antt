@@ -1,7 +1,7 @@
 use Rattle.std.proofs.Common.{ℕ, List, ◌++◌, ◌∙◌, ap, codes}
 use Rattle.std.specs.Prelude.{Option}
 use Rattle.geolint_files.specs.declared.sites.Spot.{Spot}
-use Rattle.geolint_files.specs.Forms.{github_file, github_spot, github_message, github_command}
+use Rattle.geolint_files.specs.Forms.Github.{github_file, github_spot, github_message, github_command}
 use Rattle.geolint_files.specs.Report.{spot_of}
 use Rattle.geolint_files.specs.Texts.{code_name}
 use Rattle.geolint_files.proofs.JoinedElements.{behind}

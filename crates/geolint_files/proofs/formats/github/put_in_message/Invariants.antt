@@ -1,6 +1,6 @@
 use Rattle.std.proofs.Common.{take, ◌++◌, ◌≡◌}
 use Rattle.std.specs.List.{flat_map}
-use Rattle.geolint_files.specs.Forms.{escaped_in_message}
+use Rattle.geolint_files.specs.Forms.Github.{escaped_in_message}
 use Rattle.geolint_files.proofs.formats.github.put_in_message.Given as goal
 
 -- what stands for the bytes before this one is there

@@ -3,7 +3,8 @@ use Rattle.std.specs.Prelude.{Option}
 use Rattle.std.specs.Fmt.{decimal}
 use Rattle.gj_json.specs.declared.path.Path.{Path}
 use Rattle.geolint_files.specs.Finding.{record_of}
-use Rattle.geolint_files.specs.Forms.{github_mark, github_message, and_record, and_times, and_path}
+use Rattle.geolint_files.specs.Forms.Github.{github_mark, github_message}
+use Rattle.geolint_files.specs.Forms.Messages.{and_record, and_times, and_path}
 use Rattle.geolint_files.specs.Report.{path_of}
 use Rattle.geolint_files.specs.Texts.{code_text}
 use Rattle.geolint_files.proofs.JoinedElements.{behind}

@@ -1,5 +1,5 @@
 use Rattle.std.proofs.Common.{ℕ, List, codes}
-use Rattle.geolint_files.specs.Forms.{github_file, github_not_valid}
+use Rattle.geolint_files.specs.Forms.Github.{github_file, github_not_valid}
 use Rattle.geolint_files.proofs.JoinedElements.{behind}
 use Rattle.geolint_files.proofs.formats.github.put_not_valid.Goals as goal
 

@@ -1,6 +1,6 @@
 use Rattle.std.proofs.Common.{ℕ, List, ◌++◌, ◌∙◌, ap, codes}
 use Rattle.std.specs.List.{flat_map}
-use Rattle.geolint_files.specs.Forms.{github_file, github_unread, escaped_in_message}
+use Rattle.geolint_files.specs.Forms.Github.{github_file, github_unread, escaped_in_message}
 use Rattle.geolint_files.proofs.JoinedElements.{behind}
 use Rattle.geolint_files.proofs.formats.github.put_unread.Goals as goal
 

@@ -1,8 +1,8 @@
-use Rattle.std.proofs.Common.{arith, subst, ◌≡◌, ◌++◌, ℕ, length, take, ◌+◌}
+use Rattle.std.proofs.Common.{arith, subst, ◌≡◌, ◌++◌, ℕ, length, take}
 use Rattle.std.specs.List.{flat_map}
 use Rattle.gj_coords.specs.declared.kind.Kind.TheVariants.{W1}
 use Rattle.gj_coords.specs.Warnings.{kinds}
-use Rattle.geolint_files.specs.Forms.{github_warning, github_warnings}
+use Rattle.geolint_files.specs.Forms.Github.{github_warning, github_warnings}
 use Rattle.geolint_files.proofs.JoinedElements.{one-more}
 use Rattle.geolint_files.proofs.formats.github.put_warnings.Goals as goal
 

@@ -1,7 +1,7 @@
 use Rattle.std.proofs.Common.{take, ◌++◌, ◌≡◌}
 use Rattle.std.specs.List.{flat_map}
 use Rattle.gj_coords.specs.Warnings.{kinds}
-use Rattle.geolint_files.specs.Forms.{github_warning}
+use Rattle.geolint_files.specs.Forms.Github.{github_warning}
 use Rattle.geolint_files.proofs.formats.github.put_warnings.Given as goal
 
 -- the commands of the kinds before this one are there

@@ -1,7 +1,7 @@
 use Rattle.std.proofs.Common.{ℕ, List, ◌++◌, codes}
 use Rattle.geolint_files.specs.Finding.{word_of, record_of, records_of}
 use Rattle.geolint_files.specs.Line.{optional_number, truth}
-use Rattle.geolint_files.specs.Forms.{json_head}
+use Rattle.geolint_files.specs.Forms.Json.{json_head}
 use Rattle.geolint_files.proofs.JoinedElements.{behind}
 use Rattle.geolint_files.proofs.formats.json.put_head.Goals as goal
 

@@ -1,6 +1,6 @@
 use Rattle.std.proofs.Common.{ℕ, List, ◌++◌, codes}
 use Rattle.geolint_files.specs.Finding.{fault_of, warnings_of}
-use Rattle.geolint_files.specs.Forms.{json_head, json_fault, json_warnings_of, json_line}
+use Rattle.geolint_files.specs.Forms.Json.{json_head, json_fault, json_warnings_of, json_line}
 use Rattle.geolint_files.proofs.JoinedElements.{behind}
 use Rattle.geolint_files.proofs.formats.json.put_line.Goals as goal
 

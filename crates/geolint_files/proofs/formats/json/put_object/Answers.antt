@@ -1,6 +1,6 @@
 use Rattle.std.proofs.Common.{ℕ, List, ◌++◌, codes}
 use Rattle.std.specs.Fmt.{decimal}
-use Rattle.geolint_files.specs.Forms.{json_placed, json_object}
+use Rattle.geolint_files.specs.Forms.Json.{json_placed, json_object}
 use Rattle.geolint_files.proofs.JoinedElements.{behind}
 use Rattle.geolint_files.proofs.formats.json.put_object.Goals as goal
 

@@ -1,7 +1,7 @@
 use Rattle.std.proofs.Common.{ℕ, List, ◌++◌, codes}
 use Rattle.gj_json.specs.Path.{steps_of}
 use Rattle.geolint_files.specs.Texts.{path_text}
-use Rattle.geolint_files.specs.Forms.{json_path_string}
+use Rattle.geolint_files.specs.Forms.Json.{json_path_string}
 use Rattle.geolint_files.proofs.JoinedElements.{behind}
 use Rattle.geolint_files.proofs.formats.json.put_path_string.Goals as goal
 

@@ -1,7 +1,7 @@
 use Rattle.std.specs.Prelude.{string_bytes}
 use Rattle.std.proofs.Common.{◌∙◌, ◌++◌, ap, List, ℕ}
 use Rattle.std.proofs.lemmas.Result.{on_ok_weaker}
-use Rattle.geolint_files.specs.Forms.{json_line}
+use Rattle.geolint_files.specs.Forms.Json.{json_line}
 use Rattle.geolint_files.proofs.formats.json.put_report.Goals as goal
 
 pub returns : goal.returns

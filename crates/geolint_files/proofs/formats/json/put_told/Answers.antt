@@ -1,7 +1,7 @@
 use Rattle.std.proofs.Common.{ℕ, List, ◌++◌, codes}
 use Rattle.std.specs.Fmt.{decimal}
 use Rattle.geolint_files.specs.Texts.{code_name, code_text}
-use Rattle.geolint_files.specs.Forms.{json_told, json_spot, json_path}
+use Rattle.geolint_files.specs.Forms.Json.{json_told, json_spot, json_path}
 use Rattle.geolint_files.proofs.JoinedElements.{behind}
 use Rattle.geolint_files.proofs.formats.json.put_told.Goals as goal
 

@@ -2,7 +2,7 @@ use Rattle.std.specs.Prelude.{string_bytes}
 use Rattle.std.proofs.Common.{◌∙◌, ◌++◌, ap, subst, List, ℕ}
 use Rattle.std.proofs.lemmas.Result.{on_ok_weaker}
 use Rattle.gj_places.specs.Strings.{SpellsString}
-use Rattle.geolint_files.specs.Forms.{json_unread}
+use Rattle.geolint_files.specs.Forms.Json.{json_unread}
 use Rattle.geolint_files.proofs.formats.json.put_unread.Goals as goal
 
 pub returns : goal.returns

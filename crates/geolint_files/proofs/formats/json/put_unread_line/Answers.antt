@@ -1,5 +1,5 @@
 use Rattle.std.proofs.Common.{ℕ, List, ◌++◌, codes}
-use Rattle.geolint_files.specs.Forms.{json_unread}
+use Rattle.geolint_files.specs.Forms.Json.{json_unread}
 use Rattle.geolint_files.proofs.JoinedElements.{behind}
 use Rattle.geolint_files.proofs.formats.json.put_unread_line.Goals as goal
 

@@ -2,7 +2,7 @@ use Rattle.std.proofs.Common.{arith, ap, sym, subst, ◌∙◌, ◌≡◌, ◌++
 use Rattle.std.specs.List.{flat_map}
 use Rattle.gj_coords.specs.declared.kind.Kind.TheVariants.{W1}
 use Rattle.gj_coords.specs.Warnings.{kinds}
-use Rattle.geolint_files.specs.Forms.{json_kind, json_warnings, with_commas}
+use Rattle.geolint_files.specs.Forms.Json.{json_kind, json_warnings, with_commas}
 use Rattle.geolint_files.specs.Internal.WrittenCommas.{is_none_yet, next_items}
 use Rattle.geolint_files.proofs.CommasBetween.{commas-more, none-more}
 use Rattle.geolint_files.proofs.JoinedElements.{parts-more}

@@ -1,7 +1,7 @@
 use Rattle.std.proofs.Common.{take, ◌++◌, ◌≡◌}
 use Rattle.std.specs.List.{flat_map}
 use Rattle.gj_coords.specs.Warnings.{kinds}
-use Rattle.geolint_files.specs.Forms.{json_kind, with_commas}
+use Rattle.geolint_files.specs.Forms.Json.{json_kind, with_commas}
 use Rattle.geolint_files.specs.Internal.WrittenCommas.{is_none_yet}
 use Rattle.geolint_files.proofs.formats.json.put_warnings.Given as goal
 

@@ -1,0 +1,14 @@
+use Rattle.std.proofs.Common.{subst, ◌≡◌, ◌++◌, ℕ, List}
+use Rattle.std.specs.Prelude.{OnOk}
+use Rattle.geolint_files.specs.Forms.Sarif.{sarif_result, break_unless}
+use Rattle.geolint_files.proofs.JoinedElements.{behind}
+use Rattle.geolint_files.proofs.ResultsBetween.{one-result}
+use Rattle.geolint_files.proofs.formats.sarif.Log.put_result.Goals as goal
+
+pub returns-clause-bytes : goal.returns-clause-bytes
+returns-clause-bytes c =
+    let start = c.args.line.now.items in
+    let is_first = c.args.self.now.is_first in
+    let bytes : List ℕ = sarif_result c.args.report.now c.args.level.now c.args.told.now c.args.count in
+    subst (λ (ys : List ℕ). OnOk c.put_one.result (c.put_one.new.line.items ≡ start ++ ys)) (one-result is_first bytes)
+    (behind c.put_one.result start c.put_break_unless.new.line.items c.put_one.new.line.items (break_unless is_first) bytes c.in_ok-put_break_unless.ensures c.put_one.ensures)

@@ -1,0 +1,34 @@
+-- What is shown of a name: the text that it is, but for control characters and what is no UTF-8.
+use Rattle.std.specs.Prelude.{ℕ, zero, suc, ◌/◌, ◌%◌, List, [], ◌∷◌, ◌++◌, length, take, drop, get_or, codes, chars, encode_utf8, if◌then◌else◌}
+use Rattle.std.specs.Char.{is_control}
+use Rattle.std.specs.List.{flat_map}
+use Rattle.std.specs.Str.Lossy.{utf8_valid_len, utf8_invalid_len, after_first_chunk}
+
+-- the digit of a number
+abbrev pub digit_in : List ℕ → ℕ → ℕ
+digit_in digits number = get_or digits number 0
+
+-- the number of a byte, as \x0a
+unfoldable pub by_number : ℕ → List ℕ
+by_number byte = codes "\\x" ++ (digit_in (codes "0123456789abcdef") (byte / 16) ∷ digit_in (codes "0123456789abcdef") (byte % 16) ∷ [])
+
+abbrev pub shown_char : ℕ → List ℕ
+shown_char c = if is_control c then flat_map by_number (encode_utf8 c) else encode_utf8 c
+
+unfoldable pub shown_text : List ℕ → List ℕ
+shown_text text = flat_map shown_char (chars text)
+
+-- the longest text at the front, and the bytes behind it that are none
+abbrev pub valid_front : List ℕ → List ℕ
+valid_front name = take (utf8_valid_len name) name
+
+abbrev pub first_invalid : List ℕ → List ℕ
+first_invalid name = let rest = drop (utf8_valid_len name) name in take (utf8_invalid_len rest) rest
+
+-- of a name with so many parts at most, each a text and what is none behind it
+abbrev pub shown_within : ℕ → List ℕ → List ℕ
+shown_within zero name = []
+shown_within (suc most) name = shown_text (valid_front name) ++ (flat_map by_number (first_invalid name) ++ shown_within most (after_first_chunk name))
+
+unfoldable pub shown_name : List ℕ → List ℕ
+shown_name name = shown_within (length name) name
