@@ -31,12 +31,12 @@ abbrev pub is_plain_in_uri : ℕ → Bool
 is_plain_in_uri byte = is_ascii_alphanumeric byte || list_any (λ other. nat_eq other byte) (codes "/-._~")
 
 unfoldable pub percent_of : ℕ → List ℕ
-percent_of byte = 37 ∷ digit_in (codes "0123456789ABCDEF") (byte / 16) ∷ digit_in (codes "0123456789ABCDEF") (byte % 16) ∷ []
+percent_of byte = codes "%" ++ (digit_in (codes "0123456789ABCDEF") (byte / 16) ∷ digit_in (codes "0123456789ABCDEF") (byte % 16) ∷ [])
 
 abbrev pub in_uri : ℕ → List ℕ
 in_uri byte = if is_plain_in_uri byte then byte ∷ [] else percent_of byte
 
--- of an absolute name
+-- an absolute name begins with a slash
 abbrev pub scheme_of : List ℕ → List ℕ
 scheme_of name = if nat_eq (get_or name 0 0) 47 then codes "\"file://" else codes "\""
 
