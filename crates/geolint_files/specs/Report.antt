@@ -6,6 +6,7 @@ use Rattle.gj_coords.specs.declared.kind.Kind.{Kind}
 use Rattle.gj_coords.specs.declared.warnings.Warnings.{Warnings}
 use Rattle.gj_coords.specs.Internal.KeptWarnings.{first_in, count_in, none_in}
 use Rattle.gj_json.specs.declared.path.Path.{Path}
+use Rattle.gj_places.specs.declared.excerpt.Excerpt.{Excerpt}
 use Rattle.geolint_files.specs.declared.judge.Finding.{Finding}
 use Rattle.geolint_files.specs.declared.options.Kinds.{Kinds}
 use Rattle.geolint_files.specs.declared.report.Report.{Report}
@@ -46,6 +47,11 @@ site_in place sites = find (is_found_at place) sites
 abbrev pub site_at : ℕ → Option (Bor Sites) → Option Site
 site_at place (Some sites) = site_in place sites.now.sites
 site_at place None = None
+
+-- the line around the last place that was sought
+abbrev pub excerpt_in : Option (Bor Sites) → Option Excerpt
+excerpt_in (Some sites) = Some sites.now.excerpt
+excerpt_in None = None
 
 abbrev pub spot_from : Option Site → Option Spot
 spot_from (Some site) = Some site.spot

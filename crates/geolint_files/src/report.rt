@@ -32,7 +32,7 @@ ghost use Rattle.gj_coords.specs.declared.kind.Kind.TheVariants.{W1};
 ghost use Rattle.geolint_files.specs.Finding.{fault_in};
 ghost use Rattle.geolint_files.specs.Internal.SoughtPlaces.{first_or_none, is_sought};
 ghost use Rattle.geolint_files.specs.Report.{warning_of, IsFirstPlace};
-ghost use Rattle.geolint_files.specs.Sites.{AreRight, ArePaths, sought};
+ghost use Rattle.geolint_files.specs.Sites.{AreRight, ArePaths, NoneFound, IsUnread, sought};
 
 impl Finding {
     ghost use Rattle.std.specs.Prelude.{◌≡◌, ◌<◌, ◌-◌, ◌^◌, ℕ, Bool, List, None};
@@ -40,7 +40,7 @@ impl Finding {
     ghost use Rattle.std.specs.List.Sorted.{IsNonDecreasing};
     ghost use Rattle.geolint_files.specs.Finding.{fault_of, warnings_of, record_of, records_of, word_of};
     ghost use Rattle.geolint_files.specs.Report.{has_places, IsPlaceOf, IsToldPlace};
-    ghost use Rattle.geolint_files.specs.Sites.{AreRight, ArePaths, sought};
+    ghost use Rattle.geolint_files.specs.Sites.{AreRight, ArePaths, NoneFound, IsUnread, sought};
 
     /// The warnings, where the file is valid.
     pub fn warnings(&self) -> Option<Warnings>
@@ -117,6 +117,8 @@ impl Finding {
     pub fn places(&self) -> Sites
         ensures right { (text : List ℕ) → AreRight text result.sites }
         ensures paths { (is_sequence : Bool) (text : List ℕ) → ArePaths is_sequence text result.sites }
+        ensures unfound { NoneFound result.sites }
+        ensures unread { IsUnread result }
         ensures all { (place : ℕ) → IsToldPlace self.now place → place < 2 ^ 64 - 1 → Contains (sought result) place }
         ensures only { (place : ℕ) → Contains (sought result) place → IsToldPlace self.now place }
         ensures ordered { IsNonDecreasing (sought result) }
@@ -131,6 +133,8 @@ impl Finding {
     fn places_of_warnings(&self) -> Sites
         ensures right { (text : List ℕ) → AreRight text result.sites }
         ensures paths { (is_sequence : Bool) (text : List ℕ) → ArePaths is_sequence text result.sites }
+        ensures unfound { NoneFound result.sites }
+        ensures unread { IsUnread result }
         ensures all { (place : ℕ) → IsPlaceOf None (warnings_of self.now) place → place < 2 ^ 64 - 1 → Contains (sought result) place }
         ensures only { (place : ℕ) → Contains (sought result) place → IsPlaceOf None (warnings_of self.now) place }
         ensures ordered { IsNonDecreasing (sought result) }
@@ -145,6 +149,8 @@ impl Finding {
 fn one_place(place: u64) -> Sites
     ensures right { (text : List ℕ) → AreRight text result.sites }
     ensures paths { (is_sequence : Bool) (text : List ℕ) → ArePaths is_sequence text result.sites }
+    ensures unfound { NoneFound result.sites }
+    ensures unread { IsUnread result }
     ensures sought { sought result ≡ place ∷ [] }
 {
     let mut sites = Sites::none();
@@ -156,6 +162,8 @@ fn one_place(place: u64) -> Sites
 fn warned_places(warnings: &Warnings) -> Sites
     ensures right { (text : List ℕ) → AreRight text result.sites }
     ensures paths { (is_sequence : Bool) (text : List ℕ) → ArePaths is_sequence text result.sites }
+    ensures unfound { NoneFound result.sites }
+    ensures unread { IsUnread result }
     ensures all { (place : ℕ) → IsFirstPlace warnings.now place → place < 2 ^ 64 - 1 → Contains (sought result) place }
     ensures only { (place : ℕ) → Contains (sought result) place → IsFirstPlace warnings.now place }
     ensures ordered { IsNonDecreasing (sought result) }
@@ -188,6 +196,8 @@ fn sites_at(places: &[u64]) -> Sites
     requires { length places.now ≤ 10 }
     ensures right { (text : List ℕ) → AreRight text result.sites }
     ensures paths { (is_sequence : Bool) (text : List ℕ) → ArePaths is_sequence text result.sites }
+    ensures unfound { NoneFound result.sites }
+    ensures unread { IsUnread result }
     ensures sought { sought result ≡ filter is_sought places.now }
 {
     let mut sites = Sites::none();
@@ -200,6 +210,8 @@ fn sites_at(places: &[u64]) -> Sites
 fn seek_if(sites: &mut Sites, place: u64)
     ensures right { (text : List ℕ) → AreRight text sites.old.sites → AreRight text sites.new.sites }
     ensures paths { (is_sequence : Bool) (text : List ℕ) → ArePaths is_sequence text sites.old.sites → ArePaths is_sequence text sites.new.sites }
+    ensures unfound { NoneFound sites.old.sites → NoneFound sites.new.sites }
+    ensures unread { IsUnread sites.old → IsUnread sites.new }
     ensures sought { length (sought sites.old) < 10 → sought sites.new ≡ sought sites.old ++ filter is_sought (place ∷ []) }
 {
     if place != u64::MAX {

@@ -2,7 +2,7 @@
 ghost use Rattle.std.specs.Prelude.{◌≡◌, ◌<◌, ◌-◌, ◌^◌, ℕ, IfOk};
 ghost use Rattle.std.specs.List.{Contains};
 ghost use Rattle.geolint_files.specs.Report.{IsToldPlace};
-ghost use Rattle.geolint_files.specs.Sites.{RightBy, PathsBy, FoundBy, sought};
+ghost use Rattle.geolint_files.specs.Sites.{RightBy, PathsBy, ToldBy, ToldInTextsBy, FoundBy, ExcerptBy, sought};
 
 use crate::files::{is_memory, reason, spell};
 use crate::formats::lines::Style;
@@ -477,7 +477,10 @@ fn sites_in<R: Read>(
 ) -> io::Result<Sites>
     ensures right { IfOk result (λ sites. RightBy (R.remaining reader.old) sites.sites) }
     ensures paths { IfOk result (λ sites. PathsBy is_sequence (R.remaining reader.old) sites.sites) }
+    ensures told { IfOk result (λ sites. ToldBy limits is_sequence (R.remaining reader.old) sites.sites) }
+    ensures texts { IfOk result (λ sites. ToldInTextsBy limits is_sequence (R.remaining reader.old) sites.sites) }
     ensures found { IfOk result (λ sites. FoundBy (R.remaining reader.old) sites) }
+    ensures excerpt { IfOk result (λ sites. ExcerptBy (R.remaining reader.old) sites) }
     ensures all { IfOk result (λ sites. (place : ℕ) → IsToldPlace finding.now place → place < 2 ^ 64 - 1 → Contains (sought sites) place) }
     ensures only { IfOk result (λ sites. (place : ℕ) → Contains (sought sites) place → IsToldPlace finding.now place) }
 {

@@ -19,7 +19,7 @@ use Rattle.geolint_files.specs.declared.sites.Spot.{Spot}
 use Rattle.geolint_files.specs.declared.texts.Code.{Code}
 use Rattle.geolint_files.specs.Finding.{word_of, warnings_of, record_of}
 use Rattle.geolint_files.specs.Names.{shown_name}
-use Rattle.geolint_files.specs.Report.{warning_of, of_warning, spot_of, path_of}
+use Rattle.geolint_files.specs.Report.{warning_of, of_warning, spot_of, excerpt_in, path_of}
 use Rattle.geolint_files.specs.Texts.{code_name, code_text, path_text}
 
 -- ---- colour: what begins a part, behind an escape character, and what ends it
@@ -120,15 +120,16 @@ lines_excerpt style text columns =
     codes "    "
     ++ (text ++ (codes "\n    " ++ (replicate columns 32 ++ (beginning Part.Caret style ++ (codes "^" ++ (ending style ++ codes "\n"))))))
 
--- where the line of the fault is known
-abbrev pub IsExcerpt : Style → Option Spot → List ℕ → Type 0
-IsExcerpt style (Some spot) bytes = (excerpt : Excerpt) × (text : List ℕ) × (columns : ℕ) × IsShown excerpt text columns × (bytes ≡ lines_excerpt style text columns)
-IsExcerpt style None bytes = bytes ≡ []
+-- where the line of the fault is known, this excerpt
+abbrev pub IsExcerpt : Style → Option Spot → Option Excerpt → List ℕ → Type 0
+IsExcerpt style (Some spot) (Some excerpt) bytes = (text : List ℕ) × (columns : ℕ) × IsShown excerpt text columns × (bytes ≡ lines_excerpt style text columns)
+IsExcerpt style (Some spot) None bytes = ⊥
+IsExcerpt style None excerpt bytes = bytes ≡ []
 
 -- ---- the lines of a file
 
 abbrev pub AreLines : Style → Report → Option Told → List ℕ → Type 0
 AreLines style report (Some told) bytes =
-    (excerpt : List ℕ) × IsExcerpt style (spot_of report told.place) excerpt
+    (excerpt : List ℕ) × IsExcerpt style (spot_of report told.place) (excerpt_in report.sites) excerpt
     × (bytes ≡ lines_line style Part.Fault (word_of report.finding) report told 1 ++ excerpt)
 AreLines style report None bytes = bytes ≡ lines_rest style report (warnings_of report.finding)

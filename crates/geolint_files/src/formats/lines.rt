@@ -6,7 +6,7 @@ ghost use Rattle.geolint_files.specs.Finding.{word_of, fault_of, warnings_of, re
 ghost use Rattle.geolint_files.specs.Forms.Lines.{beginning, ending, and_spot, lines_place, lines_code, record_detail, times_detail, byte_detail, path_detail, details, in_parentheses, lines_line, lines_warning, lines_kind, lines_warnings, lines_not_valid, lines_rest, lines_excerpt, IsShown, IsExcerpt, AreLines};
 ghost use Rattle.geolint_files.specs.Internal.WrittenDetails.{next_details, has_details, separator, end};
 ghost use Rattle.geolint_files.specs.Line.{Adds};
-ghost use Rattle.geolint_files.specs.Report.{spot_of, path_of};
+ghost use Rattle.geolint_files.specs.Report.{spot_of, excerpt_in, path_of};
 
 use crate::formats::{put_name, put_path};
 use crate::line::{put, put_all, put_number};
@@ -91,7 +91,7 @@ fn put_fault(
     style: Style,
     line: &mut Vec<u8>,
 ) -> Result<(), AllocError>
-    ensures { OnOk result ((excerpt : List ℕ) × IsExcerpt style (spot_of report.now told.now.place) excerpt
+    ensures { OnOk result ((excerpt : List ℕ) × IsExcerpt style (spot_of report.now told.now.place) (excerpt_in report.now.sites) excerpt
         × Adds line.old line.new (lines_line style Part.Fault (word_of report.now.finding) report.now told.now 1 ++ excerpt)) }
 {
     put_line(
@@ -350,7 +350,7 @@ fn put_excerpt(
     style: Style,
     line: &mut Vec<u8>,
 ) -> Result<(), AllocError>
-    ensures { OnOk result ((excerpt : List ℕ) × IsExcerpt style (spot_of report.now told.now.place) excerpt × Adds line.old line.new excerpt) }
+    ensures { OnOk result ((excerpt : List ℕ) × IsExcerpt style (spot_of report.now told.now.place) (excerpt_in report.now.sites) excerpt × Adds line.old line.new excerpt) }
 {
     match report.sites {
         Some(sites) if report.spot(told.place).is_some() => {

@@ -5,3 +5,9 @@ returns-clause-right c = λ text. c.seek.ensures.right text (c.none-sites.ensure
 
 pub returns-clause-paths : goal.returns-clause-paths
 returns-clause-paths c = λ is_sequence text. c.seek.ensures.paths is_sequence text (c.none-sites.ensures.paths is_sequence text)
+
+pub returns-clause-unfound : goal.returns-clause-unfound
+returns-clause-unfound c = c.seek.ensures.unfound c.none-sites.ensures.unfound
+
+pub returns-clause-unread : goal.returns-clause-unread
+returns-clause-unread c = c.seek.ensures.unread c.none-sites.ensures.unread

@@ -16,6 +16,8 @@ loop-place-preserved c =
     record {
       right = λ text. c.seek_if.ensures.right text (c.loop-place.invariant.right text);
       paths = λ is_sequence text. c.seek_if.ensures.paths is_sequence text (c.loop-place.invariant.paths is_sequence text);
+      unfound = c.seek_if.ensures.unfound c.loop-place.invariant.unfound;
+      unread = c.seek_if.ensures.unread c.loop-place.invariant.unread;
       sought = c.seek_if.ensures.sought few
           ∙ (ap (λ (ys : List ℕ). ys ++ filter is_sought (get_or places i 0 ∷ [])) c.loop-place.invariant.sought ∙ sym (filter_more is_sought places i 0 c.loop-place-test.true));
     }
