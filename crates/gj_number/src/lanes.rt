@@ -4,7 +4,7 @@ ghost use Rattle.std.specs.List.{fold};
 ghost use Rattle.std.specs.Option.{IsSome};
 ghost use Rattle.std.specs.Simd.Lanes.{Each1, mask_l};
 ghost use Rattle.gj_number.specs.Bytes.{IsDigit};
-ghost use Rattle.gj_number.specs.Internal.DigitLanes.{lane_of, with_value, by_twos, by_both, by_fours, leading, AreOthers};
+ghost use Rattle.gj_number.specs.Internal.DigitLanes.{lane_of, with_value, by_twos, by_both, by_fours, leading};
 ghost use Rattle.gj_number.specs.Value.{with_digit};
 ghost use Rattle.gj_number.specs.Internal.DigitRuns.{IsRun, IsPointed, SpellsOn, SpellsUnsigned};
 
@@ -300,33 +300,23 @@ pub(crate) struct Pointed {
     pub digits: u8x16,
 }
 
-/// One bit for each of the first fifteen or sixteen bytes of a piece, from the first one on, that is no digit, and one after
-/// those. It does not wait for where that one is.
+/// The number with one to three digits before its point, and digits after it, that the first sixteen bytes of a piece
+/// begin with. Where it has as many bytes it may go on.
 #[inline(always)]
-pub(crate) fn others_from(piece: &[u8], first: usize) -> u64
-    requires few { first ≤ 1 }
-    requires long { 17 ≤ length piece.now }
-    ensures { AreOthers (drop first piece.now) result }
-{
-    from_ten_ended(lanes_of(piece)) >> first
-}
-
-/// The number with one to three digits before its point, and digits after it, that the first fifteen bytes of a piece
-/// begin with, of which these are no digits. Where it has as many bytes it may go on.
-#[inline(always)]
-pub(crate) fn pointed_prefix(piece: &[u8], others: u64) -> Option<Pointed>
-    requires long { 16 ≤ length piece.now }
-    requires others { AreOthers piece.now others }
+pub(crate) fn pointed_prefix(piece: &[u8]) -> Option<Pointed>
+    requires { 16 ≤ length piece.now }
     ensures some { IfSome result (λ found. 0 < found.natural) }
     ensures few { IfSome result (λ found. found.natural + 1 + found.fraction ≤ 16) }
     ensures digits { IfSome result (λ found. Each1 (λ digit. digit < 10) found.digits) }
     ensures spells { IfSome result (λ found.
         SpellsUnsigned piece.now found.natural found.fraction (found.natural + 1 + found.fraction) (fold with_value 0 found.digits)) }
     ensures point { IfSome result (λ found. IsDigit (get_or piece.now found.natural 0) → ⊥) }
-    ensures ends { IfSome result (λ found. found.natural + 1 + found.fraction < 15 →
+    ensures ends { IfSome result (λ found. found.natural + 1 + found.fraction < 16 →
         IsDigit (get_or piece.now (found.natural + 1 + found.fraction) 0) → ⊥) }
     ensures taken { (natural fraction : ℕ) → IsPointed piece.now natural fraction → IsSome result }
 {
+    let lanes = lanes_of(piece);
+    let others = from_ten_ended(lanes);
     let natural = others.trailing_zeros() as usize;
     if natural == 0 || natural > 3 || piece[natural] != b'.' {
         return None;
@@ -338,6 +328,6 @@ pub(crate) fn pointed_prefix(piece: &[u8], others: u64) -> Option<Pointed>
     Some(Pointed {
         natural,
         fraction,
-        digits: without_point(lanes_of(piece), natural, fraction),
+        digits: without_point(lanes, natural, fraction),
     })
 }

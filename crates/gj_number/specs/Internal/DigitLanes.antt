@@ -1,7 +1,6 @@
 -- Digits as numbers from 0 to 9.
-use Rattle.std.specs.Prelude.{◌≡◌, ℕ, ◌+◌, ◌*◌, ◌%◌, ◌≤◌, List, [], ◌∷◌, ◌++◌, map, take, not, nat_le}
+use Rattle.std.specs.Prelude.{ℕ, ◌+◌, ◌*◌, ◌%◌, List, [], ◌∷◌, not, nat_le}
 use Rattle.std.specs.List.{prefix_len}
-use Rattle.std.specs.Simd.Lanes.{mask_l}
 
 -- a byte less that of the digit 0, as a lane has it
 abbrev pub lane_of : ℕ → ℕ
@@ -29,7 +28,3 @@ by_fours _ = []
 -- how many of them come before the first that is no digit
 abbrev pub leading : List ℕ → ℕ
 leading lanes = prefix_len (λ x. not (nat_le 10 x)) lanes
-
--- one bit for each of the first fifteen bytes, or sixteen, that is no digit, and one bit after those
-abbrev pub AreOthers : List ℕ → ℕ → Type 0
-AreOthers piece others = (count : ℕ) × (15 ≤ count) × (count ≤ 16) × (others ≡ mask_l (map (nat_le 10) (take count (map lane_of (take 16 piece)) ++ 10 ∷ [])))

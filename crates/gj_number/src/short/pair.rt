@@ -14,7 +14,7 @@ ghost use Rattle.gj_number.specs.Internal.DigitRuns.{StartsSigned};
 ghost use Rattle.gj_number.specs.Internal.MovedPoint.{SpellsPlain};
 
 use super::Short;
-use crate::lanes::{numbers_of, others_from, pointed_prefix};
+use crate::lanes::{numbers_of, pointed_prefix};
 use std::simd::prelude::*;
 
 /// How long a piece must be at the least, so that nothing is read past its end.
@@ -130,8 +130,7 @@ fn digits_before(piece: &[u8], negative: bool, after: u8) -> Option<Digits>
     ensures taken { (n : ℕ) → StartsUsual piece.now n after → IsSome result }
 {
     let first = negative as usize;
-    let others = others_from(piece, first);
-    let Some(found) = pointed_prefix(&piece[first..], others) else {
+    let Some(found) = pointed_prefix(&piece[first..]) else {
         return None;
     };
     if piece[first] == b'0' && found.natural > 1 {
