@@ -1,5 +1,5 @@
 -- Lemmas on the paths that a second reading finds.
-use Rattle.std.proofs.Common.{arith, refl, ◌≡◌, ◌≤◌, ◌<◌, ℕ, ◌+◌, ◌++◌, ◌∷◌, ◌||◌, [], List, Bool, length, take, drop, set, get_or, ap, sym, ◌∙◌, subst, true, false, append_assoc, append-nil, length-append, length-take-le, if◌then◌else◌, Option, Some, None, IfSome}
+use Rattle.std.proofs.Common.{arith, refl, ◌≡◌, ◌<◌, ℕ, ◌+◌, ◌++◌, ◌∷◌, ◌||◌, [], List, Bool, length, take, drop, set, ap, sym, ◌∙◌, subst, true, false, append_assoc, append-nil, length-append, length-take-le, if◌then◌else◌, Option, Some, None, IfSome}
 use Rattle.std.specs.Io.KnownBytes.{Consumes}
 use Rattle.std.proofs.lemmas.List.{take-append-le, take_at, take-append-drop}
 use Rattle.gj_json.specs.declared.path.Path.{Path}

@@ -1,5 +1,5 @@
 -- Lemmas on the excerpt that a second reading keeps.
-use Rattle.std.proofs.Common.{arith, refl, inl, inr, ◌≡◌, ◌≤◌, ◌<◌, ◌⊎◌, ℕ, ◌+◌, ◌-◌, ◌^◌, ◌++◌, ◌∷◌, [], List, length, take, drop, map, get_or, ap, sym, ◌∙◌, subst, false, append-nil, length-append, Option, Some, None}
+use Rattle.std.proofs.Common.{arith, refl, inl, inr, ◌≡◌, ◌≤◌, ◌<◌, ◌⊎◌, ℕ, ◌+◌, ◌-◌, ◌^◌, ◌++◌, ◌∷◌, [], List, length, take, drop, get_or, ap, sym, ◌∙◌, subst, false, append-nil, length-append, Option, Some, None}
 use Rattle.std.specs.Io.KnownBytes.{Consumes, IsAtEnd}
 use Rattle.std.proofs.lemmas.Bool.{cases_lt}
 use Rattle.std.proofs.lemmas.List.{take_all, drop_all, take-append-le, drop-append-le, get_or-map}

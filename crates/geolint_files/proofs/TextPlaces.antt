@@ -1,5 +1,5 @@
 -- The places of a text, or of a record of a sequence: the bytes up to one can go on.
-use Rattle.std.proofs.Common.{arith, refl, inl, inr, ◌⊎◌, ◌≡◌, ◌≤◌, ◌<◌, ◌||◌, ◌&&◌, ℕ, zero, suc, ◌+◌, ◌-◌, ◌^◌, ◌++◌, ◌∷◌, [], List, Bool, length, take, drop, get_or, ap, sym, ◌∙◌, subst, true, false, not, if◌then◌else◌, length-take-le, Option, Some, None}
+use Rattle.std.proofs.Common.{arith, refl, inl, inr, ◌⊎◌, ◌≡◌, ◌≤◌, ◌<◌, ◌||◌, ◌&&◌, ℕ, zero, suc, ◌+◌, ◌-◌, ◌^◌, ◌∷◌, [], List, Bool, length, take, drop, get_or, ap, sym, ◌∙◌, subst, true, false, not, if◌then◌else◌, length-take-le, Option, Some, None}
 use Rattle.std.specs.List.{Contains}
 use Rattle.std.proofs.lemmas.List.{take-append-drop, take-take, length-take}
 use Rattle.gj_json.specs.Limits.{Allowed, IsAllowed}
@@ -7,7 +7,7 @@ use Rattle.gj_json.specs.Text.{IsTextWithin}
 use Rattle.gj_json.specs.Tree.{Text}
 use Rattle.gj_rules.specs.Sequence.{is_separator, has_separator, begins_with_separator, up_to_separator, SequenceRecord, records_from, records_of}
 use Rattle.geolint_files.specs.declared.sites.Site.{Site}
-use Rattle.geolint_files.specs.Sites.{last_record, CanGoOn, IsUnderWay, IsInText, AreTold, ToldBy, ToldInTextsBy}
+use Rattle.geolint_files.specs.Sites.{last_record, CanGoOn, IsUnderWay, IsInText, ToldBy, ToldInTextsBy}
 
 -- some bytes of a text can go on
 CanGoOn-take : (limits : Allowed) (bytes : List ℕ) (n : ℕ) (text : Text) → IsTextWithin limits.depth text bytes → n ≤ length bytes → n ≤ limits.bytes → CanGoOn limits (take n bytes)

@@ -1,5 +1,5 @@
 -- Lemmas on the places whose path a second reading tells.
-use Rattle.std.proofs.Common.{arith, rules, refl, ◌≡◌, ◌≤◌, ◌<◌, ℕ, ◌+◌, ◌++◌, ◌∷◌, [], List, Bool, length, take, set, get_or, ap, sym, ◌∙◌, subst, true, false, append_assoc, append-nil, length-append, Option, Some, None}
+use Rattle.std.proofs.Common.{arith, refl, ◌≡◌, ◌<◌, ℕ, ◌+◌, ◌++◌, ◌∷◌, [], List, Bool, length, take, set, ap, sym, ◌∙◌, subst, true, false, append_assoc, append-nil, length-append, Option, Some, None}
 use Rattle.std.specs.Prelude.{IsSome, Result, Ok, Err, is_err}
 use Rattle.std.specs.Io.KnownBytes.{Consumes, IsAtEnd}
 use Rattle.std.proofs.lemmas.List.{take_all, take-append-le}

@@ -1,4 +1,4 @@
-use Rattle.std.proofs.Common.{arith, Bool, ◌≡◌, ◌<◌, ◌+◌, ◌++◌, ◌∷◌, [], ℕ, List, length, take, ap, sym, subst, ◌∙◌, append_assoc}
+use Rattle.std.proofs.Common.{arith, Bool, ◌≡◌, ◌<◌, ◌++◌, ℕ, List, length, take, ap, sym, subst, ◌∙◌, append_assoc}
 use Rattle.std.proofs.lemmas.List.{take_more}
 use Rattle.geolint_files.specs.Sites.{text_of, text_limits}
 use Rattle.geolint_files.specs.Internal.SecondReading.{StandsIn, KeepsIn}

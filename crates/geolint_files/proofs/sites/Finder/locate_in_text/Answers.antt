@@ -1,4 +1,4 @@
-use Rattle.std.proofs.Common.{◌≡◌, ◌++◌, ◌∙◌, ℕ, List, false, subst}
+use Rattle.std.proofs.Common.{◌≡◌, ◌++◌, false, subst}
 use Rattle.std.specs.Prelude.{is_err}
 use Rattle.gj_json.specs.Limits.{Allowed}
 use Rattle.gj_json.specs.Reader.{Answers}

@@ -1,4 +1,4 @@
-use Rattle.std.proofs.Common.{◌≡◌, ◌++◌, ℕ, List, take, ap, subst, ◌∙◌, append_assoc}
+use Rattle.std.proofs.Common.{◌++◌, ℕ, List, take, ap, subst, ◌∙◌, append_assoc}
 use Rattle.geolint_files.specs.Internal.SecondReading.{StandsIn, KeepsIn}
 use Rattle.geolint_files.proofs.FoundSites.{take-joined}
 use Rattle.geolint_files.proofs.sites.Finder.locate_to.Goals as goal

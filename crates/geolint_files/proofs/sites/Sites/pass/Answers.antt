@@ -7,7 +7,7 @@ use Rattle.gj_places.specs.Keeping.{Keeps as KeepsLine}
 use Rattle.std.proofs.Common.{get_or, ◌-◌}
 use Rattle.geolint_files.proofs.KeptExcerpts.{IsAt-more}
 use Rattle.std.proofs.lemmas.List.{take_all}
-use Rattle.std.proofs.Common.{length, ◌≤◌}
+use Rattle.std.proofs.Common.{length}
 use Rattle.geolint_files.proofs.sites.Sites.pass.Goals as goal
 use Rattle.geolint_files.proofs.sites.Sites.pass.Goals.{then-finder-self, else-finder-self}
 
