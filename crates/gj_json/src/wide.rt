@@ -66,15 +66,16 @@ fn pass(piece: &[u8], at: usize) -> bool
     ends(before, here, next) == 0
 }
 
-/// The same of twice as many bytes, as long as they are there: the index after the last of them.
-#[inline(always)]
-fn end_of_pairs(piece: &[u8]) -> usize
-    requires some { 1 < length piece.now }
-    ensures on { 0 < result }
+/// The same of twice as many bytes from an index on, as long as they are there: the index after the last of them.
+#[inline(never)]
+fn end_of_pairs(piece: &[u8], start: usize) -> usize
+    requires behind { 0 < start }
+    requires within { start < length piece.now }
+    ensures on { start ≤ result }
     ensures within { result < length piece.now }
-    ensures none { NoneEnds piece.now result }
+    ensures none { NoneEnds piece.now start → NoneEnds piece.now result }
 {
-    let mut at = 1;
+    let mut at = start;
     while piece.len() - at > 2 * LANES {
         let goes_on = pass(piece, at) & pass(piece, at + LANES);
         if !goes_on {
@@ -85,6 +86,25 @@ fn end_of_pairs(piece: &[u8]) -> usize
     at
 }
 
+/// How many bytes are looked at sixteen at a time, before they are twice as many.
+const FEW: usize = 64;
+
+/// The index, or a later one where many bytes stand before it.
+#[inline(always)]
+fn further(piece: &[u8], at: usize) -> usize
+    requires behind { 0 < at }
+    requires within { at < length piece.now }
+    ensures on { at ≤ result }
+    ensures within { result < length piece.now }
+    ensures none { NoneEnds piece.now at → NoneEnds piece.now result }
+{
+    if at > FEW {
+        end_of_pairs(piece, at)
+    } else {
+        at
+    }
+}
+
 /// At which byte after the first such characters end. The piece may end soon after it instead.
 #[inline(always)]
 pub fn end_of_wide(piece: &[u8]) -> usize
@@ -93,7 +113,7 @@ pub fn end_of_wide(piece: &[u8]) -> usize
     ensures none { NoneEnds piece.now result }
     ensures end { EndsThere piece.now result ⊎ (length piece.now ≤ result + 16) }
 {
-    let mut at = end_of_pairs(piece);
+    let mut at = 1;
     while piece.len() - at > LANES {
         let before = u8x16::from_slice(&piece[at - 1..]);
         let here = u8x16::from_slice(&piece[at..]);
@@ -102,7 +122,7 @@ pub fn end_of_wide(piece: &[u8]) -> usize
         if found != 0 {
             return at + found.trailing_zeros() as usize;
         }
-        at += LANES;
+        at = further(piece, at + LANES);
     }
     at
 }

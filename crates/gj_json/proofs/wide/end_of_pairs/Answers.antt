@@ -10,5 +10,5 @@ loop-at-preserved c =
     let there : c.loop-at.at + 16 + 16 ≡ c.loop-at.at + 32 = omega arith in record {
       on = omega arith;
       within = omega arith;
-      none = subst (λ (n : ℕ). NoneEnds c.args.piece.now n) there (c.pass-in-loop-at.ensures second (c.pass.ensures first c.loop-at.invariant.none));
+      none = λ before. subst (λ (n : ℕ). NoneEnds c.args.piece.now n) there (c.pass-in-loop-at.ensures second (c.pass.ensures first (c.loop-at.invariant.none before)));
     }
