@@ -1,6 +1,6 @@
 //! Unescaped characters of up to three bytes, found sixteen bytes at a time.
 
-ghost use Rattle.std.specs.Prelude.{◌≡◌, ◌<◌, ◌≤◌, ◌+◌, ◌⊎◌, length, true};
+ghost use Rattle.std.specs.Prelude.{◌≡◌, ◌<◌, ◌≤◌, ◌+◌, ◌⊎◌, length};
 ghost use Rattle.std.specs.Simd.Lanes.{mask_l};
 ghost use Rattle.gj_json.specs.Internal.WideCharacters.{is_tail, kinds_of, ends_of, EndsThere, NoneEnds};
 
@@ -53,58 +53,6 @@ fn ends(before: u8x16, here: u8x16, next: u8x16) -> u64
         .to_bitmask()
 }
 
-/// Whether no such characters end among the sixteen bytes from an index on.
-#[inline(always)]
-fn pass(piece: &[u8], at: usize) -> bool
-    requires behind { 0 < at }
-    requires room { at + 16 < length piece.now }
-    ensures { result ≡ true → NoneEnds piece.now at → NoneEnds piece.now (at + 16) }
-{
-    let before = u8x16::from_slice(&piece[at - 1..]);
-    let here = u8x16::from_slice(&piece[at..]);
-    let next = u8x16::from_slice(&piece[at + 1..]);
-    ends(before, here, next) == 0
-}
-
-/// The same of twice as many bytes from an index on, as long as they are there: the index after the last of them.
-#[inline(never)]
-fn end_of_pairs(piece: &[u8], start: usize) -> usize
-    requires behind { 0 < start }
-    requires within { start < length piece.now }
-    ensures on { start ≤ result }
-    ensures within { result < length piece.now }
-    ensures none { NoneEnds piece.now start → NoneEnds piece.now result }
-{
-    let mut at = start;
-    while piece.len() - at > 2 * LANES {
-        let goes_on = pass(piece, at) & pass(piece, at + LANES);
-        if !goes_on {
-            return at;
-        }
-        at += 2 * LANES;
-    }
-    at
-}
-
-/// How many bytes are looked at sixteen at a time, before they are twice as many.
-const FEW: usize = 64;
-
-/// The index, or a later one where many bytes stand before it.
-#[inline(always)]
-fn further(piece: &[u8], at: usize) -> usize
-    requires behind { 0 < at }
-    requires within { at < length piece.now }
-    ensures on { at ≤ result }
-    ensures within { result < length piece.now }
-    ensures none { NoneEnds piece.now at → NoneEnds piece.now result }
-{
-    if at > FEW {
-        end_of_pairs(piece, at)
-    } else {
-        at
-    }
-}
-
 /// At which byte after the first such characters end. The piece may end soon after it instead.
 #[inline(always)]
 pub fn end_of_wide(piece: &[u8]) -> usize
@@ -122,7 +70,7 @@ pub fn end_of_wide(piece: &[u8]) -> usize
         if found != 0 {
             return at + found.trailing_zeros() as usize;
         }
-        at = further(piece, at + LANES);
+        at += LANES;
     }
     at
 }

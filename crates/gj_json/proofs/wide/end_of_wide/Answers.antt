@@ -18,9 +18,8 @@ returns-then-found-ne0-clause-end c =
     inl (stops_on c.args.piece.now c.loop-at.at c.loop-at.invariant.behind (omega arith) _ c.ends-found.ensures (omega arith) c.loop-at.invariant.none).2
 
 pub loop-at-preserved : goal.loop-at-preserved
-loop-at-preserved c =
-    let on = c.further-at.ensures.on in record {
-      behind = omega (arith, on);
-      within = c.further-at.ensures.within;
-      none = c.further-at.ensures.none (passes_on c.args.piece.now c.loop-at.at c.loop-at.invariant.behind (omega arith) _ c.ends-found.ensures (omega arith) c.loop-at.invariant.none);
-    }
+loop-at-preserved c = record {
+  behind = omega arith;
+  within = omega arith;
+  none = passes_on c.args.piece.now c.loop-at.at c.loop-at.invariant.behind (omega arith) _ c.ends-found.ensures (omega arith) c.loop-at.invariant.none;
+}
