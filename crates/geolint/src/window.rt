@@ -122,8 +122,8 @@ mod tests {
         assert_eq!(rt; window.fill(&mut source), Ok(11));
         assert_eq!(rt; window.whole(), 11);
         window.pass(6);
-        assert_eq!(rt; window.bytes(), b"[3,4]");
+        assert_eq!(rt; window.bytes(), b"[3,4]".as_slice());
         assert_eq!(rt; window.fill(&mut source), Ok(0));
-        assert_eq!(rt; window.bytes(), b"[3,4]");
+        assert_eq!(rt; window.bytes(), b"[3,4]".as_slice());
     }
 }
