@@ -23,7 +23,7 @@ returns-in-Open-clause-verdict g c =
     let all = fed ++ c.bytes.result.now in
     let consumed = reads_to_end _ _ _ fed (held c.loop-linter.window) read (held c.fill.new.self) c.bytes.result.now took more held_is c.bytes.ensures in
     let verdict = subst (λ (limits : Allowed). IsVerdict limits all c.finish_and_begin.result) (c.feed.ensures.limits ∙ c.loop-linter.invariant.limits)
-        (c.finish_and_begin.ensures.verdict all (c.feed.ensures.stands fed stands)) in
+    (c.finish_and_begin.ensures.verdict all (c.feed.ensures.stands fed stands)) in
     let (judgement, is, says) = said c.args.limits all c.finish_and_begin.result verdict in
     (judgement, says, Judges-end IsJudgement c.args.limits _ _ all judgement consumed (ended c.in-Ok-eq0.field-0-test) is)
 
@@ -118,7 +118,7 @@ loop-linter-preserved g c =
     let all = reads_on _ _ _ fed (held c.loop-linter.window) read (held c.fill.new.self) took more held_is in
     let same = rejoined fed c.bytes-in-Ok.result.now (held c.fill.new.self) (held c.pass.new.self) c.whole-whole.result c.bytes-in-Ok.ensures c.pass.ensures in
     let front : length piece ≡ c.whole-whole.result = (let all_length : length c.bytes-in-Ok.result.now ≡ length (held c.fill.new.self) = ap (λ (ys : List ℕ). length ys) c.bytes-in-Ok.ensures in
-        length-take-le c.whole-whole.result c.bytes-in-Ok.result.now (omega (arith, n.within, all_length))) in
+    length-take-le c.whole-whole.result c.bytes-in-Ok.result.now (omega (arith, n.within, all_length))) in
     let joined : length (fed ++ piece) ≡ length fed + c.whole-whole.result = length-append fed piece ∙ ap (λ (n : ℕ). length fed + n) front in
     let counted = all_counted _ _ _ _ _ _ _ _ n in
     record {

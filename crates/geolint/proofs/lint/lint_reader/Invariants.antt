@@ -7,7 +7,7 @@ use Rattle.geolint.proofs.lint.lint_reader.Given as goal
 abbrev pub invariant-loop-linter : goal.invariant-loop-linter
 invariant-loop-linter g l = record {
   fed : (fed : List ℕ) × Consumes (g.S.Source.remaining l.initial.reader) (g.S.Source.remaining l.reader) (fed ++ held l.window)
-  × (length fed + length (held l.window) ≡ l.offset) × StandsFor l.linter fed;
+      × (length fed + length (held l.window) ≡ l.offset) × StandsFor l.linter fed;
   limits : limits_of l.linter ≡ l.fn.limits;
   near : length (held l.window) ≤ 48;
   within : l.offset ≤ l.fn.limits.bytes + length (held l.window);
