@@ -57,7 +57,7 @@ pub struct Sites {
 }
 
 impl Sites {
-    ghost use Rattle.std.specs.Prelude.{◌≡◌, ◌<◌, ◌≤◌, ◌+◌, ◌-◌, ◌^◌, ◌++◌, ◌∷◌, [], ℕ, List, Bool, length, IfSome, MatchOption, None, Some, OnOk, IsTrue, ◌↔◌, get_or, true, false};
+    ghost use Rattle.std.specs.Prelude.{◌≡◌, ◌<◌, ◌≤◌, ◌+◌, ◌-◌, ◌^◌, ◌++◌, ◌∷◌, [], ℕ, List, Bool, length, IfSome, MatchOption, None, Some, OnOk, get_or, true, false};
     ghost use Rattle.std.specs.Option.{IsNone};
     ghost use Rattle.std.specs.List.{Contains};
     ghost use Rattle.std.specs.List.Sorted.{IsNonDecreasing};
@@ -103,13 +103,6 @@ impl Sites {
         &self.excerpt
     }
 
-    /// Whether no place is sought.
-    pub fn is_empty(&self) -> bool
-        ensures { IsTrue result ↔ sought self.now ≡ [] }
-    {
-        self.count == 0
-    }
-
     /// Where the place stands, if it was found.
     pub fn at(&self, place: u64) -> Option<&Site>
         ensures missed { IsNone result → (text : List ℕ) → AllFound text self.now → Contains (sought self.now) place → place < 2 ^ 64 - 1 → length text < place }
@@ -125,15 +118,6 @@ impl Sites {
             }
         }
         None
-    }
-
-    /// Forgets what was found, where it may not hold.
-    pub fn forget(&mut self)
-        ensures right { (text : List ℕ) → AreRight text self.new.sites }
-        ensures paths { (is_sequence : Bool) (text : List ℕ) → ArePaths is_sequence text self.new.sites }
-        ensures unfound { NoneFound self.new.sites }
-    {
-        self.sites = [Site::of(0); MOST_PLACES];
     }
 
     /// Reads as far as the places need, and says how far each is found.
