@@ -1,7 +1,6 @@
 -- The path to a place, and what a locator keeps of it.
 pub mod PathSteps
-pub mod TrailSteps
-pub mod TrailRuns
+pub mod EventTrails
 pub mod PathsOfStates
 pub mod LocatorSteps
 pub mod PathExamples

@@ -1,12 +1,11 @@
 //! The path to the value at a place.
 
-ghost use Rattle.std.specs.Prelude.{◌≡◌, ℕ, ◌<◌, ◌≤◌, ◌++◌, ◌∷◌, [], List, length, take, IfOk, MatchResult, None, Some, Err};
+ghost use Rattle.std.specs.Prelude.{◌≡◌, ℕ, ◌++◌, ◌∷◌, [], List, length, take, MatchResult, None, Some, Err};
 
 use crate::fault::JsonFault;
-use crate::limits::Limits;
+use crate::limits::{Limits, MOST_LEVELS};
 use crate::path::Path;
 use crate::reader::Reader;
-use crate::sink::NoEvents;
 
 /// Reads a text (RFC 8259) up to a place, and tells the path to the value there.
 ///
@@ -28,13 +27,13 @@ impl Locator {
     ghost use Rattle.gj_json.specs.Locator.{StandsFor, limits_of, refusal_of, offset_of};
 
     /// A locator in a text under these limits, before its first byte.
-    #[tactic(auto, unfolding(crate::specs::Locator::StandsFor))]
     pub fn new(limits: Limits) -> Self
         ensures stands { StandsFor result [] }
         ensures limits { limits_of result ≡ limits }
         ensures offset { offset_of result ≡ 0 }
         ensures open { refusal_of result ≡ None }
     {
+        prove!(limits.depth() <= MOST_LEVELS);
         Locator {
             trail: Path::new(),
             reader: Reader::new(limits),
@@ -51,43 +50,12 @@ impl Locator {
         ensures refusal { MatchResult result (λ done. refusal_of self.new ≡ None) (λ fault. refusal_of self.new ≡ Some fault) }
         ensures again { (fault : JsonFault) → refusal_of self.old ≡ Some fault → (self.new ≡ self.old) × (result ≡ Err fault) }
     {
-        if let Some(fault) = self.reader.refusal() {
-            return Err(fault);
-        }
-        let mut at = 0;
-        while at < piece.len() {
-            match self.take_some(&piece[at..]) {
-                Ok(count) => at += count,
-                Err(fault) => return Err(fault),
-            }
-        }
-        Ok(())
-    }
-
-    /// Takes bytes from the front of the piece, one at least: how many.
-    fn take_some(&mut self, piece: &[u8]) -> Result<usize, JsonFault>
-        requires live { refusal_of self.old ≡ None }
-        requires some { 0 < length piece.now }
-        ensures within { IfOk result (λ n. (0 < n) × (n ≤ length piece.now)) }
-        ensures limits { limits_of self.new ≡ limits_of self.old }
-        ensures refusal { MatchResult result (λ n. refusal_of self.new ≡ None) (λ fault. refusal_of self.new ≡ Some fault) }
-        ensures stands { (bytes : List ℕ) → StandsFor self.old bytes → MatchResult result (λ n. StandsFor self.new (bytes ++ take n piece.now)) (λ fault. StandsFor self.new (bytes ++ piece.now)) }
-    {
-        // Such a byte leaves the steps as they are.
-        let quiet = self.reader.pass_quiet(piece);
-        if quiet == piece.len() {
-            return Ok(quiet);
-        }
-        match self.push(piece[quiet]) {
-            Ok(()) => Ok(quiet + 1),
-            Err(fault) => Err(fault),
-        }
+        self.reader.feed(piece, &mut self.trail)
     }
 
     /// Takes the next byte.
     ///
     /// A byte that is refused is not taken; from then on each call answers the same fault and changes nothing.
-    #[tactic(auto, unfolding(crate::specs::Locator::StandsFor))]
     pub fn push(&mut self, byte: u8) -> Result<(), JsonFault>
         ensures stands { (bytes : List ℕ) → StandsFor self.old bytes → StandsFor self.new (bytes ++ byte ∷ []) }
         ensures answer { (bytes : List ℕ) → StandsFor self.old bytes → Answers (limits_of self.old) (bytes ++ byte ∷ []) result }
@@ -95,13 +63,7 @@ impl Locator {
         ensures refusal { MatchResult result (λ done. refusal_of self.new ≡ None) (λ fault. refusal_of self.new ≡ Some fault) }
         ensures again { (fault : JsonFault) → refusal_of self.old ≡ Some fault → (self.new ≡ self.old) × (result ≡ Err fault) }
     {
-        match self.reader.take_next(byte, &mut NoEvents) {
-            Ok(made) => {
-                self.trail.follow(made);
-                Ok(())
-            }
-            Err(fault) => Err(fault),
-        }
+        self.feed(&[byte])
     }
 
     /// The path to the value that the bytes that were taken lead to.

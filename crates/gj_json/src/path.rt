@@ -4,9 +4,11 @@ ghost use Rattle.std.specs.Prelude.{◌≡◌, ◌≤◌, ◌<◌, [], ◌∷◌
 ghost use Rattle.gj_json.specs.declared.limits.TheConstants.{MOST_LEVELS};
 ghost use Rattle.gj_json.specs.declared.path.PathStep.TheVariants.{Index};
 
+use crate::event::{Event, What};
+use crate::flat::Flat;
 use crate::limits::MOST_LEVELS;
-use crate::mode::{Ending, Move};
 use crate::names::Known;
+use crate::sink::EventSink;
 
 /// A step from an array to one of its elements, or from an object to the value of one of its members (RFC 8259, sections 4
 /// and 5).
@@ -33,7 +35,7 @@ pub struct Path {
 
 impl Path {
     ghost use Rattle.gj_json.specs.Path.{steps_of};
-    ghost use Rattle.gj_json.specs.Internal.PathTrail.{inner_steps, outer_steps, inner_step, with_inner, advanced, IsSmall, Fits, followed};
+    ghost use Rattle.gj_json.specs.Internal.PathTrail.{inner_steps, outer_steps, inner_step, with_inner, advanced, IsSmall, HasRoom, followed};
 
     /// The path to the root.
     pub(crate) fn new() -> Self
@@ -114,16 +116,42 @@ impl Path {
         }
     }
 
-    /// Follows a byte that was taken and made this move.
-    pub(crate) fn follow(&mut self, made: Move)
-        ensures { Fits (followed made (inner_steps self.old)) → inner_steps self.new ≡ followed made (inner_steps self.old) }
+    /// Takes the steps to where they are after an event.
+    #[inline(always)]
+    fn follow(&mut self, what: What)
+        ensures { HasRoom what (inner_steps self.old) → inner_steps self.new ≡ followed what (inner_steps self.old) }
     {
-        match made {
-            Move::Go(_, Ending::Name(known)) => self.set_inner(PathStep::Member(known)),
-            Move::Go(_, Ending::Item) => self.advance(),
-            Move::Open(_) => self.open(),
-            Move::Close(_) => self.close(),
-            _ => {}
+        match what {
+            What::OpenArray | What::OpenObject => self.open(),
+            What::CloseArray | What::CloseObject => {
+                self.close();
+                self.advance();
+            }
+            What::Name(known) => self.set_inner(PathStep::Member(known)),
+            _ => self.advance(),
         }
     }
+}
+
+/// The index of a level's step is how many elements of its array have ended.
+impl EventSink for Path {
+    ghost use Rattle.gj_json.specs.Internal.PathTrail.{inner_steps, Follows};
+
+    ghost heard = { λ path events. Follows (inner_steps path) events [] };
+
+    #[inline(always)]
+    fn tell(&mut self, event: Event) {
+        self.follow(event.what);
+    }
+
+    #[inline(always)]
+    fn tell_flat(&mut self, _flat: &Flat) {
+        self.advance();
+    }
+
+    fn ignored(&self) -> u16 {
+        0
+    }
+
+    fn pass(&mut self, _left: u16) {}
 }

@@ -1,5 +1,5 @@
 //! The reader: it takes the bytes of a text and tells its events (RFC 8259).
-ghost use Rattle.std.specs.Prelude.{◌≡◌, ℕ, ◌+◌, ◌^◌, ◌≤◌, ◌++◌, ◌∷◌, [], List, length, take, IfOk, IsTrue, MatchResult, Some, None, Ok, Err};
+ghost use Rattle.std.specs.Prelude.{◌≡◌, ℕ, ◌+◌, ◌≤◌, ◌++◌, ◌∷◌, [], List, length, take, IfOk, IsTrue, MatchResult, Some, None, Ok, Err};
 ghost use Rattle.gj_json.specs.Internal.Transitions.{IsMode};
 ghost use Rattle.gj_json.specs.Internal.OpenLevels.{levels_in};
 
@@ -45,7 +45,6 @@ impl Reader {
     ghost use Rattle.gj_json.specs.Refusal.{IsRefusal};
     ghost use Rattle.gj_json.specs.Reader.{StandsFor, limits_of, refusal_of, offset_of, levels_of, Answers, Completed, HearsBy, FinishAnswers};
     ghost use Rattle.gj_json.specs.Internal.FedReader.{HearsTwo};
-    ghost use Rattle.gj_json.specs.Internal.ReaderStep.{Moves};
 
     /// A reader of a text under these limits, before its first byte.
     pub fn new(limits: Limits) -> Self
@@ -113,18 +112,11 @@ impl Reader {
         }
     }
 
-    /// Takes the next byte, as [`Reader::push`] does, tells the sink the events that it completes, and answers the
-    /// move that it makes.
-    pub(crate) fn take_next<S: EventSink>(
-        &mut self,
-        byte: u8,
-        sink: &mut S,
-    ) -> Result<Move, JsonFault>
+    /// Takes the next byte, as [`Reader::push`] does, and tells the sink the events that it completes.
+    fn take_next<S: EventSink>(&mut self, byte: u8, sink: &mut S) -> Result<Move, JsonFault>
         ensures stands { (bytes : List ℕ) → StandsFor self.old bytes → StandsFor self.new (bytes ++ byte ∷ []) }
         ensures answer { (bytes : List ℕ) → StandsFor self.old bytes → Answers (limits_of self.old) (bytes ++ byte ∷ []) result }
         ensures told { (bytes : List ℕ) (events : List Event) → StandsFor self.old bytes → S.heard sink.old events → IfOk result (λ done. HearsTwo (S.heard sink.new) events bytes byte) }
-        ensures moves { IfOk result (λ made. Moves self.old byte made) }
-        ensures small { IfOk result (λ made. self.old.limits.bytes ≤ 2 ^ 60) }
         ensures limits { limits_of self.new ≡ limits_of self.old }
         ensures on { offset_of self.old ≤ offset_of self.new }
         ensures refusal { MatchResult result (λ done. refusal_of self.new ≡ None) (λ fault. refusal_of self.new ≡ Some fault) }

@@ -318,6 +318,10 @@ in_time-all_at : (m : ℕ) (es : List Event) → InTime m (all_at m es)
 in_time-all_at m [] = tt
 in_time-all_at m (e ∷ es) = (omega arith, in_time-all_at m es)
 
+pub length-all_at : (m : ℕ) (es : List Event) → length (all_at m es) ≡ length es
+length-all_at m [] = refl
+length-all_at m (e ∷ es) = ap suc (length-all_at m es)
+
 pub told-all_at : (m : ℕ) (es : List Event) → told (all_at m es) ≡ es
 told-all_at m [] = refl
 told-all_at m (e ∷ es) = ap (λ xs. e ∷ xs) (told-all_at m es)

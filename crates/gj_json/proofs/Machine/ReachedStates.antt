@@ -1,5 +1,6 @@
 -- What holds of each state that some bytes lead to, and so of all texts that begin by these bytes.
-use Rattle.std.proofs.Common.{◌≡◌, ℕ, ◌+◌, ◌≤◌, List, [], ◌∷◌, ◌++◌, length, Option, Some, None, refl, sym, subst, ◌∙◌, arith}
+use Rattle.std.proofs.Common.{◌≡◌, ℕ, ◌+◌, ◌*◌, ◌≤◌, List, [], ◌∷◌, ◌++◌, length, Option, Some, None, refl, sym, ap, subst, ◌∙◌, arith, length-append}
+use Rattle.gj_json.specs.declared.event.Event.{Event}
 use Rattle.gj_json.specs.declared.levels.Level.{Level}
 use Rattle.gj_json.specs.declared.mode.Mode.{Mode}
 use Rattle.gj_json.specs.declared.mode.Mode.TheVariants.{ValueDone, TextDue}
@@ -24,15 +25,17 @@ use Rattle.gj_json.proofs.Readers.NumberUnderWay.{own_turn, own_turns, own_value
 use Rattle.gj_json.proofs.Readers.Simulation.{Follows, moves}
 use Rattle.gj_json.proofs.Events.OpenContainers.{open_levels}
 use Rattle.gj_json.proofs.Events.PastEvents.{events_seen}
-use Rattle.gj_json.proofs.Events.EventsOfSteps.{Tells, step_tells, timely_on}
+use Rattle.gj_json.proofs.Events.EventsOfSteps.{Tells, all_at, step_tells, timely_on, length-all_at, emitted_few}
 
--- n bytes lead to the state: what a reader could keep for it, and a depth from which on it fits
+-- n bytes lead to the state: what a reader could keep for it, how many events it has seen, and a depth from which on it
+-- fits
 pub record IsReached (state : Broken) (n : ℕ) : Type 0 where
   pub mode : Mode
   pub levels : List Level
   pub start : ℕ
   pub kept : StandsAs state mode levels
   pub timely : IsTimely state start n
+  pub few : length (seen state) ≤ 2 * n
   pub depth : ℕ
   pub fits : (more : ℕ) → FitsBroken (depth + more) state
 
@@ -44,6 +47,9 @@ moved levels Refuse next depth l h = let e : Some next ≡ None = h 0 in cc
 moved levels (Go mode ending) next depth l h = (mode, levels, (h 0).0, λ more. (h more).1)
 moved levels (Open level) next depth l h = (opened level, level ∷ levels, (h 0).0, λ more. (h more).1 (omega arith))
 moved levels (Close level) next depth l h = (ValueDone, outer_of levels, (h 0).0, λ more. (h more).1)
+
+seen_few : (n : ℕ) (s next : Broken) (es : List Event) → length (seen s) ≤ 2 * n → length es ≤ 2 → seen next ≡ seen s ++ all_at (n + 1) es → length (seen next) ≤ 2 * (n + 1)
+seen_few n s next es h k e = omega (arith, ap length e, length-append (seen s) (all_at (n + 1) es), length-all_at (n + 1) es)
 
 reached_on : (s next : Broken) (n b : ℕ) → IsReached s n → step s n b ≡ Some next → IsReached next (n + 1)
 reached_on s next n b k e =
@@ -68,6 +74,7 @@ reached_on s next n b k e =
       start = start_after k.mode k.start n;
       kept = g.2;
       timely = timely_on (seen s) (start_after k.mode k.start n) n es next k.timely.seen_by t;
+      few = seen_few n s next es k.few (emitted_few k.mode turn _ value k.start n) t.0;
       depth = deep;
       fits = g.3;
     }
@@ -93,6 +100,7 @@ reached bytes s e =
       start = 0;
       kept = (refl, refl);
       timely = record { seen_by = tt; edge = refl };
+      few = omega arith;
       depth = 0;
       fits = λ more. tt;
     } in

@@ -14,7 +14,7 @@ use Rattle.gj_json.specs.Grammar.{Spells, SpellsElements, SpellsMoreElements, Sp
 use Rattle.gj_json.specs.Names.{known_of}
 use Rattle.gj_json.specs.Events.{timed, events, elements_events, members_events, mark_events}
 use Rattle.gj_json.specs.Path.{to_value, to_container, has_open, by_step, path_in, elements_path, members_path, path_at}
-use Rattle.gj_json.specs.Internal.PathTrail.{outer_steps, stack_steps, stack_count, LeafTrail, TrailAt, begins, kept_steps}
+use Rattle.gj_json.specs.Internal.PathTrail.{outer_steps, advanced, stack_steps, LeafTrail, TrailAt, begins, kept_steps}
 use Rattle.gj_json.specs.Internal.TextMachine.{run, Broken, text_due, mark_one, mark_two, begun, Frame, in_array, in_object, Member, Leaf, value_due, value_done, array_opened, object_opened, constant_on, number_on, string_on, name_due, name_on, colon_due, back_elements, back_members}
 use Rattle.gj_json.specs.Internal.ReaderState.{LeafAs, StandsAs}
 use Rattle.gj_json.specs.Internal.SeenEvents.{InTime, BegunAs, IsTimely, stack_timed, leaf_timed, partial_timed, done_elements, done_members}
@@ -194,6 +194,11 @@ to_begun stack t T place n m bytes l i w h e = go (place + 1 == n) e
     go true f = to_it stack t T n m bytes l i w h f
     go false f = to_innermost stack t T n m bytes l i w h f
 
+outer-advanced : (steps : List PathStep) → outer_steps (advanced steps) ≡ outer_steps steps
+outer-advanced [] = refl
+outer-advanced (Index i ∷ steps) = refl
+outer-advanced (PathStep.Member known ∷ steps) = refl
+
 -- ---- each leaf
 
 module _ (T : Tree) (n : ℕ) (whole : Whole T) where
@@ -216,7 +221,7 @@ module _ (T : Tree) (n : ℕ) (whole : Whole T) where
   leaf_leads stack (value_done t) mode start bytes steps a g e i h =
       let f = front n (stack_timed stack) (events t) i in
       let w = whole_in stack t T n _ h whole in
-      rw (a, e) (to_innermost stack t T n _ _ (omega arith) f.0 w.0 h (complete t n f.1 w.1))
+      rw (a, e, outer-advanced (stack_steps stack)) (to_innermost stack t T n _ _ (omega arith) f.0 w.0 h (complete t n f.1 w.1))
   leaf_leads stack (array_opened place) mode start bytes steps a g e i h =
       let f = front n (stack_timed stack) (timed (place + 1) place What.OpenArray ∷ []) i in
       let r : elements_path n 0 h.0 ≡ None = elements_to_come h.0 h.1 n _ 0 _ (omega arith) h.2.after.before in
@@ -247,34 +252,34 @@ module _ (T : Tree) (n : ℕ) (whole : Whole T) where
 
 -- ---- a whole text
 
-pub path_leads : (state : Broken) (mode : Mode) (levels : List Level) (T : Text) (n m start : ℕ) (bytes : List ℕ) (steps : List PathStep) → Whole T.value → StandsAs state mode levels → IsTimely state start n → TrailAt m state steps → TextFrom T n bytes state
+pub path_leads : (state : Broken) (mode : Mode) (levels : List Level) (T : Text) (n start : ℕ) (bytes : List ℕ) (steps : List PathStep) → Whole T.value → StandsAs state mode levels → IsTimely state start n → TrailAt state steps → TextFrom T n bytes state
     → path_at n T ≡ outward (kept_steps (begins mode start n) steps) []
-path_leads text_due mode levels T n m start bytes steps w a t e h = rw (a.0, e) (due T.value n w [] (n + length h.first) _ (omega arith) tt h.after)
-path_leads mark_one mode levels T n m start bytes steps w a t e h = rw (a.0, e) (due T.value n w [] (n + length h.1.first) _ (omega arith) tt h.1.after)
-path_leads mark_two mode levels T n m start bytes steps w a t e h = rw (a.0, e) (due T.value n w [] (n + length h.1.first) _ (omega arith) tt h.1.after)
-path_leads (begun marked s) mode levels T n m start bytes steps w a t e h =
-    leaf_leads T.value n w s.stack s.leaf mode start bytes steps a.0 t.edge.0 e.0 (front n (mark_events marked) (partial_timed s) t.seen_by).1 h.1
+path_leads text_due mode levels T n start bytes steps w a t e h = rw (a.0, e) (due T.value n w [] (n + length h.first) _ (omega arith) tt h.after)
+path_leads mark_one mode levels T n start bytes steps w a t e h = rw (a.0, e) (due T.value n w [] (n + length h.1.first) _ (omega arith) tt h.1.after)
+path_leads mark_two mode levels T n start bytes steps w a t e h = rw (a.0, e) (due T.value n w [] (n + length h.1.first) _ (omega arith) tt h.1.after)
+path_leads (begun marked s) mode levels T n start bytes steps w a t e h =
+    leaf_leads T.value n w s.stack s.leaf mode start bytes steps a.0 t.edge.0 e (front n (mark_events marked) (partial_timed s) t.seen_by).1 h.1
 
 -- ---- texts that begin alike
 
 -- some steps of a state
 leaf_steps : (stack : List Frame) (leaf : Leaf) → (steps : List PathStep) × LeafTrail stack leaf steps
 leaf_steps stack value_due = (stack_steps stack, refl)
-leaf_steps stack (value_done t) = (stack_steps stack, refl)
+leaf_steps stack (value_done t) = (advanced (stack_steps stack), refl)
 leaf_steps stack (array_opened place) = (Index 0 ∷ stack_steps stack, refl)
-leaf_steps stack (object_opened place) = (Index 0 ∷ stack_steps stack, record { inner = Index 0; small = omega arith; are = refl })
+leaf_steps stack (object_opened place) = (Index 0 ∷ stack_steps stack, record { inner = Index 0; are = refl })
 leaf_steps stack (constant_on which place left) = (stack_steps stack, refl)
 leaf_steps stack (number_on place so_far) = (stack_steps stack, refl)
 leaf_steps stack (string_on place so_far state) = (stack_steps stack, refl)
-leaf_steps stack (name_due place done) = (Index 0 ∷ stack_steps stack, record { inner = Index 0; small = omega arith; are = refl })
-leaf_steps stack (name_on place done np so_far state) = (Index 0 ∷ stack_steps stack, record { inner = Index 0; small = omega arith; are = refl })
+leaf_steps stack (name_due place done) = (Index 0 ∷ stack_steps stack, record { inner = Index 0; are = refl })
+leaf_steps stack (name_on place done np so_far state) = (Index 0 ∷ stack_steps stack, record { inner = Index 0; are = refl })
 leaf_steps stack (colon_due place done np name ne) = (PathStep.Member (known_of name) ∷ stack_steps stack, refl)
 
-steps_of_state : (state : Broken) → (m : ℕ) × (steps : List PathStep) × TrailAt m state steps
-steps_of_state text_due = (0, [], refl)
-steps_of_state mark_one = (0, [], refl)
-steps_of_state mark_two = (0, [], refl)
-steps_of_state (begun marked s) = let g = leaf_steps s.stack s.leaf in (stack_count s.stack, g.0, (g.1, omega arith))
+steps_of_state : (state : Broken) → (steps : List PathStep) × TrailAt state steps
+steps_of_state text_due = ([], refl)
+steps_of_state mark_one = ([], refl)
+steps_of_state mark_two = ([], refl)
+steps_of_state (begun marked s) = leaf_steps s.stack s.leaf
 
 pub same_path : (bytes more other : List ℕ) (T U : Text) → IsText T (bytes ++ more) → IsText U (bytes ++ other) → path_at (length bytes) T ≡ path_at (length bytes) U
 same_path bytes more other T U h k = go (run bytes) refl (text_goes_on T bytes more h) (text_goes_on U bytes other k)
@@ -284,5 +289,5 @@ same_path bytes more other T U h k = go (run bytes) refl (text_goes_on T bytes m
     go (Some s) e a b =
         let r = reached bytes s e in
         let g = steps_of_state s in
-        path_leads s r.mode r.levels T (length bytes) g.0 r.start more g.1 (whole_text T (bytes ++ more) h) r.kept r.timely g.2 a
-        ∙ sym (path_leads s r.mode r.levels U (length bytes) g.0 r.start other g.1 (whole_text U (bytes ++ other) k) r.kept r.timely g.2 b)
+        path_leads s r.mode r.levels T (length bytes) r.start more g.0 (whole_text T (bytes ++ more) h) r.kept r.timely g.1 a
+        ∙ sym (path_leads s r.mode r.levels U (length bytes) r.start other g.0 (whole_text U (bytes ++ other) k) r.kept r.timely g.1 b)

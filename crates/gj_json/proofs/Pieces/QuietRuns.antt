@@ -33,7 +33,6 @@ use Rattle.gj_json.proofs.Machine.Completions.{Goes}
 use Rattle.gj_json.proofs.Readers.Simulation.{moves}
 use Rattle.gj_json.proofs.Events.EventsOfSteps.{Tells}
 use Rattle.gj_json.proofs.Readers.ReadBytes.{passed, told_by_step, completed_from}
-use Rattle.gj_json.proofs.Paths.TrailRuns.{Lasts, nothing_lasts, byte_and_more, byte_lasts}
 use Rattle.gj_json.proofs.Readers.StepsAlike.{no_number}
 use Rattle.gj_json.specs.declared.mode.Ending.{Ending}
 use Rattle.gj_json.specs.declared.mode.Ending.TheVariants.{Nothing}
@@ -152,7 +151,6 @@ module _ (limits : Allowed) (levels : List Level) (start : ℕ) where
     pub well : StandsWell limits NumberOn levels start to all
     pub under : under_of well.state ≡ number so_far
     pub nothing_more : Completed from to all []
-    pub lasts : Lasts from to bytes run
 
   -- digits that go on in a number
   digits_well : (run so_far : List ℕ) (offset : ℕ) (bytes : List ℕ) (k : StandsWell limits NumberOn levels start offset bytes) → under_of k.state ≡ number so_far
@@ -160,7 +158,7 @@ module _ (limits : Allowed) (levels : List Level) (start : ℕ) where
   digits_well [] so_far offset bytes k u h room =
       let e : offset ≡ offset + 0 = omega arith in
       let P : ℕ → Type 0 = λ to. AfterDigits offset to bytes [] (bytes ++ []) (so_far ++ []) in
-      subst P e (rw (append-nil bytes, append-nil so_far) (record { well = k; under = u; nothing_more = λ T rest t. sym (append-nil (events_by offset T)); lasts = nothing_lasts offset bytes }))
+      subst P e (rw (append-nil bytes, append-nil so_far) (record { well = k; under = u; nothing_more = λ T rest t. sym (append-nil (events_by offset T)) }))
   digits_well (b ∷ run) so_far offset bytes k u h room =
       let more : BeginsNumber ((so_far ++ b ∷ []) ++ run) = rw (append_assoc so_far (b ∷ []) run) h in
       let t : Turns (under_of k.state) b NumberTurn.Goes = rw (u, goes_on so_far run b h) refl in
@@ -173,34 +171,32 @@ module _ (limits : Allowed) (levels : List Level) (start : ℕ) where
       let P : ℕ → Type 0 = λ to. AfterDigits offset to bytes (b ∷ run) (bytes ++ (b ∷ run)) (so_far ++ (b ∷ run)) in
       let Q : List ℕ → Type 0 = λ xs. AfterDigits (offset + 1) (offset + 1 + length run) (bytes ++ b ∷ []) run ((bytes ++ b ∷ []) ++ run) xs in
       let j : AfterDigits (offset + 1) (offset + 1 + length run) (bytes ++ b ∷ []) run ((bytes ++ b ∷ []) ++ run) (so_far ++ (b ∷ run)) = subst Q (append_assoc so_far (b ∷ []) run) g in
-      let l = byte_and_more offset (offset + 1 + length run) bytes b run w.0.state w.0.runs (byte_lasts limits NumberOn NumberOn levels start offset bytes b k NumberTurn.Goes t refl) j.lasts in
-      subst P e (earlier offset (offset + 1 + length run) bytes b run (so_far ++ (b ∷ run)) d l j)
+      subst P e (earlier offset (offset + 1 + length run) bytes b run (so_far ++ (b ∷ run)) d j)
     where
-      earlier : (offset to : ℕ) (bytes : List ℕ) (b : ℕ) (run so_far : List ℕ) → Completed offset (offset + 1) (bytes ++ b ∷ []) [] → Lasts offset to bytes (b ∷ run) → AfterDigits (offset + 1) to (bytes ++ b ∷ []) run ((bytes ++ b ∷ []) ++ run) so_far
+      earlier : (offset to : ℕ) (bytes : List ℕ) (b : ℕ) (run so_far : List ℕ) → Completed offset (offset + 1) (bytes ++ b ∷ []) [] → AfterDigits (offset + 1) to (bytes ++ b ∷ []) run ((bytes ++ b ∷ []) ++ run) so_far
           → AfterDigits offset to bytes (b ∷ run) (bytes ++ (b ∷ run)) so_far
-      earlier offset to bytes b run so_far d l g =
+      earlier offset to bytes b run so_far d g =
           let P : List ℕ → Type 0 = λ xs. Completed offset to xs [] → AfterDigits offset to bytes (b ∷ run) xs so_far in
-          subst P (append_assoc bytes (b ∷ []) run) (λ n. record { well = g.well; under = g.under; nothing_more = n; lasts = l }) (no_more offset to bytes b run d g.nothing_more)
+          subst P (append_assoc bytes (b ∷ []) run) (λ n. record { well = g.well; under = g.under; nothing_more = n }) (no_more offset to bytes b run d g.nothing_more)
 
   pub digits_run : (run : List ℕ) (old new : Literal) (before after : Content) (offset : ℕ) (bytes : List ℕ) → StandsOpen limits NumberOn levels old before start offset bytes
       → ((so_far : List ℕ) → LiteralStandsFor old so_far → LiteralStandsFor new (so_far ++ run) × BeginsNumber (so_far ++ run)) → offset + length run ≤ limits.bytes
-      → StandsOpen limits NumberOn levels new after start (offset + length run) (bytes ++ run) × Completed offset (offset + length run) (bytes ++ run) [] × Lasts offset (offset + length run) bytes run
+      → StandsOpen limits NumberOn levels new after start (offset + length run) (bytes ++ run) × Completed offset (offset + length run) (bytes ++ run) []
   digits_run run old new before after offset bytes k goes room = go (under_of k.well.state) refl k.keeps (sym (mode_under k.well.state NumberOn levels k.well.kept))
     where
-      go : (u : Under) → under_of k.well.state ≡ u → Keeps u old before → has_number u ≡ true → StandsOpen limits NumberOn levels new after start (offset + length run) (bytes ++ run) × Completed offset (offset + length run) (bytes ++ run) [] × Lasts offset (offset + length run) bytes run
+      go : (u : Under) → under_of k.well.state ≡ u → Keeps u old before → has_number u ≡ true → StandsOpen limits NumberOn levels new after start (offset + length run) (bytes ++ run) × Completed offset (offset + length run) (bytes ++ run) []
       go nothing e h n = cc
       go (text so_far state) e h n = cc
       go (number so_far) e h n =
           let f = goes so_far h in
           let d = digits_well run so_far offset bytes k.well e f.1 room in
-          (record { well = d.well; keeps = rw (d.under) f.0 }, d.nothing_more, d.lasts)
+          (record { well = d.well; keeps = rw (d.under) f.0 }, d.nothing_more)
 
   -- the string under way behind the bytes
   record AfterText (on : StringState → Mode) (from to : ℕ) (bytes run all so_far : List ℕ) (last : StringState) : Type 0 where
     pub well : StandsWell limits (on last) levels start to all
     pub under : under_of well.state ≡ text so_far last
     pub nothing_more : Completed from to all []
-    pub lasts : Lasts from to bytes run
 
   -- bytes that go on in a string
   text_well : (on : StringState → Mode) → IsTextMode on → (run so_far characters : List ℕ) (state last : StringState) (offset : ℕ) (bytes : List ℕ) (k : StandsWell limits (on state) levels start offset bytes)
@@ -209,7 +205,7 @@ module _ (limits : Allowed) (levels : List Level) (start : ℕ) where
       let e : offset ≡ offset + 0 = omega arith in
       let P : ℕ → Type 0 = λ to. AfterText on offset to bytes [] (bytes ++ []) (so_far ++ characters) last in
       let Q : StringState → Type 0 = λ s. AfterText on offset offset bytes [] bytes so_far s in
-      subst P e (rw (h.1, append-nil bytes, append-nil so_far) (subst Q h.0 (record { well = k; under = u; nothing_more = λ T rest t. sym (append-nil (events_by offset T)); lasts = nothing_lasts offset bytes })))
+      subst P e (rw (h.1, append-nil bytes, append-nil so_far) (subst Q h.0 (record { well = k; under = u; nothing_more = λ T rest t. sym (append-nil (events_by offset T)) })))
   text_well on i (b ∷ run) so_far characters state last offset bytes k u h room =
       let turn = own_turn (under_of k.state) b in
       let t = own_turns (under_of k.state) b in
@@ -224,61 +220,55 @@ module _ (limits : Allowed) (levels : List Level) (start : ℕ) where
       let P : ℕ → Type 0 = λ to. AfterText on offset to bytes (b ∷ run) (bytes ++ (b ∷ run)) (so_far ++ characters) last in
       let Q : List ℕ → Type 0 = λ xs. AfterText on (offset + 1) (offset + 1 + length run) (bytes ++ b ∷ []) run ((bytes ++ b ∷ []) ++ run) xs last in
       let j : AfterText on (offset + 1) (offset + 1 + length run) (bytes ++ b ∷ []) run ((bytes ++ b ∷ []) ++ run) (so_far ++ characters) last = subst Q (append_assoc so_far h.1 h.2 ∙ ap (λ xs. so_far ++ xs) (sym h.4)) g in
-      let l = byte_and_more offset (offset + 1 + length run) bytes b run w.0.state w.0.runs (byte_lasts limits (on state) (on h.0) levels start offset bytes b k turn t m) j.lasts in
-      subst P e (earlier offset (offset + 1 + length run) bytes b run (so_far ++ characters) d l j)
+      subst P e (earlier offset (offset + 1 + length run) bytes b run (so_far ++ characters) d j)
     where
-      earlier : (offset to : ℕ) (bytes : List ℕ) (b : ℕ) (run so_far : List ℕ) → Completed offset (offset + 1) (bytes ++ b ∷ []) [] → Lasts offset to bytes (b ∷ run) → AfterText on (offset + 1) to (bytes ++ b ∷ []) run ((bytes ++ b ∷ []) ++ run) so_far last
+      earlier : (offset to : ℕ) (bytes : List ℕ) (b : ℕ) (run so_far : List ℕ) → Completed offset (offset + 1) (bytes ++ b ∷ []) [] → AfterText on (offset + 1) to (bytes ++ b ∷ []) run ((bytes ++ b ∷ []) ++ run) so_far last
           → AfterText on offset to bytes (b ∷ run) (bytes ++ (b ∷ run)) so_far last
-      earlier offset to bytes b run so_far d l g =
+      earlier offset to bytes b run so_far d g =
           let P : List ℕ → Type 0 = λ xs. Completed offset to xs [] → AfterText on offset to bytes (b ∷ run) xs so_far last in
-          subst P (append_assoc bytes (b ∷ []) run) (λ n. record { well = g.well; under = g.under; nothing_more = n; lasts = l }) (no_more offset to bytes b run d g.nothing_more)
+          subst P (append_assoc bytes (b ∷ []) run) (λ n. record { well = g.well; under = g.under; nothing_more = n }) (no_more offset to bytes b run d g.nothing_more)
 
   text_mode_run : (on : StringState → Mode) → IsTextMode on → (run characters : List ℕ) (first last : StringState) (old new : Literal) (before after : Content) (offset : ℕ) (bytes : List ℕ) → StandsOpen limits (on first) levels old before start offset bytes
       → Reads first run characters last → ((so_far : List ℕ) → Holds before so_far → Holds after (so_far ++ characters)) → offset + length run ≤ limits.bytes
-      → StandsOpen limits (on last) levels new after start (offset + length run) (bytes ++ run) × Completed offset (offset + length run) (bytes ++ run) [] × Lasts offset (offset + length run) bytes run
+      → StandsOpen limits (on last) levels new after start (offset + length run) (bytes ++ run) × Completed offset (offset + length run) (bytes ++ run) []
   text_mode_run on i run characters first last old new before after offset bytes k h holds room = go (under_of k.well.state) refl k.keeps (sym (mode_state k.well.state (on first) levels k.well.kept) ∙ i.state first)
     where
-      go : (u : Under) → under_of k.well.state ≡ u → Keeps u old before → state_under u ≡ Some first → StandsOpen limits (on last) levels new after start (offset + length run) (bytes ++ run) × Completed offset (offset + length run) (bytes ++ run) [] × Lasts offset (offset + length run) bytes run
+      go : (u : Under) → under_of k.well.state ≡ u → Keeps u old before → state_under u ≡ Some first → StandsOpen limits (on last) levels new after start (offset + length run) (bytes ++ run) × Completed offset (offset + length run) (bytes ++ run) []
       go nothing e j n = cc
       go (number so_far) e j n = cc
       go (text so_far state) e j n =
           let same : state ≡ first = cc in
           let P : StringState → Type 0 = λ s. under_of k.well.state ≡ text so_far s in
           let d = text_well on i run so_far characters first last offset bytes k.well (subst P same e) h room in
-          (record { well = d.well; keeps = rw (d.under) (holds so_far j) }, d.nothing_more, d.lasts)
+          (record { well = d.well; keeps = rw (d.under) (holds so_far j) }, d.nothing_more)
 
   pub text_run : (run characters : List ℕ) (first last : StringState) (mode next : Mode) (old new : Literal) (before after : Content) (offset : ℕ) (bytes : List ℕ) → StandsOpen limits mode levels old before start offset bytes
       → GoesOn mode first next last → Reads first run characters last → ((so_far : List ℕ) → Holds before so_far → Holds after (so_far ++ characters)) → offset + length run ≤ limits.bytes
-      → StandsOpen limits next levels new after start (offset + length run) (bytes ++ run) × Completed offset (offset + length run) (bytes ++ run) [] × Lasts offset (offset + length run) bytes run
+      → StandsOpen limits next levels new after start (offset + length run) (bytes ++ run) × Completed offset (offset + length run) (bytes ++ run) []
   text_run run characters first last mode next old new before after offset bytes k (inl m) h holds room =
       let P : Mode → Type 0 = λ x. StandsOpen limits x levels old before start offset bytes in
-      let Q : Mode → Type 0 = λ x. StandsOpen limits x levels new after start (offset + length run) (bytes ++ run) × Completed offset (offset + length run) (bytes ++ run) [] × Lasts offset (offset + length run) bytes run in
+      let Q : Mode → Type 0 = λ x. StandsOpen limits x levels new after start (offset + length run) (bytes ++ run) × Completed offset (offset + length run) (bytes ++ run) [] in
       subst Q (sym m.1) (text_mode_run StringOn string_mode run characters first last old new before after offset bytes (subst P m.0 k) h holds room)
   text_run run characters first last mode next old new before after offset bytes k (inr m) h holds room =
       let P : Mode → Type 0 = λ x. StandsOpen limits x levels old before start offset bytes in
-      let Q : Mode → Type 0 = λ x. StandsOpen limits x levels new after start (offset + length run) (bytes ++ run) × Completed offset (offset + length run) (bytes ++ run) [] × Lasts offset (offset + length run) bytes run in
+      let Q : Mode → Type 0 = λ x. StandsOpen limits x levels new after start (offset + length run) (bytes ++ run) × Completed offset (offset + length run) (bytes ++ run) [] in
       subst Q (sym m.1) (text_mode_run NameOn name_mode run characters first last old new before after offset bytes (subst P m.0 k) h holds room)
 
   pub quiet_run : (run : List ℕ) (mode last : Mode) (offset : ℕ) (bytes : List ℕ) → StandsWell limits mode levels start offset bytes → offset + length run ≤ limits.bytes → Leads mode run last
-      → StandsWell limits last levels start (offset + length run) (bytes ++ run) × Completed offset (offset + length run) (bytes ++ run) [] × Lasts offset (offset + length run) bytes run
+      → StandsWell limits last levels start (offset + length run) (bytes ++ run) × Completed offset (offset + length run) (bytes ++ run) []
   quiet_run [] mode last offset bytes k room q =
       let e : offset ≡ offset + 0 = omega arith in
       let P : ℕ → Type 0 = λ n. StandsWell limits last levels start n (bytes ++ []) in
       let Q : ℕ → Type 0 = λ n. Completed offset n (bytes ++ []) [] in
       let R : Mode → Type 0 = λ m. StandsWell limits m levels start offset bytes in
-      let L : ℕ → Type 0 = λ n. Lasts offset n bytes [] in
       let j = subst R q k in
-      (subst P e (rw (append-nil bytes) j), subst Q e (λ T rest t. sym (append-nil (events_by offset T))), subst L e (nothing_lasts offset bytes))
+      (subst P e (rw (append-nil bytes) j), subst Q e (λ T rest t. sym (append-nil (events_by offset T))))
   quiet_run (b ∷ run) mode last offset bytes k room q =
       let w = quiet_byte mode q.0 offset bytes b k (omega arith) q.1 in
       let g = quiet_run run q.0 last (offset + 1) (bytes ++ b ∷ []) w.0 (omega arith) q.2 in
-      let turn = own_turn (under_of k.state) b in
-      let f = byte_lasts limits mode q.0 levels start offset bytes b k turn (own_turns (under_of k.state) b) (q.1.moves turn (inner_of levels) (own_words (under_of k.state))) in
       let e : offset + 1 + length run ≡ offset + length (b ∷ run) = omega arith in
       let P : ℕ → Type 0 = λ n. StandsWell limits last levels start n (bytes ++ (b ∷ run)) in
-      let Q : ℕ → Type 0 = λ n. Completed offset n (bytes ++ (b ∷ run)) [] in
-      let L : ℕ → Type 0 = λ n. Lasts offset n bytes (b ∷ run) in (
+      let Q : ℕ → Type 0 = λ n. Completed offset n (bytes ++ (b ∷ run)) [] in (
         subst P e (rw (← append_assoc bytes (b ∷ []) run) g.0),
         subst Q e (no_more offset (offset + 1 + length run) bytes b run w.1 g.1),
-        subst L e (byte_and_more offset (offset + 1 + length run) bytes b run w.0.state w.0.runs f g.2),
       )

@@ -26,12 +26,11 @@ use Rattle.gj_json.specs.declared.mode.Mode.TheVariants.{ValueDone}
 use Rattle.gj_json.specs.declared.mode.Move.{Move}
 use Rattle.gj_json.specs.declared.mode.Move.TheVariants.{Refuse, Go, Open, Close}
 use Rattle.gj_json.specs.Internal.OpenLevels.{outer_of}
-use Rattle.gj_json.specs.Internal.ReaderStep.{Applied, PassesTo, RefusesWith, IsRefusedWith, opened, told_on, move_by, told_by, Moves, Takes}
+use Rattle.gj_json.specs.Internal.ReaderStep.{Applied, PassesTo, RefusesWith, IsRefusedWith, opened, told_on, move_by, told_by, Takes}
 use Rattle.gj_json.proofs.Readers.ReadBytes.{pushed, completed, stop, well_viable, well_of, open_of, refuses_on, lasts}
 use Rattle.gj_json.proofs.Events.EventsOfSteps.{emitted_few}
 use Rattle.gj_json.proofs.Pieces.QuietRuns.{quiet_run, digits_run, text_run}
 use Rattle.gj_json.proofs.Pieces.PieceRests.{take_all_of, rest_of}
-use Rattle.gj_json.proofs.Paths.TrailRuns.{Lasts}
 
 -- ---- what a reader that stands for bytes says of them
 
@@ -116,20 +115,6 @@ outcome (Open level) old new result n h = elim (eqb_tells (length (levels_in old
 ]
 outcome (Close level) old new result n h = passes_outcome (Close level) ValueDone (outer_of (levels_in old.levels)) old new result h
 
--- the move of a byte that is taken is answered
-taken_is : (made taken : Move) (old new : Reader) → length (levels_in old.levels) ≤ old.limits.depth → Applied made old new (Ok taken) → taken ≡ made
-taken_is Refuse taken old new n h = let e = h.answer in cc
-taken_is (Go mode ending) taken old new n h = let e = h.answer in cc
-taken_is (Open level) taken old new n h = elim (eqb_tells (length (levels_in old.levels)) old.limits.depth) [
-  | inl u ↦ (let r = h.0 u.1 in let e = r.answer in cc)
-  | inr u ↦ (let p = h.1 (omega (arith, u.1)) in let e = p.answer in cc)
-]
-taken_is (Close level) taken old new n h = let e = h.answer in cc
-
-pub byte_moves : {before after : List Event → Type 0} (old new : Reader) (b : ℕ) (result : Result Move JsonFault) → length (levels_in old.levels) ≤ old.limits.depth → Takes before after old new b result → IfOk result (λ made. Moves old b made)
-byte_moves old new b (Ok made) n w = record { turn = w.turn; value = w.value; says = w.says; is = taken_is (move_by old w.turn b) made old new n w.applied }
-byte_moves old new b (Err fault) n w = tt
-
 -- the events of a byte, heard
 byte_hears : {before after : List Event → Type 0} (old new : Reader) (b : ℕ) (bytes : List ℕ) (events : List Event) (result : Result Move JsonFault) → old.fault ≡ None → StandsFor old bytes → Outcome old new result
     → Takes before after old new b result → before events → Hears after events old.offset new.offset (take new.offset (bytes ++ b ∷ []))
@@ -168,15 +153,15 @@ skip_well old new given live s bytes w = rw (s.fault, live, s.limits, s.levels, 
 
 -- what bytes leave that complete nothing
 pub skipped : (old new : Reader) (given : List ℕ) (bytes : List ℕ) → SkipsBy old new given → old.offset + length given ≤ old.limits.bytes → StandsOpen old.limits old.mode (levels_in old.levels) old.literal old.content old.start old.offset bytes
-    → StandsOpen old.limits new.mode (levels_in old.levels) new.literal new.content old.start (old.offset + length given) (bytes ++ given) × Completed old.offset (old.offset + length given) (bytes ++ given) [] × Lasts old.offset (old.offset + length given) bytes given
+    → StandsOpen old.limits new.mode (levels_in old.levels) new.literal new.content old.start (old.offset + length given) (bytes ++ given) × Completed old.offset (old.offset + length given) (bytes ++ given) []
 skipped old new given bytes (leading leads other none) room k =
     let q = quiet_run old.limits (levels_in old.levels) old.start given old.mode new.mode old.offset bytes k.well room leads in
-    (record { well = q.0; keeps = keeps_none (under_of q.0.state) new.literal new.content (sym (mode_under q.0.state new.mode (levels_in old.levels) q.0.kept) ∙ other) (sym (mode_state q.0.state new.mode (levels_in old.levels) q.0.kept) ∙ none) }, q.1, q.2)
+    (record { well = q.0; keeps = keeps_none (under_of q.0.state) new.literal new.content (sym (mode_under q.0.state new.mode (levels_in old.levels) q.0.kept) ∙ other) (sym (mode_state q.0.state new.mode (levels_in old.levels) q.0.kept) ∙ none) }, q.1)
 skipped old new given bytes (in_literal from to goes) room k =
     let P : Mode → Type 0 = λ m. StandsOpen old.limits m (levels_in old.levels) old.literal old.content old.start old.offset bytes in
     let Q : Mode → Type 0 = λ m. StandsOpen old.limits m (levels_in old.levels) new.literal new.content old.start (old.offset + length given) (bytes ++ given) in
     let d = digits_run old.limits (levels_in old.levels) old.start given old.literal new.literal old.content new.content old.offset bytes (subst P from k) goes room in
-    (subst Q (sym to) d.0, d.1, d.2)
+    (subst Q (sym to) d.0, d.1)
 skipped old new given bytes (in_text first last characters modes reads holds) room k =
     text_run old.limits (levels_in old.levels) old.start given characters first last old.mode new.mode old.literal new.literal old.content new.content old.offset bytes k modes reads holds room
 
@@ -197,7 +182,7 @@ skip_feeds {heard} old new given live room s = record {
 }
   where
     run : (bytes : List ℕ) → StandsFor old bytes
-        → StandsOpen old.limits new.mode (levels_in old.levels) new.literal new.content old.start (old.offset + length given) (bytes ++ given) × Completed old.offset (old.offset + length given) (bytes ++ given) [] × Lasts old.offset (old.offset + length given) bytes given
+        → StandsOpen old.limits new.mode (levels_in old.levels) new.literal new.content old.start (old.offset + length given) (bytes ++ given) × Completed old.offset (old.offset + length given) (bytes ++ given) []
     run bytes h = skipped old new given bytes s.by room (open_of old bytes live h)
 
 -- ---- one call after another

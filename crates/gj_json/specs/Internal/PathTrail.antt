@@ -1,16 +1,15 @@
--- The steps to the right edge of a text, the innermost first, and what a byte does to them.
-use Rattle.std.specs.Prelude.{◌≡◌, ℕ, zero, suc, ◌+◌, ◌==◌, ◌≤◌, ◌<◌, ◌^◌, ◌&&◌, Bool, true, false, List, [], ◌∷◌, length, get_or, Option, Some, None}
+-- The steps to the right edge of a text, the innermost first, and what an event does to them.
+use Rattle.std.specs.Prelude.{◌≡◌, ℕ, zero, suc, ◌+◌, ◌==◌, ◌<◌, ◌^◌, ◌&&◌, Bool, true, false, List, [], ◌∷◌, length, get_or, Option, Some, None}
+use Rattle.gj_json.specs.declared.event.Event.{Event}
+use Rattle.gj_json.specs.declared.event.What.{What}
 use Rattle.gj_json.specs.declared.path.PathStep.{PathStep}
 use Rattle.gj_json.specs.declared.path.PathStep.TheVariants.{Index}
 use Rattle.gj_json.specs.declared.path.Path.{Path}
 use Rattle.gj_json.specs.declared.mode.Mode.{Mode}
 use Rattle.gj_json.specs.declared.mode.Mode.TheVariants.{ConstantOn, NumberOn, StringOn}
-use Rattle.gj_json.specs.declared.mode.Ending.TheVariants.{Name, Item}
-use Rattle.gj_json.specs.declared.mode.Move.{Move}
-use Rattle.gj_json.specs.declared.mode.Move.TheVariants.{Go, Open, Close}
 use Rattle.gj_json.specs.declared.limits.TheConstants.{MOST_LEVELS}
 use Rattle.gj_json.specs.Names.{known_of}
-use Rattle.gj_json.specs.Internal.TextMachine.{Frame, in_array, in_object, Leaf, array_opened, object_opened, name_due, name_on, colon_due, Broken, begun}
+use Rattle.gj_json.specs.Internal.TextMachine.{Frame, in_array, in_object, Leaf, value_done, array_opened, object_opened, name_due, name_on, colon_due, Broken, begun}
 
 -- ---- the steps of a path, the innermost first
 
@@ -37,23 +36,32 @@ abbrev pub advanced : List PathStep → List PathStep
 advanced (Index i ∷ steps) = Index (i + 1) ∷ steps
 advanced steps = steps
 
--- ---- what a byte does that makes this move
-
-abbrev pub followed : Move → List PathStep → List PathStep
-followed (Go mode (Name known)) steps = with_inner (PathStep.Member known) steps
-followed (Go mode Item) steps = advanced steps
-followed (Open level) steps = Index 0 ∷ steps
-followed (Close level) steps = outer_steps steps
-followed _ steps = steps
-
 -- the innermost step can be kept
 abbrev pub IsSmall : List PathStep → Type 0
 IsSmall (Index i ∷ steps) = i < 2 ^ 64
 IsSmall _ = Unit {0}
 
-pub record Fits (steps : List PathStep) : Type 0 where
-  pub few : length steps ≤ MOST_LEVELS
-  pub small : IsSmall steps
+-- ---- what an event does: the index of a step is how many elements of its array have ended
+
+abbrev pub followed : What → List PathStep → List PathStep
+followed What.OpenArray steps = Index 0 ∷ steps
+followed What.OpenObject steps = Index 0 ∷ steps
+followed What.CloseArray steps = advanced (outer_steps steps)
+followed What.CloseObject steps = advanced (outer_steps steps)
+followed (What.Name known) steps = with_inner (PathStep.Member known) steps
+followed _ steps = advanced steps
+
+-- the steps that it leads to can be kept
+abbrev pub HasRoom : What → List PathStep → Type 0
+HasRoom What.OpenArray steps = length steps < MOST_LEVELS
+HasRoom What.OpenObject steps = length steps < MOST_LEVELS
+HasRoom (What.Name known) steps = Unit {0}
+HasRoom what steps = IsSmall (followed what steps)
+
+-- From these steps the events lead to `last`, where the steps after each of them can be kept.
+abbrev pub Follows : List PathStep → List Event → List PathStep → Type 0
+Follows last [] steps = last ≡ steps
+Follows last (event ∷ events) steps = HasRoom event.what steps → Follows last events (followed event.what steps)
 
 -- ---- what the steps are, by the state of the machine
 
@@ -68,10 +76,10 @@ stack_steps (frame ∷ stack) = frame_step frame ∷ stack_steps stack
 -- some step into a container that the leaf itself has open
 pub record Inside (stack : List Frame) (steps : List PathStep) : Type 0 where
   pub inner : PathStep
-  pub small : IsSmall (inner ∷ [])
   pub are : steps ≡ inner ∷ stack_steps stack
 
 abbrev pub LeafTrail : List Frame → Leaf → List PathStep → Type 0
+LeafTrail stack (value_done t) steps = steps ≡ advanced (stack_steps stack)
 LeafTrail stack (array_opened place) steps = steps ≡ Index 0 ∷ stack_steps stack
 LeafTrail stack (object_opened place) steps = Inside stack steps
 LeafTrail stack (name_due place done) steps = Inside stack steps
@@ -79,19 +87,10 @@ LeafTrail stack (name_on place done np so_far state) steps = Inside stack steps
 LeafTrail stack (colon_due place done np name ne) steps = steps ≡ PathStep.Member (known_of name) ∷ stack_steps stack
 LeafTrail stack _ steps = steps ≡ stack_steps stack
 
--- how many elements have ended in the arrays that are open
-abbrev pub frame_count : Frame → ℕ
-frame_count (in_array place done) = length done
-frame_count (in_object place done np name ne) = 0
-
-abbrev pub stack_count : List Frame → ℕ
-stack_count [] = 0
-stack_count (frame ∷ stack) = frame_count frame + stack_count stack
-
--- these are the steps of the state that n bytes lead to
-abbrev pub TrailAt : ℕ → Broken → List PathStep → Type 0
-TrailAt n (begun marked s) steps = LeafTrail s.stack s.leaf steps × (stack_count s.stack ≤ n)
-TrailAt n _ steps = steps ≡ []
+-- these are the steps of the state
+abbrev pub TrailAt : Broken → List PathStep → Type 0
+TrailAt (begun marked s) steps = LeafTrail s.stack s.leaf steps
+TrailAt _ steps = steps ≡ []
 
 -- ---- which of them lead to the value
 

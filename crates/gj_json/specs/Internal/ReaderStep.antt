@@ -78,13 +78,6 @@ made_by reader turn b = option_to_list (move_event (move_by reader turn b) reade
 abbrev pub told_by : Reader → NumberTurn → Option Exact → ℕ → List Event
 told_by reader turn value b = emitted reader.mode turn (move_by reader turn b) value reader.start reader.offset
 
--- the byte makes this move
-pub record Moves (reader : Reader) (b : ℕ) (made : Move) : Type 0 where
-  pub turn : NumberTurn
-  pub value : Option Exact
-  pub says : LiteralSays reader b turn value
-  pub is : made ≡ move_by reader turn b
-
 -- the reader was given the byte, and its sink has heard of it what was taken
 pub record Takes (before after : List Event → Type 0) (old new : Reader) (b : ℕ) (result : Result Move JsonFault) : Type 0 where
   pub turn : NumberTurn

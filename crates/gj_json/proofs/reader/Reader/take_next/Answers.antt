@@ -43,6 +43,3 @@ returns-clause-on g c = (CallsInTurn.outcome_on c.args.self.now c.take_byte.new.
 pub returns-clause-refusal : goal.returns-clause-refusal
 returns-clause-refusal g c =
     CallsInTurn.byte_refusal c.args.self.now c.take_byte.new.self c.take_byte.result c.in_default.is (CallsInTurn.outcome _ c.args.self.now c.take_byte.new.self c.take_byte.result c.args.self.now.nested c.take_byte.ensures.applied)
-
-pub returns-clause-moves : goal.returns-clause-moves
-returns-clause-moves g c = CallsInTurn.byte_moves c.args.self.now c.take_byte.new.self c.args.byte c.take_byte.result c.args.self.now.nested c.take_byte.ensures
