@@ -1,3 +1,4 @@
 -- What the definitions say of some texts, by computing.
 pub mod FaultExamples
 pub mod WarningExamples
+pub mod FeatureExamples

@@ -2,4 +2,5 @@ pub mod Examples
 pub mod Objects
 pub mod Texts
 pub mod Doom
+pub mod Features
 pub mod Sequences

@@ -2,6 +2,7 @@ pub mod Role
 pub mod Members
 pub mod Faults
 pub mod TextWarnings
+pub mod FeatureFindings
 pub mod Judged
 pub mod Levels
 pub mod Verdict

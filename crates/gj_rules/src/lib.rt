@@ -8,6 +8,7 @@
 //! the length of the text and wherever an object's `type` stands.
 #![tactic(auto)]
 
+pub mod feature_laws;
 mod findings;
 mod frame;
 pub mod laws;

@@ -1,0 +1,3 @@
+-- What is found in a text, by its features.
+pub mod OwnText
+pub mod ByFeature
