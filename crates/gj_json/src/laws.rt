@@ -1,8 +1,8 @@
 //! What holds of texts and of what is refused, whoever reads them: each contract is a law of the definitions.
 
-ghost use Rattle.std.specs.Prelude.{◌≡◌, ℕ, ◌≤◌, ◌++◌, ◌⊎◌, ◌↔◌, List, length, Some, None};
+ghost use Rattle.std.specs.Prelude.{◌≡◌, ℕ, ◌≤◌, ◌^◌, ◌++◌, ◌⊎◌, ◌↔◌, List, length, Some, None};
 ghost use Rattle.gj_json.specs.declared.fault.JsonFault.{JsonFault};
-ghost use Rattle.gj_json.specs.Limits.{Allowed};
+ghost use Rattle.gj_json.specs.Limits.{Allowed, IsAllowed};
 ghost use Rattle.gj_json.specs.Tree.{Text};
 ghost use Rattle.gj_json.specs.Text.{IsText, IsViable, IsViableWithin};
 ghost use Rattle.gj_json.specs.Refusal.{IsRefusal, IsAdmitted};
@@ -81,4 +81,9 @@ pub fn left_part()
 /// A text has no more events than bytes, that of a byte order mark among them.
 pub fn few_events()
     ensures { (text : Text) (bytes : List ℕ) → IsText text bytes → length (all_events text) ≤ length bytes }
+{}
+
+/// The limits that are allowed: a depth of 1 to 256, and 1 to 2^60 bytes.
+pub fn allowed_limits()
+    ensures { (depth bytes : ℕ) → IsAllowed depth bytes ↔ ((1 ≤ depth) × (depth ≤ 256) × (1 ≤ bytes) × (bytes ≤ 2 ^ 60)) }
 {}

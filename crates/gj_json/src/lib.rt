@@ -38,8 +38,8 @@ pub use fault::{Cause, JsonFault};
 pub use flat::{Flat, Numbered};
 pub use lanes::plain_run;
 pub use laws::{
-    broken_off, bytes_taken, few_events, left_part, longest_front, one_broken, one_refusal,
-    one_text, same_events, same_path, viable_fronts,
+    allowed_limits, broken_off, bytes_taken, few_events, left_part, longest_front, one_broken,
+    one_refusal, one_text, same_events, same_path, viable_fronts,
 };
 pub use limits::{Limits, MOST_LEVELS};
 pub use locator::Locator;
