@@ -44,6 +44,33 @@ static void one_call() {
     wants(!geolint::check(POINT, geolint::Limits(257)).judged(), "257 levels");
 }
 
+static geolint::Verdict of_point() {
+    return geolint::check(POINT);
+}
+
+static const geolint::Verdict const_of_ring() {
+    return geolint::check(RING);
+}
+
+/* What is kept by a reference after the expression that made it has ended: the sanitizers see a read of what is gone. */
+static void kept_references() {
+    const geolint_report &report = of_point().report();
+    const geolint_report &of_const = const_of_ring().report();
+    wants(report.verdict == GEOLINT_VALID && of_const.rule == 15, "the report of a verdict that is gone");
+    const geolint::Verdict named = geolint::check(RING);
+    wants(&named.report() == &named.report(), "the report of a verdict that stays is no copy");
+#if defined(__cpp_exceptions)
+    const geolint::Verdict &valid = geolint::valid_or_throw(of_point());
+    auto &&moved = geolint::valid_or_throw(geolint::check(POINT));
+    wants(valid.judged() && valid.valid() && moved.valid(), "the verdict of a text that is gone");
+    const geolint::Verdict &thrown = geolint::Invalid(geolint::check(RING)).verdict();
+    wants(is_open_ring(thrown), "the verdict of an exception that is gone");
+    static_assert(!std::is_reference<decltype(geolint::valid_or_throw(std::declval<const geolint::Verdict>()))>::value, "a value");
+    static_assert(!std::is_reference<decltype(std::declval<const geolint::Invalid>().verdict())>::value, "a value");
+#endif
+    static_assert(!std::is_reference<decltype(std::declval<const geolint::Verdict>().report())>::value, "a value");
+}
+
 static void pieces() {
     geolint::Linter linter;
     wants(bool(linter) && linter.feed(POINT) && linter.offset() == POINT.size(), "a piece");
@@ -105,6 +132,7 @@ static void exceptions() {
 
 int main() {
     one_call();
+    kept_references();
     pieces();
     moves();
     threads();

@@ -1,6 +1,7 @@
 /* geolint for C++11 and later, over geolint.h: a linter that frees its memory, and the verdict as a value.
  *
- * Nothing here throws but `geolint::valid_or_throw`, and that is left out where exceptions are turned off. */
+ * No call gives a reference into an argument or into an object that ends with the expression: `valid_or_throw(check(text))` may be
+ * kept by value and by reference. Nothing here throws but `geolint::valid_or_throw`, and that is left out where exceptions are turned off. */
 #ifndef GEOLINT_HPP
 #define GEOLINT_HPP
 
@@ -48,7 +49,9 @@ public:
         return kind >= 1 && kind <= GEOLINT_KINDS ? report_.warnings[kind - 1] : geolint_warned();
     }
 
-    const geolint_report &report() const noexcept { return report_; }
+    /* The plain numbers; of a verdict that does not stay, a copy of them. */
+    const geolint_report &report() const & noexcept { return report_; }
+    geolint_report report() const && noexcept { return report_; }
 
 private:
     geolint_report report_;
@@ -110,7 +113,8 @@ private:
 class Invalid : public std::runtime_error {
 public:
     explicit Invalid(const Verdict &verdict) : std::runtime_error(message(verdict)), verdict_(verdict) {}
-    const Verdict &verdict() const noexcept { return verdict_; }
+    const Verdict &verdict() const & noexcept { return verdict_; }
+    Verdict verdict() const && noexcept { return verdict_; }
 
 private:
     static std::string message(const Verdict &verdict) {
@@ -122,8 +126,8 @@ private:
     Verdict verdict_;
 };
 
-/* The verdict of a valid text; otherwise throws `Invalid`. */
-inline const Verdict &valid_or_throw(const Verdict &verdict) {
+/* The verdict of a valid text, as a value; otherwise throws `Invalid`. */
+inline Verdict valid_or_throw(const Verdict &verdict) {
     if (!verdict.valid())
         throw Invalid(verdict);
     return verdict;
