@@ -5,15 +5,20 @@ module says of itself.
     rows.py PROGRAM
 """
 
+import array
+import builtins
 import copy
 import io
 import json
+import mmap
 import os
+import pathlib
 import pickle
 import random
 import shutil
 import subprocess
 import sys
+import tempfile
 
 import geolint
 
@@ -99,6 +104,32 @@ try:
 except AttributeError:
     pass
 
+# A buffer is judged by its bytes: a mapped file whole, wherever it stands, also after a piece, and so is what has gaps.
+with tempfile.TemporaryFile() as file:
+    file.write(ring + b" " * 200_000)
+    file.flush()
+    with mmap.mmap(file.fileno(), 0, access=mmap.ACCESS_READ) as mapped:
+        mapped.seek(50)
+        wants("a mapped file", geolint.check(mapped), verdict)
+        wants("where it stands then", mapped.tell(), 50)
+        wants("a mapped file that is fed", (linter := geolint.Linter()).feed(mapped), True)
+        wants("what was fed", (linter.offset, linter.finish()), (len(mapped), verdict))
+        wants("a mapped file and a limit", geolint.check(mapped, max_bytes=70_000).cause, 4)
+    file.seek(len(ring))
+    wants("a file from where it stands", geolint.check(file).cause, 2)
+gaps = bytearray(2 * len(ring))
+gaps[::2] = ring
+for name, buffer in {
+    "bytes": bytearray(ring),
+    "every other byte": memoryview(gaps)[::2],
+    "numbers": array.array("H", ring),
+    "C": (geolint.ctypes.c_char * len(ring)).from_buffer_copy(ring),
+}.items():
+    wants(f"a buffer of {name}", geolint.check(buffer), verdict)
+wants("an empty buffer", geolint.check(bytearray()), geolint.check(b""))
+refused = geolint.Linter()
+wants("an empty buffer after a refusal", (refused.feed(b"]"), refused.feed(bytearray())), (False, False))
+
 pieces = [ring[i : i + 5] for i in range(0, len(ring), 5)]
 wants("pieces", geolint.check(pieces), verdict)
 wants("pieces of a generator", geolint.check(memoryview(piece) for piece in pieces), verdict)
@@ -141,6 +172,10 @@ for name, error, call in [
     ("pieces of characters", TypeError, lambda: geolint.check(["{}"])),
     ("a number", TypeError, lambda: geolint.check(7)),
     ("a stream that does not wait", BlockingIOError, lambda: geolint.check(Empty())),
+    ("a depth that is a float", TypeError, lambda: geolint.check(ring, max_depth=5.0)),
+    ("a depth that is a bool", TypeError, lambda: geolint.check(ring, max_depth=True)),
+    ("a number of bytes that is a float", TypeError, lambda: geolint.Linter(max_bytes=1e6)),
+    ("a number of bytes that is text", TypeError, lambda: linter.begin(max_bytes="9")),
     ("a copy", TypeError, lambda: copy.copy(geolint.Linter())),
     ("a deep copy", TypeError, lambda: copy.deepcopy(geolint.Linter())),
     ("a pickle", TypeError, lambda: pickle.dumps(geolint.Linter())),
@@ -150,6 +185,17 @@ for name, error, call in [
         wants(name, "nothing", "an error")
     except error:
         pass
+for name, told, call in [
+    ("a path as str", "open(path, \"rb\")", lambda: geolint.check("map.geojson")),
+    ("a text as str", ".encode()", lambda: geolint.check(ring.decode())),
+    ("a text that is fed", ".encode()", lambda: geolint.Linter().feed(ring.decode())),
+    ("a path", "open(path, \"rb\")", lambda: geolint.check(pathlib.Path("map.geojson"))),
+]:
+    try:
+        call()
+    except TypeError as error:
+        wants(f"what is told of {name}", told in str(error), True)
+wants("names that hide Python's own", set(geolint.__all__) & set(dir(builtins)), set())
 try:
     with geolint.Linter() as unfinished:
         unfinished.feed(b"{")

@@ -8,21 +8,26 @@
     >>> print(verdict)
     broken G15 at 89: ring not closed
 
-It needs nothing but the shared object `libgeolint.so`: the one that the variable GEOLINT_LIBRARY names, otherwise one that
-lies beside this file or where `make install-library` put both, otherwise the system's.
+It needs Python 3.8 and nothing but the shared object `libgeolint.so`: the one that the variable GEOLINT_LIBRARY names, otherwise
+one that lies beside this file, otherwise where `make install-library` put it, otherwise the system's.
 """
 
 import ctypes
 import ctypes.util
+import operator
 import os
 from dataclasses import dataclass
 
-__all__ = ["check", "Linter", "Verdict", "Warning", "Ended", "version"]
+# `Warning` is left out: `from geolint import *` must not hide Python's own.
+__all__ = ["check", "Linter", "Verdict", "Ended", "version"]
 
+# `make install-library` writes here where it puts the shared object.
+_INSTALLED = ""
 _PIECE = 65536
 
 _DONE, _REFUSED, _ENDED, _LIMITS = 0, 1, 2, 3
 _NAMES = {1: "valid", 2: "broken", 3: "not JSON"}
+_ALLOWED = "a depth is from 1 to 256, and a number of bytes from 1 to 2**60"
 
 
 class _Warned(ctypes.Structure):
@@ -47,7 +52,7 @@ class _Text(ctypes.Structure):
 
 def _load():
     here = os.path.dirname(os.path.abspath(__file__))
-    near = [os.path.join(here, "libgeolint.so"), os.path.join(here, "..", "..", "libgeolint.so.0")]
+    near = [os.path.join(here, "libgeolint.so"), _INSTALLED, os.path.join(here, "..", "..", "libgeolint.so.0")]
     found = [path for path in near if os.path.exists(path)]
     path = os.environ.get("GEOLINT_LIBRARY") or (found[0] if found else ctypes.util.find_library("geolint"))
     if not path:
@@ -138,7 +143,7 @@ def _verdict(report):
     if report.status == _ENDED:
         raise Ended("the linter has ended")
     if report.status != _DONE:
-        raise ValueError("a depth is from 1 to 256, and a number of bytes from 1 to 2**60")
+        raise ValueError(_ALLOWED)
     name = _NAMES[report.verdict]
     if name == "valid":
         noted = [(kind, w.count, w.first) for kind, w in enumerate(report.warnings, 1) if w.count]
@@ -148,20 +153,58 @@ def _verdict(report):
     return Verdict(name, cause=report.cause, place=report.place, text=_text(_library.geolint_cause_text, report.cause))
 
 
+def _limit(name, value, most):
+    """A limit as the library takes it: 0 stands for the widest."""
+    if value is None:
+        return 0
+    if isinstance(value, bool) or not hasattr(value, "__index__"):
+        raise TypeError(f"{name} is a whole number, not {type(value).__name__}")
+    if not 1 <= operator.index(value) <= most:
+        raise ValueError(_ALLOWED)
+    return operator.index(value)
+
+
 def _limits(max_depth, max_bytes):
-    depth, most = 0 if max_depth is None else max_depth, 0 if max_bytes is None else max_bytes
-    if max_depth == 0 or max_bytes == 0 or not (0 <= depth <= 256 and 0 <= most <= 2**60):
-        raise ValueError("a depth is from 1 to 256, and a number of bytes from 1 to 2**60")
-    return depth, most
+    return _limit("max_depth", max_depth, 256), _limit("max_bytes", max_bytes, 2**60)
 
 
-def _passed(data):
-    """What a call is passed for some bytes: an address (of bytes, or of a copy) and the length."""
-    if isinstance(data, str):
-        raise TypeError("bytes are due, not str: open a file in binary mode, or encode the text")
-    if not isinstance(data, bytes):
-        data = bytes(memoryview(data))
-    return data, ctypes.cast(ctypes.c_char_p(data), ctypes.c_void_p), len(data)
+def _refuse(source):
+    """Says what to do with what is neither bytes nor pieces of bytes."""
+    if isinstance(source, str):
+        raise TypeError('bytes are due, not str: of a path give open(path, "rb"), of a text its bytes, text.encode()')
+    if isinstance(source, os.PathLike):
+        raise TypeError('bytes are due, not a path: give open(path, "rb")')
+    raise TypeError(f"bytes are due, not {type(source).__name__}: give bytes, a file opened as \"rb\", or pieces of bytes")
+
+
+def _buffer(source):
+    """A view of the bytes of an object that has a buffer, as bytes, bytearray, mmap; None where it has none."""
+    try:
+        view = memoryview(source)
+    except TypeError:
+        return None
+    try:
+        return view.cast("B")
+    except TypeError:
+        # It has gaps, no bytes, or elements of a kind that cannot be cast.
+        return memoryview(view.tobytes())
+
+
+def _runs(data):
+    """The bytes of an object in runs that a call can be passed: bytes as they are, others as copies of some of them in turn."""
+    if isinstance(data, bytes):
+        yield data
+        return
+    view = _buffer(data)
+    if view is None:
+        _refuse(data)
+    for at in range(0, len(view) or 1, _PIECE):
+        yield bytes(view[at : at + _PIECE])
+
+
+def _address(data):
+    """The address of bytes, which live as long as `data` does."""
+    return ctypes.cast(ctypes.c_char_p(data), ctypes.c_void_p)
 
 
 class Linter:
@@ -194,17 +237,18 @@ class Linter:
 
     def feed(self, data):
         """Takes the next bytes. False says that the text is refused: the host may stop reading."""
-        kept, at, length = _passed(data)
-        status = _library.geolint_feed(self._at, at, length)
-        if status == _ENDED:
-            raise Ended("the linter has ended")
-        return status != _REFUSED
+        for run in _runs(data):
+            status = _library.geolint_feed(self._at, _address(run), len(run))
+            if status == _ENDED:
+                raise Ended("the linter has ended")
+            if status == _REFUSED:
+                return False
+        return True
 
     def write(self, data):
         """Feeds bytes as they are written to a file, and takes all of them, also where the text is refused."""
-        data = data if isinstance(data, bytes) else memoryview(data)
         self.feed(data)
-        return len(data) if isinstance(data, bytes) else data.nbytes
+        return len(data) if isinstance(data, bytes) else memoryview(data).nbytes
 
     def watch(self, pieces):
         """Hands pieces of bytes on, and feeds each before. It reads all of them, also where the text is refused."""
@@ -240,34 +284,32 @@ class Linter:
 
 
 def _pieces(source):
-    """What a file-like object gives."""
-    while True:
-        piece = source.read(_PIECE)
+    """The pieces of bytes of a source: of a buffer its bytes, wherever a mapped file stands; of a file what it reads."""
+    if _buffer(source) is not None:
+        yield source
+    elif isinstance(source, (str, os.PathLike)):
+        _refuse(source)
+    elif hasattr(source, "read"):
+        while piece := source.read(_PIECE):
+            yield piece
         if piece is None:
             raise BlockingIOError("the source has no bytes yet, and does not wait for them")
-        if not piece:
-            return
-        yield piece
-
-
-def _is_bytes(source):
-    try:
-        memoryview(source).release()
-    except TypeError:
-        return isinstance(source, str)
-    return True
+    elif hasattr(source, "__iter__"):
+        yield from source
+    else:
+        _refuse(source)
 
 
 def check(source, max_depth=None, max_bytes=None):
-    """Judges bytes, what a file-like object gives (a file opened as "rb", an upload, a response), or pieces of bytes.
+    """Judges bytes and other buffers (bytearray, memoryview, mmap), what a file-like object gives (a file opened as "rb", an
+    upload, a response), or pieces of bytes.
 
-    A text that is refused is read no further.
+    A file is read from where it stands, a mapped file is judged whole. A text that is refused is read no further.
     """
-    if not hasattr(source, "read") and _is_bytes(source):
-        kept, at, length = _passed(source)
-        return _verdict(_library.geolint_check(at, length, *_limits(max_depth, max_bytes)))
+    if isinstance(source, bytes):
+        return _verdict(_library.geolint_check(_address(source), len(source), *_limits(max_depth, max_bytes)))
     linter = Linter(max_depth, max_bytes)
-    for piece in _pieces(source) if hasattr(source, "read") else source:
+    for piece in _pieces(source):
         if not linter.feed(piece):
             break
     return linter.finish()
