@@ -12,8 +12,10 @@ GEOLINT_C := $(GEOLINT_ROOT)/crates/geolint_c
 PREFIX ?= /usr/local
 LIBDIR ?= $(PREFIX)/lib
 INCLUDEDIR ?= $(PREFIX)/include
-# The folder under PREFIX in which Python looks for modules, where there is one.
-PYTHONDIR ?= $(or $(shell python3 -c 'import site, sys; print(*[it for it in [*site.getsitepackages(), site.getusersitepackages()] if it.startswith(sys.argv[1] + "/lib")][:1])' '$(PREFIX)' 2>/dev/null),$(PREFIX)/lib/python3/dist-packages)
+# The folder of the Python module: where a Python looks that has such a folder under PREFIX, in this order the one in PREFIX/bin, python3
+# and the system's; where none has one, PREFIX/lib/python3/dist-packages, which PYTHONPATH has to name. PYTHON names another Python,
+# and then it is the folder of that one.
+PYTHONDIR ?= $(eval PYTHONDIR := $(shell '$(GEOLINT_ROOT)/contrib/library/python-folder' '$(PREFIX)' $(PYTHON)))$(PYTHONDIR)
 INSTALL ?= install
 
 .PHONY: library install-library uninstall-library
@@ -22,8 +24,8 @@ library: $(LIBRARY_BUILD)/libgeolint.a $(LIBRARY_BUILD)/libgeolint.so
 # Proves the crate and those below it, where they are not proved yet.
 sources := $(shell find $(GEOLINT_C)/src $(wildcard $(GEOLINT_ROOT)/crates/gj_*/src) -name '*.rt')
 $(GEOLINT_C)/out/libgeolint_c.a: $(sources)
-	cd $(GEOLINT_C) && rt lib
-	touch $@
+	@$(GEOLINT_ROOT)/contrib/library/build
+	@touch $@
 
 $(LIBRARY_BUILD)/libgeolint.a: $(GEOLINT_C)/out/libgeolint_c.a
 	mkdir -p $(LIBRARY_BUILD)
@@ -38,8 +40,10 @@ install-library: library
 	$(INSTALL) -m 755 $(LIBRARY_BUILD)/libgeolint.so "$(DESTDIR)$(LIBDIR)/libgeolint.so.0"
 	ln -sf libgeolint.so.0 "$(DESTDIR)$(LIBDIR)/libgeolint.so"
 	$(INSTALL) -m 644 $(GEOLINT_C)/include/geolint.h $(GEOLINT_C)/include/geolint.hpp "$(DESTDIR)$(INCLUDEDIR)"
-	$(INSTALL) -m 644 $(GEOLINT_ROOT)/contrib/library/geolint.py "$(DESTDIR)$(PYTHONDIR)"
+	sed -e 's|^_INSTALLED = ""|_INSTALLED = "$(LIBDIR)/libgeolint.so.0"|' $(GEOLINT_ROOT)/contrib/library/geolint.py > "$(DESTDIR)$(PYTHONDIR)/geolint.py"
+	chmod 644 "$(DESTDIR)$(PYTHONDIR)/geolint.py"
 	sed -e 's|@PREFIX@|$(PREFIX)|; s|@LIBDIR@|$(LIBDIR)|; s|@INCLUDEDIR@|$(INCLUDEDIR)|' $(GEOLINT_ROOT)/contrib/library/geolint.pc.in > "$(DESTDIR)$(LIBDIR)/pkgconfig/geolint.pc"
+	@echo "geolint: the library is in $(DESTDIR)$(LIBDIR), the Python module in $(DESTDIR)$(PYTHONDIR)"
 
 uninstall-library:
 	rm -f "$(DESTDIR)$(LIBDIR)/libgeolint.a" "$(DESTDIR)$(LIBDIR)/libgeolint.so" "$(DESTDIR)$(LIBDIR)/libgeolint.so.0"

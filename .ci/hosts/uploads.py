@@ -87,6 +87,12 @@ def other_requests():
     ]:
         wants(name, sent(request).split()[1:2], [str(status)])
         wants(f"what is stored of {name}", stored(), [POINT] if status == 200 else [])
+    upload.Handler.timeout = 0.5
+    with socket.create_connection(("127.0.0.1", server.server_port), timeout=20) as connection:
+        connection.sendall(post + b"Content-Length: 50\r\n\r\n" + POINT)
+        wants("a client that stops", connection.makefile("rb").readline().split()[1:2], [b"408"])
+    upload.Handler.timeout = upload.WAIT
+    wants("what is stored of it", stored(), [])
 
 
 def the_limit():
