@@ -2,9 +2,6 @@
 
 import dataclasses
 import re
-import sys
-
-sys.set_int_max_str_digits(0)
 
 NUMBER = re.compile(r"(-?)(\d+)(?:\.(\d+))?(?:[eE]([+-]?\d+))?")
 
@@ -33,14 +30,17 @@ class Decimal:
 
 
 def exact(spelling):
-    """The value of a number, or None where it is beyond the profile."""
+    """The value of a number, or None where it is beyond the profile: 30 digits, powers to 400, exponents to 1000 either way."""
     sign, front, fraction, exponent = NUMBER.fullmatch(spelling).groups()
     digits = (front + (fraction or "")).lstrip("0")
     if not digits:
         return Decimal(0, 0)
     significant = digits.rstrip("0")
-    written = int(exponent or "0")
-    power = written - len(fraction or "") + len(digits) - len(significant)
-    if len(significant) > 30 or abs(power) > 400 or abs(written) > 1000:
+    written = (exponent or "0").lstrip("+-").lstrip("0") or "0"
+    if len(significant) > 30 or len(written) > 4 or int(written) > 1000:
+        return None
+    shift = -int(written) if (exponent or "").startswith("-") else int(written)
+    power = shift - len(fraction or "") + len(digits) - len(significant)
+    if abs(power) > 400:
         return None
     return Decimal(int(sign + significant), power)

@@ -26,11 +26,14 @@ def bytes_of(parts):
 
 
 def rows():
-    """The rows of .ci/hosts/rows.json: bytes, the greatest length or None, and the verdict as a rule, a place and warnings."""
+    """The rows of .ci/hosts/rows.json up to 100 kB: bytes, the greatest length or None, and the verdict as a rule, a place and warnings."""
     for row in json.loads((ROOT / ".ci/hosts/rows.json").read_text()):
+        data = bytes_of(row["text"])
+        if len(data) > 100_000:
+            continue
         rule = f"G{row['rule']}" if "rule" in row else f"J{row['cause']}" if "cause" in row else None
         warnings = [(f"W{kind}", count, first) for kind, count, first in row.get("warnings", [])]
-        yield bytes_of(row["text"]), row.get("max_bytes"), (rule, row.get("place"), warnings)
+        yield data, row.get("max_bytes"), (rule, row.get("place"), warnings)
 
 
 def printed(call):
