@@ -1,6 +1,5 @@
 mod PathSearches
 mod ReadVerdicts
-mod WindowReads
 mod RoomWrites
 mod QuickReadings
 mod DecidedSequences

@@ -1,9 +1,5 @@
 -- Lemmas on what a quick reading answers.
-use Rattle.std.proofs.Common.{inl, inr, arith, ◌≡◌, ◌+◌, ◌-◌, ◌^◌, ◌≤◌, ℕ, List, [], ◌++◌, Option, Some, None, refl, ap, sym, ◌∙◌, subst, append-nil, length}
-use Rattle.std.specs.Prelude.{◌⊎◌}
-use Rattle.std.specs.Io.Iter.{u64_saturate}
-use Rattle.std.proofs.Math.Nat.{min-eq_left, min-eq_right}
-use Rattle.std.proofs.lemmas.Bool.{cases_lt}
+use Rattle.std.proofs.Common.{◌≡◌, ℕ, List, ◌++◌, Option, Some, None, refl, ap, sym, ◌∙◌, subst, append-nil}
 use Rattle.std.specs.Io.KnownBytes.{Consumes, IsAtEnd}
 use Rattle.gj_json.specs.Limits.{Allowed}
 use Rattle.gj_json.specs.Refusal.{IsRefusal}
@@ -16,7 +12,7 @@ use Rattle.gj_rules.specs.declared.verdict.Verdict.{Verdict}
 use Rattle.gj_rules.specs.declared.verdict.Verdict.TheVariants.{Valid, Broken, NotJson}
 use Rattle.gj_rules.specs.TextWarnings.{text_warnings}
 use Rattle.gj_rules.specs.Verdict.{valid, IsJudgement, IsValidWith, IsVerdict, NeverValid}
-use Rattle.geolint.specs.Quick.{JudgesQuickly, SaysValid, ShowNoFault, StopsAtOnce, valid_in}
+use Rattle.geolint.specs.Quick.{JudgesQuickly, SaysValid, valid_in}
 
 -- each input has one verdict
 abbrev pub HasOne : Type 0
@@ -77,25 +73,6 @@ refused_never one here limits bytes fault same refused more is =
     let told : Warnings = warnings_of (text_warnings is.0) in
     let e : NotJson fault ≡ Valid told = one limits (bytes ++ more) (NotJson fault) (Valid told) (subst (λ (l : Allowed). IsRefusal l (bytes ++ more) fault) same (refused more)) (is.0, is.1, is.2, refl) in
     cc
-
--- a count of reads, one read later
-pub one_read : (begin here there offset : ℕ) (read : List ℕ) → length read ≡ offset → there ≡ u64_saturate (here + 1) → here ≤ begin + offset → there ≤ begin + (length read + 1)
-one_read begin here there offset read count grown before =
-    elim (cases_lt (here + 1) (2 ^ 64 - 1)) [
-      | inl within ↦
-          let grown_to : there ≡ here + 1 = grown ∙ min-eq_left (omega (arith, within)) in
-          omega (arith, grown_to, before, count)
-      | inr over ↦
-          let stopped : there ≡ 2 ^ 64 - 1 = grown ∙ min-eq_right over in
-          omega (arith, stopped, over, before, count)
-    ]
-
--- the last read gave these bytes, or none
-pub stops : (limits : Allowed) (old new : Option (List ℕ)) (before last : List ℕ) (reads now_read : ℕ) → Consumes old new (before ++ last)
-    → (before ≡ []) ⊎ ShowNoFault limits before → now_read ≤ reads + (length before + 1) → length last ≤ 8192 → StopsAtOnce limits old new reads now_read
-stops limits None new before last reads now_read took clean few short = (before, last, took, tt)
-stops limits (Some all) None before last reads now_read took clean few short = absurd took
-stops limits (Some all) (Some rest) before last reads now_read took clean few short = (before, last, took, (clean, few, short))
 
 -- what is right for each list that the warnings of a valid text stand for
 pub for_some : (P : Option (List Warning) → Type 0) (answer : Option Warnings) (told : Warnings) → answer ≡ Some told

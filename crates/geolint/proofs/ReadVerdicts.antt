@@ -1,6 +1,6 @@
 -- Lemmas on the verdict of what was read.
-use Rattle.std.proofs.Common.{inl, inr, arith, ◌+◌, ◌-◌, ◌<◌, ◌^◌, ◌≡◌, ℕ, List, [], ◌++◌, Some, None, take, ap, sym, ◌∙◌, subst, append-nil}
-use Rattle.std.specs.Prelude.{Option}
+use Rattle.std.proofs.Common.{inl, inr, arith, ◌+◌, ◌-◌, ◌<◌, ◌≤◌, ◌^◌, ◌≡◌, ℕ, List, [], ◌++◌, Some, None, take, length, ap, sym, ◌∙◌, subst, append-nil}
+use Rattle.std.specs.Prelude.{Option, ◌⊎◌}
 use Rattle.std.specs.Io.Iter.{u64_saturate}
 use Rattle.std.proofs.Math.Nat.{min-eq_left, min-eq_right}
 use Rattle.std.proofs.lemmas.Bool.{cases_lt}
@@ -10,7 +10,7 @@ use Rattle.gj_json.specs.Limits.{Allowed}
 use Rattle.gj_json.specs.Refusal.{IsRefusal}
 use Rattle.gj_json.specs.declared.fault.JsonFault.{JsonFault}
 use Rattle.gj_rules.specs.Verdict.{refused, IsJudgement}
-use Rattle.geolint.specs.Judged.{JudgesBy}
+use Rattle.geolint.specs.Judged.{JudgesBy, StopsBy}
 
 -- the reader has come to its end
 pub Judges-end : {V : Type 0} (Is : Allowed → List ℕ → V → Type 0) (limits : Allowed) (old new : Option (List ℕ)) (read : List ℕ) (verdict : V)
@@ -53,3 +53,22 @@ given_more begin here there offset count grown before below =
           let stopped : there ≡ 2 ^ 64 - 1 = grown ∙ min-eq_right over in
           absurd (omega (arith, stopped, below))
     ]
+
+-- a count of reads, one read later
+pub one_read : (begin here there offset : ℕ) (read : List ℕ) → length read ≡ offset → there ≡ u64_saturate (here + 1) → here ≤ begin + offset → there ≤ begin + (length read + 1)
+one_read begin here there offset read count grown before =
+    elim (cases_lt (here + 1) (2 ^ 64 - 1)) [
+      | inl within ↦
+          let grown_to : there ≡ here + 1 = grown ∙ min-eq_left (omega (arith, within)) in
+          omega (arith, grown_to, before, count)
+      | inr over ↦
+          let stopped : there ≡ 2 ^ 64 - 1 = grown ∙ min-eq_right over in
+          omega (arith, stopped, over, before, count)
+    ]
+
+-- the last read gave these bytes, or none
+pub stops : (ShowNone : Allowed → List ℕ → Type 0) (limits : Allowed) (old new : Option (List ℕ)) (before last : List ℕ) (reads now_read : ℕ) → Consumes old new (before ++ last)
+    → (before ≡ []) ⊎ ShowNone limits before → now_read ≤ reads + (length before + 1) → length last ≤ 8192 → StopsBy ShowNone limits old new reads now_read
+stops ShowNone limits None new before last reads now_read took clean few short = (before, last, took, tt)
+stops ShowNone limits (Some all) None before last reads now_read took clean few short = absurd took
+stops ShowNone limits (Some all) (Some rest) before last reads now_read took clean few short = (before, last, took, (clean, few, short))

@@ -7,4 +7,3 @@ pub mod Located
 pub mod Run
 pub mod Quick
 pub mod Sequence
-pub mod Internal

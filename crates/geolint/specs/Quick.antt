@@ -1,5 +1,5 @@
 -- What a run does that asks only whether an input is valid: nothing is said of an input that is not but that it is not.
-use Rattle.std.specs.Prelude.{◌≡◌, ◌⊎◌, ℕ, ◌+◌, ◌≤◌, Bool, List, [], ◌++◌, length, Option, Some, None, IfSome, OnSome, ⊤, Result, Ok, Err}
+use Rattle.std.specs.Prelude.{◌≡◌, ℕ, ◌≤◌, Bool, List, length, Option, Some, None, IfSome, ⊤, Result, Ok, Err}
 use Rattle.std.specs.Io.KnownBytes.{Appends, Consumes, IsAtEnd, Keeps}
 use Rattle.gj_json.specs.Limits.{Allowed}
 use Rattle.gj_json.specs.Text.{IsViableWithin}
@@ -15,6 +15,7 @@ use Rattle.geolint.specs.declared.fault.RunFault.TheVariants.{Read, Write}
 use Rattle.geolint.specs.declared.options.Options.{Options}
 use Rattle.geolint.specs.declared.options.Outcome.{Outcome}
 use Rattle.geolint.specs.declared.options.Outcome.TheVariants.{Fail}
+use Rattle.geolint.specs.Judged.{StopsBy}
 use Rattle.geolint.specs.Report.{valid_report, not_valid_line}
 use Rattle.geolint.specs.Run.{outcome_of}
 use Rattle.geolint.specs.Written.{IsFrontOut}
@@ -46,12 +47,9 @@ JudgesQuickly limits had left None =
 abbrev pub ShowNoFault : Allowed → List ℕ → Type 0
 ShowNoFault limits bytes = IsViableWithin limits.depth bytes × (length bytes ≤ limits.bytes) × (BeginNoGeoJson limits.depth bytes → ⊥)
 
--- No read follows one whose bytes show it: those that came `before` the last read do not. There were no more reads than these
--- bytes are, and one, as a read gives a byte at least. So where each gives one byte, none is made too many.
+-- no read follows one whose bytes show it
 abbrev pub StopsAtOnce : Allowed → (had left : Option (List ℕ)) → (reads now_read : ℕ) → Type 0
-StopsAtOnce limits had left reads now_read =
-    (before : List ℕ) × (last : List ℕ) × Consumes had left (before ++ last)
-    × OnSome had (((before ≡ []) ⊎ ShowNoFault limits before) × (now_read ≤ reads + (length before + 1)) × (length last ≤ 8192))
+StopsAtOnce = StopsBy ShowNoFault
 
 -- ---- the report
 

@@ -19,7 +19,6 @@ mod sink;
 mod source;
 #[cfg(test)]
 mod testing;
-mod window;
 mod words;
 
 use crate::fault::{ProgramFault, RunFault, USAGE, WriteFault};

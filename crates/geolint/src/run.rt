@@ -2,7 +2,7 @@ ghost use Rattle.std.specs.Prelude.{◌≡◌, ℕ, ◌+◌, ◌≤◌, true, fa
 ghost use Rattle.std.specs.Io.KnownBytes.{Appends};
 ghost use Rattle.gj_rules.specs.Verdict.{Judgement, Says};
 ghost use Rattle.geolint.specs.Counts.{one_more};
-ghost use Rattle.geolint.specs.Judged.{JudgesRead};
+ghost use Rattle.geolint.specs.Judged.{JudgesRead, StopsAtRefusal};
 ghost use Rattle.geolint.specs.Quick.{QuickRuns, StopsAtOnce};
 ghost use Rattle.geolint.specs.Report.{report as report_of};
 ghost use Rattle.geolint.specs.Run.{CountsReadFault, CountsWriteFault, CountsOffset, Runs, RunsBy, Seeks, SeeksFor, SparesAtReadFault, ReadFaultOf, WriteFaultOf, outcome_of};
@@ -40,6 +40,8 @@ pub fn run<S: Source, W: Sink>(
         (W.taken writer.old) (W.taken writer.new) result }
     ensures stops { options.quick ≡ true → StopsAtOnce options.limits (S.remaining reader.old) (S.remaining reader.new)
         (S.reads reader.old) (S.reads reader.new) }
+    ensures refused { options.quick ≡ false → StopsAtRefusal options.limits (S.remaining reader.old) (S.remaining reader.new)
+        (S.reads reader.old) (S.reads reader.new) }
 {
     if options.quick {
         return run_quickly(reader, writer, options);
@@ -73,6 +75,8 @@ pub fn run_with_path<S: Source, T: Source, W: Sink>(
         (W.taken writer.old) (W.taken writer.new) result }
     ensures stops { options.quick ≡ true → StopsAtOnce options.limits (S.remaining first.old) (S.remaining first.new)
         (S.reads first.old) (S.reads first.new) }
+    ensures refused { options.quick ≡ false → StopsAtRefusal options.limits (S.remaining first.old) (S.remaining first.new)
+        (S.reads first.old) (S.reads first.new) }
     ensures unread { options.quick ≡ true → second.new ≡ second.old }
 {
     if options.quick {
@@ -86,6 +90,7 @@ pub fn run_with_path<S: Source, T: Source, W: Sink>(
 /// The verdict of what a reader gives.
 fn judge<S: Source>(reader: &mut S, limits: Limits) -> Result<Verdict, RunFault>
     ensures few { S.reads reader.new ≤ S.reads reader.old + (limits.bytes + 1) }
+    ensures refused { StopsAtRefusal limits (S.remaining reader.old) (S.remaining reader.new) (S.reads reader.old) (S.reads reader.new) }
     ensures reads { MatchResult result (λ verdict. S.failed_reads reader.new ≡ S.failed_reads reader.old)
         (λ fault. S.failed_reads reader.new ≡ one_more (S.failed_reads reader.old)) }
     ensures verdict { IfOk result (λ verdict. (judgement : Judgement) × Says verdict judgement

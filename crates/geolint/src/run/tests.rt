@@ -2,6 +2,7 @@
 
 use super::*;
 use crate::fault::{ReadFault, WriteFault};
+use crate::source::PIECE;
 use crate::testing::{ArraySink, Ending, Endless, SliceSource};
 use gj_json::{Cause, JsonFault, Limits, MOST_LEVELS};
 use std::process::Abort;
@@ -444,6 +445,13 @@ fn a_failed_read_ends_a_run_with_no_report(rt: HostRuntime) {
 fn nothing_is_read_behind_a_refusal(rt: HostRuntime) {
     let mut reader = SliceSource::failing_after(b"[1,}", 4);
     gives(&rt, &mut reader, Limits::usual(), "not JSON at 3: syntax\n");
+    // the last byte that a read has room for, after an array that opens among the last 48
+    let mut input = [b' '; PIECE];
+    input[PIECE - 2] = b'[';
+    input[PIECE - 1] = b'}';
+    let mut reader = SliceSource::failing_after_one(&input);
+    let line = "not JSON at 8191: syntax\n";
+    gives(&rt, &mut reader, Limits::usual(), line);
 }
 
 #[test]

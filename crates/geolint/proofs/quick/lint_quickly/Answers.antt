@@ -8,8 +8,8 @@ use Rattle.gj_rules.specs.Verdict.{IsVerdict}
 use Rattle.gj_rules.specs.Verdict.{NeverValid}
 use Rattle.gj_rules.specs.Doomed.{BeginNoGeoJson}
 use Rattle.geolint.specs.Quick.{ShowNoFault}
-use Rattle.geolint.proofs.ReadVerdicts.{Consumes-none, given_more}
-use Rattle.geolint.proofs.QuickReadings.{QuicklySays, quick-end, quick-lasting, refused_never, stops, one_read}
+use Rattle.geolint.proofs.ReadVerdicts.{Consumes-none, given_more, stops, one_read}
+use Rattle.geolint.proofs.QuickReadings.{QuicklySays, quick-end, quick-lasting, refused_never}
 use Rattle.gj_rules.specs.Linter.{StandsFor, limits_of}
 use Rattle.geolint.proofs.quick.lint_quickly.Goals as goal
 
@@ -46,7 +46,7 @@ pub returns-in-Err-clause-stops : goal.returns-in-Err-clause-stops
 returns-in-Err-clause-stops g c =
     let (read, took, count, stands, clean) = c.loop-linter.invariant.read in
     let all = subst (Consumes _ _) (sym (append-nil read)) (Consumes-kept _ _ _ read took c.in-Err.ensures.bytes) in
-    stops _ _ _ read [] _ _ all clean (one_read _ _ _ _ read count c.read_piece.ensures.reads c.loop-linter.invariant.few) (omega arith)
+    stops ShowNoFault _ _ _ read [] _ _ all clean (one_read _ _ _ _ read count c.read_piece.ensures.reads c.loop-linter.invariant.few) (omega arith)
 
 pub returns-in-Ok-eq0-clause-stops : goal.returns-in-Ok-eq0-clause-stops
 returns-in-Ok-eq0-clause-stops g c =
@@ -55,7 +55,7 @@ returns-in-Ok-eq0-clause-stops g c =
     let most : length c.read_piece.new.piece ≡ 8192 = search rules in
     let short = length-take-le c.in-Ok-eq0.field-0 c.read_piece.new.piece c.in-Ok-eq0.ensures.bound.0 in
     let bound = c.in-Ok-eq0.ensures.bound.0 in
-    stops _ _ _ read piece _ _ (Consumes-trans _ _ _ read piece took c.in-Ok-eq0.ensures.bytes.0) clean
+    stops ShowNoFault _ _ _ read piece _ _ (Consumes-trans _ _ _ read piece took c.in-Ok-eq0.ensures.bytes.0) clean
     (one_read _ _ _ _ read count c.read_piece.ensures.reads c.loop-linter.invariant.few) (omega (arith, most, short, bound))
 
 pub returns-in-Refused-clause-stops : goal.returns-in-Refused-clause-stops
@@ -65,7 +65,7 @@ returns-in-Refused-clause-stops g c =
     let most : length c.read_piece.new.piece ≡ 8192 = search rules in
     let short = length-take-le c.in-Ok.count c.read_piece.new.piece c.in-Ok.ensures.bound.0 in
     let bound = c.in-Ok.ensures.bound.0 in
-    stops _ _ _ read piece _ _ (Consumes-trans _ _ _ read piece took c.in-Ok.ensures.bytes.0) clean
+    stops ShowNoFault _ _ _ read piece _ _ (Consumes-trans _ _ _ read piece took c.in-Ok.ensures.bytes.0) clean
     (one_read _ _ _ _ read count c.read_piece.ensures.reads c.loop-linter.invariant.few) (omega (arith, most, short, bound))
 
 pub returns-then-doomed-clause-stops : goal.returns-then-doomed-clause-stops
@@ -75,7 +75,7 @@ returns-then-doomed-clause-stops g c =
     let most : length c.read_piece.new.piece ≡ 8192 = search rules in
     let short = length-take-le c.in-Ok.count c.read_piece.new.piece c.in-Ok.ensures.bound.0 in
     let bound = c.in-Ok.ensures.bound.0 in
-    stops _ _ _ read piece _ _ (Consumes-trans _ _ _ read piece took c.in-Ok.ensures.bytes.0) clean
+    stops ShowNoFault _ _ _ read piece _ _ (Consumes-trans _ _ _ read piece took c.in-Ok.ensures.bytes.0) clean
     (one_read _ _ _ _ read count c.read_piece.ensures.reads c.loop-linter.invariant.few) (omega (arith, most, short, bound))
 
 -- the input is no longer than allowed with the bytes of this read

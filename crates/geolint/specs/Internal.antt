@@ -1,2 +1,0 @@
--- What the proofs and the private functions of this crate need.
-pub mod Window
