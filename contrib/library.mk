@@ -1,4 +1,4 @@
-# The library for C and other languages: builds it, and installs it with its headers and the Python module.
+# The library for C and other languages: builds it, and installs it with its headers, the Python module and the Rust crate.
 #
 #     make library                               # needs rt, the Rattle toolchain
 #     make install-library PREFIX=/usr/local     # needs no rt once it is built; honours DESTDIR
@@ -12,6 +12,8 @@ GEOLINT_C := $(GEOLINT_ROOT)/crates/geolint_c
 PREFIX ?= /usr/local
 LIBDIR ?= $(PREFIX)/lib
 INCLUDEDIR ?= $(PREFIX)/include
+# The Rust crate is a folder of sources, which a host names in its Cargo.toml.
+RUSTDIR ?= $(PREFIX)/share/geolint/rust
 # The folder of the Python module: where a Python looks that has such a folder under PREFIX, in this order the one in PREFIX/bin, python3
 # and the system's; where none has one, PREFIX/lib/python3/dist-packages, which PYTHONPATH has to name. PYTHON names another Python,
 # and then it is the folder of that one.
@@ -34,18 +36,22 @@ $(LIBRARY_BUILD)/libgeolint.a: $(GEOLINT_C)/out/libgeolint_c.a
 $(LIBRARY_BUILD)/libgeolint.so: $(LIBRARY_BUILD)/libgeolint.a
 	$(CC) -shared -Wl,-soname,libgeolint.so.0 -Wl,--whole-archive $< -Wl,--no-whole-archive -o $@
 
+rust := Cargo.toml build.rs src/lib.rs tests/linter.rs
 install-library: library
 	$(INSTALL) -d "$(DESTDIR)$(LIBDIR)/pkgconfig" "$(DESTDIR)$(INCLUDEDIR)" "$(DESTDIR)$(PYTHONDIR)"
 	$(INSTALL) -m 644 $(LIBRARY_BUILD)/libgeolint.a "$(DESTDIR)$(LIBDIR)"
 	$(INSTALL) -m 755 $(LIBRARY_BUILD)/libgeolint.so "$(DESTDIR)$(LIBDIR)/libgeolint.so.0"
 	ln -sf libgeolint.so.0 "$(DESTDIR)$(LIBDIR)/libgeolint.so"
 	$(INSTALL) -m 644 $(GEOLINT_C)/include/geolint.h $(GEOLINT_C)/include/geolint.hpp "$(DESTDIR)$(INCLUDEDIR)"
+	$(INSTALL) -d "$(DESTDIR)$(RUSTDIR)/src" "$(DESTDIR)$(RUSTDIR)/tests"
+	cd $(GEOLINT_ROOT)/contrib/library/rust && for file in $(rust); do $(INSTALL) -m 644 $$file "$(DESTDIR)$(RUSTDIR)/$$file" || exit; done
 	sed -e 's|^_INSTALLED = ""|_INSTALLED = "$(LIBDIR)/libgeolint.so.0"|' $(GEOLINT_ROOT)/contrib/library/geolint.py > "$(DESTDIR)$(PYTHONDIR)/geolint.py"
 	chmod 644 "$(DESTDIR)$(PYTHONDIR)/geolint.py"
 	sed -e 's|@PREFIX@|$(PREFIX)|; s|@LIBDIR@|$(LIBDIR)|; s|@INCLUDEDIR@|$(INCLUDEDIR)|' $(GEOLINT_ROOT)/contrib/library/geolint.pc.in > "$(DESTDIR)$(LIBDIR)/pkgconfig/geolint.pc"
-	@echo "geolint: the library is in $(DESTDIR)$(LIBDIR), the Python module in $(DESTDIR)$(PYTHONDIR)"
+	@echo "geolint: the library is in $(DESTDIR)$(LIBDIR), the Python module in $(DESTDIR)$(PYTHONDIR), the Rust crate in $(DESTDIR)$(RUSTDIR)"
 
 uninstall-library:
 	rm -f "$(DESTDIR)$(LIBDIR)/libgeolint.a" "$(DESTDIR)$(LIBDIR)/libgeolint.so" "$(DESTDIR)$(LIBDIR)/libgeolint.so.0"
 	rm -f "$(DESTDIR)$(LIBDIR)/pkgconfig/geolint.pc" "$(DESTDIR)$(INCLUDEDIR)/geolint.h" "$(DESTDIR)$(INCLUDEDIR)/geolint.hpp"
 	rm -f "$(DESTDIR)$(PYTHONDIR)/geolint.py"
+	for file in $(rust); do rm -f "$(DESTDIR)$(RUSTDIR)/$$file"; done

@@ -1,14 +1,10 @@
-//! Copies standard input to a file while it is judged, and prints the report of `geolint stdin`: Rust with
-//! `contrib/library/geolint.rs`.
+//! Copies standard input to a file while it is judged, and prints the report of `geolint stdin`: Rust with the crate `geolint`.
 //!
-//!     rustc --edition 2021 -O -L native=/usr/local/lib -l static=geolint report.rs
-//!     ./report [COPY]     without a copy, only the report
+//!     cargo new report && cd report && cargo add geolint --path $HOME/.local/share/geolint/rust
+//!     cp ../report.rs src/main.rs && cargo run --release < map.geojson
+//!     target/release/report [COPY]     without a copy, only the report
 //!
 //! The status is the program's: 0 valid, 1 not valid, 2 no verdict.
-#[allow(dead_code)]
-#[path = "../../contrib/library/geolint.rs"]
-mod geolint;
-
 use geolint::{Judging, Limits, Linter, Verdict};
 use std::fs::File;
 use std::io::{self, Write};

@@ -1,8 +1,21 @@
-//! geolint for Rust, over the library for C: put this file into a crate, and link `libgeolint.a` or `libgeolint.so`. It
-//! needs Rust 1.63, and an edition up to 2021.
+//! Is a text GeoJSON (RFC 7946), and otherwise where and why not: geolint for Rust, over the library for C.
 //!
-//! `check` judges a text in memory. A `Linter` judges one that comes in pieces, also as an `io::Write`, so that a download
-//! can be judged while it is stored (`Judging`).
+//! [`check`] judges a text in memory. A [`Linter`] judges one that comes in pieces, also as an [`io::Write`], so that a download
+//! can be judged while it is stored ([`Judging`]).
+//!
+//! ```
+//! use geolint::{check, Limits, Verdict};
+//!
+//! let verdict = check(br#"{"type":"Point","coordinates":[17.1,48.1]}"#, Limits::default())?;
+//! assert_eq!(verdict, Verdict::Valid(vec![]));
+//! let ring = br#"{"type":"Polygon","coordinates":[[[0,0],[1,0],[1,1],[0,0,0]]]}"#;
+//! assert_eq!(check(ring, Limits::default())?.to_string(), "broken G15 at 33: ring not closed");
+//! # Ok::<(), geolint::Refusal>(())
+//! ```
+//!
+//! `build.rs` finds the library: in the folder that the variable `GEOLINT_LIB_DIR` names, otherwise by pkg-config. Places are byte
+//! offsets from 0. It needs Rust 1.63; a crate of any edition may use it.
+#![deny(missing_docs)]
 
 use std::alloc::{Layout, alloc, dealloc};
 use std::error::Error;
@@ -47,27 +60,38 @@ mod c {
         pub size: usize,
     }
 
-    extern "C" {
-        pub fn geolint_check(bytes: *const u8, length: usize, max_depth: u32, max_bytes: u64) -> Report;
-        pub fn geolint_size() -> usize;
-        pub fn geolint_alignment() -> usize;
-        pub fn geolint_begin(linter: *mut c_void, max_depth: u32, max_bytes: u64) -> u32;
-        pub fn geolint_begin_again(linter: *mut c_void, max_depth: u32, max_bytes: u64) -> u32;
-        pub fn geolint_feed(linter: *mut c_void, bytes: *const u8, length: usize) -> u32;
-        pub fn geolint_doomed(linter: *mut c_void) -> u32;
-        pub fn geolint_offset(linter: *mut c_void) -> u64;
-        pub fn geolint_finish(linter: *mut c_void) -> Report;
-        pub fn geolint_rule_text(rule: u32, text: *mut Text);
-        pub fn geolint_cause_text(cause: u32, text: *mut Text);
-        pub fn geolint_warning_text(kind: u32, text: *mut Text);
-        pub fn geolint_version_text(text: *mut Text);
+    /// Declares the calls, after the words for foreign code.
+    macro_rules! declare {
+        ($($words:tt)*) => {
+            $($words)* {
+                pub fn geolint_check(bytes: *const u8, length: usize, max_depth: u32, max_bytes: u64) -> Report;
+                pub fn geolint_size() -> usize;
+                pub fn geolint_alignment() -> usize;
+                pub fn geolint_begin(linter: *mut c_void, max_depth: u32, max_bytes: u64) -> u32;
+                pub fn geolint_begin_again(linter: *mut c_void, max_depth: u32, max_bytes: u64) -> u32;
+                pub fn geolint_feed(linter: *mut c_void, bytes: *const u8, length: usize) -> u32;
+                pub fn geolint_doomed(linter: *mut c_void) -> u32;
+                pub fn geolint_offset(linter: *mut c_void) -> u64;
+                pub fn geolint_finish(linter: *mut c_void) -> Report;
+                pub fn geolint_rule_text(rule: u32, text: *mut Text);
+                pub fn geolint_cause_text(cause: u32, text: *mut Text);
+                pub fn geolint_warning_text(kind: u32, text: *mut Text);
+                pub fn geolint_version_text(text: *mut Text);
+            }
+        };
     }
+    #[cfg(not(geolint_before_rust_1_82))]
+    declare!(unsafe extern "C");
+    #[cfg(geolint_before_rust_1_82)]
+    declare!(extern "C");
 }
 
 /// How deep a text may nest, and how many bytes it may have; 0 stands for the most that can be.
 #[derive(Clone, Copy, Debug, Default, PartialEq, Eq)]
 pub struct Limits {
+    /// How many arrays and objects may be open inside each other, from 1 to 256.
     pub max_depth: u32,
+    /// How many bytes a text may have, from 1 to 2^60.
     pub max_bytes: u64,
 }
 
@@ -76,6 +100,7 @@ pub struct Limits {
 pub enum Refusal {
     /// The depth may be from 1 to 256 and the number of bytes from 1 to 2^60.
     Limits,
+    /// There is no memory for a linter.
     Memory,
 }
 
@@ -105,6 +130,7 @@ impl From<Refusal> for io::Error {
 pub struct Warning {
     /// The number in the kind's name, 1 to 9.
     pub kind: u32,
+    /// How many there are; it stays at 4294967295.
     pub count: u64,
     /// The place of the first, as a byte offset.
     pub first: u64,
@@ -116,12 +142,23 @@ pub enum Verdict {
     /// A GeoJSON text, and of each kind of warning that there is how many.
     Valid(Vec<Warning>),
     /// A JSON text that breaks the rule of this number, 1 to 21.
-    Broken { rule: u32, place: u64 },
+    Broken {
+        /// The number in the rule's name.
+        rule: u32,
+        /// The byte offset of what breaks it.
+        place: u64,
+    },
     /// No JSON text within the limits, by the cause of this number, 1 to 4.
-    NotJson { cause: u32, place: u64 },
+    NotJson {
+        /// 1 syntax, 2 truncated, 3 too deep, 4 too long.
+        cause: u32,
+        /// The byte offset at which no text goes on.
+        place: u64,
+    },
 }
 
 impl Verdict {
+    /// Whether it is a GeoJSON text, perhaps with warnings.
     pub fn is_valid(&self) -> bool {
         matches!(self, Verdict::Valid(_))
     }
@@ -167,7 +204,11 @@ fn verdict_of(report: &c::Report) -> Option<Verdict> {
     }
 }
 
-/// Judges a text in memory.
+/// Judges a text in memory. As measured it needs 208 KiB of stack; on a smaller one, and for many small texts, take a [`Linter`].
+///
+/// # Errors
+///
+/// [`Refusal::Limits`] where the limits are not allowed.
 pub fn check(text: &[u8], limits: Limits) -> Result<Verdict, Refusal> {
     // A slice's pointer is never null.
     let report = unsafe { c::geolint_check(text.as_ptr(), text.len(), limits.max_depth, limits.max_bytes) };
@@ -175,6 +216,27 @@ pub fn check(text: &[u8], limits: Limits) -> Result<Verdict, Refusal> {
 }
 
 /// Judges a text that comes in pieces.
+///
+/// ```
+/// use geolint::{Limits, Linter, Progress};
+///
+/// let mut linter = Linter::new(Limits::default())?;
+/// assert_eq!(linter.feed(br#"{"type":"Point","#), Progress::Open);
+/// assert_eq!(linter.feed(br#""coordinates":[1,2]}"#), Progress::Open);
+/// assert!(linter.finish().is_valid());
+/// # Ok::<(), geolint::Refusal>(())
+/// ```
+///
+/// As a writer it takes what `io::copy` reads:
+///
+/// ```
+/// # fn main() -> std::io::Result<()> {
+/// let mut linter = geolint::Linter::new(geolint::Limits::default())?;
+/// std::io::copy(&mut &b"[1 2]"[..], &mut linter)?;
+/// assert_eq!(linter.finish().to_string(), "not JSON at 3: syntax");
+/// # Ok(())
+/// # }
+/// ```
 pub struct Linter {
     memory: NonNull<u8>,
     layout: Layout,
@@ -185,6 +247,11 @@ pub struct Linter {
 unsafe impl Send for Linter {}
 
 impl Linter {
+    /// Takes the memory of a linter, once, and begins it before the first byte of a text.
+    ///
+    /// # Errors
+    ///
+    /// [`Refusal::Limits`] where the limits are not allowed, [`Refusal::Memory`] where there is no memory.
     pub fn new(limits: Limits) -> Result<Linter, Refusal> {
         let (size, alignment) = unsafe { (c::geolint_size(), c::geolint_alignment()) };
         let layout = Layout::from_size_align(size, alignment).map_err(|_| Refusal::Memory)?;
@@ -201,7 +268,10 @@ impl Linter {
     }
 
     /// The verdict of all that was fed. Then the linter begins again in the same memory, which costs less than another one.
-    /// Under limits that are not allowed nothing changes.
+    ///
+    /// # Errors
+    ///
+    /// [`Refusal::Limits`] where the limits are not allowed; then nothing changes.
     pub fn finish_and_begin(&mut self, limits: Limits) -> Result<Verdict, Refusal> {
         if limits.max_depth > 256 || limits.max_bytes > 1 << 60 {
             return Err(Refusal::Limits);
@@ -211,7 +281,7 @@ impl Linter {
         Ok(verdict_of(&report).expect("a linter is finished once"))
     }
 
-    /// Takes the next bytes.
+    /// Takes the next bytes. Once it says that they are refused, the verdict is settled, and a host may stop reading.
     pub fn feed(&mut self, piece: &[u8]) -> Progress {
         match unsafe { c::geolint_feed(self.at(), piece.as_ptr(), piece.len()) } {
             c::REFUSED => Progress::Refused,
@@ -255,8 +325,22 @@ impl io::Write for Linter {
 }
 
 /// Stores what is written, and judges what was stored.
+///
+/// ```
+/// use geolint::{Judging, Limits, Linter};
+///
+/// # fn main() -> std::io::Result<()> {
+/// let mut judging = Judging { linter: Linter::new(Limits::default())?, store: Vec::new() };
+/// std::io::copy(&mut &br#"{"type":"Point","coordinates":[1,2]}"#[..], &mut judging)?;
+/// assert!(judging.linter.finish().is_valid());
+/// assert_eq!(judging.store.len(), 36);
+/// # Ok(())
+/// # }
+/// ```
 pub struct Judging<W> {
+    /// Judges what was stored.
     pub linter: Linter,
+    /// Where it is stored.
     pub store: W,
 }
 

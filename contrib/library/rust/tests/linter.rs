@@ -1,7 +1,4 @@
-//! What `contrib/library/geolint.rs` offers beyond the example.
-#[path = "../../contrib/library/geolint.rs"]
-mod geolint;
-
+//! What the crate offers beyond the examples in its documents.
 use geolint::{Judging, Limits, Linter, Progress, Refusal, Verdict, Warning};
 use std::error::Error;
 use std::io::{self, Write};
@@ -17,6 +14,7 @@ fn most(max_depth: u32, max_bytes: u64) -> Limits {
 
 fn goes_to_another_thread<T: Send + 'static>(_: &T) {}
 
+#[test]
 fn one_call() -> Result<(), Box<dyn Error>> {
     assert_eq!(geolint::check(POINT, Limits::default())?, Verdict::Valid(vec![]));
     assert_eq!(geolint::check(RING, Limits::default())?, OPEN_RING);
@@ -35,6 +33,7 @@ fn one_call() -> Result<(), Box<dyn Error>> {
     Ok(())
 }
 
+#[test]
 fn pieces() -> Result<(), Box<dyn Error>> {
     assert!(matches!(Linter::new(most(0, u64::MAX)), Err(Refusal::Limits)));
     let mut linter = Linter::new(Limits::default())?;
@@ -75,6 +74,7 @@ impl Write for Small {
 }
 
 /// What is judged is what was stored, also where the store takes a part or fails.
+#[test]
 fn stored() -> Result<(), Box<dyn Error>> {
     let judging = |room| -> Result<_, Refusal> {
         let store = Small { room, stored: vec![] };
@@ -91,6 +91,7 @@ fn stored() -> Result<(), Box<dyn Error>> {
 }
 
 /// Linters that were begun here, fed there and finished here.
+#[test]
 fn threads() -> Result<(), Box<dyn Error>> {
     let feed = |text: &'static [u8]| -> Result<_, Refusal> {
         let mut linter = Linter::new(Limits::default())?;
@@ -105,11 +106,4 @@ fn threads() -> Result<(), Box<dyn Error>> {
     assert_eq!(point.join().map_err(|_| "a thread")?.finish(), Verdict::Valid(vec![]));
     assert_eq!(ring.join().map_err(|_| "a thread")?.finish(), OPEN_RING);
     Ok(())
-}
-
-fn main() -> Result<(), Box<dyn Error>> {
-    one_call()?;
-    pieces()?;
-    stored()?;
-    threads()
 }
