@@ -37,6 +37,7 @@ $(LIBRARY_BUILD)/libgeolint.so: $(LIBRARY_BUILD)/libgeolint.a
 	$(CC) -shared -Wl,-soname,libgeolint.so.0 -Wl,--whole-archive $< -Wl,--no-whole-archive -o $@
 
 rust := Cargo.toml build.rs src/lib.rs tests/linter.rs
+imports = (cd / && $(1) -B -c 'import geolint') 2>/dev/null
 install-library: library
 	$(INSTALL) -d "$(DESTDIR)$(LIBDIR)/pkgconfig" "$(DESTDIR)$(INCLUDEDIR)" "$(DESTDIR)$(PYTHONDIR)"
 	$(INSTALL) -m 644 $(LIBRARY_BUILD)/libgeolint.a "$(DESTDIR)$(LIBDIR)"
@@ -49,6 +50,8 @@ install-library: library
 	chmod 644 "$(DESTDIR)$(PYTHONDIR)/geolint.py"
 	sed -e 's|@PREFIX@|$(PREFIX)|; s|@LIBDIR@|$(LIBDIR)|; s|@INCLUDEDIR@|$(INCLUDEDIR)|' $(GEOLINT_ROOT)/contrib/library/geolint.pc.in > "$(DESTDIR)$(LIBDIR)/pkgconfig/geolint.pc"
 	@echo "geolint: the library is in $(DESTDIR)$(LIBDIR), the Python module in $(DESTDIR)$(PYTHONDIR), the Rust crate in $(DESTDIR)$(RUSTDIR)"
+	@[ "$(DESTDIR)" ] || $(call imports,$(or $(PYTHON),"$(PREFIX)/bin/python3")) || $(call imports,python3) || \
+		echo "geolint: python3 does not look for modules there: PYTHONPATH=$(PYTHONDIR) names the folder, or PYTHON=python3 takes one of its own"
 
 uninstall-library:
 	rm -f "$(DESTDIR)$(LIBDIR)/libgeolint.a" "$(DESTDIR)$(LIBDIR)/libgeolint.so" "$(DESTDIR)$(LIBDIR)/libgeolint.so.0"
