@@ -10,4 +10,6 @@ mod json;
 #[cfg(test)]
 mod number;
 #[cfg(test)]
+mod places;
+#[cfg(test)]
 mod rules;
