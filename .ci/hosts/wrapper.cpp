@@ -6,6 +6,10 @@
 #include <type_traits>
 #include <utility>
 #include <vector>
+#if __cplusplus >= 202002L
+#include <span>
+#include <string_view>
+#endif
 
 static int failed = 0;
 
@@ -71,6 +75,18 @@ static void kept_references() {
     static_assert(!std::is_reference<decltype(std::declval<const geolint::Verdict>().report())>::value, "a value");
 }
 
+/* Views of bytes, where the standard has them. */
+static void views() {
+#if __cplusplus >= 202002L
+    wants(geolint::check(std::string_view(POINT)).valid() && geolint::check(std::string_view()).not_json(), "a view of characters");
+    const std::span<const char> whole(RING);
+    wants(is_open_ring(geolint::check(whole)) && is_open_ring(geolint::check(std::as_bytes(whole))), "a span");
+    geolint::Linter linter;
+    wants(linter.feed(whole.first(10)) && linter.feed(std::as_bytes(whole.subspan(10))) && is_open_ring(linter.finish()), "spans in turn");
+    wants(geolint::check(std::span<const unsigned short>()).cause() == GEOLINT_TRUNCATED, "an empty span");
+#endif
+}
+
 static void pieces() {
     geolint::Linter linter;
     wants(bool(linter) && linter.feed(POINT) && linter.offset() == POINT.size(), "a piece");
@@ -133,6 +149,7 @@ static void exceptions() {
 int main() {
     one_call();
     kept_references();
+    views();
     pieces();
     moves();
     threads();

@@ -62,7 +62,7 @@ inline Verdict check(const void *bytes, std::size_t length, Limits limits = Limi
     return Verdict(geolint_check(geolint_bytes(bytes), length, limits.max_depth, limits.max_bytes));
 }
 
-/* Judges any container of bytes that has data() and size(), as std::string or std::vector<char>. */
+/* Judges any container of bytes that has data() and size(), as std::string, std::vector<char>, std::string_view or std::span. */
 template <class Bytes, class = decltype(std::declval<const Bytes &>().data())>
 Verdict check(const Bytes &bytes, Limits limits = Limits()) noexcept {
     return check(bytes.data(), bytes.size() * sizeof(*bytes.data()), limits);
