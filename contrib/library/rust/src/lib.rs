@@ -162,6 +162,54 @@ impl Verdict {
     pub fn is_valid(&self) -> bool {
         matches!(self, Verdict::Valid(_))
     }
+
+    /// The warnings of a valid text, and any other verdict as an error.
+    ///
+    /// ```
+    /// use geolint::{check, Limits};
+    /// use std::error::Error;
+    ///
+    /// fn warnings(text: &[u8]) -> Result<usize, Box<dyn Error>> {
+    ///     Ok(check(text, Limits::default())?.into_result()?.len())
+    /// }
+    /// assert_eq!(warnings(b"{\"type\":\"Point\",\"coordinates\":[1,2]}").unwrap(), 0);
+    /// assert_eq!(warnings(b"[1,]").unwrap_err().to_string(), "not JSON at 3: syntax");
+    /// ```
+    ///
+    /// # Errors
+    ///
+    /// [`Invalid`] where the text is not valid.
+    pub fn into_result(self) -> Result<Vec<Warning>, Invalid> {
+        match self {
+            Verdict::Valid(warnings) => Ok(warnings),
+            verdict => Err(Invalid(verdict)),
+        }
+    }
+}
+
+/// A text that is not valid, as an error: its verdict.
+#[derive(Clone, Debug, PartialEq, Eq)]
+pub struct Invalid(Verdict);
+
+impl Invalid {
+    /// Which rule is broken, or why it is no JSON text, and where.
+    pub fn verdict(&self) -> &Verdict {
+        &self.0
+    }
+}
+
+impl fmt::Display for Invalid {
+    fn fmt(&self, f: &mut fmt::Formatter<'_>) -> fmt::Result {
+        self.0.fmt(f)
+    }
+}
+
+impl Error for Invalid {}
+
+impl From<Invalid> for io::Error {
+    fn from(invalid: Invalid) -> io::Error {
+        io::Error::new(io::ErrorKind::InvalidData, invalid)
+    }
 }
 
 /// The lines of the program's report.

@@ -29,6 +29,10 @@ fn one_call() -> Result<(), Box<dyn Error>> {
     assert_eq!(OPEN_RING.to_string(), "broken G15 at 33: ring not closed");
     assert_eq!(io::Error::from(Refusal::Limits).kind(), io::ErrorKind::InvalidInput);
     assert_eq!((geolint::rule_text(22), geolint::cause_text(0), geolint::warning_text(10)), ("", "", ""));
+    let invalid = OPEN_RING.into_result().unwrap_err();
+    assert_eq!((invalid.verdict(), invalid.to_string()), (&OPEN_RING, OPEN_RING.to_string()));
+    assert_eq!(io::Error::from(invalid).kind(), io::ErrorKind::InvalidData);
+    assert_eq!(verdict.into_result(), Ok(vec![Warning { kind: 1, count: 1, first: 0 }]));
     assert_eq!(geolint::version().split('.').count(), 3);
     Ok(())
 }
