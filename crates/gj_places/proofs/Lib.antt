@@ -1,2 +1,3 @@
 mod CountedBytes
+mod CountedPieces
 mod KeptLines

@@ -1,0 +1,76 @@
+-- Lines and characters of bytes behind others.
+use Rattle.std.proofs.Common.{arith, ◌≡◌, ◌<◌, ◌≤◌, ◌∙◌, ℕ, suc, ◌+◌, ◌-◌, ◌++◌, ◌∷◌, [], List, ap, sym, refl, length, take, drop, get_or, append_assoc, length-drop}
+use Rattle.std.proofs.lemmas.List.{take_more, take_all, get_or-drop, take-append-drop}
+use Rattle.std.specs.Prelude.{Bool, true, false, ◌||◌, if◌then◌else◌}
+use Rattle.gj_places.specs.Lines.{is_line_feed, begins_character, line_feeds, characters, has_line_feed, last_line, line_of, column_of}
+use Rattle.gj_places.proofs.CountedBytes.{counted, line_feeds-more, characters-more, column_of-feed}
+use Rattle.gj_places.proofs.KeptLines.{last_line-longer}
+
+line_feeds-append : (xs ys : List ℕ) → line_feeds (xs ++ ys) ≡ line_feeds xs + line_feeds ys
+line_feeds-append [] ys = omega arith
+line_feeds-append (x ∷ xs) ys = let rest = line_feeds-append xs ys in omega (arith, rest)
+
+characters-append : (xs ys : List ℕ) → characters (xs ++ ys) ≡ characters xs + characters ys
+characters-append [] ys = omega arith
+characters-append (x ∷ xs) ys = let rest = characters-append xs ys in omega (arith, rest)
+
+pub line_feeds-take : (xs : List ℕ) (i : ℕ) → i < length xs → line_feeds (take (i + 1) xs) ≡ line_feeds (take i xs) + (if is_line_feed (get_or xs i 0) then 1 else 0)
+line_feeds-take xs i within = ap line_feeds (take_more xs i 0 within) ∙ line_feeds-more (take i xs) (get_or xs i 0)
+
+pub characters-take : (xs : List ℕ) (i : ℕ) → i < length xs → characters (take (i + 1) xs) ≡ characters (take i xs) + (if begins_character (get_or xs i 0) then 1 else 0)
+characters-take xs i within = ap characters (take_more xs i 0 within) ∙ characters-more (take i xs) (get_or xs i 0)
+
+neither : (a b : Bool) → (a || b) ≡ false → (a ≡ false) × (b ≡ false)
+neither true b e = absurd (cc)
+neither false b e = (refl, e)
+
+none_ends : (xs : List ℕ) → has_line_feed xs ≡ false → line_feeds xs ≡ 0
+none_ends [] none = refl
+none_ends (x ∷ xs) none = let both = neither (is_line_feed x) (has_line_feed xs) none in
+    let here = ap (λ (b : Bool). counted b) both.0 in
+    omega (arith, here, none_ends xs both.1)
+
+-- bytes without LF
+pub line_of-on : (bytes rest : List ℕ) → has_line_feed rest ≡ false → line_of (bytes ++ rest) ≡ line_of bytes
+line_of-on bytes rest none = omega (arith, line_feeds-append bytes rest, none_ends rest none)
+
+pub column_of-on : (bytes rest : List ℕ) → has_line_feed rest ≡ false → column_of (bytes ++ rest) ≡ column_of bytes + characters rest
+column_of-on bytes rest none =
+    let same = ap (λ (line : List ℕ). characters line + 1) (last_line-longer bytes rest none) in
+    omega (arith, same, characters-append (last_line bytes) rest)
+
+-- bytes and an LF
+pub line_of-end : (bytes lines : List ℕ) (byte : ℕ) → is_line_feed byte ≡ true → line_of (bytes ++ (lines ++ byte ∷ [])) ≡ line_of bytes + line_feeds lines + 1
+line_of-end bytes lines byte is =
+    let one = ap counted is in
+    omega (arith, line_feeds-append bytes (lines ++ byte ∷ []), line_feeds-more lines byte, one)
+
+pub column_of-end : (bytes lines : List ℕ) (byte : ℕ) → is_line_feed byte ≡ true → column_of (bytes ++ (lines ++ byte ∷ [])) ≡ 1
+column_of-end bytes lines byte is = ap column_of (sym (append_assoc bytes lines (byte ∷ []))) ∙ column_of-feed (bytes ++ lines) byte is
+
+-- bytes of which none is LF have none
+pub none-has : (xs : List ℕ) → ((k : ℕ) → k < length xs → is_line_feed (get_or xs k 0) ≡ false) → has_line_feed xs ≡ false
+none-has [] none = refl
+none-has (x ∷ xs) none =
+    let here : is_line_feed x ≡ false = none 0 (omega arith) in
+    let more : (k : ℕ) → k < length xs → is_line_feed (get_or xs k 0) ≡ false = λ k within. (let next : is_line_feed (get_or (x ∷ xs) (suc k) 0) ≡ false = none (suc k) (omega arith) in next) in
+    rw here (none-has xs more)
+
+not_true : (b : Bool) → (b ≡ true → ⊥) → b ≡ false
+not_true true never = absurd (never refl)
+not_true false never = refl
+
+-- the bytes from one on, where no LF is after it
+pub rest_has : (xs : List ℕ) (from : ℕ) → ((k : ℕ) → from ≤ k → k < length xs → is_line_feed (get_or xs k 0) ≡ true → ⊥) → has_line_feed (drop from xs) ≡ false
+rest_has xs from none = none-has (drop from xs) (λ k within.
+    let at : get_or (drop from xs) k 0 ≡ get_or xs (from + k) 0 = get_or-drop from xs k 0 in
+    rw at (not_true (is_line_feed (get_or xs (from + k) 0)) (none (from + k) (omega arith) (omega (arith, within, length-drop from xs)))))
+
+pub all_rest : (xs : List ℕ) (from : ℕ) → take (length xs - from) (drop from xs) ≡ drop from xs
+all_rest xs from = take_all (length xs - from) (drop from xs) (omega (arith, length-drop from xs))
+
+-- the lines and what comes after the last LF
+pub parted : (xs : List ℕ) (last byte : ℕ) → last < length xs → get_or xs last 0 ≡ byte → (take last xs ++ byte ∷ []) ++ drop (last + 1) xs ≡ xs
+parted xs last byte within is =
+    let front : take last xs ++ byte ∷ [] ≡ take (last + 1) xs = ap (λ b. take last xs ++ b ∷ []) (sym is) ∙ sym (take_more xs last 0 within) in
+    ap (λ ys. ys ++ drop (last + 1) xs) front ∙ take-append-drop (last + 1) xs
