@@ -1,34 +1,84 @@
 -- Lemmas on a sequence that a byte has decided.
-use Rattle.std.proofs.Common.{◌≡◌, ℕ, List, [], ◌++◌, subst, append-nil}
-use Rattle.std.specs.Prelude.{Option}
+use Rattle.std.proofs.Common.{◌≡◌, ℕ, Bool, true, false, List, [], ◌++◌, ap, sym, ◌∙◌, subst, append-nil}
+use Rattle.std.specs.Prelude.{Option, ◌↔◌}
 use Rattle.std.specs.Io.KnownBytes.{Consumes}
 use Rattle.gj_json.specs.Limits.{Allowed}
+use Rattle.gj_json.specs.declared.fault.Cause.TheVariants.{Syntax}
 use Rattle.gj_coords.specs.Warnings.{Warning}
 use Rattle.gj_coords.specs.WarningsStand.{StandsFor as WarningsStandFor}
 use Rattle.gj_coords.specs.declared.warnings.Warnings.{Warnings}
 use Rattle.gj_rules.specs.declared.sequence.verdict.SeqVerdict.{SeqVerdict}
-use Rattle.gj_rules.specs.Sequence.{IsSequenceVerdict, SequenceJudgement, all_valid, failing, SequenceSays}
-use Rattle.gj_rules.specs.SequenceStands.{IsSettled}
+use Rattle.gj_rules.specs.declared.verdict.Verdict.{Verdict}
+use Rattle.gj_rules.specs.declared.verdict.Verdict.TheVariants.{Valid, Broken, NotJson}
+use Rattle.gj_rules.specs.Sequence.{SequenceRecord, records_of, is_stray, not_json, is_valid, IsJudgedBy, IsSequenceVerdict, SequenceJudgement, all_valid, failing, SequenceSays}
+use Rattle.gj_rules.specs.SequenceJudgement.{IsSequenceJudgement}
+use Rattle.gj_rules.specs.SequenceStands.{is_valid_sequence, IsSettled}
+use Rattle.gj_rules.specs.Verdict.{Judgement, valid, broken, refused, Says}
 use Rattle.geolint.specs.Sequence.{JudgesSequence}
 use Rattle.geolint.proofs.ReadVerdicts.{Judges-lasting}
 
--- each sequence has one verdict
+-- each sequence has one verdict, which says what it is
 abbrev pub HasOneVerdict : Type 0
 HasOneVerdict = (limits : Allowed) (bytes : List ℕ) (first second : SeqVerdict) → IsSequenceVerdict limits bytes first → IsSequenceVerdict limits bytes second → first ≡ second
 
+abbrev pub Saying : Allowed → List ℕ → SeqVerdict → Type 0
+Saying limits bytes verdict = (judgement : SequenceJudgement) × IsSequenceJudgement limits bytes judgement × SequenceSays verdict judgement
+
+abbrev pub IsSaid : Type 0
+IsSaid = (limits : Allowed) (bytes : List ℕ) (verdict : SeqVerdict) → IsSequenceVerdict limits bytes verdict ↔ Saying limits bytes verdict
+
 -- the verdict of what was read is that of every sequence that begins so
 settled_lasts : HasOneVerdict → (limits : Allowed) (read : List ℕ) (place : ℕ) (settled verdict : SeqVerdict)
-    → IsSettled limits read place settled → IsSequenceVerdict limits read verdict → (more : List ℕ) → IsSequenceVerdict limits (read ++ more) verdict
-settled_lasts one limits read place settled verdict h is more =
+    → IsSettled limits read place settled → IsSequenceVerdict limits read verdict → (settled ≡ verdict) × ((more : List ℕ) → IsSequenceVerdict limits (read ++ more) verdict)
+settled_lasts one limits read place settled verdict h is =
     let here : IsSequenceVerdict limits read settled = subst (λ (bytes : List ℕ). IsSequenceVerdict limits bytes settled) (append-nil read) (h.lasting []) in
-    subst (λ (v : SeqVerdict). IsSequenceVerdict limits (read ++ more) v) (one limits read settled verdict here is) (h.lasting more)
+    let same = one limits read settled verdict here is in
+    (same, λ more. subst (λ (v : SeqVerdict). IsSequenceVerdict limits (read ++ more) v) same (h.lasting more))
 
-pub Judges-settled : HasOneVerdict → (here limits : Allowed) (old new : Option (List ℕ)) (read : List ℕ) (verdict : SeqVerdict)
+-- ---- a verdict that is not valid says one thing alone
+
+broken_alike : (verdict : Verdict) (first second : Judgement) → is_valid verdict ≡ false → Says verdict first → Says verdict second → first ≡ second
+broken_alike (Valid told) first second fails h k = cc
+broken_alike (Broken told) (broken one) (broken other) fails h k = ap broken (sym h ∙ k)
+broken_alike (NotJson told) (refused one) (refused other) fails h k = ap refused (sym h ∙ k)
+broken_alike (Broken told) (valid warnings) second fails h k = elim h [ ]
+broken_alike (Broken told) (refused one) second fails h k = elim h [ ]
+broken_alike (Broken told) (broken one) (valid warnings) fails h k = elim k [ ]
+broken_alike (Broken told) (broken one) (refused other) fails h k = elim k [ ]
+broken_alike (NotJson told) (valid warnings) second fails h k = elim h [ ]
+broken_alike (NotJson told) (broken one) second fails h k = elim h [ ]
+broken_alike (NotJson told) (refused one) (valid warnings) fails h k = elim k [ ]
+broken_alike (NotJson told) (refused one) (broken other) fails h k = elim k [ ]
+
+record_fails : (stray : Bool) (levels : ℕ) (records : List SequenceRecord) (number : ℕ) (verdict : Verdict) → IsJudgedBy stray levels records (SeqVerdict.Record number verdict) → is_valid verdict ≡ false
+record_fails true levels records number verdict h = let same : verdict ≡ not_json 0 Syntax = cc in ap is_valid same
+record_fails false levels records number verdict h = h.fails
+
+failing_alike : (limits : Allowed) (bytes : List ℕ) (verdict : SeqVerdict) (first second : SequenceJudgement) → IsSequenceVerdict limits bytes verdict → is_valid_sequence verdict ≡ false
+    → SequenceSays verdict first → SequenceSays verdict second → first ≡ second
+failing_alike limits bytes (SeqVerdict.Valid count told) first second is fails h k = cc
+failing_alike limits bytes (SeqVerdict.Record number verdict) (failing one judgement) (failing other too) is fails h k =
+    ap (λ (n : ℕ). failing n judgement) (sym h.0 ∙ k.0)
+    ∙ ap (failing other) (broken_alike verdict judgement too (record_fails (is_stray bytes) limits.depth (records_of limits bytes) number verdict is) h.1 k.1)
+failing_alike limits bytes (SeqVerdict.Record number verdict) (all_valid count warnings) second is fails h k = elim h [ ]
+failing_alike limits bytes (SeqVerdict.Record number verdict) (failing one judgement) (all_valid count warnings) is fails h k = elim k [ ]
+
+-- ---- what was read says what the sequence is
+
+abbrev pub SaysSequence : Allowed → Option (List ℕ) → Option (List ℕ) → SeqVerdict → Type 0
+SaysSequence limits old new verdict = (judgement : SequenceJudgement) × SequenceSays verdict judgement × JudgesSequence limits old new judgement
+
+pub Judges-settled : HasOneVerdict → IsSaid → (here limits : Allowed) (old new : Option (List ℕ)) (read : List ℕ) (verdict : SeqVerdict)
     → Consumes old new read → here ≡ limits → (place : ℕ) × (settled : SeqVerdict) × IsSettled here read place settled
-    → IsSequenceVerdict here read verdict → JudgesSequence limits old new verdict
-Judges-settled one here limits old new read verdict took same (place, settled, h) is =
-    subst (λ (l : Allowed). JudgesSequence l old new verdict) same
-    (Judges-lasting IsSequenceVerdict here old new read verdict took (settled_lasts one here read place settled verdict h is))
+    → IsSequenceVerdict here read verdict → SaysSequence limits old new verdict
+Judges-settled one said here limits old new read verdict took same (place, settled, h) is =
+    let (alike, lasts) = settled_lasts one here read place settled verdict h is in
+    let fails = ap is_valid_sequence (sym alike) ∙ h.fails in
+    let (judgement, is_it, says) = (said here read verdict).0 is in
+    let all : (more : List ℕ) → IsSequenceJudgement here (read ++ more) judgement = (λ more.
+    let (other, is_other, says_other) = (said here (read ++ more) verdict).0 (lasts more) in
+    subst (IsSequenceJudgement here (read ++ more)) (failing_alike here (read ++ more) verdict other judgement (lasts more) fails says_other says) is_other) in
+    subst (λ (l : Allowed). SaysSequence l old new verdict) same (judgement, says, Judges-lasting IsSequenceJudgement here old new read judgement took all)
 
 -- what is right for each list that the warnings of a valid sequence stand for
 pub for_all_valid : (P : SequenceJudgement → Type 0) (verdict : SeqVerdict) (count : ℕ) (told : Warnings) → verdict ≡ SeqVerdict.Valid count told

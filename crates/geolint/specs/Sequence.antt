@@ -3,24 +3,28 @@ use Rattle.std.specs.Prelude.{◌≡◌, ℕ, Bool, List, ◌++◌, length, Opti
 use Rattle.std.specs.Fmt.{decimal}
 use Rattle.std.specs.Io.KnownBytes.{Appends, Consumes, Keeps}
 use Rattle.gj_json.specs.Limits.{Allowed}
-use Rattle.gj_rules.specs.declared.sequence.verdict.SeqVerdict.{SeqVerdict}
-use Rattle.gj_rules.specs.Sequence.{IsSequenceVerdict, SequenceJudgement, all_valid, failing, SequenceSays}
+use Rattle.gj_rules.specs.Sequence.{SequenceJudgement, all_valid, failing, IsUndecided}
+use Rattle.gj_rules.specs.SequenceJudgement.{IsSequenceJudgement}
 use Rattle.gj_rules.specs.Verdict.{valid}
 use Rattle.geolint.specs.declared.fault.RunFault.{RunFault}
 use Rattle.geolint.specs.declared.fault.RunFault.TheVariants.{Read, Write}
 use Rattle.geolint.specs.declared.options.Options.{Options}
 use Rattle.geolint.specs.declared.options.Outcome.{Outcome}
 use Rattle.geolint.specs.declared.options.Outcome.TheVariants.{Fail}
-use Rattle.geolint.specs.Judged.{JudgesBy}
+use Rattle.geolint.specs.Judged.{JudgesBy, StopsBy}
 use Rattle.geolint.specs.Report.{report, warning_lines}
 use Rattle.geolint.specs.Run.{outcome_of}
 use Rattle.geolint.specs.Written.{IsFrontOut}
 
 -- ---- the reading
 
--- what was read of a sequence has this verdict, as have all the bytes of the reader
-abbrev pub JudgesSequence : Allowed → Option (List ℕ) → Option (List ℕ) → SeqVerdict → Type 0
-JudgesSequence = JudgesBy IsSequenceVerdict
+-- what was read of a sequence is this, as are all the bytes of the reader
+abbrev pub JudgesSequence : Allowed → Option (List ℕ) → Option (List ℕ) → SequenceJudgement → Type 0
+JudgesSequence = JudgesBy IsSequenceJudgement
+
+-- no read follows the byte that decides
+abbrev pub StopsAtDecision : Allowed → (had left : Option (List ℕ)) → (reads now_read : ℕ) → Type 0
+StopsAtDecision = StopsBy IsUndecided
 
 -- ---- the report
 
@@ -46,11 +50,11 @@ sequence_outcome strict (failing number judgement) = Fail
 abbrev pub SequenceRuns : Options → Option (List ℕ) → Option (List ℕ) → Option (List ℕ) → Option (List ℕ) → Result Outcome RunFault → Type 0
 -- the whole report went out
 SequenceRuns options had left held holds (Ok outcome) =
-    (verdict : SeqVerdict) × (judgement : SequenceJudgement) × JudgesSequence options.limits had left verdict × SequenceSays verdict judgement
+    (judgement : SequenceJudgement) × JudgesSequence options.limits had left judgement
     × Appends held holds (sequence_report judgement) × (outcome ≡ sequence_outcome options.strict judgement)
 -- a front of it did
 SequenceRuns options had left held holds (Err (Write fault)) =
-    (verdict : SeqVerdict) × (judgement : SequenceJudgement) × JudgesSequence options.limits had left verdict × SequenceSays verdict judgement
+    (judgement : SequenceJudgement) × JudgesSequence options.limits had left judgement
     × IsFrontOut held holds (sequence_report judgement) fault.written
 -- so many bytes came, and nothing went out
 SequenceRuns options had left held holds (Err (Read fault)) = (read : List ℕ) × Consumes had left read × (length read ≡ fault.offset) × Keeps held holds

@@ -4,7 +4,7 @@ ghost use Rattle.std.specs.Io.KnownBytes.{Consumes, Appends};
 ghost use Rattle.gj_rules.specs.Sequence.{SequenceJudgement, SequenceSays};
 ghost use Rattle.geolint.specs.Counts.{CountsFailure, one_more};
 ghost use Rattle.geolint.specs.Run.{CountsReadFault, CountsWriteFault, CountsOffset, WriteFaultOf};
-ghost use Rattle.geolint.specs.Sequence.{JudgesSequence, SequenceRuns, sequence_report, sequence_outcome};
+ghost use Rattle.geolint.specs.Sequence.{JudgesSequence, StopsAtDecision, SequenceRuns, sequence_report, sequence_outcome};
 
 use crate::fault::{ReadFault, RunFault};
 use crate::options::{Options, Outcome};
@@ -17,17 +17,17 @@ use gj_rules::{SeqProgress, SeqVerdict, Sequence, Verdict, one_sequence_verdict}
 
 /// Reads a sequence until it ends or a byte decides that a record is not valid, and answers its verdict.
 ///
-/// No read follows the piece with that byte. Reads and errors are as `lint_reader` has them.
+/// No read follows the one with that byte. Reads and errors are as `lint_reader` has them.
 pub fn lint_sequence<S: Source>(reader: &mut S, limits: Limits) -> Result<SeqVerdict, ReadFault>
     ensures few { S.reads reader.new ≤ S.reads reader.old + (limits.bytes + 1) }
+    ensures stops { StopsAtDecision limits (S.remaining reader.old) (S.remaining reader.new) (S.reads reader.old) (S.reads reader.new) }
     ensures failed { CountsFailure (S.failed_reads reader.old) (S.failed_reads reader.new) result }
     ensures given { IfErr result (λ fault. S.bytes_given reader.new < u64.MAX
         → S.bytes_given reader.new ≡ S.bytes_given reader.old + fault.offset) }
     ensures offset { IfErr result (λ fault.
         (read : List ℕ) × Consumes (S.remaining reader.old) (S.remaining reader.new) read × (length read ≡ fault.offset)) }
-    ensures verdict { IfOk result (λ verdict.
-        JudgesSequence limits (S.remaining reader.old) (S.remaining reader.new) verdict) }
-    ensures said { IfOk result (λ verdict. (judgement : SequenceJudgement) × SequenceSays verdict judgement) }
+    ensures verdict { IfOk result (λ verdict. (judgement : SequenceJudgement) × SequenceSays verdict judgement
+        × JudgesSequence limits (S.remaining reader.old) (S.remaining reader.new) judgement) }
 {
     let _most = limits.bytes();
     one_sequence_verdict();
@@ -58,6 +58,7 @@ pub fn run_sequence<S: Source, W: Sink>(
     options: Options,
 ) -> Result<Outcome, RunFault>
     ensures few { S.reads reader.new ≤ S.reads reader.old + (options.limits.bytes + 1) }
+    ensures stops { StopsAtDecision options.limits (S.remaining reader.old) (S.remaining reader.new) (S.reads reader.old) (S.reads reader.new) }
     ensures reads { CountsReadFault (S.failed_reads reader.old) (S.failed_reads reader.new) result }
     ensures given { CountsOffset (S.bytes_given reader.old) (S.bytes_given reader.new) result }
     ensures writes { CountsWriteFault (W.failed_writes writer.old) (W.failed_writes writer.new) result }

@@ -9,6 +9,7 @@ pub mod Verdict
 pub mod Places
 pub mod Doomed
 pub mod Sequence
+pub mod SequenceJudgement
 pub mod Rules
 pub mod Linter
 pub mod SequenceStands

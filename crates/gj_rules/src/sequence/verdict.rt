@@ -1,5 +1,5 @@
 //! The verdict of a text sequence, and a record's verdict as it counts in the input.
-ghost use Rattle.std.specs.Prelude.{◌≡◌, ℕ, ◌+◌, ◌≤◌, ◌^◌, List};
+ghost use Rattle.std.specs.Prelude.{◌≡◌, ◌↔◌, ℕ, ◌+◌, ◌≤◌, ◌^◌, List};
 ghost use Rattle.gj_json.specs.Limits.{Allowed};
 ghost use Rattle.gj_rules.specs.Internal.ToldPlaces.{TellsPlace};
 
@@ -18,16 +18,17 @@ pub enum SeqVerdict {
 }
 
 ghost use Rattle.gj_rules.specs.Sequence.{if_ended, shifted_verdict, SequenceJudgement, SequenceSays, IsSequenceVerdict};
+ghost use Rattle.gj_rules.specs.SequenceJudgement.{IsSequenceJudgement};
 ghost use Rattle.gj_rules.specs.Internal.VerdictParts.{valid_warnings};
 
-/// Under any limits each input has one verdict as a sequence, and no other, and its warnings are those of a list. It does
-/// nothing: its contract is a law of the definitions.
+/// Under any limits each input has one verdict as a sequence, and no other: the one that says what the sequence is, with the
+/// list of the warnings of all records in turn. It does nothing: its contract is a law of the definitions.
 pub fn one_sequence_verdict()
     ensures some { (limits : Allowed) (bytes : List ℕ) → (verdict : SeqVerdict) × IsSequenceVerdict limits bytes verdict }
     ensures one { (limits : Allowed) (bytes : List ℕ) (first second : SeqVerdict) → IsSequenceVerdict limits bytes first →
         IsSequenceVerdict limits bytes second → first ≡ second }
-    ensures said { (limits : Allowed) (bytes : List ℕ) (verdict : SeqVerdict) → IsSequenceVerdict limits bytes verdict →
-        (judgement : SequenceJudgement) × SequenceSays verdict judgement }
+    ensures said { (limits : Allowed) (bytes : List ℕ) (verdict : SeqVerdict) → IsSequenceVerdict limits bytes verdict ↔
+        ((judgement : SequenceJudgement) × IsSequenceJudgement limits bytes judgement × SequenceSays verdict judgement) }
 {
     one_verdict();
 }

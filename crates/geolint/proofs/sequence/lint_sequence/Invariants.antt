@@ -1,11 +1,13 @@
-use Rattle.std.proofs.Common.{ℕ, List, length, ◌+◌, ◌-◌, ◌<◌, ◌≤◌, ◌≡◌, ◌^◌}
+use Rattle.std.proofs.Common.{ℕ, List, [], length, ◌+◌, ◌-◌, ◌<◌, ◌≤◌, ◌≡◌, ◌^◌}
+use Rattle.std.specs.Prelude.{◌⊎◌}
 use Rattle.std.specs.Io.KnownBytes.{Consumes}
+use Rattle.gj_rules.specs.Sequence.{IsUndecided}
 use Rattle.gj_rules.specs.SequenceStands.{StandsFor, limits_of}
 use Rattle.geolint.proofs.sequence.lint_sequence.Given as goal
 
 abbrev pub invariant-loop-sequence : goal.invariant-loop-sequence
 invariant-loop-sequence g l = record {
-  read : (read : List ℕ) × Consumes (g.S.Source.remaining l.initial.reader) (g.S.Source.remaining l.reader) read × (length read ≡ l.offset) × StandsFor l.sequence read;
+  read : (read : List ℕ) × Consumes (g.S.Source.remaining l.initial.reader) (g.S.Source.remaining l.reader) read × (length read ≡ l.offset) × StandsFor l.sequence read × ((read ≡ []) ⊎ IsUndecided l.fn.limits read);
   limits : limits_of l.sequence ≡ l.fn.limits;
   within : l.offset ≤ l.fn.limits.bytes;
   few : g.S.Source.reads l.reader ≤ g.S.Source.reads l.initial.reader + l.offset;
