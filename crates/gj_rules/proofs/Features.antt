@@ -1,3 +1,6 @@
 -- What is found in a text, by its features.
 pub mod OwnText
 pub mod ByFeature
+pub mod FeatureEvents
+pub mod FeaturesSoFar
+pub mod FeaturesSaid

@@ -10,6 +10,7 @@ pub mod LabelledEvents
 pub mod EventSteps
 pub mod LostObjects
 pub mod RulesState
+pub mod FeatureSteps
 pub mod OpenRecord
 pub mod OpenSequence
 pub mod JudgementLaws

@@ -3,6 +3,7 @@ pub mod Members
 pub mod Faults
 pub mod TextWarnings
 pub mod FeatureFindings
+pub mod FeaturesTold
 pub mod Judged
 pub mod Levels
 pub mod Verdict

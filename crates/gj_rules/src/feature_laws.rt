@@ -1,12 +1,17 @@
 //! What is found in the features of a text, beside what is found in the text: each contract is a law.
 
-ghost use Rattle.std.specs.Prelude.{◌≡◌, ◌↔◌, ℕ, List, [], ◌++◌, None};
+ghost use Rattle.std.specs.Prelude.{◌≡◌, ◌↔◌, ℕ, ◌<◌, ◌^◌, List, [], ◌++◌, None, length};
 ghost use Rattle.std.specs.List.{AllByRecursion};
+ghost use Rattle.gj_json.specs.Events.{all_events};
 ghost use Rattle.gj_json.specs.Tree.{Text};
 ghost use Rattle.gj_coords.specs.Fault.{least, lesser};
 ghost use Rattle.gj_rules.specs.Faults.{text_faults};
 ghost use Rattle.gj_rules.specs.TextWarnings.{text_warnings};
 ghost use Rattle.gj_rules.specs.FeatureFindings.{FeatureFinding, feature_findings, findings_by, own_faults, own_warnings, IsCollection, least_found, warnings_found};
+ghost use Rattle.gj_rules.specs.FeaturesTold.{SayFindings};
+ghost use Rattle.gj_rules.specs.Internal.FeatureSteps.{features_by};
+
+use gj_coords::laws::kept_warnings;
 
 /// A FeatureCollection is judged by itself and by its features (RFC 7946, section 3.3): its least fault is the least of its own
 /// and of theirs, it is valid where neither it nor a feature has a fault, and then its warnings are its own and theirs.
@@ -21,3 +26,10 @@ pub fn by_feature()
 pub fn features_so_far()
     ensures { (text : Text) (n : ℕ) → (later : List FeatureFinding) × (feature_findings text ≡ findings_by n text ++ later) }
 {}
+
+/// What [`FeatureRules`](crate::FeatureRules) tell of a text of fewer than 2^64 events says what is found in its features.
+pub fn features_say()
+    ensures { (text : Text) (n : ℕ) → length (all_events text) < 2 ^ 64 → SayFindings (features_by n text) (findings_by n text) }
+{
+    kept_warnings();
+}

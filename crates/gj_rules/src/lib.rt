@@ -8,7 +8,10 @@
 //! the length of the text and wherever an object's `type` stands.
 #![tactic(auto)]
 
+mod feature;
+mod feature_count;
 pub mod feature_laws;
+mod feature_rules;
 mod findings;
 mod frame;
 pub mod laws;
@@ -24,6 +27,8 @@ mod sequence;
 mod shapes;
 mod verdict;
 
+pub use feature::{Feature, FeatureSink};
+pub use feature_rules::FeatureRules;
 pub use linter::{Linter, Progress};
 pub use rules::Rules;
 pub use sequence::{SeqProgress, SeqVerdict, Sequence, one_sequence_verdict};

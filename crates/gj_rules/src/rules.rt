@@ -4,6 +4,7 @@ ghost use Rattle.gj_rules.specs.declared.rules.TheConstants.{MOST_AROUND};
 
 mod doomed;
 mod events;
+mod features;
 mod flats;
 mod kinds;
 

@@ -118,7 +118,7 @@ module _ (most : ℕ) (law : (simple : Simple) (value : Tree) → length (value_
       choose_value false e f = f
 
   mutual
-    value_is : (role : Role) (v : Tree) → length (events v) < most → or_none (kept role v) ≡ warnings_of (warnings role v)
+    pub value_is : (role : Role) (v : Tree) → length (events v) < most → or_none (kept role v) ≡ warnings_of (warnings role v)
     value_is role (constant which place) d = none_is
     value_is role (number place literal end) d = none_is
     value_is role (string place content end) d = none_is

@@ -33,7 +33,7 @@ split_told (x ∷ done) (y ∷ ys) fs e =
     let q : map event_of (x ∷ k.0) ≡ y ∷ ys = (let h : map event_of k.0 ≡ ys = k.3 in cc) in
     (x ∷ k.0, k.1, ap (λ (zs : List Told). x ∷ zs) k.2, q, k.4)
 
-run-append : (xs ys : List Told) (s : State) → run (xs ++ ys) s ≡ run ys (run xs s)
+pub run-append : (xs ys : List Told) (s : State) → run (xs ++ ys) s ≡ run ys (run xs s)
 run-append [] ys s = refl
 run-append (x ∷ xs) ys s = run-append xs ys (step x s)
 

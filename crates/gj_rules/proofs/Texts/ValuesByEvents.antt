@@ -61,10 +61,14 @@ GoodAt zero _ x xs s = HasRoom (event_of x).what s.core.outer
 abbrev pub Good : Told → List Told → State → Type 0
 Good x xs s = GoodAt s.core.skipped s.core.mode x xs s
 
--- the events lead from the state to the answer z, and each state before one of them is good
+-- the events lead from the state to one of which Z holds, and each state before one of them is good
+abbrev pub LeadsTo : List Told → State → (State → Type 0) → Type 0
+LeadsTo [] s Z = Z s
+LeadsTo (x ∷ xs) s Z = Good x xs s × LeadsTo xs (step x s) Z
+
+-- to the answer z
 abbrev pub Leads : List Told → State → Findings → Type 0
-Leads [] s z = s.core.answer ≡ z
-Leads (x ∷ xs) s z = Good x xs s × Leads xs (step x s) z
+Leads xs s z = LeadsTo xs s (λ t. t.core.answer ≡ z)
 
 -- With no value under way. From here on k is the number of skipped levels, m the mode, f the innermost frame, o the
 -- frames around it, a the answer so far, and n the level of the object with that frame.
@@ -80,8 +84,8 @@ pub down : (k : ℕ) → suc (suc k) - 1 ≡ suc k
 down k = omega arith
 
 mutual
-  skip_value : (v : Tree) (rest : List Told) (k : ℕ) (m : Mode) (f : Frame) (o : List Frame) (a z : Findings) → k + depth v ≤ most_levels
-      → Leads rest (st (suc k) m f o a) z → Leads (told v ++ rest) (st (suc k) m f o a) z
+  skip_value : (v : Tree) (rest : List Told) (k : ℕ) (m : Mode) (f : Frame) (o : List Frame) (a : Findings) (z : State → Type 0) → k + depth v ≤ most_levels
+      → LeadsTo rest (st (suc k) m f o a) z → LeadsTo (told v ++ rest) (st (suc k) m f o a) z
   skip_value (constant Null place) rest k m f o a z d h = (omega arith, h)
   skip_value (constant True place) rest k m f o a z d h = (omega arith, h)
   skip_value (constant False place) rest k m f o a z d h = (omega arith, h)
@@ -90,27 +94,27 @@ mutual
   skip_value (array place es close) rest k m f o a z d h = (
     omega arith,
     rw (append_assoc (elements_told es) (plain (close + 1) close What.CloseArray ∷ []) rest)
-        (subst (λ n. Leads (elements_told es ++ plain (close + 1) close What.CloseArray ∷ rest) (st n m f o a) z) (sym (up k))
+        (subst (λ n. LeadsTo (elements_told es ++ plain (close + 1) close What.CloseArray ∷ rest) (st n m f o a) z) (sym (up k))
         (skip_elements es (plain (close + 1) close What.CloseArray ∷ rest) (suc k) m f o a z (omega arith)
-        (omega arith, subst (λ n. Leads rest (st n m f o a) z) (sym (down k)) h))),
+        (omega arith, subst (λ n. LeadsTo rest (st n m f o a) z) (sym (down k)) h))),
   )
   skip_value (object place ms close) rest k m f o a z d h = (
     omega arith,
     rw (append_assoc (members_told ms) (plain (close + 1) close What.CloseObject ∷ []) rest)
-        (subst (λ n. Leads (members_told ms ++ plain (close + 1) close What.CloseObject ∷ rest) (st n m f o a) z) (sym (up k))
+        (subst (λ n. LeadsTo (members_told ms ++ plain (close + 1) close What.CloseObject ∷ rest) (st n m f o a) z) (sym (up k))
         (skip_members ms (plain (close + 1) close What.CloseObject ∷ rest) (suc k) m f o a z (omega arith)
-        (omega arith, subst (λ n. Leads rest (st n m f o a) z) (sym (down k)) h))),
+        (omega arith, subst (λ n. LeadsTo rest (st n m f o a) z) (sym (down k)) h))),
   )
 
-  skip_elements : (es : Tree.Elements) (rest : List Told) (k : ℕ) (m : Mode) (f : Frame) (o : List Frame) (a z : Findings) → k + elements_depth es ≤ most_levels
-      → Leads rest (st (suc k) m f o a) z → Leads (elements_told es ++ rest) (st (suc k) m f o a) z
+  skip_elements : (es : Tree.Elements) (rest : List Told) (k : ℕ) (m : Mode) (f : Frame) (o : List Frame) (a : Findings) (z : State → Type 0) → k + elements_depth es ≤ most_levels
+      → LeadsTo rest (st (suc k) m f o a) z → LeadsTo (elements_told es ++ rest) (st (suc k) m f o a) z
   skip_elements end_of_array rest k m f o a z d h = h
   skip_elements (element v more) rest k m f o a z d h =
       rw (append_assoc (told v) (elements_told more) rest)
       (skip_value v (elements_told more ++ rest) k m f o a z (omega arith) (skip_elements more rest k m f o a z (omega arith) h))
 
-  skip_members : (ms : Members) (rest : List Told) (k : ℕ) (m : Mode) (f : Frame) (o : List Frame) (a z : Findings) → k + members_depth ms ≤ most_levels
-      → Leads rest (st (suc k) m f o a) z → Leads (members_told ms ++ rest) (st (suc k) m f o a) z
+  skip_members : (ms : Members) (rest : List Told) (k : ℕ) (m : Mode) (f : Frame) (o : List Frame) (a : Findings) (z : State → Type 0) → k + members_depth ms ≤ most_levels
+      → LeadsTo rest (st (suc k) m f o a) z → LeadsTo (members_told ms ++ rest) (st (suc k) m f o a) z
   skip_members end_of_object rest k m f o a z d h = h
   skip_members (member place name end v more) rest k m f o a z d h = (
     omega arith,
@@ -119,14 +123,14 @@ mutual
   )
 
 -- the rest of an array or an object that is not looked into
-array_skipped : (es : Tree.Elements) (close : ℕ) (rest : List Told) (m : Mode) (f : Frame) (o : List Frame) (a z : Findings) → elements_depth es ≤ most_levels
-    → Leads rest (st 0 m f o a) z → Leads ((elements_told es ++ plain (close + 1) close What.CloseArray ∷ []) ++ rest) (st 1 m f o a) z
+array_skipped : (es : Tree.Elements) (close : ℕ) (rest : List Told) (m : Mode) (f : Frame) (o : List Frame) (a : Findings) (z : State → Type 0) → elements_depth es ≤ most_levels
+    → LeadsTo rest (st 0 m f o a) z → LeadsTo ((elements_told es ++ plain (close + 1) close What.CloseArray ∷ []) ++ rest) (st 1 m f o a) z
 array_skipped es close rest m f o a z d h =
     rw (append_assoc (elements_told es) (plain (close + 1) close What.CloseArray ∷ []) rest)
     (skip_elements es (plain (close + 1) close What.CloseArray ∷ rest) 0 m f o a z (omega arith) (omega arith, h))
 
-object_skipped : (ms : Members) (close : ℕ) (rest : List Told) (m : Mode) (f : Frame) (o : List Frame) (a z : Findings) → members_depth ms ≤ most_levels
-    → Leads rest (st 0 m f o a) z → Leads ((members_told ms ++ plain (close + 1) close What.CloseObject ∷ []) ++ rest) (st 1 m f o a) z
+object_skipped : (ms : Members) (close : ℕ) (rest : List Told) (m : Mode) (f : Frame) (o : List Frame) (a : Findings) (z : State → Type 0) → members_depth ms ≤ most_levels
+    → LeadsTo rest (st 0 m f o a) z → LeadsTo ((members_told ms ++ plain (close + 1) close What.CloseObject ∷ []) ++ rest) (st 1 m f o a) z
 object_skipped ms close rest m f o a z d h =
     rw (append_assoc (members_told ms) (plain (close + 1) close What.CloseObject ∷ []) rest)
     (skip_members ms (plain (close + 1) close What.CloseObject ∷ rest) 0 m f o a z (omega arith) (omega arith, h))
@@ -149,8 +153,8 @@ fits v taken x xs rest d e = record { deep = d; next = event_of x; later = map e
 pub one_more : (v : Tree) (taken : List Event) (x : Told) (xs : List Told) → taken ++ map event_of (x ∷ xs) ≡ value_events v → (taken ++ event_of x ∷ []) ++ map event_of xs ≡ value_events v
 one_more v taken x xs e = append_assoc taken (event_of x ∷ []) (map event_of xs) ∙ e
 
-feed_all : (name : Known) → IsFed name → (v : Tree) (taken : List Event) (x : Told) (xs rest : List Told) (f : Frame) (o : List Frame) (a z : Findings) → depth v ≤ most_levels → taken ++ map event_of (x ∷ xs) ≡ value_events v
-    → Leads rest (st 0 Names (filled name v f) o a) z → Leads ((x ∷ xs) ++ rest) (feeding name v taken (map event_of (x ∷ xs)) f o a) z
+feed_all : (name : Known) → IsFed name → (v : Tree) (taken : List Event) (x : Told) (xs rest : List Told) (f : Frame) (o : List Frame) (a : Findings) (z : State → Type 0) → depth v ≤ most_levels → taken ++ map event_of (x ∷ xs) ≡ value_events v
+    → LeadsTo rest (st 0 Names (filled name v f) o a) z → LeadsTo ((x ∷ xs) ++ rest) (feeding name v taken (map event_of (x ∷ xs)) f o a) z
 feed_all Coordinates i v taken x [] rest f o a z d e h = (fits v taken x [] rest d e, h)
 feed_all Coordinates i v taken x (y ∷ ys) rest f o a z d e h =
     (fits v taken x (y ∷ ys) rest d e, feed_all Coordinates i v (taken ++ event_of x ∷ []) y ys rest f o a z d (one_more v taken x (y ∷ ys) e) h)
@@ -167,15 +171,15 @@ some_told (string place content end) = (_, _, refl)
 some_told (array place es close) = (_, _, refl)
 some_told (object place ms close) = (_, _, refl)
 
-feed_told : (name : Known) → IsFed name → (v : Tree) (x : Told) (xs rest : List Told) (f : Frame) (o : List Frame) (a z : Findings) → depth v ≤ most_levels → told v ≡ x ∷ xs
-    → Leads rest (st 0 Names (filled name v f) o a) z → Leads (told v ++ rest) (feeding name v [] (value_events v) f o a) z
+feed_told : (name : Known) → IsFed name → (v : Tree) (x : Told) (xs rest : List Told) (f : Frame) (o : List Frame) (a : Findings) (z : State → Type 0) → depth v ≤ most_levels → told v ≡ x ∷ xs
+    → LeadsTo rest (st 0 Names (filled name v f) o a) z → LeadsTo (told v ++ rest) (feeding name v [] (value_events v) f o a) z
 feed_told name i v x xs rest f o a z d e h =
-    subst (λ (es : List Event). Leads (told v ++ rest) (feeding name v [] es f o a) z) (told-events v)
-    (subst (λ (ts : List Told). Leads (ts ++ rest) (feeding name v [] (map event_of ts) f o a) z) (sym e)
+    subst (λ (es : List Event). LeadsTo (told v ++ rest) (feeding name v [] es f o a) z) (told-events v)
+    (subst (λ (ts : List Told). LeadsTo (ts ++ rest) (feeding name v [] (map event_of ts) f o a) z) (sym e)
     (feed_all name i v [] x xs rest f o a z d (ap (λ (ts : List Told). map event_of ts) (sym e) ∙ told-events v) h))
 
-feed_value : (name : Known) → IsFed name → (v : Tree) (rest : List Told) (f : Frame) (o : List Frame) (a z : Findings) → depth v ≤ most_levels
-    → Leads rest (st 0 Names (filled name v f) o a) z → Leads (told v ++ rest) (feeding name v [] (value_events v) f o a) z
+feed_value : (name : Known) → IsFed name → (v : Tree) (rest : List Told) (f : Frame) (o : List Frame) (a : Findings) (z : State → Type 0) → depth v ≤ most_levels
+    → LeadsTo rest (st 0 Names (filled name v f) o a) z → LeadsTo (told v ++ rest) (feeding name v [] (value_events v) f o a) z
 feed_value name i v rest f o a z d h = let s = some_told v in feed_told name i v s.0 s.1 rest f o a z d s.2 h
 
 -- ---- what has a role
@@ -213,7 +217,7 @@ uses_hold Role.Part Geometry e = cc
 uses_hold Role.Part Features e = cc
 uses_hold _ _ e = tt
 
-due_holds : (name : Known) (r : Role) (k u : Bool) (o : Option Slot) → uses r name ≡ u → MayHold r (if k then due_known name o r else Other)
+pub due_holds : (name : Known) (r : Role) (k u : Bool) (o : Option Slot) → uses r name ≡ u → MayHold r (if k then due_known name o r else Other)
 due_holds name r true u (Some slot) e = tt
 due_holds name r true true None e = rw e (uses_hold r name e)
 due_holds name r true false None e = rw e tt
@@ -250,16 +254,16 @@ behind_idle close Role.Geometry found f o a = refl
 behind_idle close Role.Part found f o a = refl
 behind_idle close Role.Feature found f o a = refl
 
-close_below : (r : Role) (place close : ℕ) (ms : Members) (rest : List Told) (f : Frame) (o : List Frame) (a z : Findings)
-    → Leads rest (st 0 (mode_behind r) (taken_any (member_of r) (least (faults r (object place ms close))) (kept r (object place ms close)) f) o a) z
-    → Leads (plain (close + 1) close What.CloseObject ∷ rest) (st 0 Names (members_taken ms (blank r place)) (f ∷ o) a) z
+close_below : (r : Role) (place close : ℕ) (ms : Members) (rest : List Told) (f : Frame) (o : List Frame) (a : Findings) (z : State → Type 0)
+    → LeadsTo rest (st 0 (mode_behind r) (taken_any (member_of r) (least (faults r (object place ms close))) (kept r (object place ms close)) f) o a) z
+    → LeadsTo (plain (close + 1) close What.CloseObject ∷ rest) (st 0 Names (members_taken ms (blank r place)) (f ∷ o) a) z
 close_below r place close ms rest f o a z h =
     let inner : Frame = members_taken ms (blank r place) in
     let e : inner.slots.role ≡ r = frame_role ms (blank r place) in (
       tt,
-      subst (λ (q : Role). Leads rest (behind close q (settled inner) f o a) z) (sym e)
-          (subst (λ (s : State). Leads rest s z) (sym (behind_idle close r (settled inner) f o a))
-          (subst (λ (x : Findings). Leads rest (st 0 (mode_behind r) (taken_in (member_of r) x f) o a) z) (sym (all_closed r place close ms)) h)),
+      subst (λ (q : Role). LeadsTo rest (behind close q (settled inner) f o a) z) (sym e)
+          (subst (λ (s : State). LeadsTo rest s z) (sym (behind_idle close r (settled inner) f o a))
+          (subst (λ (x : Findings). LeadsTo rest (st 0 (mode_behind r) (taken_in (member_of r) x f) o a) z) (sym (all_closed r place close ms)) h)),
     )
 
 -- the value behind a name is due
@@ -268,8 +272,8 @@ due_st name v f o a = record { core = record { skipped = 0; mode = Due name; top
 
 mutual
   -- the value of a first member, in an object at level n
-  lead_due : (v : Tree) (name : Known) (rest : List Told) (f : Frame) (o : List Frame) (a z : Findings) (n : ℕ) (r : Role)
-      → n + depth v ≤ most_levels → IsWithin n o r → f.slots.role ≡ r → MayHold r name → Leads rest (st 0 Names (filled name v f) o a) z → Leads (told v ++ rest) (due_st name v f o a) z
+  pub lead_due : (v : Tree) (name : Known) (rest : List Told) (f : Frame) (o : List Frame) (a : Findings) (z : State → Type 0) (n : ℕ) (r : Role)
+      → n + depth v ≤ most_levels → IsWithin n o r → f.slots.role ≡ r → MayHold r name → LeadsTo rest (st 0 Names (filled name v f) o a) z → LeadsTo (told v ++ rest) (due_st name v f o a) z
   lead_due v Coordinates rest f o a z n r d w e m h = feed_value Coordinates tt v rest f o a z (omega arith) h
   lead_due v Bbox rest f o a z n r d w e m h = feed_value Bbox tt v rest f o a z (omega arith) h
   lead_due (constant Null place) name rest f o a z n r d w e m h = (tt, h)
@@ -297,8 +301,8 @@ mutual
   lead_due (object place ms close) name rest f o a z n r d w e m h = (omega (arith, credit_small r), object_skipped ms close rest Names (filled name (object place ms close) f) o a z (omega arith) h)
 
   -- an element of an array of values with a role, where the array is at level n
-  lead_element : (v : Tree) (r : Role) → IsListed r → (rest : List Told) (f : Frame) (o : List Frame) (a z : Findings) (n : ℕ)
-      → n + depth v ≤ most_levels → 2 * (length o + 2) ≤ n + 1 + credit r → Leads rest (st 0 (Elements r) (taken_any (member_of r) (least (faults r v)) (kept r v) f) o a) z → Leads (told v ++ rest) (st 0 (Elements r) f o a) z
+  pub lead_element : (v : Tree) (r : Role) → IsListed r → (rest : List Told) (f : Frame) (o : List Frame) (a : Findings) (z : State → Type 0) (n : ℕ)
+      → n + depth v ≤ most_levels → 2 * (length o + 2) ≤ n + 1 + credit r → LeadsTo rest (st 0 (Elements r) (taken_any (member_of r) (least (faults r v)) (kept r v) f) o a) z → LeadsTo (told v ++ rest) (st 0 (Elements r) f o a) z
   lead_element (constant Null place) Role.Part i rest f o a z n d w h = (tt, h)
   lead_element (constant Null place) Role.Feature i rest f o a z n d w h = (tt, h)
   lead_element (constant Null place) _ i rest f o a z n d w h = absurd i
@@ -312,24 +316,24 @@ mutual
     rw (append_assoc (members_told ms) (plain (close + 1) close What.CloseObject ∷ []) rest)
         (lead_members ms (plain (close + 1) close What.CloseObject ∷ rest) (blank r place) (f ∷ o) a z (n + 1) r (omega arith) (omega arith) refl
         (close_below r place close ms rest f o a z
-        (subst (λ (m : Mode). Leads rest (st 0 m (taken_any (member_of r) (least (faults r (object place ms close))) (kept r (object place ms close)) f) o a) z) (sym (mode_listed r i)) h))),
+        (subst (λ (m : Mode). LeadsTo rest (st 0 m (taken_any (member_of r) (least (faults r (object place ms close))) (kept r (object place ms close)) f) o a) z) (sym (mode_listed r i)) h))),
   )
 
-  lead_elements : (es : Tree.Elements) (r : Role) → IsListed r → (rest : List Told) (f : Frame) (o : List Frame) (a z : Findings) (n : ℕ)
+  lead_elements : (es : Tree.Elements) (r : Role) → IsListed r → (rest : List Told) (f : Frame) (o : List Frame) (a : Findings) (z : State → Type 0) (n : ℕ)
       → n + elements_depth es ≤ most_levels → 2 * (length o + 2) ≤ n + 1 + credit r
-      → Leads rest (st 0 (Elements r) (taken_any (member_of r) (least (all_faults r es)) (all_kept r es) f) o a) z → Leads (elements_told es ++ rest) (st 0 (Elements r) f o a) z
-  lead_elements end_of_array r i rest f o a z n d w h = subst (λ (g : Frame). Leads rest (st 0 (Elements r) g o a) z) (taken_none (member_of r) f) h
+      → LeadsTo rest (st 0 (Elements r) (taken_any (member_of r) (least (all_faults r es)) (all_kept r es) f) o a) z → LeadsTo (elements_told es ++ rest) (st 0 (Elements r) f o a) z
+  lead_elements end_of_array r i rest f o a z n d w h = subst (λ (g : Frame). LeadsTo rest (st 0 (Elements r) g o a) z) (taken_none (member_of r) f) h
   lead_elements (element v more) r i rest f o a z n d w h =
       rw (append_assoc (told v) (elements_told more) rest)
       (lead_element v r i (elements_told more ++ rest) f o a z n (omega arith) w
       (lead_elements more r i rest (taken_any (member_of r) (least (faults r v)) (kept r v) f) o a z n (omega arith) w
-      (subst (λ (g : Frame). Leads rest (st 0 (Elements r) g o a) z)
+      (subst (λ (g : Frame). LeadsTo rest (st 0 (Elements r) g o a) z)
       (ap (λ (x : Option Fault). taken_any (member_of r) x (all_kept r (element v more)) f) (least-append (faults r v) (all_faults r more))
       ∙ sym (taken_twice (member_of r) f (least (faults r v)) (least (all_faults r more)) (kept r v) (all_kept r more) (known_list r i))) h)))
 
   -- the members of an object at level n
-  lead_members : (ms : Members) (rest : List Told) (f : Frame) (o : List Frame) (a z : Findings) (n : ℕ) (r : Role)
-      → n + members_depth ms ≤ most_levels → IsWithin n o r → f.slots.role ≡ r → Leads rest (st 0 Names (members_taken ms f) o a) z → Leads (members_told ms ++ rest) (st 0 Names f o a) z
+  pub lead_members : (ms : Members) (rest : List Told) (f : Frame) (o : List Frame) (a : Findings) (z : State → Type 0) (n : ℕ) (r : Role)
+      → n + members_depth ms ≤ most_levels → IsWithin n o r → f.slots.role ≡ r → LeadsTo rest (st 0 Names (members_taken ms f) o a) z → LeadsTo (members_told ms ++ rest) (st 0 Names f o a) z
   lead_members end_of_object rest f o a z n r d w e h = h
   lead_members (member place name end v more) rest f o a z n r d w e h = (
     tt,
@@ -362,10 +366,10 @@ lead_root (number place literal end) had d = (tt, refl)
 lead_root (string place content end) had d = (tt, refl)
 lead_root (array place es close) had d =
     let found : Findings = found_behind had (array place es close) in
-    (tt, skip_elements es (plain (close + 1) close What.CloseArray ∷ []) 0 Done (blank Role.Root 0) [] found found (omega arith) (omega arith, refl))
+    (tt, skip_elements es (plain (close + 1) close What.CloseArray ∷ []) 0 Done (blank Role.Root 0) [] found (λ t. t.core.answer ≡ found) (omega arith) (omega arith, refl))
 lead_root (object place ms close) had d = (
   omega arith,
-  lead_members ms (plain (close + 1) close What.CloseObject ∷ []) (blank Role.Root place) [] (had_found had) (found_behind had (object place ms close)) 1 Role.Root (omega arith) (omega arith) refl
+  lead_members ms (plain (close + 1) close What.CloseObject ∷ []) (blank Role.Root place) [] (had_found had) (λ t. t.core.answer ≡ found_behind had (object place ms close)) 1 Role.Root (omega arith) (omega arith) refl
       (tt, ap (λ (x : Findings). record { fault = x.fault; warned = Noted.joined had x.warned }) (all_closed Role.Root place close ms)),
 )
 
@@ -380,6 +384,9 @@ text_found text = record { fault = least (text_faults text); warned = text_kept 
 pub lead_text : (text : Text) → depth text.value ≤ most_levels → Leads (text_told text) start (text_found text)
 lead_text text d = lead_marked text.marked text.value d
 
+pub leads_to : (done rest : List Told) (s : State) (Z : State → Type 0) → LeadsTo (done ++ rest) s Z → LeadsTo rest (run done s) Z
+leads_to [] rest s Z h = h
+leads_to (x ∷ xs) rest s Z h = leads_to xs rest (step x s) Z h.1
+
 pub leads_at : (done rest : List Told) (s : State) (z : Findings) → Leads (done ++ rest) s z → Leads rest (run done s) z
-leads_at [] rest s z h = h
-leads_at (x ∷ xs) rest s z h = leads_at xs rest (step x s) z h.1
+leads_at done rest s z h = leads_to done rest s (λ t. t.core.answer ≡ z) h

@@ -1,0 +1,95 @@
+-- What is told of features says what is found in them.
+use Rattle.std.proofs.Common.{◌≡◌, ℕ, suc, ◌+◌, ◌<◌, ◌^◌, nat_le, Bool, true, false, if◌then◌else◌, List, [], ◌∷◌, ◌++◌, length, length-append, Option, Some, None, refl, sym, subst, ◌∙◌, arith}
+use Rattle.std.proofs.lemmas.List.{length-map}
+use Rattle.std.specs.List.{AllByRecursion}
+use Rattle.gj_json.specs.declared.event.What.TheVariants as What
+use Rattle.gj_json.specs.declared.names.Known.TheVariants.{Features}
+use Rattle.gj_json.specs.Events.{timed, events, elements_events, members_events, mark_events, text_events, all_events, value_events}
+use Rattle.gj_json.specs.Names.{known_of}
+use Rattle.gj_json.specs.Tree as Tree
+use Rattle.gj_json.specs.Tree.{Tree, constant, number, string, array, object, end_of_array, element, Members, end_of_object, member, Text}
+use Rattle.gj_coords.specs.declared.fault.Fault.{Fault}
+use Rattle.gj_coords.specs.declared.simple.Simple.{Simple}
+use Rattle.gj_coords.specs.declared.warnings.Warnings.{Warnings}
+use Rattle.gj_coords.specs.CoordinateWarnings.{coordinates_warnings}
+use Rattle.gj_coords.specs.Fault.{least}
+use Rattle.gj_coords.specs.Internal.CoordinatesKept.{coordinates_kept}
+use Rattle.gj_coords.specs.Internal.KeptWarnings.{warnings_of}
+use Rattle.gj_coords.specs.Internal.WarningLaws.{warnings_of_none}
+use Rattle.gj_coords.specs.Items.{items, elements_of}
+use Rattle.gj_coords.specs.Warnings.{Warning}
+use Rattle.gj_rules.specs.declared.role.Role.{Role}
+use Rattle.gj_rules.specs.Faults.{faults}
+use Rattle.gj_rules.specs.FeatureFindings.{unless_broken, end_of, elements_if, features_of, finding_of, findings_from, findings_by, complete_at, complete_in}
+use Rattle.gj_rules.specs.FeaturesTold.{SaysEnd, SaysFinding, SayFindings}
+use Rattle.gj_rules.specs.Internal.FeatureSteps.{kept_unless, closing_of, feature_of, features_from, features_by}
+use Rattle.gj_rules.specs.Members.{same}
+use Rattle.gj_rules.specs.TextWarnings.{first_value, warnings}
+use Rattle.gj_rules.proofs.Objects.WarningsKept.{value_is}
+
+-- ---- each feature of a text has no more events than the text
+
+abbrev AllFew : List Tree → Type 0
+AllFew vs = AllByRecursion (λ v. length (events v) < 2 ^ 64) vs
+
+few_elements : (es : Tree.Elements) → length (elements_events es) < 2 ^ 64 → AllFew (items es)
+few_elements end_of_array h = tt
+few_elements (element v more) h =
+    let l = length-append (events v) (elements_events more) in
+    (omega (arith, h, l), few_elements more (omega (arith, h, l)))
+
+few_in : (v : Tree) → length (events v) < 2 ^ 64 → AllFew (elements_of v)
+few_in (array place es close) h = few_elements es (omega (arith, h, length-append (elements_events es) (timed (close + 1) close What.CloseArray ∷ [])))
+few_in (constant which place) h = tt
+few_in (number place literal end) h = tt
+few_in (string place content end) h = tt
+few_in (object place ms close) h = tt
+
+few_members : (ms : Members) → length (members_events ms) < 2 ^ 64 → AllFew (elements_if (first_value Features ms))
+few_members end_of_object h = tt
+few_members (member place name end v more) h =
+    let l = length-append (events v) (members_events more) in
+    choose (same Features (known_of name)) (few_in v (omega (arith, h, l))) (few_members more (omega (arith, h, l)))
+  where
+    choose : (b : Bool) → AllFew (elements_of v) → AllFew (elements_if (first_value Features more)) → AllFew (elements_if (if b then Some v else first_value Features more))
+    choose true f g = f
+    choose false f g = g
+
+few_features : (v : Tree) → length (events v) < 2 ^ 64 → AllFew (features_of v)
+few_features (object place ms close) h = few_members ms (omega (arith, h, length-append (members_events ms) (timed (close + 1) close What.CloseObject ∷ [])))
+few_features (constant which place) h = tt
+few_features (number place literal end) h = tt
+few_features (string place content end) h = tt
+few_features (array place es close) h = tt
+
+-- ---- what is told says what is found
+
+end_says : (v : Tree) → SaysEnd (closing_of v) (end_of v)
+end_says (array place es close) = refl
+end_says (object place ms close) = refl
+end_says (constant which place) = tt
+end_says (number place literal end) = tt
+end_says (string place content end) = tt
+
+warned_says : (o : Option Fault) (kept : Warnings) (all : List Warning) → kept ≡ warnings_of all → kept_unless o kept ≡ warnings_of (unless_broken o all)
+warned_says None kept all e = e
+warned_says (Some fault) kept all e = sym warnings_of_none
+
+module _ (law : (simple : Simple) (value : Tree) → length (value_events value) < 2 ^ 64 → coordinates_kept simple value ≡ warnings_of (coordinates_warnings simple value)) where
+  all_say : (n i j : ℕ) (vs : List Tree) → i ≡ j → AllFew vs → SayFindings (features_from i (complete_in n vs)) (findings_from j (complete_in n vs))
+  all_say n i j [] e h = tt
+  all_say n i j (v ∷ vs) e h =
+      cut (nat_le (complete_at v) n)
+      (e, refl, end_says v, refl, refl, warned_says (least (faults Role.Feature v)) _ (warnings Role.Feature v) (value_is (2 ^ 64) law Role.Feature v h.0))
+      (all_say n (suc i) (j + 1) vs (omega (arith, e)) h.1)
+    where
+      cut : (b : Bool) → SaysFinding (feature_of i v) (finding_of j v) → SayFindings (features_from (suc i) (complete_in n vs)) (findings_from (j + 1) (complete_in n vs))
+          → SayFindings (features_from i (if b then v ∷ complete_in n vs else [])) (findings_from j (if b then v ∷ complete_in n vs else []))
+      cut true f g = (f, g)
+      cut false f g = tt
+
+  pub told_says : (text : Text) (n : ℕ) → length (all_events text) < 2 ^ 64 → SayFindings (features_by n text) (findings_by n text)
+  told_says text n h =
+      let l : length (all_events text) ≡ length (mark_events text.marked ++ events text.value) = length-map (text_events text) (λ x. x.event) in
+      let m = length-append (mark_events text.marked) (events text.value) in
+      all_say n 0 0 (features_of text.value) refl (few_features text.value (omega (arith, h, l, m)))

@@ -1,0 +1,33 @@
+//! What is told of a feature.
+
+ghost use Rattle.std.specs.Prelude.{◌∷◌, ◌++◌, [], List};
+
+use gj_coords::{Fault, Warnings};
+
+/// What is found in an element of the array `features` of a text's object (RFC 7946, section 3.3).
+#[derive(Clone, Copy)]
+pub struct Feature {
+    /// How many elements stand before it.
+    pub index: u64,
+    /// Where its first byte stands.
+    pub place: u64,
+    /// Where its closing bracket stands, of an element that is an object or an array.
+    pub close: Option<u64>,
+    /// Where the value of its first member `id` begins.
+    pub id: Option<u64>,
+    /// The least of its faults.
+    pub fault: Option<Fault>,
+    /// Its warnings, of an element without a fault.
+    pub warnings: Warnings,
+}
+
+/// What features are told to, in order.
+pub trait FeatureSink {
+    /// The features that it was told so far may be these.
+    ghost told: { Self → List Feature → Type 0 };
+
+    ghost use Rattle.gj_rules.specs.declared.feature.Feature.{Feature};
+
+    fn tell_feature(&mut self, feature: &Feature)
+        ensures { (features : List Feature) → told self.old features → told self.new (features ++ feature.now ∷ []) };
+}

@@ -1,0 +1,163 @@
+//! Where in the features of a text the next event stands.
+ghost use Rattle.std.specs.Prelude.{◌≡◌, ℕ, suc, ◌<◌, ◌^◌};
+
+use gj_json::{Event, Known, What};
+
+/// Which arrays and objects are open, but for those in a value that holds no feature.
+#[derive(Clone, Copy, Debug, PartialEq, Eq)]
+pub enum Stage {
+    /// None, before the text's object or after it.
+    Outside,
+    /// The text's object.
+    Root,
+    /// The array of the first `features` in it.
+    List,
+    /// An element of this array.
+    Element,
+}
+
+/// What is kept from one event to the next, so that each feature can be told with its number and its place.
+#[derive(Clone, Copy, Debug, PartialEq, Eq)]
+pub struct FeatureCount {
+    pub stage: Stage,
+    /// How many levels are open in a value that holds no feature.
+    pub inner: u64,
+    /// How many elements have ended.
+    pub index: u64,
+    /// Where the element begins that is open.
+    pub place: u64,
+    /// Where the value of its first `id` begins, once this has come.
+    pub id: Option<u64>,
+    /// Whether the name of it was the last event.
+    pub id_due: bool,
+}
+
+impl FeatureCount {
+    ghost use Rattle.gj_rules.specs.Internal.FeatureSteps.{no_count, inner_step, outside_step, root_step, list_step, element_step, began, count_at};
+
+    /// Before the first event of a text.
+    pub fn new() -> Self
+        ensures { result ≡ no_count }
+    {
+        FeatureCount {
+            stage: Stage::Outside,
+            inner: 0,
+            index: 0,
+            place: 0,
+            id: None,
+            id_due: false,
+        }
+    }
+
+    /// After an event within a value that holds no feature.
+    fn within(self, what: &What) -> Self
+        ensures { (inner : ℕ) → self.inner ≡ suc inner → inner < 2 ^ 63 → result ≡ record self { inner = inner_step what.now inner } }
+    {
+        let inner = match what {
+            What::OpenObject | What::OpenArray => self.inner.saturating_add(1),
+            What::CloseObject | What::CloseArray => self.inner.saturating_sub(1),
+            _ => self.inner,
+        };
+        FeatureCount { inner, ..self }
+    }
+
+    fn outside(self, what: &What) -> Self
+        ensures { result ≡ outside_step what.now self }
+    {
+        match what {
+            What::OpenObject => FeatureCount {
+                stage: Stage::Root,
+                ..self
+            },
+            What::OpenArray => FeatureCount { inner: 1, ..self },
+            _ => self,
+        }
+    }
+
+    fn in_root(self, what: &What, starts: bool) -> Self
+        ensures { result ≡ root_step what.now starts self }
+    {
+        match what {
+            What::OpenArray if starts => FeatureCount {
+                stage: Stage::List,
+                ..self
+            },
+            What::OpenArray | What::OpenObject => FeatureCount { inner: 1, ..self },
+            What::CloseObject => FeatureCount {
+                stage: Stage::Outside,
+                ..self
+            },
+            _ => self,
+        }
+    }
+
+    fn in_list(self, what: &What, place: u64) -> Self
+        ensures { self.index < 2 ^ 63 → result ≡ list_step what.now place self }
+    {
+        match what {
+            What::OpenObject | What::OpenArray => FeatureCount {
+                stage: Stage::Element,
+                place,
+                id: None,
+                id_due: false,
+                ..self
+            },
+            What::CloseArray => FeatureCount {
+                stage: Stage::Root,
+                ..self
+            },
+            _ => FeatureCount {
+                index: self.index.saturating_add(1),
+                ..self
+            },
+        }
+    }
+
+    /// A value begins directly in an element.
+    fn begun(self, place: u64) -> Self
+        ensures { result ≡ began place self }
+    {
+        let id = if self.id_due { Some(place) } else { self.id };
+        FeatureCount {
+            id,
+            id_due: false,
+            ..self
+        }
+    }
+
+    fn in_element(self, what: &What, place: u64) -> Self
+        ensures { self.index < 2 ^ 63 → result ≡ element_step what.now place self }
+    {
+        match what {
+            What::OpenObject | What::OpenArray => FeatureCount {
+                inner: 1,
+                ..self.begun(place)
+            },
+            What::CloseObject | What::CloseArray => FeatureCount {
+                stage: Stage::List,
+                index: self.index.saturating_add(1),
+                ..self
+            },
+            What::Name(name) => FeatureCount {
+                id_due: self.id.is_none() && matches!(name, Known::Id),
+                ..self
+            },
+            _ => self.begun(place),
+        }
+    }
+
+    /// After one event more. `starts` says whether an array that opens is that of the first `features`.
+    pub fn next(self, event: &Event, starts: bool) -> Self
+        ensures { self.inner < 2 ^ 63 → self.index < 2 ^ 63 → result ≡ count_at self.inner event.now.what event.now.place starts self }
+    {
+        if self.inner > 0 {
+            return self.within(&event.what);
+        }
+        match self.stage {
+            Stage::Outside => self.outside(&event.what),
+            Stage::Root => self.in_root(&event.what, starts),
+            Stage::List => self.in_list(&event.what, event.place),
+            Stage::Element => self.in_element(&event.what, event.place),
+        }
+    }
+}
