@@ -4,6 +4,7 @@ A tree is bytes (a scalar as it is spelled), a list (an array), or an Object.
 """
 
 import random
+import re
 
 SIMPLE = ["Point", "MultiPoint", "LineString", "MultiLineString", "Polygon", "MultiPolygon"]
 TYPES = SIMPLE + ["GeometryCollection", "Feature", "FeatureCollection"]
@@ -109,7 +110,7 @@ class Maker:
         return [self.other_spelling(number) if self.chance(0.05) else number for number in position]
 
     def other_spelling(self, number):
-        if b"e" in number or b"E" in number:
+        if not isinstance(number, bytes) or not re.fullmatch(rb"-?[0-9.]+", number):
             return number
         choice = self.random.randint(0, 3)
         if choice == 0:

@@ -1,7 +1,7 @@
 #!/usr/bin/env python3
 """What a file is, by the standards and the profile: the expected line of `geolint-files --format json`.
 
-    tests/oracle/oracle.py [--seq] [--quick] [--max-bytes N] FILE..
+    tests/oracle/oracle.py [--strict] [--quick] [--seq] [--max-bytes N] FILE..
 """
 
 import argparse
@@ -129,14 +129,14 @@ def report(data, is_sequence=False, is_quick=False, is_strict=False, length=LENG
 
 def main():
     words = argparse.ArgumentParser()
-    words.add_argument("--seq", action="store_true")
-    words.add_argument("--quick", action="store_true")
+    for word in "--strict", "--quick", "--seq":
+        words.add_argument(word, action="store_true")
     words.add_argument("--max-bytes", type=int, default=LENGTH)
     words.add_argument("files", nargs="+")
     given = words.parse_args()
     for name in given.files:
         is_sequence = given.seq or name.endswith(".geojsons")
-        line = report(pathlib.Path(name).read_bytes(), is_sequence, given.quick, length=given.max_bytes)
+        line = report(pathlib.Path(name).read_bytes(), is_sequence, given.quick, given.strict, given.max_bytes)
         print(json.dumps({"path": name} | line, separators=(",", ":"), ensure_ascii=False))
 
 
