@@ -47,9 +47,9 @@ def expected(work):
 def told(program, words, folder):
     """What the program says of each file in a folder, by name."""
     got = subprocess.run([program, "--format", "json", *words, folder], stdout=subprocess.PIPE, stderr=subprocess.PIPE, check=False)
-    if got.returncode not in (0, 1):
-        sys.exit(f"the program ended with status {got.returncode}: {got.stderr[-400:].decode(errors='replace')}")
     lines = [json.loads(line) for line in got.stdout.splitlines()]
+    if got.returncode not in (0, 1) or len(lines) != len(list(folder.iterdir())):
+        sys.exit(f"the program ended with status {got.returncode} and {len(lines)} lines: {got.stderr[-400:].decode(errors='replace')}")
     return {pathlib.Path(line.pop("path")).name: line for line in lines}
 
 
@@ -89,7 +89,7 @@ def run_way(program, way, first, count, pool, room):
         wanted[seed] = line
     got = told(program, words, folder)
     rules = collections.Counter(it for line in wanted.values() for it in [line["rule"] or line["verdict"], *(w["rule"] for w in line["warnings"])])
-    return rules, [(seed, got.get(f"{seed}{ending}"), line) for seed, line in wanted.items() if got.get(f"{seed}{ending}") != line]
+    return rules, [(seed, got[f"{seed}{ending}"], line) for seed, line in wanted.items() if got[f"{seed}{ending}"] != line]
 
 
 def compare(program, seed, count):
