@@ -4,7 +4,7 @@ _geolint_files() {
     local word=${COMP_WORDS[COMP_CWORD]} before=${COMP_WORDS[COMP_CWORD - 1]}
     COMPREPLY=()
     case $before in
-    --max-bytes) return ;;
+    --max-bytes | --ending) return ;;
     --format)
         mapfile -t COMPREPLY < <(compgen -W 'text lines json github sarif' -- "$word")
         return
@@ -18,7 +18,7 @@ _geolint_files() {
         ;;
     esac
     case $word in
-    -*) mapfile -t COMPREPLY < <(compgen -W '--strict --allow --quick --seq --max-bytes --format --summary --files-from --help --version' -- "$word") ;;
+    -*) mapfile -t COMPREPLY < <(compgen -W '--strict --allow --quick --seq --max-bytes --format --summary --files-from --null --ending --allow-empty --help --version' -- "$word") ;;
     *)
         compopt -o filenames 2>/dev/null
         mapfile -t COMPREPLY < <(compgen -f -- "$word")

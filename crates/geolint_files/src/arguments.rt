@@ -3,6 +3,7 @@
 //! The reader of words takes text alone. So a word is written as text that leads back to its bytes: each byte of what is
 //! no UTF-8 is a character of the last 256 of Unicode, which nobody uses, and so is each byte of such a character.
 
+use crate::formats::put_name;
 use std::alloc::{AllocError, Global};
 use std::env::{Env, FillError};
 
@@ -12,7 +13,7 @@ const FIRST: u32 = 0x10_FF00;
 /// No word of a command line is longer on Linux.
 const LONGEST_WORD: usize = 1 << 17;
 
-/// The words behind the program's name, as text.
+/// The words after the program's name, as text.
 pub fn given_words(rt: &HostRuntime) -> Result<Vec<String>, AllocError> {
     let mut room = Vec::new(rt.alloc());
     room.resize(LONGEST_WORD, 0u8)?;
@@ -51,6 +52,17 @@ fn push_bytes(text: &mut String, bytes: &[u8]) -> Result<(), AllocError> {
         }
     }
     Ok(())
+}
+
+/// The words as an error shows them: what could move a terminal or end a line stands there by number.
+pub fn shown_words(alloc: Global, words: &[String]) -> Result<Vec<String>, AllocError> {
+    let mut shown = Vec::new(alloc);
+    for word in words {
+        let mut bytes = Vec::new(alloc);
+        put_name(to_bytes(alloc, word.as_str())?.as_slice(), &mut bytes)?;
+        shown.push(String::from_utf8_lossy(alloc, bytes.as_slice())?)?;
+    }
+    Ok(shown)
 }
 
 /// The bytes to which a text leads back.

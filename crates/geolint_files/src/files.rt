@@ -8,6 +8,26 @@ use std::str;
 /// The system's number for bytes that are no text (`EILSEQ`).
 const NO_TEXT: i32 = 84;
 
+/// What a name leads to.
+pub fn look_up(rt: &HostRuntime, name: &[u8]) -> io::Result<(Spelled, Metadata)> {
+    let spelled = spell(rt.alloc(), name)?;
+    let metadata = spelled.metadata(rt)?;
+    Ok((spelled, metadata))
+}
+
+/// Whether a name was not found since it is a link that leads nowhere.
+pub fn is_lost_link(rt: &HostRuntime, name: &[u8], error: &io::Error) -> bool {
+    match error.kind() {
+        ErrorKind::NotFound | ErrorKind::FilesystemLoop => {
+            match spell(rt.alloc(), name).and_then(|spelled| spelled.link_metadata(rt)) {
+                Ok(metadata) => metadata.is_symlink(),
+                Err(_) => false,
+            }
+        }
+        _ => false,
+    }
+}
+
 /// A name as the text that the library takes.
 #[derive(Drop)]
 pub struct Spelled {
@@ -27,6 +47,11 @@ pub fn spell(alloc: Global, name: &[u8]) -> io::Result<Spelled> {
 impl Spelled {
     pub fn metadata(&self, rt: &HostRuntime) -> io::Result<Metadata> {
         fs::metadata(rt, self.text.as_str())
+    }
+
+    /// Of a link itself.
+    fn link_metadata(&self, rt: &HostRuntime) -> io::Result<Metadata> {
+        fs::symlink_metadata(rt, self.text.as_str())
     }
 
     pub fn open(&self, rt: &HostRuntime) -> io::Result<File> {

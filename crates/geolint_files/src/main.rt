@@ -22,11 +22,18 @@ mod texts;
 mod walk;
 mod words;
 
-use crate::arguments::given_words;
+use crate::arguments::{given_words, shown_words};
+use crate::formats::put_name;
 use crate::run::{Failure, judge_all};
-use crate::words::{Order, command, order_of};
+use crate::walk::Others;
+use crate::words::{Order, order_in};
+use clap::Error;
 use clap::error::ErrorKind;
+use std::io;
 use std::process::ExitCode;
+
+/// The status where nobody reads the report any more: the one that a shell gives for a program that SIGPIPE ends.
+const NO_READER: u8 = 141;
 
 /// What keeps a run from its order.
 #[derive(Clone, Copy)]
@@ -35,23 +42,22 @@ enum NoOrder {
     Answered,
     Usage,
     Failed,
+    NoReader,
 }
 
 /// Reads the words, and judges what they name.
 ///
-/// Status 0 says that each file passes, 1 that one does not, 2 that one could not be read, that the words are wrong or that
-/// the report could not be written.
+/// Status 0 says that each file passes, 1 that one does not, 2 that one could not be read, that none was judged, that the
+/// words are wrong or that the report could not be written, and 141 that nobody reads it any more.
 fn main(rt: HostRuntime) -> ExitCode {
     match read_order(&rt) {
         Ok(order) => match judge_all(&rt, &order) {
             Ok(outcome) => ExitCode::from(outcome.status()),
-            Err(failure) => {
-                say_failure(&rt, &failure);
-                ExitCode::from(2)
-            }
+            Err(failure) => ExitCode::from(end_by(&rt, &failure)),
         },
         Err(NoOrder::Answered) => ExitCode::from(0),
         Err(NoOrder::Usage) => ExitCode::from(2),
+        Err(NoOrder::NoReader) => ExitCode::from(NO_READER),
         Err(NoOrder::Failed) => {
             let _ = eprintln!(rt; "geolint-files: out of memory");
             ExitCode::from(2)
@@ -59,44 +65,72 @@ fn main(rt: HostRuntime) -> ExitCode {
     }
 }
 
-fn say_failure(rt: &HostRuntime, failure: &Failure) {
+/// Says what ends the run, and answers the status. Of a closed pipe nothing is said, as custom is.
+fn end_by(rt: &HostRuntime, failure: &Failure) -> u8 {
     let _ = match failure {
+        Failure::Write(error) if has_no_reader(error) => return NO_READER,
         Failure::Write(error) => eprintln!(rt;
             "geolint-files: the report cannot be written: {error}"
         ),
-        Failure::List(name, error) => { eprintln!(rt; "geolint-files: {name}: {error}") }
+        Failure::NoFile(others) => say_no_file(rt, others),
         Failure::Memory => eprintln!(rt; "geolint-files: out of memory"),
         Failure::BothFromInput => eprintln!(rt;
             "geolint-files: standard input cannot be both a file and the list of files"
         ),
     };
+    2
+}
+
+fn has_no_reader(error: &io::Error) -> bool {
+    error.kind() == io::ErrorKind::BrokenPipe
+}
+
+/// Says that no file was judged, and what was passed over.
+fn say_no_file(rt: &HostRuntime, others: &Others) -> io::Result<()> {
+    let mut ending = Vec::new(rt.alloc());
+    put_name(others.ending.as_slice(), &mut ending)?;
+    let ending = String::from_utf8_lossy(rt.alloc(), ending.as_slice())?;
+    match others.count {
+        0 => eprintln!(rt; "geolint-files: no file was judged"),
+        1 => eprintln!(rt;
+            "geolint-files: no file was judged; 1 file has another ending, as {ending}"
+        ),
+        count => eprintln!(rt;
+            "geolint-files: no file was judged; {count} files have other endings, as {ending}"
+        ),
+    }
 }
 
 fn read_order(rt: &HostRuntime) -> Result<Order, NoOrder> {
     let Ok(words) = given_words(rt) else {
         return Err(NoOrder::Failed);
     };
-    let Ok(command) = command(rt.alloc()) else {
-        return Err(NoOrder::Failed);
-    };
-    match command.try_get_matches_from(words.as_slice()) {
-        Ok(matches) => match order_of(rt.alloc(), &matches) {
-            Ok(Some(order)) => Ok(order),
-            Ok(None) => Err(NoOrder::Usage),
-            Err(_) => Err(NoOrder::Failed),
-        },
-        Err(error) => match error.kind() {
-            ErrorKind::OutOfMemory => Err(NoOrder::Failed),
-            ErrorKind::DisplayHelp | ErrorKind::DisplayVersion => {
-                match error.print(rt) {
-                    Ok(()) => Err(NoOrder::Answered),
-                    Err(_) => Err(NoOrder::Usage),
-                }
-            }
-            _ => {
-                let _ = error.print(rt);
-                Err(NoOrder::Usage)
-            }
-        },
+    match order_in(rt.alloc(), words.as_slice()) {
+        Ok(order) => Ok(order),
+        Err(error) => Err(answer(rt, words.as_slice(), &error)),
     }
+}
+
+/// Writes what was asked for in place of a run, or what is wrong with the words.
+fn answer(rt: &HostRuntime, words: &[String], error: &Error) -> NoOrder {
+    match error.kind() {
+        ErrorKind::OutOfMemory => NoOrder::Failed,
+        ErrorKind::DisplayHelp | ErrorKind::DisplayVersion => match error.print(rt) {
+            Ok(()) => NoOrder::Answered,
+            Err(error) if has_no_reader(&error) => NoOrder::NoReader,
+            Err(_) => NoOrder::Usage,
+        },
+        _ => say_wrong(rt, words),
+    }
+}
+
+/// Says what is wrong with the words, by words of which nothing moves a terminal: they are wrong in the same way.
+fn say_wrong(rt: &HostRuntime, words: &[String]) -> NoOrder {
+    let Ok(shown) = shown_words(rt.alloc(), words) else {
+        return NoOrder::Failed;
+    };
+    if let Err(error) = order_in(rt.alloc(), shown.as_slice()) {
+        let _ = error.print(rt);
+    }
+    NoOrder::Usage
 }

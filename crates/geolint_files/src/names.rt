@@ -6,17 +6,44 @@ use std::io::{self, Read};
 /// The most bytes of a name that are kept: one that is longer names no file.
 const LONGEST_NAME: usize = 4096;
 
-/// Reads names that are ended by LF or NUL.
+/// The byte that ends each name of a list.
+#[derive(Clone, Copy, Debug, PartialEq, Eq)]
+pub enum NameEnd {
+    Lf,
+    Nul,
+}
+
+impl NameEnd {
+    fn byte(self) -> u8 {
+        match self {
+            NameEnd::Lf => b'\n',
+            NameEnd::Nul => 0,
+        }
+    }
+}
+
+/// What a list has next.
+#[derive(Clone, Copy, Debug, PartialEq, Eq)]
+pub enum Listed {
+    Name,
+    /// A name with NUL, where names end with LF. What is before the NUL is given.
+    NameWithNul,
+    /// The list is over.
+    End,
+}
+
+/// Reads names that are ended by one byte.
 #[derive(Drop)]
 pub struct Names<R> {
     reader: R,
+    name_end: NameEnd,
     piece: Vec<u8>,
     at: usize,
     end: usize,
 }
 
 impl<R: Read> Names<R> {
-    pub fn new(rt: &HostRuntime, reader: R) -> io::Result<Names<R>>
+    pub fn new(rt: &HostRuntime, reader: R, name_end: NameEnd) -> io::Result<Names<R>>
     where
         R: Drop,
     {
@@ -24,31 +51,34 @@ impl<R: Read> Names<R> {
         piece.resize(PIECE, 0u8)?;
         Ok(Names {
             reader,
+            name_end,
             piece,
             at: 0,
             end: 0,
         })
     }
 
-    /// Puts the next name in place of the old one, and answers whether there was one. Empty names are passed over.
-    pub fn next_into(&mut self, name: &mut Vec<u8>) -> io::Result<bool> {
+    /// Puts the next name in place of the old one. Empty names are passed over.
+    pub fn next_into(&mut self, name: &mut Vec<u8>) -> io::Result<Listed> {
         name.clear();
+        let mut has_nul = false;
         for _ in 0..u64::MAX {
             match self.next_byte()? {
-                None => return Ok(!name.is_empty()),
-                Some(b'\n' | 0) => {
-                    if !name.is_empty() {
-                        return Ok(true);
+                None => break,
+                Some(byte) if byte == self.name_end.byte() => {
+                    if has_nul || !name.is_empty() {
+                        break;
                     }
                 }
+                Some(0) => has_nul = true,
                 Some(byte) => {
-                    if name.len() < LONGEST_NAME {
+                    if !has_nul && name.len() < LONGEST_NAME {
                         name.push(byte)?;
                     }
                 }
             }
         }
-        Ok(false)
+        Ok(what_is(has_nul, name.is_empty()))
     }
 
     fn next_byte(&mut self) -> io::Result<Option<u8>> {
@@ -62,5 +92,13 @@ impl<R: Read> Names<R> {
         let byte = self.piece.as_slice().get(self.at).copied();
         self.at = self.at.saturating_add(1);
         Ok(byte)
+    }
+}
+
+fn what_is(has_nul: bool, is_empty: bool) -> Listed {
+    match (has_nul, is_empty) {
+        (true, _) => Listed::NameWithNul,
+        (false, false) => Listed::Name,
+        (false, true) => Listed::End,
     }
 }

@@ -1,5 +1,5 @@
 //! How far the run is, on a terminal's standard error.
-use std::io::{IsTerminal, Write};
+use std::io::{self, IsTerminal, Read, Write};
 use std::time::{Duration, Instant};
 
 /// How long a line stands at least.
@@ -19,6 +19,8 @@ pub struct Meter {
     ahead: Option<u64>,
     /// The bytes of the file under way that are still to be read, where its size is known.
     left: Option<u64>,
+    /// The bytes of the file under way that were read.
+    read: u64,
 }
 
 impl Meter {
@@ -37,6 +39,7 @@ impl Meter {
             bytes: 0,
             ahead: None,
             left: None,
+            read: 0,
         }
     }
 
@@ -55,13 +58,20 @@ impl Meter {
         self.files = self.files.saturating_add(1);
         self.ahead = rest_of(self.ahead, size.unwrap_or(0));
         self.left = size;
+        self.read = 0;
         self.look();
+    }
+
+    /// The file under way is read once more, no further than it was.
+    pub fn read_again(&mut self) {
+        self.left = Some(self.read);
     }
 
     /// So many bytes more are read.
     pub fn add_bytes(&mut self, count: usize) {
         self.bytes = self.bytes.saturating_add(count as u64);
         self.left = rest_of(self.left, count as u64);
+        self.read = self.read.saturating_add(count as u64);
         self.look();
     }
 
@@ -100,7 +110,10 @@ impl Meter {
             };
             let seconds = left.saturating_add(ahead) / rate.max(1) / 1000;
             let (minutes, seconds) = (seconds / 60, seconds % 60);
-            let _ = write!(self.rt.stderr(), ", {minutes} min {seconds} s left{of}");
+            // Below a second there is nothing to wait for.
+            if minutes > 0 || seconds > 0 {
+                let _ = write!(self.rt.stderr(), ", {minutes} min {seconds} s left{of}");
+            }
         }
         let _ = self.rt.stderr().write_all(b"\x1b[K");
     }
@@ -111,6 +124,25 @@ impl Meter {
             self.is_visible = false;
             let _ = self.rt.stderr().write_all(b"\r\x1b[K");
         }
+    }
+}
+
+/// A reader whose bytes are counted as they come.
+#[derive(Drop)]
+pub struct Counted<'a, R> {
+    pub reader: &'a mut R,
+    pub meter: &'a mut Meter,
+}
+
+impl<'a, R: Read> Read for Counted<'a, R> {
+    ghost remaining = { λ counted. R.remaining counted.reader.now };
+
+    fn read(&mut self, piece: &mut [u8]) -> io::Result<usize> {
+        let result = self.reader.read(piece);
+        if let Ok(count) = &result {
+            self.meter.add_bytes(*count);
+        }
+        result
     }
 }
 

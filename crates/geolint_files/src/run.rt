@@ -4,35 +4,35 @@ ghost use Rattle.std.specs.List.{Contains};
 ghost use Rattle.geolint_files.specs.Report.{IsToldPlace};
 ghost use Rattle.geolint_files.specs.Sites.{RightBy, PathsBy, ToldBy, ToldInTextsBy, FoundBy, ExcerptBy, sought};
 
-use crate::files::{is_memory, reason, spell};
+use crate::files::{Spelled, is_lost_link, is_memory, look_up, reason, spell};
 use crate::formats::lines::Style;
 use crate::formats::sarif::Log;
 use crate::formats::{github, json, lines, put_name, text};
 use crate::judge::{Finding, Reading, judge};
 use crate::line::put_all;
-use crate::names::Names;
+use crate::names::{Listed, NameEnd, Names};
 use crate::options::{Format, Options};
 use crate::outcome::Outcome;
-use crate::progress::Meter;
+use crate::progress::{Counted, Meter};
 use crate::report::Report;
 use crate::sites::Sites;
 use crate::summary::Summary;
-use crate::walk::{Pending, Walk, is_sequence, is_taken};
+use crate::walk::{Others, Pending, Walk, is_sequence, is_taken};
 use crate::words::Order;
 use gj_json::Limits;
 use gj_rules::Linter;
 use std::alloc::AllocError;
-use std::env;
 use std::fs::{File, Metadata};
-use std::io::{self, BufWriter, IsTerminal, Read, Seek, SeekFrom, Stdout, Write};
+use std::io::{self, BufWriter, ErrorKind, IsTerminal, Read, Seek, SeekFrom, Stdout, Write};
 use std::os::unix::fs::MetadataExt;
+use std::{env, mem};
 
 /// What ends a run before its report is whole.
 #[derive(Drop)]
 pub enum Failure {
     Write(io::Error),
-    /// The list of names cannot be read.
-    List(String, String),
+    /// No file was judged, and these were passed over.
+    NoFile(Others),
     /// Standard input is named as a file and as the list.
     BothFromInput,
     Memory,
@@ -54,20 +54,30 @@ impl From<io::Error> for Failure {
     }
 }
 
-/// Judges what is named, and tells each file. The answer is the worst of all.
+/// What a list says of standard input.
+const NO_INPUT: &str = "a list cannot name standard input; ./- is a file of that name";
+
+/// What is said of a name with NUL, where names end with LF.
+const NO_NUL: &str = "a name in a list has no NUL; --null takes names that end with it";
+
+/// Judges what is named, and tells each file. The answer is the worst of all; where there was none, and that is not allowed,
+/// it is a failure.
 pub fn judge_all(rt: &HostRuntime, order: &Order) -> Result<Outcome, Failure> {
     if names_input(order) {
         return Err(Failure::BothFromInput);
     }
     let mut linter = Linter::new(order.options.limits);
-    let mut run = Run::new(rt, order.options, &mut linter)?;
+    let mut run = Run::new(rt, order, &mut linter)?;
     run.begin()?;
     run.expect(order);
     for path in &order.paths {
         run.judge_path(path.as_slice())?;
     }
     if let Some(list) = &order.list {
-        run.judge_list(list.as_slice())?;
+        run.judge_list(list.as_slice(), order.name_end)?;
+    }
+    if run.summary.is_empty() && !order.allows_empty {
+        return Err(run.end_with_none(order)?);
     }
     run.end()
 }
@@ -87,10 +97,23 @@ fn names_input(order: &Order) -> bool {
     }
 }
 
+/// What is named first.
+fn first_named(order: &Order) -> &[u8] {
+    match (order.paths.as_slice().first(), &order.list) {
+        (Some(path), _) => path.as_slice(),
+        (None, Some(list)) => list.as_slice(),
+        (None, None) => b"-",
+    }
+}
+
 #[derive(Drop)]
 struct Run<'a> {
     rt: HostRuntime,
     options: Options,
+    /// The endings of names that are taken in a folder beside the usual ones.
+    endings: &'a [Vec<u8>],
+    /// The files that are passed over.
+    others: Others,
     /// One for all files, each of which begins it anew.
     linter: &'a mut Linter,
     style: Style,
@@ -129,14 +152,16 @@ impl<'a> Run<'a> {
     ghost use Rattle.geolint_files.specs.Report.{IsToldPlace};
     ghost use Rattle.geolint_files.specs.Sites.{sought};
 
-    fn new(rt: &HostRuntime, options: Options, linter: &'a mut Linter) -> Result<Run<'a>, Failure>
+    fn new(rt: &HostRuntime, order: &'a Order, linter: &'a mut Linter) -> Result<Run<'a>, Failure>
         ensures outcome { IfOk result (λ run. run.outcome ≡ worst []) }
         ensures summary { IfOk result (λ run. Counts run.summary []) }
     {
         let is_terminal = rt.stdout().is_terminal();
         Ok(Run {
             rt: rt.clone()?,
-            options,
+            options: order.options,
+            endings: order.endings.as_slice(),
+            others: Others::new(rt.alloc()),
             linter,
             style: style_of(rt, is_terminal),
             out: BufWriter::new(rt.alloc(), rt.stdout())?,
@@ -195,41 +220,60 @@ impl<'a> Run<'a> {
         Ok(())
     }
 
-    /// Judges each path of a list.
-    fn judge_list(&mut self, list: &[u8]) -> Result<(), Failure> {
+    /// Ends the report of a run in which no file was judged: in a log it is no success.
+    fn end_with_none(&mut self, order: &Order) -> Result<Failure, Failure> {
+        let alloc = self.rt.alloc();
+        if self.options.format == Format::Sarif {
+            self.log
+                .keep_unread(alloc, first_named(order), "no file was judged")?;
+        }
+        self.end()?;
+        Ok(Failure::NoFile(mem::replace(&mut self.others, Others::new(alloc))))
+    }
+
+    /// Judges each path of a list. One that cannot be opened, or read to its end, is told as a file is.
+    fn judge_list(&mut self, list: &[u8], name_end: NameEnd) -> Result<(), Failure> {
         if list == b"-".as_slice() {
             let input = self.rt.stdin();
-            return self.judge_names(input, list);
+            return self.judge_names(input, list, name_end);
         }
         let opened = match spell(self.rt.alloc(), list) {
             Ok(spelled) => spelled.open(&self.rt),
             Err(error) => Err(error),
         };
         match opened {
-            Ok(file) => self.judge_names(file, list),
-            Err(error) => Err(self.list_failure(list, &error)),
+            Ok(file) => self.judge_names(file, list, name_end),
+            Err(error) => self.tell_unread(list, &error),
         }
     }
 
-    fn list_failure(&self, list: &[u8], error: &io::Error) -> Failure {
-        let alloc = self.rt.alloc();
-        match (String::from_utf8_lossy(alloc, list), reason(alloc, error)) {
-            (Ok(name), Ok(reason)) => Failure::List(name, reason),
-            _ => Failure::Memory,
-        }
-    }
-
-    fn judge_names<R: Read + Drop>(&mut self, reader: R, list: &[u8]) -> Result<(), Failure> {
-        let mut names = Names::new(&self.rt, reader)?;
+    fn judge_names<R: Read + Drop>(
+        &mut self,
+        reader: R,
+        list: &[u8],
+        name_end: NameEnd,
+    ) -> Result<(), Failure> {
+        let mut names = Names::new(&self.rt, reader, name_end)?;
         let mut name = Vec::new(self.rt.alloc());
         for _ in 0..u64::MAX {
             match names.next_into(&mut name) {
-                Ok(true) => self.judge_path(name.as_slice())?,
-                Ok(false) => break,
-                Err(error) => return Err(self.list_failure(list, &error)),
+                Ok(Listed::End) => break,
+                Ok(listed) => self.judge_listed(name.as_slice(), listed)?,
+                Err(error) => return self.tell_unread(list, &error),
             }
         }
         Ok(())
+    }
+
+    /// Judges what a list names, which are files and folders alone.
+    fn judge_listed(&mut self, name: &[u8], listed: Listed) -> Result<(), Failure> {
+        if listed == Listed::NameWithNul {
+            self.tell_unread(name, &io::Error::new(ErrorKind::InvalidInput, NO_NUL))
+        } else if name == b"-".as_slice() {
+            self.tell_unread(name, &io::Error::new(ErrorKind::InvalidInput, NO_INPUT))
+        } else {
+            self.judge_path(name)
+        }
     }
 
     /// Judges a file, or the files of a folder.
@@ -248,44 +292,72 @@ impl<'a> Run<'a> {
         Ok(())
     }
 
-    /// Judges what a name leads to, or puts a folder's entries on the walk.
+    /// Judges what a name leads to, or puts a folder's entries on the walk. What cannot be looked at is told: it could be a
+    /// folder with files. Of a link that leads nowhere only the name counts.
     fn look_at(&mut self, pending: &Pending, walk: &mut Walk) -> Result<(), Failure> {
         let name = pending.name.as_slice();
-        let is_wanted = pending.is_given || is_taken(name);
-        let found = match spell(self.rt.alloc(), name) {
-            Ok(spelled) => match spelled.metadata(&self.rt) {
-                Ok(metadata) => Ok((spelled, metadata)),
-                Err(error) => Err(error),
-            },
-            Err(error) => Err(error),
-        };
-        match found {
-            Err(error) if is_wanted => self.tell_unread(name, &error),
-            Err(_) => Ok(()),
+        let is_wanted = pending.is_given || is_taken(name, self.endings);
+        match look_up(&self.rt, name) {
             Ok((spelled, metadata)) => {
                 if metadata.is_dir() {
-                    if walk.enters(metadata.dev(), metadata.ino())? {
-                        match spelled.entries(&self.rt) {
-                            Ok(entries) => walk.push_entries(&self.rt, name, entries.as_slice())?,
-                            Err(error) => self.tell_unread(name, &error)?,
-                        }
-                    }
-                    Ok(())
-                } else if metadata.is_file() && is_wanted {
-                    match spelled.open(&self.rt) {
-                        Ok(file) => self.judge_file(name, file),
-                        Err(error) => self.tell_unread(name, &error),
-                    }
-                } else if pending.is_given {
-                    match spelled.open(&self.rt) {
-                        Ok(file) => self.judge_stream(name, file),
-                        Err(error) => self.tell_unread(name, &error),
-                    }
+                    self.enter(name, &spelled, &metadata, walk)
+                } else if is_wanted && (metadata.is_file() || pending.is_given) {
+                    self.judge_named(name, &spelled, &metadata)
                 } else {
+                    self.pass_over(name, &metadata)
+                }
+            }
+            Err(error) => {
+                if !is_wanted && is_lost_link(&self.rt, name, &error) {
                     Ok(())
+                } else {
+                    self.tell_unread(name, &error)
                 }
             }
         }
+    }
+
+    /// Puts a folder's entries on the walk, where it is entered for the first time.
+    fn enter(
+        &mut self,
+        name: &[u8],
+        spelled: &Spelled,
+        metadata: &Metadata,
+        walk: &mut Walk,
+    ) -> Result<(), Failure> {
+        if walk.enters(metadata.dev(), metadata.ino())? {
+            match spelled.entries(&self.rt) {
+                Ok(entries) => walk.push_entries(&self.rt, name, entries.as_slice())?,
+                Err(error) => self.tell_unread(name, &error)?,
+            }
+        }
+        Ok(())
+    }
+
+    fn judge_named(
+        &mut self,
+        name: &[u8],
+        spelled: &Spelled,
+        metadata: &Metadata,
+    ) -> Result<(), Failure> {
+        match spelled.open(&self.rt) {
+            Ok(file) => {
+                if metadata.is_file() {
+                    self.judge_file(name, file)
+                } else {
+                    self.judge_stream(name, file)
+                }
+            }
+            Err(error) => self.tell_unread(name, &error),
+        }
+    }
+
+    /// Counts a file that is not taken.
+    fn pass_over(&mut self, name: &[u8], metadata: &Metadata) -> Result<(), Failure> {
+        if metadata.is_file() {
+            self.others.add(name)?;
+        }
+        Ok(())
     }
 
     fn reading(&self, name: &[u8]) -> Reading {
@@ -353,33 +425,15 @@ impl<'a> Run<'a> {
             → self.new.outcome ≡ worst (outcomes ++ outcome_of (passes self.old.options.strict self.old.options.allowed finding) ∷ []) }
         ensures summary { (files : List (Option Finding)) → Counts self.old.summary files → Counts self.new.summary (files ++ Some finding ∷ []) }
     {
-        let sites = self.find_sites(&finding, file, before, reading);
+        let sites = find_sites(
+            &finding,
+            file,
+            before,
+            reading,
+            self.options.limits,
+            &mut self.progress,
+        );
         self.tell(name, finding, Some(&sites))
-    }
-
-    /// The lines, columns and paths of what is told, where the file is still as it was judged.
-    fn find_sites(
-        &self,
-        finding: &Finding,
-        file: &mut File,
-        before: &Option<Metadata>,
-        reading: Reading,
-    ) -> Sites
-        ensures only { (place : ℕ) → Contains (sought result) place → IsToldPlace finding.now place }
-    {
-        let found = match file.seek(SeekFrom::Start(0)) {
-            Ok(_) => sites_in(
-                finding,
-                file,
-                self.options.limits,
-                reading == Reading::Sequence,
-            ),
-            Err(error) => Err(error),
-        };
-        match found {
-            Ok(sites) if is_unchanged(before, &file.metadata().ok()) => sites,
-            _ => Sites::none(),
-        }
     }
 
     /// Tells a file that was judged.
@@ -465,6 +519,34 @@ impl<'a> Run<'a> {
             self.out.flush()?;
         }
         Ok(())
+    }
+}
+
+/// The lines, columns and paths of what is told, where the file is still as it was judged.
+fn find_sites(
+    finding: &Finding,
+    file: &mut File,
+    before: &Option<Metadata>,
+    reading: Reading,
+    limits: Limits,
+    meter: &mut Meter,
+) -> Sites
+    ensures only { (place : ℕ) → Contains (sought result) place → IsToldPlace finding.now place }
+{
+    meter.read_again();
+    let found = match file.seek(SeekFrom::Start(0)) {
+        Ok(_) => {
+            let mut reader = Counted {
+                reader: &mut *file,
+                meter,
+            };
+            sites_in(finding, &mut reader, limits, reading == Reading::Sequence)
+        }
+        Err(error) => Err(error),
+    };
+    match found {
+        Ok(sites) if is_unchanged(before, &file.metadata().ok()) => sites,
+        _ => Sites::none(),
     }
 }
 

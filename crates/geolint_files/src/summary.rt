@@ -29,7 +29,7 @@ pub struct Summary {
 }
 
 impl Summary {
-    ghost use Rattle.std.specs.Prelude.{◌≡◌, ◌<◌, ◌++◌, ◌∷◌, [], List, Option, Some, None, false, not};
+    ghost use Rattle.std.specs.Prelude.{◌≡◌, ◌<◌, ◌++◌, ◌∷◌, [], List, Option, Some, None, true, false, not};
     ghost use Rattle.std.specs.List.{count_by};
     ghost use Rattle.std.specs.Io.Iter.{u64_saturate};
     ghost use Rattle.gj_coords.specs.Internal.KeptWarnings.{none_in};
@@ -50,6 +50,18 @@ impl Summary {
             unread: 0,
             counts: [0; CODES],
         }
+    }
+
+    /// Whether there was no file.
+    pub fn is_empty(&self) -> bool
+        ensures { Counts self.now [] → result ≡ true }
+    {
+        self.valid == 0
+            && self.warned == 0
+            && self.broken == 0
+            && self.refused == 0
+            && self.not_valid == 0
+            && self.unread == 0
     }
 
     /// One file more of which this is found.

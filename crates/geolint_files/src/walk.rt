@@ -1,16 +1,69 @@
 //! The files of a path, which is a file or a folder.
 
-use std::alloc::AllocError;
+use std::alloc::{AllocError, Global};
 use std::collections::BTreeSet;
 
-/// What a name in a folder says of the file.
-pub fn is_taken(name: &[u8]) -> bool {
-    name.ends_with(b".geojson") || is_sequence(name)
+/// Whether a file of this name in a folder is judged: these are the endings beside `.geojson` and `.geojsons`.
+pub fn is_taken(name: &[u8], endings: &[Vec<u8>]) -> bool {
+    if ends_in(name, b".geojson") || is_sequence(name) {
+        return true;
+    }
+    for ending in endings {
+        if ends_in(name, ending.as_slice()) {
+            return true;
+        }
+    }
+    false
 }
 
 /// Whether a file of this name is a text sequence.
 pub fn is_sequence(name: &[u8]) -> bool {
-    name.ends_with(b".geojsons")
+    ends_in(name, b".geojsons")
+}
+
+/// Whether a name has an ending, in capitals or not.
+fn ends_in(name: &[u8], ending: &[u8]) -> bool {
+    let mut backward = name.iter().rev().zip(ending.iter().rev());
+    name.len() >= ending.len() && backward.all(|(byte, other)| byte.eq_ignore_ascii_case(other))
+}
+
+/// The files in folders that are passed over, since their names have other endings.
+#[derive(Drop)]
+pub struct Others {
+    pub count: u64,
+    /// The ending of the first one, with its dot; the whole name where it has none.
+    pub ending: Vec<u8>,
+}
+
+impl Others {
+    pub fn new(alloc: Global) -> Others {
+        Others {
+            count: 0,
+            ending: Vec::new(alloc),
+        }
+    }
+
+    /// One more, of this name.
+    pub fn add(&mut self, name: &[u8]) -> Result<(), AllocError> {
+        if self.count == 0 {
+            self.ending.extend_from_slice(ending_of(name))?;
+        }
+        self.count = self.count.saturating_add(1);
+        Ok(())
+    }
+}
+
+/// The ending of a path's last name.
+fn ending_of(path: &[u8]) -> &[u8] {
+    let mut start = 0;
+    for i in 0..path.len() {
+        if path[i] == b'/' {
+            start = i + 1;
+        } else if path[i] == b'.' {
+            start = i;
+        }
+    }
+    path.get(start..).unwrap_or(path)
 }
 
 /// A name that is still to be looked at.

@@ -1,9 +1,11 @@
 //! The words of the command.
 
 use crate::arguments::to_bytes;
+use crate::names::NameEnd;
 use crate::options::{Format, Kinds, Options};
-use clap::{Arg, ArgAction, ArgMatches, Command, value_parser};
-use gj_coords::KINDS;
+use clap::error::ErrorKind;
+use clap::{Arg, ArgAction, ArgMatches, Command, Error, value_parser};
+use gj_coords::{KINDS, Kind};
 use gj_json::Limits;
 use std::alloc::{AllocError, Global};
 
@@ -18,19 +20,21 @@ const KIND_NAMES: [&str; 9] = ["W1", "W2", "W3", "W4", "W5", "W6", "W7", "W8", "
 
 const AFTER_HELP: &str = "\
 A PATH is a file, a folder or -, standard input. In a folder, and in the folders in it, each file named *.geojson is judged,
-and as a text sequence (RFC 8142) each named *.geojsons, in the order of the names. With no PATH and no --files-from,
-standard input is judged.
+and as a text sequence (RFC 8142) each named *.geojsons, in capitals or not, in the order of the names. With no PATH and
+no --files-from, standard input is judged.
 
 Exit status:
-  0  each file is valid, and under --strict has no warning but of the kinds in --allow
-  1  a file is not
-  2  a file could not be opened or read, the words are wrong, or the report could not be written; this comes before 1
+  0    each file is valid, and under --strict has no warning but of the kinds in --allow
+  1    a file is not
+  2    a file, a folder or a list could not be opened or read, no file was judged and --allow-empty was not given, the words
+       are wrong, or the report could not be written; this comes before 1
+  141  nobody reads the report any more, as in `geolint-files data | head -n 1`
 
 Examples:
   geolint-files data
   geolint-files --strict --allow W4,W9 --summary data
   geolint-files --format json data | jq -r 'select(.passes | not) | .path'
-  git ls-files -z '*.geojson' | geolint-files --files-from -";
+  git ls-files -z '*.geojson' | geolint-files --null --files-from -";
 
 /// What the words ask for.
 #[derive(Drop)]
@@ -40,10 +44,25 @@ pub struct Order {
     pub paths: Vec<Vec<u8>>,
     /// The file with more names.
     pub list: Option<Vec<u8>>,
+    pub name_end: NameEnd,
+    /// The endings of names that are taken in a folder beside the usual ones, each with its dot.
+    pub endings: Vec<Vec<u8>>,
+    /// A call in which no file is judged is no failure.
+    pub allows_empty: bool,
+}
+
+/// The order that the words give.
+pub fn order_in(alloc: Global, words: &[String]) -> Result<Order, Error> {
+    let mut command = command(alloc)?;
+    let matches = command.try_get_matches_from_mut(words)?;
+    match order_of(alloc, &matches)? {
+        Ok(order) => Ok(order),
+        Err(wrong) => Err(command.error(ErrorKind::InvalidValue, wrong.as_str())?),
+    }
 }
 
 /// The command, each word of which is made and given over before the next: what is under way at once is one word.
-pub fn command<'a>(alloc: Global) -> Result<Command<'a>, AllocError> {
+fn command<'a>(alloc: Global) -> Result<Command<'a>, AllocError> {
     let command = Command::new(alloc, "geolint-files")
         .version(VERSION)
         .about("Judges GeoJSON files, and says of each that is not valid where and why not")
@@ -65,8 +84,6 @@ fn with_warnings<'a>(alloc: Global, command: Command<'a>) -> Result<Command<'a>,
         .long("allow")
         .value_name("KINDS")
         .help("Under --strict, kinds of warnings that do not fail a file, as W4,W9")
-        .value_parser(KIND_NAMES.as_slice())
-        .hide_possible_values(true)
         .value_delimiter(',')
         .action(ArgAction::Append);
     command.arg(allow)
@@ -113,10 +130,32 @@ fn with_files<'a>(alloc: Global, command: Command<'a>) -> Result<Command<'a>, Al
         .long("files-from")
         .value_name("FILE")
         .help(
-            "Judge also the paths in this file, or in standard input if it is -, each ended by LF or NUL",
+            "Judge also the paths in this file, or in standard input if it is -, each ended by LF",
         )
         .action(ArgAction::Set);
     let command = command.arg(list)?;
+    let null = Arg::new(alloc, "null")
+        .short('0')
+        .long("null")
+        .help(
+            "The paths of --files-from are ended by NUL, as git ls-files -z and find -print0 end them",
+        )
+        .action(ArgAction::SetTrue)
+        .requires_arg("files-from")?;
+    let command = command.arg(null)?;
+    let ending = Arg::new(alloc, "ending")
+        .long("ending")
+        .value_name("ENDING")
+        .help(
+            "In a folder, judge also the files whose names end so, as json; may be given several times",
+        )
+        .action(ArgAction::Append);
+    let command = command.arg(ending)?;
+    let empty = Arg::new(alloc, "allow-empty")
+        .long("allow-empty")
+        .help("A call in which no file is judged ends with status 0 and says nothing")
+        .action(ArgAction::SetTrue);
+    let command = command.arg(empty)?;
     let path = Arg::new(alloc, "path")
         .value_name("PATH")
         .help("What to judge")
@@ -125,8 +164,25 @@ fn with_files<'a>(alloc: Global, command: Command<'a>) -> Result<Command<'a>, Al
     command.arg(path)
 }
 
-/// What was asked for, or None where the words do not go together.
-pub fn order_of(alloc: Global, given: &ArgMatches<'_>) -> Result<Option<Order>, AllocError> {
+/// What was asked for, or the line on a word that is wrong.
+fn order_of(alloc: Global, given: &ArgMatches<'_>) -> Result<Result<Order, String>, AllocError> {
+    let options = match options_of(given) {
+        Ok(options) => options,
+        Err(word) => {
+            return Ok(Err(format!(in alloc; "invalid value '{word}' for '--allow <KINDS>'")?));
+        }
+    };
+    let mut endings = Vec::new(alloc);
+    for word in given.get_strs("ending").unwrap_or(&[]) {
+        match ending_in(alloc, word)? {
+            Some(ending) => endings.push(ending)?,
+            None => {
+                return Ok(Err(format!(in alloc;
+                    "invalid value '{word}' for '--ending <ENDING>'"
+                )?));
+            }
+        }
+    }
     let mut paths = Vec::new(alloc);
     for path in given.get_strs("path").unwrap_or(&[]) {
         paths.push(to_bytes(alloc, path)?)?;
@@ -138,22 +194,41 @@ pub fn order_of(alloc: Global, given: &ArgMatches<'_>) -> Result<Option<Order>, 
     if paths.is_empty() && list.is_none() {
         paths.push(Vec::from_slice(alloc, b"-")?)?;
     }
-    Ok(options_of(given).map(|options| Order {
+    let name_end = match given.get_flag("null") {
+        true => NameEnd::Nul,
+        false => NameEnd::Lf,
+    };
+    Ok(Ok(Order {
         options,
         paths,
         list,
+        name_end,
+        endings,
+        allows_empty: given.get_flag("allow-empty"),
     }))
 }
 
-fn options_of(given: &ArgMatches<'_>) -> Option<Options> {
-    let mut limits = Limits::usual();
-    if let Some(bytes) = given.get_one::<u64>("max-bytes") {
-        limits = Limits::new(limits.depth(), bytes)?;
+/// An ending with its dot, which may be left out: none for one with no more than a dot, or with a slash.
+fn ending_in(alloc: Global, word: &str) -> Result<Option<Vec<u8>>, AllocError> {
+    let bytes = to_bytes(alloc, word)?;
+    let mut ending = Vec::new(alloc);
+    if !bytes.as_slice().starts_with(b".") {
+        ending.push(b'.')?;
     }
-    Some(Options {
-        limits,
+    ending.extend_from_slice(bytes.as_slice())?;
+    if ending.len() == 1 || ending.as_slice().contains(&b'/') {
+        Ok(None)
+    } else {
+        Ok(Some(ending))
+    }
+}
+
+/// How files are judged and told, or a word that is no kind of warning.
+fn options_of<'a>(given: &ArgMatches<'a>) -> Result<Options, &'a str> {
+    Ok(Options {
+        limits: limits_in(given),
         strict: given.get_flag("strict"),
-        allowed: allowed_in(given),
+        allowed: allowed_in(given)?,
         quick: given.get_flag("quick"),
         sequences: given.get_flag("seq"),
         format: format_in(given),
@@ -161,16 +236,33 @@ fn options_of(given: &ArgMatches<'_>) -> Option<Options> {
     })
 }
 
-fn allowed_in(given: &ArgMatches<'_>) -> Kinds {
+fn limits_in(given: &ArgMatches<'_>) -> Limits {
+    let usual = Limits::usual();
+    match given.get_one::<u64>("max-bytes") {
+        Some(bytes) => Limits::new(usual.depth(), bytes).unwrap_or(usual),
+        None => usual,
+    }
+}
+
+fn allowed_in<'a>(given: &ArgMatches<'a>) -> Result<Kinds, &'a str> {
     let mut allowed = Kinds::none();
-    for name in given.get_strs("allow").unwrap_or(&[]) {
-        for (kind, called) in KINDS.iter().zip(KIND_NAMES.iter()) {
-            if *name == *called {
-                allowed.insert(*kind);
-            }
+    for word in given.get_strs("allow").unwrap_or(&[]) {
+        match kind_named(word.trim_ascii()) {
+            Some(kind) => allowed.insert(kind),
+            None => return Err(*word),
         }
     }
-    allowed
+    Ok(allowed)
+}
+
+/// The kind of warning of this name, in capitals or not.
+fn kind_named(name: &str) -> Option<Kind> {
+    for (kind, called) in KINDS.iter().zip(KIND_NAMES.iter()) {
+        if name.eq_ignore_ascii_case(called) {
+            return Some(*kind);
+        }
+    }
+    None
 }
 
 fn format_in(given: &ArgMatches<'_>) -> Format {

@@ -2,7 +2,6 @@
 use Rattle.std.specs.Prelude.{ℕ, Bool, List, [], ◌∷◌, ◌++◌, Option, Some, None, codes, if◌then◌else◌, nat_eq}
 use Rattle.std.specs.Fmt.{decimal}
 use Rattle.std.specs.List.{flat_map}
-use Rattle.std.specs.Str.Lossy.{utf8_lossy}
 use Rattle.gj_coords.specs.declared.kind.Kind.{Kind}
 use Rattle.gj_coords.specs.declared.warnings.Warnings.{Warnings}
 use Rattle.gj_coords.specs.Warnings.{kinds}
@@ -13,6 +12,7 @@ use Rattle.geolint_files.specs.declared.sites.Spot.{Spot}
 use Rattle.geolint_files.specs.declared.texts.Code.{Code}
 use Rattle.geolint_files.specs.Finding.{record_of, fault_of, warnings_of}
 use Rattle.geolint_files.specs.Forms.Messages.{and_record, and_times, and_path, level_of}
+use Rattle.geolint_files.specs.Names.{shown_name}
 use Rattle.geolint_files.specs.Report.{warning_of, of_warning, fails, spot_of, path_of}
 use Rattle.geolint_files.specs.Texts.{code_name, code_text}
 
@@ -23,9 +23,9 @@ escaped_in_message byte = if nat_eq byte 37 then codes "%25" else if nat_eq byte
 abbrev pub escaped_in_property : ℕ → List ℕ
 escaped_in_property byte = if nat_eq byte 58 then codes "%3A" else if nat_eq byte 44 then codes "%2C" else escaped_in_message byte
 
--- the level and the file, whose name has U+FFFD for what is no UTF-8
+-- the level and the file, as its name is shown
 unfoldable pub github_file : List ℕ → List ℕ → List ℕ
-github_file level name = codes "::" ++ (level ++ (codes " file=" ++ flat_map escaped_in_property (utf8_lossy name)))
+github_file level name = codes "::" ++ (level ++ (codes " file=" ++ flat_map escaped_in_property (shown_name name)))
 
 abbrev pub github_spot : Option Spot → List ℕ
 github_spot (Some spot) = codes ",line=" ++ (decimal spot.line ++ (codes ",col=" ++ decimal spot.column))

@@ -5,7 +5,7 @@ ghost use Rattle.geolint_files.specs.Finding.{warnings_of};
 ghost use Rattle.geolint_files.specs.Forms.Github.{escaped_in_message, escaped_in_property, github_file, github_spot, github_mark, github_message, github_command, github_warning, github_warnings, github_not_valid, github_rest, github_told, github_unread};
 ghost use Rattle.geolint_files.specs.Line.{Adds};
 
-use crate::formats::{level, put_and_path, put_and_record, put_and_times};
+use crate::formats::{level, put_and_path, put_and_record, put_and_times, put_name};
 use crate::line::{put, put_all, put_number};
 use crate::options::Options;
 use crate::report::{Report, Told, warning};
@@ -93,13 +93,14 @@ fn put_not_valid(alloc: Global, name: &[u8], line: &mut Vec<u8>) -> Result<(), A
     put(line, b"::not valid\n")
 }
 
-/// The level and the file, with U+FFFD for what is no Unicode text.
+/// The level and the file, as its name is shown.
 fn put_file(alloc: Global, level: &[u8], name: &[u8], line: &mut Vec<u8>) -> Result<(), AllocError>
     ensures { OnOk result (Adds line.old line.new (github_file level.now name.now)) }
 {
     put_all(line, &[b"::", level, b" file="])?;
-    let name = String::from_utf8_lossy(alloc, name)?;
-    put_in_property(name.as_bytes(), line)
+    let mut shown = Vec::new(alloc);
+    put_name(name, &mut shown)?;
+    put_in_property(shown.as_slice(), line)
 }
 
 fn put_command(
