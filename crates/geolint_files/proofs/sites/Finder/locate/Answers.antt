@@ -1,7 +1,7 @@
-use Rattle.std.proofs.Common.{arith, Bool, ◌≡◌, ◌<◌, ◌++◌, ℕ, List, length, take, ap, sym, subst, ◌∙◌, append_assoc}
-use Rattle.std.proofs.lemmas.List.{take_more}
+use Rattle.std.proofs.Common.{arith, Bool, ◌≡◌, ◌<◌, ◌≤◌, ◌++◌, ℕ, List, length, take, ap, sym, subst, ◌∙◌, append_assoc}
+use Rattle.std.proofs.lemmas.List.{take_more, take_all}
 use Rattle.geolint_files.specs.Sites.{text_of, text_limits}
-use Rattle.geolint_files.specs.Internal.SecondReading.{StandsIn, KeepsIn}
+use Rattle.geolint_files.specs.Internal.SecondReading.{Stands, StandsIn, KeepsIn}
 use Rattle.geolint_files.proofs.ToldPaths.{KeepsIn-more}
 use Rattle.geolint_files.proofs.sites.Finder.locate.Goals as goal
 
@@ -42,3 +42,25 @@ returns-else-self-clause-keeps c = λ text stands keeps.
     ap (λ (b : Bool). text_of b (text ++ bytes)) plain ∙ ap (λ (b : Bool). text_of b text ++ bytes) (sym plain) in
     KeepsIn-more old c.locate_in_text.new.self text bytes c.locate_in_text.ensures.same.kind c.locate_in_text.ensures.same.limits joined (λ yes. absurd (cc))
     (c.locate_in_text.ensures.keeps (text_limits old.is_sequence old.limits) (text_of old.is_sequence text) stands) keeps
+
+pub returns-else-self-clause-stands : goal.returns-else-self-clause-stands
+returns-else-self-clause-stands c = λ text stands.
+    let old = c.args.self.now in
+    let bytes = c.args.bytes.now in
+    let plain = c.if-self.false in
+    let joined : text_of old.is_sequence (text ++ bytes) ≡ text_of old.is_sequence text ++ bytes =
+    ap (λ (b : Bool). text_of b (text ++ bytes)) plain ∙ ap (λ (b : Bool). text_of b text ++ bytes) (sym plain) in
+    let same_text = ap (λ (b : Bool). text_of b (text ++ bytes)) c.locate_in_text.ensures.same.kind ∙ joined in
+    subst (Stands c.locate_in_text.new.self) (sym same_text) (c.locate_in_text.ensures.stands (text_of old.is_sequence text) stands)
+
+pub returns-after-loop-byte-clause-stands : goal.returns-after-loop-byte-clause-stands
+returns-after-loop-byte-clause-stands c = λ text stands.
+    let bytes = c.args.bytes.now in
+    let end : length bytes ≤ c.loop-byte.byte-index = omega (arith, c.loop-byte-test.false) in
+    subst (λ (ys : List ℕ). StandsIn c.loop-byte.self (text ++ ys)) (take_all c.loop-byte.byte-index bytes end) (c.loop-byte.invariant.stands text stands)
+
+pub returns-after-loop-byte-clause-keeps : goal.returns-after-loop-byte-clause-keeps
+returns-after-loop-byte-clause-keeps c = λ text stands keeps.
+    let bytes = c.args.bytes.now in
+    let end : length bytes ≤ c.loop-byte.byte-index = omega (arith, c.loop-byte-test.false) in
+    subst (λ (ys : List ℕ). KeepsIn c.loop-byte.self (text ++ ys)) (take_all c.loop-byte.byte-index bytes end) (c.loop-byte.invariant.keeps text stands keeps)
