@@ -6,13 +6,26 @@ use Rattle.gj_places.specs.Lines.{is_line_feed, begins_character, line_feeds, ch
 use Rattle.gj_places.proofs.CountedBytes.{counted, line_feeds-more, characters-more, column_of-feed}
 use Rattle.gj_places.proofs.KeptLines.{last_line-longer}
 
-line_feeds-append : (xs ys : List ℕ) → line_feeds (xs ++ ys) ≡ line_feeds xs + line_feeds ys
+pub line_feeds-append : (xs ys : List ℕ) → line_feeds (xs ++ ys) ≡ line_feeds xs + line_feeds ys
 line_feeds-append [] ys = omega arith
 line_feeds-append (x ∷ xs) ys = let rest = line_feeds-append xs ys in omega (arith, rest)
 
-characters-append : (xs ys : List ℕ) → characters (xs ++ ys) ≡ characters xs + characters ys
+pub characters-append : (xs ys : List ℕ) → characters (xs ++ ys) ≡ characters xs + characters ys
 characters-append [] ys = omega arith
 characters-append (x ∷ xs) ys = let rest = characters-append xs ys in omega (arith, rest)
+
+at-most-by : (counts : Bool) (some all : ℕ) → some ≤ all → counted counts + some ≤ suc all
+at-most-by true some all within = omega (arith, within)
+at-most-by false some all within = omega (arith, within)
+
+-- a list has no more lines and characters than bytes
+pub line_feeds-at-most : (xs : List ℕ) → line_feeds xs ≤ length xs
+line_feeds-at-most [] = omega arith
+line_feeds-at-most (x ∷ xs) = at-most-by (is_line_feed x) (line_feeds xs) (length xs) (line_feeds-at-most xs)
+
+pub characters-at-most : (xs : List ℕ) → characters xs ≤ length xs
+characters-at-most [] = omega arith
+characters-at-most (x ∷ xs) = at-most-by (begins_character x) (characters xs) (length xs) (characters-at-most xs)
 
 pub line_feeds-take : (xs : List ℕ) (i : ℕ) → i < length xs → line_feeds (take (i + 1) xs) ≡ line_feeds (take i xs) + (if is_line_feed (get_or xs i 0) then 1 else 0)
 line_feeds-take xs i within = ap line_feeds (take_more xs i 0 within) ∙ line_feeds-more (take i xs) (get_or xs i 0)

@@ -1,23 +1,20 @@
-use Rattle.std.proofs.Common.{rules, arith, ◌≡◌, ap, get_or}
-use Rattle.std.specs.Prelude.{true, false}
-use Rattle.gj_places.specs.Lines.{begins_character}
-use Rattle.gj_places.proofs.CountedBytes.{counted}
-use Rattle.gj_places.proofs.CountedPieces.{characters-take}
+use Rattle.std.proofs.Common.{rules, arith, ◌≡◌, ◌≤◌, ◌<◌, ◌+◌, ℕ, ap, sym, ◌∙◌, length, w64, Fits}
+use Rattle.std.specs.Slice.Iter.{chunks_rest}
+use Rattle.gj_places.specs.Lines.{characters}
+use Rattle.gj_places.proofs.CountedPieces.{characters-append, characters-at-most}
 use Rattle.gj_places.proofs.lines.characters.Goals as goal
-use Rattle.gj_places.proofs.lines.characters.Goals.{then-begins_character, else-begins_character}
 
-pub loop-byte-preserved : goal.loop-byte-preserved
-loop-byte-preserved c =
-    let more = characters-take c.args.bytes.now c.loop-byte.byte-index c.loop-byte-test.true in
-    elim c.if-begins_character.branch [
-      | then-begins_character w ↦ (
-          let is : begins_character (get_or c.args.bytes.now c.loop-byte.byte-index 0) ≡ true = search rules in
-          let one = ap counted is in
-          (omega (arith, more, one, w.count-is, c.loop-byte.invariant.0), omega (arith, w.count-is, c.loop-byte.invariant.1))
-          )
-      | else-begins_character w ↦ (
-          let is : begins_character (get_or c.args.bytes.now c.loop-byte.byte-index 0) ≡ false = search rules in
-          let one = ap counted is in
-          (omega (arith, more, one, w.count-is, c.loop-byte.invariant.0), omega (arith, w.count-is, c.loop-byte.invariant.1))
-          )
-    ]
+-- the block and what comes after it
+counted : (c : goal.After-from-count) → c.loop-block.count + c.from-count.result + characters (chunks_rest c.next.new.self) ≡ characters c.args.bytes.now
+counted c =
+    let parts = ap characters (c.in-Some.ensures.steps.1.0) in
+    let sum = characters-append c.in-Some.block.now (chunks_rest c.next.new.self) in
+    omega (arith, parts, sum, c.loop-block.invariant.1, c.from-count.ensures, c.characters_in_block.ensures)
+
+pub overflow_add-count : goal.overflow_add-count
+overflow_add-count c =
+    let long : Fits w64 (length c.args.bytes.now) = search rules in
+    omega (arith, counted c, characters-at-most c.args.bytes.now, long)
+
+pub loop-block-preserved : goal.loop-block-preserved
+loop-block-preserved c = (c.in-Some.ensures.steps.0 ∙ c.loop-block.invariant.0, counted c)

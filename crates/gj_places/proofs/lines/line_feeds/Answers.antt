@@ -1,23 +1,20 @@
-use Rattle.std.proofs.Common.{rules, arith, ◌≡◌, ap, get_or}
-use Rattle.std.specs.Prelude.{true, false}
-use Rattle.gj_places.specs.Lines.{is_line_feed}
-use Rattle.gj_places.proofs.CountedBytes.{counted}
-use Rattle.gj_places.proofs.CountedPieces.{line_feeds-take}
+use Rattle.std.proofs.Common.{rules, arith, ◌≡◌, ◌≤◌, ◌<◌, ◌+◌, ℕ, ap, sym, ◌∙◌, length, w64, Fits}
+use Rattle.std.specs.Slice.Iter.{chunks_rest}
+use Rattle.gj_places.specs.Lines.{line_feeds}
+use Rattle.gj_places.proofs.CountedPieces.{line_feeds-append, line_feeds-at-most}
 use Rattle.gj_places.proofs.lines.line_feeds.Goals as goal
-use Rattle.gj_places.proofs.lines.line_feeds.Goals.{then-byte-eq-LINE_FEED, else-byte-eq-LINE_FEED}
 
-pub loop-byte-preserved : goal.loop-byte-preserved
-loop-byte-preserved c =
-    let more = line_feeds-take c.args.bytes.now c.loop-byte.byte-index c.loop-byte-test.true in
-    elim c.if-byte-eq-LINE_FEED.branch [
-      | then-byte-eq-LINE_FEED w ↦ (
-          let is : is_line_feed (get_or c.args.bytes.now c.loop-byte.byte-index 0) ≡ true = search rules in
-          let one = ap counted is in
-          (omega (arith, more, one, w.count-is, c.loop-byte.invariant.0), omega (arith, w.count-is, c.loop-byte.invariant.1))
-          )
-      | else-byte-eq-LINE_FEED w ↦ (
-          let is : is_line_feed (get_or c.args.bytes.now c.loop-byte.byte-index 0) ≡ false = search rules in
-          let one = ap counted is in
-          (omega (arith, more, one, w.count-is, c.loop-byte.invariant.0), omega (arith, w.count-is, c.loop-byte.invariant.1))
-          )
-    ]
+-- the block and what comes after it
+counted : (c : goal.After-from-count) → c.loop-block.count + c.from-count.result + line_feeds (chunks_rest c.next.new.self) ≡ line_feeds c.args.bytes.now
+counted c =
+    let parts = ap line_feeds (c.in-Some.ensures.steps.1.0) in
+    let sum = line_feeds-append c.in-Some.block.now (chunks_rest c.next.new.self) in
+    omega (arith, parts, sum, c.loop-block.invariant.1, c.from-count.ensures, c.line_feeds_in_block.ensures)
+
+pub overflow_add-count : goal.overflow_add-count
+overflow_add-count c =
+    let long : Fits w64 (length c.args.bytes.now) = search rules in
+    omega (arith, counted c, line_feeds-at-most c.args.bytes.now, long)
+
+pub loop-block-preserved : goal.loop-block-preserved
+loop-block-preserved c = (c.in-Some.ensures.steps.0 ∙ c.loop-block.invariant.0, counted c)
