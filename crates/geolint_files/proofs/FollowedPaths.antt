@@ -1,7 +1,7 @@
 -- Lemmas on the paths that a second reading finds.
-use Rattle.std.proofs.Common.{arith, refl, ◌≡◌, ◌<◌, ℕ, ◌+◌, ◌++◌, ◌∷◌, ◌||◌, [], List, Bool, length, take, drop, set, ap, sym, ◌∙◌, subst, true, false, append_assoc, append-nil, length-append, length-take-le, if◌then◌else◌, Option, Some, None, IfSome}
+use Rattle.std.proofs.Common.{arith, refl, ◌≡◌, ◌<◌, ◌≤◌, ℕ, suc, ◌+◌, ◌-◌, ◌++◌, ◌∷◌, ◌||◌, [], List, Bool, length, take, drop, get_or, set, ap, sym, ◌∙◌, subst, true, false, append_assoc, append-nil, length-append, length-drop, length-take-le, if◌then◌else◌, Option, Some, None, IfSome}
 use Rattle.std.specs.Io.KnownBytes.{Consumes}
-use Rattle.std.proofs.lemmas.List.{take-append-le, take_at, take-append-drop}
+use Rattle.std.proofs.lemmas.List.{take-append-le, take_at, take_all, take_more, get_or-drop, take-append-drop}
 use Rattle.gj_json.specs.declared.path.Path.{Path}
 use Rattle.gj_rules.specs.Sequence.{is_separator, has_separator}
 use Rattle.geolint_files.specs.declared.sites.Site.{Site}
@@ -52,6 +52,56 @@ pub last_record-more : (bytes : List ℕ) (byte : ℕ) → is_separator byte ≡
 last_record-more [] byte is = rw (has_separator-other [] byte is) refl
 last_record-more (first ∷ more) byte is =
     rw (has_separator-other (first ∷ more) byte is) (last_record-by (has_separator (first ∷ more)) first more byte (last_record-more more byte is))
+
+-- ---- records, by the last separator of some bytes
+
+neither : (a b : Bool) → (a || b) ≡ false → (a ≡ false) × (b ≡ false)
+neither true b e = absurd (cc)
+neither false b e = (refl, e)
+
+pub last_record-longer : (xs ys : List ℕ) → has_separator ys ≡ false → last_record (xs ++ ys) ≡ last_record xs ++ ys
+last_record-longer xs [] none = ap last_record (append-nil xs) ∙ sym (append-nil (last_record xs))
+last_record-longer xs (y ∷ ys) none =
+    let both = neither (is_separator y) (has_separator ys) none in
+    ap last_record (sym (append_assoc xs (y ∷ []) ys)) ∙ last_record-longer (xs ++ y ∷ []) ys both.1 ∙ ap (λ (zs : List ℕ). zs ++ ys) (last_record-more xs y both.0) ∙ append_assoc (last_record xs) (y ∷ []) ys
+
+pub has_separator-longer : (xs ys : List ℕ) → has_separator ys ≡ false → has_separator (xs ++ ys) ≡ has_separator xs
+has_separator-longer xs [] none = ap has_separator (append-nil xs)
+has_separator-longer xs (y ∷ ys) none =
+    let both = neither (is_separator y) (has_separator ys) none in
+    ap has_separator (sym (append_assoc xs (y ∷ []) ys)) ∙ has_separator-longer (xs ++ y ∷ []) ys both.1 ∙ has_separator-other xs y both.0
+
+none-separates : (xs : List ℕ) → ((k : ℕ) → k < length xs → is_separator (get_or xs k 0) ≡ false) → has_separator xs ≡ false
+none-separates [] none = refl
+none-separates (x ∷ xs) none =
+    let here : is_separator x ≡ false = none 0 (omega arith) in
+    let more : (k : ℕ) → k < length xs → is_separator (get_or xs k 0) ≡ false = λ k within. (let next : is_separator (get_or (x ∷ xs) (suc k) 0) ≡ false = none (suc k) (omega arith) in next) in
+    rw here (none-separates xs more)
+
+not_true : (b : Bool) → (b ≡ true → ⊥) → b ≡ false
+not_true true never = absurd (never refl)
+not_true false never = refl
+
+-- the bytes from one on, where no separator is after it
+pub rest-separates : (xs : List ℕ) (from : ℕ) → ((k : ℕ) → from ≤ k → k < length xs → is_separator (get_or xs k 0) ≡ true → ⊥) → has_separator (drop from xs) ≡ false
+rest-separates xs from none = none-separates (drop from xs) (λ k within.
+    let at : get_or (drop from xs) k 0 ≡ get_or xs (from + k) 0 = get_or-drop from xs k 0 in
+    rw at (not_true (is_separator (get_or xs (from + k) 0)) (none (from + k) (omega arith) (omega (arith, within, length-drop from xs)))))
+
+-- what comes after the last separator is the record
+pub last_record-parted : (text bytes : List ℕ) (last : ℕ) → last < length bytes → is_separator (get_or bytes last 0) ≡ true → has_separator (drop (last + 1) bytes) ≡ false → last_record (text ++ bytes) ≡ drop (last + 1) bytes
+last_record-parted text bytes last within is none =
+    let front = text ++ take last bytes in
+    let byte = get_or bytes last 0 in
+    let rest = drop (last + 1) bytes in
+    let upto : take last bytes ++ byte ∷ [] ≡ take (last + 1) bytes = sym (take_more bytes last 0 within) in
+    let parted : (front ++ byte ∷ []) ++ rest ≡ text ++ bytes =
+    ap (λ (ys : List ℕ). ys ++ rest) (append_assoc text (take last bytes) (byte ∷ []) ∙ ap (λ (ys : List ℕ). text ++ ys) upto)
+    ∙ append_assoc text (take (last + 1) bytes) rest ∙ ap (λ (ys : List ℕ). text ++ ys) (take-append-drop (last + 1) bytes) in
+    ap last_record (sym parted) ∙ last_record-longer (front ++ byte ∷ []) rest none ∙ ap (λ (ys : List ℕ). ys ++ rest) (last_record-begun front byte is)
+
+pub all_rest : (xs : List ℕ) (from : ℕ) → take (length xs - from) (drop from xs) ≡ drop from xs
+all_rest xs from = take_all (length xs - from) (drop from xs) (omega (arith, length-drop from xs))
 
 pub text_of-nil : (is_sequence : Bool) → text_of is_sequence [] ≡ []
 text_of-nil true = refl

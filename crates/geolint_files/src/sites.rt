@@ -6,6 +6,7 @@ ghost use Rattle.geolint_files.specs.Sites.{text_limits};
 use crate::judge::PIECE;
 use gj_json::{Limits, Locator, Path};
 use gj_places::{Excerpt, Lines};
+use memchr::memrchr;
 use std::io::{self, Read};
 
 /// The byte RS, which begins a record of a text sequence.
@@ -356,25 +357,26 @@ impl Finder {
         ensures located { self.new.located ≡ self.old.located }
     {
         if self.is_sequence {
-            for byte in bytes {
-                self.locate_in_record(*byte);
-            }
+            self.locate_in_record(bytes);
         } else {
             self.locate_in_text(bytes);
         }
     }
 
-    fn locate_in_record(&mut self, byte: u8)
+    /// It reads the last record of the bytes alone: no earlier record has a part in a path that is asked after them.
+    fn locate_in_record(&mut self, bytes: &[u8])
         ensures same { IsLocated self.old self.new }
-        ensures stands { (text : List ℕ) → self.old.is_sequence ≡ true → StandsIn self.old text → StandsIn self.new (text ++ byte ∷ []) }
-        ensures keeps { (text : List ℕ) → self.old.is_sequence ≡ true → StandsIn self.old text → KeepsIn self.old text → KeepsIn self.new (text ++ byte ∷ []) }
+        ensures stands { (text : List ℕ) → self.old.is_sequence ≡ true → StandsIn self.old text → StandsIn self.new (text ++ bytes.now) }
+        ensures keeps { (text : List ℕ) → self.old.is_sequence ≡ true → StandsIn self.old text → KeepsIn self.old text → KeepsIn self.new (text ++ bytes.now) }
         ensures located { self.new.located ≡ self.old.located }
     {
-        if byte == SEPARATOR {
-            self.locator = Locator::new(record_limits(self.limits));
-            self.is_lost = false;
-        } else {
-            self.locate_in_text(&[byte]);
+        match memrchr(SEPARATOR, bytes) {
+            Some(last) => {
+                self.locator = Locator::new(record_limits(self.limits));
+                self.is_lost = false;
+                self.locate_in_text(&bytes[last + 1..]);
+            }
+            None => self.locate_in_text(bytes),
         }
     }
 
