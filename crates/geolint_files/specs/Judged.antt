@@ -1,5 +1,6 @@
 -- What the first reading of a file finds, of which `Is` says what is right under given limits.
-use Rattle.std.specs.Prelude.{◌≡◌, ℕ, List, [], ◌++◌, Option, Some, None, ⊤}
+use Rattle.std.specs.Prelude.{◌≡◌, ◌+◌, ℕ, List, [], ◌++◌, Option, Some, None, Result, MatchResult, ⊤}
+use Rattle.std.specs.Io.Iter.{u64_saturate}
 use Rattle.gj_json.specs.Limits.{Allowed}
 use Rattle.gj_coords.specs.declared.warnings.Warnings.{Warnings}
 use Rattle.gj_rules.specs.declared.sequence.verdict.SeqVerdict.{SeqVerdict}
@@ -67,3 +68,9 @@ Finds Reading.Quick limits old new (Finding.Text (Valid warnings)) = JudgesQuick
 Finds Reading.Quick limits old new Finding.NotValid = JudgesQuickly limits old new None
 Finds Reading.Sequence limits old new (Finding.Sequence verdict) = JudgesSequence limits old new verdict
 Finds reading limits old new finding = ⊥
+
+-- ---- reads that fail
+
+-- what a call does to a count of failed reads, of which its error is one
+abbrev pub CountsFailure : {T E : Type 0} → ℕ → ℕ → Result T E → Type 0
+CountsFailure old new answer = MatchResult answer (λ _. new ≡ old) (λ _. new ≡ u64_saturate (old + 1))

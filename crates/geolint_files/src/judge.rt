@@ -1,14 +1,15 @@
 //! The first reading: what a file is.
 ghost use Rattle.std.specs.Prelude.{◌≡◌, IfOk};
-ghost use Rattle.geolint_files.specs.Judged.{JudgesRead, JudgesQuickly, JudgesSequence, Finds, valid_in};
+ghost use Rattle.geolint_files.specs.Judged.{CountsFailure, JudgesRead, JudgesQuickly, JudgesSequence, Finds, valid_in};
 
 use crate::progress::Meter;
+use crate::source::Source;
 use gj_coords::Warnings;
 use gj_json::Limits;
 use gj_rules::{
     Linter, Progress, SeqProgress, SeqVerdict, Sequence, Verdict, one_sequence_verdict, one_verdict,
 };
-use std::io::{self, Read};
+use std::io;
 
 /// The most bytes of a read.
 pub const PIECE: usize = 16384;
@@ -36,15 +37,17 @@ pub enum Reading {
 /// What the bytes of a reader are.
 ///
 /// It is the linter's verdict of all of them, or that of a sequence; where only yes or no is asked, the warnings of a valid
-/// text, or that it is not valid. The bytes are counted as they come. The linter is begun anew, whatever it was fed before.
-pub fn judge<R: Read>(
-    reader: &mut R,
+/// text, or that it is not valid. An error is answered where a read failed. The bytes are counted as they come. The linter is
+/// begun anew, whatever it was fed before.
+pub fn judge<S: Source>(
+    reader: &mut S,
     limits: Limits,
     reading: Reading,
     linter: &mut Linter,
     meter: &mut Meter,
 ) -> io::Result<Finding>
-    ensures { IfOk result (Finds reading limits (R.remaining reader.old) (R.remaining reader.new)) }
+    ensures found { IfOk result (Finds reading limits (S.remaining reader.old) (S.remaining reader.new)) }
+    ensures failed { CountsFailure (S.failed_reads reader.old) (S.failed_reads reader.new) result }
 {
     match reading {
         Reading::Text => match judge_text(reader, limits, linter, meter) {
@@ -64,20 +67,21 @@ pub fn judge<R: Read>(
 }
 
 /// The verdict of one text. No read follows a refusal.
-fn judge_text<R: Read>(
-    reader: &mut R,
+fn judge_text<S: Source>(
+    reader: &mut S,
     limits: Limits,
     linter: &mut Linter,
     meter: &mut Meter,
 ) -> io::Result<Verdict>
-    ensures { IfOk result (λ verdict. JudgesRead limits (R.remaining reader.old) (R.remaining reader.new) verdict) }
+    ensures verdict { IfOk result (λ verdict. JudgesRead limits (S.remaining reader.old) (S.remaining reader.new) verdict) }
+    ensures failed { CountsFailure (S.failed_reads reader.old) (S.failed_reads reader.new) result }
 {
     let _most = limits.bytes();
     let _left = linter.finish_and_begin(limits);
     let mut piece = [0; PIECE];
     let mut offset = 0u64;
     loop {
-        match reader.read(&mut piece) {
+        match reader.read_piece(&mut piece) {
             Err(error) => return Err(error),
             Ok(0) => return Ok(linter.finish_and_begin(limits)),
             Ok(count) => {
@@ -93,13 +97,14 @@ fn judge_text<R: Read>(
 }
 
 /// The warnings of a valid text. No read follows the piece that says no.
-fn judge_quickly<R: Read>(
-    reader: &mut R,
+fn judge_quickly<S: Source>(
+    reader: &mut S,
     limits: Limits,
     linter: &mut Linter,
     meter: &mut Meter,
 ) -> io::Result<Option<Warnings>>
-    ensures { IfOk result (λ valid. JudgesQuickly limits (R.remaining reader.old) (R.remaining reader.new) valid) }
+    ensures valid { IfOk result (λ valid. JudgesQuickly limits (S.remaining reader.old) (S.remaining reader.new) valid) }
+    ensures failed { CountsFailure (S.failed_reads reader.old) (S.failed_reads reader.new) result }
 {
     let _most = limits.bytes();
     one_verdict();
@@ -107,7 +112,7 @@ fn judge_quickly<R: Read>(
     let mut piece = [0; PIECE];
     let mut offset = 0u64;
     loop {
-        match reader.read(&mut piece) {
+        match reader.read_piece(&mut piece) {
             Err(error) => return Err(error),
             Ok(0) => return Ok(valid_in(linter.finish_and_begin(limits))),
             Ok(count) => {
@@ -137,12 +142,13 @@ fn valid_in(verdict: Verdict) -> Option<Warnings>
 }
 
 /// The verdict of a text sequence. No read follows the byte that decides it.
-fn judge_sequence<R: Read>(
-    reader: &mut R,
+fn judge_sequence<S: Source>(
+    reader: &mut S,
     limits: Limits,
     meter: &mut Meter,
 ) -> io::Result<SeqVerdict>
-    ensures { IfOk result (λ verdict. JudgesSequence limits (R.remaining reader.old) (R.remaining reader.new) verdict) }
+    ensures verdict { IfOk result (λ verdict. JudgesSequence limits (S.remaining reader.old) (S.remaining reader.new) verdict) }
+    ensures failed { CountsFailure (S.failed_reads reader.old) (S.failed_reads reader.new) result }
 {
     let _most = limits.bytes();
     one_sequence_verdict();
@@ -150,7 +156,7 @@ fn judge_sequence<R: Read>(
     let mut piece = [0; PIECE];
     let mut offset = 0u64;
     loop {
-        match reader.read(&mut piece) {
+        match reader.read_piece(&mut piece) {
             Err(error) => return Err(error),
             Ok(0) => return Ok(sequence.finish()),
             Ok(count) => {

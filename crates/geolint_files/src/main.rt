@@ -17,6 +17,7 @@ mod progress;
 mod report;
 mod run;
 mod sites;
+mod source;
 mod summary;
 mod texts;
 mod walk;

@@ -16,6 +16,7 @@ use crate::outcome::Outcome;
 use crate::progress::{Counted, Meter};
 use crate::report::Report;
 use crate::sites::Sites;
+use crate::source::FromRead;
 use crate::summary::Summary;
 use crate::walk::{Others, Pending, Walk, is_sequence, is_taken};
 use crate::words::Order;
@@ -371,11 +372,12 @@ impl<'a> Run<'a> {
     }
 
     /// Judges what can be read once only: no line is known of its places.
-    fn judge_stream<R: Read + Drop>(&mut self, name: &[u8], mut reader: R) -> Result<(), Failure> {
+    fn judge_stream<R: Read + Drop>(&mut self, name: &[u8], reader: R) -> Result<(), Failure> {
         let reading = self.reading(name);
+        let mut source = FromRead::new(reader);
         self.progress.add_file(None);
         match judge(
-            &mut reader,
+            &mut source,
             self.options.limits,
             reading,
             self.linter,
@@ -387,12 +389,13 @@ impl<'a> Run<'a> {
     }
 
     /// Judges a file, and reads it again for the lines of what is told.
-    fn judge_file(&mut self, name: &[u8], mut file: File) -> Result<(), Failure> {
+    fn judge_file(&mut self, name: &[u8], file: File) -> Result<(), Failure> {
         let before = file.metadata().ok();
+        let mut source = FromRead::new(file);
         let reading = self.reading(name);
         self.progress.add_file(size_of(&before));
         match judge(
-            &mut file,
+            &mut source,
             self.options.limits,
             reading,
             self.linter,
@@ -400,7 +403,7 @@ impl<'a> Run<'a> {
         ) {
             Ok(finding) => {
                 if finding.has_places() {
-                    self.tell_found(name, finding, &mut file, &before, reading)
+                    self.tell_found(name, finding, &mut source.reader, &before, reading)
                 } else {
                     self.tell(name, finding, None)
                 }

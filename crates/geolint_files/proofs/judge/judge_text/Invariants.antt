@@ -5,8 +5,9 @@ use Rattle.geolint_files.proofs.judge.judge_text.Given as goal
 
 abbrev pub invariant-loop-error : goal.invariant-loop-error
 invariant-loop-error g l = record {
-  read : (read : List ℕ) × Consumes (g.R.Read.remaining l.initial.reader) (g.R.Read.remaining l.reader) read × (length read ≡ l.offset) × StandsFor l.linter read;
+  read : (read : List ℕ) × Consumes (g.S.Source.remaining l.initial.reader) (g.S.Source.remaining l.reader) read × (length read ≡ l.offset) × StandsFor l.linter read;
   limits : limits_of l.linter ≡ l.fn.limits;
+  unfailed : g.S.Source.failed_reads l.reader ≡ g.S.Source.failed_reads l.initial.reader;
   within : l.offset ≤ l.fn.limits.bytes;
 }
 
