@@ -60,36 +60,3 @@ impl<R: Read> Source for FromRead<R> {
         }
     }
 }
-
-#[cfg(test)]
-mod tests {
-    use super::*;
-    use std::io::ErrorKind;
-
-    #[derive(Drop)]
-    struct Fails;
-
-    impl Read for Fails {
-        fn read(&mut self, _buf: &mut [u8]) -> io::Result<usize> {
-            Err(io::Error::from(ErrorKind::UnexpectedEof))
-        }
-    }
-
-    #[test]
-    fn counts_a_read_that_fails(rt: HostRuntime) {
-        let mut source = FromRead::new(Fails);
-        assert!(rt; source.read_piece(&mut [0; 2]).is_err());
-        assert_eq!(rt; source.failed_reads, 1);
-    }
-
-    #[test]
-    fn gives_the_bytes_of_a_reader(rt: HostRuntime) {
-        let bytes: &[u8] = b"abc";
-        let mut source = FromRead::new(bytes);
-        let mut piece = [0; 2];
-        for count in [2, 1, 0] {
-            assert!(rt; matches!(source.read_piece(&mut piece), Ok(given) if given == count));
-        }
-        assert_eq!(rt; source.failed_reads, 0);
-    }
-}
