@@ -3,3 +3,4 @@ pub mod ListsStoodFor
 pub mod ShiftedWarnings
 pub mod KeptOfShortValues
 pub mod KindsInTurn
+pub mod ToldWarnings

@@ -2,6 +2,7 @@ pub mod Fault
 pub mod Warnings
 pub mod Texts
 pub mod WarningsStand
+pub mod WarningsTold
 pub mod Items
 pub mod Ring
 pub mod Shape

@@ -12,6 +12,8 @@ ghost use Rattle.gj_coords.specs.declared.kind.Kind.TheVariants.{W1, W2, W3, W4,
 ghost use Rattle.gj_coords.specs.Warnings.{Warning, kind_number};
 ghost use Rattle.gj_coords.specs.declared.simple.Simple.{Simple};
 ghost use Rattle.gj_coords.specs.Internal.KeptWarnings.{warnings_of, no_warnings, joined};
+ghost use Rattle.gj_coords.specs.WarningsStand.{StandsFor};
+ghost use Rattle.gj_coords.specs.WarningsTold.{Tells, CountsFit};
 ghost use Rattle.gj_coords.specs.CoordinateWarnings.{coordinates_warnings};
 ghost use Rattle.gj_coords.specs.Internal.CoordinatesKept.{coordinates_kept};
 
@@ -47,6 +49,13 @@ pub fn joined_warnings()
     ensures grouping { (a b c : Warnings) → joined (joined a b) c ≡ joined a (joined b c) }
     ensures order { (a b : Warnings) → joined a b ≡ joined b a }
     ensures append { (warnings others : List Warning) → warnings_of (warnings ++ others) ≡ joined (warnings_of warnings) (warnings_of others) }
+{}
+
+/// Whatever it keeps, a `Warnings` tells the counts and the least places of some list of warnings; and where it stands for
+/// a list, those of that list. A number of a law has no bound, so that a count of 32 bits is a premise.
+pub fn told_warnings()
+    ensures some { (told : Warnings) → CountsFit told → (warnings : List Warning) × Tells told warnings }
+    ensures stands { (told : Warnings) (warnings : List Warning) → StandsFor told warnings → Tells told warnings }
 {}
 
 /// What is kept of a value of fewer than 2^64 events is what is kept of the list of its warnings. A LineString has those of

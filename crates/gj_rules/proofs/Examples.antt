@@ -2,3 +2,4 @@
 pub mod FaultExamples
 pub mod WarningExamples
 pub mod FeatureExamples
+pub mod RecordExamples

@@ -3,4 +3,6 @@ pub mod OwnText
 pub mod ByFeature
 pub mod FeatureEvents
 pub mod FeaturesSoFar
+pub mod EventsPassed
 pub mod FeaturesSaid
+pub mod FeaturesInTime

@@ -4,3 +4,4 @@ pub mod Texts
 pub mod Doom
 pub mod Features
 pub mod Sequences
+pub mod Parts

@@ -18,3 +18,7 @@ abbrev pub SayFindings : List Feature → List FeatureFinding → Type 0
 SayFindings [] [] = Unit {0}
 SayFindings (told ∷ more) (finding ∷ others) = SaysFinding told finding × SayFindings more others
 SayFindings _ _ = ⊥
+
+-- features were told, by a sink of which this holds, that say these findings
+abbrev pub TellFindings : (List Feature → Type 0) → List FeatureFinding → Type 0
+TellFindings Told findings = (features : List Feature) × Told features × SayFindings features findings

@@ -13,6 +13,9 @@ pub mod RulesState
 pub mod FeatureSteps
 pub mod OpenRecord
 pub mod OpenSequence
+pub mod BytesBefore
+pub mod OpenParts
+pub mod ToldRecords
 pub mod JudgementLaws
 pub mod ToldPlaces
 pub mod VerdictParts

@@ -11,7 +11,11 @@ pub mod Places
 pub mod Doomed
 pub mod Sequence
 pub mod SequenceJudgement
+pub mod Records
+pub mod RecordFindings
 pub mod Rules
 pub mod Linter
+pub mod FeatureLinter
 pub mod SequenceStands
+pub mod RecordsStand
 pub mod Internal

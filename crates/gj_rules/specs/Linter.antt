@@ -11,19 +11,18 @@ use Rattle.gj_json.specs.Tree.{Text}
 use Rattle.gj_rules.specs.declared.linter.Linter.{Linter}
 use Rattle.gj_rules.specs.declared.linter.Progress.{Progress}
 use Rattle.gj_rules.specs.declared.linter.Progress.TheVariants.{Open, Refused}
-use Rattle.gj_rules.specs.declared.rules.Rules.{Rules}
 use Rattle.gj_rules.specs.Rules.{StandsFor as RulesStandFor}
 
--- the rules were told the events that each text which begins with these bytes has complete in them
-pub record AreToldOf (rules : Rules) (taken : List ℕ) (n : ℕ) : Type 0 where
+-- the events were told, of which this holds, that each text which begins with these bytes has complete in them
+pub record AreToldOf (Told : List Event → Type 0) (taken : List ℕ) (n : ℕ) : Type 0 where
   pub events : List Event
-  pub told : RulesStandFor rules events
+  pub told : Told events
   pub complete : (text : Text) (rest : List ℕ) → IsText text (taken ++ rest) → events_by n text ≡ events
 
 -- The linter may have been fed these bytes, refused ones among them. What it says is internal: a caller needs that `new`
 -- stands for no bytes, and that each call keeps it.
 unfoldable pub StandsFor : Linter → List ℕ → Type 0
-StandsFor linter bytes = ReaderStandsFor linter.reader bytes × AreToldOf linter.rules (take (reader_offset linter.reader) bytes) (reader_offset linter.reader)
+StandsFor linter bytes = ReaderStandsFor linter.reader bytes × AreToldOf (RulesStandFor linter.rules) (take (reader_offset linter.reader) bytes) (reader_offset linter.reader)
 
 -- what it judges under
 abbrev pub limits_of : Linter → Allowed

@@ -5,7 +5,7 @@ ghost use Rattle.std.specs.Prelude.{◌∷◌, ◌++◌, [], List};
 use gj_coords::{Fault, Warnings};
 
 /// What is found in an element of the array `features` of a text's object (RFC 7946, section 3.3).
-#[derive(Clone, Copy)]
+#[derive(Clone, Copy, Debug, PartialEq, Eq)]
 pub struct Feature {
     /// How many elements stand before it.
     pub index: u64,

@@ -1,5 +1,6 @@
 //! Where in the features of a text the next event stands.
-ghost use Rattle.std.specs.Prelude.{◌≡◌, ℕ, suc, ◌<◌, ◌^◌};
+ghost use Rattle.std.specs.Prelude.{◌≡◌, ℕ, suc, ◌<◌, ◌^◌, ◌+◌, ◌-◌};
+ghost use Rattle.gj_json.specs.Ignored.{levels_behind};
 
 use gj_json::{Event, Known, What};
 
@@ -33,7 +34,7 @@ pub struct FeatureCount {
 }
 
 impl FeatureCount {
-    ghost use Rattle.gj_rules.specs.Internal.FeatureSteps.{no_count, inner_step, outside_step, root_step, list_step, element_step, began, count_at};
+    ghost use Rattle.gj_rules.specs.Internal.FeatureSteps.{no_count, inner_step, outside_step, root_step, list_step, element_step, began, count_at, concerned, opens_inner, concerns_list};
 
     /// Before the first event of a text.
     pub fn new() -> Self
@@ -106,6 +107,7 @@ impl FeatureCount {
                 stage: Stage::Root,
                 ..self
             },
+            What::Name(_) => self,
             _ => FeatureCount {
                 index: self.index.saturating_add(1),
                 ..self
@@ -138,10 +140,11 @@ impl FeatureCount {
                 index: self.index.saturating_add(1),
                 ..self
             },
-            What::Name(name) => FeatureCount {
-                id_due: self.id.is_none() && matches!(name, Known::Id),
+            What::Name(Known::Id) => FeatureCount {
+                id_due: self.id.is_none(),
                 ..self
             },
+            What::Name(_) => self,
             _ => self.begun(place),
         }
     }
@@ -159,5 +162,63 @@ impl FeatureCount {
             Stage::List => self.in_list(&event.what, event.place),
             Stage::Element => self.in_element(&event.what, event.place),
         }
+    }
+
+    /// Whether an event of this kind asks for more than [`FeatureCount::pass_by`].
+    #[inline(always)]
+    pub fn concerns(&self, what: &What) -> bool
+        ensures { result ≡ concerned what.now self.now.inner self.now.stage self.now.id_due }
+    {
+        match what {
+            What::Name(Known::Id) => true,
+            What::Name(_) => false,
+            What::OpenObject | What::OpenArray => self.inner == 0 && self.is_outermost(),
+            What::CloseObject | What::CloseArray => self.inner == 0,
+            _ => self.is_at_value(),
+        }
+    }
+
+    /// Whether a level that opens is more than one in a member of an element.
+    #[inline(always)]
+    fn is_outermost(&self) -> bool
+        ensures { result ≡ opens_inner self.now.stage self.now.id_due }
+    {
+        match self.stage {
+            Stage::Element => self.id_due,
+            _ => true,
+        }
+    }
+
+    /// Whether a value that is no object and no array is an element, or that of the first `id` of one.
+    #[inline(always)]
+    fn is_at_value(&self) -> bool
+        ensures { result ≡ concerns_list self.now.stage self.now.id_due }
+    {
+        match self.stage {
+            Stage::List => true,
+            _ => self.id_due,
+        }
+    }
+
+    /// After an event that concerns no feature.
+    #[inline(always)]
+    pub fn pass_by(&mut self, what: &What)
+        ensures { self.old.inner < 2 ^ 63 → self.new ≡ record self.old { inner = levels_behind what.now self.old.inner } }
+    {
+        match what {
+            What::OpenObject | What::OpenArray => self.inner = self.inner.saturating_add(1),
+            What::CloseObject | What::CloseArray => self.inner = self.inner.saturating_sub(1),
+            _ => {}
+        }
+    }
+
+    /// After events within the innermost of these levels, of which so many are left.
+    pub fn pass_levels(&mut self, levels: u16, left: u16)
+        ensures { self.old.inner - levels + left < 2 ^ 63 → self.new ≡ record self.old { inner = self.old.inner - levels + left } }
+    {
+        self.inner = self
+            .inner
+            .saturating_sub(levels as u64)
+            .saturating_add(left as u64);
     }
 }

@@ -1,8 +1,9 @@
 //! What is found in the features of a text, beside what is found in the text: each contract is a law.
 
-ghost use Rattle.std.specs.Prelude.{◌≡◌, ◌↔◌, ℕ, ◌<◌, ◌^◌, List, [], ◌++◌, None, length};
+ghost use Rattle.std.specs.Prelude.{◌≡◌, ◌↔◌, ℕ, ◌+◌, ◌-◌, ◌<◌, ◌≤◌, ◌^◌, List, [], ◌++◌, None, length};
 ghost use Rattle.std.specs.List.{AllByRecursion};
 ghost use Rattle.gj_json.specs.Events.{all_events};
+ghost use Rattle.gj_json.specs.Text.{IsText};
 ghost use Rattle.gj_json.specs.Tree.{Text};
 ghost use Rattle.gj_coords.specs.Fault.{least, lesser};
 ghost use Rattle.gj_rules.specs.Faults.{text_faults};
@@ -25,6 +26,12 @@ pub fn by_feature()
 /// The findings of the features that are complete in the first bytes of a text are the first of all.
 pub fn features_so_far()
     ensures { (text : Text) (n : ℕ) → (later : List FeatureFinding) × (feature_findings text ≡ findings_by n text ++ later) }
+{}
+
+/// Each byte of a text completes at most one feature. So a queue with room for as many features as a piece has bytes takes all
+/// that the piece completes.
+pub fn features_in_time()
+    ensures { (text : Text) (bytes : List ℕ) (m n : ℕ) → IsText text bytes → m ≤ n → length (findings_by n text) ≤ length (findings_by m text) + (n - m) }
 {}
 
 /// What [`FeatureRules`](crate::FeatureRules) tell of a text of fewer than 2^64 events says what is found in its features.

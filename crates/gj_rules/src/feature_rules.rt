@@ -1,10 +1,10 @@
 //! Rules that tell each feature as it ends.
-ghost use Rattle.std.specs.Prelude.{◌≡◌, ℕ, ◌<◌, ◌≤◌, ◌^◌, [], List, length};
+ghost use Rattle.std.specs.Prelude.{◌≡◌, ℕ, ◌<◌, ◌≤◌, ◌^◌, [], ◌∷◌, ◌++◌, List, length};
 
 use crate::feature::FeatureSink;
 use crate::feature_count::FeatureCount;
 use crate::rules::Rules;
-use gj_json::{Event, EventSink};
+use gj_json::{Event, EventSink, Flat, What};
 
 /// Rules that tell what is found in each feature of a text, with the last event of the feature.
 ///
@@ -18,7 +18,9 @@ pub struct FeatureRules<S> {
 }
 
 impl<S: FeatureSink> FeatureRules<S> {
+    ghost use Rattle.gj_json.specs.declared.event.Event.{Event};
     ghost use Rattle.gj_json.specs.Events.{all_events, events_by};
+    ghost use Rattle.gj_json.specs.Flat.{flat_events};
     ghost use Rattle.gj_json.specs.Text.{IsText};
     ghost use Rattle.gj_json.specs.Tree.{Text, depth};
     ghost use Rattle.gj_rules.specs.Levels.{most_levels};
@@ -27,7 +29,8 @@ impl<S: FeatureSink> FeatureRules<S> {
 
     /// Before the first event of a text.
     pub fn new(sink: S) -> Self
-        ensures { S.told sink [] → Stand (S.told result.sink) result.rules result.count [] }
+        ensures stands { S.told sink [] → Stand (S.told result.sink) result.rules result.count [] }
+        ensures sink { result.sink ≡ sink }
     {
         FeatureRules {
             rules: Rules::new(),
@@ -45,19 +48,26 @@ impl<S: FeatureSink> FeatureRules<S> {
 
     /// What the features were told to: those that are complete in the first bytes of a text of fewer than 2^63 events.
     pub fn sink(&self) -> &S
-        ensures { (text : Text) (bytes : List ℕ) (n : ℕ) → IsText text bytes → depth text.value ≤ most_levels → length (all_events text) < 2 ^ 63
+        ensures value { result.now ≡ self.now.sink }
+        ensures told { (text : Text) (bytes : List ℕ) (n : ℕ) → IsText text bytes → depth text.value ≤ most_levels → length (all_events text) < 2 ^ 63
             → Stand (S.told self.now.sink) self.now.rules self.now.count (events_by n text) → S.told result.now (features_by n text) }
     {
         &self.sink
     }
-}
 
-impl<S: FeatureSink> EventSink for FeatureRules<S> {
-    ghost use Rattle.gj_rules.specs.Internal.FeatureSteps.{Stand};
+    /// What the features were told to.
+    pub(crate) fn into_sink(self) -> S
+        ensures { result ≡ self.sink }
+    {
+        self.sink
+    }
 
-    ghost heard = { λ all events. Stand (S.told all.sink) all.rules all.count events };
-
-    fn tell(&mut self, event: Event) {
+    /// An event that begins or ends a feature, or that is of its `id`, or about the array of the features.
+    #[inline(never)]
+    fn tell_concerned(&mut self, event: Event)
+        ensures { (events : List Event) → Stand (S.told self.old.sink) self.old.rules self.old.count events
+            → Stand (S.told self.new.sink) self.new.rules self.new.count (events ++ event ∷ []) }
+    {
         let told = self.rules.feature_told(&event, &self.count);
         self.count = self.count.next(&event, self.rules.starts_features());
         self.rules.tell(event);
@@ -66,9 +76,74 @@ impl<S: FeatureSink> EventSink for FeatureRules<S> {
         }
     }
 
-    fn ignored(&self) -> u16 {
-        0
+    /// An array of numbers where an event may matter to a feature, by its events in turn.
+    #[inline(never)]
+    fn tell_each(&mut self, flat: &Flat)
+        ensures { (events : List Event) → Stand (S.told self.old.sink) self.old.rules self.old.count events
+            → Stand (S.told self.new.sink) self.new.rules self.new.count (events ++ flat_events flat.now) }
+    {
+        self.tell(Event {
+            place: flat.place,
+            what: What::OpenArray,
+        });
+        self.tell(Event {
+            place: flat.first.place,
+            what: What::Number(Some(flat.first.value.decimal())),
+        });
+        self.tell(Event {
+            place: flat.second.place,
+            what: What::Number(Some(flat.second.value.decimal())),
+        });
+        if let Some(third) = flat.third {
+            self.tell(Event {
+                place: third.place,
+                what: What::Number(Some(third.value.decimal())),
+            });
+        }
+        self.tell(Event {
+            place: flat.close,
+            what: What::CloseArray,
+        });
+    }
+}
+
+impl<S: FeatureSink> EventSink for FeatureRules<S> {
+    ghost use Rattle.gj_rules.specs.Internal.FeatureSteps.{Stand, ignored_of};
+
+    ghost heard = { λ all events. Stand (S.told all.sink) all.rules all.count events };
+
+    ghost ignores = { λ all. ignored_of all.rules.skipped all.count.inner };
+
+    #[inline(always)]
+    fn tell(&mut self, event: Event) {
+        if self.count.concerns(&event.what) {
+            self.tell_concerned(event);
+        } else {
+            self.count.pass_by(&event.what);
+            self.rules.tell(event);
+        }
     }
 
-    fn pass(&mut self, _left: u16) {}
+    fn tell_flat(&mut self, flat: &Flat) {
+        if self.count.inner > 0 {
+            self.rules.tell_flat(flat);
+        } else {
+            self.tell_each(flat);
+        }
+    }
+
+    // Where the rules ignore more levels than are open in an element, the end of the element is among them.
+    fn ignored(&self) -> u16 {
+        let ignored = self.rules.ignored();
+        if ignored as u64 <= self.count.inner {
+            ignored
+        } else {
+            0
+        }
+    }
+
+    fn pass(&mut self, left: u16) {
+        self.count.pass_levels(self.rules.ignored(), left);
+        self.rules.pass(left);
+    }
 }

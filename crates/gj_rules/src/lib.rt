@@ -6,11 +6,14 @@
 //! tell what is likely wrong in use: of each kind of warning how many there are, and the least place.
 //! They keep one frame of a fixed size for each open object that has a role by its position, whatever
 //! the length of the text and wherever an object's `type` stands.
+//!
+//! A [`FeatureLinter`] tells what is found in each feature of a text too, as soon as the feature has ended.
 #![tactic(auto)]
 
 mod feature;
 mod feature_count;
 pub mod feature_laws;
+mod feature_linter;
 mod feature_rules;
 mod findings;
 mod frame;
@@ -21,6 +24,8 @@ mod member_slots;
 mod member_warnings;
 mod mode;
 mod opening;
+pub mod record_laws;
+mod records;
 mod role;
 mod rules;
 mod sequence;
@@ -28,8 +33,10 @@ mod shapes;
 mod verdict;
 
 pub use feature::{Feature, FeatureSink};
+pub use feature_linter::FeatureLinter;
 pub use feature_rules::FeatureRules;
 pub use linter::{Linter, Progress};
+pub use records::{Framing, Record, RecordSink, Records};
 pub use rules::Rules;
 pub use sequence::{SeqProgress, SeqVerdict, Sequence, one_sequence_verdict};
 pub use verdict::{Verdict, one_verdict};

@@ -10,7 +10,6 @@ ghost use Rattle.gj_json.specs.Open.{open_at};
 ghost use Rattle.gj_json.specs.declared.event.Event.{Event};
 ghost use Rattle.std.specs.Option.{option_to_list};
 ghost use Rattle.gj_rules.specs.Judged.{judged_at};
-ghost use Rattle.gj_rules.specs.Rules.{StandsFor as RulesStandFor};
 ghost use Rattle.gj_rules.specs.Internal.VerdictParts.{verdict_of};
 
 use crate::frame::Frame;
@@ -34,16 +33,16 @@ pub enum Progress {
 }
 
 /// Tells the event that only the end of the text completes, where there is one.
-fn tell_last(rules: &mut Rules, last: Option<Event>)
-    ensures { (events : List Event) → RulesStandFor rules.old events → RulesStandFor rules.new (events ++ option_to_list last) }
+pub(crate) fn tell_last<S: EventSink>(sink: &mut S, last: Option<Event>)
+    ensures { (events : List Event) → S.heard sink.old events → S.heard sink.new (events ++ option_to_list last) }
 {
     if let Some(event) = last {
-        rules.tell(event);
+        sink.tell(event);
     }
 }
 
 /// The verdict of a JSON text with this least fault and these warnings.
-fn verdict_of(fault: Option<Fault>, warnings: Warnings) -> Verdict
+pub(crate) fn verdict_of(fault: Option<Fault>, warnings: Warnings) -> Verdict
     ensures { result ≡ verdict_of fault warnings }
 {
     match fault {

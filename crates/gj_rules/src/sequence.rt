@@ -1,17 +1,17 @@
 //! A text sequence that comes in pieces, judged record by record (RFC 8142).
 ghost use Rattle.std.specs.Prelude.{◌≡◌, ℕ, ◌+◌, ◌<◌, ◌≤◌, ◌^◌, ◌++◌, ◌∷◌, [], List, length, take, false, true};
 
-mod open_record;
-mod verdict;
+pub(crate) mod open_record;
+pub(crate) mod verdict;
 
 use crate::linter::Progress;
+use crate::records::run_before;
 use crate::sequence::open_record::OpenRecord;
 use crate::sequence::verdict::valid_warnings;
 use crate::verdict::{Verdict, one_verdict};
 use gj_coords::Warnings;
 use gj_coords::laws::joined_warnings;
 use gj_json::{Cause, JsonFault, Limits, one_refusal};
-use memchr::memchr;
 pub use verdict::{SeqVerdict, one_sequence_verdict};
 
 /// The byte RS, which begins a record.
@@ -51,7 +51,7 @@ pub struct Sequence {
 }
 
 /// What a record is read under.
-fn record_limits(limits: Limits) -> Limits
+pub(crate) fn record_limits(limits: Limits) -> Limits
     ensures { result ≡ record { depth = limits.depth; bytes = 2 ^ 60 } }
 {
     match Limits::new(limits.depth(), MOST_BYTES) {
@@ -297,10 +297,5 @@ fn run_length(rest: &[u8], room: u64) -> usize
     ensures room { result ≤ room }
     ensures plain { has_separator (take result rest.now) ≡ false }
 {
-    let run = memchr(SEPARATOR, rest).unwrap_or(rest.len());
-    if run as u64 <= room {
-        run
-    } else {
-        room as usize
-    }
+    run_before(SEPARATOR, rest, room)
 }

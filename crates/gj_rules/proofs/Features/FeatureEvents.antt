@@ -1,5 +1,5 @@
 -- The events of a text tell what is found in its features, each with the last event of the feature.
-use Rattle.std.proofs.Common.{◌≡◌, ℕ, zero, suc, ◌+◌, ◌*◌, ◌≤◌, Bool, true, false, if◌then◌else◌, List, [], ◌∷◌, ◌++◌, map, length, Option, Some, None, refl, sym, ap, subst, ◌∙◌, arith, append_assoc, append-nil}
+use Rattle.std.proofs.Common.{◌≡◌, ℕ, suc, ◌+◌, ◌≤◌, Bool, true, false, if◌then◌else◌, List, [], ◌∷◌, ◌++◌, Option, Some, None, refl, sym, ap, subst, ◌∙◌, arith, append_assoc, append-nil}
 use Rattle.gj_json.specs.declared.constant.Constant.TheVariants.{Null, True, False}
 use Rattle.gj_json.specs.declared.event.What.TheVariants as What
 use Rattle.gj_json.specs.declared.names.Known.{Known}
@@ -14,7 +14,6 @@ use Rattle.gj_rules.specs.Levels.{most_levels}
 use Rattle.gj_rules.specs.declared.feature_count.FeatureCount.{FeatureCount}
 use Rattle.gj_rules.specs.declared.feature_count.Stage.{Stage}
 use Rattle.gj_rules.specs.declared.member_slots.Slot.{Slot}
-use Rattle.gj_rules.specs.declared.mode.Mode.{Mode}
 use Rattle.gj_rules.specs.declared.mode.Mode.TheVariants.{Names, Due, Elements}
 use Rattle.gj_rules.specs.declared.role.Role.{Role}
 use Rattle.gj_rules.specs.Faults.{faults}
@@ -25,7 +24,7 @@ use Rattle.gj_rules.specs.Internal.FrameMeaning.{Findings, Frame}
 use Rattle.gj_rules.specs.Internal.FrameCalls.{blank, named, due_after, taken_any, settled, filled, member_taken, members_taken}
 use Rattle.gj_rules.specs.Internal.OpenMembers.{slot_of, uses, judge}
 use Rattle.gj_rules.specs.Internal.TextKept.{marked_kept, kept}
-use Rattle.gj_rules.specs.Internal.EventSteps.{State, step, run, start, member_of}
+use Rattle.gj_rules.specs.Internal.EventSteps.{State, step, run, start}
 use Rattle.gj_rules.specs.Internal.LabelledEvents.{Told, plain, told, elements_told, members_told, mark_told, text_told}
 use Rattle.gj_rules.specs.Internal.FeatureSteps.{TimedFeature, heard, seen, named_by, starts_at, feature_of, feature_found, timed_from, no_count}
 use Rattle.gj_rules.proofs.Features.OwnText.{is_features}
@@ -34,7 +33,7 @@ use Rattle.gj_rules.proofs.Objects.ClosedFrames.{all_closed}
 use Rattle.gj_rules.proofs.Objects.OneMember.{due_other, slot-other, slot-own, or_slot}
 use Rattle.gj_rules.proofs.Texts.OneEventMore.{run-last}
 use Rattle.gj_rules.proofs.Texts.OneFlatMore.{run-append}
-use Rattle.gj_rules.proofs.Texts.ValuesByEvents.{LeadsTo, leads_to, st, due_st, due_root, had_found, IsWithin, MayHold, credit, lead_due, lead_element, lead_members}
+use Rattle.gj_rules.proofs.Texts.ValuesByEvents.{leads_to, st, due_st, due_root, had_found, IsWithin, MayHold, lead_due, lead_element, lead_members}
 
 -- ---- within a value that holds no feature
 
@@ -114,19 +113,19 @@ no_more_id : (d : Option ℕ) → d ≡ id_from d None
 no_more_id None = refl
 no_more_id (Some place) = refl
 
-one_more_id : (k : Known) (d : Option ℕ) (v : Tree) (o : Option Tree) → id_from (seen (named_by d k) (place_of v) d) o ≡ id_from d (if same Id k then Some v else o)
-one_more_id k (Some place) v o = refl
+one_more_id : (k : Known) (d : Option ℕ) (v : Tree) (o : Option Tree) → id_from (seen (named_by k d false) (place_of v) d) o ≡ id_from d (if same Id k then Some v else o)
+one_more_id Id (Some place) v o = refl
 one_more_id Id None v o = refl
-one_more_id _ None v o = refl
+one_more_id _ d v o = refl
 
 members_seen : (ms : Members) (rest : List Told) (s : State) (i p : ℕ) (d : Option ℕ)
     → heard (members_told ms ++ rest) s (at_stage Stage.Element i p d false) ≡ heard rest (run (members_told ms) s) (at_stage Stage.Element i p (id_from d (first_value Id ms)) false)
 members_seen end_of_object rest s i p d = ap (λ o. heard rest s (at_stage Stage.Element i p o false)) (no_more_id d)
 members_seen (member place name end v more) rest s i p d =
     let t : State = step (Told.named end place (known_of name) v) s in
-    let e : Option ℕ = seen (named_by d (known_of name)) (place_of v) d in
+    let e : Option ℕ = seen (named_by (known_of name) d false) (place_of v) d in
     rw (append_assoc (told v) (members_told more) rest, run-append (told v) (members_told more) t)
-    (value_seen v (members_told more ++ rest) t i p d (named_by d (known_of name))
+    (value_seen v (members_told more ++ rest) t i p d (named_by (known_of name) d false)
     ∙ (members_seen more rest (run (told v) t) i p e
     ∙ ap (λ o. heard rest (run (members_told more) (run (told v) t)) (at_stage Stage.Element i p o false)) (one_more_id (known_of name) d v (first_value Id more))))
 

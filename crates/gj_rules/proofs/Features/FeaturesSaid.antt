@@ -1,5 +1,5 @@
 -- What is told of features says what is found in them.
-use Rattle.std.proofs.Common.{◌≡◌, ℕ, suc, ◌+◌, ◌<◌, ◌^◌, nat_le, Bool, true, false, if◌then◌else◌, List, [], ◌∷◌, ◌++◌, length, length-append, Option, Some, None, refl, sym, subst, ◌∙◌, arith}
+use Rattle.std.proofs.Common.{◌≡◌, ℕ, suc, ◌+◌, ◌<◌, ◌^◌, nat_le, Bool, true, false, if◌then◌else◌, List, [], ◌∷◌, ◌++◌, length, length-append, Option, Some, None, refl, sym, arith}
 use Rattle.std.proofs.lemmas.List.{length-map}
 use Rattle.std.specs.List.{AllByRecursion}
 use Rattle.gj_json.specs.declared.event.What.TheVariants as What
@@ -20,9 +20,9 @@ use Rattle.gj_coords.specs.Items.{items, elements_of}
 use Rattle.gj_coords.specs.Warnings.{Warning}
 use Rattle.gj_rules.specs.declared.role.Role.{Role}
 use Rattle.gj_rules.specs.Faults.{faults}
-use Rattle.gj_rules.specs.FeatureFindings.{unless_broken, end_of, elements_if, features_of, finding_of, findings_from, findings_by, complete_at, complete_in}
-use Rattle.gj_rules.specs.FeaturesTold.{SaysEnd, SaysFinding, SayFindings}
-use Rattle.gj_rules.specs.Internal.FeatureSteps.{kept_unless, closing_of, feature_of, features_from, features_by}
+use Rattle.gj_rules.specs.FeatureFindings.{unless_broken, end_of, elements_if, features_of, findings_from, findings_by, feature_findings, complete_at, complete_in}
+use Rattle.gj_rules.specs.FeaturesTold.{SaysEnd, SayFindings}
+use Rattle.gj_rules.specs.Internal.FeatureSteps.{kept_unless, closing_of, features_from, features_by}
 use Rattle.gj_rules.specs.Members.{same}
 use Rattle.gj_rules.specs.TextWarnings.{first_value, warnings}
 use Rattle.gj_rules.proofs.Objects.WarningsKept.{value_is}
@@ -62,6 +62,14 @@ few_features (number place literal end) h = tt
 few_features (string place content end) h = tt
 few_features (array place es close) h = tt
 
+few_complete : (n : ℕ) (vs : List Tree) → AllFew vs → AllFew (complete_in n vs)
+few_complete n [] h = tt
+few_complete n (v ∷ vs) h = cut (nat_le (complete_at v) n) (few_complete n vs h.1)
+  where
+    cut : (b : Bool) → AllFew (complete_in n vs) → AllFew (if b then v ∷ complete_in n vs else [])
+    cut true on = (h.0, on)
+    cut false on = tt
+
 -- ---- what is told says what is found
 
 end_says : (v : Tree) → SaysEnd (closing_of v) (end_of v)
@@ -76,20 +84,21 @@ warned_says None kept all e = e
 warned_says (Some fault) kept all e = sym warnings_of_none
 
 module _ (law : (simple : Simple) (value : Tree) → length (value_events value) < 2 ^ 64 → coordinates_kept simple value ≡ warnings_of (coordinates_warnings simple value)) where
-  all_say : (n i j : ℕ) (vs : List Tree) → i ≡ j → AllFew vs → SayFindings (features_from i (complete_in n vs)) (findings_from j (complete_in n vs))
-  all_say n i j [] e h = tt
-  all_say n i j (v ∷ vs) e h =
-      cut (nat_le (complete_at v) n)
-      (e, refl, end_says v, refl, refl, warned_says (least (faults Role.Feature v)) _ (warnings Role.Feature v) (value_is (2 ^ 64) law Role.Feature v h.0))
-      (all_say n (suc i) (j + 1) vs (omega (arith, e)) h.1)
-    where
-      cut : (b : Bool) → SaysFinding (feature_of i v) (finding_of j v) → SayFindings (features_from (suc i) (complete_in n vs)) (findings_from (j + 1) (complete_in n vs))
-          → SayFindings (features_from i (if b then v ∷ complete_in n vs else [])) (findings_from j (if b then v ∷ complete_in n vs else []))
-      cut true f g = (f, g)
-      cut false f g = tt
+  all_say : (i j : ℕ) (vs : List Tree) → i ≡ j → AllFew vs → SayFindings (features_from i vs) (findings_from j vs)
+  all_say i j [] e h = tt
+  all_say i j (v ∷ vs) e h = (
+    (e, refl, end_says v, refl, refl, warned_says (least (faults Role.Feature v)) _ (warnings Role.Feature v) (value_is (2 ^ 64) law Role.Feature v h.0)),
+    all_say (suc i) (j + 1) vs (omega (arith, e)) h.1,
+  )
 
-  pub told_says : (text : Text) (n : ℕ) → length (all_events text) < 2 ^ 64 → SayFindings (features_by n text) (findings_by n text)
-  told_says text n h =
+  few_in_text : (text : Text) → length (all_events text) < 2 ^ 64 → AllFew (features_of text.value)
+  few_in_text text h =
       let l : length (all_events text) ≡ length (mark_events text.marked ++ events text.value) = length-map (text_events text) (λ x. x.event) in
       let m = length-append (mark_events text.marked) (events text.value) in
-      all_say n 0 0 (features_of text.value) refl (few_features text.value (omega (arith, h, l, m)))
+      few_features text.value (omega (arith, h, l, m))
+
+  pub told_says : (text : Text) (n : ℕ) → length (all_events text) < 2 ^ 64 → SayFindings (features_by n text) (findings_by n text)
+  told_says text n h = all_say 0 0 (complete_in n (features_of text.value)) refl (few_complete n (features_of text.value) (few_in_text text h))
+
+  pub all_told_says : (text : Text) → length (all_events text) < 2 ^ 64 → SayFindings (features_from 0 (features_of text.value)) (feature_findings text)
+  all_told_says text h = all_say 0 0 (features_of text.value) refl (few_in_text text h)

@@ -1,5 +1,5 @@
 -- What the events in the first bytes of a text tell of its features, and what one event more tells.
-use Rattle.std.proofs.Common.{◌≡◌, ℕ, zero, suc, ◌+◌, ◌<◌, ◌≤◌, ◌^◌, nat_le, Bool, true, false, List, [], ◌∷◌, ◌++◌, map, length, Option, Some, None, inl, inr, refl, sym, ap, subst, ◌∙◌, arith, append_assoc, append-nil}
+use Rattle.std.proofs.Common.{◌≡◌, ℕ, zero, suc, ◌+◌, ◌<◌, ◌≤◌, ◌^◌, nat_le, Bool, true, false, List, [], ◌∷◌, ◌++◌, map, length, Option, inl, inr, refl, sym, ap, subst, ◌∙◌, arith, append_assoc, append-nil}
 use Rattle.std.proofs.lemmas.Bool.{cases_lt}
 use Rattle.std.proofs.lemmas.Bool.Decides.{nat_tests}
 use Rattle.std.proofs.lemmas.List.{map-append, length-append, length-map}
@@ -17,14 +17,13 @@ use Rattle.gj_rules.specs.declared.feature_count.FeatureCount.{FeatureCount}
 use Rattle.gj_rules.specs.declared.feature_count.Stage.{Stage}
 use Rattle.gj_rules.specs.declared.rules.Rules.{Rules}
 use Rattle.gj_rules.specs.FeatureFindings.{complete_at, complete_in, features_of}
-use Rattle.gj_rules.specs.Rules.{StandsFor as RulesStandFor}
 use Rattle.gj_rules.specs.Internal.RulesState.{core_of}
 use Rattle.gj_rules.specs.Internal.EventSteps.{Core, State, step, run, start}
 use Rattle.gj_rules.specs.Internal.LabelledEvents.{Told, event_of, at_of, text_told}
 use Rattle.gj_rules.specs.Internal.FeatureSteps.{TimedFeature, heard, count, counted, count_at, stage_step, outside_step, root_step, list_step, element_step, inner_step, tells, tells_at, timed_at, timed_from, feature_of, features_from, features_by, features_in, no_count, starts_at, FeaturesAre, Stand}
 use Rattle.gj_rules.proofs.Features.FeatureEvents.{text_heard}
 use Rattle.gj_rules.proofs.Texts.EventOrder.{Late, InOrder, late_after, by_late, by_in_time, in_order}
-use Rattle.gj_rules.proofs.Texts.OneEventMore.{last_told, none_told, run-last}
+use Rattle.gj_rules.proofs.Texts.OneEventMore.{last_told, none_told}
 use Rattle.gj_rules.proofs.Texts.TimedEvents.{timed_of, text-timed, text-events}
 
 -- ---- the events in the first bytes
@@ -122,6 +121,18 @@ features_are Says c text bytes n t d few h =
     (soon_heard n k.done start no_count k.first) (later_heard n k.rest (run k.done start) (count k.done start no_count) k.last) all)
     (h text k.done k.rest k.split e d (omega (arith, few, l))).1
 
+all_in : (i : ℕ) (vs : List Tree) → features_in (timed_from i vs) ≡ features_from i vs
+all_in i [] = refl
+all_in i (v ∷ vs) = ap (λ fs. feature_of i v ∷ fs) (all_in (suc i) vs)
+
+-- what was told of a whole text is what the definition lists of it
+pub all_features_are : (Says : List Feature → Type 0) (c : FeatureCount) (text : Text) → depth text.value ≤ most_levels → length (all_events text) < 2 ^ 63
+    → FeaturesAre Says c (all_events text) → Says (features_from 0 (features_of text.value))
+all_features_are Says c text d few h =
+    let l : length (text_told text) ≡ length (all_events text) = sym (length-map (text_told text) event_of) ∙ ap length (text-events text) in
+    subst Says (ap features_in (text_heard text d) ∙ all_in 0 (features_of text.value))
+    (h text (text_told text) [] (sym (append-nil (text_told text))) (text-events text) d (omega (arith, few, l))).1
+
 -- ---- the count grows by one at most
 
 abbrev Grows : FeatureCount → FeatureCount → Type 0
@@ -161,7 +172,7 @@ grows_at : (n : ℕ) (what : What) (place : ℕ) (b : Bool) (c : FeatureCount) �
 grows_at zero what place b c e = stage_grows c.stage what place b c
 grows_at (suc k) what place b c e = (omega (arith, inner_grows what k, e), omega arith)
 
-small : (xs : List Told) (s : State) (c : FeatureCount) → ((count xs s c).inner ≤ c.inner + length xs) × ((count xs s c).index ≤ c.index + length xs)
+pub small : (xs : List Told) (s : State) (c : FeatureCount) → ((count xs s c).inner ≤ c.inner + length xs) × ((count xs s c).index ≤ c.index + length xs)
 small [] s c = (omega arith, omega arith)
 small (x ∷ xs) s c =
     let g = grows_at c.inner (event_of x).what (event_of x).place (starts_at s.core.skipped s.core.mode) c refl in
@@ -170,7 +181,7 @@ small (x ∷ xs) s c =
 
 -- ---- one event more
 
-count-last : (xs : List Told) (x : Told) (s : State) (c : FeatureCount) → count (xs ++ x ∷ []) s c ≡ counted (event_of x) (run xs s) (count xs s c)
+pub count-last : (xs : List Told) (x : Told) (s : State) (c : FeatureCount) → count (xs ++ x ∷ []) s c ≡ counted (event_of x) (run xs s) (count xs s c)
 count-last [] x s c = refl
 count-last (y ∷ ys) x s c = count-last ys x (step y s) (counted (event_of y) s c)
 
@@ -178,7 +189,7 @@ untimed : (at : ℕ) (fs : List Feature) → features_in (timed_at at fs) ≡ fs
 untimed at [] = refl
 untimed at (f ∷ fs) = ap (λ gs. f ∷ gs) (untimed at fs)
 
-heard-last : (xs : List Told) (x : Told) → features_in (heard (xs ++ x ∷ []) start no_count) ≡ features_in (heard xs start no_count) ++ tells (event_of x) (run xs start) (count xs start no_count)
+pub heard-last : (xs : List Told) (x : Told) → features_in (heard (xs ++ x ∷ []) start no_count) ≡ features_in (heard xs start no_count) ++ tells (event_of x) (run xs start) (count xs start no_count)
 heard-last xs x =
     let fs = tells (event_of x) (run xs start) (count xs start no_count) in
     ap features_in (heard-append xs (x ∷ []) start no_count)

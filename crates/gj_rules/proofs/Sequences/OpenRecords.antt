@@ -6,10 +6,15 @@ use Rattle.gj_json.specs.Bytes.{line_feed}
 use Rattle.gj_json.specs.Limits.{Allowed}
 use Rattle.gj_json.specs.Refusal.{Stops, RefusedFor}
 use Rattle.gj_coords.specs.Internal.KeptWarnings.{no_warnings, shifted}
+use Rattle.gj_rules.specs.declared.records.framing.Framing.{Framing}
+use Rattle.gj_rules.specs.declared.records.framing.Framing.TheVariants.{Sequence, Lines}
+use Rattle.gj_rules.specs.declared.records.framing.RecordEnd.{RecordEnd}
+use Rattle.gj_rules.specs.declared.records.framing.RecordEnd.TheVariants.{Separator, Input, Limit}
+use Rattle.gj_rules.specs.RecordFindings.{ended_as}
 use Rattle.gj_rules.specs.declared.verdict.Verdict.{Verdict}
 use Rattle.gj_rules.specs.declared.verdict.Verdict.TheVariants.{Valid, Broken, NotJson}
 use Rattle.gj_rules.specs.Internal.ToldPlaces.{TellsPlace}
-use Rattle.gj_rules.specs.Sequence.{separator, last_byte, if_ended, shifted_verdict, own_limits}
+use Rattle.gj_rules.specs.Sequence.{separator, last_byte, if_ended, cut_fault, shifted_verdict, own_limits}
 use Rattle.gj_rules.specs.Verdict.{IsVerdict}
 use Rattle.gj_json.specs.declared.reader.Reader.{Reader}
 use Rattle.gj_json.specs.Reader.{StandsFor as ReaderStandsFor, refusal_of as reader_refusal, offset_of as reader_offset}
@@ -80,7 +85,29 @@ ended_within false end n place (NotJson fault) l h p = h place p
 ended_within false end n place (Valid w) l h p = omega (arith, p)
 ended_within false end n place (Broken fault) l h p = omega (arith, p)
 
+pub ended_as_within : (framing : Framing) (ending : RecordEnd) (ended : Bool) (end n place : ℕ) (verdict : Verdict) → end ≤ n → ((p : ℕ) → TellsPlace p verdict → p ≤ n)
+    → TellsPlace place (ended_as framing ending ended end verdict) → place ≤ n
+ended_as_within framing Limit ended end n place (Valid w) l h p = omega (arith, l, p)
+ended_as_within framing Limit ended end n place (Broken fault) l h p = omega (arith, l, p)
+ended_as_within framing Limit ended end n place (NotJson fault) l h p = by_cause fault.cause fault.place (h fault.place refl) p
+  where
+    by_cause : (cause : Cause) (at : ℕ) → at ≤ n → TellsPlace place (cut_fault cause at end) → place ≤ n
+    by_cause Syntax at k q = omega (arith, k, q)
+    by_cause Depth at k q = omega (arith, k, q)
+    by_cause Truncated at k q = omega (arith, l, q)
+    by_cause Length at k q = omega (arith, l, q)
+ended_as_within Sequence Separator ended end n place verdict l h p = ended_within ended end n place verdict l h p
+ended_as_within Sequence Input ended end n place verdict l h p = ended_within ended end n place verdict l h p
+ended_as_within Lines Separator ended end n place verdict l h p = h place p
+ended_as_within Lines Input ended end n place verdict l h p = h place p
+
 -- the verdict by what is known of the bytes
+pub told_ended : (framing : Framing) (ending : RecordEnd) (start last end : ℕ) (bytes : List ℕ) (verdict : Verdict) → last ≡ last_byte separator bytes → end ≡ length bytes →
+    shifted_verdict start (ended_as framing ending (nat_eq last line_feed) end verdict) ≡ shifted_verdict start (ended_as framing ending (nat_eq (last_byte separator bytes) line_feed) (length bytes) verdict)
+told_ended framing ending start last end bytes verdict e f =
+    ap (λ x. shifted_verdict start (ended_as framing ending (nat_eq x line_feed) end verdict)) e
+    ∙ ap (λ x. shifted_verdict start (ended_as framing ending (nat_eq (last_byte separator bytes) line_feed) x verdict)) f
+
 pub told_as : (start last end n : ℕ) (bytes : List ℕ) (verdict : Verdict) → last ≡ last_byte separator bytes → end ≡ length bytes →
     shifted_verdict start (if_ended (nat_eq last line_feed) end verdict) ≡ shifted_verdict start (if_ended (nat_eq (last_byte separator bytes) line_feed) (length bytes) verdict)
 told_as start last end n bytes verdict e f =

@@ -77,26 +77,26 @@ pub chain_order : (m : ℕ) (xs : List Told) → Chain m xs → InOrder xs
 chain_order m [] h = tt
 chain_order m (x ∷ xs) h = (chain_after (at_of x) (at_of x) xs (omega arith) h.1, chain_order (at_of x) xs h.1)
 
-then_length : {First Rest : ℕ → List ℕ → Type 0} {n : ℕ} {bytes : List ℕ} → (h : Then First Rest n bytes) → length bytes ≡ length h.first + length h.rest
+pub then_length : {First Rest : ℕ → List ℕ → Type 0} {n : ℕ} {bytes : List ℕ} → (h : Then First Rest n bytes) → length bytes ≡ length h.first + length h.rest
 then_length h = ap length h.joined ∙ length-append h.first h.rest
 
-constant_long : (which : Constant) → 0 < length (letters_of which)
+pub constant_long : (which : Constant) → 0 < length (letters_of which)
 constant_long Null = omega arith
 constant_long True = omega arith
 constant_long False = omega arith
 
 -- where what is spelled ends
-ends_at : {A : ℕ → List ℕ → Type 0} {n end : ℕ} {bytes : List ℕ} → Then A (Ends end) n bytes → end ≡ n + length bytes
+pub ends_at : {A : ℕ → List ℕ → Type 0} {n end : ℕ} {bytes : List ℕ} → Then A (Ends end) n bytes → end ≡ n + length bytes
 ends_at h = let l : length h.rest ≡ 0 = ap length h.after.0 in omega (arith, h.after.1, then_length h, l)
 
-quoted_ends : (place : ℕ) (content : List ℕ) (end : ℕ) {n : ℕ} {bytes : List ℕ} → Quoted place content end n bytes → (end ≡ n + length bytes) × (n < end)
+pub quoted_ends : (place : ℕ) (content : List ℕ) (end : ℕ) {n : ℕ} {bytes : List ℕ} → Quoted place content end n bytes → (end ≡ n + length bytes) × (n < end)
 quoted_ends place content end {n = n} h =
     let l : length h.1.first ≡ 1 = ap length h.1.before in
     let e = ends_at h.1.after.after in
     let k : end ≡ n + length h.1.first + (length h.1.after.first + length h.1.after.rest) = omega (arith, e) in
     (omega (arith, k, then_length h.1, then_length h.1.after), omega (arith, k, l))
 
-closed_at : {close start b : ℕ} {bytes : List ℕ} → (bytes ≡ b ∷ []) × (close ≡ start) → close + 1 ≡ start + length bytes
+pub closed_at : {close start b : ℕ} {bytes : List ℕ} → (bytes ≡ b ∷ []) × (close ≡ start) → close + 1 ≡ start + length bytes
 closed_at {bytes = bytes} h = let l : length bytes ≡ 1 = ap length h.0 in omega (arith, h.1, l)
 
 mutual

@@ -1,4 +1,4 @@
--- What the rules of a linter were told, from call to call.
+-- What was told of the bytes of a linter, from call to call.
 use Rattle.std.proofs.Common.{◌≡◌, ℕ, ◌+◌, ◌-◌, ◌^◌, ◌<◌, ◌≤◌, Bool, true, false, if◌then◌else◌, List, [], ◌∷◌, ◌++◌, length, take, Option, Some, None, Result, Ok, Err, refl, sym, ap, subst, ◌∙◌, arith, append_assoc, append-nil, length-append}
 use Rattle.std.specs.Option.{option_to_list}
 use Rattle.std.proofs.lemmas.List.{take-append-le, length-map}
@@ -32,9 +32,9 @@ use Rattle.gj_rules.proofs.Objects.WarningsKept.{text_is}
 
 -- ---- a piece
 
--- the rules heard the events of more bytes
-more_told : (old new : Rules) (bytes more taken : List ℕ) (m : ℕ) (k : AreToldOf old bytes (length bytes)) → Hears (λ events. RulesStandFor new events) k.events (length bytes) m taken → taken ≡ bytes ++ more → AreToldOf new taken m
-more_told old new bytes more taken m k h e = record {
+-- the events of more bytes were told
+more_told : (Old New : List Event → Type 0) (bytes more taken : List ℕ) (m : ℕ) (k : AreToldOf Old bytes (length bytes)) → Hears New k.events (length bytes) m taken → taken ≡ bytes ++ more → AreToldOf New taken m
+more_told Old New bytes more taken m k h e = record {
   events = k.events ++ h.0;
   told = h.1;
   complete = λ text rest t.
@@ -44,11 +44,15 @@ more_told old new bytes more taken m k h e = record {
 }
 
 -- of a reader that took all its bytes
-all_told : (rules : Rules) (bytes : List ℕ) (n : ℕ) → n ≡ length bytes → AreToldOf rules (take n bytes) n → AreToldOf rules bytes (length bytes)
-all_told rules bytes n e k = let j : AreToldOf rules (take (length bytes) bytes) (length bytes) = rw e at k in rw (take-length bytes) at j
+pub taken_all : (Told : List Event → Type 0) (bytes : List ℕ) (n : ℕ) → n ≡ length bytes → AreToldOf Told (take n bytes) n → AreToldOf Told bytes (length bytes)
+taken_all Told bytes n e k = let j : AreToldOf Told (take (length bytes) bytes) (length bytes) = rw e at k in rw (take-length bytes) at j
 
-told_all : (rules : Rules) (bytes : List ℕ) (n : ℕ) → n ≡ length bytes → AreToldOf rules bytes (length bytes) → AreToldOf rules (take n bytes) n
-told_all rules bytes n e k = let j : AreToldOf rules (take (length bytes) bytes) (length bytes) = rw (take-length bytes) k in rw e j
+told_all : (Told : List Event → Type 0) (bytes : List ℕ) (n : ℕ) → n ≡ length bytes → AreToldOf Told bytes (length bytes) → AreToldOf Told (take n bytes) n
+told_all Told bytes n e k = let j : AreToldOf Told (take (length bytes) bytes) (length bytes) = rw (take-length bytes) k in rw e j
+
+-- where this holds of the events, and so that
+pub told_so : (Old New : List Event → Type 0) (taken : List ℕ) (n : ℕ) → ((events : List Event) → Old events → New events) → AreToldOf Old taken n → AreToldOf New taken n
+told_so Old New taken n so k = record { events = k.events; told = so k.events k.told; complete = k.complete }
 
 -- the front of a piece behind the bytes before it
 front : (bytes given : List ℕ) (p : ℕ) → length bytes ≤ p → take p (bytes ++ given) ≡ bytes ++ take (p - length bytes) given
@@ -58,26 +62,26 @@ module _ (live_at : (reader : Reader) (bytes : List ℕ) → ReaderStandsFor rea
     (refused : (reader : Reader) (bytes : List ℕ) (fault : JsonFault) → ReaderStandsFor reader bytes → refusal_of reader ≡ Some fault → offset_of reader ≡ fault.place)
     (within : (reader : Reader) (bytes : List ℕ) → ReaderStandsFor reader bytes → offset_of reader ≤ length bytes) where
   -- no byte was refused
-  pub fed_ok : (old new : Reader) (rules after : Rules) (bytes given : List ℕ) → ReaderStandsFor old bytes → ReaderStandsFor new (bytes ++ given) → refusal_of old ≡ None → refusal_of new ≡ None → AreToldOf rules (take (offset_of old) bytes) (offset_of old)
-      → ((events : List Event) → RulesStandFor rules events → Hears (λ es. RulesStandFor after es) events (length bytes) (length (bytes ++ given)) (bytes ++ given)) → AreToldOf after (take (offset_of new) (bytes ++ given)) (offset_of new)
-  fed_ok old new rules after bytes given s t live on k hears =
-      let j = all_told rules bytes (offset_of old) (live_at old bytes s live) k in
-      told_all after (bytes ++ given) (offset_of new) (live_at new (bytes ++ given) t on) (more_told rules after bytes given (bytes ++ given) (length (bytes ++ given)) j (hears j.events j.told) refl)
+  pub fed_ok : (old new : Reader) (Old New : List Event → Type 0) (bytes given : List ℕ) → ReaderStandsFor old bytes → ReaderStandsFor new (bytes ++ given) → refusal_of old ≡ None → refusal_of new ≡ None → AreToldOf Old (take (offset_of old) bytes) (offset_of old)
+      → ((events : List Event) → Old events → Hears New events (length bytes) (length (bytes ++ given)) (bytes ++ given)) → AreToldOf New (take (offset_of new) (bytes ++ given)) (offset_of new)
+  fed_ok old new Old New bytes given s t live on k hears =
+      let j = taken_all Old bytes (offset_of old) (live_at old bytes s live) k in
+      told_all New (bytes ++ given) (offset_of new) (live_at new (bytes ++ given) t on) (more_told Old New bytes given (bytes ++ given) (length (bytes ++ given)) j (hears j.events j.told) refl)
 
   -- a byte was
-  pub fed_err : (old new : Reader) (rules after : Rules) (bytes given : List ℕ) (fault : JsonFault) → ReaderStandsFor old bytes → ReaderStandsFor new (bytes ++ given) → refusal_of old ≡ None → refusal_of new ≡ Some fault → offset_of old ≤ offset_of new
-      → AreToldOf rules (take (offset_of old) bytes) (offset_of old)
-      → ((events : List Event) → RulesStandFor rules events → Hears (λ es. RulesStandFor after es) events (length bytes) fault.place (take fault.place (bytes ++ given))) → AreToldOf after (take (offset_of new) (bytes ++ given)) (offset_of new)
-  fed_err old new rules after bytes given fault s t live on l k hears =
+  pub fed_err : (old new : Reader) (Old New : List Event → Type 0) (bytes given : List ℕ) (fault : JsonFault) → ReaderStandsFor old bytes → ReaderStandsFor new (bytes ++ given) → refusal_of old ≡ None → refusal_of new ≡ Some fault → offset_of old ≤ offset_of new
+      → AreToldOf Old (take (offset_of old) bytes) (offset_of old)
+      → ((events : List Event) → Old events → Hears New events (length bytes) fault.place (take fault.place (bytes ++ given))) → AreToldOf New (take (offset_of new) (bytes ++ given)) (offset_of new)
+  fed_err old new Old New bytes given fault s t live on l k hears =
       let e = live_at old bytes s live in
       let p = refused new (bytes ++ given) fault t on in
-      let j = all_told rules bytes (offset_of old) e k in
-      let m = more_told rules after bytes (take (fault.place - length bytes) given) (take fault.place (bytes ++ given)) fault.place j (hears j.events j.told) (front bytes given fault.place (omega (arith, e, p, l))) in
+      let j = taken_all Old bytes (offset_of old) e k in
+      let m = more_told Old New bytes (take (fault.place - length bytes) given) (take fault.place (bytes ++ given)) fault.place j (hears j.events j.told) (front bytes given fault.place (omega (arith, e, p, l))) in
       rw p m
 
   -- one was before
-  pub fed_again : (reader : Reader) (rules : Rules) (bytes given : List ℕ) → ReaderStandsFor reader bytes → AreToldOf rules (take (offset_of reader) bytes) (offset_of reader) → AreToldOf rules (take (offset_of reader) (bytes ++ given)) (offset_of reader)
-  fed_again reader rules bytes given s k = rw (take-append-le (offset_of reader) bytes given (within reader bytes s)) k
+  pub fed_again : (reader : Reader) (Told : List Event → Type 0) (bytes given : List ℕ) → ReaderStandsFor reader bytes → AreToldOf Told (take (offset_of reader) bytes) (offset_of reader) → AreToldOf Told (take (offset_of reader) (bytes ++ given)) (offset_of reader)
+  fed_again reader Told bytes given s k = rw (take-append-le (offset_of reader) bytes given (within reader bytes s)) k
 
 -- a reader that took a piece had refused none
 pub was_live : {A : Type 0} (reader : Reader) (result : Result A JsonFault) (x : A) → ((fault : JsonFault) → refusal_of reader ≡ Some fault → result ≡ Err fault) → result ≡ Ok x → refusal_of reader ≡ None
@@ -112,15 +116,15 @@ fewer_of_value text =
     rw (length-map (text_events text) (λ x. x.event), length-map (events text.value) (λ x. x.event), length-append (mark_events text.marked) (events text.value)) (omega arith)
 
 -- the verdict of an admitted text whose events were told
-pub end_verdict : (limits : Allowed) (bytes : List ℕ) (rules after : Rules) (last : Option Event) (o : Option Fault) (w : Warnings) → limits.depth ≤ most_levels → limits.bytes ≤ 2 ^ 60 → AreToldOf rules bytes (length bytes)
+pub end_verdict : (limits : Allowed) (bytes : List ℕ) (Told : List Event → Type 0) (after : Rules) (last : Option Event) (o : Option Fault) (w : Warnings) → limits.depth ≤ most_levels → limits.bytes ≤ 2 ^ 60 → AreToldOf Told bytes (length bytes)
     → (f : (text : Text) × IsAdmitted limits text bytes × (all_events text ≡ events_by (length bytes) text ++ option_to_list last))
-    → ((events : List Event) → RulesStandFor rules events → RulesStandFor after (events ++ option_to_list last))
+    → ((events : List Event) → Told events → RulesStandFor after (events ++ option_to_list last))
     → ((text : Text) → depth text.value ≤ most_levels → RulesStandFor after (all_events text) → o ≡ least (text_faults text))
     → ((text : Text) → depth text.value ≤ most_levels → RulesStandFor after (all_events text) → w ≡ text_kept text)
     → ((text : Text) (bytes : List ℕ) → IsText text bytes → length (all_events text) ≤ length bytes)
     → ((simple : Simple) (value : Tree) → length (value_events value) < 2 ^ 64 → coordinates_kept simple value ≡ warnings_of (coordinates_warnings simple value))
     → IsVerdict limits bytes (verdict_of o w)
-end_verdict limits bytes rules after last o w shallow short k f told fault warned few law =
+end_verdict limits bytes Told after last o w shallow short k f told fault warned few law =
     let text = f.0 in
     let t : IsText text (bytes ++ []) = (let x = f.1.0.0 in rw (append-nil bytes) x) in
     let e : all_events text ≡ k.events ++ option_to_list last = f.2 ∙ ap (λ xs. xs ++ option_to_list last) (k.complete text [] t) in
@@ -130,27 +134,22 @@ end_verdict limits bytes rules after last o w shallow short k f told fault warne
     let small : length (value_events text.value) < 2 ^ 64 = omega (arith, few text bytes f.1.0.0, fewer_of_value text, f.1.1) in
     text_verdict limits bytes text f.1 o w (fault text deep heard) (warned text deep heard ∙ text_is (2 ^ 64) law text small)
 
-pub taken_all : (rules : Rules) (bytes : List ℕ) (n : ℕ) → n ≡ length bytes → AreToldOf rules (take n bytes) n → AreToldOf rules bytes (length bytes)
-taken_all rules bytes n e k = all_told rules bytes n e k
-
-pub new_told : (reader : Reader) (rules : Rules) → offset_of reader ≡ 0 → RulesStandFor rules [] → ((text : Text) (rest : List ℕ) → IsText text rest → events_by 0 text ≡ []) → AreToldOf rules (take (offset_of reader) []) (offset_of reader)
-new_told reader rules e h none = rw e (record { events = []; told = h; complete = none })
+pub new_told : (reader : Reader) (Told : List Event → Type 0) → offset_of reader ≡ 0 → Told [] → ((text : Text) (rest : List ℕ) → IsText text rest → events_by 0 text ≡ []) → AreToldOf Told (take (offset_of reader) []) (offset_of reader)
+new_told reader Told e h none = rw e (record { events = []; told = h; complete = none })
 
 -- what a refused piece leaves, whether a byte of it was refused or one before it
 pub fed_refused : ((reader : Reader) (bytes : List ℕ) → ReaderStandsFor reader bytes → refusal_of reader ≡ None → offset_of reader ≡ length bytes)
     → ((reader : Reader) (bytes : List ℕ) (fault : JsonFault) → ReaderStandsFor reader bytes → refusal_of reader ≡ Some fault → offset_of reader ≡ fault.place)
     → ((reader : Reader) (bytes : List ℕ) → ReaderStandsFor reader bytes → offset_of reader ≤ length bytes)
-    → (old new : Reader) (rules after : Rules) (bytes given : List ℕ) (fault : JsonFault) → ReaderStandsFor old bytes → ReaderStandsFor new (bytes ++ given) → refusal_of new ≡ Some fault → offset_of old ≤ offset_of new
-    → AreToldOf rules (take (offset_of old) bytes) (offset_of old)
-    → ((events : List Event) → refusal_of old ≡ None → RulesStandFor rules events → Hears (λ es. RulesStandFor after es) events (length bytes) fault.place (take fault.place (bytes ++ given)))
-    → ((other : JsonFault) → refusal_of old ≡ Some other → (new ≡ old) × (after ≡ rules)) → AreToldOf after (take (offset_of new) (bytes ++ given)) (offset_of new)
-fed_refused live_at refused within old new rules after bytes given fault s t on l k hears again = go (refusal_of old) refl
+    → (old new : Reader) (Old New : List Event → Type 0) (bytes given : List ℕ) (fault : JsonFault) → ReaderStandsFor old bytes → ReaderStandsFor new (bytes ++ given) → refusal_of new ≡ Some fault → offset_of old ≤ offset_of new
+    → AreToldOf Old (take (offset_of old) bytes) (offset_of old)
+    → ((events : List Event) → refusal_of old ≡ None → Old events → Hears New events (length bytes) fault.place (take fault.place (bytes ++ given)))
+    → ((other : JsonFault) → refusal_of old ≡ Some other → (new ≡ old) × ((events : List Event) → Old events → New events)) → AreToldOf New (take (offset_of new) (bytes ++ given)) (offset_of new)
+fed_refused live_at refused within old new Old New bytes given fault s t on l k hears again = go (refusal_of old) refl
   where
-    go : (o : Option JsonFault) → refusal_of old ≡ o → AreToldOf after (take (offset_of new) (bytes ++ given)) (offset_of new)
-    go None e = fed_err live_at refused within old new rules after bytes given fault s t e on l k (λ events h. hears events e h)
+    go : (o : Option JsonFault) → refusal_of old ≡ o → AreToldOf New (take (offset_of new) (bytes ++ given)) (offset_of new)
+    go None e = fed_err live_at refused within old new Old New bytes given fault s t e on l k (λ events h. hears events e h)
     go (Some other) e =
         let a = again other e in
-        let P : Reader → Rules → Type 0 = λ reader r. AreToldOf r (take (offset_of reader) (bytes ++ given)) (offset_of reader) in
-        let Q : Rules → Type 0 = λ r. P old r in
-        let R : Reader → Type 0 = λ reader. P reader after in
-        subst R (sym a.0) (subst Q (sym a.1) (fed_again live_at refused within old rules bytes given s k))
+        let P : Reader → Type 0 = λ reader. AreToldOf New (take (offset_of reader) (bytes ++ given)) (offset_of reader) in
+        subst P (sym a.0) (told_so Old New _ _ a.1 (fed_again live_at refused within old Old bytes given s k))

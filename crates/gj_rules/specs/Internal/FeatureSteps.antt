@@ -1,5 +1,5 @@
 -- What an event tells of the features of a text, beside what it does to what the rules keep.
-use Rattle.std.specs.Prelude.{◌≡◌, ℕ, zero, suc, ◌<◌, ◌≤◌, ◌^◌, Bool, true, false, List, [], ◌∷◌, ◌++◌, map, length, Option, Some, None}
+use Rattle.std.specs.Prelude.{◌≡◌, ℕ, zero, suc, ◌<◌, ◌≤◌, ◌^◌, nat_le, if◌then◌else◌, Bool, true, false, List, [], ◌∷◌, ◌++◌, map, length, Option, Some, None}
 use Rattle.gj_json.specs.declared.event.Event.{Event}
 use Rattle.gj_json.specs.declared.event.What.{What}
 use Rattle.gj_json.specs.declared.names.Known.{Known}
@@ -80,10 +80,11 @@ seen false place id = id
 abbrev pub began : ℕ → FeatureCount → FeatureCount
 began place c = record c { id = seen c.id_due place c.id; id_due = false }
 
-abbrev pub named_by : Option ℕ → Known → Bool
-named_by (Some place) name = false
-named_by None Id = true
-named_by None _ = false
+-- whether a name is that of the first `id`, where this is known of the name before it
+abbrev pub named_by : Known → Option ℕ → Bool → Bool
+named_by Id None due = true
+named_by Id (Some place) due = false
+named_by _ id due = due
 
 abbrev pub outside_step : What → FeatureCount → FeatureCount
 outside_step What.OpenObject c = record c { stage = Stage.Root }
@@ -101,6 +102,7 @@ abbrev pub list_step : What → ℕ → FeatureCount → FeatureCount
 list_step What.OpenObject place c = record c { stage = Stage.Element; place = place; id = None; id_due = false }
 list_step What.OpenArray place c = record c { stage = Stage.Element; place = place; id = None; id_due = false }
 list_step What.CloseArray place c = record c { stage = Stage.Root }
+list_step (What.Name name) place c = c
 list_step _ place c = record c { index = suc c.index }
 
 abbrev pub element_step : What → ℕ → FeatureCount → FeatureCount
@@ -108,7 +110,7 @@ element_step What.OpenObject place c = record (began place c) { inner = 1 }
 element_step What.OpenArray place c = record (began place c) { inner = 1 }
 element_step What.CloseObject place c = record c { stage = Stage.List; index = suc c.index }
 element_step What.CloseArray place c = record c { stage = Stage.List; index = suc c.index }
-element_step (What.Name name) place c = record c { id_due = named_by c.id name }
+element_step (What.Name name) place c = record c { id_due = named_by name c.id c.id_due }
 element_step _ place c = began place c
 
 abbrev pub stage_step : Stage → What → ℕ → Bool → FeatureCount → FeatureCount
@@ -124,6 +126,35 @@ count_at (suc inner) what place starts c = record c { inner = inner_step what in
 abbrev pub counted : Event → State → FeatureCount → FeatureCount
 counted event s c = count_at c.inner event.what event.place (starts_at s.core.skipped s.core.mode) c
 
+-- ---- events that matter to no feature
+
+abbrev pub concerns_list : Stage → Bool → Bool
+concerns_list Stage.List due = true
+concerns_list stage due = due
+
+abbrev pub opens_inner : Stage → Bool → Bool
+opens_inner Stage.Element true = true
+opens_inner Stage.Element false = false
+opens_inner _ due = true
+
+abbrev pub no_level : ℕ → Bool → Bool
+no_level zero opens = opens
+no_level (suc inner) opens = false
+
+-- how many levels have to close before an event matters again
+abbrev pub ignored_of : (skipped inner : ℕ) → ℕ
+ignored_of skipped inner = if nat_le skipped inner then skipped else 0
+
+-- whether the count has more to do at an event of this kind than with its levels
+abbrev pub concerned : What → ℕ → Stage → Bool → Bool
+concerned (What.Name Id) inner stage due = true
+concerned (What.Name name) inner stage due = false
+concerned What.OpenObject inner stage due = no_level inner (opens_inner stage due)
+concerned What.OpenArray inner stage due = no_level inner (opens_inner stage due)
+concerned What.CloseObject inner stage due = no_level inner true
+concerned What.CloseArray inner stage due = no_level inner true
+concerned what inner stage due = concerns_list stage due
+
 -- ---- what an event tells
 
 -- an object has ended, in which this is found
@@ -138,6 +169,7 @@ abbrev pub list_tells : What → ℕ → FeatureCount → List Feature
 list_tells What.OpenObject place c = []
 list_tells What.OpenArray place c = []
 list_tells What.CloseArray place c = []
+list_tells (What.Name name) place c = []
 list_tells _ place c = no_feature c.index place None ∷ []
 
 abbrev pub element_tells : What → ℕ → Frame → FeatureCount → List Feature

@@ -75,7 +75,7 @@ impl Rules {
         }
         match count.stage {
             Stage::List => match event.what {
-                What::OpenObject | What::OpenArray | What::CloseArray => None,
+                What::OpenObject | What::OpenArray | What::CloseArray | What::Name(_) => None,
                 _ => Some(no_feature(count.index, event.place, None)),
             },
             Stage::Element => match event.what {

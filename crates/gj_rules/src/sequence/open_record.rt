@@ -4,8 +4,9 @@ ghost use Rattle.gj_rules.specs.Linter.{StandsFor as LinterStandsFor};
 
 use crate::laws::places_within;
 use crate::linter::{Linter, Progress};
+use crate::records::{Framing, RecordEnd};
 use crate::sequence::SEPARATOR;
-use crate::sequence::verdict::{if_ended, shifted, shifted_fault};
+use crate::sequence::verdict::{ended_as, shifted, shifted_fault};
 use crate::verdict::Verdict;
 use gj_json::{JsonFault, Limits, bytes_taken};
 
@@ -37,6 +38,8 @@ impl OpenRecord {
     ghost use Rattle.gj_rules.specs.Linter.{refusal_of, refusal_in};
     ghost use Rattle.gj_rules.specs.Internal.OpenRecord.{StandsFor, AnswersAt};
     ghost use Rattle.gj_coords.specs.Internal.KeptWarnings.{no_warnings};
+    ghost use Rattle.gj_rules.specs.declared.records.framing.RecordEnd.{RecordEnd};
+    ghost use Rattle.gj_rules.specs.RecordFindings.{IsOwnVerdict};
     ghost use Rattle.gj_rules.specs.Sequence.{IsRecordVerdict};
 
     /// A record without a byte, which begins at the place.
@@ -56,6 +59,14 @@ impl OpenRecord {
             end: start,
             last: SEPARATOR,
         }
+    }
+
+    /// The place of its first byte.
+    #[inline]
+    pub fn start(&self) -> u64
+        ensures { result ≡ self.now.start }
+    {
+        self.start
     }
 
     /// The place behind its last byte: how many bytes of the input were taken.
@@ -121,9 +132,24 @@ impl OpenRecord {
         ensures limits { self.new.limits ≡ self.old.limits }
         ensures refusal { refusal_of self.new.linter ≡ None }
     {
+        self.close_as(Framing::Sequence, RecordEnd::Separator, next)
+    }
+
+    /// Answers its verdict as a record that is framed so and ends so, as `close` does.
+    pub fn close_as(&mut self, framing: Framing, ending: RecordEnd, next: u64) -> Verdict
+        requires { next ≤ 2 ^ 60 }
+        ensures verdict { (bytes : List ℕ) → StandsFor self.old bytes →
+            IsOwnVerdict framing self.old.limits.depth (record { start = self.old.start; bytes = bytes; end = ending }) result }
+        ensures stands { StandsFor self.new [] }
+        ensures start { self.new.start ≡ next }
+        ensures end { self.new.end ≡ next }
+        ensures limits { self.new.limits ≡ self.old.limits }
+        ensures refusal { refusal_of self.new.linter ≡ None }
+    {
         places_within();
-        let ended = self.linter.finish_and_begin(self.limits);
-        let own = if_ended(ended, self.last == LINE_FEED, self.end - self.start);
+        let verdict = self.linter.finish_and_begin(self.limits);
+        let ended = self.last == LINE_FEED;
+        let own = ended_as(verdict, framing, ending, ended, self.end - self.start);
         let verdict = shifted(own, self.start);
         self.start = next;
         self.end = next;
@@ -137,7 +163,19 @@ impl OpenRecord {
         ensures { (bytes : List ℕ) → StandsFor self.now bytes → IsTrue result →
             IsRecordVerdict self.now.limits.depth (record { start = self.now.start; bytes = bytes; is_cut = false }) (Verdict.Valid no_warnings) }
     {
-        self.last == LINE_FEED && self.linter.is_clean()
+        self.is_clean_as(Framing::Sequence)
+    }
+
+    /// Whether it is valid and has no warning as a record that is framed so, where a separator ends it.
+    #[inline]
+    pub fn is_clean_as(&self, framing: Framing) -> bool
+        ensures { (bytes : List ℕ) → StandsFor self.now bytes → IsTrue result →
+            IsOwnVerdict framing self.now.limits.depth (record { start = self.now.start; bytes = bytes; end = RecordEnd.Separator }) (Verdict.Valid no_warnings) }
+    {
+        match framing {
+            Framing::Sequence => self.last == LINE_FEED && self.linter.is_clean(),
+            Framing::Lines => self.linter.is_clean(),
+        }
     }
 
     /// Begins the next record at the place, without a byte yet. Little is written.

@@ -3,6 +3,7 @@ ghost use Rattle.std.specs.Prelude.{◌≡◌, ◌↔◌, ℕ, ◌+◌, ◌≤�
 ghost use Rattle.gj_json.specs.Limits.{Allowed};
 ghost use Rattle.gj_rules.specs.Internal.ToldPlaces.{TellsPlace};
 
+use crate::records::{Framing, RecordEnd};
 use crate::verdict::{Verdict, one_verdict};
 use gj_coords::{Fault, Warnings};
 use gj_json::{Cause, JsonFault};
@@ -17,7 +18,8 @@ pub enum SeqVerdict {
     Record { number: u64, verdict: Verdict },
 }
 
-ghost use Rattle.gj_rules.specs.Sequence.{if_ended, shifted_verdict, SequenceJudgement, SequenceSays, IsSequenceVerdict};
+ghost use Rattle.gj_rules.specs.RecordFindings.{ended_as};
+ghost use Rattle.gj_rules.specs.Sequence.{if_ended, if_cut, shifted_verdict, SequenceJudgement, SequenceSays, IsSequenceVerdict};
 ghost use Rattle.gj_rules.specs.SequenceJudgement.{IsSequenceJudgement};
 ghost use Rattle.gj_rules.specs.Internal.VerdictParts.{valid_warnings};
 
@@ -45,6 +47,42 @@ pub fn if_ended(verdict: Verdict, ended: bool, end: u64) -> Verdict
             place: end,
             cause: Cause::Truncated,
         }),
+    }
+}
+
+/// The verdict of a record that the limit on the input's length cuts off, given that of its bytes: a refusal by one of them
+/// stands, and all else is too long.
+pub fn if_cut(verdict: Verdict, end: u64) -> Verdict
+    ensures { result ≡ if_cut end verdict }
+{
+    match verdict {
+        Verdict::NotJson(
+            JsonFault {
+                cause: Cause::Syntax | Cause::Depth,
+                ..
+            },
+        ) => verdict,
+        _ => Verdict::NotJson(JsonFault {
+            place: end,
+            cause: Cause::Length,
+        }),
+    }
+}
+
+/// The verdict of a record that has so many bytes and ends so, given that of its bytes.
+pub fn ended_as(
+    verdict: Verdict,
+    framing: Framing,
+    ending: RecordEnd,
+    ended: bool,
+    end: u64,
+) -> Verdict
+    ensures { result ≡ ended_as framing ending ended end verdict }
+{
+    match (framing, ending) {
+        (_, RecordEnd::Limit) => if_cut(verdict, end),
+        (Framing::Sequence, _) => if_ended(verdict, ended, end),
+        (Framing::Lines, _) => verdict,
     }
 }
 

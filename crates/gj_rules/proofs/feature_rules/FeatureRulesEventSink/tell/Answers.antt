@@ -1,26 +1,19 @@
--- One event more tells what the definition says that it completes.
-use Rattle.std.proofs.Common.{[], ◌∷◌, ◌++◌, sym, ap, subst, ◌∙◌, append-nil}
-use Rattle.std.specs.Option.{option_to_list}
-use Rattle.gj_rules.specs.Internal.FeatureSteps.{count_at}
+-- An event that concerns no feature changes the levels alone, and tells none.
+use Rattle.std.proofs.Common.{None, sym, subst, ◌∙◌, append-nil}
+use Rattle.gj_rules.specs.Internal.FeatureSteps.{starts_at}
+use Rattle.gj_rules.specs.Internal.RulesState.{core_of}
+use Rattle.gj_rules.proofs.Features.EventsPassed.{counts_quiet, tells_quiet}
 use Rattle.gj_rules.proofs.Features.FeaturesSoFar.{told_more}
 use Rattle.gj_rules.proofs.feature_rules.FeatureRulesEventSink.tell.Goals as goal
 
-pub returns-in-Some : goal.returns-in-Some
-returns-in-Some g c = λ events h.
+pub returns-else-concerns : goal.returns-else-concerns
+returns-else-concerns g c = λ events h.
     let old = c.args.self.now in
-    let event = c.args.event in (
+    let event = c.args.event in
+    let none = sym c.concerns.ensures ∙ c.if-concerns.false in (
       c.tell.ensures events h.0,
-      told_more (g.S.FeatureSink.told old.sink) (g.S.FeatureSink.told c.tell_feature.new.self) old.rules old.count c.next-self.result event events c.feature_told-told.result c.feature_told-told.ensures
-          (λ i j. c.next-self.ensures i j ∙ ap (λ b. count_at old.count.inner event.what event.place b old.count) c.starts_features.ensures)
-          (λ fs k. subst (g.S.FeatureSink.told c.tell_feature.new.self) (ap (λ o. fs ++ option_to_list o) (sym c.in-Some.is)) (c.tell_feature.ensures fs k)) h,
-    )
-
-pub returns-in_default : goal.returns-in_default
-returns-in_default g c = λ events h.
-    let old = c.args.self.now in
-    let event = c.args.event in (
-      c.tell.ensures events h.0,
-      told_more (g.S.FeatureSink.told old.sink) (g.S.FeatureSink.told old.sink) old.rules old.count c.next-self.result event events c.feature_told-told.result c.feature_told-told.ensures
-          (λ i j. c.next-self.ensures i j ∙ ap (λ b. count_at old.count.inner event.what event.place b old.count) c.starts_features.ensures)
-          (λ fs k. subst (g.S.FeatureSink.told old.sink) (sym (append-nil fs) ∙ ap (λ o. fs ++ option_to_list o) (sym c.in_default.is)) k) h,
+      told_more (g.S.FeatureSink.told old.sink) (g.S.FeatureSink.told old.sink) old.rules old.count c.pass_by.new.self event events None
+          (sym (tells_quiet event.what event.place (core_of old.rules).top old.count none))
+          (λ i j. c.pass_by.ensures i ∙ sym (counts_quiet event.what event.place (starts_at old.rules.skipped old.rules.mode) old.count none))
+          (λ fs k. subst (g.S.FeatureSink.told old.sink) (sym (append-nil fs)) k) h,
     )

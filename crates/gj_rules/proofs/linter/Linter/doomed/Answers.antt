@@ -18,7 +18,7 @@ unfolding StandsFor
 returns-in-None-clause-sound c = λ bytes h e more v.
     let self = c.args.self.now in
     let n = c.bytes_taken.ensures.«open» self.reader bytes h.0 (sym c.refusal.ensures.value ∙ c.in-None.is) in
-    let k = taken_all self.rules bytes _ n h.1 in
+    let k = taken_all (RulesStandFor self.rules) bytes _ n h.1 in
     let P : List Event → Type 0 = λ xs. RulesStandFor self.rules xs in
     let told = subst P (sym (k.complete v.0 more v.1.0.0)) k.told in
     c.doomed.ensures.sound v.0 (bytes ++ more) (length bytes) v.1.0.0 (omega (arith, v.1.0.1, self.shallow)) told e v.2
@@ -28,7 +28,7 @@ unfolding StandsFor
 returns-in-None-clause-early c = λ bytes h live b.
     let self = c.args.self.now in
     let n = c.bytes_taken.ensures.«open» self.reader bytes h.0 live in
-    let k = taken_all self.rules bytes _ n h.1 in
+    let k = taken_all (RulesStandFor self.rules) bytes _ n h.1 in
     let P : List Event → Type 0 = λ xs. RulesStandFor self.rules xs in
     let told = subst P (sym (k.complete b.1 b.0 b.2.0)) k.told in
     (c.doomed.ensures.early b.1 (bytes ++ b.0) (length bytes) b.2.0 (omega (arith, b.2.1, self.shallow)) told b.3)

@@ -1,20 +1,5 @@
--- The verdict of a record that is ended, and of which the linter tells nothing.
-use Rattle.std.proofs.Common.{length, ap, refl, sym, subst, ◌∙◌, arith}
-use Rattle.gj_json.specs.Limits.{Allowed}
-use Rattle.gj_coords.specs.Internal.KeptWarnings.{no_warnings}
-use Rattle.gj_coords.specs.declared.warnings.Warnings.{Warnings}
-use Rattle.gj_rules.specs.declared.verdict.Verdict.{Verdict}
-use Rattle.gj_rules.specs.Verdict.{IsVerdict}
-use Rattle.gj_rules.proofs.Sequences.OpenRecords.{own_limit, told_as, none_shifted}
+-- As a record of a sequence.
 use Rattle.gj_rules.proofs.sequence.open_record.OpenRecord.is_clean.Goals as goal
 
-pub returns-then-self-eq-LINE_FEED : goal.returns-then-self-eq-LINE_FEED
-returns-then-self-eq-LINE_FEED c = λ bytes h clean.
-    let self = c.args.self.now in
-    let own = Verdict.Valid no_warnings in
-    let P : Allowed → Type 0 = λ l. IsVerdict l bytes own in
-    let w = subst P h.under (c.is_clean.ensures bytes h.linter clean) in (
-      own,
-      own_limit self.limits bytes own (omega (arith, h.counted, self.within, self.wide)) w,
-      ap (λ (x : Warnings). Verdict.Valid x) (sym (none_shifted self.start)) ∙ told_as self.start 10 (length bytes) 0 bytes own (sym c.if-self-eq-LINE_FEED.true ∙ h.last) refl,
-    )
+pub returns : goal.returns
+returns c = λ bytes h clean. c.is_clean_as.ensures bytes h clean

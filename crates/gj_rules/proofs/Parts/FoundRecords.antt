@@ -1,0 +1,23 @@
+-- What is found in records, as one more ends.
+use Rattle.std.proofs.Common.{◌≡◌, ℕ, zero, suc, ◌<◌, List, [], ◌∷◌, ◌++◌, refl, arith}
+use Rattle.gj_rules.specs.declared.records.framing.Framing.{Framing}
+use Rattle.gj_rules.specs.declared.records.record.Record.{Record}
+use Rattle.gj_rules.specs.declared.verdict.Verdict.{Verdict}
+use Rattle.gj_rules.specs.declared.sequence.verdict.SeqVerdict.{SeqVerdict}
+use Rattle.gj_rules.specs.RecordFindings.{IsOwnVerdict, IsNumberedVerdict, IsFinding, AreFindings, after, whole_from}
+use Rattle.gj_rules.specs.Records.{Part, Entry}
+
+pub found-append : (framing : Framing) (levels : ℕ) (entries : List Entry) (found : List Record) (entry : Entry) (one : Record) → AreFindings framing levels entries found → IsFinding framing levels entry one
+    → AreFindings framing levels (entries ++ entry ∷ []) (found ++ one ∷ [])
+found-append framing levels [] [] entry one h k = (k, tt)
+found-append framing levels [] (other ∷ found) entry one h k = absurd h
+found-append framing levels (first ∷ entries) [] entry one h k = absurd h
+found-append framing levels (first ∷ entries) (other ∷ found) entry one h k = (h.0, found-append framing levels entries found entry one h.1 k)
+
+pub whole-append : (verdict : SeqVerdict) (found : List Record) (one : Record) → whole_from verdict (found ++ one ∷ []) ≡ after (whole_from verdict found) one
+whole-append verdict [] one = refl
+whole-append verdict (other ∷ found) one = whole-append (after verdict other) found one
+
+pub numbered_own : (framing : Framing) (levels number : ℕ) (part : Part) (verdict : Verdict) → 0 < number → IsOwnVerdict framing levels part verdict → IsNumberedVerdict framing levels number part verdict
+numbered_own framing levels zero part verdict some h = absurd (omega (arith, some))
+numbered_own framing levels (suc n) part verdict some h = h

@@ -1,0 +1,269 @@
+//! The records of an input that comes in pieces, each judged by itself.
+ghost use Rattle.std.specs.Prelude.{◌≡◌, ◌↔◌, ℕ, ◌+◌, ◌<◌, ◌≤◌, ◌^◌, ◌++◌, ◌∷◌, [], List, length, take, false, true, None, IsTrue};
+
+mod framing;
+mod record;
+
+use crate::sequence::open_record::OpenRecord;
+use crate::sequence::{SeqVerdict, record_limits};
+use crate::verdict::Verdict;
+pub(crate) use framing::run_before;
+pub use framing::{Framing, RecordEnd};
+use gj_coords::Warnings;
+use gj_json::{Cause, JsonFault, Limits};
+pub use record::{Record, RecordSink};
+
+/// Judges each record of an input that comes in pieces of any size, in the memory of one record's linter, and tells what
+/// is found in it as soon as it has ended. A record that is not valid ends at the next separator, as any other does (RFC 7464,
+/// section 2.3, on which RFC 8142 rests).
+#[derive(Drop)]
+pub struct Records {
+    record: OpenRecord,
+    /// Of the records that were told.
+    whole: SeqVerdict,
+    limits: Limits,
+    /// That of the open record.
+    number: u64,
+    framing: Framing,
+    /// Whether the open record has no byte so far that counts.
+    is_void: bool,
+    /// Whether a byte came that is beyond the limit.
+    is_over: bool,
+    ghost within: { record.end ≤ limits.bytes },
+    ghost few: { number ≤ record.end + 1 },
+}
+
+impl Records {
+    ghost use Rattle.gj_rules.specs.declared.records.framing.Framing.{Framing};
+    ghost use Rattle.gj_rules.specs.declared.records.framing.RecordEnd.{RecordEnd};
+    ghost use Rattle.gj_rules.specs.declared.records.record.Record.{Record};
+    ghost use Rattle.gj_rules.specs.Internal.BytesBefore.{has_byte};
+    ghost use Rattle.gj_rules.specs.Internal.OpenRecord.{StandsFor as RecordStandsFor};
+    ghost use Rattle.gj_rules.specs.Internal.ToldRecords.{TellsOne, Keeps, KeepsAll};
+    ghost use Rattle.gj_coords.specs.Internal.KeptWarnings.{no_warnings};
+    ghost use Rattle.gj_rules.specs.Linter.{refusal_of};
+    ghost use Rattle.gj_rules.specs.RecordFindings.{AreAllFindings, IsOwnVerdict, IsNumberedVerdict, whole_of};
+    ghost use Rattle.gj_rules.specs.Records.{Part, part_at, separator_of, counts};
+    ghost use Rattle.gj_rules.specs.RecordsStand.{StandsFor, limits_of, framing_of, HaveTold, HaveToldAll};
+
+    /// Before the first byte of an input. The depth is allowed to each record, and the number of bytes to the whole input.
+    pub fn new(framing: Framing, limits: Limits) -> Records
+        ensures stands { StandsFor result [] [] }
+        ensures framing { framing_of result ≡ framing }
+        ensures limits { limits_of result ≡ limits }
+    {
+        Records {
+            record: OpenRecord::new(record_limits(limits), 0),
+            whole: SeqVerdict::Valid {
+                records: 0,
+                warnings: Warnings::none(),
+            },
+            limits,
+            number: framing.first_number(),
+            framing,
+            is_void: true,
+            is_over: false,
+        }
+    }
+
+    /// Takes the next bytes of the input, and tells the sink each record that ends in them. The first byte beyond the limit
+    /// ends the open record, which is then too long, and all after that is passed over.
+    pub fn feed<S: RecordSink>(&mut self, piece: &[u8], sink: &mut S)
+        ensures told { (bytes : List ℕ) (before found : List Record) → StandsFor self.old bytes found → S.told sink.old (before ++ found)
+            → HaveTold (S.told sink.new) self.new (bytes ++ piece.now) before found }
+        ensures framing { framing_of self.new ≡ framing_of self.old }
+        ensures limits { limits_of self.new ≡ limits_of self.old }
+    {
+        let mut at = 0;
+        while at < piece.len() {
+            if self.is_over {
+                return;
+            }
+            at += self.take(&piece[at..], sink);
+        }
+    }
+
+    /// Takes the next byte, or the next bytes of the open record; answers how many.
+    fn take<S: RecordSink>(&mut self, rest: &[u8], sink: &mut S) -> usize
+        requires some { 0 < length rest.now }
+        requires live { self.old.is_over ≡ false }
+        ensures some { 0 < result }
+        ensures within { result ≤ length rest.now }
+        ensures told { (bytes : List ℕ) (before found : List Record) → StandsFor self.old bytes found → S.told sink.old (before ++ found)
+            → HaveTold (S.told sink.new) self.new (bytes ++ take result rest.now) before found }
+        ensures keeps { Keeps self.old self.new }
+    {
+        let offset = self.record.end();
+        if offset == self.limits.bytes() {
+            self.tell_open(RecordEnd::Limit, offset, sink);
+            self.is_over = true;
+            return 1;
+        }
+        let separator = self.framing.separator();
+        if rest[0] == separator {
+            self.separate(sink);
+            return 1;
+        }
+        let run = run_before(separator, rest, self.limits.bytes() - offset);
+        self.take_run(&rest[..run]);
+        run
+    }
+
+    /// Takes bytes of the open record.
+    fn take_run(&mut self, run: &[u8])
+        requires some { 0 < length run.now }
+        requires room { self.old.record.end + length run.now ≤ self.old.limits.bytes }
+        requires plain { has_byte (separator_of self.old.framing) run.now ≡ false }
+        requires live { self.old.is_over ≡ false }
+        ensures stands { (bytes : List ℕ) (found : List Record) → StandsFor self.old bytes found → StandsFor self.new (bytes ++ run.now) found }
+        ensures keeps { Keeps self.old self.new }
+    {
+        let _most = self.limits.bytes();
+        self.is_void = self.framing.stays_void(self.is_void, run);
+        self.record.feed(run);
+    }
+
+    /// Takes a separator: it ends the open record, where that is one.
+    fn separate<S: RecordSink>(&mut self, sink: &mut S)
+        requires room { self.old.record.end < self.old.limits.bytes }
+        requires live { self.old.is_over ≡ false }
+        ensures told { (bytes : List ℕ) (before found : List Record) → StandsFor self.old bytes found → S.told sink.old (before ++ found)
+            → HaveTold (S.told sink.new) self.new (bytes ++ separator_of self.old.framing ∷ []) before found }
+        ensures keeps { Keeps self.old self.new }
+    {
+        let _most = self.limits.bytes();
+        let next = self.record.end() + 1;
+        if self.is_void {
+            self.record.begin_again(next);
+            self.number = self.number.max(1);
+            return;
+        }
+        self.tell_parted(next, sink);
+        self.number += 1;
+        self.is_void = true;
+    }
+
+    /// Tells the open record, which a separator ends.
+    fn tell_parted<S: RecordSink>(&mut self, next: u64, sink: &mut S)
+        requires next { next ≤ self.old.limits.bytes }
+        requires on { self.old.record.end ≤ next }
+        ensures { TellsOne (S.told sink.old) (S.told sink.new) RecordEnd.Separator next self.old self.new }
+    {
+        if self.number > 0 && self.record.is_clean_as(self.framing) {
+            self.tell_clean(next, sink)
+        } else {
+            self.tell_open(RecordEnd::Separator, next, sink)
+        }
+    }
+
+    /// Tells the open record, which is valid and has no warning, as most are. Little is written.
+    fn tell_clean<S: RecordSink>(&mut self, next: u64, sink: &mut S)
+        requires next { next ≤ self.old.limits.bytes }
+        requires on { self.old.record.end ≤ next }
+        requires numbered { 0 < self.old.number }
+        requires clean { (given : List ℕ) → RecordStandsFor self.old.record given
+            → IsOwnVerdict self.old.framing self.old.record.limits.depth (part_at self.old.record.start given RecordEnd.Separator) (Verdict.Valid no_warnings) }
+        ensures { TellsOne (S.told sink.old) (S.told sink.new) RecordEnd.Separator next self.old self.new }
+    {
+        let _most = self.limits.bytes();
+        let found = Record {
+            number: self.number,
+            place: self.record.start(),
+            end: self.record.end(),
+            verdict: Verdict::Valid(Warnings::none()),
+        };
+        self.record.begin_again(next);
+        self.whole.count(self.number);
+        sink.tell_record(&found);
+    }
+
+    /// Tells the open record. The next one, which has no byte yet, begins at the place.
+    fn tell_open<S: RecordSink>(&mut self, ending: RecordEnd, next: u64, sink: &mut S)
+        requires next { next ≤ self.old.limits.bytes }
+        requires on { self.old.record.end ≤ next }
+        ensures { TellsOne (S.told sink.old) (S.told sink.new) ending next self.old self.new }
+    {
+        let _most = self.limits.bytes();
+        let number = self.number;
+        let place = self.record.start();
+        let end_place = self.record.end();
+        let verdict = self.close(ending, next);
+        let found = Record {
+            number,
+            place,
+            end: end_place,
+            verdict,
+        };
+        self.whole = self.whole.after(&found);
+        sink.tell_record(&found);
+    }
+
+    /// What the open record is. No text may stand before the first separator of a sequence.
+    fn close(&mut self, ending: RecordEnd, next: u64) -> Verdict
+        requires next { next ≤ self.old.limits.bytes }
+        requires on { self.old.record.end ≤ next }
+        ensures verdict { (given : List ℕ) → RecordStandsFor self.old.record given
+            → IsNumberedVerdict self.old.framing self.old.record.limits.depth self.old.number (part_at self.old.record.start given ending) result }
+        ensures stands { RecordStandsFor self.new.record [] }
+        ensures start { self.new.record.start ≡ next }
+        ensures end { self.new.record.end ≡ next }
+        ensures limits { self.new.record.limits ≡ self.old.record.limits }
+        ensures rest { KeepsAll self.old self.new }
+        ensures whole { self.new.whole ≡ self.old.whole }
+    {
+        let _most = self.limits.bytes();
+        if self.number > 0 {
+            return self.record.close_as(self.framing, ending, next);
+        }
+        let place = self.record.start();
+        self.record.begin_again(next);
+        Verdict::NotJson(JsonFault {
+            place,
+            cause: Cause::Syntax,
+        })
+    }
+
+    /// Tells the last record, and answers what the input is as a whole: all its records are valid, with the warnings of all, or
+    /// one is the first that is not.
+    #[inline(never)]
+    pub fn finish<S: RecordSink>(mut self, sink: &mut S) -> SeqVerdict
+        ensures told { (bytes : List ℕ) (before found : List Record) → StandsFor self bytes found → S.told sink.old (before ++ found)
+            → HaveToldAll (S.told sink.new) (framing_of self) (limits_of self) bytes before found result }
+    {
+        if self.counts_at_end() {
+            let next = self.record.end();
+            self.tell_open(RecordEnd::Input, next, sink);
+            return self.whole;
+        }
+        self.whole
+    }
+
+    /// Whether the open record counts where the input ends: a separator of a sequence begins a record, even if no byte follows.
+    fn counts_at_end(&self) -> bool
+        ensures over { self.now.is_over ≡ true → result ≡ false }
+        ensures live { self.now.is_over ≡ false → result ≡ counts self.now.framing self.now.number RecordEnd.Input self.now.is_void }
+    {
+        if self.is_over {
+            return false;
+        }
+        match self.framing {
+            Framing::Sequence => !self.is_void || self.number > 0,
+            Framing::Lines => !self.is_void,
+        }
+    }
+
+    /// How many bytes were taken, of those that are allowed.
+    pub fn offset(&self) -> u64
+        ensures { (bytes : List ℕ) (found : List Record) → StandsFor self.now bytes found → result ≡ length (take (limits_of self.now).bytes bytes) }
+    {
+        self.record.end()
+    }
+
+    /// Whether a byte came that is beyond the limit: no further one matters.
+    pub fn is_over(&self) -> bool
+        ensures beyond { (bytes : List ℕ) (found : List Record) → StandsFor self.now bytes found → IsTrue result ↔ ((limits_of self.now).bytes < length bytes) }
+        ensures lasting { (bytes more : List ℕ) (found : List Record) → StandsFor self.now bytes found → IsTrue result → StandsFor self.now (bytes ++ more) found }
+    {
+        self.is_over
+    }
+}
