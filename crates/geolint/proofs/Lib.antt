@@ -3,3 +3,4 @@ mod ReadVerdicts
 mod RoomWrites
 mod QuickReadings
 mod DecidedSequences
+mod VerdictReports

@@ -7,3 +7,4 @@ pub mod Located
 pub mod Run
 pub mod Quick
 pub mod Sequence
+pub mod VerdictReport

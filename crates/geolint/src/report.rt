@@ -7,6 +7,7 @@ ghost use Rattle.geolint.specs.Counts.{CountsFailure};
 ghost use Rattle.geolint.specs.Report.{refusal_line, broken_line, not_valid_line, report};
 ghost use Rattle.geolint.specs.Room.{written_in, Adds};
 ghost use Rattle.geolint.specs.Sequence.{sequence_report};
+ghost use Rattle.geolint.specs.VerdictReport.{verdict_report, sequence_verdict_report};
 ghost use Rattle.geolint.specs.Written.{IsFrontOut};
 ghost use Rattle.geolint.specs.declared.room.TheConstants.{CAPACITY, MOST_LINE};
 
@@ -74,7 +75,7 @@ fn push_fault(fault: Fault, room: &mut Room)
 /// The report of a verdict.
 fn push_report(verdict: Verdict, path: Option<Path>, room: &mut Room)
     requires { length (written_in room.old) ≤ MOST_LINE }
-    ensures { (judgement : Judgement) → Says verdict judgement → Adds room.old room.new (report judgement path) }
+    ensures { Adds room.old room.new (verdict_report verdict path) }
 {
     match verdict {
         Verdict::Valid(warnings) => push_valid(&warnings, room),
@@ -90,15 +91,16 @@ fn push_report(verdict: Verdict, path: Option<Path>, room: &mut Room)
 /// a broken rule one with the path of the value that breaks it, where it is given.
 ///
 /// On `Ok` all of it is behind what the writer had taken. On an error the first `written` bytes of it are, and not all.
+#[tactic(auto, using(crate::proofs::VerdictReports::verdict_said))]
 pub fn write_report<W: Sink>(
     verdict: Verdict,
     path: Option<Path>,
     writer: &mut W,
 ) -> Result<(), WriteFault>
-    ensures whole { (judgement : Judgement) → Says verdict judgement →
-        OnOk result (Appends (W.taken writer.old) (W.taken writer.new) (report judgement path)) }
-    ensures front { (judgement : Judgement) → Says verdict judgement → IfErr result (λ fault.
-        IsFrontOut (W.taken writer.old) (W.taken writer.new) (report judgement path) fault.written) }
+    ensures whole { OnOk result (Appends (W.taken writer.old) (W.taken writer.new) (verdict_report verdict path)) }
+    ensures front { IfErr result (λ fault.
+        IsFrontOut (W.taken writer.old) (W.taken writer.new) (verdict_report verdict path) fault.written) }
+    ensures said { (judgement : Judgement) → Says verdict judgement → verdict_report verdict path ≡ report judgement path }
     ensures failed { CountsFailure (W.failed_writes writer.old) (W.failed_writes writer.new) result }
 {
     let mut room = Room::new();
@@ -110,11 +112,12 @@ pub fn write_report<W: Sink>(
 /// of the first record that is not valid, and the report of its verdict without a path.
 ///
 /// What went out is as `write_report` has it.
+#[tactic(auto, using(crate::proofs::VerdictReports::sequence_said))]
 pub fn write_seq_report<W: Sink>(verdict: SeqVerdict, writer: &mut W) -> Result<(), WriteFault>
-    ensures whole { (judgement : SequenceJudgement) → SequenceSays verdict judgement →
-        OnOk result (Appends (W.taken writer.old) (W.taken writer.new) (sequence_report judgement)) }
-    ensures front { (judgement : SequenceJudgement) → SequenceSays verdict judgement → IfErr result (λ fault.
-        IsFrontOut (W.taken writer.old) (W.taken writer.new) (sequence_report judgement) fault.written) }
+    ensures whole { OnOk result (Appends (W.taken writer.old) (W.taken writer.new) (sequence_verdict_report verdict)) }
+    ensures front { IfErr result (λ fault.
+        IsFrontOut (W.taken writer.old) (W.taken writer.new) (sequence_verdict_report verdict) fault.written) }
+    ensures said { (judgement : SequenceJudgement) → SequenceSays verdict judgement → sequence_verdict_report verdict ≡ sequence_report judgement }
     ensures failed { CountsFailure (W.failed_writes writer.old) (W.failed_writes writer.new) result }
 {
     let mut room = Room::new();

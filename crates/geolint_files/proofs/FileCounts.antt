@@ -1,7 +1,7 @@
 -- Lemmas on the counts of files.
 use Rattle.std.specs.Prelude.{is_none, cond}
 use Rattle.std.specs.Prelude.{is_some}
-use Rattle.std.proofs.Common.{arith, refl, not, ◌||◌, ◌&&◌, nat_le, ◌≢◌, inl, inr, set, length, map, if◌then◌else◌, ◌≡◌, ◌≤◌, ◌<◌, ◌+◌, ◌-◌, ℕ, Bool, true, false, List, [], ◌∷◌, ◌++◌, Option, Some, None, get_or, ap, sym, ◌∙◌, nat_eq}
+use Rattle.std.proofs.Common.{arith, refl, not, ◌||◌, ◌&&◌, nat_le, ◌≢◌, inl, inr, set, length, map, ◌≡◌, ◌≤◌, ◌<◌, ◌+◌, ◌-◌, ℕ, Bool, true, false, List, [], ◌∷◌, ◌++◌, Option, Some, None, get_or, ap, sym, ◌∙◌, nat_eq}
 use Rattle.std.specs.Io.Iter.{u64_saturate}
 use Rattle.std.specs.List.{count_by}
 use Rattle.std.proofs.lemmas.Bool.Decides.{nat_tests, eqb_tells}

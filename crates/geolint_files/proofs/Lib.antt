@@ -16,3 +16,4 @@ mod ShownNames
 mod DetailsInParentheses
 mod ResultsBetween
 mod PlacesInOrder
+mod ToldFiles

@@ -5,7 +5,7 @@ pub mod Github
 pub mod Text
 pub mod Lines
 pub mod Sarif
-use Rattle.std.specs.Prelude.{◌≡◌, ℕ, Bool, List, Vec}
+use Rattle.std.specs.Prelude.{◌≡◌, ℕ, Bool, ◌&&◌, List, [], ◌++◌, Vec}
 use Rattle.std.specs.declared.alloc.Global.{Global}
 use Rattle.gj_places.specs.Strings.{SpellsString}
 use Rattle.geolint_files.specs.declared.formats.lines.Style.{Style}
@@ -19,25 +19,38 @@ use Rattle.geolint_files.specs.Forms.Json.{json_line, json_unread}
 use Rattle.geolint_files.specs.Forms.Lines.{AreLines}
 use Rattle.geolint_files.specs.Forms.Sarif.{next_results, next_unread, sarif_told}
 use Rattle.geolint_files.specs.Forms.Text.{text_told}
+use Rattle.geolint_files.specs.Internal.WrittenCommas.{is_none_yet}
 use Rattle.geolint_files.specs.Line.{Adds}
 
--- what is added for a file that was judged; in a log the first result has no comma before it
-abbrev pub TellsReport : Format → Style → Bool → Report → Bool → Kinds → Vec ℕ Global → Vec ℕ Global → Type 0
-TellsReport Format.Text style is_first report strict allowed old new = Adds old new (text_told report)
-TellsReport Format.Lines style is_first report strict allowed old new = (bytes : List ℕ) × AreLines style report (fault_of report.finding) bytes × Adds old new bytes
-TellsReport Format.Json style is_first report strict allowed old new = (name : List ℕ) × SpellsString report.name.now name × Adds old new (json_line name report)
-TellsReport Format.Github style is_first report strict allowed old new = Adds old new (github_told report strict allowed)
-TellsReport Format.Sarif style is_first report strict allowed old new = Adds old new (next_results is_first (sarif_told report strict allowed))
+-- the report of a file that was judged; in a log the first result has no comma before it
+abbrev pub IsReport : Format → Style → Bool → Report → Bool → Kinds → List ℕ → Type 0
+IsReport Format.Text style is_first report strict allowed bytes = bytes ≡ text_told report
+IsReport Format.Lines style is_first report strict allowed bytes = AreLines style report (fault_of report.finding) bytes
+IsReport Format.Json style is_first report strict allowed bytes = (name : List ℕ) × SpellsString report.name.now name × (bytes ≡ json_line name report)
+IsReport Format.Github style is_first report strict allowed bytes = bytes ≡ github_told report strict allowed
+IsReport Format.Sarif style is_first report strict allowed bytes = bytes ≡ next_results is_first (sarif_told report strict allowed)
 
--- and for one that could not be opened or read: for people nothing, who read it on standard error; a log tells it at its end
+abbrev pub TellsReport : Format → Style → Bool → Report → Bool → Kinds → Vec ℕ Global → Vec ℕ Global → Type 0
+TellsReport format style is_first report strict allowed old new = (bytes : List ℕ) × IsReport format style is_first report strict allowed bytes × Adds old new bytes
+
+-- whether a log has no result yet, once that file is told
+abbrev pub first_after : Format → Bool → Report → Bool → Kinds → Bool
+first_after Format.Sarif is_first report strict allowed = is_first && is_none_yet (sarif_told report strict allowed)
+first_after format is_first report strict allowed = is_first
+
+-- the report of one that could not be opened or read: for people nothing, who read it on standard error; a log tells it at its end
+abbrev pub IsUnreadReport : Format → List ℕ → List ℕ → List ℕ → Type 0
+IsUnreadReport Format.Json name reason bytes = (file why : List ℕ) × SpellsString name file × SpellsString reason why × (bytes ≡ json_unread file why)
+IsUnreadReport Format.Github name reason bytes = bytes ≡ github_unread name reason
+IsUnreadReport format name reason bytes = bytes ≡ []
+
 abbrev pub TellsUnread : Format → List ℕ → List ℕ → Vec ℕ Global → Vec ℕ Global → Type 0
-TellsUnread Format.Text name reason old new = new ≡ old
-TellsUnread Format.Lines name reason old new = new ≡ old
-TellsUnread Format.Json name reason old new = (file why : List ℕ) × SpellsString name file × SpellsString reason why × Adds old new (json_unread file why)
-TellsUnread Format.Github name reason old new = Adds old new (github_unread name reason)
-TellsUnread Format.Sarif name reason old new = new ≡ old
+TellsUnread format name reason old new = (bytes : List ℕ) × IsUnreadReport format name reason bytes × Adds old new bytes
 
 -- and what a log keeps of one, for its end
+abbrev pub KeepsUnread : Format → List ℕ → List ℕ → List ℕ → List ℕ → Type 0
+KeepsUnread Format.Sarif name reason old new = (why : List ℕ) × SpellsString reason why × (new ≡ old ++ next_unread old name why)
+KeepsUnread format name reason old new = new ≡ old
+
 abbrev pub KeepsInLog : Format → List ℕ → List ℕ → Log → Log → Type 0
-KeepsInLog Format.Sarif name reason old new = (why : List ℕ) × SpellsString reason why × Adds old.unread new.unread (next_unread old.unread.items name why)
-KeepsInLog format name reason old new = new ≡ old
+KeepsInLog format name reason old new = (new.is_first ≡ old.is_first) × KeepsUnread format name reason old.unread.items new.unread.items

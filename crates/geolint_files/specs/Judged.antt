@@ -1,5 +1,5 @@
 -- What the first reading of a file finds, of which `Is` says what is right under given limits.
-use Rattle.std.specs.Prelude.{◌≡◌, ◌+◌, ℕ, List, [], ◌++◌, Option, Some, None, Result, MatchResult, ⊤}
+use Rattle.std.specs.Prelude.{◌≡◌, ◌+◌, ℕ, Bool, true, false, List, [], ◌++◌, Option, Some, None, Result, MatchResult, ⊤}
 use Rattle.std.specs.Io.Iter.{u64_saturate}
 use Rattle.gj_json.specs.Limits.{Allowed}
 use Rattle.gj_coords.specs.declared.warnings.Warnings.{Warnings}
@@ -68,6 +68,11 @@ Finds Reading.Quick limits old new (Finding.Text (Valid warnings)) = JudgesQuick
 Finds Reading.Quick limits old new Finding.NotValid = JudgesQuickly limits old new None
 Finds Reading.Sequence limits old new (Finding.Sequence verdict) = JudgesSequence limits old new verdict
 Finds reading limits old new finding = ⊥
+
+-- what is read is a text sequence
+abbrev pub is_of_records : Reading → Bool
+is_of_records Reading.Sequence = true
+is_of_records reading = false
 
 -- ---- reads that fail
 

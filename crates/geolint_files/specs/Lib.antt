@@ -8,4 +8,7 @@ pub mod Summary
 pub mod Sites
 pub mod Report
 pub mod Forms
+pub mod Run
+pub mod Walk
+pub mod Told
 pub mod Internal

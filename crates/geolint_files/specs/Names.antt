@@ -32,3 +32,7 @@ shown_within (suc most) name = shown_text (valid_front name) ++ (flat_map by_num
 
 unfoldable pub shown_name : List ℕ → List ℕ
 shown_name name = shown_within (length name) name
+
+-- what is said on standard error of a file that could not be opened or read
+unfoldable pub unread_line : List ℕ → List ℕ → List ℕ
+unread_line name reason = codes "geolint-files: " ++ (shown_name name ++ (codes ": " ++ (reason ++ codes "\n")))

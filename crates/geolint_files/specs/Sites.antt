@@ -141,3 +141,14 @@ IsExcerpt text sites = (before : List ℕ) (place : ℕ) → sought sites ≡ be
 abbrev pub ExcerptBy : Option (List ℕ) → Sites → Type 0
 ExcerptBy None sites = ⊤
 ExcerptBy (Some text) sites = IsExcerpt text sites
+
+-- ---- all of that
+
+-- what a second reading finds of places, where the reader told its bytes
+pub record AreSitesIn (limits : Allowed) (is_sequence : Bool) (text : Option (List ℕ)) (sites : Sites) : Type 0 where
+  pub right : RightBy text sites.sites
+  pub paths : PathsBy is_sequence text sites.sites
+  pub told : ToldBy limits is_sequence text sites.sites
+  pub texts : ToldInTextsBy limits is_sequence text sites.sites
+  pub found : FoundBy text sites
+  pub excerpt : ExcerptBy text sites

@@ -34,6 +34,21 @@ pub enum Reading {
     Sequence,
 }
 
+impl Reading {
+    ghost use Rattle.std.specs.Prelude.{◌≡◌};
+    ghost use Rattle.geolint_files.specs.Judged.{is_of_records};
+
+    /// Whether what is read is a text sequence.
+    pub fn is_of_records(self) -> bool
+        ensures { result ≡ is_of_records self }
+    {
+        match self {
+            Reading::Sequence => true,
+            Reading::Text | Reading::Quick => false,
+        }
+    }
+}
+
 /// What the bytes of a reader are.
 ///
 /// It is the linter's verdict of all of them, or that of a sequence; where only yes or no is asked, the warnings of a valid
@@ -47,6 +62,7 @@ pub fn judge<S: Source>(
     meter: &mut Meter,
 ) -> io::Result<Finding>
     ensures found { IfOk result (Finds reading limits (S.remaining reader.old) (S.remaining reader.new)) }
+    ensures text { S.text reader.new ≡ S.text reader.old }
     ensures failed { CountsFailure (S.failed_reads reader.old) (S.failed_reads reader.new) result }
 {
     match reading {
@@ -74,6 +90,7 @@ fn judge_text<S: Source>(
     meter: &mut Meter,
 ) -> io::Result<Verdict>
     ensures verdict { IfOk result (λ verdict. JudgesRead limits (S.remaining reader.old) (S.remaining reader.new) verdict) }
+    ensures text { S.text reader.new ≡ S.text reader.old }
     ensures failed { CountsFailure (S.failed_reads reader.old) (S.failed_reads reader.new) result }
 {
     let _most = limits.bytes();
@@ -104,6 +121,7 @@ fn judge_quickly<S: Source>(
     meter: &mut Meter,
 ) -> io::Result<Option<Warnings>>
     ensures valid { IfOk result (λ valid. JudgesQuickly limits (S.remaining reader.old) (S.remaining reader.new) valid) }
+    ensures text { S.text reader.new ≡ S.text reader.old }
     ensures failed { CountsFailure (S.failed_reads reader.old) (S.failed_reads reader.new) result }
 {
     let _most = limits.bytes();
@@ -148,6 +166,7 @@ fn judge_sequence<S: Source>(
     meter: &mut Meter,
 ) -> io::Result<SeqVerdict>
     ensures verdict { IfOk result (λ verdict. JudgesSequence limits (S.remaining reader.old) (S.remaining reader.new) verdict) }
+    ensures text { S.text reader.new ≡ S.text reader.old }
     ensures failed { CountsFailure (S.failed_reads reader.old) (S.failed_reads reader.new) result }
 {
     let _most = limits.bytes();

@@ -25,12 +25,13 @@ mod words;
 
 use crate::arguments::{given_words, shown_words};
 use crate::formats::put_name;
+use crate::outcome::Outcome;
 use crate::run::{Failure, judge_all};
 use crate::walk::Others;
 use crate::words::{Order, order_in};
 use clap::Error;
 use clap::error::ErrorKind;
-use std::io;
+use std::io::{self, BufWriter};
 use std::process::ExitCode;
 
 /// The status where nobody reads the report any more: the one that a shell gives for a program that SIGPIPE ends.
@@ -52,7 +53,7 @@ enum NoOrder {
 /// words are wrong or that the report could not be written, and 141 that nobody reads it any more.
 fn main(rt: HostRuntime) -> ExitCode {
     match read_order(&rt) {
-        Ok(order) => match judge_all(&rt, &order) {
+        Ok(order) => match judge_to_output(&rt, &order) {
             Ok(outcome) => ExitCode::from(outcome.status()),
             Err(failure) => ExitCode::from(end_by(&rt, &failure)),
         },
@@ -64,6 +65,12 @@ fn main(rt: HostRuntime) -> ExitCode {
             ExitCode::from(2)
         }
     }
+}
+
+/// The report goes to standard output.
+fn judge_to_output(rt: &HostRuntime, order: &Order) -> Result<Outcome, Failure> {
+    let out = BufWriter::new(rt.alloc(), rt.stdout())?;
+    Ok(judge_all(rt, order, out)?.outcome)
 }
 
 /// Says what ends the run, and answers the status. Of a closed pipe nothing is said, as custom is.

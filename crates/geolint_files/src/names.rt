@@ -1,5 +1,8 @@
 //! Names from a list, one after the other, in the memory of one name.
 
+ghost use Rattle.std.specs.Prelude.{◌≡◌};
+ghost use Rattle.geolint_files.specs.Walk.{listed_by};
+
 use crate::judge::PIECE;
 use std::io::{self, Read};
 
@@ -14,7 +17,12 @@ pub enum NameEnd {
 }
 
 impl NameEnd {
-    fn byte(self) -> u8 {
+    ghost use Rattle.std.specs.Prelude.{◌≡◌};
+    ghost use Rattle.geolint_files.specs.Walk.{end_byte};
+
+    fn byte(self) -> u8
+        ensures { result ≡ end_byte self }
+    {
         match self {
             NameEnd::Lf => b'\n',
             NameEnd::Nul => 0,
@@ -95,7 +103,9 @@ impl<R: Read> Names<R> {
     }
 }
 
-fn what_is(has_nul: bool, is_empty: bool) -> Listed {
+fn what_is(has_nul: bool, is_empty: bool) -> Listed
+    ensures { result ≡ listed_by has_nul is_empty }
+{
     match (has_nul, is_empty) {
         (true, _) => Listed::NameWithNul,
         (false, false) => Listed::Name,

@@ -1,5 +1,7 @@
 //! How far the run is, on a terminal's standard error.
-use std::io::{self, IsTerminal, Read, Write};
+ghost use Rattle.std.specs.Prelude.{◌≡◌, ◌-◌, option_map};
+
+use std::io::{IsTerminal, Write};
 use std::time::{Duration, Instant};
 
 /// How long a line stands at least.
@@ -127,26 +129,9 @@ impl Meter {
     }
 }
 
-/// A reader whose bytes are counted as they come.
-#[derive(Drop)]
-pub struct Counted<'a, R> {
-    pub reader: &'a mut R,
-    pub meter: &'a mut Meter,
-}
-
-impl<'a, R: Read> Read for Counted<'a, R> {
-    ghost remaining = { λ counted. R.remaining counted.reader.now };
-
-    fn read(&mut self, piece: &mut [u8]) -> io::Result<usize> {
-        let result = self.reader.read(piece);
-        if let Ok(count) = &result {
-            self.meter.add_bytes(*count);
-        }
-        result
-    }
-}
-
 /// What is left of a number that is known, after so much of it.
-fn rest_of(known: Option<u64>, taken: u64) -> Option<u64> {
+fn rest_of(known: Option<u64>, taken: u64) -> Option<u64>
+    ensures { result ≡ option_map (λ number. number - taken) known }
+{
     known.map(|number| number.saturating_sub(taken))
 }

@@ -1,22 +1,26 @@
 //! Judges what the words name, file by file, and tells each.
-ghost use Rattle.std.specs.Prelude.{◌≡◌, ◌<◌, ◌-◌, ◌^◌, ℕ, IfOk};
-ghost use Rattle.std.specs.List.{Contains};
-ghost use Rattle.geolint_files.specs.Report.{IsToldPlace};
-ghost use Rattle.geolint_files.specs.Sites.{RightBy, PathsBy, ToldBy, ToldInTextsBy, FoundBy, ExcerptBy, sought};
+ghost use Rattle.std.specs.Prelude.{◌≡◌, [], IfOk, OnOk, true, false};
+ghost use Rattle.geolint_files.specs.Internal.FileCounts.{Counts};
+ghost use Rattle.geolint_files.specs.Judged.{CountsFailure, is_of_records};
+ghost use Rattle.geolint_files.specs.Line.{Adds};
+ghost use Rattle.geolint_files.specs.Names.{unread_line};
+ghost use Rattle.geolint_files.specs.Run.{IsRun};
+ghost use Rattle.geolint_files.specs.Sites.{AreSitesIn};
+ghost use Rattle.geolint_files.specs.Told.{AreSought, AreSoughtFor};
 
 use crate::files::{Spelled, is_lost_link, is_memory, look_up, reason, spell};
 use crate::formats::lines::Style;
 use crate::formats::sarif::Log;
 use crate::formats::{github, json, lines, put_name, text};
 use crate::judge::{Finding, Reading, judge};
-use crate::line::put_all;
+use crate::line::put;
 use crate::names::{Listed, NameEnd, Names};
 use crate::options::{Format, Options};
 use crate::outcome::Outcome;
-use crate::progress::{Counted, Meter};
+use crate::progress::Meter;
 use crate::report::Report;
 use crate::sites::Sites;
-use crate::source::FromRead;
+use crate::source::{FileSource, FromRead, Rewind, Source};
 use crate::summary::Summary;
 use crate::walk::{Others, Pending, Walk, is_sequence, is_taken};
 use crate::words::Order;
@@ -24,7 +28,7 @@ use gj_json::Limits;
 use gj_rules::Linter;
 use std::alloc::AllocError;
 use std::fs::{File, Metadata};
-use std::io::{self, BufWriter, ErrorKind, IsTerminal, Read, Seek, SeekFrom, Stdout, Write};
+use std::io::{self, ErrorKind, IsTerminal, Read, Write};
 use std::os::unix::fs::MetadataExt;
 use std::{env, mem};
 
@@ -61,26 +65,37 @@ const NO_INPUT: &str = "a list cannot name standard input; ./- is a file of that
 /// What is said of a name with NUL, where names end with LF.
 const NO_NUL: &str = "a name in a list has no NUL; --null takes names that end with it";
 
-/// Judges what is named, and tells each file. The answer is the worst of all; where there was none, and that is not allowed,
-/// it is a failure.
-pub fn judge_all(rt: &HostRuntime, order: &Order) -> Result<Outcome, Failure> {
+/// Judges what is named, and tells each file. The report of all goes to the writer, and the answer has the worst of their
+/// outcomes. Where there was no file, and that is not allowed, it is a failure.
+pub fn judge_all<W: Write + Drop>(
+    rt: &HostRuntime,
+    order: &Order,
+    out: W,
+) -> Result<Ended<W>, Failure>
+    ensures { IfOk result (λ ended. IsRun order.now.options order.now.allows_empty (W.contents out) (W.contents ended.out) ended.outcome) }
+{
     if names_input(order) {
         return Err(Failure::BothFromInput);
     }
     let mut linter = Linter::new(order.options.limits);
-    let mut run = Run::new(rt, order, &mut linter)?;
+    let mut run = Run::new(rt, order, &mut linter, out)?;
     run.begin()?;
-    run.expect(order);
-    for path in &order.paths {
-        run.judge_path(path.as_slice())?;
-    }
-    if let Some(list) = &order.list {
-        run.judge_list(list.as_slice(), order.name_end)?;
-    }
-    if run.summary.is_empty() && !order.allows_empty {
+    run.judge_order(order)?;
+    if lacks_files(&run.summary, order.allows_empty) {
         return Err(run.end_with_none(order)?);
     }
-    run.end()
+    run.end()?;
+    Ok(Ended {
+        outcome: run.outcome,
+        out: run.out,
+    })
+}
+
+/// Whether there was no file, and that is not allowed.
+fn lacks_files(summary: &Summary, allows_empty: bool) -> bool
+    ensures { Counts summary.now [] → result ≡ false → allows_empty ≡ true }
+{
+    summary.is_empty() && !allows_empty
 }
 
 /// Whether standard input is named as a file and as the list.
@@ -107,8 +122,18 @@ fn first_named(order: &Order) -> &[u8] {
     }
 }
 
+/// A run whose report is whole.
 #[derive(Drop)]
-struct Run<'a> {
+pub struct Ended<W> {
+    /// The worst of all files.
+    pub outcome: Outcome,
+    /// What the report was written to.
+    pub out: W,
+}
+
+/// What is under way of a run, whose report goes to a writer.
+#[derive(Drop)]
+struct Run<'a, W> {
     rt: HostRuntime,
     options: Options,
     /// The endings of names that are taken in a folder beside the usual ones.
@@ -118,7 +143,7 @@ struct Run<'a> {
     /// One for all files, each of which begins it anew.
     linter: &'a mut Linter,
     style: Style,
-    out: BufWriter<Stdout>,
+    out: W,
     is_terminal: bool,
     /// What is told of a file, before it is written.
     line: Vec<u8>,
@@ -141,21 +166,28 @@ fn style_of(rt: &HostRuntime, is_terminal: bool) -> Style {
     }
 }
 
-impl<'a> Run<'a> {
-    ghost use Rattle.std.specs.Prelude.{◌≡◌, ◌++◌, ◌∷◌, [], ℕ, List, Option, Some, None, IfOk, OnOk};
-    ghost use Rattle.geolint_files.specs.declared.judge.Finding.{Finding};
+impl<'a, W: Write + Drop> Run<'a, W> {
+    ghost use Rattle.std.specs.Prelude.{◌≡◌, [], ℕ, List, Option, IfOk, OnOk, IsSomeAnd, map};
+    ghost use Rattle.std.specs.Io.KnownBytes.{Appends, Keeps};
+    ghost use Rattle.geolint_files.specs.declared.formats.lines.Style.{Style};
+    ghost use Rattle.geolint_files.specs.declared.options.Options.{Options};
+    ghost use Rattle.geolint_files.specs.declared.report.Report.{Report};
+    ghost use Rattle.geolint_files.specs.Finding.{passes};
+    ghost use Rattle.geolint_files.specs.Forms.{TellsReport, TellsUnread, KeepsInLog, first_after};
     ghost use Rattle.geolint_files.specs.Internal.FileCounts.{Counts};
-    ghost use Rattle.geolint_files.specs.declared.outcome.Outcome.{Outcome};
-    ghost use Rattle.geolint_files.specs.declared.outcome.Outcome.TheVariants.{Unread};
-    ghost use Rattle.geolint_files.specs.Finding.{outcome_of, passes, worst};
-    ghost use Rattle.std.specs.List.{Contains};
-    ghost use Rattle.geolint_files.specs.Forms.{TellsReport, TellsUnread, KeepsInLog};
-    ghost use Rattle.geolint_files.specs.Report.{IsToldPlace};
-    ghost use Rattle.geolint_files.specs.Sites.{sought};
+    ghost use Rattle.geolint_files.specs.Internal.RunState.{HasTold, IsFresh, TellsFile, TellsFiles, SameTold, Unchanged};
+    ghost use Rattle.geolint_files.specs.Line.{Adds};
+    ghost use Rattle.geolint_files.specs.Run.{ToldFile, judged, not_read, finding_in, IsWholeReport, end_of, summary_in};
+    ghost use Rattle.geolint_files.specs.Told.{reading_of, IsToldOnce, IsToldTwice, HasSites, AreSought};
 
-    fn new(rt: &HostRuntime, order: &'a Order, linter: &'a mut Linter) -> Result<Run<'a>, Failure>
-        ensures outcome { IfOk result (λ run. run.outcome ≡ worst []) }
-        ensures summary { IfOk result (λ run. Counts run.summary []) }
+    fn new(
+        rt: &HostRuntime,
+        order: &'a Order,
+        linter: &'a mut Linter,
+        out: W,
+    ) -> Result<Run<'a, W>, Failure>
+        ensures options { IfOk result (λ run. run.options ≡ order.now.options) }
+        ensures fresh { IfOk result (IsFresh W.contents (W.contents out)) }
     {
         let is_terminal = rt.stdout().is_terminal();
         Ok(Run {
@@ -165,7 +197,7 @@ impl<'a> Run<'a> {
             others: Others::new(rt.alloc()),
             linter,
             style: style_of(rt, is_terminal),
-            out: BufWriter::new(rt.alloc(), rt.stdout())?,
+            out,
             is_terminal,
             line: Vec::new(rt.alloc()),
             log: Log::new(rt.alloc()),
@@ -175,7 +207,10 @@ impl<'a> Run<'a> {
         })
     }
 
-    fn begin(&mut self) -> Result<(), Failure> {
+    /// Writes what comes before the first file.
+    fn begin(&mut self) -> Result<(), Failure>
+        ensures { OnOk result ((held : Option (List ℕ)) → IsFresh W.contents held self.old → HasTold W.contents held self.old.options self.old.style [] self.new) }
+    {
         if self.options.format == Format::Sarif {
             self.log.begin(&mut self.line)?;
         }
@@ -183,7 +218,9 @@ impl<'a> Run<'a> {
     }
 
     /// Tells the progress line how many bytes there are, where that is known without a walk: each path is a file.
-    fn expect(&mut self, order: &Order) {
+    fn expect(&mut self, order: &Order)
+        ensures { Unchanged self.old self.new }
+    {
         if self.progress.is_shown() && order.list.is_none() {
             if let Some(bytes) = bytes_of(&self.rt, order.paths.as_slice()) {
                 self.progress.expect(bytes);
@@ -191,15 +228,52 @@ impl<'a> Run<'a> {
         }
     }
 
-    /// The worst of all is the answer.
-    fn end(&mut self) -> Result<Outcome, Failure>
-        ensures { IfOk result (λ outcome. outcome ≡ self.old.outcome) }
+    /// Judges what the words name, and what a list does.
+    fn judge_order(&mut self, order: &Order) -> Result<(), Failure>
+        ensures { OnOk result (TellsFiles W.contents self.old self.new) }
+    {
+        self.expect(order);
+        for path in &order.paths {
+            self.judge_path(path.as_slice())?;
+        }
+        match &order.list {
+            Some(list) => self.judge_list(list.as_slice(), order.name_end),
+            None => Ok(()),
+        }
+    }
+
+    /// Writes what follows the last file.
+    fn end(&mut self) -> Result<(), Failure>
+        ensures outcome { self.new.outcome ≡ self.old.outcome }
+        ensures told { OnOk result ((held : Option (List ℕ)) (options : Options) (style : Style) (files : List ToldFile) → HasTold W.contents held options style files self.old
+            → (bytes : List ℕ) × IsWholeReport options style files bytes × Appends held (W.contents self.new.out) bytes) }
     {
         self.progress.clear();
-        if self.options.format == Format::Sarif {
-            self.log.end(&mut self.line)?;
-            self.write()?;
+        self.put_end()?;
+        self.write()?;
+        self.tell_summary()?;
+        self.out.flush()?;
+        Ok(())
+    }
+
+    fn put_end(&mut self) -> Result<(), AllocError>
+        ensures same { SameTold self.old self.new }
+        ensures log { self.new.log ≡ self.old.log }
+        ensures out { self.new.out ≡ self.old.out }
+        ensures told { OnOk result (Adds self.old.line self.new.line (end_of self.old.options.format self.old.log.unread.items)) }
+    {
+        match self.options.format {
+            Format::Sarif => self.log.end(&mut self.line),
+            _ => Ok(()),
         }
+    }
+
+    /// Tells the summary, where it is asked for.
+    fn tell_summary(&mut self) -> Result<(), Failure>
+        ensures outcome { self.new.outcome ≡ self.old.outcome }
+        ensures told { OnOk result ((files : List ToldFile) → Counts self.old.summary (map finding_in files) → self.old.line.items ≡ []
+            → Appends (W.contents self.old.out) (W.contents self.new.out) (summary_in self.old.options files)) }
+    {
         if self.options.summary {
             self.summary.put(&mut self.line)?;
             match self.options.format {
@@ -207,14 +281,15 @@ impl<'a> Run<'a> {
                 _ => self.rt.stderr().write_all(self.line.as_slice())?,
             }
         }
-        self.out.flush()?;
-        Ok(self.outcome)
+        Ok(())
     }
 
     /// Writes what is told, and begins a new line.
     fn write(&mut self) -> Result<(), Failure>
-        ensures outcome { self.new.outcome ≡ self.old.outcome }
-        ensures summary { self.new.summary ≡ self.old.summary }
+        ensures same { SameTold self.old self.new }
+        ensures log { self.new.log ≡ self.old.log }
+        ensures out { OnOk result (Appends (W.contents self.old.out) (W.contents self.new.out) self.old.line.items) }
+        ensures line { OnOk result (self.new.line.items ≡ []) }
     {
         self.out.write_all(self.line.as_slice())?;
         self.line.clear();
@@ -233,7 +308,9 @@ impl<'a> Run<'a> {
     }
 
     /// Judges each path of a list. One that cannot be opened, or read to its end, is told as a file is.
-    fn judge_list(&mut self, list: &[u8], name_end: NameEnd) -> Result<(), Failure> {
+    fn judge_list(&mut self, list: &[u8], name_end: NameEnd) -> Result<(), Failure>
+        ensures { OnOk result (TellsFiles W.contents self.old self.new) }
+    {
         if list == b"-".as_slice() {
             let input = self.rt.stdin();
             return self.judge_names(input, list, name_end);
@@ -253,7 +330,9 @@ impl<'a> Run<'a> {
         reader: R,
         list: &[u8],
         name_end: NameEnd,
-    ) -> Result<(), Failure> {
+    ) -> Result<(), Failure>
+        ensures { OnOk result (TellsFiles W.contents self.old self.new) }
+    {
         let mut names = Names::new(&self.rt, reader, name_end)?;
         let mut name = Vec::new(self.rt.alloc());
         for _ in 0..u64::MAX {
@@ -267,7 +346,9 @@ impl<'a> Run<'a> {
     }
 
     /// Judges what a list names, which are files and folders alone.
-    fn judge_listed(&mut self, name: &[u8], listed: Listed) -> Result<(), Failure> {
+    fn judge_listed(&mut self, name: &[u8], listed: Listed) -> Result<(), Failure>
+        ensures { OnOk result (TellsFiles W.contents self.old self.new) }
+    {
         if listed == Listed::NameWithNul {
             self.tell_unread(name, &io::Error::new(ErrorKind::InvalidInput, NO_NUL))
         } else if name == b"-".as_slice() {
@@ -278,7 +359,9 @@ impl<'a> Run<'a> {
     }
 
     /// Judges a file, or the files of a folder.
-    fn judge_path(&mut self, path: &[u8]) -> Result<(), Failure> {
+    fn judge_path(&mut self, path: &[u8]) -> Result<(), Failure>
+        ensures { OnOk result (TellsFiles W.contents self.old self.new) }
+    {
         if path == b"-".as_slice() {
             let input = self.rt.stdin();
             return self.judge_stream(path, input);
@@ -295,7 +378,9 @@ impl<'a> Run<'a> {
 
     /// Judges what a name leads to, or puts a folder's entries on the walk. What cannot be looked at is told: it could be a
     /// folder with files. Of a link that leads nowhere only the name counts.
-    fn look_at(&mut self, pending: &Pending, walk: &mut Walk) -> Result<(), Failure> {
+    fn look_at(&mut self, pending: &Pending, walk: &mut Walk) -> Result<(), Failure>
+        ensures { OnOk result (TellsFiles W.contents self.old self.new) }
+    {
         let name = pending.name.as_slice();
         let is_wanted = pending.is_given || is_taken(name, self.endings);
         match look_up(&self.rt, name) {
@@ -325,7 +410,9 @@ impl<'a> Run<'a> {
         spelled: &Spelled,
         metadata: &Metadata,
         walk: &mut Walk,
-    ) -> Result<(), Failure> {
+    ) -> Result<(), Failure>
+        ensures { OnOk result (TellsFiles W.contents self.old self.new) }
+    {
         if walk.enters(metadata.dev(), metadata.ino())? {
             match spelled.entries(&self.rt) {
                 Ok(entries) => walk.push_entries(&self.rt, name, entries.as_slice())?,
@@ -340,7 +427,9 @@ impl<'a> Run<'a> {
         name: &[u8],
         spelled: &Spelled,
         metadata: &Metadata,
-    ) -> Result<(), Failure> {
+    ) -> Result<(), Failure>
+        ensures { OnOk result (TellsFiles W.contents self.old self.new) }
+    {
         match spelled.open(&self.rt) {
             Ok(file) => {
                 if metadata.is_file() {
@@ -354,14 +443,19 @@ impl<'a> Run<'a> {
     }
 
     /// Counts a file that is not taken.
-    fn pass_over(&mut self, name: &[u8], metadata: &Metadata) -> Result<(), Failure> {
+    fn pass_over(&mut self, name: &[u8], metadata: &Metadata) -> Result<(), Failure>
+        ensures { OnOk result (TellsFiles W.contents self.old self.new) }
+    {
         if metadata.is_file() {
             self.others.add(name)?;
         }
         Ok(())
     }
 
-    fn reading(&self, name: &[u8]) -> Reading {
+    /// How a file of this name is read.
+    fn reading(&self, name: &[u8]) -> Reading
+        ensures { result ≡ reading_of self.now.options name.now }
+    {
         if self.options.sequences || is_sequence(name) {
             Reading::Sequence
         } else if self.options.quick {
@@ -371,13 +465,30 @@ impl<'a> Run<'a> {
         }
     }
 
-    /// Judges what can be read once only: no line is known of its places.
-    fn judge_stream<R: Read + Drop>(&mut self, name: &[u8], reader: R) -> Result<(), Failure> {
+    /// Judges what can be read once only.
+    fn judge_stream<R: Read + Drop>(&mut self, name: &[u8], reader: R) -> Result<(), Failure>
+        ensures { OnOk result (TellsFiles W.contents self.old self.new) }
+    {
+        self.judge_once(name, &mut FromRead::new(reader))
+    }
+
+    /// Judges a file, and reads it again for the lines of what is told.
+    fn judge_file(&mut self, name: &[u8], file: File) -> Result<(), Failure>
+        ensures { OnOk result (TellsFiles W.contents self.old self.new) }
+    {
+        self.judge_twice(name, &mut FileSource::new(file))
+    }
+
+    /// Tells what a source has. No line is known of its places.
+    fn judge_once<S: Source>(&mut self, name: &[u8], source: &mut S) -> Result<(), Failure>
+        ensures { OnOk result ((file : ToldFile)
+            × IsToldOnce (reading_of self.old.options name.now) self.old.options.limits name.now (S.remaining source.old) (S.failed_reads source.old) (S.failed_reads source.new) file
+            × TellsFile W.contents file self.old self.new) }
+    {
         let reading = self.reading(name);
-        let mut source = FromRead::new(reader);
         self.progress.add_file(None);
         match judge(
-            &mut source,
+            source,
             self.options.limits,
             reading,
             self.linter,
@@ -388,50 +499,63 @@ impl<'a> Run<'a> {
         }
     }
 
-    /// Judges a file, and reads it again for the lines of what is told.
-    fn judge_file(&mut self, name: &[u8], file: File) -> Result<(), Failure> {
-        let before = file.metadata().ok();
-        let mut source = FromRead::new(file);
+    /// Tells what a source has, and reads it again for the lines of that.
+    fn judge_twice<S: Rewind>(&mut self, name: &[u8], source: &mut S) -> Result<(), Failure>
+        ensures { OnOk result ((file : ToldFile)
+            × IsToldTwice (reading_of self.old.options name.now) self.old.options.limits name.now (S.remaining source.old) (S.text source.old) (S.failed_reads source.old) (S.failed_reads source.new) file
+            × TellsFile W.contents file self.old self.new) }
+    {
         let reading = self.reading(name);
-        self.progress.add_file(size_of(&before));
+        self.progress.add_file(source.size());
         match judge(
-            &mut source,
+            source,
             self.options.limits,
             reading,
             self.linter,
             &mut self.progress,
         ) {
-            Ok(finding) => {
-                if finding.has_places() {
-                    self.tell_found(name, finding, &mut source.reader, &before, reading)
-                } else {
-                    self.tell(name, finding, None)
-                }
-            }
+            Ok(finding) => self.tell_found(name, finding, source, reading),
             Err(error) => self.tell_unread(name, &error),
         }
     }
 
-    /// Reads a file again, and tells it with its lines.
-    ///
-    /// The sites have room of their own, which costs a file without any nothing.
-    #[inline(never)]
-    fn tell_found(
+    /// Tells a file that was judged, with the lines of its places where it has some.
+    fn tell_found<S: Rewind>(
         &mut self,
         name: &[u8],
         finding: Finding,
-        file: &mut File,
-        before: &Option<Metadata>,
+        source: &mut S,
         reading: Reading,
     ) -> Result<(), Failure>
-        ensures outcome { (outcomes : List Outcome) → self.old.outcome ≡ worst outcomes
-            → self.new.outcome ≡ worst (outcomes ++ outcome_of (passes self.old.options.strict self.old.options.allowed finding) ∷ []) }
-        ensures summary { (files : List (Option Finding)) → Counts self.old.summary files → Counts self.new.summary (files ++ Some finding ∷ []) }
+        ensures { OnOk result ((report : Report) × (report.name.now ≡ name.now) × (report.finding ≡ finding)
+            × HasSites reading self.old.options.limits (S.text source.old) (S.failed_reads source.old) (S.failed_reads source.new) report
+            × TellsFile W.contents (judged report) self.old self.new) }
+    {
+        if finding.has_places() {
+            self.tell_sought(name, finding, source, reading)
+        } else {
+            self.tell(name, finding, None)
+        }
+    }
+
+    /// Reads a source again, and tells it with its lines: with none where that failed.
+    ///
+    /// The sites have room of their own, which costs a file without any nothing.
+    #[inline(never)]
+    fn tell_sought<S: Rewind>(
+        &mut self,
+        name: &[u8],
+        finding: Finding,
+        source: &mut S,
+        reading: Reading,
+    ) -> Result<(), Failure>
+        ensures { OnOk result ((report : Report) × (report.name.now ≡ name.now) × (report.finding ≡ finding)
+            × IsSomeAnd report.sites (λ sites. AreSought finding reading self.old.options.limits (S.text source.old) (S.failed_reads source.old) (S.failed_reads source.new) sites.now)
+            × TellsFile W.contents (judged report) self.old self.new) }
     {
         let sites = find_sites(
             &finding,
-            file,
-            before,
+            source,
             reading,
             self.options.limits,
             &mut self.progress,
@@ -441,9 +565,12 @@ impl<'a> Run<'a> {
 
     /// Tells a file that was judged.
     fn tell(&mut self, name: &[u8], finding: Finding, sites: Option<&Sites>) -> Result<(), Failure>
-        ensures outcome { (outcomes : List Outcome) → self.old.outcome ≡ worst outcomes
-            → self.new.outcome ≡ worst (outcomes ++ outcome_of (passes self.old.options.strict self.old.options.allowed finding) ∷ []) }
-        ensures summary { (files : List (Option Finding)) → Counts self.old.summary files → Counts self.new.summary (files ++ Some finding ∷ []) }
+        ensures { OnOk result (TellsFile W.contents (judged (record {
+          name = name.entry;
+          finding = finding;
+          sites = sites.entry;
+          passes = passes self.old.options.strict self.old.options.allowed finding;
+        })) self.old self.new) }
     {
         self.progress.clear();
         let passes = self.options.passes(&finding);
@@ -462,9 +589,11 @@ impl<'a> Run<'a> {
 
     /// What is told of a file, in the form that is asked for.
     fn put(&mut self, report: &Report<'_>) -> Result<(), AllocError>
-        ensures outcome { self.new.outcome ≡ self.old.outcome }
-        ensures summary { self.new.summary ≡ self.old.summary }
+        ensures same { SameTold self.old self.new }
+        ensures out { self.new.out ≡ self.old.out }
         ensures told { OnOk result (TellsReport self.old.options.format self.old.style self.old.log.is_first report.now self.old.options.strict self.old.options.allowed self.old.line self.new.line) }
+        ensures first { OnOk result (self.new.log.is_first ≡ first_after self.old.options.format self.old.log.is_first report.now self.old.options.strict self.old.options.allowed) }
+        ensures unread { self.new.log.unread ≡ self.old.log.unread }
     {
         let alloc = self.rt.alloc();
         match self.options.format {
@@ -478,8 +607,8 @@ impl<'a> Run<'a> {
 
     /// Tells a file that could not be opened or read. On standard error each is told.
     fn tell_unread(&mut self, name: &[u8], error: &io::Error) -> Result<(), Failure>
-        ensures outcome { (outcomes : List Outcome) → self.old.outcome ≡ worst outcomes → self.new.outcome ≡ worst (outcomes ++ Unread ∷ []) }
-        ensures summary { (files : List (Option Finding)) → Counts self.old.summary files → Counts self.new.summary (files ++ None ∷ []) }
+        ensures told { OnOk result ((reason : List ℕ) × TellsFile W.contents (not_read name.now reason) self.old self.new) }
+        ensures some { OnOk result (TellsFiles W.contents self.old self.new) }
     {
         self.progress.clear();
         self.outcome.add(Outcome::Unread);
@@ -487,20 +616,18 @@ impl<'a> Run<'a> {
         let alloc = self.rt.alloc();
         let reason = reason(alloc, error)?;
         self.out.flush()?;
-        put_all(&mut self.line, &[b"geolint-files: "])?;
-        put_name(name, &mut self.line)?;
-        put_all(&mut self.line, &[b": ", reason.as_bytes(), b"\n"])?;
+        let mut line = Vec::new(alloc);
+        put_unread_line(name, reason.as_bytes(), &mut line)?;
         // Where standard error cannot be written either, the status says it.
-        let _ = self.rt.stderr().write_all(self.line.as_slice());
-        self.line.clear();
+        let _ = self.rt.stderr().write_all(line.as_slice());
         self.put_unread(name, reason.as_str())?;
         self.write()?;
         self.show()
     }
 
     fn put_unread(&mut self, name: &[u8], reason: &str) -> Result<(), AllocError>
-        ensures outcome { self.new.outcome ≡ self.old.outcome }
-        ensures summary { self.new.summary ≡ self.old.summary }
+        ensures same { SameTold self.old self.new }
+        ensures out { self.new.out ≡ self.old.out }
         ensures told { OnOk result (TellsUnread self.old.options.format name.now reason.now self.old.line self.new.line) }
         ensures log { OnOk result (KeepsInLog self.old.options.format name.now reason.now self.old.log self.new.log) }
     {
@@ -515,8 +642,10 @@ impl<'a> Run<'a> {
 
     /// On a terminal each file is shown when it is judged.
     fn show(&mut self) -> Result<(), Failure>
-        ensures outcome { self.new.outcome ≡ self.old.outcome }
-        ensures summary { self.new.summary ≡ self.old.summary }
+        ensures same { SameTold self.old self.new }
+        ensures log { self.new.log ≡ self.old.log }
+        ensures line { self.new.line ≡ self.old.line }
+        ensures out { Keeps (W.contents self.old.out) (W.contents self.new.out) }
     {
         if self.is_terminal {
             self.out.flush()?;
@@ -525,69 +654,68 @@ impl<'a> Run<'a> {
     }
 }
 
-/// The lines, columns and paths of what is told, where the file is still as it was judged.
-fn find_sites(
+/// The line on standard error about a file that could not be opened or read.
+fn put_unread_line(name: &[u8], reason: &[u8], line: &mut Vec<u8>) -> Result<(), AllocError>
+    ensures { OnOk result (Adds line.old line.new (unread_line name.now reason.now)) }
+{
+    put(line, b"geolint-files: ")?;
+    put_name(name, line)?;
+    put(line, b": ")?;
+    put(line, reason)?;
+    put(line, b"\n")
+}
+
+/// The lines, columns and paths of what is told: none where the source cannot be read again as it was.
+fn find_sites<S: Rewind>(
     finding: &Finding,
-    file: &mut File,
-    before: &Option<Metadata>,
+    source: &mut S,
     reading: Reading,
     limits: Limits,
     meter: &mut Meter,
 ) -> Sites
-    ensures only { (place : ℕ) → Contains (sought result) place → IsToldPlace finding.now place }
+    ensures { AreSought finding.now reading limits (S.text source.old) (S.failed_reads source.old) (S.failed_reads source.new) result }
 {
-    meter.read_again();
-    let found = match file.seek(SeekFrom::Start(0)) {
-        Ok(_) => {
-            let mut reader = Counted {
-                reader: &mut *file,
-                meter,
-            };
-            sites_in(finding, &mut reader, limits, reading == Reading::Sequence)
-        }
-        Err(error) => Err(error),
-    };
-    match found {
-        Ok(sites) if is_unchanged(before, &file.metadata().ok()) => sites,
-        _ => Sites::none(),
+    match read_sites(finding, source, reading, limits, meter) {
+        Ok(sites) => sites,
+        Err(_) => Sites::none(),
     }
 }
 
-/// The lines, columns and paths of what is told of a finding, in what a reader has left.
-fn sites_in<R: Read>(
+/// The lines, columns and paths of what is told, in the source from its first byte on.
+fn read_sites<S: Rewind>(
     finding: &Finding,
-    reader: &mut R,
+    source: &mut S,
+    reading: Reading,
     limits: Limits,
-    is_sequence: bool,
+    meter: &mut Meter,
 ) -> io::Result<Sites>
-    ensures right { IfOk result (λ sites. RightBy (R.remaining reader.old) sites.sites) }
-    ensures paths { IfOk result (λ sites. PathsBy is_sequence (R.remaining reader.old) sites.sites) }
-    ensures told { IfOk result (λ sites. ToldBy limits is_sequence (R.remaining reader.old) sites.sites) }
-    ensures texts { IfOk result (λ sites. ToldInTextsBy limits is_sequence (R.remaining reader.old) sites.sites) }
-    ensures found { IfOk result (λ sites. FoundBy (R.remaining reader.old) sites) }
-    ensures excerpt { IfOk result (λ sites. ExcerptBy (R.remaining reader.old) sites) }
-    ensures all { IfOk result (λ sites. (place : ℕ) → IsToldPlace finding.now place → place < 2 ^ 64 - 1 → Contains (sought sites) place) }
-    ensures only { IfOk result (λ sites. (place : ℕ) → Contains (sought sites) place → IsToldPlace finding.now place) }
+    ensures sites { IfOk result (AreSitesIn limits (is_of_records reading) (S.text source.old)) }
+    ensures places { IfOk result (AreSoughtFor finding.now) }
+    ensures failed { CountsFailure (S.failed_reads source.old) (S.failed_reads source.new) result }
 {
-    let mut sites = finding.places();
-    sites.find(reader, limits, is_sequence)?;
+    meter.read_again();
+    source.rewind()?;
+    let sites = sites_in(finding, source, limits, reading.is_of_records(), meter)?;
+    source.expect_unchanged()?;
     Ok(sites)
 }
 
-/// Whether a file is as it was, as far as the system tells.
-fn is_unchanged(before: &Option<Metadata>, after: &Option<Metadata>) -> bool {
-    match (before, after) {
-        (Some(before), Some(after)) => {
-            before.len() == after.len()
-                && before.mtime() == after.mtime()
-                && before.mtime_nsec() == after.mtime_nsec()
-        }
-        _ => false,
-    }
-}
-
-fn size_of(metadata: &Option<Metadata>) -> Option<u64> {
-    metadata.as_ref().map(|metadata| metadata.len())
+/// The lines, columns and paths of what is told of a finding, in what a source has left.
+fn sites_in<S: Source>(
+    finding: &Finding,
+    reader: &mut S,
+    limits: Limits,
+    is_sequence: bool,
+    meter: &mut Meter,
+) -> io::Result<Sites>
+    ensures sites { IfOk result (AreSitesIn limits is_sequence (S.remaining reader.old)) }
+    ensures places { IfOk result (AreSoughtFor finding.now) }
+    ensures text { S.text reader.new ≡ S.text reader.old }
+    ensures failed { CountsFailure (S.failed_reads reader.old) (S.failed_reads reader.new) result }
+{
+    let mut sites = finding.places();
+    sites.find(reader, limits, is_sequence, meter)?;
+    Ok(sites)
 }
 
 /// How many bytes the paths have, where each is a file.

@@ -4,10 +4,12 @@ ghost use Rattle.std.specs.Prelude.{◌≡◌, drop, true};
 ghost use Rattle.geolint_files.specs.Sites.{text_limits};
 
 use crate::judge::PIECE;
+use crate::progress::Meter;
+use crate::source::Source;
 use gj_json::{Limits, Locator, Path};
 use gj_places::{Excerpt, Lines};
 use memchr::memrchr;
-use std::io::{self, Read};
+use std::io;
 
 /// The byte RS, which begins a record of a text sequence.
 const SEPARATOR: u8 = 0x1E;
@@ -66,6 +68,7 @@ impl Sites {
     ghost use Rattle.geolint_files.specs.Sites.{IsSpot, AreRight, RightBy, LeadsTo, ArePaths, PathsBy, IsTold, AreTold, ToldBy, ToldInTextsBy, NoneFound, sought, AllFound, FoundBy, IsUnread, ExcerptBy};
     ghost use Rattle.gj_json.specs.Limits.{Allowed};
     ghost use Rattle.geolint_files.specs.Internal.SecondReading.{Reaches, Follows, Tells, AreWithin, Shows, Seeks, Settles};
+    ghost use Rattle.geolint_files.specs.Judged.{CountsFailure};
     ghost use Rattle.geolint_files.specs.Report.{site_in};
 
     /// Where no place is sought.
@@ -122,28 +125,32 @@ impl Sites {
     }
 
     /// Reads as far as the places need, and says how far each is found.
-    pub fn find<R: Read>(
+    pub fn find<S: Source>(
         &mut self,
-        reader: &mut R,
+        reader: &mut S,
         limits: Limits,
         is_sequence: bool,
+        meter: &mut Meter,
     ) -> io::Result<()>
-        ensures right { AreRight [] self.old.sites → RightBy (R.remaining reader.old) self.new.sites }
-        ensures paths { AreRight [] self.old.sites → ArePaths is_sequence [] self.old.sites → PathsBy is_sequence (R.remaining reader.old) self.new.sites }
-        ensures told { NoneFound self.old.sites → ToldBy limits is_sequence (R.remaining reader.old) self.new.sites }
-        ensures texts { NoneFound self.old.sites → ToldInTextsBy limits is_sequence (R.remaining reader.old) self.new.sites }
-        ensures found { AreRight [] self.old.sites → IsNonDecreasing (sought self.old) → OnOk result (FoundBy (R.remaining reader.old) self.new) }
-        ensures excerpt { IsUnread self.old → AreRight [] self.old.sites → IsNonDecreasing (sought self.old) → OnOk result (ExcerptBy (R.remaining reader.old) self.new) }
+        ensures right { AreRight [] self.old.sites → RightBy (S.remaining reader.old) self.new.sites }
+        ensures paths { AreRight [] self.old.sites → ArePaths is_sequence [] self.old.sites → PathsBy is_sequence (S.remaining reader.old) self.new.sites }
+        ensures told { NoneFound self.old.sites → ToldBy limits is_sequence (S.remaining reader.old) self.new.sites }
+        ensures texts { NoneFound self.old.sites → ToldInTextsBy limits is_sequence (S.remaining reader.old) self.new.sites }
+        ensures found { AreRight [] self.old.sites → IsNonDecreasing (sought self.old) → OnOk result (FoundBy (S.remaining reader.old) self.new) }
+        ensures excerpt { IsUnread self.old → AreRight [] self.old.sites → IsNonDecreasing (sought self.old) → OnOk result (ExcerptBy (S.remaining reader.old) self.new) }
         ensures sought { sought self.new ≡ sought self.old }
+        ensures text { S.text reader.new ≡ S.text reader.old }
+        ensures failed { CountsFailure (S.failed_reads reader.old) (S.failed_reads reader.new) result }
     {
         let _most = limits.bytes();
         let mut finder = Finder::new(limits, is_sequence);
         let mut piece = [0; PIECE];
         for _ in 0..u64::MAX {
-            let count = reader.read(&mut piece)?;
+            let count = reader.read_piece(&mut piece)?;
             if count == 0 {
                 break;
             }
+            meter.add_bytes(count);
             self.take(&mut finder, &piece[..count]);
             if finder.next >= self.count && self.excerpt.is_whole() {
                 return Ok(());

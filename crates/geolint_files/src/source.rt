@@ -1,20 +1,25 @@
 //! What the bytes of a file are read from.
 
-ghost use Rattle.std.specs.Prelude.{◌≡◌, ℕ, List, Option};
+ghost use Rattle.std.specs.Prelude.{◌≡◌, ℕ, List, Option, None, OnOk};
 ghost use Rattle.std.specs.Io.{ReadsAtMost};
 ghost use Rattle.std.specs.Io.KnownBytes.{ReadConsumes};
 ghost use Rattle.geolint_files.specs.Judged.{CountsFailure};
 
-use std::io::{self, Read};
+use std::fs::{File, Metadata};
+use std::io::{self, ErrorKind, Read, Seek, SeekFrom};
+use std::os::unix::fs::MetadataExt;
 
 /// What bytes are read from, piece by piece.
 ///
-/// It counts the reads that failed, as a `u64` that stays at `u64::MAX` once there.
+/// It counts the calls that failed, as a `u64` that stays at `u64::MAX` once there.
 pub trait Source {
     // The bytes that reads will give from here on, where the source tells them.
     ghost remaining: { Self → Option (List ℕ) };
 
-    // How many reads failed.
+    // All its bytes, from the first one on, where the source tells them.
+    ghost text: { Self → Option (List ℕ) };
+
+    // How many calls failed.
     ghost failed_reads: { Self → ℕ };
 
     /// Reads into the front of the piece and answers how many bytes came: 0 into a piece with room only where no byte is
@@ -22,10 +27,28 @@ pub trait Source {
     fn read_piece(&mut self, piece: &mut [u8]) -> io::Result<usize>
         ensures bound { ReadsAtMost result piece.new }
         ensures bytes { ReadConsumes (remaining self.old) (remaining self.new) result piece.new }
+        ensures text { text self.new ≡ text self.old }
         ensures failed { CountsFailure (failed_reads self.old) (failed_reads self.new) result };
 }
 
-/// A `Source` over a reader of std. It tells the bytes where the reader does.
+/// A source that can be read a second time.
+pub trait Rewind: Source {
+    /// How many bytes it has, where that is known before they are read.
+    fn size(&self) -> Option<u64>;
+
+    /// Goes back to the first byte.
+    fn rewind(&mut self) -> io::Result<()>
+        ensures bytes { OnOk result (Self.remaining self.new ≡ Self.text self.old) }
+        ensures text { Self.text self.new ≡ Self.text self.old }
+        ensures failed { CountsFailure (Self.failed_reads self.old) (Self.failed_reads self.new) result };
+
+    /// An error where the bytes may be others than those of the first reading.
+    fn expect_unchanged(&mut self) -> io::Result<()>
+        ensures text { Self.text self.new ≡ Self.text self.old }
+        ensures failed { CountsFailure (Self.failed_reads self.old) (Self.failed_reads self.new) result };
+}
+
+/// A `Source` over a reader of std. It tells the bytes that are left where the reader does.
 #[derive(Drop)]
 pub struct FromRead<R> {
     pub reader: R,
@@ -48,6 +71,8 @@ impl<R: Read> FromRead<R> {
 impl<R: Read> Source for FromRead<R> {
     ghost remaining = { λ s. R.remaining s.reader };
 
+    ghost text = { λ _. None };
+
     ghost failed_reads = { λ s. s.failed_reads };
 
     fn read_piece(&mut self, piece: &mut [u8]) -> io::Result<usize> {
@@ -57,6 +82,81 @@ impl<R: Read> Source for FromRead<R> {
                 self.failed_reads = self.failed_reads.saturating_add(1);
                 Err(error)
             }
+        }
+    }
+}
+
+/// A file of the system, of which no byte is known before it is read.
+#[derive(Drop)]
+pub struct FileSource {
+    file: File,
+    /// What the system said of the file before it was read.
+    before: Option<Metadata>,
+    failed_reads: u64,
+}
+
+impl FileSource {
+    pub fn new(file: File) -> FileSource {
+        let before = file.metadata().ok();
+        FileSource {
+            file,
+            before,
+            failed_reads: 0,
+        }
+    }
+
+    /// Whether the file is as it was, as far as the system tells.
+    fn is_unchanged(&self) -> bool {
+        match (&self.before, self.file.metadata()) {
+            (Some(before), Ok(after)) => {
+                before.len() == after.len()
+                    && before.mtime() == after.mtime()
+                    && before.mtime_nsec() == after.mtime_nsec()
+            }
+            _ => false,
+        }
+    }
+}
+
+impl Source for FileSource {
+    ghost remaining = { λ _. None };
+
+    ghost text = { λ _. None };
+
+    ghost failed_reads = { λ s. s.failed_reads };
+
+    fn read_piece(&mut self, piece: &mut [u8]) -> io::Result<usize> {
+        match self.file.read(piece) {
+            Ok(count) => Ok(count),
+            Err(error) => {
+                self.failed_reads = self.failed_reads.saturating_add(1);
+                Err(error)
+            }
+        }
+    }
+}
+
+impl Rewind for FileSource {
+    fn size(&self) -> Option<u64> {
+        self.before.as_ref().map(|before| before.len())
+    }
+
+    fn rewind(&mut self) -> io::Result<()> {
+        match self.file.seek(SeekFrom::Start(0)) {
+            Ok(_) => Ok(()),
+            Err(error) => {
+                self.failed_reads = self.failed_reads.saturating_add(1);
+                Err(error)
+            }
+        }
+    }
+
+    fn expect_unchanged(&mut self) -> io::Result<()> {
+        if self.is_unchanged() {
+            Ok(())
+        } else {
+            self.failed_reads = self.failed_reads.saturating_add(1);
+            Err(io::Error::from(ErrorKind::InvalidData))
         }
     }
 }

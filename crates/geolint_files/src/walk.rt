@@ -1,30 +1,38 @@
 //! The files of a path, which is a file or a folder.
 
+ghost use Rattle.std.specs.Prelude.{◌≡◌, IfOk};
+ghost use Rattle.geolint_files.specs.Walk.{ends_in, ends_in_one, is_sequence, is_taken, entry_name, separator_after};
+
 use std::alloc::{AllocError, Global};
 use std::collections::BTreeSet;
 
 /// Whether a file of this name in a folder is judged: these are the endings beside `.geojson` and `.geojsons`.
-pub fn is_taken(name: &[u8], endings: &[Vec<u8>]) -> bool {
-    if ends_in(name, b".geojson") || is_sequence(name) {
-        return true;
-    }
-    for ending in endings {
-        if ends_in(name, ending.as_slice()) {
-            return true;
-        }
-    }
-    false
+pub fn is_taken(name: &[u8], endings: &[Vec<u8>]) -> bool
+    ensures { result ≡ is_taken name.now endings.now }
+{
+    ends_in(name, b".geojson") || is_sequence(name) || ends_in_one(name, endings)
+}
+
+fn ends_in_one(name: &[u8], endings: &[Vec<u8>]) -> bool
+    ensures { result ≡ ends_in_one name.now endings.now }
+{
+    endings
+        .iter()
+        .any(|ending| ends_in(name, ending.as_slice()))
 }
 
 /// Whether a file of this name is a text sequence.
-pub fn is_sequence(name: &[u8]) -> bool {
+pub fn is_sequence(name: &[u8]) -> bool
+    ensures { result ≡ is_sequence name.now }
+{
     ends_in(name, b".geojsons")
 }
 
 /// Whether a name has an ending, in capitals or not.
-fn ends_in(name: &[u8], ending: &[u8]) -> bool {
-    let mut backward = name.iter().rev().zip(ending.iter().rev());
-    name.len() >= ending.len() && backward.all(|(byte, other)| byte.eq_ignore_ascii_case(other))
+fn ends_in(name: &[u8], ending: &[u8]) -> bool
+    ensures { result ≡ ends_in name.now ending.now }
+{
+    name[name.len().saturating_sub(ending.len())..].eq_ignore_ascii_case(ending)
 }
 
 /// The files in folders that are passed over, since their names have other endings.
@@ -36,7 +44,12 @@ pub struct Others {
 }
 
 impl Others {
-    pub fn new(alloc: Global) -> Others {
+    ghost use Rattle.std.specs.Prelude.{◌≡◌, ◌+◌, [], OnOk};
+    ghost use Rattle.std.specs.Io.Iter.{u64_saturate};
+
+    pub fn new(alloc: Global) -> Others
+        ensures { (result.count ≡ 0) × (result.ending.items ≡ []) }
+    {
         Others {
             count: 0,
             ending: Vec::new(alloc),
@@ -44,7 +57,9 @@ impl Others {
     }
 
     /// One more, of this name.
-    pub fn add(&mut self, name: &[u8]) -> Result<(), AllocError> {
+    pub fn add(&mut self, name: &[u8]) -> Result<(), AllocError>
+        ensures { OnOk result (self.new.count ≡ u64_saturate (self.old.count + 1)) }
+    {
         if self.count == 0 {
             self.ending.extend_from_slice(ending_of(name))?;
         }
@@ -83,8 +98,13 @@ pub struct Walk {
 }
 
 impl Walk {
+    ghost use Rattle.std.specs.Prelude.{◌≡◌, ◌++◌, ◌∷◌, [], true, IfOk, MatchOption};
+    ghost use Rattle.geolint_files.specs.Walk.{named_in};
+
     /// From a name that was given.
-    pub fn of(rt: &HostRuntime, name: &[u8]) -> Result<Walk, AllocError> {
+    pub fn of(rt: &HostRuntime, name: &[u8]) -> Result<Walk, AllocError>
+        ensures { IfOk result (λ walk. named_in walk.pending.items ≡ (name.now, true) ∷ []) }
+    {
         let mut pending = Vec::new(rt.alloc());
         pending.push(Pending {
             name: Vec::from_slice(rt.alloc(), name)?,
@@ -96,7 +116,11 @@ impl Walk {
         })
     }
 
-    pub fn next_pending(&mut self) -> Option<Pending> {
+    /// The next name, which is taken off.
+    pub fn next_pending(&mut self) -> Option<Pending>
+        ensures next { MatchOption result (self.old.pending.items ≡ []) (λ pending. self.old.pending.items ≡ self.new.pending.items ++ pending ∷ []) }
+        ensures entered { self.new.entered ≡ self.old.entered }
+    {
         self.pending.pop()
     }
 
@@ -117,16 +141,28 @@ impl Walk {
         entries: &[Vec<u8>],
     ) -> Result<(), AllocError> {
         for entry in entries.iter().rev() {
-            let mut name = Vec::from_slice(rt.alloc(), folder)?;
-            if !folder.ends_with(b"/") {
-                name.push(b'/')?;
-            }
-            name.extend_from_slice(entry.as_slice())?;
             self.pending.push(Pending {
-                name,
+                name: entry_name(rt, folder, entry.as_slice())?,
                 is_given: false,
             })?;
         }
         Ok(())
     }
+}
+
+/// The name of a folder's entry.
+fn entry_name(rt: &HostRuntime, folder: &[u8], entry: &[u8]) -> Result<Vec<u8>, AllocError>
+    ensures { IfOk result (λ name. name.items ≡ entry_name folder.now entry.now) }
+{
+    let mut name = Vec::from_slice(rt.alloc(), folder)?;
+    name.extend_from_slice(separator_after(folder))?;
+    name.extend_from_slice(entry)?;
+    Ok(name)
+}
+
+/// What stands between a folder's name and that of an entry.
+fn separator_after(folder: &[u8]) -> &'static [u8]
+    ensures { result.now ≡ separator_after folder.now }
+{
+    if folder.ends_with(b"/") { b"" } else { b"/" }
 }

@@ -1,10 +1,9 @@
 //! The report of a sequence.
-ghost use Rattle.std.specs.Prelude.{◌≡◌, ◌+◌, ◌*◌, ◌≤◌, [], List, length};
-ghost use Rattle.gj_coords.specs.Warnings.{Warning, kinds};
-ghost use Rattle.gj_coords.specs.WarningsStand.{StandsFor as WarningsStandFor};
-ghost use Rattle.gj_rules.specs.Sequence.{SequenceJudgement, all_valid, SequenceSays};
+ghost use Rattle.std.specs.Prelude.{◌≡◌, ◌+◌, ◌*◌, ◌≤◌, ◌++◌, [], codes, length};
+ghost use Rattle.gj_coords.specs.Warnings.{kinds};
 ghost use Rattle.geolint.specs.Room.{written_in, Adds};
-ghost use Rattle.geolint.specs.Sequence.{record_line, count_line, sequence_report};
+ghost use Rattle.geolint.specs.Sequence.{record_line, count_line};
+ghost use Rattle.geolint.specs.VerdictReport.{told_lines, sequence_verdict_report};
 ghost use Rattle.geolint.specs.declared.room.TheConstants.{CAPACITY, MOST_LINE};
 
 use crate::report::push_report;
@@ -39,7 +38,7 @@ fn push_count(count: u64, room: &mut Room)
 /// The report of a sequence of so many records, all of them valid.
 fn push_valid_sequence(records: u64, warnings: &Warnings, room: &mut Room)
     requires { length (written_in room.old) + (length kinds + 2) * MOST_LINE ≤ CAPACITY }
-    ensures { (all : List Warning) → WarningsStandFor warnings.now all → Adds room.old room.new (sequence_report (all_valid records all)) }
+    ensures { Adds room.old room.new (codes "valid\n" ++ (count_line records ++ told_lines warnings.now)) }
 {
     room.push(b"valid\n");
     push_count(records, room);
@@ -49,7 +48,7 @@ fn push_valid_sequence(records: u64, warnings: &Warnings, room: &mut Room)
 /// The report of the verdict of a sequence.
 pub fn push_sequence_report(verdict: SeqVerdict, room: &mut Room)
     requires { written_in room.old ≡ [] }
-    ensures { (judgement : SequenceJudgement) → SequenceSays verdict judgement → written_in room.new ≡ sequence_report judgement }
+    ensures { written_in room.new ≡ sequence_verdict_report verdict }
 {
     match verdict {
         SeqVerdict::Valid { records, warnings } => push_valid_sequence(records, &warnings, room),

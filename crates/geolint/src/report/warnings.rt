@@ -1,9 +1,9 @@
 //! The report of a valid text.
-ghost use Rattle.std.specs.Prelude.{◌≡◌, ◌+◌, ◌*◌, ◌≤◌, List, length};
-ghost use Rattle.gj_coords.specs.Warnings.{Warning, kinds};
-ghost use Rattle.gj_coords.specs.WarningsStand.{StandsFor as WarningsStandFor};
-ghost use Rattle.geolint.specs.Report.{kind_line, warning_line, warning_lines, valid_report};
+ghost use Rattle.std.specs.Prelude.{◌+◌, ◌*◌, ◌≤◌, ◌++◌, codes, length};
+ghost use Rattle.gj_coords.specs.Warnings.{kinds};
+ghost use Rattle.geolint.specs.Report.{warning_line};
 ghost use Rattle.geolint.specs.Room.{written_in, Adds};
+ghost use Rattle.geolint.specs.VerdictReport.{told_line, told_lines};
 ghost use Rattle.geolint.specs.declared.room.TheConstants.{CAPACITY, MOST_LINE};
 
 use crate::room::Room;
@@ -38,7 +38,7 @@ fn push_warning(kind: Kind, count: u32, place: u64, room: &mut Room)
 /// The line of a kind, where there is a warning of it.
 fn push_kind(kind: Kind, warnings: &Warnings, room: &mut Room)
     requires { length (written_in room.old) + MOST_LINE ≤ CAPACITY }
-    ensures line { (all : List Warning) → WarningsStandFor warnings.now all → Adds room.old room.new (kind_line all kind) }
+    ensures line { Adds room.old room.new (told_line warnings.now kind) }
     ensures short { length (written_in room.new) ≤ length (written_in room.old) + MOST_LINE }
 {
     if let Some(place) = warnings.first(kind) {
@@ -49,7 +49,7 @@ fn push_kind(kind: Kind, warnings: &Warnings, room: &mut Room)
 /// The lines of all kinds.
 pub fn push_warnings(warnings: &Warnings, room: &mut Room)
     requires { length (written_in room.old) + length kinds * MOST_LINE ≤ CAPACITY }
-    ensures { (all : List Warning) → WarningsStandFor warnings.now all → Adds room.old room.new (warning_lines all) }
+    ensures { Adds room.old room.new (told_lines warnings.now) }
 {
     for kind in &KINDS {
         push_kind(*kind, warnings, room);
@@ -59,7 +59,7 @@ pub fn push_warnings(warnings: &Warnings, room: &mut Room)
 /// The report of a valid text with these warnings.
 pub fn push_valid(warnings: &Warnings, room: &mut Room)
     requires { length (written_in room.old) + (length kinds + 1) * MOST_LINE ≤ CAPACITY }
-    ensures { (all : List Warning) → WarningsStandFor warnings.now all → Adds room.old room.new (valid_report all) }
+    ensures { Adds room.old room.new (codes "valid\n" ++ told_lines warnings.now) }
 {
     room.push(b"valid\n");
     push_warnings(warnings, room);

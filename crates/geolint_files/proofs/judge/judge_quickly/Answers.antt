@@ -55,6 +55,7 @@ loop-error-init g c = record {
   read = ([], Consumes-nil _, refl, c.finish_and_begin-left.ensures.stands);
   limits = c.finish_and_begin-left.ensures.limits;
   unfailed = refl;
+  text = refl;
   within = omega arith;
 }
 
@@ -72,5 +73,6 @@ loop-error-preserved g c =
       read = (read ++ piece, fed, length_is, c.feed.ensures.stands read stands);
       limits = c.feed.ensures.limits ∙ c.loop-error.invariant.limits;
       unfailed = c.in-Ok.ensures.failed ∙ c.loop-error.invariant.unfailed;
+      text = c.read_piece.ensures.text ∙ c.loop-error.invariant.text;
       within = within g c;
     }

@@ -42,6 +42,7 @@ loop-error-init g c = record {
   read = ([], Consumes-nil _, refl, c.new-sequence.ensures.stands);
   limits = c.new-sequence.ensures.limits;
   unfailed = refl;
+  text = refl;
   within = omega arith;
 }
 
@@ -59,5 +60,6 @@ loop-error-preserved g c =
       read = (read ++ piece, fed, length_is, c.feed.ensures.stands read stands);
       limits = c.feed.ensures.limits ∙ c.loop-error.invariant.limits;
       unfailed = c.in-Ok.ensures.failed ∙ c.loop-error.invariant.unfailed;
+      text = c.read_piece.ensures.text ∙ c.loop-error.invariant.text;
       within = within g c;
     }

@@ -1,20 +1,23 @@
-use Rattle.std.proofs.Common.{[]}
+use Rattle.std.proofs.Common.{[], List, ℕ, sym, subst}
+use Rattle.std.specs.List.{Contains}
 use Rattle.geolint_files.proofs.run.sites_in.Goals as goal
 
-pub returns-clause-right : goal.returns-clause-right
-returns-clause-right g c = c.find.ensures.right (c.places-sites.ensures.right [])
+pub returns-clause-sites : goal.returns-clause-sites
+returns-clause-sites g c =
+    let unfound = c.places-sites.ensures.unfound in
+    let right = c.places-sites.ensures.right [] in
+    let ordered = c.places-sites.ensures.ordered in
+    record {
+      right = c.find.ensures.right right;
+      paths = c.find.ensures.paths right (c.places-sites.ensures.paths c.args.is_sequence []);
+      told = c.find.ensures.told unfound;
+      texts = c.find.ensures.texts unfound;
+      found = c.in_ok-find.ensures.found right ordered;
+      excerpt = c.in_ok-find.ensures.excerpt c.places-sites.ensures.unread right ordered;
+    }
 
-pub returns-clause-paths : goal.returns-clause-paths
-returns-clause-paths g c = c.find.ensures.paths (c.places-sites.ensures.right []) (c.places-sites.ensures.paths c.args.is_sequence [])
-
-pub returns-clause-found : goal.returns-clause-found
-returns-clause-found g c = c.in_ok-find.ensures.found (c.places-sites.ensures.right []) c.places-sites.ensures.ordered
-
-pub returns-clause-told : goal.returns-clause-told
-returns-clause-told g c = c.find.ensures.told c.places-sites.ensures.unfound
-
-pub returns-clause-texts : goal.returns-clause-texts
-returns-clause-texts g c = c.find.ensures.texts c.places-sites.ensures.unfound
-
-pub returns-clause-excerpt : goal.returns-clause-excerpt
-returns-clause-excerpt g c = c.in_ok-find.ensures.excerpt c.places-sites.ensures.unread (c.places-sites.ensures.right []) c.places-sites.ensures.ordered
+pub returns-clause-places : goal.returns-clause-places
+returns-clause-places g c = record {
+  all = λ place told small. subst (λ (places : List ℕ). Contains places place) (sym c.find.ensures.sought) (c.places-sites.ensures.all place told small);
+  only = λ place contains. c.places-sites.ensures.only place (subst (λ (places : List ℕ). Contains places place) c.find.ensures.sought contains);
+}

@@ -18,6 +18,8 @@ pub loop-init : goal.loop-init
 loop-init g c = record {
   reached = λ begun. ([], Consumes-nil _, c.new-finder.ensures.begins c.args.self.now begun, (λ ordered. Seeks-begins c.new-finder.result c.args.self.now c.new-finder.ensures.next), omega arith, c.new-finder.ensures.follows c.args.self.now, c.new-finder.ensures.tells c.args.self.now, (λ unread. Shows-begins c.new-finder.result c.args.self.now unread c.new-finder.ensures.next));
   sought = refl;
+  text = refl;
+  unfailed = refl;
 }
 
 pub returns-in_err-count-clause-right : goal.returns-in_err-count-clause-right
@@ -38,7 +40,7 @@ returns-in_err-count-clause-told g c = λ none.
 pub returns-then-is_whole-clause-told : goal.returns-then-is_whole-clause-told
 returns-then-is_whole-clause-told g c = λ none.
     let (read, took, reaches, seeks, reads, follows, tells, shows) = c.loop.invariant.reached (unfound-right [] c.args.self.now.sites none) in
-    let piece = take c.in_ok-count.count c.read.new.buf in
+    let piece = take c.in_ok-count.count c.read_piece.new.piece in
     let more = Consumes-trans _ _ _ read piece took c.in_ok-count.ensures.bytes.0 in
     ToldBy-reached c.args.limits c.args.is_sequence _ _ (read ++ piece) _ _ more
     (c.take.ensures.tells c.args.limits c.args.is_sequence read reaches (follows (unfound-paths c.args.is_sequence [] c.args.self.now.sites none)) (tells none))
@@ -52,14 +54,14 @@ returns-then-is_whole-clause-texts g c = λ none. ToldInTexts-by c.args.limits c
 pub returns-then-is_whole-clause-paths : goal.returns-then-is_whole-clause-paths
 returns-then-is_whole-clause-paths g c = λ begun paths.
     let (read, took, reaches, seeks, reads, follows, tells, shows) = c.loop.invariant.reached begun in
-    let piece = take c.in_ok-count.count c.read.new.buf in
+    let piece = take c.in_ok-count.count c.read_piece.new.piece in
     let more = Consumes-trans _ _ _ read piece took c.in_ok-count.ensures.bytes.0 in
     PathsBy-reached c.args.is_sequence _ _ (read ++ piece) _ _ more (c.take.ensures.follows c.args.is_sequence read reaches (follows paths))
 
 pub returns-then-is_whole-clause-right : goal.returns-then-is_whole-clause-right
 returns-then-is_whole-clause-right g c = λ begun.
     let (read, took, reaches, seeks, reads, follows, tells, shows) = c.loop.invariant.reached begun in
-    let piece = take c.in_ok-count.count c.read.new.buf in
+    let piece = take c.in_ok-count.count c.read_piece.new.piece in
     let more = Consumes-trans _ _ _ read piece took c.in_ok-count.ensures.bytes.0 in
     RightBy-reached _ _ (read ++ piece) _ _ more (c.take.ensures.reaches read reaches)
 
@@ -72,7 +74,7 @@ returns-then-is_whole-clause-found g c = λ begun ordered.
 pub returns-then-is_whole-clause-excerpt : goal.returns-then-is_whole-clause-excerpt
 returns-then-is_whole-clause-excerpt g c = λ unread begun ordered.
     let (read, took, reaches, seeks, reads, follows, tells, shows) = c.loop.invariant.reached begun in
-    let piece = take c.in_ok-count.count c.read.new.buf in
+    let piece = take c.in_ok-count.count c.read_piece.new.piece in
     let more = Consumes-trans _ _ _ read piece took c.in_ok-count.ensures.bytes.0 in
     ExcerptBy-whole _ _ (read ++ piece) c.take.new.finder c.take.new.self more (c.take.ensures.shows read reaches (shows unread)) c.if-finder-self.true
     (λ before after rest keeps. c.is_whole.ensures.whole before after rest keeps c.if-is_whole.true)
@@ -84,8 +86,8 @@ pub loop-preserved : goal.loop-preserved
 loop-preserved g c = record {
   reached = λ begun.
       let (read, took, reaches, seeks, reads, follows, tells, shows) = c.loop.invariant.reached begun in
-      let piece = take c.in_ok-count.count c.read.new.buf in
-      let long : length piece ≡ c.in_ok-count.count = length-take-le c.in_ok-count.count c.read.new.buf c.in_ok-count.ensures.bound.0 in (
+      let piece = take c.in_ok-count.count c.read_piece.new.piece in
+      let long : length piece ≡ c.in_ok-count.count = length-take-le c.in_ok-count.count c.read_piece.new.piece c.in_ok-count.ensures.bound.0 in (
         read ++ piece,
         Consumes-trans _ _ _ read piece took c.in_ok-count.ensures.bytes.0,
         c.take.ensures.reaches read reaches,
@@ -96,6 +98,8 @@ loop-preserved g c = record {
         (λ unread. c.take.ensures.shows read reaches (shows unread)),
       );
   sought = c.take.ensures.sought ∙ c.loop.invariant.sought;
+  text = c.read_piece.ensures.text ∙ c.loop.invariant.text;
+  unfailed = c.in_ok-count.ensures.failed ∙ c.loop.invariant.unfailed;
 }
 
 pub returns-clause-right : goal.returns-clause-right
@@ -117,8 +121,8 @@ returns-clause-found g c = λ begun ordered.
       | else-loop-test w ↦ FoundBy-read _ _ read c.end.new.self took (inr (omega (arith, reads, w.loop-test.false))) found
       | then-loop-test+in_ok-count+then-count-eq0 w ↦
           (let bytes = w.in_ok-count.ensures.bytes in
-          let room : 0 < length w.read.new.buf = search rules in
-          FoundBy-read _ _ read c.end.new.self (Consumes-none _ _ _ read w.read.new.buf w.in_ok-count.count w.if-count-eq0.true took bytes.0) (inl (bytes.1 w.if-count-eq0.true room)) found)
+          let room : 0 < length w.read_piece.new.piece = search rules in
+          FoundBy-read _ _ read c.end.new.self (Consumes-none _ _ _ read w.read_piece.new.piece w.in_ok-count.count w.if-count-eq0.true took bytes.0) (inl (bytes.1 w.if-count-eq0.true room)) found)
     ]
 
 pub returns-clause-told : goal.returns-clause-told
@@ -129,12 +133,12 @@ returns-clause-told g c = λ none.
     let told = tells none in
     elim c.loop-test.branch [
       | else-loop-test w ↦
-          subst (λ (sites : List Site). ToldBy limits is_sequence (g.R.Read.remaining c.args.reader.now) sites) (sym (c.end.ensures.long read reaches (omega (arith, reads, w.loop-test.false))))
+          subst (λ (sites : List Site). ToldBy limits is_sequence (g.S.Source.remaining c.args.reader.now) sites) (sym (c.end.ensures.long read reaches (omega (arith, reads, w.loop-test.false))))
           (ToldBy-reached limits is_sequence _ _ read _ _ took told)
       | then-loop-test+in_ok-count+then-count-eq0 w ↦
           (let bytes = w.in_ok-count.ensures.bytes in
-          let room : 0 < length w.read.new.buf = search rules in
-          ToldBy-end limits is_sequence _ _ read c.end.new.self.sites (Consumes-none _ _ _ read w.read.new.buf w.in_ok-count.count w.if-count-eq0.true took bytes.0) (bytes.1 w.if-count-eq0.true room)
+          let room : 0 < length w.read_piece.new.piece = search rules in
+          ToldBy-end limits is_sequence _ _ read c.end.new.self.sites (Consumes-none _ _ _ read w.read_piece.new.piece w.in_ok-count.count w.if-count-eq0.true took bytes.0) (bytes.1 w.if-count-eq0.true room)
           (c.end.ensures.told limits is_sequence read reaches (told-now limits is_sequence _ _ read told)))
     ]
 
@@ -149,8 +153,8 @@ returns-clause-excerpt g c = λ unread begun ordered.
       | else-loop-test w ↦ ExcerptBy-read _ _ read c.end.new.self took (inr (omega (arith, reads, w.loop-test.false))) around
       | then-loop-test+in_ok-count+then-count-eq0 w ↦
           (let bytes = w.in_ok-count.ensures.bytes in
-          let room : 0 < length w.read.new.buf = search rules in
-          ExcerptBy-read _ _ read c.end.new.self (Consumes-none _ _ _ read w.read.new.buf w.in_ok-count.count w.if-count-eq0.true took bytes.0) (inl (bytes.1 w.if-count-eq0.true room)) around)
+          let room : 0 < length w.read_piece.new.piece = search rules in
+          ExcerptBy-read _ _ read c.end.new.self (Consumes-none _ _ _ read w.read_piece.new.piece w.in_ok-count.count w.if-count-eq0.true took bytes.0) (inl (bytes.1 w.if-count-eq0.true room)) around)
     ]
 
 pub returns-clause-sought : goal.returns-clause-sought

@@ -8,10 +8,12 @@ use Rattle.geolint_files.proofs.sites.Sites.find.Given as goal
 -- the sites and their paths are right behind the bytes that the reader told, and the places in these are found; each read gave a byte
 abbrev pub invariant-loop : goal.invariant-loop
 invariant-loop g l = record {
-  reached : AreRight [] l.fn.self.sites → (read : List ℕ) × Consumes (g.R.Read.remaining l.fn.reader) (g.R.Read.remaining l.reader) read × Reaches l.finder l.self read []
+  reached : AreRight [] l.fn.self.sites → (read : List ℕ) × Consumes (g.S.Source.remaining l.fn.reader) (g.S.Source.remaining l.reader) read × Reaches l.finder l.self read []
       × (IsNonDecreasing (sought l.fn.self) → Seeks l.finder l.self (length read)) × (l.counter ≤ length read)
       × (ArePaths l.is_sequence [] l.fn.self.sites → Follows l.is_sequence l.finder l.self read [])
       × (NoneFound l.fn.self.sites → Tells l.fn.limits l.is_sequence l.finder l.self read [])
       × (IsUnread l.fn.self → Shows l.finder l.self read []);
   sought : sought l.self ≡ sought l.fn.self;
+  text : g.S.Source.text l.reader ≡ g.S.Source.text l.fn.reader;
+  unfailed : g.S.Source.failed_reads l.reader ≡ g.S.Source.failed_reads l.fn.reader;
 }

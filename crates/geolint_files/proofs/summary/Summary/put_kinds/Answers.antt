@@ -1,4 +1,4 @@
-use Rattle.std.proofs.Common.{arith, subst, ◌≡◌, ◌++◌, ◌+◌, ℕ, List, length, take, get_or}
+use Rattle.std.proofs.Common.{arith, subst, ◌≡◌, ◌++◌, ℕ, List, length, take, get_or}
 use Rattle.std.specs.List.{flat_map}
 use Rattle.gj_coords.specs.declared.kind.Kind.{Kind}
 use Rattle.gj_coords.specs.declared.kind.Kind.TheVariants.{W1}

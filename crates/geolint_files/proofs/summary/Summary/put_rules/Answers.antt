@@ -1,4 +1,4 @@
-use Rattle.std.proofs.Common.{arith, subst, ◌≡◌, ◌++◌, ◌+◌, ℕ, List, length, take, get_or}
+use Rattle.std.proofs.Common.{arith, subst, ◌≡◌, ◌++◌, ℕ, List, length, take, get_or}
 use Rattle.std.specs.List.{flat_map}
 use Rattle.gj_coords.specs.declared.fault.Rule.{Rule}
 use Rattle.gj_coords.specs.declared.fault.Rule.TheVariants.{G1}

@@ -1,0 +1,35 @@
+use Rattle.std.proofs.Common.{refl, ap, sym, ◌∙◌, subst, ◌++◌, ◌≡◌, List, ℕ}
+use Rattle.std.specs.Prelude.{map}
+use Rattle.std.specs.Io.KnownBytes.{Appends}
+use Rattle.std.proofs.KnownBytes.{Appends-trans, Appends-kept}
+use Rattle.geolint_files.specs.declared.options.Options.{Options}
+use Rattle.geolint_files.specs.declared.summary.Summary.{Summary}
+use Rattle.geolint_files.specs.Internal.FileCounts.{Counts}
+use Rattle.geolint_files.specs.Run.{finding_in, end_of, summary_in}
+use Rattle.geolint_files.proofs.run.Run.end.Goals as goal
+
+pub returns-clause-told : goal.returns-clause-told
+returns-clause-told g c = λ held options style files has.
+    let old = c.args.self.now in
+    let contents = g.W.Write.contents in
+    let wrote = c.write.new.self in
+    let told = c.tell_summary.new.self in
+    let end = end_of options.format has.written.unread in
+    let summary = summary_in options files in
+    let line : c.put_end.new.self.line.items ≡ end =
+    c.in_ok-put_end.ensures.told ∙ ap (λ (line : List ℕ). line ++ end_of old.options.format old.log.unread.items) has.line
+    ∙ ap (λ (given : Options). end_of given.format old.log.unread.items) has.options_are ∙ ap (end_of options.format) has.unread in
+    let ended : Appends (contents old.out) (contents wrote.out) end =
+    subst (Appends (contents old.out) (contents wrote.out)) line
+    (subst (λ (out : g.row.W.Denot). Appends (contents out) (contents wrote.out) c.put_end.new.self.line.items) c.put_end.ensures.out c.in_ok-write.ensures.out) in
+    let counts = subst (λ (counted : Summary). Counts counted (map finding_in files)) (sym (c.write.ensures.same.summary ∙ c.put_end.ensures.same.summary)) has.summary in
+    let summed : Appends (contents wrote.out) (contents told.out) summary =
+    subst (λ (given : Options). Appends (contents wrote.out) (contents told.out) (summary_in given files))
+    (c.write.ensures.same.options ∙ c.put_end.ensures.same.options ∙ has.options_are)
+    (c.in_ok-tell_summary.ensures.told files counts c.in_ok-write.ensures.line) in (
+      has.written.bytes ++ (end ++ summary),
+      record { written = has.written; files_told = has.files_told; whole = refl },
+      Appends-kept held (contents told.out) _ _
+          (Appends-trans held (contents old.out) (contents told.out) has.written.bytes (end ++ summary) has.out
+          (Appends-trans (contents old.out) (contents wrote.out) (contents told.out) end summary ended summed)) c.flush.ensures.bytes,
+    )

@@ -1,0 +1,6 @@
+use Rattle.std.proofs.lemmas.Result.{on_ok_weaker}
+use Rattle.geolint_files.proofs.ToldFiles.{TellsFiles-one}
+use Rattle.geolint_files.proofs.run.Run.judge_file.Goals as goal
+
+pub returns : goal.returns
+returns g c = on_ok_weaker c.judge_twice.result (λ told. TellsFiles-one g.W.Write.contents told.0 c.args.self.now c.judge_twice.new.self told.2) c.judge_twice.ensures

@@ -1,0 +1,6 @@
+use Rattle.std.proofs.lemmas.Result.{on_ok_weaker}
+use Rattle.geolint_files.proofs.ToldFiles.{TellsFiles-one}
+use Rattle.geolint_files.proofs.run.Run.judge_stream.Goals as goal
+
+pub returns : goal.returns
+returns g c = on_ok_weaker c.judge_once.result (λ told. TellsFiles-one g.W.Write.contents told.0 c.args.self.now c.judge_once.new.self told.2) c.judge_once.ensures

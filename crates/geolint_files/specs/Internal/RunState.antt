@@ -1,0 +1,55 @@
+-- Which files a run has told.
+use Rattle.std.specs.Prelude.{◌≡◌, ℕ, true, List, [], ◌∷◌, ◌++◌, map, Option}
+use Rattle.std.specs.Io.KnownBytes.{Appends, Keeps}
+use Rattle.geolint_files.specs.declared.formats.lines.Style.{Style}
+use Rattle.geolint_files.specs.declared.options.Options.{Options}
+use Rattle.geolint_files.specs.declared.run.Run.{Run}
+use Rattle.geolint_files.specs.Finding.{worst}
+use Rattle.geolint_files.specs.Internal.FileCounts.{Counts}
+use Rattle.geolint_files.specs.Run.{ToldFile, finding_in, worst_of, Written, AddsFiles, begun}
+
+-- `held` is what the writer had before the run, and `contents` what a writer has
+pub record HasTold {W : Type 0} (contents : W → Option (List ℕ)) (held : Option (List ℕ)) (options : Options) (style : Style) (files : List ToldFile) (run : Run W) : Type 0 where
+  pub options_are : run.options ≡ options
+  pub style_is : run.style ≡ style
+  pub outcome : run.outcome ≡ worst_of options files
+  pub summary : Counts run.summary (map finding_in files)
+  pub written : Written
+  pub files_told : AddsFiles options style files (begun options.format) written
+  pub out : Appends held (contents run.out) written.bytes
+  pub first : run.log.is_first ≡ written.is_first
+  pub unread : run.log.unread.items ≡ written.unread
+  pub line : run.line.items ≡ []
+
+-- as a run is made: nothing is written
+pub record IsFresh {W : Type 0} (contents : W → Option (List ℕ)) (held : Option (List ℕ)) (run : Run W) : Type 0 where
+  pub outcome : run.outcome ≡ worst []
+  pub summary : Counts run.summary []
+  pub out : Keeps held (contents run.out)
+  pub first : run.log.is_first ≡ true
+  pub unread : run.log.unread.items ≡ []
+  pub line : run.line.items ≡ []
+
+-- a call told one file more
+pub record TellsFile {W : Type 0} (contents : W → Option (List ℕ)) (file : ToldFile) (old new : Run W) : Type 0 where
+  pub tells : (held : Option (List ℕ)) (options : Options) (style : Style) (files : List ToldFile)
+      → HasTold contents held options style files old → HasTold contents held options style (files ++ file ∷ []) new
+
+-- it told some more, or none
+pub record TellsFiles {W : Type 0} (contents : W → Option (List ℕ)) (old new : Run W) : Type 0 where
+  pub tells : (held : Option (List ℕ)) (options : Options) (style : Style) (files : List ToldFile)
+      → HasTold contents held options style files old → (more : List ToldFile) × HasTold contents held options style (files ++ more) new
+
+-- it told none
+pub record SameTold {W : Type 0} (old new : Run W) : Type 0 where
+  pub options : new.options ≡ old.options
+  pub style : new.style ≡ old.style
+  pub outcome : new.outcome ≡ old.outcome
+  pub summary : new.summary ≡ old.summary
+
+-- it changed nothing of that
+pub record Unchanged {W : Type 0} (old new : Run W) : Type 0 where
+  pub same : SameTold old new
+  pub out : new.out ≡ old.out
+  pub log : new.log ≡ old.log
+  pub line : new.line ≡ old.line

@@ -1,0 +1,103 @@
+-- What a run tells: of each file in turn its report, at the end a summary, and the worst of the outcomes.
+use Rattle.std.specs.Prelude.{◌≡◌, ℕ, Bool, true, false, if◌then◌else◌, List, [], ◌∷◌, ◌++◌, map, Option, Some, None}
+use Rattle.std.specs.Io.KnownBytes.{Appends}
+use Rattle.geolint_files.specs.declared.formats.lines.Style.{Style}
+use Rattle.geolint_files.specs.declared.judge.Finding.{Finding}
+use Rattle.geolint_files.specs.declared.options.Format.{Format}
+use Rattle.geolint_files.specs.declared.options.Options.{Options}
+use Rattle.geolint_files.specs.declared.outcome.Outcome.{Outcome}
+use Rattle.geolint_files.specs.declared.outcome.Outcome.TheVariants.{Unread}
+use Rattle.geolint_files.specs.declared.report.Report.{Report}
+use Rattle.geolint_files.specs.Finding.{outcome_of, passes, worst}
+use Rattle.geolint_files.specs.Forms.{IsReport, IsUnreadReport, KeepsUnread, first_after}
+use Rattle.geolint_files.specs.Forms.Sarif.{sarif_begin, sarif_end}
+use Rattle.geolint_files.specs.Summary.{summary_of}
+
+-- a file of which a report is told, or one that could not be opened or read, for this reason
+pub data ToldFile : Type 0 where
+  judged : (report : Report) → ToldFile
+  not_read : (name reason : List ℕ) → ToldFile
+
+-- what a summary counts
+abbrev pub finding_in : ToldFile → Option Finding
+finding_in (judged report) = Some report.finding
+finding_in (not_read name reason) = None
+
+abbrev pub outcome_in : Options → ToldFile → Outcome
+outcome_in options (judged report) = outcome_of (passes options.strict options.allowed report.finding)
+outcome_in options (not_read name reason) = Unread
+
+-- the outcome of a run that told these files
+abbrev pub worst_of : Options → List ToldFile → Outcome
+worst_of options files = worst (map (outcome_in options) files)
+
+-- ---- the bytes
+
+-- what is written of a report under way: its bytes, whether a log has no result yet, and what it keeps for its end
+pub record Written : Type 0 where
+  pub bytes : List ℕ
+  pub is_first : Bool
+  pub unread : List ℕ
+
+-- what one file adds
+pub record AddsReport (options : Options) (style : Style) (report : Report) (before after : Written) : Type 0 where
+  pub passes : report.passes ≡ passes options.strict options.allowed report.finding
+  pub told : List ℕ
+  pub is_report : IsReport options.format style before.is_first report options.strict options.allowed told
+  pub bytes : after.bytes ≡ before.bytes ++ told
+  pub first : after.is_first ≡ first_after options.format before.is_first report options.strict options.allowed
+  pub unread : after.unread ≡ before.unread
+
+pub record AddsUnread (options : Options) (name reason : List ℕ) (before after : Written) : Type 0 where
+  pub told : List ℕ
+  pub is_report : IsUnreadReport options.format name reason told
+  pub bytes : after.bytes ≡ before.bytes ++ told
+  pub first : after.is_first ≡ before.is_first
+  pub unread : KeepsUnread options.format name reason before.unread after.unread
+
+abbrev pub AddsFile : Options → Style → ToldFile → Written → Written → Type 0
+AddsFile options style (judged report) before after = AddsReport options style report before after
+AddsFile options style (not_read name reason) before after = AddsUnread options name reason before after
+
+-- what files add, one after the other
+abbrev pub AddsFiles : Options → Style → List ToldFile → Written → Written → Type 0
+AddsFiles options style [] before after = after ≡ before
+AddsFiles options style (file ∷ more) before after = (middle : Written) × AddsFile options style file before middle × AddsFiles options style more middle after
+
+-- before the first file
+abbrev pub begin_of : Format → List ℕ
+begin_of Format.Sarif = sarif_begin
+begin_of format = []
+
+abbrev pub begun : Format → Written
+begun format = record { bytes = begin_of format; is_first = true; unread = [] }
+
+-- after the last one
+abbrev pub end_of : Format → List ℕ → List ℕ
+end_of Format.Sarif unread = sarif_end unread
+end_of format unread = []
+
+-- for people the summary follows the report; beside a report for programs it is on standard error
+abbrev pub has_summary : Format → Bool → Bool
+has_summary Format.Text summary = summary
+has_summary Format.Lines summary = summary
+has_summary format summary = false
+
+abbrev pub summary_in : Options → List ToldFile → List ℕ
+summary_in options files = if has_summary options.format options.summary then summary_of (map finding_in files) else []
+
+-- the whole report of these files
+pub record IsWholeReport (options : Options) (style : Style) (files : List ToldFile) (bytes : List ℕ) : Type 0 where
+  pub written : Written
+  pub files_told : AddsFiles options style files (begun options.format) written
+  pub whole : bytes ≡ written.bytes ++ (end_of options.format written.unread ++ summary_in options files)
+
+-- a run that ended: the report of all its files went out, and the outcome is the worst of theirs; without a file only where that is allowed
+pub record IsRun (options : Options) (allows_empty : Bool) (held holds : Option (List ℕ)) (outcome : Outcome) : Type 0 where
+  pub files : List ToldFile
+  pub some : files ≡ [] → allows_empty ≡ true
+  pub style : Style
+  pub bytes : List ℕ
+  pub whole : IsWholeReport options style files bytes
+  pub out : Appends held holds bytes
+  pub worst_is : outcome ≡ worst_of options files

@@ -1,0 +1,51 @@
+-- What is told of a file that was read: what its bytes were found to be, and where its places stand.
+use Rattle.std.specs.Prelude.{◌≡◌, ◌<◌, ◌+◌, ◌-◌, ◌^◌, ◌||◌, ◌⊎◌, ℕ, Bool, true, false, List, Option, None, IsSomeAnd, if◌then◌else◌}
+use Rattle.std.specs.Io.Iter.{u64_saturate}
+use Rattle.std.specs.List.{Contains}
+use Rattle.gj_json.specs.Limits.{Allowed}
+use Rattle.geolint_files.specs.declared.judge.Finding.{Finding}
+use Rattle.geolint_files.specs.declared.judge.Reading.{Reading}
+use Rattle.geolint_files.specs.declared.options.Options.{Options}
+use Rattle.geolint_files.specs.declared.report.Report.{Report}
+use Rattle.geolint_files.specs.declared.sites.Sites.{Sites}
+use Rattle.geolint_files.specs.Judged.{Finds, is_of_records}
+use Rattle.geolint_files.specs.Report.{has_places, IsToldPlace}
+use Rattle.geolint_files.specs.Run.{ToldFile, judged, not_read}
+use Rattle.geolint_files.specs.Sites.{AreSitesIn, NoneFound, sought}
+use Rattle.geolint_files.specs.Walk.{is_sequence}
+
+-- how a file of this name is read
+abbrev pub reading_of : Options → List ℕ → Reading
+reading_of options name = if options.sequences || is_sequence name then Reading.Sequence else (if options.quick then Reading.Quick else Reading.Text)
+
+-- the places that are sought are those that are told, as far as a u64 goes
+pub record AreSoughtFor (finding : Finding) (sites : Sites) : Type 0 where
+  pub all : (place : ℕ) → IsToldPlace finding place → place < 2 ^ 64 - 1 → Contains (sought sites) place
+  pub only : (place : ℕ) → Contains (sought sites) place → IsToldPlace finding place
+
+-- A second reading of these bytes found the sites; `failed` and `now_failed` say how many calls of the source had failed before
+-- and after. Where one failed, or the file is no more as it was, none is found.
+abbrev pub AreSought : Finding → Reading → Allowed → Option (List ℕ) → (failed now_failed : ℕ) → Sites → Type 0
+AreSought finding reading limits text failed now_failed sites =
+    ((now_failed ≡ failed) × AreSoughtFor finding sites × AreSitesIn limits (is_of_records reading) text sites)
+    ⊎ ((now_failed ≡ u64_saturate (failed + 1)) × NoneFound sites.sites)
+
+-- the source is read again exactly where a place is told
+abbrev pub HasSitesIf : Bool → Reading → Allowed → Option (List ℕ) → (failed now_failed : ℕ) → Report → Type 0
+HasSitesIf true reading limits text failed now_failed report = IsSomeAnd report.sites (λ sites. AreSought report.finding reading limits text failed now_failed sites.now)
+HasSitesIf false reading limits text failed now_failed report = (report.sites ≡ None) × (now_failed ≡ failed)
+
+abbrev pub HasSites : Reading → Allowed → Option (List ℕ) → (failed now_failed : ℕ) → Report → Type 0
+HasSites reading limits text failed now_failed report = HasSitesIf (has_places report.finding) reading limits text failed now_failed report
+
+-- what is told of a source that had these bytes: what they are found to be, or that a read failed
+abbrev pub IsToldOnce : Reading → Allowed → List ℕ → Option (List ℕ) → (failed now_failed : ℕ) → ToldFile → Type 0
+IsToldOnce reading limits name had failed now_failed (judged report) =
+    (report.name.now ≡ name) × (report.sites ≡ None) × (now_failed ≡ failed) × ((left : Option (List ℕ)) × Finds reading limits had left report.finding)
+IsToldOnce reading limits name had failed now_failed (not_read told reason) = (told ≡ name) × (now_failed ≡ u64_saturate (failed + 1))
+
+-- the same of one that is read again: `text` are its bytes from the first one on
+abbrev pub IsToldTwice : Reading → Allowed → List ℕ → Option (List ℕ) → Option (List ℕ) → (failed now_failed : ℕ) → ToldFile → Type 0
+IsToldTwice reading limits name had text failed now_failed (judged report) =
+    (report.name.now ≡ name) × ((left : Option (List ℕ)) × Finds reading limits had left report.finding) × HasSites reading limits text failed now_failed report
+IsToldTwice reading limits name had text failed now_failed (not_read told reason) = (told ≡ name) × (now_failed ≡ u64_saturate (failed + 1))
