@@ -1,0 +1,249 @@
+#!/usr/bin/python3
+"""Uses the page in a browser as its readers do: page.py chromium|firefox PAGE ROOM SHOTS.
+
+PAGE is the page, ROOM a folder with what .ci/web made for it: large.geojson, trap.html, damaged.html, native.jsonl. Each check that
+fails is a line; the last line is `N passed, M failed`. Pictures go to SHOTS."""
+
+import json
+import os
+import re
+import sys
+import threading
+from functools import partial
+from http.server import SimpleHTTPRequestHandler, ThreadingHTTPServer
+from pathlib import Path
+
+from browsers import Chromium, Firefox
+
+ROOT = Path(__file__).resolve().parents[2]
+name, page, room, shots = sys.argv[1:]
+page, room, shots = (Path(it).resolve() for it in (page, room, shots))
+Kind = {"chromium": Chromium, "firefox": Firefox}[name]
+passed = failed = 0
+
+EXAMPLES = [str(it) for folder in ("examples", "examples/faulty") for it in sorted(ROOT.glob(f"{folder}/*.geojson"))]
+DONE = "document.querySelectorAll('.card').length === {}"
+READY = "document.body && !document.getElementById('choose').disabled"
+SENTENCE = "document.querySelector('.card:last-child .verdict').textContent"
+
+# The least contrast of a text with what is behind it, and where.
+CONTRAST = """(() => {
+    const parse = (it) => it.match(/[\\d.]+/g).map(Number);
+    const light = ([r, g, b]) => { const f = (c) => (c /= 255) <= 0.04045 ? c / 12.92 : ((c + 0.055) / 1.055) ** 2.4; return 0.2126 * f(r) + 0.7152 * f(g) + 0.0722 * f(b); };
+    const behind = (it) => { for (; it; it = it.parentElement) { const [r, g, b, a = 1] = parse(getComputedStyle(it).backgroundColor); if (a === 1) return [r, g, b]; } return [255, 255, 255]; };
+    let least = [99, ''];
+    for (const it of document.querySelectorAll('body *')) {
+        if (!it.checkVisibility() || ![...it.childNodes].some((n) => n.nodeType === 3 && n.textContent.trim()) || it.matches(':disabled, script, option')) continue;
+        const [a, b] = [light(parse(getComputedStyle(it).color)), light(behind(it))].sort((x, y) => y - x);
+        const ratio = (a + 0.05) / (b + 0.05);
+        if (ratio < least[0]) least = [ratio, `${it.tagName} ${it.className} ${it.textContent.slice(0, 30)}`];
+    }
+    return JSON.stringify(least);
+})()"""
+
+
+# The element that reaches furthest to the right.
+WIDEST = """[...document.querySelectorAll('body *')].map((it) => [it.getBoundingClientRect().right, it.outerHTML.slice(0, 90)])
+    .sort((a, b) => b[0] - a[0]).slice(0, 3).join(' | ') + ' of ' + innerWidth"""
+
+
+def wants(what, is_right, got=""):
+    global passed, failed
+    if is_right:
+        passed += 1
+    else:
+        failed += 1
+        print(f"FAILED: {name}: {what}: {str(got)[:600]}")
+
+
+def opened(browser, path=None):
+    browser.navigate(path or f"file://{page}")
+    browser.wait(READY)
+
+
+def sorts(text):
+    """The lines of a report as objects, without what a browser cannot know: the folder of a file."""
+    found = [json.loads(line) for line in text.splitlines()]
+    for it in found:
+        it["path"] = os.path.basename(it["path"])
+    return found
+
+
+def reports(browser):
+    """Each example by the button, the report that is saved, and what is seen."""
+    opened(browser)
+    browser.choose("#files", EXAMPLES)
+    browser.wait(DONE.format(len(EXAMPLES)))
+    wanted = sorts((room / "native.jsonl").read_text())
+    browser.value("document.getElementById('save-lines').click()")
+    got = sorts(browser.downloaded("geolint-report.jsonl"))
+    wants("the saved lines are the native report", got == wanted, [(a, b) for a, b in zip(got, wanted) if a != b][:1])
+    browser.value("document.getElementById('save-sarif').click()")
+    log = json.loads(browser.downloaded("geolint-report.sarif"))
+    told = [(it["ruleId"], it["locations"][0]["physicalLocation"]["region"]["byteOffset"]) for it in log["runs"][0]["results"]]
+    mine = [(f["rule"], f["offset"]) for it in wanted for f in ([it] if it["rule"] else it["warnings"])]
+    wants("the saved log has each finding", told == mine and len(log["runs"][0]["tool"]["driver"]["rules"]) == 34, told)
+    browser.value("document.getElementById('save-page').click()")
+    printed = browser.downloaded("geolint-report.html")
+    wants("the saved page has each file", all(os.path.basename(it) in printed for it in EXAMPLES) and "<script" not in printed, printed[:300])
+    counts = browser.value("document.getElementById('counts').textContent")
+    wants("the counts", counts == f"{len(EXAMPLES)} files: 10 valid, 2 valid with warnings, {len(EXAMPLES) - 12} not valid", counts)
+    wants("what is read aloud", browser.value("document.getElementById('status').textContent").startswith("truncated.geojson: Not GeoJSON"))
+    wants("each fault has its excerpt open", browser.value("document.querySelectorAll('.card.bad .excerpt').length") == len(EXAMPLES) - 12)
+    wants("faulty rings are drawn", browser.value("document.querySelectorAll('svg.drawing .faulty').length") >= 3)
+    wants("the rule's chapter is there", "does not write the last position" in browser.value(
+        "[...document.querySelectorAll('.card')].find((it) => it.textContent.includes('open-ring')).querySelector('details').textContent"))
+    hints = browser.value("JSON.stringify([...document.querySelectorAll('.hint')].map((it) => it.textContent))")
+    wants("hints", all(it in hints for it in ("decimal point", "single quotes", "comma too many")), hints)
+    for scheme in ("light", "dark") if name == "chromium" else ("light",):
+        browser.look(scheme=scheme)
+        ratio, where = json.loads(browser.value(CONTRAST))
+        wants(f"the contrast of texts, {scheme}", ratio >= 4.5, f"{ratio:.2f} {where}")
+        wants(f"no scrolling to the side, {scheme}", browser.value("document.documentElement.scrollWidth <= innerWidth"), browser.value(WIDEST))
+    browser.look(width=360, height=740)
+    wants("no scrolling to the side on a phone", browser.value("document.documentElement.scrollWidth <= innerWidth"),
+          browser.value("document.documentElement.scrollWidth"))
+    browser.value("(() => { const it = document.getElementById('language'); it.value = 'de'; it.dispatchEvent(new Event('change')); })()")
+    wants("German", browser.value("document.documentElement.lang") == "de" and "Ein Ring endet nicht dort, wo er beginnt." in browser.value("document.body.textContent"))
+    wants("German fits a phone", browser.value("document.documentElement.scrollWidth <= innerWidth"), browser.value("document.documentElement.scrollWidth"))
+    browser.look()
+
+
+def dropped(browser):
+    opened(browser)
+    browser.drop([f"{ROOT}/examples/faulty/open-ring.geojson", f"{ROOT}/examples/cafes.geojson"])
+    browser.wait(DONE.format(2))
+    wants("a dropped file", browser.value("document.querySelector('.card .verdict').textContent") == "Not valid GeoJSON. A ring does not end where it begins.",
+          browser.value("document.querySelector('.card').textContent"))
+    wants("its line and column", "Line 6, column 7" in browser.value("document.querySelector('.card').textContent"))
+    for path, wanted in (("docs/page.png", "Not GeoJSON. It looks as if the file is an image."),
+                         ("examples/moorings.geojsons", "Not GeoJSON. It looks as if the file is a text sequence (RFC 8142). The program geolint-files judges it; this page cannot yet.")):
+        count = browser.value("document.querySelectorAll('.card').length")
+        browser.choose("#files", [f"{ROOT}/{path}"])
+        browser.wait(DONE.format(count + 1))
+        wants(f"what {path} is", browser.value(SENTENCE) == wanted, browser.value(SENTENCE))
+    if name == "chromium":
+        opened(browser)
+        browser.drop([f"{ROOT}/examples"])
+        browser.wait(DONE.format(len(EXAMPLES) + 2))
+        wants("a dropped folder", browser.value("[...document.querySelectorAll('h3')].some((it) => it.textContent === 'examples/faulty/open-ring.geojson')"))
+        wants("what was passed over is told", "passed over" in browser.value("document.getElementById('notice').textContent"))
+
+
+def stopped(browser):
+    """Progress and Stop on a large file, and that the page goes on after it."""
+    opened(browser)
+    browser.choose("#files", [str(room / "large.geojson"), f"{ROOT}/examples/cafes.geojson"])
+    browser.wait("document.getElementById('bar').value > 0.02 && document.getElementById('run-note').textContent.includes('left')", 60)
+    note = browser.value("document.getElementById('run-note').textContent")
+    wants("how far the reading is", re.fullmatch(r"[\d.]+ .?B of [\d.,]+ .?B · [\d.]+ .?B per second · [\dmin s]+ left · 1 more file is waiting", note), note)
+    browser.shot(shots / f"{name}-progress.png")
+    browser.value("document.getElementById('stop').click()")
+    browser.wait(DONE.format(2))
+    wants("Stop", browser.value("document.querySelector('.card .verdict').textContent") == "Stopped: there is no verdict.")
+    wants("the next file after it", browser.value(SENTENCE) == "Valid GeoJSON.", browser.value(SENTENCE))
+    browser.choose("#files", [str(room / "large.geojson")])
+    browser.wait(DONE.format(3), 120)
+    told = browser.value("document.querySelector('.card:last-child').textContent")
+    wants("the large file to its end", "Valid GeoJSON" in told, told[:300])
+    print(f"{name}: the large file: {told[:80]}")
+
+
+def by_keyboard(browser):
+    """Paste, and all that is pressed, by keys alone."""
+    opened(browser)
+    order = []
+    for _ in range(12):
+        browser.press("Tab")
+        order.append(browser.value("document.activeElement.id || document.activeElement.tagName"))
+        if order[-1] == "show-paste":
+            break
+    wants("the order of the keys", order == ["language", "choose", "choose-folder", "show-paste"], order)
+    browser.press("Enter")
+    wants("the box has the focus", browser.value("document.activeElement.id") == "text")
+    browser.write('{"type":"Point","coordinates":[35.68,139.69]}')
+    browser.press("Tab")
+    browser.press("Enter")
+    browser.wait(DONE.format(1))
+    wants("a pasted text", browser.value(SENTENCE) == "Valid GeoJSON, with one thing that often goes wrong in use.", browser.value(SENTENCE))
+    wants("its warning", "A position is out of range." in browser.value("document.querySelector('.findings').textContent"))
+    for _ in range(12):
+        if browser.value("document.activeElement.className") == "toggle":
+            break
+        browser.press("Tab")
+    browser.press("Space")
+    wants("a row closes", browser.value("document.querySelector('.details').hidden"), browser.value("document.activeElement.outerHTML"))
+    browser.press("Enter")
+    wants("and opens", not browser.value("document.querySelector('.details').hidden"))
+    ring = "getComputedStyle(document.activeElement).outlineStyle"
+    wants("the focus is seen", browser.value(ring) == "solid", browser.value(ring))
+
+
+def refused():
+    """Each way in which nothing can be checked gives a sentence, and no blank page."""
+    browser = Kind()
+    browser.navigate(f"file://{room}/damaged.html")
+    browser.wait("!document.getElementById('alert').hidden")
+    wants("a damaged module", "This copy of the page is damaged" in browser.value("document.getElementById('alert').textContent"))
+    browser.navigate(f"file://{room}/trap.html")
+    browser.wait(READY)
+    browser.choose("#files", [f"{ROOT}/examples/cafes.geojson"])
+    browser.wait(DONE.format(1))
+    wants("a trap", "fault of its own" in browser.value(SENTENCE), browser.value(SENTENCE))
+    browser.wait("document.getElementById('run').hidden")
+    browser.shot(shots / f"{name}-trap.png")
+    browser.close()
+    browser = Kind(has_wasm=False)
+    browser.navigate(f"file://{page}")
+    browser.wait("!document.getElementById('alert').hidden")
+    wants("no WebAssembly", "no WebAssembly" in browser.value("document.getElementById('alert').textContent"), browser.value("document.body.innerText")[:300])
+    browser.shot(shots / f"{name}-no-wasm.png")
+    browser.close()
+
+
+def served(browser):
+    """From a static host, and what the page asks for there."""
+    class Quiet(SimpleHTTPRequestHandler):
+        asked = []
+
+        def log_message(self, *words):
+            self.asked.append(self.path)
+
+    server = ThreadingHTTPServer(("127.0.0.1", 0), partial(Quiet, directory=str(page.parent)))
+    threading.Thread(target=server.serve_forever, daemon=True).start()
+    opened(browser, f"http://127.0.0.1:{server.server_port}/{page.name}")
+    browser.choose("#files", [f"{ROOT}/examples/faulty/swapped.geojson"])
+    browser.wait(DONE.format(1))
+    wants("from a static host", "one thing" in browser.value(SENTENCE), browser.value(SENTENCE))
+    wants("it asks for nothing but itself", Quiet.asked == [f"/{page.name}"], Quiet.asked)
+    server.shutdown()
+
+
+def pictures(browser):
+    opened(browser)
+    browser.shot(shots / f"{name}-start.png")
+    chosen = [f"{ROOT}/examples/{it}.geojson" for it in ("cafes", "wells", "faulty/open-ring", "faulty/decimal-comma")]
+    browser.choose("#files", chosen)
+    browser.wait(DONE.format(4))
+    looks = {"desk": {}, "phone": {"width": 360, "height": 740}}
+    if name == "chromium":
+        looks["dark"] = {"scheme": "dark"}
+    for look, words in looks.items():
+        browser.look(**words)
+        browser.shot(shots / f"{name}-{look}.png")
+    browser.look()
+
+
+browser = Kind()
+print(f"{name}: {browser.version}")
+try:
+    for part in (by_keyboard, reports, dropped, stopped, served, pictures):
+        part(browser)
+    asked = {url.split(":")[0] for url in browser.requests() if not url.startswith("http://127.0.0.1:")}
+    wants("no request to anywhere", asked <= {"file", "blob", "data", "about"}, asked)
+    wants("an empty console", not browser.console(), browser.console()[:3])
+finally:
+    browser.close()
+refused()
+print(f"{passed} passed, {failed} failed")
+sys.exit(failed > 0)

@@ -1,0 +1,17 @@
+;; A module with the calls of the library, of which one stops by a fault: what the page says then.
+(module
+  (memory (export "memory") 2)
+  (global (export "__heap_base") i64 (i64.const 1024))
+  (func (export "geolint_size") (result i64) (i64.const 64))
+  (func (export "geolint_alignment") (result i64) (i64.const 8))
+  (func (export "geolint_begin") (param i64 i32 i64) (result i32) (i32.const 0))
+  (func (export "geolint_begin_again") (param i64 i32 i64) (result i32) (i32.const 0))
+  (func (export "geolint_feed") (param i64 i64 i64) (result i32) (unreachable))
+  (func (export "geolint_doomed") (param i64) (result i32) (i32.const 0))
+  (func (export "geolint_offset") (param i64) (result i64) (i64.const 0))
+  (func (export "geolint_finish") (param i64 i64))
+  (func $text (param i64) (i64.store (i32.wrap_i64 (i64.add (local.get 0) (i64.const 8))) (i64.const 1)))
+  (func (export "geolint_rule_text") (param i32 i64) (call $text (local.get 1)))
+  (func (export "geolint_cause_text") (param i32 i64) (call $text (local.get 1)))
+  (func (export "geolint_warning_text") (param i32 i64) (call $text (local.get 1)))
+  (func (export "geolint_version_text") (param i64) (call $text (local.get 0))))

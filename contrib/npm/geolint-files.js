@@ -1,0 +1,180 @@
+#!/usr/bin/env node
+// Judges GeoJSON files and folders in Node, in the words of the program geolint-files as far as they serve.
+
+import { open, readdir, stat } from "node:fs/promises";
+import { readFileSync } from "node:fs";
+import { join } from "node:path";
+import { parseArgs } from "node:util";
+import { load, textOf, jsonOf, jsonOfUnread, linesOf, sarifOf } from "./geolint.js";
+
+const USAGE = `Judges GeoJSON files, and says of each that is not valid where and why not
+
+Usage: geolint-files [--strict] [--allow W4,W9] [--max-bytes N] [--format lines|json|sarif|text] [--summary]
+                     [--ending ENDING] [--allow-empty] [PATH ..]
+
+  --strict         A valid file with a warning does not pass
+  --allow KINDS    Under --strict, kinds of warnings that do not fail a file, as W4,W9
+  --max-bytes N    Refuse longer files
+  --format FORMAT  The form of the report: lines (the default), json, sarif or text
+  --summary        Say at the end how many files are what
+  --ending ENDING  In a folder, judge also the files whose names end so, as json; may be given several times
+  --allow-empty    A call in which no file is judged ends with status 0 and says nothing
+  --help, --version
+
+A PATH is a file, a folder, in which each *.geojson is judged, or -, standard input, as where there is none. Text sequences
+(RFC 8142) are judged by the native program alone.
+
+Status: 0 where each file passes, 1 where one does not, 2 where one could not be read, none was judged, or the words are wrong.
+`;
+
+const OPTIONS = {
+  strict: { type: "boolean" },
+  allow: { type: "string", multiple: true, default: [] },
+  "max-bytes": { type: "string" },
+  format: { type: "string", default: "lines" },
+  summary: { type: "boolean" },
+  ending: { type: "string", multiple: true, default: [] },
+  "allow-empty": { type: "boolean" },
+  seq: { type: "boolean" },
+  help: { type: "boolean" },
+  version: { type: "boolean" },
+};
+const FORMATS = ["lines", "json", "sarif", "text"];
+
+class WrongWords extends Error {}
+
+/** The words of the call, tried. */
+function givenWords() {
+  let given;
+  try {
+    given = parseArgs({ options: OPTIONS, allowPositionals: true });
+  } catch (error) {
+    throw new WrongWords(error.message);
+  }
+  const { values, positionals } = given;
+  if (values.seq) throw new WrongWords("--seq: text sequences are judged by the native program geolint-files alone");
+  if (!FORMATS.includes(values.format)) throw new WrongWords(`invalid value '${values.format}' for '--format': it is ${FORMATS.join(", ")}`);
+  const most = values["max-bytes"];
+  if (most !== undefined && (!/^[0-9]+$/.test(most) || BigInt(most) < 1n || BigInt(most) > 1n << 60n)) {
+    throw new WrongWords(`invalid value '${most}' for '--max-bytes': it is a number from 1 to 2^60`);
+  }
+  const allowed = values.allow.flatMap((it) => it.toUpperCase().split(","));
+  const unknown = allowed.find((it) => !/^W[1-9]$/.test(it));
+  if (unknown !== undefined) throw new WrongWords(`invalid value '${unknown}' for '--allow': it is W1 to W9`);
+  const endings = ["geojson", ...values.ending].map((it) => `.${it.replace(/^\./, "").toLowerCase()}`);
+  return { ...values, maxBytes: most === undefined ? 0 : BigInt(most), allowed, endings, paths: positionals.length ? positionals : ["-"] };
+}
+
+/** The files that the paths name: { name } each, or { name, reason } where one cannot be looked at. */
+async function* filesOf(paths, endings, others) {
+  for (const path of paths) {
+    if (path === "-") yield { name: path };
+    else yield* filesAt(path, endings, others, new Set());
+  }
+}
+
+async function* filesAt(path, endings, others, seen, isInFolder = false) {
+  let is;
+  try {
+    is = await stat(path);
+  } catch (error) {
+    // Of a link that leads nowhere only one with an ending is told.
+    if (!isInFolder || error.code !== "ENOENT" || endsSo(path, endings)) yield { name: path, reason: reasonOf(error) };
+    return;
+  }
+  if (!is.isDirectory()) {
+    if (!isInFolder || endsSo(path, endings)) yield { name: path };
+    else others.count++;
+    return;
+  }
+  const identity = `${is.dev} ${is.ino}`;
+  if (seen.has(identity)) return;
+  seen.add(identity);
+  let names;
+  try {
+    names = await readdir(path);
+  } catch (error) {
+    return yield { name: path, reason: reasonOf(error) };
+  }
+  for (const name of names.sort()) yield* filesAt(join(path, name), endings, others, seen, true);
+}
+
+const endsSo = (path, endings) => endings.some((it) => path.toLowerCase().endsWith(it));
+const reasonOf = (error) => error.message.replace(/^\w+: /, "").replace(/, \w+( '.*')?$/s, "");
+
+/** The verdict of a file, or of standard input. */
+async function judge(geolint, name, maxBytes) {
+  if (name === "-") return geolint.check(process.stdin, { maxBytes });
+  const file = await open(name);
+  try {
+    const is = await file.stat();
+    if (!is.isFile()) return await geolint.check(file.createReadStream({ autoClose: false }), { maxBytes });
+    return await geolint.check({ size: is.size, read: (from, to) => bytesOf(file, from, to) }, { maxBytes });
+  } finally {
+    await file.close();
+  }
+}
+
+async function bytesOf(file, from, to) {
+  const bytes = new Uint8Array(to - from);
+  let at = 0;
+  while (at < bytes.length) {
+    const { bytesRead } = await file.read(bytes, at, bytes.length - at, from + at);
+    if (bytesRead === 0) break;
+    at += bytesRead;
+  }
+  return bytes.subarray(0, at);
+}
+
+/** Judges all files, writes what the form has of each, and tells the status. */
+async function run(words) {
+  const geolint = await load();
+  const passes = (it) => it.verdict === "valid" && (!words.strict || it.warnings.every(({ rule }) => words.allowed.includes(rule)));
+  const forms = {
+    lines: linesOf,
+    json: (name, verdict) => `${jsonOf(name, verdict, passes)}\n`,
+    text: (name, verdict) => `==> ${name} <==\n${textOf(verdict)}`,
+    sarif: () => "",
+  };
+  const counts = { valid: 0, "valid with warnings": 0, broken: 0, "not JSON": 0, "not read": 0 };
+  const [reports, unread, others] = [[], [], { count: 0 }];
+  let status = 0;
+  for await (const { name, reason } of filesOf(words.paths, words.endings, others)) {
+    try {
+      if (reason) throw new Error(reason);
+      const verdict = await judge(geolint, name, words.maxBytes);
+      await write(forms[words.format](name, verdict));
+      if (words.format === "sarif") reports.push({ name, verdict });
+      counts[verdict.verdict === "valid" && verdict.warnings.length ? "valid with warnings" : verdict.verdict]++;
+      if (!passes(verdict)) status = Math.max(status, 1);
+    } catch (error) {
+      status = 2;
+      counts["not read"]++;
+      unread.push({ name, reason: reasonOf(error) });
+      process.stderr.write(`geolint-files: ${name}: ${reasonOf(error)}\n`);
+      if (words.format === "json") await write(`${jsonOfUnread(name, reasonOf(error))}\n`);
+    }
+  }
+  if (words.format === "sarif") await write(sarifOf(reports, await geolint.texts(), await geolint.version(), unread));
+  if (words.summary) process.stderr.write(Object.entries(counts).map(([name, count]) => `${count} ${name}`).join(", ") + "\n");
+  const isNone = Object.values(counts).every((it) => it === 0);
+  if (isNone && !words["allow-empty"]) {
+    process.stderr.write(`geolint-files: no file was judged${others.count ? `; ${others.count} files have other endings` : ""}\n`);
+    return 2;
+  }
+  return status;
+}
+
+const write = (text) => new Promise((done, failed) => process.stdout.write(text, (error) => (error ? failed(error) : done())));
+
+// Where nobody reads the report any more, the run ends without a word.
+process.stdout.on("error", (error) => process.exit(error.code === "EPIPE" ? 141 : 2));
+try {
+  const words = givenWords();
+  if (words.help) process.stdout.write(USAGE);
+  else if (words.version) process.stdout.write(`geolint-files ${JSON.parse(readFileSync(new URL("package.json", import.meta.url))).version}\n`);
+  else process.exitCode = await run(words);
+} catch (error) {
+  process.stderr.write(error instanceof WrongWords ? `geolint-files: ${error.message}\n\n${USAGE}` : `geolint-files: ${error.message}\n`);
+  process.exitCode = 2;
+}

@@ -1,0 +1,82 @@
+# The page, the package for npm and the library for another machine: each over the proved crates, as the library for C is.
+#
+#     make web                       # web/index.html, the page as one file, with the module in it
+#     make npm                       # out/npm/geolint-VERSION.tgz, the package: geolint.js with the module, and a command
+#     make library TARGET=aarch64    # out/library-aarch64/libgeolint.a and .so, for Linux on 64-bit ARM
+#
+# They need rt (the Rattle toolchain). The page and the package also need binaryen and Python's package markdown, the library for
+# ARM a cross compiler; where one is missing, a line says how to install it.
+top := $(abspath $(GEOLINT_ROOT))
+WEB := $(top)/contrib/web
+WEB_OUT ?= $(top)/web
+WEB_BUILD ?= $(top)/out/web
+NPM_BUILD ?= $(top)/out/npm
+KIT = $(patsubst %/bin/rt,%,$(realpath $(shell command -v rt)))
+# A Python that has the package markdown, where there is one.
+WEB_PYTHON ?= $(or $(shell for it in python3 /usr/bin/python3; do $$it -c 'import markdown' 2>/dev/null && echo $$it && break; done),python3)
+
+.PHONY: web npm
+web: $(WEB_OUT)/index.html
+
+# rt's crates.txt has a crate once, for one machine. So rattle is called here as rt calls it, over the libraries that rt has proved;
+# what it kept of the crate's own proof for this machine is used again.
+below := gj_rules gj_coords gj_json gj_number
+rlib = $(top)/crates/$(1)/out/rlib
+kept = $(WEB_BUILD)/incremental-$(1)
+build_for = rm -rf $(kept) && { cp -r $(GEOLINT_C)/out/incremental $(kept) 2>/dev/null || mkdir -p $(kept); } && cd $(GEOLINT_C) && $(KIT)/bin/rattle build --crate-name geolint_c src/lib.rt \
+    $(foreach it,$(filter-out gj_number,$(below)),--extern $(it)=$(call rlib,$(it))/$(it).rlib) $(foreach it,$(below),-L dependency=$(call rlib,$(it))) \
+    --extern core=$(KIT)/rlibs/core.rlib --extern std=$(KIT)/rlibs/std.rlib -L dependency=$(KIT)/rlibs \
+    --antt-project $(KIT)/rattle/logic/antt-project.json --logic-built $(KIT)/logic_built --incremental $(kept) \
+    --jobs 2 --crate-type staticlib --target $(1) --toolchain $(KIT)/toolchain -o $(2)
+# needs COMMAND PACKAGES: says how to install what is missing.
+needs = command -v $(1) >/dev/null || { echo "geolint: there is no command $(firstword $(1)): apt-get install $(2)" >&2; exit 1; }
+
+$(WEB_BUILD)/libgeolint_c.a: $(GEOLINT_C)/out/libgeolint_c.a
+	@echo "geolint: building the module, which checks the crate once more for its machine ..." >&2
+	@mkdir -p $(WEB_BUILD)
+	@$(call build_for,wasm64-unknown-unknown,$@) >$(WEB_BUILD)/build.log 2>&1 || { cat $(WEB_BUILD)/build.log >&2; exit 1; }
+
+$(WEB_BUILD)/geolint_64.wasm: $(WEB_BUILD)/libgeolint_c.a
+	$(KIT)/bin/rattle-link --target wasm64-unknown-unknown --toolchain $(KIT)/toolchain -o $@ $<
+
+# Not every browser has memories with 64-bit addresses, so they are lowered to 32 bits.
+$(WEB_BUILD)/geolint.wasm: $(WEB_BUILD)/geolint_64.wasm
+	@$(call needs,wasm-opt,binaryen)
+	wasm-opt --all-features $< --memory64-lowering -o $@
+
+$(WEB_OUT)/index.html: $(WEB_BUILD)/geolint.wasm $(wildcard $(WEB)/*) $(top)/docs/rules.md
+	@mkdir -p $(WEB_OUT)
+	$(WEB_PYTHON) $(WEB)/build $< $@
+	@echo "geolint: the page is $@, $$(($$(gzip -9c $@ | wc -c) / 1000)) kB as a server sends it" >&2
+
+npm_sources := geolint.js geolint.d.ts check.js linter.js lines.js paths.js report.js
+npm: $(WEB_BUILD)/geolint.wasm
+	@$(call needs,npm,npm)
+	rm -rf $(NPM_BUILD)
+	mkdir -p $(NPM_BUILD)/package
+	cp $(npm_sources:%=$(WEB)/%) $(wildcard $(top)/contrib/npm/*) $< $(NPM_BUILD)/package
+	sed -i 's|@VERSION@|$(VERSION)|' $(NPM_BUILD)/package/package.json
+	cd $(NPM_BUILD)/package && npm pack --silent --pack-destination ..
+
+# ---- for another machine
+
+ifdef TARGET
+ifneq ($(TARGET),aarch64)
+$(error TARGET is aarch64, or is not given for the library of this machine)
+endif
+ARM := $(top)/out/library-aarch64
+ARM_CC ?= aarch64-linux-gnu-gcc
+
+.PHONY: library-aarch64
+library: library-aarch64
+library-aarch64: $(ARM)/libgeolint.a $(ARM)/libgeolint.so
+
+$(ARM)/libgeolint.a: $(GEOLINT_C)/out/libgeolint_c.a
+	@mkdir -p $(ARM) $(WEB_BUILD)
+	@echo "geolint: building the library for aarch64, which checks the crate once more for its machine ..." >&2
+	@$(call build_for,aarch64-unknown-linux-gnu,$@) >$(WEB_BUILD)/build-aarch64.log 2>&1 || { cat $(WEB_BUILD)/build-aarch64.log >&2; exit 1; }
+
+$(ARM)/libgeolint.so: $(ARM)/libgeolint.a
+	@$(call needs,$(ARM_CC),gcc-aarch64-linux-gnu libc6-dev-arm64-cross)
+	$(ARM_CC) -shared -Wl,-soname,libgeolint.so.0 -Wl,--whole-archive $< -Wl,--no-whole-archive -o $@
+endif

@@ -1,0 +1,48 @@
+// The report as a file: JSON lines and SARIF in the forms of geolint-files, and a page to print.
+
+import { jsonOf, jsonOfUnread, sarifOf } from "./report.js";
+import { language, say } from "./language.js";
+import { make, cardOf } from "./view.js";
+
+const judged = (entries) => entries.filter((it) => it.verdict);
+const unread = (entries) => entries.filter((it) => it.reason).map(({ name, reason }) => ({ name, reason }));
+
+export function saveLines(entries) {
+  const lines = entries.map(({ name, verdict, reason }) => (verdict ? jsonOf(name, verdict) : jsonOfUnread(name, reason)));
+  download(lines.join("\n") + "\n", "application/jsonl", "geolint-report.jsonl");
+}
+
+export function saveSarif(entries, { texts, version }) {
+  download(sarifOf(judged(entries), texts, version, unread(entries)), "application/sarif+json", "geolint-report.sarif");
+}
+
+export function savePage(entries, counts) {
+  download(printablePage(entries, counts), "text/html", "geolint-report.html");
+}
+
+/** The cards of all files with their details open, as a page of its own. */
+function printablePage(entries, counts) {
+  const cards = entries.map((entry) => {
+    const card = cardOf(entry);
+    for (const it of card.querySelectorAll('.toggle[aria-expanded="false"]')) it.click();
+    // What can only be pressed on a screen is text on paper, and a chapter is too long for it.
+    for (const it of card.querySelectorAll(".toggle")) it.replaceWith(it.textContent);
+    for (const it of card.querySelectorAll("details, button")) it.remove();
+    return card;
+  });
+  const title = `geolint: ${say("results")}, ${new Date().toLocaleString(language())}`;
+  const main = make("main", "", make("h1", "", title), make("p", "counts", counts), ...cards);
+  const style = document.querySelector("style").textContent;
+  const head = make("head", "", make("title", "", title), make("style", "", style));
+  return `<!doctype html>\n<html lang="${language()}"><meta charset="utf-8">${head.innerHTML}<body>${main.outerHTML}</body></html>\n`;
+}
+
+function download(text, type, name) {
+  const link = make("a");
+  link.href = URL.createObjectURL(new Blob([text], { type }));
+  link.download = name;
+  document.body.append(link);
+  link.click();
+  link.remove();
+  setTimeout(() => URL.revokeObjectURL(link.href), 60_000);
+}

@@ -1,0 +1,177 @@
+// Draws what was found of a file: a card with one sentence, and a table with a row for each finding.
+
+import { say, size, time, number, whatOf, mendOf } from "./language.js";
+import { pictureOf, drawingOf } from "./draw.js";
+import { holdsManyTexts } from "./files.js";
+import { isOtherKind } from "./hints.js";
+
+/** So many rows of a table, and cards of a list, are drawn at once. */
+export const STEP = 100;
+/** The name of a feature is taken from the first of these properties. */
+const NAMES = ["name", "Name", "NAME", "title", "Title", "label", "ref"];
+
+/** A new element with a class and children: elements and texts. */
+export function make(kind, name = "", ...children) {
+  const it = document.createElement(kind);
+  if (name) it.className = name;
+  it.append(...children.filter((child) => child !== null && child !== undefined && child !== ""));
+  return it;
+}
+
+/** What is told of a file: the fault, or each kind of warning. */
+export const findingsOf = (verdict) => (verdict.verdict === "valid" ? verdict.warnings : [verdict]);
+
+/** Which of the four groups an entry belongs to: valid, warned, bad, or none where there is no verdict. */
+export function groupOf({ verdict }) {
+  if (!verdict) return "none";
+  if (verdict.verdict !== "valid") return "bad";
+  return verdict.warnings.length ? "warned" : "valid";
+}
+
+/** The one sentence for a file. */
+export function sentenceOf(entry) {
+  const { verdict, reason } = entry;
+  if (!verdict) return reason ?? say("sentence.none");
+  const group = groupOf(entry);
+  if (group === "valid") return say("sentence.valid");
+  if (group === "warned") return say("sentence.warned", { count: verdict.warnings.length });
+  if (isOtherKind(entry.hint)) return say("sentence.otherKind", { hint: hintText(entry) });
+  return say(verdict.verdict === "broken" ? "sentence.broken" : "sentence.notJson", { what: whatOf(verdict.rule) });
+}
+
+const hintText = ({ hint }) => `${say("hint")} ${say(`hints.${hint}`)}`;
+
+export function cardOf(entry) {
+  const { name, verdict, milliseconds } = entry;
+  const took = verdict ? make("span", "note", tookText(verdict.read, milliseconds / 1000)) : null;
+  const card = make("article", `card ${groupOf(entry)}`, make("div", "head", make("h3", "", name), took), make("p", "verdict", sentenceOf(entry)));
+  if (verdict && groupOf(entry) !== "valid") card.append(...tableOf(entry));
+  card.dataset.milliseconds = milliseconds ?? "";
+  return card;
+}
+
+/** How much was read, and how long that took where it is worth saying. */
+const tookText = (read, seconds) => (seconds < 0.1 ? size(read) : say("took", { size: size(read), time: time(seconds) }));
+
+/** The table of the findings, and what is said below it. */
+function tableOf(entry) {
+  const { verdict, name } = entry;
+  const findings = findingsOf(verdict);
+  const body = make("tbody");
+  const head = ["rule", "what", "where", "inside"].map((it) => make("th", "", say(`table.${it}`)));
+  head.forEach((it) => (it.scope = "col"));
+  if (findings.every((it) => insideOf(it) === "")) head.at(-1).textContent = "";
+  const table = make("table", "findings", make("thead", "", make("tr", "", ...head)), body);
+  const more = make("button");
+  more.type = "button";
+  const draw = () => {
+    const from = body.querySelectorAll(".finding").length;
+    // Where one thing alone is told, its details are open.
+    for (const it of findings.slice(from, from + STEP)) body.append(...rowsOf(entry, it, findings.length === 1));
+    const left = findings.length - from - STEP;
+    more.hidden = left <= 0;
+    more.textContent = say("more", { count: Math.min(left, STEP) });
+  };
+  more.onclick = draw;
+  draw();
+  const below = [];
+  if (verdict.verdict === "broken") below.push(make("p", "note", say("firstOnly")));
+  if (verdict.verdict === "not JSON" && holdsManyTexts(name) && entry.hint !== "sequence") below.push(make("p", "hint", say("sequence")));
+  return [table, more, ...below];
+}
+
+/** The row of a finding, and that of its details, which the button in the first opens. */
+function rowsOf(entry, finding, isOpen) {
+  const toggle = make("button", "toggle", finding.rule);
+  toggle.type = "button";
+  toggle.setAttribute("aria-label", `${finding.rule}: ${say("details")}`);
+  const cells = [toggle, whatOf(finding.rule), whereOf(finding), insideOf(finding)].map((it) => make("td", "", it));
+  const detail = make("td", "detail");
+  detail.colSpan = 4;
+  const second = make("tr", "details", detail);
+  const open = (isNow) => {
+    if (isNow && !detail.childNodes.length) detail.append(...detailsOf(entry, finding));
+    second.hidden = !isNow;
+    toggle.setAttribute("aria-expanded", isNow);
+  };
+  toggle.onclick = () => open(second.hidden);
+  open(isOpen);
+  return [make("tr", "finding", ...cells), second];
+}
+
+export function whereOf(finding) {
+  const { line, column, offset, excerpt, count } = finding;
+  const name = line === null ? "whereByte" : excerpt?.isAtEnd ? "whereEnd" : "where";
+  const place = say(name, { line, column, offset });
+  return count > 1 ? `${place} (${say("times", { count })})` : place;
+}
+
+/** The feature that a finding lies in, by its number from 1 and its name or id. What is no JSON has none. */
+export function insideOf({ feature, path, rule }) {
+  if (rule.startsWith("J")) return "";
+  if (path === null) return say("noPath");
+  const called = calledOf(feature?.value);
+  if (!feature || feature.index === null) return called ?? say("wholeText");
+  const values = { number: feature.index + 1, name: called };
+  return called === null ? say("feature", values) : say("featureCalled", values);
+}
+
+function calledOf(value) {
+  const told = (it) => (typeof it === "string" && it.trim()) || Number.isFinite(it);
+  const named = NAMES.map((it) => value?.properties?.[it]).find(told) ?? [value?.id].find(told);
+  return named === undefined ? null : String(named).slice(0, 60);
+}
+
+/** The excerpt, how to mend it, the hint, the drawing and the chapter on the rule. */
+function detailsOf(entry, finding) {
+  // Of a file of another kind there is no line worth showing, and nothing to mend at the place.
+  if (isOtherKind(entry.hint)) return [chapterOf(finding.rule)].filter(Boolean);
+  const list = make("dl", "", make("dt", "", say("mend")), make("dd", "", mendOf(finding.rule)));
+  if (finding.path) list.append(make("dt", "", say("path")), make("dd", "", make("code", "", finding.path)));
+  const hint = entry.hint ? make("p", "hint", hintText(entry)) : null;
+  return [excerptOf(finding), hint, list, figureOf(finding), chapterOf(finding.rule)].filter(Boolean);
+}
+
+/** Some lines around the place with their numbers, and the character there marked. */
+function excerptOf({ excerpt, line }) {
+  if (!excerpt) return null;
+  const { before, after, isCutBefore, isCutAfter, isAtEnd, linesBefore, linesAfter } = excerpt;
+  const [first = "", ...rest] = [...after];
+  const gap = (isThere) => (isThere ? make("span", "gap", "…") : "");
+  const mark = make("mark", "", first || `⟨${say(isAtEnd ? "endOfText" : "endOfLine")}⟩`);
+  const faulty = [gap(isCutBefore), before, mark, rest.join(""), gap(isCutAfter)];
+  const rows = [...linesBefore.map((it) => [it]), faulty, ...linesAfter.map((it) => [it])];
+  const box = make("pre", "excerpt");
+  rows.forEach((parts, i) => {
+    const number = line === null ? "" : make("span", "number", `${line - linesBefore.length + i}`);
+    box.append(make("span", parts === faulty ? "row-of-place" : "row-beside", number, ...parts), "\n");
+  });
+  box.tabIndex = 0;
+  box.setAttribute("role", "region");
+  box.setAttribute("aria-label", say("excerptLabel"));
+  return box;
+}
+
+function figureOf(finding) {
+  const picture = pictureOf(finding);
+  if (!picture) return null;
+  const { west, south, east, north } = picture.box;
+  const degrees = (it) => number(it, 7);
+  const corners = { west: degrees(west), south: degrees(south), east: degrees(east), north: degrees(north) };
+  const caption = `${say("drawing")} ${say("drawingFrom", corners)}`;
+  return make("figure", "", drawingOf(picture, say("drawing")), make("figcaption", "", caption));
+}
+
+/** The chapter of docs/rules.md on a rule, which the page holds once. */
+function chapterOf(rule) {
+  const chapter = document.querySelector(`#rules [data-rule="${rule}"]`);
+  if (!chapter) return null;
+  const copy = chapter.cloneNode(true);
+  copy.removeAttribute("data-rule");
+  for (const it of [copy, ...copy.querySelectorAll("[id]")]) it.removeAttribute("id");
+  copy.querySelector("h3")?.remove();
+  const text = make("div", "doc", copy);
+  text.lang = "en";
+  const details = make("details", "", make("summary", "", say("docs", { rule })), text);
+  return details;
+}
