@@ -1,0 +1,90 @@
+/* The calls of Native.java, over geolint.h. A linter is the address of its memory, which Linter.java keeps: it passes no other, none
+ * after it is freed, and one call at a time for each. */
+#include <geolint.h>
+#include <jni.h>
+
+/* The bytes of an array are copied in such pieces, so that no collector waits for a call, and so that a thread that writes to the array
+ * meanwhile does not change what is judged. The JVM leaves 80 KB of stack to a call. */
+enum { PIECE = 16384 };
+
+/* Where a report's numbers stand: as in Native.java. */
+enum { VERDICT, NUMBER, PLACE, WARNINGS, REPORT = WARNINGS + 2 * GEOLINT_KINDS };
+
+static geolint_linter *linter_at(jlong address) {
+    return (geolint_linter *)(intptr_t)address;
+}
+
+JNIEXPORT jlong JNICALL Java_geolint_Native_allocate(JNIEnv *env, jclass native) {
+    (void)env, (void)native;
+    return (jlong)(intptr_t)geolint_new(0, 0);
+}
+
+JNIEXPORT void JNICALL Java_geolint_Native_free(JNIEnv *env, jclass native, jlong linter) {
+    (void)env, (void)native;
+    geolint_free(linter_at(linter));
+}
+
+JNIEXPORT jint JNICALL Java_geolint_Native_begin(JNIEnv *env, jclass native, jlong linter, jint max_depth, jlong max_bytes) {
+    (void)env, (void)native;
+    return (jint)geolint_begin_again(linter_at(linter), (uint32_t)max_depth, (uint64_t)max_bytes);
+}
+
+JNIEXPORT jint JNICALL Java_geolint_Native_feed(JNIEnv *env, jclass native, jlong linter, jbyteArray bytes, jint offset, jint length) {
+    jbyte piece[PIECE];
+    uint32_t status;
+    (void)native;
+    do {
+        jint size = length < PIECE ? length : PIECE;
+        (*env)->GetByteArrayRegion(env, bytes, offset, size, piece);
+        if ((*env)->ExceptionCheck(env))
+            return GEOLINT_NULL;
+        status = geolint_feed(linter_at(linter), piece, (size_t)size);
+        offset += size;
+        length -= size;
+    } while (length > 0 && status == GEOLINT_DONE);
+    return (jint)status;
+}
+
+JNIEXPORT jboolean JNICALL Java_geolint_Native_doomed(JNIEnv *env, jclass native, jlong linter) {
+    (void)env, (void)native;
+    return geolint_doomed(linter_at(linter)) ? JNI_TRUE : JNI_FALSE;
+}
+
+JNIEXPORT jlong JNICALL Java_geolint_Native_offset(JNIEnv *env, jclass native, jlong linter) {
+    (void)env, (void)native;
+    return (jlong)geolint_offset(linter_at(linter));
+}
+
+JNIEXPORT void JNICALL Java_geolint_Native_finish(JNIEnv *env, jclass native, jlong linter, jlongArray numbers) {
+    geolint_report report = geolint_finish(linter_at(linter));
+    jlong all[REPORT];
+    (void)native;
+    all[VERDICT] = report.verdict;
+    all[NUMBER] = report.rule + report.cause; /* one of them is 0 */
+    all[PLACE] = (jlong)report.place;
+    for (int kind = 0; kind < GEOLINT_KINDS; kind++) {
+        all[WARNINGS + 2 * kind] = (jlong)report.warnings[kind].count;
+        all[WARNINGS + 2 * kind + 1] = (jlong)report.warnings[kind].first;
+    }
+    (*env)->SetLongArrayRegion(env, numbers, 0, REPORT, all);
+}
+
+JNIEXPORT jstring JNICALL Java_geolint_Native_ruleText(JNIEnv *env, jclass native, jint rule) {
+    (void)native;
+    return (*env)->NewStringUTF(env, geolint_rule((uint32_t)rule));
+}
+
+JNIEXPORT jstring JNICALL Java_geolint_Native_causeText(JNIEnv *env, jclass native, jint cause) {
+    (void)native;
+    return (*env)->NewStringUTF(env, geolint_cause((uint32_t)cause));
+}
+
+JNIEXPORT jstring JNICALL Java_geolint_Native_warningText(JNIEnv *env, jclass native, jint kind) {
+    (void)native;
+    return (*env)->NewStringUTF(env, geolint_warning((uint32_t)kind));
+}
+
+JNIEXPORT jstring JNICALL Java_geolint_Native_version(JNIEnv *env, jclass native) {
+    (void)native;
+    return (*env)->NewStringUTF(env, geolint_version());
+}

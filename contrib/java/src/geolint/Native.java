@@ -1,0 +1,98 @@
+package geolint;
+
+import java.io.IOException;
+import java.io.InputStream;
+import java.nio.file.Files;
+import java.nio.file.Path;
+import java.nio.file.StandardCopyOption;
+import java.util.Locale;
+
+/** The calls of the library for C. A linter is the address of its memory; each call trusts it, so only {@link Linter} makes them. */
+final class Native {
+    /** What a piece shows, and what a text is: the numbers of {@code geolint.h}. */
+    static final int REFUSED = 1;
+    static final int VALID = 1;
+    static final int BROKEN = 2;
+
+    /** How many kinds of warning there are. */
+    static final int KINDS = 9;
+
+    /** Where the numbers of a report stand: what it is, the rule or the cause, the place, and of each kind how many and the first place. */
+    static final int VERDICT = 0;
+    static final int NUMBER = 1;
+    static final int PLACE = 2;
+    static final int WARNINGS = 3;
+    static final int REPORT = WARNINGS + 2 * KINDS;
+
+    static {
+        load();
+    }
+
+    private Native() {}
+
+    /** The memory of a linter that has begun, or 0 where there is none. */
+    static native long allocate();
+
+    static native void free(long linter);
+
+    static native int begin(long linter, int maxDepth, long maxBytes);
+
+    static native int feed(long linter, byte[] bytes, int offset, int length);
+
+    static native boolean doomed(long linter);
+
+    static native long offset(long linter);
+
+    /** Ends the linter and writes its report, of {@link #REPORT} numbers. */
+    static native void finish(long linter, long[] report);
+
+    static native String ruleText(int rule);
+
+    static native String causeText(int cause);
+
+    static native String warningText(int kind);
+
+    static native String version();
+
+    /** Loads the library that {@code -Dgeolint.library} names, otherwise the one in the jar, otherwise the system's. */
+    private static void load() {
+        String named = System.getProperty("geolint.library");
+        if (named != null) {
+            System.load(Path.of(named).toAbsolutePath().toString());
+            return;
+        }
+        String file = System.mapLibraryName("geolint_java");
+        String platform = System.getProperty("os.name").toLowerCase(Locale.ROOT) + "-" + System.getProperty("os.arch");
+        try (InputStream library = Native.class.getResourceAsStream("/geolint/" + platform + "/" + file)) {
+            if (library == null)
+                loadOfSystem(platform);
+            else
+                loadCopy(library, file);
+        } catch (IOException failure) {
+            throw linkError("the library in the jar cannot be copied to " + System.getProperty("java.io.tmpdir") + ": " + failure.getMessage());
+        }
+    }
+
+    private static void loadOfSystem(String platform) {
+        try {
+            System.loadLibrary("geolint_java");
+        } catch (UnsatisfiedLinkError failure) {
+            throw linkError("the jar has no library for " + platform + ", and the system has none");
+        }
+    }
+
+    /** A loader of classes has a copy of its own, which the system keeps when its name is gone. */
+    private static void loadCopy(InputStream library, String file) throws IOException {
+        Path copy = Files.createTempFile("geolint", file);
+        try {
+            Files.copy(library, copy, StandardCopyOption.REPLACE_EXISTING);
+            System.load(copy.toString());
+        } finally {
+            Files.deleteIfExists(copy);
+        }
+    }
+
+    private static UnsatisfiedLinkError linkError(String reason) {
+        return new UnsatisfiedLinkError("geolint: " + reason + "; build contrib/java there, and name its library by -Dgeolint.library=PATH");
+    }
+}
