@@ -21,6 +21,7 @@ import sys
 import tempfile
 
 import geolint
+from table import text_of
 
 failed = 0
 
@@ -30,18 +31,6 @@ def wants(name, got, wanted):
     if got != wanted:
         failed += 1
         print(f"FAILED: {name}: {got}, wanted {wanted}")
-
-
-def text_of(parts):
-    text = b""
-    for part in parts:
-        if isinstance(part, str):
-            text += part.encode()
-        elif "hex" in part:
-            text += bytes.fromhex(part["hex"])
-        else:
-            text += text_of(part["of"]) * part["times"]
-    return text
 
 
 def plain(verdict):

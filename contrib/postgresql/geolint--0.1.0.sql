@@ -1,0 +1,37 @@
+-- The functions of the extension. Run by CREATE EXTENSION alone.
+\echo Use "CREATE EXTENSION geolint" to load this file. \quit
+
+CREATE TYPE geojson_verdict AS (
+    valid boolean,
+    rule text,
+    place bigint,
+    path text,
+    message text,
+    warnings jsonb
+);
+COMMENT ON TYPE geojson_verdict IS 'what a text is: valid, or the broken rule G1 to G21 or the cause J1 to J4 at this byte; warnings of a valid text';
+
+CREATE FUNCTION is_geojson(body text, max_depth integer DEFAULT 256, max_bytes bigint DEFAULT 1152921504606846976)
+RETURNS boolean AS 'MODULE_PATHNAME', 'is_geojson_text' LANGUAGE C IMMUTABLE STRICT PARALLEL SAFE COST 100;
+
+CREATE FUNCTION is_geojson(body json, max_depth integer DEFAULT 256, max_bytes bigint DEFAULT 1152921504606846976)
+RETURNS boolean AS 'MODULE_PATHNAME', 'is_geojson_text' LANGUAGE C IMMUTABLE STRICT PARALLEL SAFE COST 100;
+
+CREATE FUNCTION is_geojson(body bytea, max_depth integer DEFAULT 256, max_bytes bigint DEFAULT 1152921504606846976)
+RETURNS boolean AS 'MODULE_PATHNAME', 'is_geojson_bytea' LANGUAGE C IMMUTABLE STRICT PARALLEL SAFE COST 100;
+
+CREATE FUNCTION is_geojson(body jsonb, max_depth integer DEFAULT 256, max_bytes bigint DEFAULT 1152921504606846976)
+RETURNS boolean AS 'MODULE_PATHNAME', 'is_geojson_jsonb' LANGUAGE C IMMUTABLE STRICT PARALLEL SAFE COST 200;
+
+CREATE FUNCTION geojson_report(body text, max_depth integer DEFAULT 256, max_bytes bigint DEFAULT 1152921504606846976)
+RETURNS geojson_verdict AS 'MODULE_PATHNAME', 'geojson_report_text' LANGUAGE C IMMUTABLE STRICT PARALLEL SAFE COST 100;
+
+CREATE FUNCTION geojson_report(body json, max_depth integer DEFAULT 256, max_bytes bigint DEFAULT 1152921504606846976)
+RETURNS geojson_verdict AS 'MODULE_PATHNAME', 'geojson_report_text' LANGUAGE C IMMUTABLE STRICT PARALLEL SAFE COST 100;
+
+CREATE FUNCTION geojson_report(body bytea, max_depth integer DEFAULT 256, max_bytes bigint DEFAULT 1152921504606846976)
+RETURNS geojson_verdict AS 'MODULE_PATHNAME', 'geojson_report_bytea' LANGUAGE C IMMUTABLE STRICT PARALLEL SAFE COST 100;
+
+CREATE FUNCTION geolint_version()
+RETURNS text AS 'MODULE_PATHNAME', 'version_of_geolint' LANGUAGE C IMMUTABLE STRICT PARALLEL SAFE;
+COMMENT ON FUNCTION geolint_version() IS 'the version of the library in this module';
