@@ -43,3 +43,9 @@ uninstall:
 
 # The library for C: `make library`, `make install-library`.
 include contrib/library.mk
+
+# Packages: `make dist`, `make release`.
+include contrib/dist.mk
+
+# The page, the package for npm, and the library for another machine: `make web`, `make npm`, `make library TARGET=aarch64`.
+include contrib/web.mk

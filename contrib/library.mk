@@ -19,6 +19,7 @@ RUSTDIR ?= $(PREFIX)/share/geolint/rust
 # and then it is the folder of that one.
 PYTHONDIR ?= $(eval PYTHONDIR := $(shell '$(GEOLINT_ROOT)/contrib/library/python-folder' '$(PREFIX)' $(PYTHON)))$(PYTHONDIR)
 INSTALL ?= install
+VERSION := $(shell cat '$(GEOLINT_ROOT)/VERSION')
 
 .PHONY: library install-library uninstall-library
 library: $(LIBRARY_BUILD)/libgeolint.a $(LIBRARY_BUILD)/libgeolint.so
@@ -37,6 +38,8 @@ $(LIBRARY_BUILD)/libgeolint.so: $(LIBRARY_BUILD)/libgeolint.a
 	$(CC) -shared -Wl,-soname,libgeolint.so.0 -Wl,--whole-archive $< -Wl,--no-whole-archive -o $@
 
 rust := Cargo.toml build.rs src/lib.rs tests/linter.rs
+cmake := geolint-config.cmake geolint-config-version.cmake
+filled = sed -e 's|@PREFIX@|$(PREFIX)|; s|@LIBDIR@|$(LIBDIR)|; s|@INCLUDEDIR@|$(INCLUDEDIR)|; s|@VERSION@|$(VERSION)|'
 imports = (cd / && $(1) -B -c 'import geolint') 2>/dev/null
 install-library: library
 	$(INSTALL) -d "$(DESTDIR)$(LIBDIR)/pkgconfig" "$(DESTDIR)$(INCLUDEDIR)" "$(DESTDIR)$(PYTHONDIR)"
@@ -48,7 +51,9 @@ install-library: library
 	cd $(GEOLINT_ROOT)/contrib/library/rust && for file in $(rust); do $(INSTALL) -m 644 $$file "$(DESTDIR)$(RUSTDIR)/$$file" || exit; done
 	sed -e 's|^_INSTALLED = ""|_INSTALLED = "$(LIBDIR)/libgeolint.so.0"|' $(GEOLINT_ROOT)/contrib/library/geolint.py > "$(DESTDIR)$(PYTHONDIR)/geolint.py"
 	chmod 644 "$(DESTDIR)$(PYTHONDIR)/geolint.py"
-	sed -e 's|@PREFIX@|$(PREFIX)|; s|@LIBDIR@|$(LIBDIR)|; s|@INCLUDEDIR@|$(INCLUDEDIR)|' $(GEOLINT_ROOT)/contrib/library/geolint.pc.in > "$(DESTDIR)$(LIBDIR)/pkgconfig/geolint.pc"
+	$(filled) $(GEOLINT_ROOT)/contrib/library/geolint.pc.in > "$(DESTDIR)$(LIBDIR)/pkgconfig/geolint.pc"
+	$(INSTALL) -d "$(DESTDIR)$(LIBDIR)/cmake/geolint"
+	for file in $(cmake); do $(filled) $(GEOLINT_ROOT)/contrib/library/cmake/$$file.in > "$(DESTDIR)$(LIBDIR)/cmake/geolint/$$file" || exit; done
 	@echo "geolint: the library is in $(DESTDIR)$(LIBDIR), the Python module in $(DESTDIR)$(PYTHONDIR), the Rust crate in $(DESTDIR)$(RUSTDIR)"
 	@[ "$(DESTDIR)" ] || $(call imports,$(or $(PYTHON),"$(PREFIX)/bin/python3")) || $(call imports,python3) || \
 		echo "geolint: python3 does not look for modules there: PYTHONPATH=$(PYTHONDIR) names the folder, or PYTHON=python3 takes one of its own"
@@ -57,4 +62,5 @@ uninstall-library:
 	rm -f "$(DESTDIR)$(LIBDIR)/libgeolint.a" "$(DESTDIR)$(LIBDIR)/libgeolint.so" "$(DESTDIR)$(LIBDIR)/libgeolint.so.0"
 	rm -f "$(DESTDIR)$(LIBDIR)/pkgconfig/geolint.pc" "$(DESTDIR)$(INCLUDEDIR)/geolint.h" "$(DESTDIR)$(INCLUDEDIR)/geolint.hpp"
 	rm -f "$(DESTDIR)$(PYTHONDIR)/geolint.py"
+	for file in $(cmake); do rm -f "$(DESTDIR)$(LIBDIR)/cmake/geolint/$$file"; done
 	for file in $(rust); do rm -f "$(DESTDIR)$(RUSTDIR)/$$file"; done

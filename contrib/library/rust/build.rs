@@ -1,5 +1,5 @@
-//! Finds the library for C: in the folder that GEOLINT_LIB_DIR names, otherwise where pkg-config knows it. It links `libgeolint.a`
-//! where that is there, and otherwise `libgeolint.so`.
+//! Finds the library for C: in the folder that GEOLINT_LIB_DIR names, otherwise in the folder `lib` of this crate, otherwise where
+//! pkg-config knows it. It links `libgeolint.a` where that is there, and otherwise `libgeolint.so`.
 
 use std::env;
 use std::path::Path;
@@ -17,6 +17,17 @@ fn minor_version() -> Option<u32> {
     version.split('.').nth(1)?.parse().ok()
 }
 
+/// The library that the packaged crate brings, which is for one processor and system.
+fn own() -> Option<String> {
+    let folder = Path::new(&env::var_os("CARGO_MANIFEST_DIR")?).join("lib").join(env::var_os("TARGET")?);
+    folder.join("libgeolint.a").exists().then(|| folder.display().to_string())
+}
+
+fn known() -> Option<String> {
+    let tool = env::var_os("PKG_CONFIG").unwrap_or_else(|| "pkg-config".into());
+    printed(Command::new(tool).args(["--variable=libdir", "geolint"])).filter(|folder| !folder.is_empty())
+}
+
 fn main() {
     for name in ["GEOLINT_LIB_DIR", "PKG_CONFIG", "PKG_CONFIG_PATH"] {
         println!("cargo:rerun-if-env-changed={name}");
@@ -28,11 +39,7 @@ fn main() {
     if minor < 82 {
         println!("cargo:rustc-cfg=geolint_before_rust_1_82");
     }
-    let known = || {
-        let tool = env::var_os("PKG_CONFIG").unwrap_or_else(|| "pkg-config".into());
-        printed(Command::new(tool).args(["--variable=libdir", "geolint"])).filter(|folder| !folder.is_empty())
-    };
-    let folder = match env::var("GEOLINT_LIB_DIR").ok().or_else(known) {
+    let folder = match env::var("GEOLINT_LIB_DIR").ok().or_else(own).or_else(known) {
         Some(folder) => folder,
         None => {
             eprintln!("geolint: pkg-config knows no geolint: set PKG_CONFIG_PATH, or set GEOLINT_LIB_DIR to the folder of libgeolint.a");
