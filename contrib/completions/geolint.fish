@@ -1,7 +1,7 @@
 # Completion of geolint for fish: put this file into the folder completions of fish's configuration.
 complete -c geolint -f
-complete -c geolint -n __fish_use_subcommand -a file -d 'Judge a file'
-complete -c geolint -n __fish_use_subcommand -a stdin -d 'Judge standard input'
+complete -c geolint -n __fish_use_subcommand -a file -d 'Check a file'
+complete -c geolint -n __fish_use_subcommand -a stdin -d 'Check standard input'
 complete -c geolint -l help -d 'Say how geolint is called'
 complete -c geolint -n '__fish_seen_subcommand_from file stdin' -l strict -d 'Let no warning pass'
 complete -c geolint -n '__fish_seen_subcommand_from file stdin' -l quick -d 'Only say whether it is valid'
