@@ -17,3 +17,4 @@ mod DetailsInParentheses
 mod ResultsBetween
 mod PlacesInOrder
 mod ToldFiles
+mod WalkedEntries

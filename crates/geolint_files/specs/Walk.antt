@@ -1,6 +1,9 @@
--- Which files of a folder are judged, and which are text sequences, by their names; and which names come next.
-use Rattle.std.specs.Prelude.{ℕ, ◌-◌, ◌||◌, Bool, true, false, List, [], ◌++◌, map, Vec, length, drop, codes, nat_eq, if◌then◌else◌}
+-- Which files of a folder are judged, and which are text sequences, by their names; what a call names, and which names come next.
+use Rattle.std.specs.Prelude.{ℕ, ◌-◌, ◌&&◌, ◌||◌, Bool, true, false, List, [], ◌∷◌, ◌++◌, map, Option, Some, None, Vec, length, drop, codes, nat_eq, if◌then◌else◌}
 use Rattle.std.specs.List.{list_any, ends_with}
+use Rattle.std.specs.Cmp.Lexicographic.{pointwise}
+use Rattle.std.specs.Ordering.{nat_cmp, ordering_then}
+use Rattle.std.specs.declared.cmp.Ordering.{Ordering}
 use Rattle.std.specs.Str.{str_eq_ignore_ascii_case}
 use Rattle.std.specs.declared.alloc.Global.{Global}
 use Rattle.geolint_files.specs.declared.names.Listed.{Listed}
@@ -33,6 +36,33 @@ separator_after folder = if ends_with nat_eq folder (codes "/") then [] else cod
 -- the name of a folder's entry
 abbrev pub entry_name : List ℕ → List ℕ → List ℕ
 entry_name folder entry = folder ++ (separator_after folder ++ entry)
+
+-- a folder's entries, each by its name; none of them was given
+abbrev pub entries_in : List ℕ → List (Vec ℕ Global) → List (List ℕ × Bool)
+entries_in folder entries = map (λ (entry : Vec ℕ Global). (entry_name folder entry.items, false)) entries
+
+-- the order of folders, by device and number
+abbrev pub folder_cmp : ℕ × ℕ → ℕ × ℕ → Ordering
+folder_cmp one other = ordering_then (nat_cmp one.0 other.0) (nat_cmp one.1 other.1)
+
+-- ---- the words of a call
+
+-- the name of standard input
+abbrev pub is_input : List ℕ → Bool
+is_input name = pointwise nat_eq name (codes "-")
+
+abbrev pub is_input_path : Vec ℕ Global → Bool
+is_input_path path = is_input path.items
+
+-- as a file and as the list
+abbrev pub takes_input_twice : List (Vec ℕ Global) → Option (Vec ℕ Global) → Bool
+takes_input_twice paths None = false
+takes_input_twice paths (Some list) = is_input list.items && list_any is_input_path paths
+
+abbrev pub first_named : List (Vec ℕ Global) → Option (Vec ℕ Global) → List ℕ
+first_named (path ∷ more) list = path.items
+first_named [] (Some list) = list.items
+first_named [] None = codes "-"
 
 -- ---- lists of names
 

@@ -1,5 +1,6 @@
 //! Judges what the words name, file by file, and tells each.
 ghost use Rattle.std.specs.Prelude.{◌≡◌, [], IfOk, OnOk, true, false};
+ghost use Rattle.std.specs.List.{list_any};
 ghost use Rattle.geolint_files.specs.Internal.FileCounts.{Counts};
 ghost use Rattle.geolint_files.specs.Judged.{CountsFailure, is_of_records};
 ghost use Rattle.geolint_files.specs.Line.{Adds};
@@ -7,6 +8,7 @@ ghost use Rattle.geolint_files.specs.Names.{unread_line};
 ghost use Rattle.geolint_files.specs.Run.{IsRun};
 ghost use Rattle.geolint_files.specs.Sites.{AreSitesIn};
 ghost use Rattle.geolint_files.specs.Told.{AreSought, AreSoughtFor};
+ghost use Rattle.geolint_files.specs.Walk.{first_named, is_input, is_input_path, takes_input_twice};
 
 use crate::files::{Spelled, is_lost_link, is_memory, look_up, reason, spell};
 use crate::formats::lines::Style;
@@ -99,22 +101,32 @@ fn lacks_files(summary: &Summary, allows_empty: bool) -> bool
 }
 
 /// Whether standard input is named as a file and as the list.
-fn names_input(order: &Order) -> bool {
+fn names_input(order: &Order) -> bool
+    ensures { result ≡ takes_input_twice order.now.paths.items order.now.list }
+{
     match &order.list {
-        Some(list) if list.as_slice() == b"-".as_slice() => {
-            for path in &order.paths {
-                if path.as_slice() == b"-".as_slice() {
-                    return true;
-                }
-            }
-            false
-        }
-        _ => false,
+        Some(list) => is_input(list.as_slice()) && names_input_in(order.paths.as_slice()),
+        None => false,
     }
 }
 
-/// What is named first.
-fn first_named(order: &Order) -> &[u8] {
+fn names_input_in(paths: &[Vec<u8>]) -> bool
+    ensures { result ≡ list_any is_input_path paths.now }
+{
+    paths.iter().any(|path| is_input(path.as_slice()))
+}
+
+/// Whether a name is that of standard input.
+fn is_input(name: &[u8]) -> bool
+    ensures { result ≡ is_input name.now }
+{
+    name == b"-".as_slice()
+}
+
+/// What is named first: standard input, where nothing is.
+fn first_named(order: &Order) -> &[u8]
+    ensures { result.now ≡ first_named order.now.paths.items order.now.list }
+{
     match (order.paths.as_slice().first(), &order.list) {
         (Some(path), _) => path.as_slice(),
         (None, Some(list)) => list.as_slice(),

@@ -68,7 +68,7 @@ impl Others {
     }
 }
 
-/// The ending of a path's last name.
+/// The ending of a path's last name. It is shown in one message alone, so no clause says what it is.
 fn ending_of(path: &[u8]) -> &[u8] {
     let mut start = 0;
     for i in 0..path.len() {
@@ -98,8 +98,9 @@ pub struct Walk {
 }
 
 impl Walk {
-    ghost use Rattle.std.specs.Prelude.{◌≡◌, ◌++◌, ◌∷◌, [], true, IfOk, MatchOption};
-    ghost use Rattle.geolint_files.specs.Walk.{named_in};
+    ghost use Rattle.std.specs.Prelude.{◌≡◌, ◌++◌, ◌∷◌, [], not, reverse, true, IfOk, MatchOption, OnOk};
+    ghost use Rattle.std.specs.BTreeSet.{contains, Updates};
+    ghost use Rattle.geolint_files.specs.Walk.{entries_in, folder_cmp, named_in};
 
     /// From a name that was given.
     pub fn of(rt: &HostRuntime, name: &[u8]) -> Result<Walk, AllocError>
@@ -125,12 +126,12 @@ impl Walk {
     }
 
     /// Whether a folder is entered for the first time.
-    pub fn enters(&mut self, device: u64, number: u64) -> Result<bool, AllocError> {
-        if self.entered.contains(&(device, number)) {
-            return Ok(false);
-        }
-        self.entered.insert((device, number))?;
-        Ok(true)
+    pub fn enters(&mut self, device: u64, number: u64) -> Result<bool, AllocError>
+        ensures first { IfOk result (λ is_first. is_first ≡ not (contains folder_cmp self.old.entered (device, number))) }
+        ensures entered { OnOk result (Updates folder_cmp self.old.entered self.new.entered (device, number) true) }
+        ensures pending { self.new.pending ≡ self.old.pending }
+    {
+        Ok(self.entered.insert((device, number))?)
     }
 
     /// Looks next at a folder's entries, in their order.
@@ -139,8 +140,12 @@ impl Walk {
         rt: &HostRuntime,
         folder: &[u8],
         entries: &[Vec<u8>],
-    ) -> Result<(), AllocError> {
-        for entry in entries.iter().rev() {
+    ) -> Result<(), AllocError>
+        ensures pending { OnOk result (named_in self.new.pending.items ≡ named_in self.old.pending.items ++ reverse (entries_in folder.now entries.now)) }
+        ensures entered { self.new.entered ≡ self.old.entered }
+    {
+        for i in 0..entries.len() {
+            let entry = &entries[entries.len() - 1 - i];
             self.pending.push(Pending {
                 name: entry_name(rt, folder, entry.as_slice())?,
                 is_given: false,
