@@ -5,3 +5,4 @@ pub mod FoundRecords
 pub mod RecordSteps
 pub mod SequencesByRecords
 pub mod OneFinding
+pub mod DecidedRecords

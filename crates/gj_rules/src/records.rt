@@ -6,7 +6,7 @@ mod record;
 
 use crate::sequence::open_record::OpenRecord;
 use crate::sequence::{SeqVerdict, record_limits};
-use crate::verdict::Verdict;
+use crate::verdict::{Verdict, one_verdict};
 pub(crate) use framing::run_before;
 pub use framing::{Framing, RecordEnd};
 use gj_coords::Warnings;
@@ -42,9 +42,10 @@ impl Records {
     ghost use Rattle.gj_rules.specs.Internal.ToldRecords.{TellsOne, Keeps, KeepsAll};
     ghost use Rattle.gj_coords.specs.Internal.KeptWarnings.{no_warnings};
     ghost use Rattle.gj_rules.specs.Linter.{refusal_of};
-    ghost use Rattle.gj_rules.specs.RecordFindings.{AreAllFindings, IsOwnVerdict, IsNumberedVerdict, whole_of};
+    ghost use Rattle.gj_rules.specs.RecordFindings.{AreAllFindings, IsOwnVerdict, IsNumberedVerdict, IsWholeVerdict, whole_of};
     ghost use Rattle.gj_rules.specs.Records.{Part, part_at, separator_of, counts};
     ghost use Rattle.gj_rules.specs.RecordsStand.{StandsFor, limits_of, framing_of, HaveTold, HaveToldAll};
+    ghost use Rattle.gj_rules.specs.SequenceStands.{is_valid_sequence};
 
     /// Before the first byte of an input. The depth is allowed to each record, and the number of bytes to the whole input.
     pub fn new(framing: Framing, limits: Limits) -> Records
@@ -265,5 +266,20 @@ impl Records {
         ensures lasting { (bytes more : List ℕ) (found : List Record) → StandsFor self.now bytes found → IsTrue result → StandsFor self.now (bytes ++ more) found }
     {
         self.is_over
+    }
+
+    /// Whether a record that was told is not valid, or a byte came that is beyond the limit: what the input is as a whole is
+    /// known then, whatever follows.
+    pub fn is_decided(&self) -> bool
+        ensures lasting { (bytes more : List ℕ) (found : List Record) → StandsFor self.now bytes found → IsTrue result
+            → IsWholeVerdict (framing_of self.now) (limits_of self.now) (bytes ++ more) (whole_of found) }
+        ensures valid { (bytes : List ℕ) (found : List Record) → StandsFor self.now bytes found → result ≡ false → is_valid_sequence (whole_of found) ≡ true }
+        ensures within { (bytes : List ℕ) (found : List Record) → StandsFor self.now bytes found → result ≡ false → length bytes ≤ (limits_of self.now).bytes }
+    {
+        one_verdict();
+        match self.whole {
+            SeqVerdict::Record { .. } => true,
+            SeqVerdict::Valid { .. } => self.is_over,
+        }
     }
 }

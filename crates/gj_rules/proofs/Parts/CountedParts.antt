@@ -7,7 +7,7 @@ if-append : (b : Bool) (entry : Entry) (xs ys : List Entry) → entry_if b entry
 if-append true entry xs ys = refl
 if-append false entry xs ys = refl
 
-entries-append : (framing : Framing) (number : ℕ) (parts more : List Part)
+pub entries-append : (framing : Framing) (number : ℕ) (parts more : List Part)
     → entries_from framing number (parts ++ more) ≡ entries_from framing number parts ++ entries_from framing (number_from framing number parts) more
 entries-append framing number [] more = refl
 entries-append framing number (part ∷ parts) more =

@@ -1,0 +1,99 @@
+-- An input that a record has decided: each that begins so is the same as a whole.
+use Rattle.std.proofs.Common.{◌≡◌, ℕ, ◌-◌, ◌+◌, ◌≤◌, ◌<◌, Bool, true, false, if◌then◌else◌, List, [], ◌∷◌, ◌++◌, length, take, refl, ap, sym, ◌∙◌, subst, arith}
+use Rattle.std.proofs.Math.Seq.{take-append-add}
+use Rattle.gj_json.specs.Limits.{Allowed}
+use Rattle.gj_rules.specs.declared.records.Records.{Records}
+use Rattle.gj_rules.specs.declared.records.framing.Framing.{Framing}
+use Rattle.gj_rules.specs.declared.records.framing.RecordEnd.TheVariants.{Input, Limit}
+use Rattle.gj_rules.specs.declared.records.record.Record.{Record}
+use Rattle.gj_rules.specs.declared.sequence.verdict.SeqVerdict.{SeqVerdict}
+use Rattle.gj_rules.specs.declared.verdict.Verdict.{Verdict}
+use Rattle.gj_rules.specs.Internal.OpenParts.{IsOpen}
+use Rattle.gj_rules.specs.RecordFindings.{AreFindings, IsWholeVerdict, after, whole_from, whole_of}
+use Rattle.gj_rules.specs.Records.{Part, Entry, entries_from, entries_in, first_number, is_too_long, number_from, parts_from, parts_of}
+use Rattle.gj_rules.specs.RecordsStand.{StandsFor}
+use Rattle.gj_rules.specs.SequenceStands.{is_valid_sequence}
+use Rattle.gj_rules.specs.Verdict.{IsVerdict}
+use Rattle.gj_rules.proofs.Parts.CountedParts.{entries-append}
+use Rattle.gj_rules.proofs.Parts.OneFinding.{some_findings}
+use Rattle.gj_rules.proofs.Parts.PartCuts.{take_within}
+use Rattle.gj_rules.proofs.Parts.RecordSteps.{open_of, over_of, over_more}
+
+-- ---- what is found, with more behind it
+
+both_found : (framing : Framing) (levels : ℕ) (entries others : List Entry) (found more : List Record) → AreFindings framing levels entries found → AreFindings framing levels others more
+    → AreFindings framing levels (entries ++ others) (found ++ more)
+both_found framing levels [] others [] more h k = k
+both_found framing levels [] others (other ∷ found) more h k = absurd h
+both_found framing levels (first ∷ entries) others [] more h k = absurd h
+both_found framing levels (first ∷ entries) others (other ∷ found) more h k = (h.0, both_found framing levels entries others found more h.1 k)
+
+whole_both : (verdict : SeqVerdict) (found more : List Record) → whole_from verdict (found ++ more) ≡ whole_from (whole_from verdict found) more
+whole_both verdict [] more = refl
+whole_both verdict (one ∷ found) more = whole_both (after verdict one) found more
+
+-- the first record that is not valid stays it
+failing_stays : (number : ℕ) (verdict : Verdict) (more : List Record) → whole_from (SeqVerdict.Record number verdict) more ≡ SeqVerdict.Record number verdict
+failing_stays number verdict [] = refl
+failing_stays number verdict (found ∷ more) = failing_stays number verdict more
+
+whole_stays : (verdict : SeqVerdict) (more : List Record) → is_valid_sequence verdict ≡ false → whole_from verdict more ≡ verdict
+whole_stays (SeqVerdict.Valid count warnings) more fails = absurd (cc)
+whole_stays (SeqVerdict.Record number verdict) more fails = failing_stays number verdict more
+
+-- ---- the parts, with more bytes
+
+take_both : (n : ℕ) (xs ys : List ℕ) → length xs ≤ n → take n (xs ++ ys) ≡ xs ++ take (n - length xs) ys
+take_both n xs ys l =
+    let sum : n ≡ length xs + (n - length xs) = omega (arith, l) in
+    ap (λ k. take k (xs ++ ys)) sum ∙ take-append-add xs ys (n - length xs)
+
+-- those that have ended are the first
+parts_more : (s : Records) (bytes more : List ℕ) (found : List Record) (h : IsOpen s bytes found) → (rest : List Part) × (parts_of s.framing s.limits (bytes ++ more) ≡ h.done ++ rest)
+parts_more s bytes more found h = by_test (is_too_long s.limits (bytes ++ more)) refl
+  where
+    room : ℕ
+    room = s.limits.bytes - length bytes
+
+    by_test : (b : Bool) → is_too_long s.limits (bytes ++ more) ≡ b → (rest : List Part) × (parts_of s.framing s.limits (bytes ++ more) ≡ h.done ++ rest)
+    by_test true e = (
+      parts_from s.framing Limit s.record.start (h.given ++ take room more),
+      ap (λ t. if t then parts_from s.framing Limit 0 (take s.limits.bytes (bytes ++ more)) else parts_from s.framing Input 0 (bytes ++ more)) e
+          ∙ (ap (parts_from s.framing Limit 0) (take_both s.limits.bytes bytes more h.fits) ∙ h.cut Limit (take room more)),
+    )
+    by_test false e = (
+      parts_from s.framing Input s.record.start (h.given ++ more),
+      ap (λ t. if t then parts_from s.framing Limit 0 (take s.limits.bytes (bytes ++ more)) else parts_from s.framing Input 0 (bytes ++ more)) e ∙ h.cut Input more,
+    )
+
+-- ---- the whole
+
+pub decided_lasts : ((limits : Allowed) (bytes : List ℕ) → (verdict : Verdict) × IsVerdict limits bytes verdict) → (s : Records) (bytes more : List ℕ) (found : List Record) → StandsFor s bytes found
+    → (s.is_over ≡ false → is_valid_sequence (whole_of found) ≡ false) → IsWholeVerdict s.framing s.limits (bytes ++ more) (whole_of found)
+decided_lasts some s bytes more found h fails = by_test s.is_over refl
+  where
+    by_test : (b : Bool) → s.is_over ≡ b → IsWholeVerdict s.framing s.limits (bytes ++ more) (whole_of found)
+    by_test true e = (let k = over_of s (bytes ++ more) found e (over_more s bytes more found e h) in (found, k.are, refl))
+    by_test false e =
+        let k = open_of s bytes found e h in
+        let parts = parts_more s bytes more found k in
+        let others = entries_from s.framing (number_from s.framing (first_number s.framing) k.done) parts.0 in
+        let rest = some_findings some s.framing s.limits.depth others in
+        let entries : entries_in s.framing (parts_of s.framing s.limits (bytes ++ more)) ≡ entries_in s.framing k.done ++ others =
+        ap (entries_in s.framing) parts.1 ∙ entries-append s.framing (first_number s.framing) k.done parts.0 in
+        let are = both_found s.framing s.limits.depth (entries_in s.framing k.done) others found rest.0 k.are rest.1 in (
+          found ++ rest.0,
+          subst (λ (es : List Entry). AreFindings s.framing s.limits.depth es (found ++ rest.0)) (sym entries) are,
+          sym (whole_both (SeqVerdict.Valid 0 _) found rest.0 ∙ whole_stays (whole_of found) rest.0 (fails e)),
+        )
+
+-- what was told so far
+pub whole_so_far : (s : Records) (bytes : List ℕ) (found : List Record) → StandsFor s bytes found → s.whole ≡ whole_of found
+whole_so_far s bytes found h = by_test s.is_over refl
+  where
+    by_test : (b : Bool) → s.is_over ≡ b → s.whole ≡ whole_of found
+    by_test true e = (over_of s bytes found e h).whole
+    by_test false e = (open_of s bytes found e h).whole
+
+pub fits_so_far : (s : Records) (bytes : List ℕ) (found : List Record) → StandsFor s bytes found → s.is_over ≡ false → length bytes ≤ s.limits.bytes
+fits_so_far s bytes found h e = (open_of s bytes found e h).fits
