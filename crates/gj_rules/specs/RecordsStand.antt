@@ -1,5 +1,5 @@
 -- What `Records` stand for, and what their calls tell.
-use Rattle.std.specs.Prelude.{◌≡◌, ℕ, List, ◌++◌, Bool, true, false}
+use Rattle.std.specs.Prelude.{◌≡◌, ℕ, List, ◌++◌, length, if◌then◌else◌, Bool, true, false}
 use Rattle.gj_json.specs.Limits.{Allowed}
 use Rattle.gj_rules.specs.declared.records.framing.Framing.{Framing}
 use Rattle.gj_rules.specs.declared.records.record.Record.{Record}
@@ -32,9 +32,19 @@ pub record HaveTold (told : List Record → Type 0) (s : Records) (bytes : List 
   pub findings : AreFindingsSoFar (framing_of s) (limits_of s) bytes (found ++ more)
   pub heard : told (before ++ (found ++ more))
 
+-- The same, where no more than one was told: whether there was one is said.
+pub record HaveToldIf (one : Bool) (told : List Record → Type 0) (s : Records) (bytes : List ℕ) (before found : List Record) : Type 0 where
+  pub have : HaveTold told s bytes before found
+  pub one_or_none : length have.more ≡ (if one then 1 else 0)
+
 -- At the end of the input they have told what is found in all its records, and the verdict is what it is by them.
 pub record HaveToldAll (told : List Record → Type 0) (framing : Framing) (limits : Allowed) (bytes : List ℕ) (before found : List Record) (verdict : SeqVerdict) : Type 0 where
   pub more : List Record
   pub findings : AreAllFindings framing limits bytes (found ++ more)
   pub whole : verdict ≡ whole_of (found ++ more)
   pub heard : told (before ++ (found ++ more))
+
+-- The same, and whether one more record was told.
+pub record HaveToldAllIf (one : Bool) (told : List Record → Type 0) (framing : Framing) (limits : Allowed) (bytes : List ℕ) (before found : List Record) (verdict : SeqVerdict) : Type 0 where
+  pub have : HaveToldAll told framing limits bytes before found verdict
+  pub one_or_none : length have.more ≡ (if one then 1 else 0)

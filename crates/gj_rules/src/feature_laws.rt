@@ -34,6 +34,11 @@ pub fn features_in_time()
     ensures { (text : Text) (bytes : List ℕ) (m n : ℕ) → IsText text bytes → m ≤ n → length (findings_by n text) ≤ length (findings_by m text) + (n - m) }
 {}
 
+/// No more features of a text are complete in its first bytes than there are bytes.
+pub fn few_features()
+    ensures { (text : Text) (bytes : List ℕ) (n : ℕ) → IsText text bytes → length (findings_by n text) ≤ n }
+{}
+
 /// What [`FeatureRules`](crate::FeatureRules) tell of a text of fewer than 2^64 events says what is found in its features.
 pub fn features_say()
     ensures { (text : Text) (n : ℕ) → length (all_events text) < 2 ^ 64 → SayFindings (features_by n text) (findings_by n text) }

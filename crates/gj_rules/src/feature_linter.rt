@@ -57,6 +57,7 @@ impl<S: FeatureSink> FeatureLinter<S> {
         ensures stands { (bytes : List ℕ) → StandsFor S.told self.old bytes → StandsFor S.told self.new (bytes ++ piece.now) }
         ensures answer { (bytes : List ℕ) → StandsFor S.told self.old bytes → Answers (limits_of self.old) (bytes ++ piece.now) result }
         ensures limits { limits_of self.new ≡ limits_of self.old }
+        ensures on { offset_of self.old ≤ offset_of self.new }
         ensures refusal { refusal_of self.new ≡ refusal_in result }
         ensures again { (fault : JsonFault) → refusal_of self.old ≡ Some fault → (self.new ≡ self.old) × (result ≡ Progress.Refused fault) }
     {
@@ -75,18 +76,29 @@ impl<S: FeatureSink> FeatureLinter<S> {
         ensures refused { (fault : JsonFault) → result.0 ≡ Verdict.NotJson fault → result.1 ≡ sink_of self }
         ensures again { (fault : JsonFault) → refusal_of self ≡ Some fault → result.0 ≡ Verdict.NotJson fault }
     {
+        let verdict = self.end();
+        (verdict, self.rules.into_sink())
+    }
+
+    /// The verdict of the input that was fed, where the linter lies: all its features are told, where it is a JSON text. What
+    /// the linter then stands for is not said.
+    pub fn end(&mut self) -> Verdict
+        ensures verdict { (bytes : List ℕ) → StandsFor S.told self.old bytes → IsVerdict (limits_of self.old) bytes result }
+        ensures told { (bytes : List ℕ) (text : Text) → StandsFor S.told self.old bytes → IsAdmitted (limits_of self.old) text bytes → TellFindings (S.told (sink_of self.new)) (feature_findings text) }
+        ensures refused { (fault : JsonFault) → result ≡ Verdict.NotJson fault → sink_of self.new ≡ sink_of self.old }
+        ensures again { (fault : JsonFault) → refusal_of self.old ≡ Some fault → result ≡ Verdict.NotJson fault }
+    {
         bytes_taken();
         few_events();
         kept_warnings();
         one_refusal();
         one_text();
         match self.reader.finish() {
-            Err(fault) => (Verdict::NotJson(fault), self.rules.into_sink()),
+            Err(fault) => Verdict::NotJson(fault),
             Ok(last) => {
                 tell_last(&mut self.rules, last);
                 let rules = self.rules.rules();
-                let verdict = verdict_of(rules.fault(), rules.warnings());
-                (verdict, self.rules.into_sink())
+                verdict_of(rules.fault(), rules.warnings())
             }
         }
     }
@@ -107,7 +119,9 @@ impl<S: FeatureSink> FeatureLinter<S> {
         ensures value { result ≡ offset_of self.now }
         ensures taken { (bytes : List ℕ) → StandsFor S.told self.now bytes → refusal_of self.now ≡ None → result ≡ length bytes }
         ensures refused { (bytes : List ℕ) (fault : JsonFault) → StandsFor S.told self.now bytes → refusal_of self.now ≡ Some fault → result ≡ fault.place }
+        ensures within { (bytes : List ℕ) → StandsFor S.told self.now bytes → result ≤ length bytes }
     {
+        bytes_taken();
         self.reader.offset()
     }
 }

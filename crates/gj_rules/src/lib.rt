@@ -36,7 +36,7 @@ pub use feature::{Feature, FeatureSink};
 pub use feature_linter::FeatureLinter;
 pub use feature_rules::FeatureRules;
 pub use linter::{Linter, Progress};
-pub use records::{Framing, Record, RecordSink, Records};
+pub use records::{Framing, Record, RecordSink, Records, Taken, Whole};
 pub use rules::Rules;
 pub use sequence::{SeqProgress, SeqVerdict, Sequence, one_sequence_verdict};
 pub use verdict::{Verdict, one_verdict};

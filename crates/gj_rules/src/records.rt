@@ -13,6 +13,23 @@ use gj_coords::Warnings;
 use gj_json::{Cause, JsonFault, Limits};
 pub use record::{Record, RecordSink};
 
+/// What was taken of a piece.
+#[derive(Clone, Copy, Debug, PartialEq, Eq)]
+pub struct Taken {
+    /// How many of its bytes.
+    pub count: usize,
+    /// Whether a record was told, which ended there.
+    pub told: bool,
+}
+
+/// What an input is as a whole.
+#[derive(Clone, Copy, Debug, PartialEq, Eq)]
+pub struct Whole {
+    pub verdict: SeqVerdict,
+    /// Whether a record was told that the end of the input ends.
+    pub told: bool,
+}
+
 /// Judges each record of an input that comes in pieces of any size, in the memory of one record's linter, and tells what
 /// is found in it as soon as it has ended. A record that is not valid ends at the next separator, as any other does (RFC 7464,
 /// section 2.3, on which RFC 8142 rests).
@@ -44,7 +61,7 @@ impl Records {
     ghost use Rattle.gj_rules.specs.Linter.{refusal_of};
     ghost use Rattle.gj_rules.specs.RecordFindings.{AreAllFindings, IsOwnVerdict, IsNumberedVerdict, IsWholeVerdict, whole_of};
     ghost use Rattle.gj_rules.specs.Records.{Part, part_at, separator_of, counts};
-    ghost use Rattle.gj_rules.specs.RecordsStand.{StandsFor, limits_of, framing_of, HaveTold, HaveToldAll};
+    ghost use Rattle.gj_rules.specs.RecordsStand.{StandsFor, limits_of, framing_of, HaveTold, HaveToldIf, HaveToldAll, HaveToldAllIf};
     ghost use Rattle.gj_rules.specs.SequenceStands.{is_valid_sequence};
 
     /// Before the first byte of an input. The depth is allowed to each record, and the number of bytes to the whole input.
@@ -80,34 +97,70 @@ impl Records {
             if self.is_over {
                 return;
             }
-            at += self.take(&piece[at..], sink);
+            at += self.take(&piece[at..], sink).count;
         }
     }
 
-    /// Takes the next byte, or the next bytes of the open record; answers how many.
-    fn take<S: RecordSink>(&mut self, rest: &[u8], sink: &mut S) -> usize
+    /// Takes the next bytes of the input, up to the end of the next record, which it tells the sink; where none ends in the
+    /// piece, all of it. So the sink is told one record at the most.
+    pub fn feed_one<S: RecordSink>(&mut self, piece: &[u8], sink: &mut S) -> Taken
+        ensures within { result.count ≤ length piece.now }
+        ensures all { result.told ≡ false → result.count ≡ length piece.now }
+        ensures told { (bytes : List ℕ) (before found : List Record) → StandsFor self.old bytes found → S.told sink.old (before ++ found)
+            → HaveToldIf result.told (S.told sink.new) self.new (bytes ++ take result.count piece.now) before found }
+        ensures framing { framing_of self.new ≡ framing_of self.old }
+        ensures limits { limits_of self.new ≡ limits_of self.old }
+    {
+        let mut at = 0;
+        while at < piece.len() {
+            if self.is_over {
+                break;
+            }
+            let taken = self.take(&piece[at..], sink);
+            at += taken.count;
+            if taken.told {
+                return Taken {
+                    count: at,
+                    told: true,
+                };
+            }
+        }
+        Taken {
+            count: piece.len(),
+            told: false,
+        }
+    }
+
+    /// Takes the next byte, or the next bytes of the open record.
+    fn take<S: RecordSink>(&mut self, rest: &[u8], sink: &mut S) -> Taken
         requires some { 0 < length rest.now }
         requires live { self.old.is_over ≡ false }
-        ensures some { 0 < result }
-        ensures within { result ≤ length rest.now }
+        ensures some { 0 < result.count }
+        ensures within { result.count ≤ length rest.now }
         ensures told { (bytes : List ℕ) (before found : List Record) → StandsFor self.old bytes found → S.told sink.old (before ++ found)
-            → HaveTold (S.told sink.new) self.new (bytes ++ take result rest.now) before found }
+            → HaveToldIf result.told (S.told sink.new) self.new (bytes ++ take result.count rest.now) before found }
         ensures keeps { Keeps self.old self.new }
     {
         let offset = self.record.end();
         if offset == self.limits.bytes() {
             self.tell_open(RecordEnd::Limit, offset, sink);
             self.is_over = true;
-            return 1;
+            return Taken {
+                count: 1,
+                told: true,
+            };
         }
         let separator = self.framing.separator();
         if rest[0] == separator {
-            self.separate(sink);
-            return 1;
+            let told = self.separate(sink);
+            return Taken { count: 1, told };
         }
         let run = run_before(separator, rest, self.limits.bytes() - offset);
         self.take_run(&rest[..run]);
-        run
+        Taken {
+            count: run,
+            told: false,
+        }
     }
 
     /// Takes bytes of the open record.
@@ -124,12 +177,12 @@ impl Records {
         self.record.feed(run);
     }
 
-    /// Takes a separator: it ends the open record, where that is one.
-    fn separate<S: RecordSink>(&mut self, sink: &mut S)
+    /// Takes a separator: it ends the open record, where that is one, and answers whether it is.
+    fn separate<S: RecordSink>(&mut self, sink: &mut S) -> bool
         requires room { self.old.record.end < self.old.limits.bytes }
         requires live { self.old.is_over ≡ false }
         ensures told { (bytes : List ℕ) (before found : List Record) → StandsFor self.old bytes found → S.told sink.old (before ++ found)
-            → HaveTold (S.told sink.new) self.new (bytes ++ separator_of self.old.framing ∷ []) before found }
+            → HaveToldIf result (S.told sink.new) self.new (bytes ++ separator_of self.old.framing ∷ []) before found }
         ensures keeps { Keeps self.old self.new }
     {
         let _most = self.limits.bytes();
@@ -137,11 +190,12 @@ impl Records {
         if self.is_void {
             self.record.begin_again(next);
             self.number = self.number.max(1);
-            return;
+            return false;
         }
         self.tell_parted(next, sink);
         self.number += 1;
         self.is_void = true;
+        true
     }
 
     /// Tells the open record, which a separator ends.
@@ -226,17 +280,31 @@ impl Records {
 
     /// Tells the last record, and answers what the input is as a whole: all its records are valid, with the warnings of all, or
     /// one is the first that is not.
-    #[inline(never)]
     pub fn finish<S: RecordSink>(mut self, sink: &mut S) -> SeqVerdict
         ensures told { (bytes : List ℕ) (before found : List Record) → StandsFor self bytes found → S.told sink.old (before ++ found)
             → HaveToldAll (S.told sink.new) (framing_of self) (limits_of self) bytes before found result }
     {
+        self.end(sink).verdict
+    }
+
+    /// As `finish`, where they lie. What they then stand for is not said.
+    #[inline(never)]
+    pub fn end<S: RecordSink>(&mut self, sink: &mut S) -> Whole
+        ensures told { (bytes : List ℕ) (before found : List Record) → StandsFor self.old bytes found → S.told sink.old (before ++ found)
+            → HaveToldAllIf result.told (S.told sink.new) (framing_of self.old) (limits_of self.old) bytes before found result.verdict }
+    {
         if self.counts_at_end() {
             let next = self.record.end();
             self.tell_open(RecordEnd::Input, next, sink);
-            return self.whole;
+            return Whole {
+                verdict: self.whole,
+                told: true,
+            };
         }
-        self.whole
+        Whole {
+            verdict: self.whole,
+            told: false,
+        }
     }
 
     /// Whether the open record counts where the input ends: a separator of a sequence begins a record, even if no byte follows.

@@ -145,3 +145,9 @@ few_in_time text bytes m n t l =
     let r = rising_features text.value _ _ t.after.after.before in
     let k = few_more 0 m n (features_of text.value) l r in
     omega (arith, k, as_many 0 (complete_in n (features_of text.value)), as_many 0 (complete_in m (features_of text.value)))
+
+pub few_by : (text : Text) (bytes : List ℕ) (n : ℕ) → IsText text bytes → length (findings_by n text) ≤ n
+few_by text bytes n t =
+    let r = rising_features text.value _ _ t.after.after.before in
+    let k = few_later 0 n (features_of text.value) r in
+    omega (arith, k, as_many 0 (complete_in n (features_of text.value)))

@@ -15,7 +15,7 @@ use Rattle.gj_rules.specs.Internal.OpenRecord.{StandsFor as RecordStandsFor}
 use Rattle.gj_rules.specs.Internal.ToldRecords.{Keeps, TellsOne}
 use Rattle.gj_rules.specs.RecordFindings.{IsFinding, AreFindings, AreAllFindings, AreFindingsSoFar, but_last, after, whole_of}
 use Rattle.gj_rules.specs.Records.{Part, Entry, part_at, entry_at, entry_if, counts, entries_of, is_void, is_counted, number_after, at_least_one, number_from, first_number, separator_of, parts_from, parts_of, entries_in}
-use Rattle.gj_rules.specs.RecordsStand.{StandsBy, StandsFor, HaveTold, HaveToldAll}
+use Rattle.gj_rules.specs.RecordsStand.{StandsBy, StandsFor, HaveTold, HaveToldIf, HaveToldAllIf}
 use Rattle.gj_rules.proofs.Sequences.SequenceSteps.{take_further}
 use Rattle.gj_rules.proofs.Parts.CountedParts.{next_number, next_entries}
 use Rattle.gj_rules.proofs.Parts.FoundRecords.{found-append, whole-append}
@@ -69,6 +69,15 @@ none_told told s bytes before found h t =
     let T : List Record → Type 0 = λ rs. told (before ++ rs) in
     have_told told s bytes before found [] (subst P (sym (append-nil found)) h) (subst T (sym (append-nil found)) t)
 
+-- no record, or one
+pub none_if : (told : List Record → Type 0) (s : Records) (bytes : List ℕ) (before found : List Record) → StandsFor s bytes found → told (before ++ found) → HaveToldIf false told s bytes before found
+unfolding none_told have_told
+none_if told s bytes before found h t = record { have = none_told told s bytes before found h t; one_or_none = refl }
+
+pub one_if : (told : List Record → Type 0) (s : Records) (bytes : List ℕ) (before found : List Record) (one : Record) → StandsFor s bytes (found ++ one ∷ []) → told (before ++ (found ++ one ∷ [])) → HaveToldIf true told s bytes before found
+unfolding have_told
+one_if told s bytes before found one h t = record { have = have_told told s bytes before found (one ∷ []) h t; one_or_none = refl }
+
 pub then_told : (first second : List Record → Type 0) (s t : Records) (bytes more : List ℕ) (before found : List Record) → HaveTold first s bytes before found
     → ((all : List Record) → StandsFor s bytes all → first (before ++ all) → HaveTold second t more before all) → HaveTold second t more before found
 then_told first second s t bytes more before found h step =
@@ -76,6 +85,22 @@ then_told first second s t bytes more before found h step =
     let P : List Record → Type 0 = λ rs. StandsFor t more rs in
     let T : List Record → Type 0 = λ rs. second (before ++ rs) in
     have_told second t more before found (h.more ++ k.more) (subst P (append_assoc found h.more k.more) k.stands) (subst T (append_assoc found h.more k.more) k.heard)
+
+-- no record was told before
+pub then_if : (b : Bool) (first second : List Record → Type 0) (s t : Records) (bytes more : List ℕ) (before found : List Record) → HaveToldIf false first s bytes before found
+    → ((all : List Record) → StandsFor s bytes all → first (before ++ all) → HaveToldIf b second t more before all) → HaveToldIf b second t more before found
+unfolding have_told
+then_if b first second s t bytes more before found h step =
+    let k = step (found ++ h.have.more) h.have.stands h.have.heard in
+    let P : List Record → Type 0 = λ rs. StandsFor t more rs in
+    let T : List Record → Type 0 = λ rs. second (before ++ rs) in
+    let both = length-append h.have.more k.have.more in
+    let none = h.one_or_none in
+    let same : length (h.have.more ++ k.have.more) ≡ length k.have.more = omega (arith, both, none) in
+    record {
+      have = have_told second t more before found (h.have.more ++ k.have.more) (subst P (append_assoc found h.have.more k.have.more) k.have.stands) (subst T (append_assoc found h.have.more k.have.more) k.have.heard);
+      one_or_none = same ∙ k.one_or_none;
+    }
 
 -- bytes beyond the limit change nothing
 pub over_more : (s : Records) (bytes more : List ℕ) (found : List Record) → s.is_over ≡ true → StandsFor s bytes found → StandsFor s (bytes ++ more) found
@@ -181,7 +206,7 @@ told_next before after_it ending next s t bytes earlier found h tells was =
 pub over_next : (before after_it : List Record → Type 0) (s t new : Records) (bytes ended : List ℕ) (byte next : ℕ) (earlier found : List Record) (h : IsOpen s bytes found)
     → TellsOne before after_it Limit next s t → next ≡ s.limits.bytes → s.record.end ≡ s.limits.bytes → ended ≡ byte ∷ []
     → new.is_over ≡ true → new.framing ≡ t.framing → new.limits ≡ t.limits → new.record.end ≡ t.record.end → new.whole ≡ t.whole → before (earlier ++ found)
-    → HaveTold after_it new (bytes ++ ended) earlier found
+    → HaveToldIf true after_it new (bytes ++ ended) earlier found
 over_next before after_it s t new bytes ended byte next earlier found h tells to full is over same_framing same_limits same_end same_whole was =
     let (one, are, whole, told) = told_next before after_it Limit next s t bytes earlier found h tells was in
     let part = part_at s.record.start h.given Limit in
@@ -199,8 +224,8 @@ over_next before after_it s t new bytes ended byte next earlier found h tells to
     let a : A s.framing s.limits = subst (λ (es : List Entry). AreFindings s.framing s.limits.depth es (found ++ one ∷ [])) (sym entries) are in
     let E : Allowed → Type 0 = λ l. new.record.end ≡ l.bytes in
     let B : Allowed → Type 0 = λ l. l.bytes < length (bytes ++ byte ∷ []) in
-    let H : List ℕ → Type 0 = λ bs. HaveTold after_it new (bytes ++ bs) earlier found in
-    subst H (sym is) (have_told after_it new (bytes ++ byte ∷ []) earlier found (one ∷ []) (stand_over new (bytes ++ byte ∷ []) (found ++ one ∷ []) over (record {
+    let H : List ℕ → Type 0 = λ bs. HaveToldIf true after_it new (bytes ++ bs) earlier found in
+    subst H (sym is) (one_if after_it new (bytes ++ byte ∷ []) earlier found one (stand_over new (bytes ++ byte ∷ []) (found ++ one ∷ []) over (record {
       beyond = subst B (sym limits) beyond;
       end = subst E (sym limits) (same_end ∙ (tells.end ∙ to));
       are = subst (λ (f : Framing). A f new.limits) (sym framing) (subst (λ (l : Allowed). A s.framing l) (sym limits) a);
@@ -215,37 +240,40 @@ end_entries s bytes found h b counted =
     ∙ next_entries s.framing h.done (part_at s.record.start h.given Input) s.number b h.number (ap (counts s.framing s.number Input) (sym h.void) ∙ counted)
 
 all_told : (told : List Record → Type 0) (s : Records) (bytes : List ℕ) (earlier found : List Record) → AreAllFindings s.framing s.limits bytes found → s.whole ≡ whole_of found
-    → told (earlier ++ found) → HaveToldAll told s.framing s.limits bytes earlier found s.whole
+    → told (earlier ++ found) → HaveToldAllIf false told s.framing s.limits bytes earlier found s.whole
 all_told told s bytes earlier found are whole was =
     let nil = sym (append-nil found) in
     let A : List Record → Type 0 = λ rs. AreAllFindings s.framing s.limits bytes rs in
     let T : List Record → Type 0 = λ rs. told (earlier ++ rs) in
-    record { more = []; findings = subst A nil are; whole = whole ∙ ap whole_of nil; heard = subst T nil was }
+    record { have = record { more = []; findings = subst A nil are; whole = whole ∙ ap whole_of nil; heard = subst T nil was }; one_or_none = refl }
 
 -- the end of the input, where the open part counts
 pub ends_counted : (before after_it : List Record → Type 0) (s t : Records) (bytes : List ℕ) (next : ℕ) (earlier found : List Record) (h : IsOpen s bytes found)
     → TellsOne before after_it Input next s t → counts s.framing s.number Input s.is_void ≡ true → before (earlier ++ found)
-    → HaveToldAll after_it s.framing s.limits bytes earlier found t.whole
+    → HaveToldAllIf true after_it s.framing s.limits bytes earlier found t.whole
 ends_counted before after_it s t bytes next earlier found h tells counted was =
     let (one, are, whole, told) = told_next before after_it Input next s t bytes earlier found h tells was in
     let entries = end_entries s bytes found h true counted in
     record {
-      more = one ∷ [];
-      findings = subst (λ (es : List Entry). AreFindings s.framing s.limits.depth es (found ++ one ∷ [])) (sym entries) are;
-      whole = whole;
-      heard = told;
+      have = record {
+        more = one ∷ [];
+        findings = subst (λ (es : List Entry). AreFindings s.framing s.limits.depth es (found ++ one ∷ [])) (sym entries) are;
+        whole = whole;
+        heard = told;
+      };
+      one_or_none = refl;
     }
 
 -- and where it does not
 pub ends_open : (told : List Record → Type 0) (s : Records) (bytes : List ℕ) (earlier found : List Record) (h : IsOpen s bytes found)
-    → counts s.framing s.number Input s.is_void ≡ false → told (earlier ++ found) → HaveToldAll told s.framing s.limits bytes earlier found s.whole
+    → counts s.framing s.number Input s.is_void ≡ false → told (earlier ++ found) → HaveToldAllIf false told s.framing s.limits bytes earlier found s.whole
 ends_open told s bytes earlier found h counted was =
     let entries = end_entries s bytes found h false counted ∙ append-nil (entries_in s.framing h.done) in
     all_told told s bytes earlier found (subst (λ (es : List Entry). AreFindings s.framing s.limits.depth es found) (sym entries) h.are) h.whole was
 
 -- or a byte beyond the limit has come
 pub ends_over : (told : List Record → Type 0) (s : Records) (bytes : List ℕ) (earlier found : List Record) → IsOver s bytes found → told (earlier ++ found)
-    → HaveToldAll told s.framing s.limits bytes earlier found s.whole
+    → HaveToldAllIf false told s.framing s.limits bytes earlier found s.whole
 ends_over told s bytes earlier found h was = all_told told s bytes earlier found h.are h.whole was
 
 -- ---- pieces
@@ -282,14 +310,22 @@ over_rest told s bytes piece n before found over h =
     (over_more s (bytes ++ take n piece) (drop n piece) (found ++ h.more) over h.stands))
     h.heard
 
+pub over_rest_if : (told : List Record → Type 0) (s : Records) (bytes piece : List ℕ) (n : ℕ) (before found : List Record) → s.is_over ≡ true
+    → HaveToldIf false told s (bytes ++ take n piece) before found → HaveToldIf false told s (bytes ++ piece) before found
+unfolding over_rest have_told
+over_rest_if told s bytes piece n before found over h = record { have = over_rest told s bytes piece n before found over h.have; one_or_none = h.one_or_none }
+
 -- what a step took of the rest of a piece, after what was taken before
-pub further : (told : List Record → Type 0) (s : Records) (bytes piece : List ℕ) (n m : ℕ) (before found : List Record) → n ≤ length piece
-    → HaveTold told s ((bytes ++ take n piece) ++ take m (take (length piece - n) (drop n piece))) before found → HaveTold told s (bytes ++ take (n + m) piece) before found
-further told s bytes piece n m before found l h =
-    let P : List ℕ → Type 0 = λ bs. HaveTold told s bs before found in
+pub further_at : (P : List ℕ → Type 0) (bytes piece : List ℕ) (n m : ℕ) → n ≤ length piece
+    → P ((bytes ++ take n piece) ++ take m (take (length piece - n) (drop n piece))) → P (bytes ++ take (n + m) piece)
+further_at P bytes piece n m l h =
     let rest : take (length piece - n) (drop n piece) ≡ drop n piece = take_all (length piece - n) (drop n piece) (omega (arith, length-drop n piece)) in
     subst P (append_assoc bytes (take n piece) (take m (take (length piece - n) (drop n piece)))
     ∙ ap (λ xs. bytes ++ xs) (ap (λ xs. take n piece ++ take m xs) rest ∙ sym (take_further piece n m))) h
+
+pub further : (told : List Record → Type 0) (s : Records) (bytes piece : List ℕ) (n m : ℕ) (before found : List Record) → n ≤ length piece
+    → HaveTold told s ((bytes ++ take n piece) ++ take m (take (length piece - n) (drop n piece))) before found → HaveTold told s (bytes ++ take (n + m) piece) before found
+further told s bytes piece n m before found l h = further_at (λ bs. HaveTold told s bs before found) bytes piece n m l h
 
 pub kept_on : (a b c : Records) → Keeps a b → Keeps b c → Keeps a c
 kept_on a b c h k = record { limits = k.limits ∙ h.limits; framing = k.framing ∙ h.framing }
@@ -298,19 +334,19 @@ kept_on a b c h k = record { limits = k.limits ∙ h.limits; framing = k.framing
 
 -- nothing is left to tell
 pub finished_none : (told : List Record → Type 0) (s : Records) (bytes : List ℕ) (earlier found : List Record) → (s.is_over ≡ false → counts s.framing s.number Input s.is_void ≡ false)
-    → StandsFor s bytes found → told (earlier ++ found) → HaveToldAll told s.framing s.limits bytes earlier found s.whole
+    → StandsFor s bytes found → told (earlier ++ found) → HaveToldAllIf false told s.framing s.limits bytes earlier found s.whole
 finished_none told s bytes earlier found live h was = by_test s.is_over refl
   where
-    by_test : (b : Bool) → s.is_over ≡ b → HaveToldAll told s.framing s.limits bytes earlier found s.whole
+    by_test : (b : Bool) → s.is_over ≡ b → HaveToldAllIf false told s.framing s.limits bytes earlier found s.whole
     by_test true e = ends_over told s bytes earlier found (over_of s bytes found e h) was
     by_test false e = ends_open told s bytes earlier found (open_of s bytes found e h) (live e) was
 
 -- the open record is told
 pub finished_some : (before after_it : List Record → Type 0) (s t : Records) (bytes : List ℕ) (next : ℕ) (earlier found : List Record) → (s.is_over ≡ true → ⊥) → (s.is_over ≡ false → counts s.framing s.number Input s.is_void ≡ true)
-    → TellsOne before after_it Input next s t → StandsFor s bytes found → before (earlier ++ found) → HaveToldAll after_it s.framing s.limits bytes earlier found t.whole
+    → TellsOne before after_it Input next s t → StandsFor s bytes found → before (earlier ++ found) → HaveToldAllIf true after_it s.framing s.limits bytes earlier found t.whole
 finished_some before after_it s t bytes next earlier found over live tells h was = by_test s.is_over refl
   where
-    by_test : (b : Bool) → s.is_over ≡ b → HaveToldAll after_it s.framing s.limits bytes earlier found t.whole
+    by_test : (b : Bool) → s.is_over ≡ b → HaveToldAllIf true after_it s.framing s.limits bytes earlier found t.whole
     by_test true e = absurd (over e)
     by_test false e = ends_counted before after_it s t bytes next earlier found (open_of s bytes found e h) tells (live e) was
 

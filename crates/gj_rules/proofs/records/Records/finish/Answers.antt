@@ -1,19 +1,5 @@
--- The end of the input ends the open record, where it counts.
-use Rattle.std.proofs.Common.{◌≡◌, true, false, sym, ◌∙◌}
-use Rattle.gj_rules.proofs.Parts.RecordSteps.{finished_none, finished_some}
+-- What was told where they lay.
 use Rattle.gj_rules.proofs.records.Records.finish.Goals as goal
 
-pub returns-then-counts_at_end : goal.returns-then-counts_at_end
-returns-then-counts_at_end g c = record {
-  told = λ bytes before found s t.
-      finished_some (g.S.RecordSink.told c.args.sink.now) (g.S.RecordSink.told c.tell_open.new.sink) c.args.self c.tell_open.new.self bytes _ before found
-      (λ e. (let f : true ≡ false = sym c.if-counts_at_end.true ∙ c.counts_at_end.ensures.over e in cc))
-      (λ e. sym (c.counts_at_end.ensures.live e) ∙ c.if-counts_at_end.true)
-      c.tell_open.ensures s t;
-}
-
 pub returns : goal.returns
-returns g c = record {
-  told = λ bytes before found s t.
-      finished_none (g.S.RecordSink.told c.args.sink.now) c.args.self bytes before found (λ e. sym (c.counts_at_end.ensures.live e) ∙ c.if-counts_at_end.false) s t;
-}
+returns g c = record { told = λ bytes before found s t. (c.end.ensures.told bytes before found s t).have }

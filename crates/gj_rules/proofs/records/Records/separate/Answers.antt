@@ -2,14 +2,14 @@
 use Rattle.std.proofs.Common.{true, ◌+◌, [], ◌∷◌, ◌++◌, refl, ap, ◌∙◌, arith}
 use Rattle.gj_rules.specs.declared.records.framing.RecordEnd.TheVariants.{Separator}
 use Rattle.gj_rules.specs.Records.{separator_of}
-use Rattle.gj_rules.proofs.Parts.RecordSteps.{open_of, stand_open, next_open, passed_open, numbered, none_told, have_told, told_next}
+use Rattle.gj_rules.proofs.Parts.RecordSteps.{open_of, stand_open, next_open, passed_open, numbered, none_if, one_if, told_next}
 use Rattle.gj_rules.proofs.records.Records.separate.Goals as goal
 
 pub returns-then-self-clause-told : goal.returns-then-self-clause-told
 returns-then-self-clause-told g c = λ bytes before found s t.
     let self = c.args.self.now in
     let h = open_of self bytes found c.requires.live s in
-    none_told (g.S.RecordSink.told c.args.sink.now) _ (bytes ++ separator_of self.framing ∷ []) before found
+    none_if (g.S.RecordSink.told c.args.sink.now) _ (bytes ++ separator_of self.framing ∷ []) before found
     (stand_open _ (bytes ++ separator_of self.framing ∷ []) found c.requires.live
     (passed_open self _ bytes found h refl refl c.requires.room c.begin_again.ensures.stands
     (omega (arith, c.begin_again.ensures.start, c.end-next.ensures.value)) (omega (arith, c.begin_again.ensures.end, c.end-next.ensures.value)) c.begin_again.ensures.limits
@@ -23,7 +23,7 @@ returns-clause-told g c = λ bytes before found s t.
     let h = open_of self bytes found c.requires.live s in
     let tells = c.tell_parted.ensures in
     let (one, are, whole, told) = told_next (g.S.RecordSink.told c.args.sink.now) (g.S.RecordSink.told c.tell_parted.new.sink) Separator _ self c.tell_parted.new.self bytes before found h tells t in
-    have_told (g.S.RecordSink.told c.tell_parted.new.sink) _ (bytes ++ separator_of self.framing ∷ []) before found (one ∷ [])
+    one_if (g.S.RecordSink.told c.tell_parted.new.sink) _ (bytes ++ separator_of self.framing ∷ []) before found one
     (stand_open _ (bytes ++ separator_of self.framing ∷ []) (found ++ one ∷ []) (tells.rest.is_over ∙ c.requires.live)
     (next_open self _ bytes found (found ++ one ∷ []) h true tells.rest.framing tells.rest.limits c.requires.room tells.stands
     (omega (arith, tells.start, c.end-next.ensures.value)) (omega (arith, tells.end, c.end-next.ensures.value)) tells.depth

@@ -1,7 +1,7 @@
 -- One byte ends a record or is beyond the limit, or a run goes to the open record.
 use Rattle.std.proofs.Common.{◌++◌, take, get_or, refl, sym, ◌∙◌}
 use Rattle.gj_rules.proofs.Sequences.DecidingBytes.{take_one}
-use Rattle.gj_rules.proofs.Parts.RecordSteps.{open_of, over_next, none_told}
+use Rattle.gj_rules.proofs.Parts.RecordSteps.{open_of, over_next, none_if}
 use Rattle.gj_rules.proofs.records.Records.take.Goals as goal
 
 pub returns-then-offset-bytes-clause-told : goal.returns-then-offset-bytes-clause-told
@@ -15,4 +15,4 @@ returns-then-offset-bytes-clause-told g c = λ bytes before found s t.
 
 pub returns-clause-told : goal.returns-clause-told
 returns-clause-told g c = λ bytes before found s t.
-    none_told (g.S.RecordSink.told c.args.sink.now) c.take_run.new.self (bytes ++ take c.run_before-run.result c.args.rest.now) before found (c.take_run.ensures.stands bytes found s) t
+    none_if (g.S.RecordSink.told c.args.sink.now) c.take_run.new.self (bytes ++ take c.run_before-run.result c.args.rest.now) before found (c.take_run.ensures.stands bytes found s) t
