@@ -1,15 +1,13 @@
 -- A text without its features has the members of the text, but for the elements of `features`.
-use Rattle.std.proofs.Common.{◌≡◌, ℕ, Bool, true, false, List, [], ◌∷◌, ◌++◌, Option, Some, None, refl, sym, ap, ◌∙◌}
+use Rattle.std.proofs.Common.{◌≡◌, ℕ, Bool, true, false, List, ◌∷◌, ◌++◌, refl, ap, ◌∙◌}
 use Rattle.std.specs.List.{flat_map}
 use Rattle.gj_json.specs.declared.names.Known.{Known}
 use Rattle.gj_json.specs.declared.names.Known.TheVariants.{TypeName, Features, Bbox}
 use Rattle.gj_json.specs.Names.{known_of}
 use Rattle.gj_json.specs.Tree as Tree
 use Rattle.gj_json.specs.Tree.{Tree, constant, number, string, array, object, end_of_array, element, Members, end_of_object, member}
-use Rattle.gj_coords.specs.declared.fault.Fault.{Fault}
 use Rattle.gj_coords.specs.declared.fault.Rule.TheVariants.{G8}
 use Rattle.gj_coords.specs.Items.{items, elements_of}
-use Rattle.gj_coords.specs.Warnings.{Warning}
 use Rattle.gj_rules.specs.declared.role.Role.{Role}
 use Rattle.gj_rules.specs.Members.{same, first_type, repeated}
 use Rattle.gj_rules.specs.Faults.{faults, listed, all_faults, first, due}

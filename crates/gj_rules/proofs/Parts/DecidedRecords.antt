@@ -1,5 +1,5 @@
 -- An input that a record has decided: each that begins so is the same as a whole.
-use Rattle.std.proofs.Common.{◌≡◌, ℕ, ◌-◌, ◌+◌, ◌≤◌, ◌<◌, Bool, true, false, if◌then◌else◌, List, [], ◌∷◌, ◌++◌, length, take, refl, ap, sym, ◌∙◌, subst, arith}
+use Rattle.std.proofs.Common.{◌≡◌, ℕ, ◌-◌, ◌+◌, ◌≤◌, Bool, true, false, if◌then◌else◌, List, [], ◌∷◌, ◌++◌, length, take, refl, ap, sym, ◌∙◌, subst, arith}
 use Rattle.std.proofs.Math.Seq.{take-append-add}
 use Rattle.gj_json.specs.Limits.{Allowed}
 use Rattle.gj_rules.specs.declared.records.Records.{Records}
@@ -16,7 +16,6 @@ use Rattle.gj_rules.specs.SequenceStands.{is_valid_sequence}
 use Rattle.gj_rules.specs.Verdict.{IsVerdict}
 use Rattle.gj_rules.proofs.Parts.CountedParts.{entries-append}
 use Rattle.gj_rules.proofs.Parts.OneFinding.{some_findings}
-use Rattle.gj_rules.proofs.Parts.PartCuts.{take_within}
 use Rattle.gj_rules.proofs.Parts.RecordSteps.{open_of, over_of, over_more}
 
 -- ---- what is found, with more behind it
