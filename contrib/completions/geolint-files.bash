@@ -18,7 +18,7 @@ _geolint_files() {
         ;;
     esac
     case $word in
-    -*) mapfile -t COMPREPLY < <(compgen -W '--strict --allow --quick --seq --max-bytes --format --summary --files-from --null --ending --allow-empty --help --version' -- "$word") ;;
+    -*) mapfile -t COMPREPLY < <(compgen -W '--strict --allow --quick --seq --ndjson --max-bytes --format --summary --files-from --null --ending --allow-empty --help --version' -- "$word") ;;
     *)
         compopt -o filenames 2>/dev/null
         mapfile -t COMPREPLY < <(compgen -f -- "$word")

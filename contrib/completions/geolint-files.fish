@@ -3,6 +3,7 @@ complete -c geolint-files -l strict -d 'A valid file with a warning does not pas
 complete -c geolint-files -l allow -x -a 'W1 W2 W3 W4 W5 W6 W7 W8 W9' -d 'Kinds of warnings that do not fail a file'
 complete -c geolint-files -l quick -d 'Say only whether each file is valid'
 complete -c geolint-files -l seq -d 'Check each file as a text sequence'
+complete -c geolint-files -l ndjson -d 'Check each line of each file as a text'
 complete -c geolint-files -l max-bytes -x -d 'Refuse longer files'
 complete -c geolint-files -l format -x -a 'text lines json github sarif' -d 'The form of the report'
 complete -c geolint-files -l summary -d 'Count the files and the rules at the end'

@@ -1,11 +1,13 @@
 -- What the first reading of a file finds, of which `Is` says what is right under given limits.
-use Rattle.std.specs.Prelude.{◌≡◌, ◌+◌, ℕ, Bool, true, false, List, [], ◌++◌, Option, Some, None, Result, MatchResult, ⊤}
+use Rattle.std.specs.Prelude.{◌≡◌, ◌+◌, ℕ, List, [], ◌++◌, Option, Some, None, Result, MatchResult, ⊤}
 use Rattle.std.specs.Io.Iter.{u64_saturate}
 use Rattle.gj_json.specs.Limits.{Allowed}
 use Rattle.gj_coords.specs.declared.warnings.Warnings.{Warnings}
+use Rattle.gj_rules.specs.declared.records.framing.Framing.{Framing}
 use Rattle.gj_rules.specs.declared.sequence.verdict.SeqVerdict.{SeqVerdict}
 use Rattle.gj_rules.specs.declared.verdict.Verdict.{Verdict}
 use Rattle.gj_rules.specs.declared.verdict.Verdict.TheVariants.{Valid}
+use Rattle.gj_rules.specs.RecordFindings.{IsWholeVerdict}
 use Rattle.gj_rules.specs.Sequence.{IsSequenceVerdict}
 use Rattle.gj_rules.specs.Verdict.{IsVerdict, NeverValid}
 use Rattle.geolint_files.specs.declared.judge.Finding.{Finding}
@@ -33,6 +35,10 @@ JudgesRead = JudgesBy IsVerdict
 -- a text sequence
 abbrev pub JudgesSequence : Allowed → Option (List ℕ) → Option (List ℕ) → SeqVerdict → Type 0
 JudgesSequence = JudgesBy IsSequenceVerdict
+
+-- newline-delimited texts
+abbrev pub JudgesLines : Allowed → Option (List ℕ) → Option (List ℕ) → SeqVerdict → Type 0
+JudgesLines = JudgesBy (IsWholeVerdict Framing.Lines)
 
 -- ---- where only yes or no is asked
 
@@ -67,12 +73,14 @@ Finds Reading.Text limits old new (Finding.Text verdict) = JudgesRead limits old
 Finds Reading.Quick limits old new (Finding.Text (Valid warnings)) = JudgesQuickly limits old new (Some warnings)
 Finds Reading.Quick limits old new Finding.NotValid = JudgesQuickly limits old new None
 Finds Reading.Sequence limits old new (Finding.Sequence verdict) = JudgesSequence limits old new verdict
+Finds Reading.Lines limits old new (Finding.Sequence verdict) = JudgesLines limits old new verdict
 Finds reading limits old new finding = ⊥
 
--- what is read is a text sequence
-abbrev pub is_of_records : Reading → Bool
-is_of_records Reading.Sequence = true
-is_of_records reading = false
+-- how the texts of what is read are set apart, where it is of records
+abbrev pub framing_in : Reading → Option Framing
+framing_in Reading.Sequence = Some Framing.Sequence
+framing_in Reading.Lines = Some Framing.Lines
+framing_in reading = None
 
 -- ---- reads that fail
 

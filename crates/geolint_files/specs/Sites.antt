@@ -1,5 +1,5 @@
 -- The lines, columns and paths of places that a second reading finds.
-use Rattle.std.specs.Prelude.{◌≡◌, ◌<◌, ◌≤◌, ◌+◌, ◌-◌, ◌^◌, ℕ, List, [], ◌∷◌, ◌++◌, length, take, drop, map, get_or, Bool, true, false, ◌&&◌, nat_eq, if◌then◌else◌, Option, Some, None, IsSome, ⊤}
+use Rattle.std.specs.Prelude.{◌≡◌, ◌<◌, ◌≤◌, ◌+◌, ◌-◌, ◌^◌, ℕ, List, [], ◌∷◌, ◌++◌, length, take, drop, map, get_or, Bool, true, false, ◌&&◌, ◌||◌, nat_eq, if◌then◌else◌, Option, Some, None, IsSome, ⊤}
 use Rattle.std.specs.List.{Contains, list_any}
 use Rattle.std.specs.Io.Iter.{u64_saturate}
 use Rattle.gj_json.specs.Limits.{Allowed}
@@ -10,7 +10,10 @@ use Rattle.gj_json.specs.Tree.{Text}
 use Rattle.gj_json.specs.declared.path.Path.{Path}
 use Rattle.gj_places.specs.Keeping.{Keeps}
 use Rattle.gj_places.specs.Lines.{line_of, column_of}
-use Rattle.gj_rules.specs.Sequence.{has_separator, SequenceRecord, records_of}
+use Rattle.gj_rules.specs.Records.{Part, parts_of, separator_of}
+use Rattle.gj_rules.specs.Sequence.{SequenceRecord, records_of}
+use Rattle.gj_rules.specs.declared.records.framing.Framing.{Framing}
+use Rattle.gj_rules.specs.declared.records.framing.Framing.TheVariants.{Sequence, Lines}
 use Rattle.geolint_files.specs.declared.sites.Site.{Site}
 use Rattle.geolint_files.specs.declared.sites.Sites.{Sites}
 use Rattle.geolint_files.specs.declared.sites.Spot.{Spot}
@@ -32,78 +35,94 @@ RightBy (Some text) sites = AreRight text sites
 
 -- ---- paths
 
--- the bytes behind the last separator, or all where there is none
-abbrev pub last_record : List ℕ → List ℕ
-last_record [] = []
-last_record (byte ∷ more) = if has_separator (byte ∷ more) then last_record more else byte ∷ more
+abbrev pub is_separator : Framing → ℕ → Bool
+is_separator framing byte = nat_eq byte (separator_of framing)
 
--- of the text that the first bytes of a file end in, the bytes among them: in a sequence a text is a record
-abbrev pub text_of : Bool → List ℕ → List ℕ
-text_of true front = last_record front
-text_of false front = front
+abbrev pub has_separator : Framing → List ℕ → Bool
+has_separator framing [] = false
+has_separator framing (byte ∷ more) = is_separator framing byte || has_separator framing more
+
+-- the bytes after the last separator, or all where there is none
+abbrev pub last_record : Framing → List ℕ → List ℕ
+last_record framing [] = []
+last_record framing (byte ∷ more) = if has_separator framing (byte ∷ more) then last_record framing more else byte ∷ more
+
+-- of the text that the first bytes of a file end in, the bytes among them: a text may be a record
+abbrev pub text_of : Option Framing → List ℕ → List ℕ
+text_of (Some framing) front = last_record framing front
+text_of None front = front
 
 -- the path is the one that these bytes lead to in each text that begins with them
 abbrev pub IsPathOf : List ℕ → Path → Type 0
 IsPathOf front path = (rest : List ℕ) (text : Text) → IsText text (front ++ rest) → steps_of path ≡ path_at (length front) text
 
 -- a path that is told for a place is that of the bytes up to the one there
-abbrev pub LeadsTo : Bool → List ℕ → ℕ → Option Path → Type 0
-LeadsTo is_sequence bytes place None = ⊤
-LeadsTo is_sequence bytes place (Some path) = (place < length bytes) × IsPathOf (text_of is_sequence (take (place + 1) bytes)) path
+abbrev pub LeadsTo : Option Framing → List ℕ → ℕ → Option Path → Type 0
+LeadsTo framing bytes place None = ⊤
+LeadsTo framing bytes place (Some path) = (place < length bytes) × IsPathOf (text_of framing (take (place + 1) bytes)) path
 
-abbrev pub ArePaths : Bool → List ℕ → List Site → Type 0
-ArePaths is_sequence bytes sites =
-    (i : ℕ) (other : Site) → i < length sites → (get_or sites i other).is_found ≡ true → LeadsTo is_sequence bytes (get_or sites i other).place (get_or sites i other).path
+abbrev pub ArePaths : Option Framing → List ℕ → List Site → Type 0
+ArePaths framing bytes sites =
+    (i : ℕ) (other : Site) → i < length sites → (get_or sites i other).is_found ≡ true → LeadsTo framing bytes (get_or sites i other).place (get_or sites i other).path
 
 -- the same, where the reader told its bytes
-abbrev pub PathsBy : Bool → Option (List ℕ) → List Site → Type 0
-PathsBy is_sequence None sites = ⊤
-PathsBy is_sequence (Some bytes) sites = ArePaths is_sequence bytes sites
+abbrev pub PathsBy : Option Framing → Option (List ℕ) → List Site → Type 0
+PathsBy framing None sites = ⊤
+PathsBy framing (Some bytes) sites = ArePaths framing bytes sites
 
 -- ---- which paths are told
 
 -- what a text of the file is read under: the limit on the bytes is not that of a record
-abbrev pub text_limits : Bool → Allowed → Allowed
-text_limits true limits = record { depth = limits.depth; bytes = 2 ^ 60 }
-text_limits false limits = limits
+abbrev pub text_limits : Option Framing → Allowed → Allowed
+text_limits (Some framing) limits = record { depth = limits.depth; bytes = 2 ^ 60 }
+text_limits None limits = limits
 
 -- these bytes are no more than are allowed, and some more make them a text within the depth
 abbrev pub CanGoOn : Allowed → List ℕ → Type 0
 CanGoOn limits bytes = IsViableWithin limits.depth bytes × (length bytes ≤ limits.bytes)
 
--- the text that the first bytes of a file end in can go on; in a sequence, a separator has begun it
-abbrev pub IsUnderWay : Allowed → Bool → List ℕ → Type 0
-IsUnderWay limits is_sequence front = (is_sequence ≡ true → has_separator front ≡ true) × CanGoOn (text_limits is_sequence limits) (text_of is_sequence front)
+-- a text has begun in the first bytes of a file: in a sequence by a separator
+abbrev pub has_begun : Option Framing → List ℕ → Bool
+has_begun (Some Sequence) front = has_separator Sequence front
+has_begun (Some Lines) front = true
+has_begun None front = true
+
+-- the text that the first bytes of a file end in has begun, and can go on
+abbrev pub IsUnderWay : Allowed → Option Framing → List ℕ → Type 0
+IsUnderWay limits framing front = (has_begun framing front ≡ true) × CanGoOn (text_limits framing limits) (text_of framing front)
 
 -- where the text of the bytes up to a place can go on, the path is told
-abbrev pub IsTold : Allowed → Bool → List ℕ → ℕ → Option Path → Type 0
-IsTold limits is_sequence bytes place path = place < length bytes → IsUnderWay limits is_sequence (take (place + 1) bytes) → IsSome path
+abbrev pub IsTold : Allowed → Option Framing → List ℕ → ℕ → Option Path → Type 0
+IsTold limits framing bytes place path = place < length bytes → IsUnderWay limits framing (take (place + 1) bytes) → IsSome path
 
 -- that of each place that was found
-abbrev pub AreTold : Allowed → Bool → List ℕ → List Site → Type 0
-AreTold limits is_sequence bytes sites =
-    (i : ℕ) (other : Site) → i < length sites → (get_or sites i other).is_found ≡ true → IsTold limits is_sequence bytes (get_or sites i other).place (get_or sites i other).path
+abbrev pub AreTold : Allowed → Option Framing → List ℕ → List Site → Type 0
+AreTold limits framing bytes sites =
+    (i : ℕ) (other : Site) → i < length sites → (get_or sites i other).is_found ≡ true → IsTold limits framing bytes (get_or sites i other).place (get_or sites i other).path
 
 -- the same, where the reader told its bytes
-abbrev pub ToldBy : Allowed → Bool → Option (List ℕ) → List Site → Type 0
-ToldBy limits is_sequence None sites = ⊤
-ToldBy limits is_sequence (Some bytes) sites = AreTold limits is_sequence bytes sites
+abbrev pub ToldBy : Allowed → Option Framing → Option (List ℕ) → List Site → Type 0
+ToldBy limits framing None sites = ⊤
+ToldBy limits framing (Some bytes) sites = AreTold limits framing bytes sites
 
--- the place of a byte of a text: of the file, or in a sequence of one of its records
-abbrev pub IsInText : Allowed → Bool → List ℕ → ℕ → Type 0
-IsInText limits true bytes place =
+-- the place of a byte of a text: of the file, or of one of its records
+abbrev pub IsInText : Allowed → Option Framing → List ℕ → ℕ → Type 0
+IsInText limits (Some Sequence) bytes place =
     (r : SequenceRecord) × (text : Text) × Contains (records_of limits bytes) r × IsTextWithin limits.depth text r.bytes × (r.start ≤ place) × (place < r.start + length r.bytes)
-IsInText limits false bytes place = (text : Text) × IsAdmitted limits text bytes × (place < length bytes)
+IsInText limits (Some Lines) bytes place =
+    (line : Part) × (text : Text) × Contains (parts_of Lines limits bytes) line × IsTextWithin limits.depth text line.bytes × (line.start ≤ place)
+    × (place < line.start + length line.bytes)
+IsInText limits None bytes place = (text : Text) × IsAdmitted limits text bytes × (place < length bytes)
 
 -- each place of a text that was found is told
-abbrev pub AreToldInTexts : Allowed → Bool → List ℕ → List Site → Type 0
-AreToldInTexts limits is_sequence bytes sites =
-    (i : ℕ) (other : Site) → i < length sites → (get_or sites i other).is_found ≡ true → IsInText limits is_sequence bytes (get_or sites i other).place → IsSome (get_or sites i other).path
+abbrev pub AreToldInTexts : Allowed → Option Framing → List ℕ → List Site → Type 0
+AreToldInTexts limits framing bytes sites =
+    (i : ℕ) (other : Site) → i < length sites → (get_or sites i other).is_found ≡ true → IsInText limits framing bytes (get_or sites i other).place → IsSome (get_or sites i other).path
 
 -- the same, where the reader told its bytes
-abbrev pub ToldInTextsBy : Allowed → Bool → Option (List ℕ) → List Site → Type 0
-ToldInTextsBy limits is_sequence None sites = ⊤
-ToldInTextsBy limits is_sequence (Some bytes) sites = AreToldInTexts limits is_sequence bytes sites
+abbrev pub ToldInTextsBy : Allowed → Option Framing → Option (List ℕ) → List Site → Type 0
+ToldInTextsBy limits framing None sites = ⊤
+ToldInTextsBy limits framing (Some bytes) sites = AreToldInTexts limits framing bytes sites
 
 -- ---- which places are found
 
@@ -145,10 +164,10 @@ ExcerptBy (Some text) sites = IsExcerpt text sites
 -- ---- all of that
 
 -- what a second reading finds of places, where the reader told its bytes
-pub record AreSitesIn (limits : Allowed) (is_sequence : Bool) (text : Option (List ℕ)) (sites : Sites) : Type 0 where
+pub record AreSitesIn (limits : Allowed) (framing : Option Framing) (text : Option (List ℕ)) (sites : Sites) : Type 0 where
   pub right : RightBy text sites.sites
-  pub paths : PathsBy is_sequence text sites.sites
-  pub told : ToldBy limits is_sequence text sites.sites
-  pub texts : ToldInTextsBy limits is_sequence text sites.sites
+  pub paths : PathsBy framing text sites.sites
+  pub told : ToldBy limits framing text sites.sites
+  pub texts : ToldInTextsBy limits framing text sites.sites
   pub found : FoundBy text sites
   pub excerpt : ExcerptBy text sites

@@ -1,22 +1,34 @@
 -- What is told of a file that was read: what its bytes were found to be, and where its places stand.
-use Rattle.std.specs.Prelude.{◌≡◌, ◌<◌, ◌+◌, ◌-◌, ◌^◌, ◌||◌, ◌⊎◌, ℕ, Bool, true, false, List, Option, None, IsSomeAnd, if◌then◌else◌}
+use Rattle.std.specs.Prelude.{◌≡◌, ◌<◌, ◌+◌, ◌-◌, ◌^◌, ◌⊎◌, ℕ, Bool, true, false, List, Option, Some, None, IsSomeAnd}
 use Rattle.std.specs.Io.Iter.{u64_saturate}
 use Rattle.std.specs.List.{Contains}
 use Rattle.gj_json.specs.Limits.{Allowed}
+use Rattle.gj_rules.specs.declared.records.framing.Framing.{Framing}
 use Rattle.geolint_files.specs.declared.judge.Finding.{Finding}
 use Rattle.geolint_files.specs.declared.judge.Reading.{Reading}
 use Rattle.geolint_files.specs.declared.options.Options.{Options}
 use Rattle.geolint_files.specs.declared.report.Report.{Report}
 use Rattle.geolint_files.specs.declared.sites.Sites.{Sites}
-use Rattle.geolint_files.specs.Judged.{Finds, is_of_records}
+use Rattle.geolint_files.specs.Judged.{Finds, framing_in}
 use Rattle.geolint_files.specs.Report.{has_places, IsToldPlace}
 use Rattle.geolint_files.specs.Run.{ToldFile, judged, not_read}
 use Rattle.geolint_files.specs.Sites.{AreSitesIn, NoneFound, sought}
-use Rattle.geolint_files.specs.Walk.{is_sequence}
+use Rattle.geolint_files.specs.Walk.{framing_of}
 
 -- how a file of this name is read
+abbrev pub reading_by : Option Framing → Bool → Reading
+reading_by (Some Framing.Sequence) quick = Reading.Sequence
+reading_by (Some Framing.Lines) quick = Reading.Lines
+reading_by None true = Reading.Quick
+reading_by None false = Reading.Text
+
+-- how its texts are set apart: as the words say, or as the name does
+abbrev pub framing_by : Option Framing → List ℕ → Option Framing
+framing_by (Some framing) name = Some framing
+framing_by None name = framing_of name
+
 abbrev pub reading_of : Options → List ℕ → Reading
-reading_of options name = if options.sequences || is_sequence name then Reading.Sequence else (if options.quick then Reading.Quick else Reading.Text)
+reading_of options name = reading_by (framing_by options.framing name) options.quick
 
 -- the places that are sought are those that are told, as far as a u64 goes
 pub record AreSoughtFor (finding : Finding) (sites : Sites) : Type 0 where
@@ -27,7 +39,7 @@ pub record AreSoughtFor (finding : Finding) (sites : Sites) : Type 0 where
 -- and after. Where one failed, or the file is no more as it was, none is found.
 abbrev pub AreSought : Finding → Reading → Allowed → Option (List ℕ) → (failed now_failed : ℕ) → Sites → Type 0
 AreSought finding reading limits text failed now_failed sites =
-    ((now_failed ≡ failed) × AreSoughtFor finding sites × AreSitesIn limits (is_of_records reading) text sites)
+    ((now_failed ≡ failed) × AreSoughtFor finding sites × AreSitesIn limits (framing_in reading) text sites)
     ⊎ ((now_failed ≡ u64_saturate (failed + 1)) × NoneFound sites.sites)
 
 -- the source is read again exactly where a place is told

@@ -1,11 +1,12 @@
--- Which files of a folder are judged, and which are text sequences, by their names; what a call names, and which names come next.
-use Rattle.std.specs.Prelude.{ℕ, ◌-◌, ◌&&◌, ◌||◌, Bool, true, false, List, [], ◌∷◌, ◌++◌, map, Option, Some, None, Vec, length, drop, codes, nat_eq, if◌then◌else◌}
+-- Which files of a folder are judged, and how their texts are set apart, by their names; what a call names, and which names come next.
+use Rattle.std.specs.Prelude.{ℕ, ◌-◌, ◌&&◌, ◌||◌, Bool, true, false, List, [], ◌∷◌, ◌++◌, map, Vec, length, drop, codes, nat_eq, if◌then◌else◌, Option, Some, None, is_some}
 use Rattle.std.specs.List.{list_any, ends_with}
 use Rattle.std.specs.Cmp.Lexicographic.{pointwise}
 use Rattle.std.specs.Ordering.{nat_cmp, ordering_then}
 use Rattle.std.specs.declared.cmp.Ordering.{Ordering}
 use Rattle.std.specs.Str.{str_eq_ignore_ascii_case}
 use Rattle.std.specs.declared.alloc.Global.{Global}
+use Rattle.gj_rules.specs.declared.records.framing.Framing.{Framing}
 use Rattle.geolint_files.specs.declared.names.Listed.{Listed}
 use Rattle.geolint_files.specs.declared.names.NameEnd.{NameEnd}
 use Rattle.geolint_files.specs.declared.walk.Pending.{Pending}
@@ -14,15 +15,19 @@ use Rattle.geolint_files.specs.declared.walk.Pending.{Pending}
 abbrev pub ends_in : List ℕ → List ℕ → Bool
 ends_in name ending = str_eq_ignore_ascii_case (drop (length name - length ending) name) ending
 
-abbrev pub is_sequence : List ℕ → Bool
-is_sequence name = ends_in name (codes ".geojsons")
+-- how the texts of a file of this name are set apart; others are one text
+abbrev pub framing_of : List ℕ → Option Framing
+framing_of name =
+    if ends_in name (codes ".geojsons")
+    then Some Framing.Sequence
+    else (if ends_in name (codes ".ndjson") || ends_in name (codes ".geojsonl") then Some Framing.Lines else None)
 
 abbrev pub ends_in_one : List ℕ → List (Vec ℕ Global) → Bool
 ends_in_one name endings = list_any (λ (ending : Vec ℕ Global). ends_in name ending.items) endings
 
 -- these are the endings beside the usual ones
 abbrev pub is_taken : List ℕ → List (Vec ℕ Global) → Bool
-is_taken name endings = ends_in name (codes ".geojson") || (is_sequence name || ends_in_one name endings)
+is_taken name endings = ends_in name (codes ".geojson") || (is_some (framing_of name) || ends_in_one name endings)
 
 -- ---- names that are still to be looked at
 

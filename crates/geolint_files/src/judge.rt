@@ -1,13 +1,15 @@
 //! The first reading: what a file is.
 ghost use Rattle.std.specs.Prelude.{◌≡◌, IfOk};
-ghost use Rattle.geolint_files.specs.Judged.{CountsFailure, JudgesRead, JudgesQuickly, JudgesSequence, Finds, valid_in};
+ghost use Rattle.geolint_files.specs.Judged.{CountsFailure, JudgesRead, JudgesQuickly, JudgesSequence, JudgesLines, Finds, valid_in};
 
 use crate::progress::Meter;
 use crate::source::Source;
 use gj_coords::Warnings;
 use gj_json::Limits;
+use gj_rules::record_laws::one_finding;
 use gj_rules::{
-    Linter, Progress, SeqProgress, SeqVerdict, Sequence, Verdict, one_sequence_verdict, one_verdict,
+    Framing, Linter, Progress, Record, RecordSink, Records, SeqProgress, SeqVerdict, Sequence,
+    Verdict, one_sequence_verdict, one_verdict,
 };
 use std::io;
 
@@ -18,6 +20,7 @@ pub const PIECE: usize = 16384;
 #[derive(Clone, Copy)]
 pub enum Finding {
     Text(Verdict),
+    /// Of a text sequence, and of newline-delimited texts.
     Sequence(SeqVerdict),
     /// Not valid, where nothing more was asked.
     NotValid,
@@ -32,27 +35,30 @@ pub enum Reading {
     Quick,
     /// As a text sequence.
     Sequence,
+    /// As newline-delimited texts.
+    Lines,
 }
 
 impl Reading {
     ghost use Rattle.std.specs.Prelude.{◌≡◌};
-    ghost use Rattle.geolint_files.specs.Judged.{is_of_records};
+    ghost use Rattle.geolint_files.specs.Judged.{framing_in};
 
-    /// Whether what is read is a text sequence.
-    pub fn is_of_records(self) -> bool
-        ensures { result ≡ is_of_records self }
+    /// How the texts of what is read are set apart, where it is of records.
+    pub fn framing(self) -> Option<Framing>
+        ensures { result ≡ framing_in self }
     {
         match self {
-            Reading::Sequence => true,
-            Reading::Text | Reading::Quick => false,
+            Reading::Sequence => Some(Framing::Sequence),
+            Reading::Lines => Some(Framing::Lines),
+            Reading::Text | Reading::Quick => None,
         }
     }
 }
 
 /// What the bytes of a reader are.
 ///
-/// It is the linter's verdict of all of them, or that of a sequence; where only yes or no is asked, the warnings of a valid
-/// text, or that it is not valid. An error is answered where a read failed. The bytes are counted as they come. The linter is
+/// It is the linter's verdict of all of them, or that of a sequence or of lines; where only yes or no is asked, the warnings of
+/// a valid text, or that it is not valid. An error is answered where a read failed. The bytes are counted as they come. The linter is
 /// begun anew, whatever it was fed before.
 pub fn judge<S: Source>(
     reader: &mut S,
@@ -76,6 +82,10 @@ pub fn judge<S: Source>(
             Err(error) => Err(error),
         },
         Reading::Sequence => match judge_sequence(reader, limits, meter) {
+            Ok(verdict) => Ok(Finding::Sequence(verdict)),
+            Err(error) => Err(error),
+        },
+        Reading::Lines => match judge_lines(reader, limits, meter) {
             Ok(verdict) => Ok(Finding::Sequence(verdict)),
             Err(error) => Err(error),
         },
@@ -184,6 +194,47 @@ fn judge_sequence<S: Source>(
                 match sequence.feed(&piece[..count]) {
                     SeqProgress::Open => {}
                     SeqProgress::Decided => return Ok(sequence.finish()),
+                }
+            }
+        }
+    }
+}
+
+/// What each line is goes to no one: the verdict of all is asked.
+#[derive(Drop)]
+struct Unheard;
+
+impl RecordSink for Unheard {
+    ghost told = { λ self records. Unit {0} };
+
+    fn tell_record(&mut self, _found: &Record) {}
+}
+
+/// The verdict of newline-delimited texts. No read follows the line that decides it.
+fn judge_lines<S: Source>(
+    reader: &mut S,
+    limits: Limits,
+    meter: &mut Meter,
+) -> io::Result<SeqVerdict>
+    ensures verdict { IfOk result (λ verdict. JudgesLines limits (S.remaining reader.old) (S.remaining reader.new) verdict) }
+    ensures text { S.text reader.new ≡ S.text reader.old }
+    ensures failed { CountsFailure (S.failed_reads reader.old) (S.failed_reads reader.new) result }
+{
+    let _most = limits.bytes();
+    one_finding();
+    let mut lines = Records::new(Framing::Lines, limits);
+    let mut piece = [0; PIECE];
+    let mut offset = 0u64;
+    loop {
+        match reader.read_piece(&mut piece) {
+            Err(error) => return Err(error),
+            Ok(0) => return Ok(lines.finish(&mut Unheard)),
+            Ok(count) => {
+                offset += count as u64;
+                meter.add_bytes(count);
+                lines.feed(&piece[..count], &mut Unheard);
+                if lines.is_decided() {
+                    return Ok(lines.finish(&mut Unheard));
                 }
             }
         }

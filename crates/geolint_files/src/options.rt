@@ -4,6 +4,7 @@ use crate::judge::Finding;
 use crate::texts::has;
 use gj_coords::{KINDS, Kind, Warnings};
 use gj_json::Limits;
+use gj_rules::Framing;
 
 /// The form of the report.
 #[derive(Clone, Copy, Debug, PartialEq, Eq)]
@@ -51,8 +52,8 @@ pub struct Options {
     pub allowed: Kinds,
     /// Only whether each file is valid is asked.
     pub quick: bool,
-    /// Each file is a text sequence, whatever its name is.
-    pub sequences: bool,
+    /// How the texts of each file are set apart, whatever its name is.
+    pub framing: Option<Framing>,
     pub format: Format,
     pub summary: bool,
 }

@@ -24,7 +24,8 @@ pub struct Told {
     pub place: u64,
 }
 
-ghost use Rattle.std.specs.Prelude.{◌≡◌, ◌<◌, ◌≤◌, ◌-◌, ◌^◌, ◌++◌, ◌∷◌, [], ℕ, Bool, List, length, get_or};
+ghost use Rattle.std.specs.Prelude.{◌≡◌, ◌<◌, ◌≤◌, ◌-◌, ◌^◌, ◌++◌, ◌∷◌, [], ℕ, List, Option, length, get_or};
+ghost use Rattle.gj_rules.specs.declared.records.framing.Framing.{Framing};
 ghost use Rattle.std.specs.List.{Contains, filter};
 ghost use Rattle.std.specs.List.Sorted.{IsNonDecreasing};
 ghost use Rattle.gj_coords.specs.Warnings.{kinds};
@@ -35,7 +36,8 @@ ghost use Rattle.geolint_files.specs.Report.{warning_of, IsFirstPlace};
 ghost use Rattle.geolint_files.specs.Sites.{AreRight, ArePaths, NoneFound, IsUnread, sought};
 
 impl Finding {
-    ghost use Rattle.std.specs.Prelude.{◌≡◌, ◌<◌, ◌-◌, ◌^◌, ℕ, Bool, List, None};
+    ghost use Rattle.std.specs.Prelude.{◌≡◌, ◌<◌, ◌-◌, ◌^◌, ℕ, List, Option, None};
+    ghost use Rattle.gj_rules.specs.declared.records.framing.Framing.{Framing};
     ghost use Rattle.std.specs.List.{Contains};
     ghost use Rattle.std.specs.List.Sorted.{IsNonDecreasing};
     ghost use Rattle.geolint_files.specs.Finding.{fault_of, warnings_of, record_of, records_of, word_of};
@@ -116,7 +118,7 @@ impl Finding {
     /// The places that are to be sought, in their order.
     pub fn places(&self) -> Sites
         ensures right { (text : List ℕ) → AreRight text result.sites }
-        ensures paths { (is_sequence : Bool) (text : List ℕ) → ArePaths is_sequence text result.sites }
+        ensures paths { (framing : Option Framing) (text : List ℕ) → ArePaths framing text result.sites }
         ensures unfound { NoneFound result.sites }
         ensures unread { IsUnread result }
         ensures all { (place : ℕ) → IsToldPlace self.now place → place < 2 ^ 64 - 1 → Contains (sought result) place }
@@ -132,7 +134,7 @@ impl Finding {
     /// The places where there is no fault to tell.
     fn places_of_warnings(&self) -> Sites
         ensures right { (text : List ℕ) → AreRight text result.sites }
-        ensures paths { (is_sequence : Bool) (text : List ℕ) → ArePaths is_sequence text result.sites }
+        ensures paths { (framing : Option Framing) (text : List ℕ) → ArePaths framing text result.sites }
         ensures unfound { NoneFound result.sites }
         ensures unread { IsUnread result }
         ensures all { (place : ℕ) → IsPlaceOf None (warnings_of self.now) place → place < 2 ^ 64 - 1 → Contains (sought result) place }
@@ -148,7 +150,7 @@ impl Finding {
 
 fn one_place(place: u64) -> Sites
     ensures right { (text : List ℕ) → AreRight text result.sites }
-    ensures paths { (is_sequence : Bool) (text : List ℕ) → ArePaths is_sequence text result.sites }
+    ensures paths { (framing : Option Framing) (text : List ℕ) → ArePaths framing text result.sites }
     ensures unfound { NoneFound result.sites }
     ensures unread { IsUnread result }
     ensures sought { sought result ≡ place ∷ [] }
@@ -161,7 +163,7 @@ fn one_place(place: u64) -> Sites
 /// The first place of each kind of warning.
 fn warned_places(warnings: &Warnings) -> Sites
     ensures right { (text : List ℕ) → AreRight text result.sites }
-    ensures paths { (is_sequence : Bool) (text : List ℕ) → ArePaths is_sequence text result.sites }
+    ensures paths { (framing : Option Framing) (text : List ℕ) → ArePaths framing text result.sites }
     ensures unfound { NoneFound result.sites }
     ensures unread { IsUnread result }
     ensures all { (place : ℕ) → IsFirstPlace warnings.now place → place < 2 ^ 64 - 1 → Contains (sought result) place }
@@ -195,7 +197,7 @@ fn first_or_none(kind: Kind, warnings: &Warnings) -> u64
 fn sites_at(places: &[u64]) -> Sites
     requires { length places.now ≤ 10 }
     ensures right { (text : List ℕ) → AreRight text result.sites }
-    ensures paths { (is_sequence : Bool) (text : List ℕ) → ArePaths is_sequence text result.sites }
+    ensures paths { (framing : Option Framing) (text : List ℕ) → ArePaths framing text result.sites }
     ensures unfound { NoneFound result.sites }
     ensures unread { IsUnread result }
     ensures sought { sought result ≡ filter is_sought places.now }
@@ -209,7 +211,7 @@ fn sites_at(places: &[u64]) -> Sites
 
 fn seek_if(sites: &mut Sites, place: u64)
     ensures right { (text : List ℕ) → AreRight text sites.old.sites → AreRight text sites.new.sites }
-    ensures paths { (is_sequence : Bool) (text : List ℕ) → ArePaths is_sequence text sites.old.sites → ArePaths is_sequence text sites.new.sites }
+    ensures paths { (framing : Option Framing) (text : List ℕ) → ArePaths framing text sites.old.sites → ArePaths framing text sites.new.sites }
     ensures unfound { NoneFound sites.old.sites → NoneFound sites.new.sites }
     ensures unread { IsUnread sites.old → IsUnread sites.new }
     ensures sought { length (sought sites.old) < 10 → sought sites.new ≡ sought sites.old ++ filter is_sought (place ∷ []) }

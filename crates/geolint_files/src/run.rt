@@ -2,7 +2,7 @@
 ghost use Rattle.std.specs.Prelude.{◌≡◌, [], IfOk, OnOk, true, false};
 ghost use Rattle.std.specs.List.{list_any};
 ghost use Rattle.geolint_files.specs.Internal.FileCounts.{Counts};
-ghost use Rattle.geolint_files.specs.Judged.{CountsFailure, is_of_records};
+ghost use Rattle.geolint_files.specs.Judged.{CountsFailure, framing_in};
 ghost use Rattle.geolint_files.specs.Line.{Adds};
 ghost use Rattle.geolint_files.specs.Names.{unread_line};
 ghost use Rattle.geolint_files.specs.Run.{IsRun};
@@ -24,10 +24,10 @@ use crate::report::Report;
 use crate::sites::Sites;
 use crate::source::{FileSource, FromRead, Rewind, Source};
 use crate::summary::Summary;
-use crate::walk::{Others, Pending, Walk, is_sequence, is_taken};
+use crate::walk::{Others, Pending, Walk, framing_of, is_taken};
 use crate::words::Order;
 use gj_json::Limits;
-use gj_rules::Linter;
+use gj_rules::{Framing, Linter};
 use std::alloc::AllocError;
 use std::fs::{File, Metadata};
 use std::io::{self, ErrorKind, IsTerminal, Read, Write};
@@ -190,7 +190,7 @@ impl<'a, W: Write + Drop> Run<'a, W> {
     ghost use Rattle.geolint_files.specs.Internal.RunState.{HasTold, IsFresh, TellsFile, TellsFiles, SameTold, Unchanged};
     ghost use Rattle.geolint_files.specs.Line.{Adds};
     ghost use Rattle.geolint_files.specs.Run.{ToldFile, judged, not_read, finding_in, IsWholeReport, end_of, summary_in};
-    ghost use Rattle.geolint_files.specs.Told.{reading_of, IsToldOnce, IsToldTwice, HasSites, AreSought};
+    ghost use Rattle.geolint_files.specs.Told.{reading_of, framing_by, IsToldOnce, IsToldTwice, HasSites, AreSought};
 
     fn new(
         rt: &HostRuntime,
@@ -468,12 +468,21 @@ impl<'a, W: Write + Drop> Run<'a, W> {
     fn reading(&self, name: &[u8]) -> Reading
         ensures { result ≡ reading_of self.now.options name.now }
     {
-        if self.options.sequences || is_sequence(name) {
-            Reading::Sequence
-        } else if self.options.quick {
-            Reading::Quick
-        } else {
-            Reading::Text
+        match self.framing(name) {
+            Some(Framing::Sequence) => Reading::Sequence,
+            Some(Framing::Lines) => Reading::Lines,
+            None if self.options.quick => Reading::Quick,
+            None => Reading::Text,
+        }
+    }
+
+    /// How the texts of a file of this name are set apart: as the words say, or as the name does.
+    fn framing(&self, name: &[u8]) -> Option<Framing>
+        ensures { result ≡ framing_by self.now.options.framing name.now }
+    {
+        match self.options.framing {
+            Some(framing) => Some(framing),
+            None => framing_of(name),
         }
     }
 
@@ -701,13 +710,13 @@ fn read_sites<S: Rewind>(
     limits: Limits,
     meter: &mut Meter,
 ) -> io::Result<Sites>
-    ensures sites { IfOk result (AreSitesIn limits (is_of_records reading) (S.text source.old)) }
+    ensures sites { IfOk result (AreSitesIn limits (framing_in reading) (S.text source.old)) }
     ensures places { IfOk result (AreSoughtFor finding.now) }
     ensures failed { CountsFailure (S.failed_reads source.old) (S.failed_reads source.new) result }
 {
     meter.read_again();
     source.rewind()?;
-    let sites = sites_in(finding, source, limits, reading.is_of_records(), meter)?;
+    let sites = sites_in(finding, source, limits, reading.framing(), meter)?;
     source.expect_unchanged()?;
     Ok(sites)
 }
@@ -717,16 +726,16 @@ fn sites_in<S: Source>(
     finding: &Finding,
     reader: &mut S,
     limits: Limits,
-    is_sequence: bool,
+    framing: Option<Framing>,
     meter: &mut Meter,
 ) -> io::Result<Sites>
-    ensures sites { IfOk result (AreSitesIn limits is_sequence (S.remaining reader.old)) }
+    ensures sites { IfOk result (AreSitesIn limits framing (S.remaining reader.old)) }
     ensures places { IfOk result (AreSoughtFor finding.now) }
     ensures text { S.text reader.new ≡ S.text reader.old }
     ensures failed { CountsFailure (S.failed_reads reader.old) (S.failed_reads reader.new) result }
 {
     let mut sites = finding.places();
-    sites.find(reader, limits, is_sequence, meter)?;
+    sites.find(reader, limits, framing, meter)?;
     Ok(sites)
 }
 

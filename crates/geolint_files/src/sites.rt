@@ -1,6 +1,7 @@
 //! The second reading: the lines, columns and paths of places.
 
-ghost use Rattle.std.specs.Prelude.{◌≡◌, drop, true};
+ghost use Rattle.std.specs.Prelude.{◌≡◌, drop, Some};
+ghost use Rattle.gj_rules.specs.declared.records.framing.Framing.{Framing};
 ghost use Rattle.geolint_files.specs.Sites.{text_limits};
 
 use crate::judge::PIECE;
@@ -8,11 +9,9 @@ use crate::progress::Meter;
 use crate::source::Source;
 use gj_json::{Limits, Locator, Path};
 use gj_places::{Excerpt, Lines};
+use gj_rules::Framing;
 use memchr::memrchr;
 use std::io;
-
-/// The byte RS, which begins a record of a text sequence.
-const SEPARATOR: u8 = 0x1E;
 
 /// The most places that are sought in one reading.
 pub const MOST_PLACES: usize = 10;
@@ -60,7 +59,8 @@ pub struct Sites {
 }
 
 impl Sites {
-    ghost use Rattle.std.specs.Prelude.{◌≡◌, ◌<◌, ◌≤◌, ◌+◌, ◌-◌, ◌^◌, ◌++◌, ◌∷◌, [], ℕ, List, Bool, length, IfSome, MatchOption, None, Some, OnOk, get_or, true, false};
+    ghost use Rattle.std.specs.Prelude.{◌≡◌, ◌<◌, ◌≤◌, ◌+◌, ◌-◌, ◌^◌, ◌++◌, ◌∷◌, [], ℕ, List, Option, length, IfSome, MatchOption, None, Some, OnOk, get_or, true, false};
+    ghost use Rattle.gj_rules.specs.declared.records.framing.Framing.{Framing};
     ghost use Rattle.std.specs.Option.{IsNone};
     ghost use Rattle.std.specs.List.{Contains};
     ghost use Rattle.std.specs.List.Sorted.{IsNonDecreasing};
@@ -74,7 +74,7 @@ impl Sites {
     /// Where no place is sought.
     pub fn none() -> Sites
         ensures right { (text : List ℕ) → AreRight text result.sites }
-        ensures paths { (is_sequence : Bool) (text : List ℕ) → ArePaths is_sequence text result.sites }
+        ensures paths { (framing : Option Framing) (text : List ℕ) → ArePaths framing text result.sites }
         ensures unfound { NoneFound result.sites }
         ensures sought { sought result ≡ [] }
         ensures unread { IsUnread result }
@@ -89,7 +89,7 @@ impl Sites {
     /// Seeks one place more, which is not before the others.
     pub fn seek(&mut self, place: u64)
         ensures right { (text : List ℕ) → AreRight text self.old.sites → AreRight text self.new.sites }
-        ensures paths { (is_sequence : Bool) (text : List ℕ) → ArePaths is_sequence text self.old.sites → ArePaths is_sequence text self.new.sites }
+        ensures paths { (framing : Option Framing) (text : List ℕ) → ArePaths framing text self.old.sites → ArePaths framing text self.new.sites }
         ensures unfound { NoneFound self.old.sites → NoneFound self.new.sites }
         ensures sought { length (sought self.old) < 10 → sought self.new ≡ sought self.old ++ place ∷ [] }
         ensures unread { IsUnread self.old → IsUnread self.new }
@@ -111,9 +111,9 @@ impl Sites {
     pub fn at(&self, place: u64) -> Option<&Site>
         ensures missed { IsNone result → (text : List ℕ) → AllFound text self.now → Contains (sought self.now) place → place < 2 ^ 64 - 1 → length text < place }
         ensures spot { IfSome result (λ site. (site.now.place ≡ place) × ((text : List ℕ) → AreRight text self.now.sites → IsSpot text place site.now.spot)) }
-        ensures path { IfSome result (λ site. (is_sequence : Bool) (text : List ℕ) → ArePaths is_sequence text self.now.sites → LeadsTo is_sequence text place site.now.path) }
-        ensures told { IfSome result (λ site. (limits : Allowed) (is_sequence : Bool) (text : List ℕ) → AreTold limits is_sequence text self.now.sites
-            → IsTold limits is_sequence text place site.now.path) }
+        ensures path { IfSome result (λ site. (framing : Option Framing) (text : List ℕ) → ArePaths framing text self.now.sites → LeadsTo framing text place site.now.path) }
+        ensures told { IfSome result (λ site. (limits : Allowed) (framing : Option Framing) (text : List ℕ) → AreTold limits framing text self.now.sites
+            → IsTold limits framing text place site.now.path) }
         ensures first { MatchOption result (site_in place self.now.sites ≡ None) (λ site. site_in place self.now.sites ≡ Some site.now) }
     {
         for site in &self.sites {
@@ -129,13 +129,13 @@ impl Sites {
         &mut self,
         reader: &mut S,
         limits: Limits,
-        is_sequence: bool,
+        framing: Option<Framing>,
         meter: &mut Meter,
     ) -> io::Result<()>
         ensures right { AreRight [] self.old.sites → RightBy (S.remaining reader.old) self.new.sites }
-        ensures paths { AreRight [] self.old.sites → ArePaths is_sequence [] self.old.sites → PathsBy is_sequence (S.remaining reader.old) self.new.sites }
-        ensures told { NoneFound self.old.sites → ToldBy limits is_sequence (S.remaining reader.old) self.new.sites }
-        ensures texts { NoneFound self.old.sites → ToldInTextsBy limits is_sequence (S.remaining reader.old) self.new.sites }
+        ensures paths { AreRight [] self.old.sites → ArePaths framing [] self.old.sites → PathsBy framing (S.remaining reader.old) self.new.sites }
+        ensures told { NoneFound self.old.sites → ToldBy limits framing (S.remaining reader.old) self.new.sites }
+        ensures texts { NoneFound self.old.sites → ToldInTextsBy limits framing (S.remaining reader.old) self.new.sites }
         ensures found { AreRight [] self.old.sites → IsNonDecreasing (sought self.old) → OnOk result (FoundBy (S.remaining reader.old) self.new) }
         ensures excerpt { IsUnread self.old → AreRight [] self.old.sites → IsNonDecreasing (sought self.old) → OnOk result (ExcerptBy (S.remaining reader.old) self.new) }
         ensures sought { sought self.new ≡ sought self.old }
@@ -143,7 +143,7 @@ impl Sites {
         ensures failed { CountsFailure (S.failed_reads reader.old) (S.failed_reads reader.new) result }
     {
         let _most = limits.bytes();
-        let mut finder = Finder::new(limits, is_sequence);
+        let mut finder = Finder::new(limits, framing);
         let mut piece = [0; PIECE];
         for _ in 0..u64::MAX {
             let count = reader.read_piece(&mut piece)?;
@@ -163,10 +163,10 @@ impl Sites {
     /// Takes the next bytes of the file.
     fn take(&mut self, finder: &mut Finder, piece: &[u8])
         ensures reaches { (text : List ℕ) → Reaches finder.old self.old text [] → Reaches finder.new self.new (text ++ piece.now) [] }
-        ensures follows { (is_sequence : Bool) (text : List ℕ) → Reaches finder.old self.old text [] → Follows is_sequence finder.old self.old text []
-            → Follows is_sequence finder.new self.new (text ++ piece.now) [] }
-        ensures tells { (limits : Allowed) (is_sequence : Bool) (text : List ℕ) → Reaches finder.old self.old text [] → Follows is_sequence finder.old self.old text []
-            → Tells limits is_sequence finder.old self.old text [] → Tells limits is_sequence finder.new self.new (text ++ piece.now) [] }
+        ensures follows { (framing : Option Framing) (text : List ℕ) → Reaches finder.old self.old text [] → Follows framing finder.old self.old text []
+            → Follows framing finder.new self.new (text ++ piece.now) [] }
+        ensures tells { (limits : Allowed) (framing : Option Framing) (text : List ℕ) → Reaches finder.old self.old text [] → Follows framing finder.old self.old text []
+            → Tells limits framing finder.old self.old text [] → Tells limits framing finder.new self.new (text ++ piece.now) [] }
         ensures seeks { (text : List ℕ) → Reaches finder.old self.old text [] → IsNonDecreasing (sought self.old)
             → Seeks finder.old self.old (length text) → Seeks finder.new self.new (length (text ++ piece.now)) }
         ensures shows { (text : List ℕ) → Reaches finder.old self.old text [] → Shows finder.old self.old text [] → Shows finder.new self.new (text ++ piece.now) [] }
@@ -179,10 +179,10 @@ impl Sites {
     /// Takes the bytes up to the next place, where it is among these: whether it is.
     fn reach(&mut self, finder: &mut Finder, piece: &[u8]) -> bool
         ensures reaches { (text : List ℕ) → Reaches finder.old self.old text piece.now → Reaches finder.new self.new text piece.now }
-        ensures follows { (is_sequence : Bool) (text : List ℕ) → Reaches finder.old self.old text piece.now → Follows is_sequence finder.old self.old text piece.now
-            → Follows is_sequence finder.new self.new text piece.now }
-        ensures tells { (limits : Allowed) (is_sequence : Bool) (text : List ℕ) → Reaches finder.old self.old text piece.now → Follows is_sequence finder.old self.old text piece.now
-            → Tells limits is_sequence finder.old self.old text piece.now → Tells limits is_sequence finder.new self.new text piece.now }
+        ensures follows { (framing : Option Framing) (text : List ℕ) → Reaches finder.old self.old text piece.now → Follows framing finder.old self.old text piece.now
+            → Follows framing finder.new self.new text piece.now }
+        ensures tells { (limits : Allowed) (framing : Option Framing) (text : List ℕ) → Reaches finder.old self.old text piece.now → Follows framing finder.old self.old text piece.now
+            → Tells limits framing finder.old self.old text piece.now → Tells limits framing finder.new self.new text piece.now }
         ensures shows { (text : List ℕ) → Reaches finder.old self.old text piece.now → Shows finder.old self.old text piece.now → Shows finder.new self.new text piece.now }
         ensures reached { result ≡ true → (text : List ℕ) → Reaches finder.old self.old text piece.now → IsNonDecreasing (sought self.old)
             → Seeks finder.old self.old (length text + finder.old.counted) → Seeks finder.new self.new (length text + finder.new.counted) }
@@ -217,9 +217,9 @@ impl Sites {
     /// Takes the rest of the bytes.
     fn pass(&mut self, finder: &mut Finder, piece: &[u8])
         ensures reaches { (text : List ℕ) → Reaches finder.old self.old text piece.now → Reaches finder.new self.new (text ++ piece.now) [] }
-        ensures follows { (is_sequence : Bool) (text : List ℕ) → Follows is_sequence finder.old self.old text piece.now → Follows is_sequence finder.new self.new (text ++ piece.now) [] }
-        ensures tells { (limits : Allowed) (is_sequence : Bool) (text : List ℕ) → Follows is_sequence finder.old self.old text piece.now
-            → Tells limits is_sequence finder.old self.old text piece.now → Tells limits is_sequence finder.new self.new (text ++ piece.now) [] }
+        ensures follows { (framing : Option Framing) (text : List ℕ) → Follows framing finder.old self.old text piece.now → Follows framing finder.new self.new (text ++ piece.now) [] }
+        ensures tells { (limits : Allowed) (framing : Option Framing) (text : List ℕ) → Follows framing finder.old self.old text piece.now
+            → Tells limits framing finder.old self.old text piece.now → Tells limits framing finder.new self.new (text ++ piece.now) [] }
         ensures shows { (text : List ℕ) → Shows finder.old self.old text piece.now → Shows finder.new self.new (text ++ piece.now) [] }
         ensures seeks { (passed : ℕ) → Seeks finder.old self.old passed → Seeks finder.new self.new passed }
         ensures sought { sought self.new ≡ sought self.old }
@@ -240,9 +240,9 @@ impl Sites {
     /// The place behind the last byte has a line and a column too.
     fn end(&mut self, finder: &Finder)
         ensures right { (text : List ℕ) → Reaches finder.now self.old text [] → AreRight text self.new.sites }
-        ensures paths { (is_sequence : Bool) (text : List ℕ) → ArePaths is_sequence text self.old.sites → ArePaths is_sequence text self.new.sites }
-        ensures told { (limits : Allowed) (is_sequence : Bool) (text : List ℕ) → Reaches finder.now self.old text [] → AreTold limits is_sequence text self.old.sites
-            → AreTold limits is_sequence text self.new.sites }
+        ensures paths { (framing : Option Framing) (text : List ℕ) → ArePaths framing text self.old.sites → ArePaths framing text self.new.sites }
+        ensures told { (limits : Allowed) (framing : Option Framing) (text : List ℕ) → Reaches finder.now self.old text [] → AreTold limits framing text self.old.sites
+            → AreTold limits framing text self.new.sites }
         ensures long { (text : List ℕ) → Reaches finder.now self.old text [] → 2 ^ 64 - 1 ≤ length text → self.new.sites ≡ self.old.sites }
         ensures found { (text : List ℕ) → Reaches finder.now self.old text [] → IsNonDecreasing (sought self.old)
             → Seeks finder.now self.old (length text) → AllFound text self.new }
@@ -262,10 +262,10 @@ impl Sites {
     fn settle(&mut self, i: usize, spot: Spot, path: Option<Path>)
         requires { i < 10 }
         ensures right { (text : List ℕ) (other : Site) → AreRight text self.old.sites → IsSpot text (get_or self.old.sites i other).place spot → AreRight text self.new.sites }
-        ensures paths { (is_sequence : Bool) (text : List ℕ) (other : Site) → ArePaths is_sequence text self.old.sites → LeadsTo is_sequence text (get_or self.old.sites i other).place path
-            → ArePaths is_sequence text self.new.sites }
-        ensures told { (limits : Allowed) (is_sequence : Bool) (text : List ℕ) (other : Site) → AreTold limits is_sequence text self.old.sites
-            → IsTold limits is_sequence text (get_or self.old.sites i other).place path → AreTold limits is_sequence text self.new.sites }
+        ensures paths { (framing : Option Framing) (text : List ℕ) (other : Site) → ArePaths framing text self.old.sites → LeadsTo framing text (get_or self.old.sites i other).place path
+            → ArePaths framing text self.new.sites }
+        ensures told { (limits : Allowed) (framing : Option Framing) (text : List ℕ) (other : Site) → AreTold limits framing text self.old.sites
+            → IsTold limits framing text (get_or self.old.sites i other).place path → AreTold limits framing text self.new.sites }
         ensures within { (text : List ℕ) (other : Site) → AreWithin text self.old.sites → (get_or self.old.sites i other).place < length text → AreWithin text self.new.sites }
         ensures settles { Settles self.old self.new i }
         ensures excerpt { self.new.excerpt ≡ self.old.excerpt }
@@ -302,13 +302,13 @@ struct Finder {
     counted: usize,
     located: usize,
     next: usize,
-    is_sequence: bool,
+    framing: Option<Framing>,
     is_lost: bool,
 }
 
 /// What a record is read under.
 fn record_limits(limits: Limits) -> Limits
-    ensures { result ≡ text_limits true limits }
+    ensures { (framing : Framing) → result ≡ text_limits (Some framing) limits }
 {
     match Limits::new(limits.depth(), MOST_BYTES) {
         Some(limits) => limits,
@@ -316,29 +316,40 @@ fn record_limits(limits: Limits) -> Limits
     }
 }
 
+/// What a text of a file is read under.
+fn text_limits(limits: Limits, framing: Option<Framing>) -> Limits
+    ensures { result ≡ text_limits framing limits }
+{
+    match framing {
+        None => limits,
+        Some(_) => record_limits(limits),
+    }
+}
+
 impl Finder {
-    ghost use Rattle.std.specs.Prelude.{◌≡◌, ◌≤◌, ◌++◌, ◌∷◌, [], ℕ, List, Bool, IfSome, IsSome, length, take, true, false};
+    ghost use Rattle.std.specs.Prelude.{◌≡◌, ◌≤◌, ◌++◌, ◌∷◌, [], ℕ, List, Option, Some, IfSome, IsSome, length, take, false};
+    ghost use Rattle.gj_rules.specs.declared.records.framing.Framing.{Framing};
     ghost use Rattle.geolint_files.specs.declared.sites.Sites.{Sites};
     ghost use Rattle.gj_json.specs.Limits.{Allowed};
     ghost use Rattle.geolint_files.specs.Sites.{AreRight, ArePaths, IsPathOf, NoneFound, text_of};
     ghost use Rattle.geolint_files.specs.Internal.SecondReading.{Reaches, Follows, Tells, IsLocated, Stands, StandsIn, Keeps, KeepsIn};
 
-    fn new(limits: Limits, is_sequence: bool) -> Finder
+    fn new(limits: Limits, framing: Option<Framing>) -> Finder
         ensures begins { (sites : Sites) → AreRight [] sites.sites → Reaches result sites [] [] }
-        ensures follows { (sites : Sites) → ArePaths is_sequence [] sites.sites → Follows is_sequence result sites [] [] }
-        ensures tells { (sites : Sites) → NoneFound sites.sites → Tells limits is_sequence result sites [] [] }
+        ensures follows { (sites : Sites) → ArePaths framing [] sites.sites → Follows framing result sites [] [] }
+        ensures tells { (sites : Sites) → NoneFound sites.sites → Tells limits framing result sites [] [] }
         ensures next { result.next ≡ 0 }
     {
         Finder {
-            locator: Locator::new(limits),
+            locator: Locator::new(text_limits(limits, framing)),
             lines: Lines::new(),
             limits,
             offset: 0,
             counted: 0,
             located: 0,
             next: 0,
-            is_sequence,
-            is_lost: is_sequence,
+            framing,
+            is_lost: framing == Some(Framing::Sequence),
         }
     }
 
@@ -363,21 +374,20 @@ impl Finder {
         ensures keeps { (text : List ℕ) → StandsIn self.old text → KeepsIn self.old text → KeepsIn self.new (text ++ bytes.now) }
         ensures located { self.new.located ≡ self.old.located }
     {
-        if self.is_sequence {
-            self.locate_in_record(bytes);
-        } else {
-            self.locate_in_text(bytes);
+        match self.framing {
+            Some(framing) => self.locate_in_record(bytes, framing),
+            None => self.locate_in_text(bytes),
         }
     }
 
     /// It reads the last record of the bytes alone: no earlier record has a part in a path that is asked after them.
-    fn locate_in_record(&mut self, bytes: &[u8])
+    fn locate_in_record(&mut self, bytes: &[u8], framing: Framing)
         ensures same { IsLocated self.old self.new }
-        ensures stands { (text : List ℕ) → self.old.is_sequence ≡ true → StandsIn self.old text → StandsIn self.new (text ++ bytes.now) }
-        ensures keeps { (text : List ℕ) → self.old.is_sequence ≡ true → StandsIn self.old text → KeepsIn self.old text → KeepsIn self.new (text ++ bytes.now) }
+        ensures stands { (text : List ℕ) → self.old.framing ≡ Some framing → StandsIn self.old text → StandsIn self.new (text ++ bytes.now) }
+        ensures keeps { (text : List ℕ) → self.old.framing ≡ Some framing → StandsIn self.old text → KeepsIn self.old text → KeepsIn self.new (text ++ bytes.now) }
         ensures located { self.new.located ≡ self.old.located }
     {
-        match memrchr(SEPARATOR, bytes) {
+        match memrchr(framing.separator(), bytes) {
             Some(last) => {
                 self.locator = Locator::new(record_limits(self.limits));
                 self.is_lost = false;
@@ -409,7 +419,7 @@ impl Finder {
 
     fn path(&self) -> Option<Path>
         ensures told { self.now.is_lost ≡ false → IsSome result }
-        ensures is { (text : List ℕ) → StandsIn self.now text → IfSome result (λ path. IsPathOf (text_of self.now.is_sequence text) path) }
+        ensures is { (text : List ℕ) → StandsIn self.now text → IfSome result (λ path. IsPathOf (text_of self.now.framing text) path) }
     {
         if self.is_lost {
             None

@@ -1,16 +1,17 @@
 //! The files of a path, which is a file or a folder.
 
 ghost use Rattle.std.specs.Prelude.{◌≡◌, IfOk};
-ghost use Rattle.geolint_files.specs.Walk.{ends_in, ends_in_one, is_sequence, is_taken, entry_name, separator_after};
+ghost use Rattle.geolint_files.specs.Walk.{ends_in, ends_in_one, framing_of, is_taken, entry_name, separator_after};
 
+use gj_rules::Framing;
 use std::alloc::{AllocError, Global};
 use std::collections::BTreeSet;
 
-/// Whether a file of this name in a folder is judged: these are the endings beside `.geojson` and `.geojsons`.
+/// Whether a file of this name in a folder is judged: these are the endings beside the usual ones.
 pub fn is_taken(name: &[u8], endings: &[Vec<u8>]) -> bool
     ensures { result ≡ is_taken name.now endings.now }
 {
-    ends_in(name, b".geojson") || is_sequence(name) || ends_in_one(name, endings)
+    ends_in(name, b".geojson") || framing_of(name).is_some() || ends_in_one(name, endings)
 }
 
 fn ends_in_one(name: &[u8], endings: &[Vec<u8>]) -> bool
@@ -21,11 +22,17 @@ fn ends_in_one(name: &[u8], endings: &[Vec<u8>]) -> bool
         .any(|ending| ends_in(name, ending.as_slice()))
 }
 
-/// Whether a file of this name is a text sequence.
-pub fn is_sequence(name: &[u8]) -> bool
-    ensures { result ≡ is_sequence name.now }
+/// How the texts of a file of this name are set apart: it is a text sequence, or newline-delimited texts, or one text.
+pub fn framing_of(name: &[u8]) -> Option<Framing>
+    ensures { result ≡ framing_of name.now }
 {
-    ends_in(name, b".geojsons")
+    if ends_in(name, b".geojsons") {
+        Some(Framing::Sequence)
+    } else if ends_in(name, b".ndjson") || ends_in(name, b".geojsonl") {
+        Some(Framing::Lines)
+    } else {
+        None
+    }
 }
 
 /// Whether a name has an ending, in capitals or not.

@@ -7,6 +7,7 @@ use clap::error::ErrorKind;
 use clap::{Arg, ArgAction, ArgMatches, Command, Error, value_parser};
 use gj_coords::{KINDS, Kind};
 use gj_json::Limits;
+use gj_rules::Framing;
 use std::alloc::{AllocError, Global};
 
 /// The most bytes that a file may have.
@@ -20,8 +21,8 @@ const KIND_NAMES: [&str; 9] = ["W1", "W2", "W3", "W4", "W5", "W6", "W7", "W8", "
 
 const AFTER_HELP: &str = "\
 A PATH is a file, a folder or -, standard input. In a folder, and in the folders in it, each file named *.geojson is judged,
-and as a text sequence (RFC 8142) each named *.geojsons, in capitals or not, in the order of the names. With no PATH and
-no --files-from, standard input is judged.
+as a text sequence (RFC 8142) each named *.geojsons, and line by line each named *.ndjson or *.geojsonl, in capitals or not,
+in the order of the names. With no PATH and no --files-from, standard input is judged.
 
 Exit status:
   0    each file is valid, and under --strict has no warning but of the kinds in --allow
@@ -100,6 +101,12 @@ fn with_reading<'a>(alloc: Global, command: Command<'a>) -> Result<Command<'a>, 
         .help("Judge each file as a text sequence, whatever its name is")
         .action(ArgAction::SetTrue);
     let command = command.arg(sequence)?;
+    let lines = Arg::new(alloc, "ndjson")
+        .long("ndjson")
+        .help("Judge each line of each file as a text, whatever its name is")
+        .action(ArgAction::SetTrue)
+        .conflicts_with("seq")?;
+    let command = command.arg(lines)?;
     let bytes = Arg::new(alloc, "max-bytes")
         .long("max-bytes")
         .value_name("N")
@@ -230,10 +237,21 @@ fn options_of<'a>(given: &ArgMatches<'a>) -> Result<Options, &'a str> {
         strict: given.get_flag("strict"),
         allowed: allowed_in(given)?,
         quick: given.get_flag("quick"),
-        sequences: given.get_flag("seq"),
+        framing: framing_in(given),
         format: format_in(given),
         summary: given.get_flag("summary"),
     })
+}
+
+/// How the texts of each file are set apart, where the words say it.
+fn framing_in(given: &ArgMatches<'_>) -> Option<Framing> {
+    if given.get_flag("seq") {
+        Some(Framing::Sequence)
+    } else if given.get_flag("ndjson") {
+        Some(Framing::Lines)
+    } else {
+        None
+    }
 }
 
 fn limits_in(given: &ArgMatches<'_>) -> Limits {

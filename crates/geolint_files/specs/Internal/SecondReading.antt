@@ -1,10 +1,11 @@
 -- What a second reading has reached.
-use Rattle.std.specs.Prelude.{◌≡◌, ◌<◌, ◌≤◌, ◌+◌, ◌-◌, ◌^◌, ℕ, Bool, List, [], length, take, drop, map, get_or, true, false, None, ◌++◌}
+use Rattle.std.specs.Prelude.{◌≡◌, ◌<◌, ◌≤◌, ◌+◌, ◌-◌, ◌^◌, ℕ, List, Option, [], length, take, drop, map, get_or, true, false, None, ◌++◌}
 use Rattle.std.specs.Io.Iter.{u64_saturate}
 use Rattle.gj_json.specs.Limits.{Allowed}
 use Rattle.gj_json.specs.Locator as Locator
 use Rattle.gj_places.specs.Counting.{StandsFor}
 use Rattle.gj_places.specs.Keeping.{Keeps as KeepsLine}
+use Rattle.gj_rules.specs.declared.records.framing.Framing.{Framing}
 use Rattle.gj_places.specs.declared.excerpt.Excerpt.{Excerpt}
 use Rattle.geolint_files.specs.declared.sites.Finder.{Finder}
 use Rattle.geolint_files.specs.declared.sites.Site.{Site}
@@ -24,15 +25,15 @@ Stands finder front = finder.is_lost ≡ false → Locator.StandsFor finder.loca
 
 -- it has those of the text that these bytes of the file end in
 abbrev pub StandsIn : Finder → List ℕ → Type 0
-StandsIn finder front = Stands finder (text_of finder.is_sequence front)
+StandsIn finder front = Stands finder (text_of finder.framing front)
 
 -- the locator is behind a text and some bytes of the next piece, and each path so far is right
-pub record Follows (is_sequence : Bool) (finder : Finder) (sites : Sites) (text piece : List ℕ) : Type 0 where
-  pub kind : finder.is_sequence ≡ is_sequence
+pub record Follows (framing : Option Framing) (finder : Finder) (sites : Sites) (text piece : List ℕ) : Type 0 where
+  pub kind : finder.framing ≡ framing
   pub located : finder.located ≤ length piece
   pub near : finder.located ≤ finder.counted + 1
   pub stands : finder.next < sites.count → StandsIn finder (text ++ take finder.located piece)
-  pub paths : ArePaths is_sequence (text ++ piece) sites.sites
+  pub paths : ArePaths framing (text ++ piece) sites.sites
 
 -- while a text can go on, the locator is in it, under its limits
 abbrev pub Keeps : Allowed → Finder → List ℕ → Type 0
@@ -40,18 +41,18 @@ Keeps limits finder front = CanGoOn limits front → (finder.is_lost ≡ false) 
 
 -- while the text that these bytes of the file end in can go on
 abbrev pub KeepsIn : Finder → List ℕ → Type 0
-KeepsIn finder front = IsUnderWay finder.limits finder.is_sequence front → (finder.is_lost ≡ false) × (Locator.limits_of finder.locator ≡ text_limits finder.is_sequence finder.limits)
+KeepsIn finder front = IsUnderWay finder.limits finder.framing front → (finder.is_lost ≡ false) × (Locator.limits_of finder.locator ≡ text_limits finder.framing finder.limits)
 
 -- each place that was found is one of a byte
 abbrev pub AreWithin : List ℕ → List Site → Type 0
 AreWithin bytes sites = (i : ℕ) (other : Site) → i < length sites → (get_or sites i other).is_found ≡ true → (get_or sites i other).place < length bytes
 
 -- the locator is behind a text and some bytes of the next piece, unless a byte was refused, and each path so far is told
-pub record Tells (limits : Allowed) (is_sequence : Bool) (finder : Finder) (sites : Sites) (text piece : List ℕ) : Type 0 where
+pub record Tells (limits : Allowed) (framing : Option Framing) (finder : Finder) (sites : Sites) (text piece : List ℕ) : Type 0 where
   pub under : finder.limits ≡ limits
   pub keeps : finder.next < sites.count → KeepsIn finder (text ++ take finder.located piece)
   pub within : AreWithin (text ++ piece) sites.sites
-  pub told : AreTold limits is_sequence (text ++ piece) sites.sites
+  pub told : AreTold limits framing (text ++ piece) sites.sites
 
 -- the bytes that the locator has change nothing of the count
 pub record IsLocated (old new : Finder) : Type 0 where
@@ -59,7 +60,7 @@ pub record IsLocated (old new : Finder) : Type 0 where
   pub offset : new.offset ≡ old.offset
   pub counted : new.counted ≡ old.counted
   pub next : new.next ≡ old.next
-  pub kind : new.is_sequence ≡ old.is_sequence
+  pub kind : new.framing ≡ old.framing
   pub limits : new.limits ≡ old.limits
 
 -- the places before the next were found, and the others are not among so many bytes from the start

@@ -15,7 +15,7 @@ loop-place-preserved c =
     let few : length (sought c.loop-place.sites) < 10 = omega (arith, short, ap (λ (ys : List ℕ). length ys) c.loop-place.invariant.sought, c.loop-place-test.true, c.requires) in
     record {
       right = λ text. c.seek_if.ensures.right text (c.loop-place.invariant.right text);
-      paths = λ is_sequence text. c.seek_if.ensures.paths is_sequence text (c.loop-place.invariant.paths is_sequence text);
+      paths = λ framing text. c.seek_if.ensures.paths framing text (c.loop-place.invariant.paths framing text);
       unfound = c.seek_if.ensures.unfound c.loop-place.invariant.unfound;
       unread = c.seek_if.ensures.unread c.loop-place.invariant.unread;
       sought = c.seek_if.ensures.sought few

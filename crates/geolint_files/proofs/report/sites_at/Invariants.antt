@@ -1,5 +1,6 @@
-use Rattle.std.proofs.Common.{ℕ, Bool, List, take, ◌≡◌}
+use Rattle.std.proofs.Common.{ℕ, List, take, ◌≡◌, Option}
 use Rattle.std.specs.List.{filter}
+use Rattle.gj_rules.specs.declared.records.framing.Framing.{Framing}
 use Rattle.geolint_files.specs.Internal.SoughtPlaces.{is_sought}
 use Rattle.geolint_files.specs.Sites.{AreRight, ArePaths, NoneFound, IsUnread, sought}
 use Rattle.geolint_files.proofs.report.sites_at.Given as goal
@@ -8,7 +9,7 @@ use Rattle.geolint_files.proofs.report.sites_at.Given as goal
 abbrev pub invariant-loop-place : goal.invariant-loop-place
 invariant-loop-place l = record {
   right : (text : List ℕ) → AreRight text l.sites.sites;
-  paths : (is_sequence : Bool) (text : List ℕ) → ArePaths is_sequence text l.sites.sites;
+  paths : (framing : Option Framing) (text : List ℕ) → ArePaths framing text l.sites.sites;
   unfound : NoneFound l.sites.sites;
   unread : IsUnread l.sites;
   sought : sought l.sites ≡ filter is_sought (take l.place-index l.places);

@@ -9,7 +9,7 @@ returns-clause-sites g c =
     let ordered = c.places-sites.ensures.ordered in
     record {
       right = c.find.ensures.right right;
-      paths = c.find.ensures.paths right (c.places-sites.ensures.paths c.args.is_sequence []);
+      paths = c.find.ensures.paths right (c.places-sites.ensures.paths c.args.framing []);
       told = c.find.ensures.told unfound;
       texts = c.find.ensures.texts unfound;
       found = c.in_ok-find.ensures.found right ordered;

@@ -21,12 +21,12 @@ returns-then-self-i-clause-right c = λ text reaches.
     c.settle.ensures.right text c.index-self-i.result right (IsSpot-end text _ finder.lines c.spot.result place stands c.spot.ensures.0 c.spot.ensures.1)
 
 pub returns-then-self-i-clause-paths : goal.returns-then-self-i-clause-paths
-returns-then-self-i-clause-paths c = λ is_sequence text are. c.settle.ensures.paths is_sequence text c.index-self-i.result are tt
+returns-then-self-i-clause-paths c = λ framing text are. c.settle.ensures.paths framing text c.index-self-i.result are tt
 
 pub returns-then-self-i-clause-told : goal.returns-then-self-i-clause-told
-returns-then-self-i-clause-told c = λ limits is_sequence text reaches are.
+returns-then-self-i-clause-told c = λ limits framing text reaches are.
     let offset = reaches.offset in
-    c.settle.ensures.told limits is_sequence text c.index-self-i.result are
+    c.settle.ensures.told limits framing text c.index-self-i.result are
     (λ within. absurd (omega (arith, offset, within, c.if-self-i.true, c.if-finder-lt18446744073709551615.true)))
 
 pub returns-then-self-i-clause-long : goal.returns-then-self-i-clause-long

@@ -30,33 +30,33 @@ returns-in_err-count-clause-right g c = λ begun.
 pub returns-in_err-count-clause-paths : goal.returns-in_err-count-clause-paths
 returns-in_err-count-clause-paths g c = λ begun paths.
     let (read, took, reaches, seeks, reads, follows, tells, shows) = c.loop.invariant.reached begun in
-    PathsBy-reached c.args.is_sequence _ _ read _ _ took (follows paths)
+    PathsBy-reached c.args.framing _ _ read _ _ took (follows paths)
 
 pub returns-in_err-count-clause-told : goal.returns-in_err-count-clause-told
 returns-in_err-count-clause-told g c = λ none.
     let (read, took, reaches, seeks, reads, follows, tells, shows) = c.loop.invariant.reached (unfound-right [] c.args.self.now.sites none) in
-    ToldBy-reached c.args.limits c.args.is_sequence _ _ read _ _ took (tells none)
+    ToldBy-reached c.args.limits c.args.framing _ _ read _ _ took (tells none)
 
 pub returns-then-is_whole-clause-told : goal.returns-then-is_whole-clause-told
 returns-then-is_whole-clause-told g c = λ none.
     let (read, took, reaches, seeks, reads, follows, tells, shows) = c.loop.invariant.reached (unfound-right [] c.args.self.now.sites none) in
     let piece = take c.in_ok-count.count c.read_piece.new.piece in
     let more = Consumes-trans _ _ _ read piece took c.in_ok-count.ensures.bytes.0 in
-    ToldBy-reached c.args.limits c.args.is_sequence _ _ (read ++ piece) _ _ more
-    (c.take.ensures.tells c.args.limits c.args.is_sequence read reaches (follows (unfound-paths c.args.is_sequence [] c.args.self.now.sites none)) (tells none))
+    ToldBy-reached c.args.limits c.args.framing _ _ (read ++ piece) _ _ more
+    (c.take.ensures.tells c.args.limits c.args.framing read reaches (follows (unfound-paths c.args.framing [] c.args.self.now.sites none)) (tells none))
 
 pub returns-in_err-count-clause-texts : goal.returns-in_err-count-clause-texts
-returns-in_err-count-clause-texts g c = λ none. ToldInTexts-by c.args.limits c.args.is_sequence _ _ c.bytes-most.ensures.allowed (returns-in_err-count-clause-told g c none)
+returns-in_err-count-clause-texts g c = λ none. ToldInTexts-by c.args.limits c.args.framing _ _ c.bytes-most.ensures.allowed (returns-in_err-count-clause-told g c none)
 
 pub returns-then-is_whole-clause-texts : goal.returns-then-is_whole-clause-texts
-returns-then-is_whole-clause-texts g c = λ none. ToldInTexts-by c.args.limits c.args.is_sequence _ _ c.bytes-most.ensures.allowed (returns-then-is_whole-clause-told g c none)
+returns-then-is_whole-clause-texts g c = λ none. ToldInTexts-by c.args.limits c.args.framing _ _ c.bytes-most.ensures.allowed (returns-then-is_whole-clause-told g c none)
 
 pub returns-then-is_whole-clause-paths : goal.returns-then-is_whole-clause-paths
 returns-then-is_whole-clause-paths g c = λ begun paths.
     let (read, took, reaches, seeks, reads, follows, tells, shows) = c.loop.invariant.reached begun in
     let piece = take c.in_ok-count.count c.read_piece.new.piece in
     let more = Consumes-trans _ _ _ read piece took c.in_ok-count.ensures.bytes.0 in
-    PathsBy-reached c.args.is_sequence _ _ (read ++ piece) _ _ more (c.take.ensures.follows c.args.is_sequence read reaches (follows paths))
+    PathsBy-reached c.args.framing _ _ (read ++ piece) _ _ more (c.take.ensures.follows c.args.framing read reaches (follows paths))
 
 pub returns-then-is_whole-clause-right : goal.returns-then-is_whole-clause-right
 returns-then-is_whole-clause-right g c = λ begun.
@@ -93,8 +93,8 @@ loop-preserved g c = record {
         c.take.ensures.reaches read reaches,
         (λ ordered. c.take.ensures.seeks read reaches (subst (λ (places : List ℕ). IsNonDecreasing places) (sym c.loop.invariant.sought) ordered) (seeks ordered)),
         omega (arith, reads, long, length-append read piece, c.if-count-eq0.false),
-        (λ paths. c.take.ensures.follows c.args.is_sequence read reaches (follows paths)),
-        (λ none. c.take.ensures.tells c.args.limits c.args.is_sequence read reaches (follows (unfound-paths c.args.is_sequence [] c.args.self.now.sites none)) (tells none)),
+        (λ paths. c.take.ensures.follows c.args.framing read reaches (follows paths)),
+        (λ none. c.take.ensures.tells c.args.limits c.args.framing read reaches (follows (unfound-paths c.args.framing [] c.args.self.now.sites none)) (tells none)),
         (λ unread. c.take.ensures.shows read reaches (shows unread)),
       );
   sought = c.take.ensures.sought ∙ c.loop.invariant.sought;
@@ -110,7 +110,7 @@ returns-clause-right g c = λ begun.
 pub returns-clause-paths : goal.returns-clause-paths
 returns-clause-paths g c = λ begun paths.
     let (read, took, reaches, seeks, reads, follows, tells, shows) = c.loop.invariant.reached begun in
-    PathsBy-read c.args.is_sequence _ _ read _ took (c.end.ensures.paths c.args.is_sequence read (paths-followed c.args.is_sequence _ _ read (follows paths)))
+    PathsBy-read c.args.framing _ _ read _ took (c.end.ensures.paths c.args.framing read (paths-followed c.args.framing _ _ read (follows paths)))
 
 pub returns-clause-found : goal.returns-clause-found
 returns-clause-found g c = λ begun ordered.
@@ -129,21 +129,21 @@ pub returns-clause-told : goal.returns-clause-told
 returns-clause-told g c = λ none.
     let (read, took, reaches, seeks, reads, follows, tells, shows) = c.loop.invariant.reached (unfound-right [] c.args.self.now.sites none) in
     let limits = c.args.limits in
-    let is_sequence = c.args.is_sequence in
+    let framing = c.args.framing in
     let told = tells none in
     elim c.loop-test.branch [
       | else-loop-test w ↦
-          subst (λ (sites : List Site). ToldBy limits is_sequence (g.S.Source.remaining c.args.reader.now) sites) (sym (c.end.ensures.long read reaches (omega (arith, reads, w.loop-test.false))))
-          (ToldBy-reached limits is_sequence _ _ read _ _ took told)
+          subst (λ (sites : List Site). ToldBy limits framing (g.S.Source.remaining c.args.reader.now) sites) (sym (c.end.ensures.long read reaches (omega (arith, reads, w.loop-test.false))))
+          (ToldBy-reached limits framing _ _ read _ _ took told)
       | then-loop-test+in_ok-count+then-count-eq0 w ↦
           (let bytes = w.in_ok-count.ensures.bytes in
           let room : 0 < length w.read_piece.new.piece = search rules in
-          ToldBy-end limits is_sequence _ _ read c.end.new.self.sites (Consumes-none _ _ _ read w.read_piece.new.piece w.in_ok-count.count w.if-count-eq0.true took bytes.0) (bytes.1 w.if-count-eq0.true room)
-          (c.end.ensures.told limits is_sequence read reaches (told-now limits is_sequence _ _ read told)))
+          ToldBy-end limits framing _ _ read c.end.new.self.sites (Consumes-none _ _ _ read w.read_piece.new.piece w.in_ok-count.count w.if-count-eq0.true took bytes.0) (bytes.1 w.if-count-eq0.true room)
+          (c.end.ensures.told limits framing read reaches (told-now limits framing _ _ read told)))
     ]
 
 pub returns-clause-texts : goal.returns-clause-texts
-returns-clause-texts g c = λ none. ToldInTexts-by c.args.limits c.args.is_sequence _ _ c.bytes-most.ensures.allowed (returns-clause-told g c none)
+returns-clause-texts g c = λ none. ToldInTexts-by c.args.limits c.args.framing _ _ c.bytes-most.ensures.allowed (returns-clause-told g c none)
 
 pub returns-clause-excerpt : goal.returns-clause-excerpt
 returns-clause-excerpt g c = λ unread begun ordered.

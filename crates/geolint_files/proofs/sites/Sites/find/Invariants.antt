@@ -10,8 +10,8 @@ abbrev pub invariant-loop : goal.invariant-loop
 invariant-loop g l = record {
   reached : AreRight [] l.fn.self.sites → (read : List ℕ) × Consumes (g.S.Source.remaining l.fn.reader) (g.S.Source.remaining l.reader) read × Reaches l.finder l.self read []
       × (IsNonDecreasing (sought l.fn.self) → Seeks l.finder l.self (length read)) × (l.counter ≤ length read)
-      × (ArePaths l.is_sequence [] l.fn.self.sites → Follows l.is_sequence l.finder l.self read [])
-      × (NoneFound l.fn.self.sites → Tells l.fn.limits l.is_sequence l.finder l.self read [])
+      × (ArePaths l.fn.framing [] l.fn.self.sites → Follows l.fn.framing l.finder l.self read [])
+      × (NoneFound l.fn.self.sites → Tells l.fn.limits l.fn.framing l.finder l.self read [])
       × (IsUnread l.fn.self → Shows l.finder l.self read []);
   sought : sought l.self ≡ sought l.fn.self;
   text : g.S.Source.text l.reader ≡ g.S.Source.text l.fn.reader;

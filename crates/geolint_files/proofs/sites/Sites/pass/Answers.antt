@@ -40,9 +40,9 @@ returns-clause-reaches c = λ text reaches.
     ]
 
 pub returns-clause-follows : goal.returns-clause-follows
-returns-clause-follows c = λ is_sequence text follows.
+returns-clause-follows c = λ framing text follows.
     let piece = c.args.piece.now in
-    let paths = subst (λ (bytes : List ℕ). ArePaths is_sequence bytes c.args.self.now.sites) (sym (append-nil (text ++ piece))) follows.paths in
+    let paths = subst (λ (bytes : List ℕ). ArePaths framing bytes c.args.self.now.sites) (sym (append-nil (text ++ piece))) follows.paths in
     elim c.if-finder-self.branch [
       | then-finder-self w ↦ rw (w.self-is, w.finder-is) (record {
         kind = follows.kind;
@@ -63,11 +63,11 @@ returns-clause-follows c = λ is_sequence text follows.
     ]
 
 pub returns-clause-tells : goal.returns-clause-tells
-returns-clause-tells c = λ limits is_sequence text follows tells.
+returns-clause-tells c = λ limits framing text follows tells.
     let piece = c.args.piece.now in
     let sites = c.args.self.now.sites in
     let within = subst (λ (bytes : List ℕ). AreWithin bytes sites) (sym (append-nil (text ++ piece))) tells.within in
-    let told = subst (λ (bytes : List ℕ). AreTold limits is_sequence bytes sites) (sym (append-nil (text ++ piece))) tells.told in
+    let told = subst (λ (bytes : List ℕ). AreTold limits framing bytes sites) (sym (append-nil (text ++ piece))) tells.told in
     elim c.if-finder-self.branch [
       | then-finder-self w ↦ rw (w.self-is, w.finder-is) (record {
         under = tells.under;

@@ -6,7 +6,8 @@ use Rattle.geolint_files.specs.Sites.{IsSpot}
 use Rattle.geolint_files.proofs.FoundSites.{Spot-is, take-joined}
 use Rattle.std.proofs.Common.{inl, inr, refl}
 use Rattle.gj_json.specs.declared.path.Path.{Path}
-use Rattle.std.proofs.Common.{Bool, IfSome}
+use Rattle.std.proofs.Common.{IfSome, Option}
+use Rattle.gj_rules.specs.declared.records.framing.Framing.{Framing}
 use Rattle.geolint_files.specs.Internal.SecondReading.{Settles, StandsIn, KeepsIn}
 use Rattle.geolint_files.specs.Sites.{LeadsTo, IsPathOf, IsTold, IsUnderWay, text_of}
 use Rattle.geolint_files.proofs.FollowedPaths.{LeadsTo-here}
@@ -48,7 +49,7 @@ returns-clause-reaches c = λ text reaches.
     }
 
 pub returns-clause-follows : goal.returns-clause-follows
-returns-clause-follows c = λ is_sequence text reaches follows.
+returns-clause-follows c = λ framing text reaches follows.
     let finder = c.args.finder.now in
     let piece = c.args.piece.now in
     let site = get_or c.args.self.now.sites finder.next c.index-self-i.result in
@@ -60,19 +61,19 @@ returns-clause-follows c = λ is_sequence text reaches follows.
     let near : finder.located ≤ at + 1 = omega (arith, near_place, c.if-at-finder.false) in
     let stands : StandsIn c.locate_to.new.self (text ++ take (at + 1) piece) = c.locate_to.ensures.stands text near (omega (arith, within)) (follows.stands c.if-i-self.false) in
     let located : c.locate_to.new.self.located ≡ at + 1 = c.locate_to.ensures.located near (omega (arith, within)) in
-    let kind : c.locate_to.new.self.is_sequence ≡ is_sequence = c.locate_to.ensures.same.kind ∙ follows.kind in
-    let path = subst (λ (b : Bool). IfSome c.path.result (λ (p : Path). IsPathOf (text_of b (text ++ take (at + 1) piece)) p)) kind (c.path.ensures.is (text ++ take (at + 1) piece) stands) in
-    let leads : LeadsTo is_sequence (text ++ piece) site.place c.path.result = LeadsTo-here is_sequence text piece at site.place c.path.result within here path in
+    let kind : c.locate_to.new.self.framing ≡ framing = c.locate_to.ensures.same.kind ∙ follows.kind in
+    let path = subst (λ (b : Option Framing). IfSome c.path.result (λ (p : Path). IsPathOf (text_of b (text ++ take (at + 1) piece)) p)) kind (c.path.ensures.is (text ++ take (at + 1) piece) stands) in
+    let leads : LeadsTo framing (text ++ piece) site.place c.path.result = LeadsTo-here framing text piece at site.place c.path.result within here path in
     record {
       kind = kind;
       located = omega (arith, within, located);
       near = omega (arith, located, c.locate_to.ensures.same.counted);
       stands = λ fewer. subst (λ (n : ℕ). StandsIn c.locate_to.new.self (text ++ take n piece)) (sym located) stands;
-      paths = c.settle.ensures.paths is_sequence (text ++ piece) c.index-self-i.result follows.paths leads;
+      paths = c.settle.ensures.paths framing (text ++ piece) c.index-self-i.result follows.paths leads;
     }
 
 pub returns-clause-tells : goal.returns-clause-tells
-returns-clause-tells c = λ limits is_sequence text reaches follows tells.
+returns-clause-tells c = λ limits framing text reaches follows tells.
     let finder = c.args.finder.now in
     let after = c.locate_to.new.self in
     let piece = c.args.piece.now in
@@ -86,15 +87,15 @@ returns-clause-tells c = λ limits is_sequence text reaches follows tells.
     let front = text ++ take (at + 1) piece in
     let keeps : KeepsIn after front = c.locate_to.ensures.keeps text near (omega (arith, within)) (follows.stands c.if-i-self.false) (tells.keeps c.if-i-self.false) in
     let located : after.located ≡ at + 1 = c.locate_to.ensures.located near (omega (arith, within)) in
-    let kind : after.is_sequence ≡ is_sequence = c.locate_to.ensures.same.kind ∙ follows.kind in
+    let kind : after.framing ≡ framing = c.locate_to.ensures.same.kind ∙ follows.kind in
     let under : after.limits ≡ limits = c.locate_to.ensures.same.limits ∙ tells.under in
-    let told : IsTold limits is_sequence (text ++ piece) site.place c.path.result = IsTold-here limits is_sequence text piece at site.place c.path.result within here
-    (λ goes. c.path.ensures.told (keeps (subst (λ (l : Allowed). IsUnderWay l after.is_sequence front) (sym under) (subst (λ (b : Bool). IsUnderWay limits b front) (sym kind) goes))).0) in
+    let told : IsTold limits framing (text ++ piece) site.place c.path.result = IsTold-here limits framing text piece at site.place c.path.result within here
+    (λ goes. c.path.ensures.told (keeps (subst (λ (l : Allowed). IsUnderWay l after.framing front) (sym under) (subst (λ (b : Option Framing). IsUnderWay limits b front) (sym kind) goes))).0) in
     record {
       under = under;
       keeps = λ fewer. subst (λ (n : ℕ). KeepsIn after (text ++ take n piece)) (sym located) keeps;
       within = c.settle.ensures.within (text ++ piece) c.index-self-i.result tells.within (omega (arith, here, within, length-append text piece));
-      told = c.settle.ensures.told limits is_sequence (text ++ piece) c.index-self-i.result tells.told told;
+      told = c.settle.ensures.told limits framing (text ++ piece) c.index-self-i.result tells.told told;
     }
 
 -- what the excerpt takes changes no place

@@ -10,20 +10,20 @@ use Rattle.geolint_files.proofs.sites.Sites.take.Goals as goal
 pub returns : goal.returns
 returns c = record {
   reaches = λ text begun. c.pass.ensures.reaches text (c.reach.ensures.reaches text (c.loop.invariant.reaches text (Reaches-piece c.args.finder.now c.args.self.now text c.args.piece.now begun)));
-  follows = λ is_sequence text begun follows.
+  follows = λ framing text begun follows.
       let here = Reaches-piece c.args.finder.now c.args.self.now text c.args.piece.now begun in
-      c.pass.ensures.follows is_sequence text (c.reach.ensures.follows is_sequence text (c.loop.invariant.reaches text here)
-      (c.loop.invariant.follows is_sequence text here (Follows-piece is_sequence c.args.finder.now c.args.self.now text c.args.piece.now follows)));
-  tells = λ limits is_sequence text begun follows tells.
+      c.pass.ensures.follows framing text (c.reach.ensures.follows framing text (c.loop.invariant.reaches text here)
+      (c.loop.invariant.follows framing text here (Follows-piece framing c.args.finder.now c.args.self.now text c.args.piece.now follows)));
+  tells = λ limits framing text begun follows tells.
       let located = follows.located in
       let here = Reaches-piece c.args.finder.now c.args.self.now text c.args.piece.now begun in
-      let near = Follows-piece is_sequence c.args.finder.now c.args.self.now text c.args.piece.now follows in
+      let near = Follows-piece framing c.args.finder.now c.args.self.now text c.args.piece.now follows in
       let reaches = c.loop.invariant.reaches text here in
-      let after = c.loop.invariant.follows is_sequence text here near in
-      c.pass.ensures.tells limits is_sequence text (c.reach.ensures.follows is_sequence text reaches after)
-      (c.reach.ensures.tells limits is_sequence text reaches after
-      (c.loop.invariant.tells limits is_sequence text here near
-      (Tells-piece limits is_sequence c.args.finder.now c.args.self.now text c.args.piece.now (omega (arith, located)) tells)));
+      let after = c.loop.invariant.follows framing text here near in
+      c.pass.ensures.tells limits framing text (c.reach.ensures.follows framing text reaches after)
+      (c.reach.ensures.tells limits framing text reaches after
+      (c.loop.invariant.tells limits framing text here near
+      (Tells-piece limits framing c.args.finder.now c.args.self.now text c.args.piece.now (omega (arith, located)) tells)));
   seeks = λ text begun ordered seeks.
       let none = begun.counted in
       let start : length text ≡ length text + c.args.finder.now.counted = omega (arith, none) in
@@ -42,9 +42,9 @@ returns c = record {
 pub loop-preserved : goal.loop-preserved
 loop-preserved c = record {
   reaches = λ text begun. c.reach.ensures.reaches text (c.loop.invariant.reaches text begun);
-  follows = λ is_sequence text begun follows. c.reach.ensures.follows is_sequence text (c.loop.invariant.reaches text begun) (c.loop.invariant.follows is_sequence text begun follows);
-  tells = λ limits is_sequence text begun follows tells. c.reach.ensures.tells limits is_sequence text (c.loop.invariant.reaches text begun) (c.loop.invariant.follows is_sequence text begun follows)
-      (c.loop.invariant.tells limits is_sequence text begun follows tells);
+  follows = λ framing text begun follows. c.reach.ensures.follows framing text (c.loop.invariant.reaches text begun) (c.loop.invariant.follows framing text begun follows);
+  tells = λ limits framing text begun follows tells. c.reach.ensures.tells limits framing text (c.loop.invariant.reaches text begun) (c.loop.invariant.follows framing text begun follows)
+      (c.loop.invariant.tells limits framing text begun follows tells);
   seeks = λ text begun ordered seeks. c.reach.ensures.reached c.loop-test.true text (c.loop.invariant.reaches text begun)
       (subst (λ (places : List ℕ). IsNonDecreasing places) (sym c.loop.invariant.sought) ordered) (c.loop.invariant.seeks text begun ordered seeks);
   shows = λ text begun shows. c.reach.ensures.shows text (c.loop.invariant.reaches text begun) (c.loop.invariant.shows text begun shows);
