@@ -3,7 +3,7 @@ _geolint() {
     local word=${COMP_WORDS[COMP_CWORD]} before=${COMP_WORDS[COMP_CWORD - 1]}
     COMPREPLY=()
     if ((COMP_CWORD == 1)); then
-        mapfile -t COMPREPLY < <(compgen -W 'file stdin --help' -- "$word")
+        mapfile -t COMPREPLY < <(compgen -W 'file stdin --help --version' -- "$word")
         return
     fi
     case $before in

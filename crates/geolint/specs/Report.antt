@@ -67,3 +67,7 @@ report (refused fault) path = refusal_line fault
 -- where nothing more is asked than whether an input is valid
 abbrev pub not_valid_line : List ℕ
 not_valid_line = codes "not valid\n"
+
+-- what the program says of itself
+abbrev pub version_line : List ℕ
+version_line = codes "geolint 0.1.0\n"

@@ -23,7 +23,7 @@ mod words;
 
 use crate::fault::{ProgramFault, RunFault, USAGE, WriteFault};
 use crate::options::Outcome;
-use crate::report::write_help;
+use crate::report::{write_help, write_version};
 use crate::run::{run, run_with_path};
 use crate::sequence::run_sequence;
 use crate::sink::{FromWrite, Sink};
@@ -36,7 +36,7 @@ use std::process::ExitCode;
 
 /// Reads the words, judges the file or standard input, and writes the report to standard output.
 ///
-/// Status 0 says that the input passes or that help was asked for, 1 that it does not pass, 2 that there is no verdict or
+/// Status 0 says that the input passes or that help or the version was asked for, 1 that it does not pass, 2 that there is no verdict or
 /// not all of its report: then a line on standard error says why.
 fn main(rt: HostRuntime) -> ExitCode {
     match answer(&rt) {
@@ -55,6 +55,10 @@ fn answer(rt: &HostRuntime) -> Result<Outcome, ProgramFault> {
         Ok(order) => obey(rt, &order),
         Err(WordsFault::Help) => {
             write_help(&mut FromWrite::new(rt.stdout())).map_err(ProgramFault::Write)?;
+            Ok(Outcome::Pass)
+        }
+        Err(WordsFault::Version) => {
+            write_version(&mut FromWrite::new(rt.stdout())).map_err(ProgramFault::Write)?;
             Ok(Outcome::Pass)
         }
         Err(WordsFault::Usage) => Err(ProgramFault::Usage),

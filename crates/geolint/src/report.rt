@@ -4,7 +4,7 @@ ghost use Rattle.std.specs.Io.KnownBytes.{Appends};
 ghost use Rattle.gj_rules.specs.Sequence.{SequenceJudgement, SequenceSays};
 ghost use Rattle.gj_rules.specs.Verdict.{Judgement, Says};
 ghost use Rattle.geolint.specs.Counts.{CountsFailure};
-ghost use Rattle.geolint.specs.Report.{refusal_line, broken_line, not_valid_line, report};
+ghost use Rattle.geolint.specs.Report.{refusal_line, broken_line, not_valid_line, report, version_line};
 ghost use Rattle.geolint.specs.Room.{written_in, Adds};
 ghost use Rattle.geolint.specs.Sequence.{sequence_report};
 ghost use Rattle.geolint.specs.VerdictReport.{verdict_report, sequence_verdict_report};
@@ -133,6 +133,16 @@ pub fn write_not_valid<W: Sink>(writer: &mut W) -> Result<(), WriteFault>
     ensures failed { CountsFailure (W.failed_writes writer.old) (W.failed_writes writer.new) result }
 {
     write_bytes(b"not valid\n", writer)
+}
+
+/// Writes the line that says the version, as `write_report` does a report.
+pub fn write_version<W: Sink>(writer: &mut W) -> Result<(), WriteFault>
+    ensures whole { OnOk result (Appends (W.taken writer.old) (W.taken writer.new) version_line) }
+    ensures front { IfErr result (λ fault.
+        IsFrontOut (W.taken writer.old) (W.taken writer.new) version_line fault.written) }
+    ensures failed { CountsFailure (W.failed_writes writer.old) (W.failed_writes writer.new) result }
+{
+    write_bytes(b"geolint 0.1.0\n", writer)
 }
 
 /// Writes how the program is called.

@@ -28,6 +28,8 @@ pub enum WordsFault {
     Usage,
     /// They ask for help.
     Help,
+    /// They ask for the version.
+    Version,
     /// Memory was refused.
     Memory,
 }
@@ -36,6 +38,7 @@ impl From<Error> for WordsFault {
     fn from(error: Error) -> WordsFault {
         match error.kind() {
             ErrorKind::DisplayHelp => WordsFault::Help,
+            ErrorKind::DisplayVersion => WordsFault::Version,
             ErrorKind::OutOfMemory => WordsFault::Memory,
             _ => WordsFault::Usage,
         }
@@ -67,7 +70,9 @@ fn command<'a>(alloc: Global) -> Result<Command<'a>, AllocError> {
         .action(ArgAction::Set);
     let file = with_options(alloc, Command::new(alloc, "file"))?.arg(path)?;
     let stdin = with_options(alloc, Command::new(alloc, "stdin"))?;
+    // What clap would print of a version is not asked for: `write_version` says it.
     Command::new(alloc, "geolint")
+        .version("")
         .no_binary_name(true)
         .subcommand_required(true)
         .subcommand(file)?

@@ -227,3 +227,10 @@ fn a_report_goes_out_in_one_write(rt: HostRuntime) {
     assert_eq!(rt; write_report(longest(), None, &mut sink), Ok(()));
     assert_eq!(rt; (sink.bytes().len(), sink.writes()), (731, 1));
 }
+
+#[test]
+fn says_the_version(rt: HostRuntime) {
+    let mut sink = ArraySink::new(usize::MAX, usize::MAX, Ending::Fails);
+    assert_eq!(rt; write_version(&mut sink), Ok(()));
+    assert_eq!(rt; sink.bytes(), b"geolint 0.1.0\n");
+}
