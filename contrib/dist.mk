@@ -1,6 +1,10 @@
-# What anyone can install without the toolchain: `make dist` writes dist/, and `make release` does so for others.
+# What anyone can install without the toolchain: `make dist` writes dist/, and `make release` does so for others. docs/packages.md says
+# what is in it, and which tools it asks for.
 .PHONY: dist release
-dist: build library
+dist:
+	@contrib/dist/make-dist --tools
+	@$(MAKE) --no-print-directory build library
+	@$(MAKE) --no-print-directory -j2 web npm library TARGET=aarch64
 	@contrib/dist/make-dist
 
 # Nothing goes out without a licence, which is the owner's to choose.
