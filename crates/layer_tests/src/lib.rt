@@ -6,6 +6,8 @@
 #[cfg(test)]
 mod coords;
 #[cfg(test)]
+mod hints;
+#[cfg(test)]
 mod json;
 #[cfg(test)]
 mod number;

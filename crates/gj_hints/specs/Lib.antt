@@ -1,0 +1,6 @@
+pub mod Hints
+pub mod Formats
+pub mod Numbers
+pub mod Spellings
+pub mod Swapped
+pub mod Texts

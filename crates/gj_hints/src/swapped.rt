@@ -1,0 +1,129 @@
+//! A position whose latitude comes before its longitude.
+ghost use Rattle.std.specs.Prelude.{◌≡◌, ◌≤◌, ◌-◌, length};
+ghost use Rattle.std.specs.Char.{is_ascii_digit};
+ghost use Rattle.std.specs.List.{prefix_len};
+ghost use Rattle.gj_hints.specs.Swapped.{is_inside, field, behind_field, is_plain, is_plain_byte, without_sign, digits_of, whole, degrees, are_swapped, is_swapped};
+
+use crate::formats::without_white;
+
+/// Whether the position that begins with these bytes is right once its first two numbers are swapped, and is out of range as
+/// it is.
+pub fn is_swapped(bytes: &[u8]) -> bool
+    ensures { result ≡ is_swapped bytes.now }
+{
+    match bytes {
+        [b'[', numbers @ ..] => are_swapped(field(numbers), field(behind_field(numbers))),
+        _ => false,
+    }
+}
+
+/// Whether the first number may be a latitude, and the second is none and may be a longitude.
+fn are_swapped(first: &[u8], second: &[u8]) -> bool
+    ensures { result ≡ are_swapped first.now second.now }
+{
+    is_plain(first)
+        && is_plain(second)
+        && degrees(first) < 90
+        && 90 <= degrees(second)
+        && degrees(second) < 180
+}
+
+/// The bytes up to the comma or the bracket behind a number.
+fn field(bytes: &[u8]) -> &[u8]
+    ensures { result.now ≡ field bytes.now }
+{
+    &bytes[..field_len(bytes)]
+}
+
+fn behind_field(bytes: &[u8]) -> &[u8]
+    ensures { result.now ≡ behind_field bytes.now }
+{
+    match &bytes[field_len(bytes)..] {
+        [_, rest @ ..] => rest,
+        [] => &[],
+    }
+}
+
+fn field_len(bytes: &[u8]) -> usize
+    ensures value { result ≡ prefix_len is_inside bytes.now }
+    ensures within { result ≤ length bytes.now }
+{
+    for i in 0..bytes.len() {
+        if !is_inside(bytes[i]) {
+            return i;
+        }
+    }
+    bytes.len()
+}
+
+fn is_inside(byte: u8) -> bool
+    ensures { result ≡ is_inside byte }
+{
+    !(byte == b',' || byte == b']')
+}
+
+/// Whether a number is spelled with no exponent.
+fn is_plain(field: &[u8]) -> bool
+    ensures { result ≡ is_plain field.now }
+{
+    field.iter().all(|byte| is_plain_byte(*byte))
+}
+
+fn is_plain_byte(byte: u8) -> bool
+    ensures { result ≡ is_plain_byte byte }
+{
+    byte.is_ascii_digit() || byte.is_ascii_whitespace() || byte == b'-' || byte == b'.'
+}
+
+/// The whole degrees of a number, without its sign.
+fn degrees(field: &[u8]) -> u16
+    ensures { result ≡ degrees field.now }
+{
+    whole(digits(without_sign(without_white(field))))
+}
+
+fn without_sign(number: &[u8]) -> &[u8]
+    ensures { result.now ≡ without_sign number.now }
+{
+    match number {
+        [b'-', rest @ ..] => rest,
+        _ => number,
+    }
+}
+
+/// The digits at the front.
+fn digits(bytes: &[u8]) -> &[u8]
+    ensures { result.now ≡ digits_of bytes.now }
+{
+    &bytes[..digits_len(bytes)]
+}
+
+fn digits_len(bytes: &[u8]) -> usize
+    ensures value { result ≡ prefix_len is_ascii_digit bytes.now }
+    ensures within { result ≤ length bytes.now }
+{
+    for i in 0..bytes.len() {
+        if !bytes[i].is_ascii_digit() {
+            return i;
+        }
+    }
+    bytes.len()
+}
+
+/// What up to three digits say, and a number that is no degree for more or none.
+fn whole(digits: &[u8]) -> u16
+    ensures { result ≡ whole digits.now }
+{
+    match digits {
+        [ones] => value(*ones),
+        [tens, ones] => value(*tens) * 10 + value(*ones),
+        [hundreds, tens, ones] => value(*hundreds) * 100 + value(*tens) * 10 + value(*ones),
+        _ => 999,
+    }
+}
+
+fn value(digit: u8) -> u16
+    ensures { (result ≡ digit - 48) }
+{
+    u16::from(digit.saturating_sub(48))
+}
