@@ -1,0 +1,14 @@
+use Rattle.std.proofs.Common.{◌-◌, ◌≡◌, ℕ, List, Some, max, ◌≤◌}
+use Rattle.std.specs.Io.KnownBytes.{Appends}
+use Rattle.gj_split.specs.Split.{bytes_between}
+use Rattle.gj_split.proofs.copy.copy_between.Given as goal
+
+abbrev pub invariant-loop-at : goal.invariant-loop-at
+invariant-loop-at g l = record {
+  from : l.place ≤ l.at;
+  upto : l.at ≤ max l.place l.end;
+  copied : (bytes : List ℕ) → g.R.Ranges.text ≡ Some bytes → Appends (g.W.Write.contents l.initial.out) (g.W.Write.contents l.out) (bytes_between l.place l.at bytes);
+}
+
+abbrev pub decreases-loop-at : goal.decreases-loop-at
+decreases-loop-at g l = l.end - l.at

@@ -1,0 +1,17 @@
+use Rattle.std.proofs.Common.{◌≡◌}
+use Rattle.gj_rules.specs.declared.verdict.Verdict.{Verdict}
+use Rattle.gj_split.proofs.Outcomes.{ok_gives, ok_on}
+use Rattle.gj_split.proofs.ToldFeatures.{held_apart}
+use Rattle.gj_split.proofs.reading.finished.Goals as goal
+
+pub returns-clause-verdict : goal.returns-clause-verdict
+returns-clause-verdict g c = ok_gives c.end.result.outcome c.finish-verdict.result.0 _ _ c.end.ensures.outcome c.finish-verdict.ensures.verdict
+
+pub returns-clause-refused : goal.returns-clause-refused
+returns-clause-refused g c = λ fault e. ok_gives c.end.result.outcome c.finish-verdict.result.0 _ (λ v. v ≡ Verdict.NotJson fault) c.end.ensures.outcome (c.finish-verdict.ensures.again fault e)
+
+pub returns-clause-apart : goal.returns-clause-apart
+returns-clause-apart g c = ok_on c.end.result.outcome c.finish-verdict.result.0 _ _ c.end.ensures.outcome (λ e bytes text k s a.
+    let told = c.finish-verdict.ensures.told bytes text s a in
+    rw (c.end.ensures.outputs, c.end.ensures.counts)
+    (held_apart g.R.Ranges.text c.finish-verdict.result.1.stop _ _ c.finish-verdict.result.1.counts told.0 bytes text e k told.1 a.0.0 told.2))

@@ -1,0 +1,4 @@
+pub mod Split
+pub mod Ranges
+pub mod Holding
+pub mod Internal

@@ -1,0 +1,29 @@
+//! What holds of the features of a text that are set apart: each contract is a law of the definitions.
+ghost use Rattle.std.specs.Prelude.{List, ℕ, length};
+ghost use Rattle.std.specs.List.{AllByRecursion};
+ghost use Rattle.gj_json.specs.Limits.{Allowed};
+ghost use Rattle.gj_json.specs.Refusal.{IsAdmitted};
+ghost use Rattle.gj_json.specs.Tree.{Text};
+ghost use Rattle.gj_split.specs.Split.{split_of, sequence_of, all_features, IsMerged, IsJson, IsValidAlone, IsValidSequence};
+
+use gj_json::{one_refusal, one_text};
+use gj_rules::one_verdict;
+
+/// Each feature without a fault is a valid text by its bytes alone, and as records they are a valid sequence.
+pub fn valid_apart()
+    ensures alone { (limits : Allowed) (text : Text) (bytes : List ℕ) → IsAdmitted limits text bytes →
+        AllByRecursion (IsValidAlone limits.depth) (split_of bytes text).valid }
+    ensures sequence { (limits : Allowed) (text : Text) (bytes : List ℕ) → IsAdmitted limits text bytes →
+        IsValidSequence limits.depth (length (split_of bytes text).valid) (sequence_of (split_of bytes text).valid) }
+{
+    one_text();
+    one_refusal();
+    one_verdict();
+}
+
+/// Both parts together have each feature once, in order, and each is a JSON text by its bytes alone.
+pub fn all_apart()
+    ensures once { (text : Text) (bytes : List ℕ) → IsMerged (split_of bytes text).valid (split_of bytes text).broken (all_features bytes text) }
+    ensures json { (limits : Allowed) (text : Text) (bytes : List ℕ) → IsAdmitted limits text bytes →
+        AllByRecursion (IsJson limits.depth) (all_features bytes text) }
+{}

@@ -1,0 +1,48 @@
+//! A file as what the bytes of a text are read from.
+
+ghost use Rattle.std.specs.Prelude.{None};
+
+use gj_split::Ranges;
+use std::fs::{File, Metadata};
+use std::io;
+use std::os::unix::fs::{FileExt, MetadataExt};
+
+/// A regular file, whose bytes are read by their places. None of them is known before it is read.
+#[derive(Drop)]
+pub struct FileRanges {
+    file: File,
+    /// What the system said of it before it was read.
+    before: Metadata,
+}
+
+impl FileRanges {
+    /// The file; none where it is a folder, a pipe or a device, whose bytes cannot be read twice.
+    pub fn new(file: File) -> io::Result<Option<FileRanges>> {
+        let before = file.metadata()?;
+        if before.is_file() {
+            Ok(Some(FileRanges { file, before }))
+        } else {
+            Ok(None)
+        }
+    }
+
+    /// Whether the file is as it was, as far as the system tells.
+    pub fn is_unchanged(&self) -> bool {
+        match self.file.metadata() {
+            Ok(after) => {
+                self.before.len() == after.len()
+                    && self.before.mtime() == after.mtime()
+                    && self.before.mtime_nsec() == after.mtime_nsec()
+            }
+            Err(_) => false,
+        }
+    }
+}
+
+impl Ranges for FileRanges {
+    ghost text = { None };
+
+    fn read_at(&self, place: u64, piece: &mut [u8]) -> io::Result<usize> {
+        self.file.read_at(piece, place)
+    }
+}

@@ -1,0 +1,34 @@
+//! What is found in the features that have a fault: a line of JSON for each.
+
+use gj_rules::Feature;
+use gj_split::BrokenList;
+use itoa::Buffer;
+use std::io::{self, Write};
+
+/// Writes `{"index":1,"offset":42,"rule":"G6","text":"geometry missing","at":42}` for each feature: how many features stand before
+/// it, where its first byte stands in the file, the rule that it breaks, and where.
+#[derive(Drop)]
+pub struct FindingList<W> {
+    pub out: W,
+}
+
+impl<W: Write> BrokenList for FindingList<W> {
+    fn add(&mut self, feature: &Feature) -> io::Result<()> {
+        let Some(fault) = feature.fault else {
+            return Ok(());
+        };
+        let mut digits = Buffer::new();
+        self.out.write_all(b"{\"index\":")?;
+        self.out.write_all(digits.format(feature.index).as_bytes())?;
+        self.out.write_all(b",\"offset\":")?;
+        self.out.write_all(digits.format(feature.place).as_bytes())?;
+        self.out.write_all(b",\"rule\":\"G")?;
+        self.out
+            .write_all(digits.format(fault.rule.number()).as_bytes())?;
+        self.out.write_all(b"\",\"text\":\"")?;
+        self.out.write_all(fault.rule.text().as_bytes())?;
+        self.out.write_all(b"\",\"at\":")?;
+        self.out.write_all(digits.format(fault.place).as_bytes())?;
+        self.out.write_all(b"}\n")
+    }
+}
