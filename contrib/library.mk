@@ -37,7 +37,7 @@ $(LIBRARY_BUILD)/libgeolint.a: $(GEOLINT_C)/out/libgeolint_c.a
 $(LIBRARY_BUILD)/libgeolint.so: $(LIBRARY_BUILD)/libgeolint.a
 	$(CC) -shared -Wl,-soname,libgeolint.so.0 -Wl,--whole-archive $< -Wl,--no-whole-archive -o $@
 
-rust := Cargo.toml build.rs src/lib.rs tests/linter.rs
+rust := Cargo.toml build.rs src/lib.rs src/findings.rs src/places.rs tests/linter.rs tests/findings.rs
 cmake := geolint-config.cmake geolint-config-version.cmake
 filled = sed -e 's|@PREFIX@|$(PREFIX)|; s|@LIBDIR@|$(LIBDIR)|; s|@INCLUDEDIR@|$(INCLUDEDIR)|; s|@VERSION@|$(VERSION)|'
 imports = (cd / && $(1) -B -c 'import geolint') 2>/dev/null

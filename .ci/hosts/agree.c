@@ -1,5 +1,6 @@
 /* Random inputs, made from the files that are named: the text in one call, and cut into random pieces, give one report; and
- * where a program is named that is the report of `PROGRAM stdin` and its status.
+ * where a program is named that is the report of `PROGRAM stdin` and its status. Features and records that are pulled, and the path, the
+ * line and the column of the place, are the same of one piece and of random ones.
  *
  *     agree SEED COUNT PROGRAM FILE..     `-` for no program
  */
@@ -105,6 +106,125 @@ static geolint_report judge_cut(geolint_linter *linter, const char *text, size_t
     return geolint_finish(linter);
 }
 
+/* A piece of random length, in memory of its own, with its place. */
+typedef struct {
+    const char *text;
+    size_t size, from;
+    int is_cut;
+    char *piece;
+    size_t length;
+} pieces;
+
+static int next_piece(pieces *it) {
+    size_t left = it->size - it->from, most = it->is_cut && below(3) ? 16 : left;
+    free(it->piece);
+    it->piece = NULL;
+    if (!left)
+        return 0;
+    it->length = it->is_cut ? below((uint32_t)(most < left ? most : left) + 1) : left;
+    it->piece = copied(it->text + it->from, it->length);
+    it->from += it->length;
+    return 1;
+}
+
+/* FNV-1a of what was told, in turn. */
+static uint64_t with_bytes(uint64_t sum, const void *bytes, size_t size) {
+    for (size_t at = 0; at < size; at++)
+        sum = (sum ^ ((const unsigned char *)bytes)[at]) * UINT64_C(1099511628211);
+    return sum;
+}
+
+static uint64_t with_feature(uint64_t sum, const geolint_finding *it) {
+    uint64_t places[] = {it->number, it->place, it->end, it->id};
+    return with_bytes(with_bytes(sum, places, sizeof places), &it->report, sizeof it->report);
+}
+
+/* The features that are told, and the verdict; how many there are is counted. */
+static uint64_t pull_features(geolint_features *features, pieces it, uint64_t *count) {
+    uint64_t sum = 0;
+    geolint_report report;
+    geolint_features_begin(features, 0, 0);
+    while (next_piece(&it)) {
+        geolint_progress progress = {0, 0, 0};
+        for (size_t at = 0; at < it.length; at += progress.taken) {
+            progress = geolint_features_feed(features, it.piece + at, it.length - at);
+            if (progress.status > GEOLINT_REFUSED || (!progress.ready && progress.taken != it.length - at))
+                return 1 + (uint64_t)it.is_cut;
+            while (progress.ready) {
+                geolint_finding finding = geolint_features_next(features);
+                if (finding.report.status != GEOLINT_DONE)
+                    break;
+                ++*count;
+                sum = with_feature(sum, &finding);
+            }
+        }
+    }
+    report = geolint_features_finish(features);
+    return with_bytes(sum, &report, sizeof report);
+}
+
+/* The records that are told, and what the input is as a whole. */
+static uint64_t pull_records(geolint_records *records, uint32_t framing, pieces it) {
+    uint64_t sum = 0;
+    geolint_whole whole;
+    geolint_finding finding;
+    geolint_records_begin(records, framing, 0, 0);
+    while (next_piece(&it)) {
+        geolint_progress progress = {0, 0, 0};
+        for (size_t at = 0; at < it.length; at += progress.taken) {
+            progress = geolint_records_feed(records, it.piece + at, it.length - at);
+            if (progress.status != GEOLINT_DONE || (!progress.ready && progress.taken != it.length - at))
+                return 1 + (uint64_t)it.is_cut;
+            finding = geolint_records_next(records);
+            if ((finding.report.status == GEOLINT_DONE) != progress.ready)
+                return 1 + (uint64_t)it.is_cut;
+            sum = progress.ready ? with_feature(sum, &finding) : sum;
+        }
+    }
+    whole = geolint_records_finish(records);
+    finding = geolint_records_next(records);
+    sum = finding.report.status == GEOLINT_DONE ? with_feature(sum, &finding) : sum;
+    return with_bytes(with_bytes(sum, &whole.report, sizeof whole.report), &whole.number, sizeof whole.number);
+}
+
+/* The path, the line and the column of a place. */
+static uint64_t find_place(geolint_locator *locator, pieces it) {
+    char room[6000];
+    geolint_lines lines = geolint_lines_begin();
+    uint64_t found[2];
+    geolint_locator_begin(locator, 0, 0);
+    while (next_piece(&it)) {
+        geolint_locator_feed(locator, it.piece, it.length);
+        lines = geolint_lines_feed(lines, it.piece, it.length);
+    }
+    found[0] = lines.line;
+    found[1] = lines.column;
+    return with_bytes(with_bytes(0, found, sizeof found), room, geolint_locator_path(locator, room, sizeof room));
+}
+
+/* A handle that tells features, one that tells records, and a locator. */
+static void *room[3];
+
+/* Whether one piece and random pieces give the same findings, paths, lines and columns. */
+static int pulls_alike(const char *text, size_t size, uint64_t place, uint64_t *count) {
+    pieces whole = {text, size, 0, 0, NULL, 0}, cut = {text, size, 0, 1, NULL, 0};
+    uint64_t other = 0, before = *count;
+    if (!room[0]) {
+        room[0] = malloc(geolint_features_size());
+        room[1] = malloc(geolint_records_size());
+        room[2] = malloc(geolint_locator_size());
+    }
+    if (!room[0] || !room[1] || !room[2])
+        exit(2);
+    if (pull_features(room[0], whole, count) != pull_features(room[0], cut, &other) || *count - before != other)
+        return 0;
+    for (uint32_t framing = GEOLINT_SEQUENCE; framing <= GEOLINT_NEWLINES; framing++)
+        if (pull_records(room[1], framing, whole) != pull_records(room[1], framing, cut))
+            return 0;
+    whole.size = cut.size = place < size ? (size_t)place + 1 : size;
+    return find_place(room[2], whole) == find_place(room[2], cut);
+}
+
 /* What the program prints, with its status after it. */
 static size_t run_program(const char *program, const char *text, size_t size, char *to) {
     static int input = -1, output = -1;
@@ -133,6 +253,7 @@ static size_t run_program(const char *program, const char *text, size_t size, ch
 int main(int count, char **words) {
     static char text[MOST], one[REPORT], cut[REPORT], wanted[REPORT];
     int inputs = count > 4 ? atoi(words[2]) : 0, files = count - 4, wrong = 0, tally[4] = {0};
+    uint64_t features = 0;
     geolint_linter *linter = geolint_new(0, 0);
     if (inputs < 1 || files > FILES || !linter)
         return 2;
@@ -148,6 +269,7 @@ int main(int count, char **words) {
         geolint_report report = judge_whole(text, size), other = judge_cut(linter, text, size);
         size_t one_size = print_report(&report, one), cut_size = print_report(&other, cut);
         int same = one_size == cut_size && memcmp(one, cut, one_size) == 0;
+        same = same && pulls_alike(text, size, report.place, &features);
         tally[report.verdict & 3]++;
         if (strcmp(words[3], "-") != 0) {
             one_size += (size_t)sprintf(one + one_size, "status %d\n", report.verdict == GEOLINT_VALID ? 0 : 1);
@@ -161,6 +283,8 @@ int main(int count, char **words) {
         }
     }
     geolint_free(linter);
-    printf("%d valid, %d broken, %d not JSON, %d wrong\n", tally[1], tally[2], tally[3], wrong);
+    for (int kind = 0; kind < 3; kind++)
+        free(room[kind]);
+    printf("%d valid, %d broken, %d not JSON, %d wrong, %" PRIu64 " features\n", tally[1], tally[2], tally[3], wrong, features);
     return wrong != 0;
 }

@@ -142,7 +142,145 @@ static void texts(void) {
     wants(text.size == strlen(geolint_version()) + 1, "the version's size");
 }
 
+static const char BOTH[] = "{\"type\":\"FeatureCollection\",\"features\":[7,{\"type\":\"Feature\",\"id\":3,\"geometry\":null,\"properties\":null}]}";
+#define BOTH_SIZE (sizeof BOTH - 1)
+
+static void features_at_null(void) {
+    geolint_progress progress = geolint_features_feed(NULL, "x", 1);
+    wants(geolint_features_begin(NULL, 0, 0) == GEOLINT_NULL, "begin features at null");
+    wants(progress.status == GEOLINT_NULL && progress.taken == 0 && !progress.ready, "feed features at null");
+    wants(geolint_features_next(NULL).report.status == GEOLINT_NULL, "next feature at null");
+    wants(geolint_features_offset(NULL) == 0, "offset of features at null");
+    wants(geolint_features_finish(NULL).status == GEOLINT_NULL, "finish features at null");
+}
+
+static void features_pulled(void) {
+    geolint_features *features = (geolint_features *)malloc(geolint_features_size());
+    geolint_progress progress;
+    geolint_finding finding;
+    if (!features) {
+        wants(0, "memory");
+        return;
+    }
+    wants(geolint_features_begin(features, 0, 0) == GEOLINT_DONE, "begin features");
+    wants(geolint_features_next(features).report.status == GEOLINT_NONE, "no feature yet");
+    progress = geolint_features_feed(features, BOTH, BOTH_SIZE);
+    wants(progress.status == GEOLINT_DONE && progress.ready == 1 && progress.taken == BOTH_SIZE - 2, "up to the end of a feature");
+    progress = geolint_features_feed(features, BOTH + progress.taken, 2);
+    wants(progress.status == GEOLINT_READY && progress.ready == 1 && progress.taken == 0, "a finding is to be taken first");
+    wants(geolint_features_finish(features).status == GEOLINT_READY, "and before the end");
+    finding = geolint_features_next(features);
+    wants(finding.number == 0 && finding.place == 40 && finding.end == 0 && finding.id == 0, "where a number stands");
+    wants(finding.report.verdict == GEOLINT_BROKEN && finding.report.rule == 1 && finding.report.place == 40, "and what it is");
+    finding = geolint_features_next(features);
+    wants(finding.number == 1 && finding.place == 42 && finding.end == BOTH_SIZE - 2 && finding.id == 65, "where a feature stands");
+    wants(finding.report.verdict == GEOLINT_VALID && !finding.report.warned, "and what it is");
+    wants(geolint_features_next(features).report.status == GEOLINT_NONE, "no feature more");
+    wants(geolint_features_offset(features) == BOTH_SIZE - 2, "its offset");
+    progress = geolint_features_feed(features, BOTH + BOTH_SIZE - 2, 2);
+    wants(progress.status == GEOLINT_DONE && !progress.ready && progress.taken == 2, "the rest");
+    wants(geolint_features_finish(features).rule == 1, "the whole");
+    wants(geolint_features_finish(features).status == GEOLINT_ENDED, "finish features after the end");
+    wants(geolint_features_feed(features, "x", 1).status == GEOLINT_ENDED, "feed features after the end");
+    wants(geolint_features_next(features).report.status == GEOLINT_NONE && geolint_features_offset(features) == 0, "the others after the end");
+    wants(geolint_features_begin(features, 0, 0) == GEOLINT_DONE, "begin features again");
+    progress = geolint_features_feed(features, "[1,]  ", 6);
+    wants(progress.status == GEOLINT_REFUSED && progress.taken == 6 && !progress.ready, "a refused piece of features");
+    wants(geolint_features_finish(features).cause == GEOLINT_SYNTAX, "its verdict");
+    wants(geolint_features_begin(features, 257, 0) == GEOLINT_LIMITS, "features beyond the limits");
+    wants(geolint_features_feed(features, "x", 1).status == GEOLINT_ENDED, "feed features after it");
+    free(features);
+}
+
+static void records_pulled(void) {
+    static const char lines[] = "[1]\n\n{\"type\":\"Point\",\"coordinates\":[1,2]}\n[";
+    geolint_records *records = (geolint_records *)malloc(geolint_records_size());
+    geolint_progress progress;
+    geolint_finding finding;
+    geolint_whole whole;
+    if (!records) {
+        wants(0, "memory");
+        return;
+    }
+    wants(geolint_records_begin(NULL, 0, 0, 0) == GEOLINT_NULL && geolint_records_feed(NULL, "x", 1).status == GEOLINT_NULL, "records at null");
+    wants(geolint_records_next(NULL).report.status == GEOLINT_NULL && geolint_records_offset(NULL) == 0, "next record at null");
+    wants(geolint_records_finish(NULL).report.status == GEOLINT_NULL, "finish records at null");
+    wants(geolint_records_begin(records, 2, 0, 0) == GEOLINT_LIMITS, "a framing that is none");
+    wants(geolint_records_feed(records, "x", 1).status == GEOLINT_ENDED && geolint_records_finish(records).report.status == GEOLINT_ENDED, "the end after it");
+    wants(geolint_records_begin(records, GEOLINT_NEWLINES, 0, 0) == GEOLINT_DONE, "begin records");
+    progress = geolint_records_feed(records, lines, sizeof lines - 1);
+    wants(progress.status == GEOLINT_DONE && progress.ready == 1 && progress.taken == 4, "up to a line's end");
+    wants(geolint_records_feed(records, lines + 4, 1).status == GEOLINT_READY, "a record is to be taken first");
+    wants(geolint_records_finish(records).report.status == GEOLINT_READY, "and before the end");
+    finding = geolint_records_next(records);
+    wants(finding.number == 1 && finding.place == 0 && finding.end == 3 && finding.id == 0 && finding.report.rule == 1, "the first record");
+    wants(geolint_records_next(records).report.status == GEOLINT_NONE, "no record more");
+    progress = geolint_records_feed(records, lines + 4, sizeof lines - 5);
+    finding = geolint_records_next(records);
+    wants(progress.taken == 38 && finding.number == 2 && finding.place == 5 && finding.end == 41, "the second record, after an empty line");
+    wants(finding.report.verdict == GEOLINT_VALID, "and what it is");
+    progress = geolint_records_feed(records, lines + 42, 1);
+    wants(progress.taken == 1 && !progress.ready && geolint_records_offset(records) == 43, "the beginning of a third");
+    whole = geolint_records_finish(records);
+    wants(whole.number == 1 && whole.report.rule == 1 && whole.report.place == 0, "the whole by its first record");
+    finding = geolint_records_next(records);
+    wants(finding.number == 3 && finding.report.cause == GEOLINT_TRUNCATED && finding.report.place == 43, "the last record");
+    wants(geolint_records_next(records).report.status == GEOLINT_NONE, "no record after it");
+    wants(geolint_records_finish(records).report.status == GEOLINT_ENDED, "finish records after the end");
+    wants(geolint_records_begin(records, GEOLINT_SEQUENCE, 0, 3) == GEOLINT_DONE, "begin a sequence");
+    progress = geolint_records_feed(records, "\x1e[1]\n", 5);
+    wants(progress.status == GEOLINT_REFUSED && progress.ready == 1, "beyond the limit");
+    wants(geolint_records_next(records).report.cause == GEOLINT_LENGTH, "too long");
+    free(records);
+}
+
+static void a_path(void) {
+    geolint_locator *locator = (geolint_locator *)malloc(geolint_locator_size());
+    char room[64];
+    if (!locator) {
+        wants(0, "memory");
+        return;
+    }
+    wants(geolint_locator_begin(NULL, 0, 0) == GEOLINT_NULL && geolint_locator_feed(NULL, "x", 1) == GEOLINT_NULL, "a locator at null");
+    wants(geolint_locator_step(NULL, 0).size == 0 && geolint_locator_path(NULL, room, sizeof room) == 1, "the path at null");
+    wants(geolint_locator_begin(locator, 0, 0) == GEOLINT_DONE, "begin a locator");
+    wants(geolint_locator_feed(locator, BOTH, 66) == GEOLINT_DONE, "up to the number of an id");
+    wants(geolint_locator_path(locator, room, sizeof room) == 16 && strcmp(room, "$.features[1].id") == 0, "its path");
+    wants(geolint_locator_path(locator, room, 6) == 16 && strcmp(room, "$.fea") == 0, "in a small room");
+    wants(geolint_locator_path(locator, room, 0) == 16, "in no room");
+    wants(geolint_locator_step(locator, 3).size == 0 && geolint_locator_step(locator, UINT32_MAX).size == 0, "no step more");
+    wants(geolint_locator_begin(locator, 0, 0) == GEOLINT_DONE && geolint_locator_step(locator, 0).size == 0, "begin it again");
+    wants(geolint_locator_feed(locator, "[1,]", 4) == GEOLINT_REFUSED, "a refused piece");
+    wants(geolint_locator_begin(locator, 257, 0) == GEOLINT_LIMITS && geolint_locator_feed(locator, "x", 1) == GEOLINT_ENDED, "beyond the limits");
+    wants(geolint_locator_path(locator, room, sizeof room) == 1 && strcmp(room, "$") == 0, "the path then");
+    free(locator);
+}
+
+static void a_line(void) {
+    geolint_lines lines = geolint_lines_begin();
+    wants(lines.line == 1 && lines.column == 1, "before the first byte");
+    lines = geolint_lines_feed(lines, "a\nb", 3);
+    wants(lines.line == 2 && lines.column == 2, "after a line and a character");
+    lines = geolint_lines_feed(lines, "\xC3\xA9", 2);
+    lines = geolint_lines_feed(lines, "", 0);
+    wants(lines.line == 2 && lines.column == 3, "after two bytes that are one character");
+    lines = geolint_lines_feed(lines, "\n\n", 2);
+    wants(lines.line == 4 && lines.column == 1, "after two lines");
+}
+
+static void sizes(void) {
+    wants(GEOLINT_SIZE == geolint_size() && GEOLINT_ALIGNMENT == geolint_alignment(), "the size of a linter");
+    wants(GEOLINT_FEATURES_SIZE == geolint_features_size() && GEOLINT_RECORDS_SIZE == geolint_records_size(), "the sizes of features and records");
+    wants(GEOLINT_LOCATOR_SIZE == geolint_locator_size(), "the size of a locator");
+}
+
 int main(void) {
+    features_at_null();
+    features_pulled();
+    records_pulled();
+    a_path();
+    a_line();
+    sizes();
     at_null();
     pieces_of_length_0();
     after_the_end();

@@ -15,6 +15,9 @@ struct work {
     size_t size;
     geolint_linter *linter;
     geolint_report report;
+    geolint_features *features;
+    geolint_records *records;
+    geolint_locator *locator;
 };
 
 static void *nothing(void *at) {
@@ -44,6 +47,38 @@ static void *by_pieces(void *at) {
     return NULL;
 }
 
+static void *by_findings(void *at) {
+    struct work *work = at;
+    geolint_features_begin(work->features, 0, 0);
+    for (size_t from = 0; from < work->size;) {
+        from += geolint_features_feed(work->features, work->text + from, work->size - from).taken;
+        while (geolint_features_next(work->features).report.status == GEOLINT_DONE)
+            geolint_features_offset(work->features);
+    }
+    work->report = geolint_features_finish(work->features);
+    for (uint32_t framing = GEOLINT_SEQUENCE; framing <= GEOLINT_NEWLINES; framing++) {
+        geolint_records_begin(work->records, framing, 0, 0);
+        for (size_t from = 0; from < work->size;) {
+            from += geolint_records_feed(work->records, work->text + from, work->size - from).taken;
+            geolint_records_next(work->records);
+        }
+        work->report = geolint_records_finish(work->records).report;
+    }
+    return NULL;
+}
+
+static void *by_place(void *at) {
+    struct work *work = at;
+    geolint_lines lines = geolint_lines_begin();
+    char room[64];
+    geolint_locator_begin(work->locator, 0, 0);
+    geolint_locator_feed(work->locator, work->text, work->size / 2);
+    geolint_locator_path(work->locator, room, sizeof room);
+    lines = geolint_lines_feed(lines, work->text, work->size / 2);
+    work->report.place = lines.line;
+    return NULL;
+}
+
 /* How many bytes of a stack were written; 0 where there was no thread. */
 static size_t written(struct work *work, unsigned char *stack) {
     pthread_attr_t how;
@@ -63,13 +98,15 @@ static size_t written(struct work *work, unsigned char *stack) {
 int main(int count, char **words) {
     static char text[MOST];
     void *stack = mmap(NULL, STACK, PROT_READ | PROT_WRITE, MAP_PRIVATE | MAP_ANONYMOUS | MAP_STACK, -1, 0);
-    struct work work = {nothing, text, 0, geolint_new(0, 0), {0}};
-    size_t bare, call = 0, pieces = 0, depth;
-    if (stack == MAP_FAILED || !work.linter || count < 2)
+    struct work work = {nothing, text, 0, geolint_new(0, 0), {0}, malloc(geolint_features_size()), malloc(geolint_records_size()), malloc(geolint_locator_size())};
+    size_t bare, call = 0, pieces = 0, findings = 0, place = 0, depth;
+    if (stack == MAP_FAILED || !work.linter || !work.features || !work.records || !work.locator || count < 2)
         return 2;
     /* What the first calls need for being linked is the system's. */
     by_call(&work);
     by_pieces(&work);
+    by_findings(&work);
+    by_place(&work);
     written(&work, stack);
     bare = written(&work, stack);
     for (int file = 1; file < count; file++) {
@@ -83,8 +120,17 @@ int main(int count, char **words) {
         work.judge = by_pieces;
         depth = written(&work, stack) - bare;
         pieces = depth > pieces ? depth : pieces;
+        work.judge = by_findings;
+        depth = written(&work, stack) - bare;
+        findings = depth > findings ? depth : findings;
+        work.judge = by_place;
+        depth = written(&work, stack) - bare;
+        place = depth > place ? depth : place;
     }
     geolint_free(work.linter);
-    printf("%zu bytes for a text in memory, %zu for a linter\n", call, pieces);
-    return !bare || call > CHECK || pieces > STREAM;
+    free(work.features);
+    free(work.records);
+    free(work.locator);
+    printf("%zu bytes for a text in memory, %zu for a linter, %zu for findings, %zu for a place\n", call, pieces, findings, place);
+    return !bare || call > CHECK || pieces > STREAM || findings > STREAM || place > 2 * STREAM;
 }

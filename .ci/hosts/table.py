@@ -3,6 +3,11 @@ are allowed, the rule or the cause, its place, and the warnings, with tabs betwe
 
     table.py rows                            the rows of rows.json
     table.py random SEED COUNT PROGRAM FILE..    texts made from the files, and what the program says of them
+
+    table.py features SEED COUNT             texts made of the features of features.json, which says what is found in each
+
+A line of these has the number, the bytes, and the findings with `;` between them: index, start, end, place of the id, rule, its place,
+and the warnings, with a blank between them and `-` for nothing.
 """
 
 import json
@@ -94,9 +99,47 @@ def made(seed, count, program, paths):
         yield line(number, text, WIDEST, report["rule"], report["offset"], warnings)
 
 
+HEADS = ['{"type":"FeatureCollection","features":[', ' {"features" : [', '{"name":"features","x":{"features":[{},1]},"features":[', '{"type":"Nope","features":[', '\ufeff{"features":[']
+TAILS = ["]}", '],"type":"FeatureCollection"}', '],"features":[7,{}]}', '],"x":[{"features":[1]}]}\n', "]!", "]}}", "]"]
+
+
+def found(element, index, start):
+    """What is found in an element that is the so-manieth of the features and begins there."""
+    text = element["text"].encode()
+
+    def place(words):
+        return start + text.index(words.encode())
+
+    end = start + len(text) if text[:1] in (b"{", b"[") else "-"
+    noted = ",".join(f"{kind} {count} {place(at)}" for kind, count, at in element.get("warnings", [])) or "-"
+    known = place(element["id"]) if "id" in element else "-"
+    return f"{index} {start} {end} {known} {element.get('rule', '-')} {place(element['at']) if 'at' in element else '-'} {noted}"
+
+
+def features(seed, count):
+    chance = random.Random(int(seed))
+    elements = json.load(open(os.path.join(os.path.dirname(__file__), "features.json")))
+    for number in range(1, int(count) + 1):
+        text, findings = chance.choice(HEADS).encode(), []
+        for index in range(chance.randrange(8)):
+            element = elements[(number + index) % len(elements)] if chance.randrange(2) else chance.choice(elements)
+            text += (b"," if index else b"") + chance.choice([b"", b" ", b"\r\n\t"])
+            start, spelled = len(text), element["text"].encode()
+            text += spelled
+            # A number is complete with the byte after it.
+            findings.append((len(text) + spelled[:1].isdigit(), found(element, index, start)))
+            text += chance.choice([b"", b"", b"\n"])
+        text += chance.choice(TAILS).encode()
+        if chance.randrange(3) == 0:
+            text = text[: chance.randrange(len(text) + 1)]
+        yield f"{number}\t{text.hex()}\t" + ";".join(line for complete, line in findings if complete <= len(text))
+
+
 if __name__ == "__main__":
     if sys.argv[1:] == ["rows"]:
         lines = rows()
+    elif len(sys.argv) == 4 and sys.argv[1] == "features":
+        lines = features(*sys.argv[2:])
     elif len(sys.argv) > 5 and sys.argv[1] == "random":
         lines = made(*sys.argv[2:5], sys.argv[5:])
     else:

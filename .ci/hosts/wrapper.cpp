@@ -146,7 +146,60 @@ static void exceptions() {
 #endif
 }
 
+static const std::string COLLECTION = "{\"type\":\"FeatureCollection\",\"features\":[7,{\"type\":\"Feature\",\"id\":3,\"geometry\":null,\"properties\":null}]}";
+
+/* What a feature or a record is told with, in one line. */
+static std::string told(const geolint::Finding &finding) {
+    return std::to_string(finding.number()) + " " + std::to_string(finding.place()) + " " + std::to_string(finding.end()) + " " +
+           std::to_string(finding.id()) + (finding.valid() ? " valid;" : " broken;");
+}
+
+static void features() {
+    for (std::size_t size = 1; size < 200; size += 13) {
+        geolint::Features features;
+        std::string all;
+        for (std::size_t from = 0; from < COLLECTION.size(); from += size) {
+            const std::string piece = COLLECTION.substr(from, size);
+            for (geolint::Finding finding : features.feed(piece))
+                all += told(finding);
+        }
+        wants(bool(features) && all == "0 40 0 0 broken;1 42 101 65 valid;", "the features in pieces");
+        wants(features.offset() == COLLECTION.size() && features.finish().rule() == 1 && !features.finish().judged(), "the text");
+    }
+    geolint::Features unread;
+    unread.feed(COLLECTION);
+    wants(unread.finish().rule() == 1, "a range that nobody reads is fed");
+    geolint::Features refused;
+    for (geolint::Finding finding : refused.feed("[1,]  ", 6))
+        wants(finding.number() > 0, "no feature");
+    wants(refused.finish().not_json() && !geolint::Features(geolint::Limits(257)), "a refusal, and no memory");
+}
+
+static void records() {
+    geolint::Records records(GEOLINT_NEWLINES);
+    const std::string lines = "[1]\n\n" + POINT + "\n[";
+    std::string all;
+    std::uint64_t number = 0;
+    for (geolint::Finding finding : records.feed(lines))
+        all += told(finding);
+    wants(records.offset() == lines.size() && records.finish(&number).rule() == 1 && number == 1, "the input");
+    for (geolint::Finding finding : records.last())
+        all += told(finding);
+    wants(all == "1 0 3 0 broken;2 5 41 0 valid;3 42 43 0 broken;", "the records");
+}
+
+static void places() {
+    geolint::Locator locator;
+    geolint::Lines lines;
+    wants(locator.feed(COLLECTION.data(), 66) && locator.path() == "$.features[1].id", "a path");
+    lines.feed(std::string("a\n\xC3\xA9"));
+    wants(lines.line() == 2 && lines.column() == 2, "a line and a column");
+}
+
 int main() {
+    features();
+    records();
+    places();
     one_call();
     kept_references();
     views();

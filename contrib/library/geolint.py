@@ -8,6 +8,13 @@
     >>> print(verdict)
     broken G15 at 89: ring not closed
 
+    >>> print(geolint.report(open("map.geojson", "rb")))
+    6:7: broken G15: ring not closed ($.geometry.coordinates[0])
+
+    >>> for finding in geolint.features(open("map.geojson", "rb")):
+    ...     if not finding.verdict:
+    ...         print(finding.number, finding.verdict)
+
 It needs Python 3.8 and nothing but the shared object `libgeolint.so`: the one that the variable GEOLINT_LIBRARY names, otherwise
 one that lies beside this file, otherwise where `make install-library` put it, otherwise the system's.
 """
@@ -19,13 +26,14 @@ import os
 from dataclasses import dataclass
 
 # `Warning` is left out: `from geolint import *` must not hide Python's own.
-__all__ = ["check", "Linter", "Verdict", "Ended", "version"]
+__all__ = ["check", "report", "features", "records", "Linter", "Verdict", "Report", "Finding", "Features", "Records", "Ended", "version"]
 
 # `make install-library` writes here where it puts the shared object.
 _INSTALLED = ""
 _PIECE = 65536
 
 _DONE, _REFUSED, _ENDED, _LIMITS = 0, 1, 2, 3
+_FRAMINGS = {"sequence": 0, "newlines": 1}
 _NAMES = {1: "valid", 2: "broken", 3: "not JSON"}
 _ALLOWED = "a depth is from 1 to 256, and a number of bytes from 1 to 2**60"
 
@@ -44,6 +52,32 @@ class _Report(ctypes.Structure):
         ("warned", ctypes.c_uint64),
         ("warnings", _Warned * 9),
     ]
+
+
+class _Progress(ctypes.Structure):
+    _fields_ = [("taken", ctypes.c_uint64), ("status", ctypes.c_uint32), ("ready", ctypes.c_uint32)]
+
+
+class _Finding(ctypes.Structure):
+    _fields_ = [
+        ("number", ctypes.c_uint64),
+        ("place", ctypes.c_uint64),
+        ("end", ctypes.c_uint64),
+        ("id", ctypes.c_uint64),
+        ("report", _Report),
+    ]
+
+
+class _Whole(ctypes.Structure):
+    _fields_ = [("report", _Report), ("number", ctypes.c_uint64)]
+
+
+class _Step(ctypes.Structure):
+    _fields_ = [("size", ctypes.c_uint64), ("bytes", ctypes.c_char * 24)]
+
+
+class _Lines(ctypes.Structure):
+    _fields_ = [("line", ctypes.c_uint64), ("column", ctypes.c_uint64)]
 
 
 class _Text(ctypes.Structure):
@@ -70,6 +104,24 @@ def _load():
         ("doomed", u32, [address]),
         ("offset", u64, [address]),
         ("finish", _Report, [address]),
+        ("features_size", size, []),
+        ("features_begin", u32, [address, u32, u64]),
+        ("features_feed", _Progress, [address, address, size]),
+        ("features_next", _Finding, [address]),
+        ("features_offset", u64, [address]),
+        ("features_finish", _Report, [address]),
+        ("records_size", size, []),
+        ("records_begin", u32, [address, u32, u32, u64]),
+        ("records_feed", _Progress, [address, address, size]),
+        ("records_next", _Finding, [address]),
+        ("records_offset", u64, [address]),
+        ("records_finish", _Whole, [address]),
+        ("locator_size", size, []),
+        ("locator_begin", u32, [address, u32, u64]),
+        ("locator_feed", u32, [address, address, size]),
+        ("locator_step", _Step, [address, u32]),
+        ("lines_begin", _Lines, []),
+        ("lines_feed", _Lines, [_Lines, address, size]),
         ("rule_text", None, [u32, text]),
         ("cause_text", None, [u32, text]),
         ("warning_text", None, [u32, text]),
@@ -133,6 +185,50 @@ class Verdict:
             return "\n".join(["valid", *lines])
         rule = f" G{self.rule}" if self.rule else ""
         return f"{self.name}{rule} at {self.place}: {self.text}"
+
+
+@dataclass(frozen=True)
+class Finding:
+    """What is found in a feature or in a record.
+
+    `number` says how many features stand before it; a record is counted from 1, and has 0 where it is what stands before the
+    first RS. `place` is that of its first byte, `end` that after its last, which is None of a feature that is no object and no
+    array. `id` is the place of the value of the feature's first member `id`; None where it has none. The verdict's places are
+    from the start of the input.
+    """
+
+    number: int
+    place: int
+    end: "int | None"
+    id: "int | None"
+    verdict: Verdict
+
+    def __bool__(self):
+        return self.verdict.valid
+
+
+@dataclass(frozen=True)
+class Report:
+    """A verdict, and where its place stands: the line and the column, from 1, and the path of the value, as $.features[3].
+
+    They are None of a valid text, and of what can be read only once; the path also of what is no JSON text.
+    """
+
+    verdict: Verdict
+    line: "int | None" = None
+    column: "int | None" = None
+    path: "str | None" = None
+
+    def __bool__(self):
+        return self.verdict.valid
+
+    def __str__(self):
+        """As geolint-files has it in its lines."""
+        if self.line is None:
+            return str(self.verdict)
+        rule = f" G{self.verdict.rule}" if self.verdict.rule else ""
+        path = f" ({self.path})" if self.path else ""
+        return f"{self.line}:{self.column}: {self.verdict.name}{rule}: {self.verdict.text}{path}"
 
 
 class Ended(ValueError):
@@ -202,6 +298,13 @@ def _runs(data):
         yield bytes(view[at : at + _PIECE])
 
 
+def _room(size):
+    """Memory of so many bytes, and the address in it where one lies."""
+    alignment = _library.geolint_alignment()
+    memory = ctypes.create_string_buffer(size + alignment)
+    return memory, -(-ctypes.addressof(memory) // alignment) * alignment
+
+
 def _address(data):
     """The address of bytes, which live as long as `data` does."""
     return ctypes.cast(ctypes.c_char_p(data), ctypes.c_void_p)
@@ -224,9 +327,7 @@ class Linter:
     def __init__(self, max_depth=None, max_bytes=None):
         self.verdict = None
         limits = _limits(max_depth, max_bytes)
-        size, alignment = _library.geolint_size(), _library.geolint_alignment()
-        self._memory = ctypes.create_string_buffer(size + alignment)
-        self._at = -(-ctypes.addressof(self._memory) // alignment) * alignment
+        self._memory, self._at = _room(_library.geolint_size())
         _library.geolint_begin(self._at, *limits)
 
     def begin(self, max_depth=None, max_bytes=None):
@@ -313,3 +414,159 @@ def check(source, max_depth=None, max_bytes=None):
         if not linter.feed(piece):
             break
     return linter.finish()
+
+
+def _finding(told):
+    return Finding(told.number, told.place, told.end or None, told.id or None, _verdict(told.report))
+
+
+class _Findings:
+    """An iterator over findings, which reads its source as it goes. `verdict` is there once it has ended."""
+
+    _kind = ""
+
+    def __init__(self, source, *begin):
+        self.verdict = None
+        self._pieces = iter(_pieces(source))
+        self._memory, self._at = _room(self._call("size")())
+        self._call("begin")(self._at, *begin)
+        self._told = self._findings()
+
+    def _call(self, name):
+        return getattr(_library, f"geolint_{self._kind}_{name}")
+
+    def _ready(self):
+        while (told := self._call("next")(self._at)).report.status == _DONE:
+            yield _finding(told)
+
+    def _findings(self):
+        for piece in self._pieces:
+            for run in _runs(piece):
+                at = 0
+                while at < len(run):
+                    start = ctypes.c_void_p(_address(run).value + at)
+                    progress = self._call("feed")(self._at, start, len(run) - at)
+                    at += progress.taken
+                    if progress.ready:
+                        yield from self._ready()
+                    if progress.status == _REFUSED:
+                        return
+                    if progress.status == _ENDED:
+                        raise Ended("the findings have ended")
+
+    def _finish(self):
+        raise NotImplementedError
+
+    def __iter__(self):
+        return self
+
+    def __next__(self):
+        if (found := next(self._told, None)) is not None:
+            return found
+        if self.verdict is None:
+            self._finish()
+        if (told := self._call("next")(self._at)).report.status == _DONE:
+            return _finding(told)
+        raise StopIteration
+
+    def __reduce_ex__(self, protocol):
+        raise TypeError("findings cannot be copied: they stay where they lie")
+
+
+class Features(_Findings):
+    """The findings of the features of a text, in order. Once it has ended, `verdict` is that of the whole text."""
+
+    _kind = "features"
+
+    def _finish(self):
+        self.verdict = _verdict(_library.geolint_features_finish(self._at))
+
+
+class Records(_Findings):
+    """The findings of the records of an input, in order. Once it has ended, `verdict` is that of the whole input, and `count` says
+    how many records there are, or which is the first that is not valid."""
+
+    _kind = "records"
+    count = None
+
+    def _finish(self):
+        whole = _library.geolint_records_finish(self._at)
+        self.verdict, self.count = _verdict(whole.report), whole.number
+
+
+def features(source, max_depth=None, max_bytes=None):
+    """What is found in each feature of a text, as soon as the feature has ended: an iterator of `Finding`.
+
+    A feature is an element of the array that the first member `features` of the text's object holds. The source is what `check`
+    takes; it is read as the findings are asked for, and no further once the text is refused.
+    """
+    return Features(source, *_limits(max_depth, max_bytes))
+
+
+def records(source, framing, max_depth=None, max_bytes=None):
+    """What is found in each record of an input: an iterator of `Finding`. The framing is "sequence" for a text sequence (RFC 8142),
+    or "newlines" for newline-delimited texts."""
+    if framing not in _FRAMINGS:
+        raise ValueError('a framing is "sequence" or "newlines"')
+    return Records(source, _FRAMINGS[framing], *_limits(max_depth, max_bytes))
+
+
+class _Place:
+    """The line, the column and the path of a place, as the bytes before it come."""
+
+    def __init__(self, place, limits):
+        self._left = place
+        self._lines = _library.geolint_lines_begin()
+        self._memory, self._at = _room(_library.geolint_locator_size())
+        _library.geolint_locator_begin(self._at, *limits)
+
+    def feed(self, run):
+        """False says that no more bytes are wanted."""
+        before = run[: self._left]
+        self._lines = _library.geolint_lines_feed(self._lines, _address(before), len(before))
+        here = run[: self._left + 1]
+        _library.geolint_locator_feed(self._at, _address(here), len(here))
+        self._left -= len(before)
+        return len(here) == len(before)
+
+    @property
+    def path(self):
+        steps = []
+        while (step := _library.geolint_locator_step(self._at, len(steps))).size:
+            steps.append(step.bytes[: step.size].decode("utf-8"))
+        return "".join(["$", *steps])
+
+    @property
+    def line(self):
+        return self._lines.line
+
+    @property
+    def column(self):
+        return self._lines.column
+
+
+def _again(source):
+    """What gives the bytes of a source from its start once more; None where it can be read only once."""
+    if _buffer(source) is not None:
+        return lambda: source
+    try:
+        start = source.tell() if source.seekable() else None
+    except (AttributeError, OSError):
+        return None
+    return start if start is None else lambda: (source.seek(start), source)[1]
+
+
+def report(source, max_depth=None, max_bytes=None):
+    """A verdict with the line, the column and the path of its place. The source is what `check` takes.
+
+    Bytes and files that can be read again are, up to the place; of others the place alone is told.
+    """
+    again = _again(source)
+    verdict = check(source, max_depth, max_bytes)
+    if verdict.valid or again is None:
+        return Report(verdict)
+    place = _Place(verdict.place, _limits(max_depth, max_bytes))
+    for piece in _pieces(again()):
+        if not all(place.feed(run) for run in _runs(piece)):
+            break
+    return Report(verdict, place.line, place.column, place.path if verdict.rule else None)

@@ -1,8 +1,10 @@
 /* geolint: is a text GeoJSON (RFC 7946), and otherwise where and why not.
  *
  * Two ways in: geolint_check judges a text in memory; a linter (geolint_begin, geolint_feed, geolint_finish) judges a text
- * that comes in pieces, in the memory that the host gives it. The library takes no memory, keeps no state of its own,
- * opens nothing and prints nothing. Any number of linters may be in use at once, each on one thread at a time.
+ * that comes in pieces, in the memory that the host gives it. In the same way geolint_features_.. tells each feature of a text and
+ * geolint_records_.. each record of an input, geolint_locator_.. the path to a place, and geolint_lines_.. its line and column. The
+ * library takes no memory, keeps no state of its own, opens nothing and prints nothing. Any number of linters may be in use at once,
+ * each on one thread at a time. What is said of a linter holds of the other handles too, each by its own calls.
  *
  * What is proved of the library. Each call below that judges states its result by the definitions of the two standards (as
  * the profile in docs/DECISIONS.md reads them) on the whole text, and a prover checks it on each build:
@@ -14,6 +16,13 @@
  *     that such a text ends within the bytes allowed);
  *   - geolint_doomed answers 1 only where no input that begins with the bytes fed so far is valid, and otherwise 0;
  *   - geolint_offset tells how many bytes were taken: all that were fed, or once they are refused the place of the refusal;
+ *   - geolint_features_next tells, of each text that goes on from the bytes taken, the features that have ended in them, in turn
+ *     and each once: its number, its place, its end where that is told, the place of its `id`, and the report of the least of its
+ *     faults, or where it has none of its warnings;
+ *   - geolint_records_next tells the records that have ended in the bytes taken, in turn and each once: number, place, end and report;
+ *     geolint_records_finish what the input is by them;
+ *   - geolint_locator_step tells the steps of the path that the bytes taken lead to, in each text that goes on from them;
+ *   - geolint_lines_feed tells the line and the column after the bytes fed;
  *   - each text is the one that the definitions have for its number, with a byte 0 at its end;
  *   - each call returns, reads and writes no memory but what it is passed, and leaves a linter that can be used again; what it
  *     does at null and after the end is as each says below. Between two calls a linter may go from thread to thread.
@@ -24,7 +33,8 @@
  *   - `bytes` is not null, whatever the length is: for a length of 0 any address will do, as that of "". geolint_bytes below
  *     makes such an address of a pointer that may be null;
  *   - a linter lies in memory of geolint_size() bytes at a multiple of geolint_alignment(), and is passed to no call before
- *     geolint_begin has got this memory. It is not copied, not moved and not written by the host;
+ *     geolint_begin has got this memory. It is not copied, not moved and not written by the host. The other handles lie in as many
+ *     bytes as their own functions tell, at a multiple of geolint_alignment() too, and are passed to their own calls alone;
  *   - one call at a time for each linter. Where the next call comes from another thread, a lock, a thread's start or join or the
  *     like orders the two.
  *
@@ -46,7 +56,9 @@ enum geolint_status {
     GEOLINT_REFUSED = 1, /* of a piece: the input is refused, and so is every input that begins so */
     GEOLINT_ENDED = 2,   /* the linter has ended: nothing was changed */
     GEOLINT_LIMITS = 3,  /* the limits are not allowed: nothing can be judged under them */
-    GEOLINT_NULL = 4     /* the linter is null: nothing was changed */
+    GEOLINT_NULL = 4,    /* the pointer is null: nothing was changed */
+    GEOLINT_READY = 5,   /* a finding is ready, and is to be taken first: nothing was changed */
+    GEOLINT_NONE = 6     /* no finding is ready */
 };
 
 /* What a text is. */
@@ -135,6 +147,173 @@ uint32_t geolint_doomed(geolint_linter *linter);
 /* The verdict of all that was fed, and the end of the linter. After the end there is GEOLINT_NO_VERDICT with
  * GEOLINT_ENDED, and for null with GEOLINT_NULL. As measured, no call on a linter needs more than 8 KiB of stack. */
 geolint_report geolint_finish(geolint_linter *linter);
+
+/* ---- findings: what a piece shows, and what is found in a feature or in a record */
+
+/* What a call took of a piece. */
+typedef struct geolint_progress {
+    uint64_t taken;  /* how many of its bytes; the host passes the others again, in the next call */
+    uint32_t status; /* enum geolint_status */
+    uint32_t ready;  /* 1 where a finding is ready, otherwise 0 */
+} geolint_progress;
+
+/* What is found in a feature or in a record. Places are from the start of the input. */
+typedef struct geolint_finding {
+    uint64_t number; /* of a feature: how many stand before it; of a record: counted from 1, 0 of bytes before the first RS */
+    uint64_t place;  /* of its first byte */
+    uint64_t end;    /* the place after its last byte; 0 of a feature that is no object and no array */
+    uint64_t id;     /* of a feature: the place of the value of its first member `id`, or 0 where it has none; of a record 0 */
+    geolint_report report; /* what it is; the status is GEOLINT_NONE where there is no finding */
+} geolint_finding;
+
+/* ---- the features of a text
+ *
+ * A feature is an element of the array that the first member `features` of the text's object holds, whatever the object's `type`
+ * says. Each is told in its turn, as soon as its last byte has come: the least of its faults, or where it has none its warnings.
+ *
+ *     while (length) {
+ *         geolint_progress progress = geolint_features_feed(features, bytes, length);
+ *         bytes += progress.taken;
+ *         length -= progress.taken;
+ *         while (progress.ready) {
+ *             geolint_finding finding = geolint_features_next(features);
+ *             if (finding.report.status != GEOLINT_DONE)
+ *                 break;
+ *             ..
+ *         }
+ *         if (progress.status != GEOLINT_DONE)
+ *             break;
+ *     }
+ *     report = geolint_features_finish(features); */
+
+/* In memory of the host: geolint_features_size() bytes at a multiple of geolint_alignment(). */
+typedef struct geolint_features geolint_features;
+
+size_t geolint_features_size(void);
+
+/* As geolint_begin. */
+uint32_t geolint_features_begin(geolint_features *features, uint32_t max_depth, uint64_t max_bytes);
+
+/* Takes the next bytes, up to the end of the next feature. It stops with the `}` that ends a feature, and may take at most 255 bytes
+ * more after a feature that is no object; then all that have ended are told. The status is that of geolint_feed for the bytes
+ * taken. Once the text is refused, each further piece is taken and changes nothing. Where a finding is ready before: GEOLINT_READY,
+ * and nothing is taken. After the end: GEOLINT_ENDED. Null: GEOLINT_NULL. */
+geolint_progress geolint_features_feed(geolint_features *features, const void *bytes, size_t length);
+
+/* The next feature that has ended in the bytes taken, where one is ready; otherwise the status of its report is GEOLINT_NONE, and for
+ * null GEOLINT_NULL. */
+geolint_finding geolint_features_next(geolint_features *features);
+
+/* As geolint_offset. */
+uint64_t geolint_features_offset(geolint_features *features);
+
+/* As geolint_finish; where a finding is ready, GEOLINT_NO_VERDICT with GEOLINT_READY, and nothing ends. */
+geolint_report geolint_features_finish(geolint_features *features);
+
+/* ---- the records of a text sequence (RFC 8142), or of newline-delimited texts */
+
+enum geolint_framing {
+    GEOLINT_SEQUENCE = 0, /* RS stands before each text, and LF at its end */
+    GEOLINT_NEWLINES = 1  /* each line is a text; a line of white space alone is none */
+};
+
+/* In memory of the host: geolint_records_size() bytes at a multiple of geolint_alignment(). */
+typedef struct geolint_records geolint_records;
+
+size_t geolint_records_size(void);
+
+/* As geolint_begin. The depth is allowed to each record, and the number of bytes to the whole input. A framing that is neither of
+ * the two is answered as limits that are not allowed. */
+uint32_t geolint_records_begin(geolint_records *records, uint32_t framing, uint32_t max_depth, uint64_t max_bytes);
+
+/* Takes the next bytes, up to and with the separator after the next record. A record that is not valid ends there as well, and the
+ * next is judged. GEOLINT_REFUSED: more bytes came than are allowed, and no further one matters. Where a finding is ready before:
+ * GEOLINT_READY, and nothing is taken. After the end: GEOLINT_ENDED. Null: GEOLINT_NULL. */
+geolint_progress geolint_records_feed(geolint_records *records, const void *bytes, size_t length);
+
+/* The record that has ended, where one is ready; otherwise the status of its report is GEOLINT_NONE, and for null GEOLINT_NULL. */
+geolint_finding geolint_records_next(geolint_records *records);
+
+/* How many bytes were taken, of those that are allowed. After the end, and for null: 0. */
+uint64_t geolint_records_offset(geolint_records *records);
+
+/* What an input of records is as a whole. */
+typedef struct geolint_whole {
+    geolint_report report; /* valid where each record is, with the warnings of all; otherwise that of the first that is not */
+    uint64_t number;       /* how many records there are, or the number of the first that is not valid */
+} geolint_whole;
+
+/* What the input is as a whole, and its end. The last record is ready after it, where there is one: geolint_records_next tells it.
+ * Where a finding is ready before, there is GEOLINT_NO_VERDICT with GEOLINT_READY, and nothing ends. After the end there is
+ * GEOLINT_NO_VERDICT with GEOLINT_ENDED, and for null with GEOLINT_NULL. */
+geolint_whole geolint_records_finish(geolint_records *records);
+
+/* ---- the path to a place */
+
+/* In memory of the host: geolint_locator_size() bytes at a multiple of geolint_alignment(). It has no end; begin it again for another
+ * text or another place. */
+typedef struct geolint_locator geolint_locator;
+
+size_t geolint_locator_size(void);
+
+/* As geolint_begin. */
+uint32_t geolint_locator_begin(geolint_locator *locator, uint32_t max_depth, uint64_t max_bytes);
+
+/* Takes the next bytes, as geolint_feed does: for the path to a place those before it, and the one that stands there. */
+uint32_t geolint_locator_feed(geolint_locator *locator, const void *bytes, size_t length);
+
+/* The text of one step of a path, as [3] or .geometry, with bytes 0 after it; `size` is 0 where there is no such step. */
+typedef struct geolint_step {
+    uint64_t size;
+    char bytes[24];
+} geolint_step;
+
+/* The step, counted from 0 at the root, of the path to the value that the bytes taken lead to: that which begins with the last of them,
+ * where it is no array and no object; otherwise the innermost array or object that is open; otherwise the root. */
+geolint_step geolint_locator_step(geolint_locator *locator, uint32_t step);
+
+/* Writes the path as $.features[3].geometry, with a byte 0 at its end, as far as `size` bytes have room for it; answers how long it
+ * is without that byte. So a room of one byte more takes it whole. Null has the path of the root. */
+static inline size_t geolint_locator_path(geolint_locator *locator, char *room, size_t size) {
+    size_t length = 0;
+    uint32_t i = 0;
+    geolint_step step = {1, "$"};
+    while (step.size) {
+        uint64_t at;
+        for (at = 0; at < step.size; at++, length++)
+            if (length + 1 < size)
+                room[length] = step.bytes[at];
+        step = geolint_locator_step(locator, i++);
+    }
+    if (size)
+        room[length < size ? length : size - 1] = 0;
+    return length;
+}
+
+/* ---- lines and columns */
+
+/* The line and the column of the place after some bytes, each from 1. A line ends with LF alone; a column counts characters, so that a
+ * tab, a byte order mark and the CR before an LF are one each. */
+typedef struct geolint_lines {
+    uint64_t line;
+    uint64_t column;
+} geolint_lines;
+
+/* Before the first byte: 1 and 1. */
+geolint_lines geolint_lines_begin(void);
+
+/* After these bytes more. For the line and the column of a place the bytes before it are fed. */
+geolint_lines geolint_lines_feed(geolint_lines lines, const void *bytes, size_t length);
+
+/* ---- sizes, for a host that puts one into a struct or an array
+ *
+ * They are those that the functions tell, on systems with 64-bit addresses. */
+
+#define GEOLINT_ALIGNMENT 16
+#define GEOLINT_SIZE 207936
+#define GEOLINT_FEATURES_SIZE 255104
+#define GEOLINT_RECORDS_SIZE 208304
+#define GEOLINT_LOCATOR_SIZE 4272
 
 /* ---- texts */
 

@@ -1,4 +1,4 @@
-/* geolint for C++11 and later, over geolint.h: a linter that frees its memory, and the verdict as a value.
+/* geolint for C++11 and later, over geolint.h: a linter that frees its memory, the verdict as a value, and ranges over findings.
  *
  * No call gives a reference into an argument or into an object that ends with the expression: `valid_or_throw(check(text))` may be
  * kept by value and by reference. Nothing here throws but `geolint::valid_or_throw`, and that is left out where exceptions are turned off. */
@@ -9,10 +9,13 @@
 
 #include <cstddef>
 #include <cstdint>
+#include <iterator>
+#include <memory>
+#include <string>
+#include <type_traits>
 #include <utility>
 #if defined(__cpp_exceptions)
 #include <stdexcept>
-#include <string>
 #endif
 
 namespace geolint {
@@ -106,6 +109,225 @@ public:
 
 private:
     geolint_linter *linter_;
+};
+
+/* What is found in a feature or in a record; places are from the start of the input. */
+class Finding {
+public:
+    explicit Finding(const geolint_finding &finding) noexcept : finding_(finding) {}
+
+    /* Of a feature: how many stand before it. A record is counted from 1; 0 is what stands before the first RS of a sequence. */
+    std::uint64_t number() const noexcept { return finding_.number; }
+    /* The place of its first byte, and that after its last, which is 0 of a feature that is no object and no array. */
+    std::uint64_t place() const noexcept { return finding_.place; }
+    std::uint64_t end() const noexcept { return finding_.end; }
+    /* The place of the value of the feature's first member `id`, or 0 where it has none. */
+    std::uint64_t id() const noexcept { return finding_.id; }
+    Verdict verdict() const noexcept { return Verdict(finding_.report); }
+    bool valid() const noexcept { return finding_.report.verdict == GEOLINT_VALID; }
+
+private:
+    geolint_finding finding_;
+};
+
+namespace detail {
+
+struct Free {
+    void operator()(void *memory) const noexcept { free(memory); }
+};
+
+/* Whether the bytes of a container stay after the expression: it is named, or a view, as std::string_view and std::span. */
+template <class Bytes, class = void> struct IsArray : std::false_type {};
+template <class Bytes> struct IsArray<Bytes, decltype(static_cast<void>(std::tuple_size<Bytes>::value))> : std::true_type {};
+template <class Bytes>
+struct Stays : std::integral_constant<bool, std::is_lvalue_reference<Bytes>::value || (std::is_trivially_copyable<Bytes>::value && !IsArray<Bytes>::value)> {};
+
+/* The calls on features, and on records. */
+struct FeatureCalls {
+    typedef geolint_features Handle;
+    static std::size_t size() noexcept { return geolint_features_size(); }
+    static geolint_progress feed(Handle *at, const void *bytes, std::size_t length) noexcept { return geolint_features_feed(at, bytes, length); }
+    static geolint_finding next(Handle *at) noexcept { return geolint_features_next(at); }
+};
+struct RecordCalls {
+    typedef geolint_records Handle;
+    static std::size_t size() noexcept { return geolint_records_size(); }
+    static geolint_progress feed(Handle *at, const void *bytes, std::size_t length) noexcept { return geolint_records_feed(at, bytes, length); }
+    static geolint_finding next(Handle *at) noexcept { return geolint_records_next(at); }
+};
+
+/* Tells findings of bytes that come in pieces. */
+template <class Calls> class Puller {
+public:
+    /* The findings that end in a piece, as they are asked for: a range for one pass, over bytes that the host keeps until it has ended.
+     * What is left of the piece is fed with the range's end or with its destruction. */
+    class Range {
+    public:
+        class iterator {
+        public:
+            typedef std::input_iterator_tag iterator_category;
+            typedef Finding value_type;
+            typedef std::ptrdiff_t difference_type;
+            typedef const Finding *pointer;
+            typedef Finding reference;
+
+            Finding operator*() const noexcept { return Finding(finding_); }
+            iterator &operator++() noexcept {
+                if (!range_->next(&finding_))
+                    range_ = nullptr;
+                return *this;
+            }
+            void operator++(int) noexcept { ++*this; }
+            bool operator==(const iterator &other) const noexcept { return range_ == other.range_; }
+            bool operator!=(const iterator &other) const noexcept { return range_ != other.range_; }
+
+        private:
+            friend class Range;
+            explicit iterator(Range *range) noexcept : range_(range), finding_() {
+                if (range_)
+                    ++*this;
+            }
+            Range *range_;
+            geolint_finding finding_;
+        };
+
+        Range(Range &&other) noexcept : at_(other.at_), bytes_(other.bytes_), left_(other.left_) { other.at_ = nullptr; }
+        Range(const Range &) = delete;
+        Range &operator=(const Range &) = delete;
+        Range &operator=(Range &&) = delete;
+        ~Range() {
+            geolint_finding finding;
+            while (at_ && next(&finding)) {
+            }
+        }
+
+        iterator begin() noexcept { return iterator(this); }
+        iterator end() noexcept { return iterator(nullptr); }
+
+    private:
+        friend class Puller;
+        Range(typename Calls::Handle *at, const void *bytes, std::size_t length) noexcept
+            : at_(at), bytes_(static_cast<const char *>(geolint_bytes(bytes))), left_(length) {}
+
+        bool next(geolint_finding *finding) noexcept {
+            for (;;) {
+                *finding = Calls::next(at_);
+                if (finding->report.status == GEOLINT_DONE)
+                    return true;
+                if (!left_)
+                    return false;
+                geolint_progress progress = Calls::feed(at_, bytes_, left_);
+                bytes_ += progress.taken;
+                left_ -= static_cast<std::size_t>(progress.taken);
+                if (progress.status != GEOLINT_DONE && !progress.ready)
+                    left_ = 0;
+            }
+        }
+
+        typename Calls::Handle *at_;
+        const char *bytes_;
+        std::size_t left_;
+    };
+
+    explicit operator bool() const noexcept { return memory_ != nullptr; }
+
+    /* The findings that end in these bytes. Of a container that ends with the expression there are none to ask for: it is refused. */
+    Range feed(const void *bytes, std::size_t length) noexcept { return Range(at(), bytes, length); }
+    template <class Bytes, class = typename std::enable_if<Stays<Bytes>::value>::type, class = decltype(std::declval<const Bytes &>().data())>
+    Range feed(Bytes &&bytes) noexcept {
+        return feed(bytes.data(), bytes.size() * sizeof(*bytes.data()));
+    }
+
+protected:
+    Puller() noexcept : memory_(malloc(Calls::size())) {}
+    typename Calls::Handle *at() const noexcept { return static_cast<typename Calls::Handle *>(memory_.get()); }
+
+    std::unique_ptr<void, Free> memory_;
+};
+
+} // namespace detail
+
+/* Tells what is found in each feature of a text that comes in pieces:
+ *
+ *     geolint::Features features;
+ *     while (read(piece))
+ *         for (geolint::Finding finding : features.feed(piece))
+ *             ..
+ *     geolint::Verdict verdict = features.finish(); */
+class Features : public detail::Puller<detail::FeatureCalls> {
+public:
+    /* Test it before use, as a linter: where it is empty, it tells nothing. */
+    explicit Features(Limits limits = Limits()) noexcept {
+        if (geolint_features_begin(at(), limits.max_depth, limits.max_bytes) != GEOLINT_DONE)
+            memory_.reset();
+    }
+    std::uint64_t offset() noexcept { return geolint_features_offset(at()); }
+    /* The verdict of all that was fed, and the end. */
+    Verdict finish() noexcept { return Verdict(geolint_features_finish(at())); }
+};
+
+/* Tells what is found in each record of an input. */
+class Records : public detail::Puller<detail::RecordCalls> {
+public:
+    explicit Records(geolint_framing framing, Limits limits = Limits()) noexcept {
+        if (geolint_records_begin(at(), framing, limits.max_depth, limits.max_bytes) != GEOLINT_DONE)
+            memory_.reset();
+    }
+    std::uint64_t offset() noexcept { return geolint_records_offset(at()); }
+    /* What the input is as a whole, and the end; `number` is how many records there are, or that of the first that is not valid. */
+    Verdict finish(std::uint64_t *number = nullptr) noexcept {
+        const geolint_whole whole = geolint_records_finish(at());
+        if (number)
+            *number = whole.number;
+        return Verdict(whole.report);
+    }
+    /* The last record, which the end of the input ends, where there is one. */
+    Range last() noexcept { return feed("", 0); }
+};
+
+/* Finds the path to a place: it is fed the bytes before the place, and the one that stands there. */
+class Locator {
+public:
+    explicit Locator(Limits limits = Limits()) noexcept : memory_(malloc(geolint_locator_size())) {
+        if (geolint_locator_begin(at(), limits.max_depth, limits.max_bytes) != GEOLINT_DONE)
+            memory_.reset();
+    }
+    explicit operator bool() const noexcept { return memory_ != nullptr; }
+    bool feed(const void *bytes, std::size_t length) noexcept {
+        return geolint_locator_feed(at(), geolint_bytes(bytes), length) == GEOLINT_DONE;
+    }
+    template <class Bytes, class = decltype(std::declval<const Bytes &>().data())> bool feed(const Bytes &bytes) noexcept {
+        return feed(bytes.data(), bytes.size() * sizeof(*bytes.data()));
+    }
+    /* As $.features[3].geometry. */
+    std::string path() const {
+        std::string path = "$";
+        for (std::uint32_t i = 0;; i++) {
+            const geolint_step step = geolint_locator_step(at(), i);
+            if (!step.size)
+                return path;
+            path.append(step.bytes, static_cast<std::size_t>(step.size));
+        }
+    }
+
+private:
+    geolint_locator *at() const noexcept { return static_cast<geolint_locator *>(memory_.get()); }
+    std::unique_ptr<void, detail::Free> memory_;
+};
+
+/* Counts the line and the column of the place after the bytes that it is fed, each from 1. */
+class Lines {
+public:
+    Lines() noexcept : lines_(geolint_lines_begin()) {}
+    void feed(const void *bytes, std::size_t length) noexcept { lines_ = geolint_lines_feed(lines_, geolint_bytes(bytes), length); }
+    template <class Bytes, class = decltype(std::declval<const Bytes &>().data())> void feed(const Bytes &bytes) noexcept {
+        feed(bytes.data(), bytes.size() * sizeof(*bytes.data()));
+    }
+    std::uint64_t line() const noexcept { return lines_.line; }
+    std::uint64_t column() const noexcept { return lines_.column; }
+
+private:
+    geolint_lines lines_;
 };
 
 #if defined(__cpp_exceptions)

@@ -1,5 +1,5 @@
 -- What the walks of the exported functions cite.
-pub use Rattle.std.proofs.Common.{None, true, ◌≡◌, ℕ, ◌≤◌, ◌^◌, ◌<◌, List, [], ◌∷◌, ◌++◌, length, refl, sym, ap, subst, ◌∙◌, lit<, w8, w32, w64, Bor, MutBor, arith}
+pub use Rattle.std.proofs.Common.{None, true, false, ◌≡◌, ℕ, ◌≤◌, ◌^◌, ◌<◌, List, [], ◌∷◌, ◌++◌, length, refl, sym, ap, subst, ◌∙◌, lit<, w8, w32, w64, Bor, MutBor, arith}
 pub use Rattle.std.proofs.raw_atomic.Walks.{proved}
 pub use seplogic.Ra.Ura.{Ura}
 pub use base.Fraction.{full_share}

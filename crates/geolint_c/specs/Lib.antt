@@ -1,5 +1,15 @@
 pub mod Options
 pub mod Report
 pub mod Handle
+pub mod Finding
+pub mod Latest
+pub mod Features
+pub mod Records
+pub mod Lines
+pub mod Locator
 pub mod Texts
 pub mod Stream
+pub mod FeatureStream
+pub mod RecordStream
+pub mod LocatorStream
+pub mod Internal

@@ -16,7 +16,8 @@ pub struct Handle {
     ended: bool,
 }
 
-fn is_for_any_thread<T: Send>(_value: &T) {}
+/// Its bound says that such a value may go to any thread.
+pub fn is_for_any_thread<T: Send>(_value: &T) {}
 
 /// A handle may go from one thread to another between two calls: the check of this call sees that its type is `Send`.
 fn may_move(handle: &Handle) {

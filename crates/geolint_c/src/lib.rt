@@ -6,8 +6,18 @@
 #![tactic(auto)]
 
 mod check;
+mod feature_stream;
+mod features;
+mod finding;
 mod handle;
+mod last;
+mod latest;
+mod lines;
+mod locator;
+mod locator_stream;
 mod options;
+mod record_stream;
+mod records;
 mod report;
 mod status;
 mod stream;

@@ -3,8 +3,8 @@ ghost use Rattle.std.specs.Prelude.{◌≡◌, ℕ, List};
 ghost use Rattle.gj_json.specs.Limits.{Allowed};
 ghost use Rattle.gj_coords.specs.Warnings.{Warning};
 ghost use Rattle.gj_coords.specs.WarningsStand.{StandsFor};
-ghost use Rattle.gj_rules.specs.Verdict.{IsVerdict};
-ghost use Rattle.geolint_c.specs.Report.{cause_number, warned_of, all_warned, is_warned, Reports, nothing_warned, valid_report, broken_report, refusal_report, no_report};
+ghost use Rattle.gj_rules.specs.Verdict.{Judgement, IsVerdict, Says};
+ghost use Rattle.geolint_c.specs.Report.{cause_number, warned_of, all_warned, is_warned, Reports, nothing_warned, valid_report, broken_report, refusal_report, report_of, no_report};
 
 use crate::status::DONE;
 use gj_coords::{Fault, KINDS, Kind, Warnings};
@@ -96,7 +96,7 @@ fn is_warned(warnings: &Warnings) -> u64
     if warnings.is_empty() { 0 } else { 1 }
 }
 
-fn report_of_valid(warnings: &Warnings) -> Report
+pub fn report_of_valid(warnings: &Warnings) -> Report
     ensures { (all : List Warning) → StandsFor warnings.now all → result ≡ valid_report all }
 {
     Report {
@@ -110,7 +110,7 @@ fn report_of_valid(warnings: &Warnings) -> Report
     }
 }
 
-fn report_of_broken(fault: Fault) -> Report
+pub fn report_of_broken(fault: Fault) -> Report
     ensures { result ≡ broken_report fault }
 {
     Report {
@@ -140,7 +140,8 @@ fn report_of_refusal(fault: JsonFault) -> Report
 
 /// The verdict in plain numbers.
 pub fn report_of(verdict: &Verdict) -> Report
-    ensures { (limits : Allowed) (bytes : List ℕ) → IsVerdict limits bytes verdict.now → Reports limits bytes result }
+    ensures says { (judgement : Judgement) → Says verdict.now judgement → result ≡ report_of judgement }
+    ensures judged { (limits : Allowed) (bytes : List ℕ) → IsVerdict limits bytes verdict.now → Reports limits bytes result }
 {
     match verdict {
         Verdict::Valid(warnings) => report_of_valid(warnings),

@@ -14,3 +14,9 @@ pub const LIMITS: u32 = 3;
 
 /// The pointer is null: nothing was changed.
 pub const NULL: u32 = 4;
+
+/// A finding is ready, and is to be taken first: nothing was changed.
+pub const READY: u32 = 5;
+
+/// No finding is ready.
+pub const NONE: u32 = 6;

@@ -10,7 +10,10 @@ ghost use prog.Memory.{size, align};
 ghost use Rattle.geolint_c.specs.contracts.handle.Handle.{the_row};
 ghost use Rattle.geolint_c.specs.Stream.{BegunAt, FedAt, OffsetAt, DoomedAt, FinishedAt};
 
+use crate::features::FeatureHandle;
 use crate::handle::{Handle, begun_status};
+use crate::locator::LocatorHandle;
+use crate::records::RecordHandle;
 use crate::report::{Report, no_report};
 use crate::status::NULL;
 use std::mem::{align_of, size_of};
@@ -36,6 +39,13 @@ pub extern "C" fn geolint_alignment() -> usize
 {
     align_of::<Handle>()
 }
+
+// The other handles lie where this one may lie.
+const _: () = prove!(align_of::<FeatureHandle>() <= align_of::<Handle>());
+
+const _: () = prove!(align_of::<RecordHandle>() <= align_of::<Handle>());
+
+const _: () = prove!(align_of::<LocatorHandle>() <= align_of::<Handle>());
 
 /// Begins a handle in this memory, before the first byte of an input. Where the limits are not allowed, it has ended.
 #[unsafe(no_mangle)]

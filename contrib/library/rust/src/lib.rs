@@ -1,7 +1,8 @@
 //! Is a text GeoJSON (RFC 7946), and otherwise where and why not: geolint for Rust, over the library for C.
 //!
 //! [`check`] judges a text in memory. A [`Linter`] judges one that comes in pieces, also as an [`io::Write`], so that a download
-//! can be judged while it is stored ([`Judging`]).
+//! can be judged while it is stored ([`Judging`]). [`features`] and [`records`] tell what is found in each of them, and [`report`] tells the
+//! line, the column and the path.
 //!
 //! ```
 //! use geolint::{check, Limits, Verdict};
@@ -24,6 +25,12 @@ use std::fmt;
 use std::io;
 use std::os::raw::c_char;
 use std::ptr::NonNull;
+
+mod findings;
+mod places;
+
+pub use findings::{Features, Finding, Framing, Records, features, records};
+pub use places::{Lines, Locator, Report, report};
 
 /// The header `geolint.h` in Rust's words.
 mod c {
@@ -55,6 +62,41 @@ mod c {
     }
 
     #[repr(C)]
+    pub struct Progress {
+        pub taken: u64,
+        pub status: u32,
+        pub ready: u32,
+    }
+
+    #[repr(C)]
+    pub struct Finding {
+        pub number: u64,
+        pub place: u64,
+        pub end: u64,
+        pub id: u64,
+        pub report: Report,
+    }
+
+    #[repr(C)]
+    pub struct Whole {
+        pub report: Report,
+        pub number: u64,
+    }
+
+    #[repr(C)]
+    pub struct Step {
+        pub size: u64,
+        pub bytes: [u8; 24],
+    }
+
+    #[repr(C)]
+    #[derive(Clone, Copy)]
+    pub struct Lines {
+        pub line: u64,
+        pub column: u64,
+    }
+
+    #[repr(C)]
     pub struct Text {
         pub bytes: *const c_char,
         pub size: usize,
@@ -73,6 +115,22 @@ mod c {
                 pub fn geolint_doomed(linter: *mut c_void) -> u32;
                 pub fn geolint_offset(linter: *mut c_void) -> u64;
                 pub fn geolint_finish(linter: *mut c_void) -> Report;
+                pub fn geolint_features_size() -> usize;
+                pub fn geolint_features_begin(features: *mut c_void, max_depth: u32, max_bytes: u64) -> u32;
+                pub fn geolint_features_feed(features: *mut c_void, bytes: *const u8, length: usize) -> Progress;
+                pub fn geolint_features_next(features: *mut c_void) -> Finding;
+                pub fn geolint_features_finish(features: *mut c_void) -> Report;
+                pub fn geolint_records_size() -> usize;
+                pub fn geolint_records_begin(records: *mut c_void, framing: u32, max_depth: u32, max_bytes: u64) -> u32;
+                pub fn geolint_records_feed(records: *mut c_void, bytes: *const u8, length: usize) -> Progress;
+                pub fn geolint_records_next(records: *mut c_void) -> Finding;
+                pub fn geolint_records_finish(records: *mut c_void) -> Whole;
+                pub fn geolint_locator_size() -> usize;
+                pub fn geolint_locator_begin(locator: *mut c_void, max_depth: u32, max_bytes: u64) -> u32;
+                pub fn geolint_locator_feed(locator: *mut c_void, bytes: *const u8, length: usize) -> u32;
+                pub fn geolint_locator_step(locator: *mut c_void, step: u32) -> Step;
+                pub fn geolint_lines_begin() -> Lines;
+                pub fn geolint_lines_feed(lines: Lines, bytes: *const u8, length: usize) -> Lines;
                 pub fn geolint_rule_text(rule: u32, text: *mut Text);
                 pub fn geolint_cause_text(cause: u32, text: *mut Text);
                 pub fn geolint_warning_text(kind: u32, text: *mut Text);
@@ -286,13 +344,41 @@ pub fn check(text: &[u8], limits: Limits) -> Result<Verdict, Refusal> {
 /// # }
 /// ```
 pub struct Linter {
+    room: Room,
+}
+
+/// The memory of a linter or another handle, in which the library's calls find it.
+struct Room {
     memory: NonNull<u8>,
     layout: Layout,
 }
 
 // It owns its memory, the library keeps nothing else, and each call takes it by `&mut`. What lies in that memory is of a type
 // that is `Send` in the library's own language, which the check of `may_move` there sees.
-unsafe impl Send for Linter {}
+unsafe impl Send for Room {}
+
+impl Room {
+    fn new(size: usize) -> Result<Room, Refusal> {
+        let layout = Layout::from_size_align(size, unsafe { c::geolint_alignment() }).map_err(|_| Refusal::Memory)?;
+        let memory = NonNull::new(unsafe { alloc(layout) }).ok_or(Refusal::Memory)?;
+        Ok(Room { memory, layout })
+    }
+
+    fn at(&self) -> *mut c_void {
+        self.memory.as_ptr().cast()
+    }
+}
+
+impl Drop for Room {
+    fn drop(&mut self) {
+        unsafe { dealloc(self.memory.as_ptr(), self.layout) }
+    }
+}
+
+/// What a call that begins something answers.
+fn begun(status: u32) -> Result<(), Refusal> {
+    if status == c::DONE { Ok(()) } else { Err(Refusal::Limits) }
+}
 
 impl Linter {
     /// Takes the memory of a linter, once, and begins it before the first byte of a text.
@@ -301,18 +387,13 @@ impl Linter {
     ///
     /// [`Refusal::Limits`] where the limits are not allowed, [`Refusal::Memory`] where there is no memory.
     pub fn new(limits: Limits) -> Result<Linter, Refusal> {
-        let (size, alignment) = unsafe { (c::geolint_size(), c::geolint_alignment()) };
-        let layout = Layout::from_size_align(size, alignment).map_err(|_| Refusal::Memory)?;
-        let memory = NonNull::new(unsafe { alloc(layout) }).ok_or(Refusal::Memory)?;
-        let linter = Linter { memory, layout };
-        match unsafe { c::geolint_begin(linter.at(), limits.max_depth, limits.max_bytes) } {
-            c::DONE => Ok(linter),
-            _ => Err(Refusal::Limits),
-        }
+        let room = Room::new(unsafe { c::geolint_size() })?;
+        begun(unsafe { c::geolint_begin(room.at(), limits.max_depth, limits.max_bytes) })?;
+        Ok(Linter { room })
     }
 
     fn at(&self) -> *mut c_void {
-        self.memory.as_ptr().cast()
+        self.room.at()
     }
 
     /// The verdict of all that was fed. Then the linter begins again in the same memory, which costs less than another one.
@@ -351,12 +432,6 @@ impl Linter {
     pub fn finish(self) -> Verdict {
         let report = unsafe { c::geolint_finish(self.at()) };
         verdict_of(&report).expect("a linter is finished once")
-    }
-}
-
-impl Drop for Linter {
-    fn drop(&mut self) {
-        unsafe { dealloc(self.memory.as_ptr(), self.layout) }
     }
 }
 

@@ -1,0 +1,172 @@
+-- Which features are ready, as more bytes come.
+use Rattle.std.proofs.Common.{◌≡◌, ℕ, zero, suc, ◌+◌, ◌-◌, ◌%◌, ◌<◌, ◌≤◌, ◌^◌, nat_le, Bool, true, false, if◌then◌else◌, List, [], ◌∷◌, ◌++◌, length, length-append, take, drop, slice_get, append_assoc, Option, Some, None, refl, ap, sym, subst, ◌∙◌, arith}
+use Rattle.std.proofs.lemmas.Bool.Decides.{nat_tests}
+use Rattle.std.proofs.lemmas.List.{take_all, take-append-le}
+use Rattle.gj_json.specs.Limits.{Allowed}
+use Rattle.gj_json.specs.Text.{IsText, IsTextWithin}
+use Rattle.gj_json.specs.Tree.{Tree, Text}
+use Rattle.gj_json.specs.declared.fault.JsonFault.{JsonFault}
+use Rattle.gj_rules.specs.FeatureFindings.{FeatureFinding, complete_at, complete_in, features_of, findings_from, findings_by}
+use Rattle.gj_rules.specs.FeatureLinter.{refusal_of, offset_of, sink_of}
+use Rattle.gj_rules.specs.FeaturesTold.{SaysFinding, SayFindings, TellFindings}
+use Rattle.gj_rules.specs.declared.feature.Feature.{Feature}
+use Rattle.geolint_c.specs.declared.latest.LatestFeatures.{LatestFeatures}
+use Rattle.geolint_c.specs.declared.latest.TheConstants.{ROOM}
+use Rattle.geolint_c.specs.declared.finding.Finding.{Finding}
+use Rattle.geolint_c.specs.Finding.{IsFeature}
+use Rattle.geolint_c.specs.Features.{Judging, OfFeatures, HasRoom, Judges, IsJudging, OfNext, IsNextOf, tells_more, ready_by}
+use Rattle.geolint_c.specs.Internal.Pulling.{Counted, OfLinter, HasRoomFor}
+use Rattle.geolint_c.specs.Latest.{Keeps}
+
+-- ---- lists
+
+take_on : (xs ys : List ℕ) (m : ℕ) → length xs ≤ m → take m (xs ++ ys) ≡ xs ++ take (m - length xs) ys
+take_on [] ys m l = let e : m ≡ m - 0 = omega arith in ap (λ k. take k ys) e
+take_on (x ∷ xs) ys zero l = absurd (omega (arith, l))
+take_on (x ∷ xs) ys (suc m) l =
+    let e : m - length xs ≡ suc m - suc (length xs) = omega arith in
+    ap (λ zs. x ∷ zs) (take_on xs ys m (omega (arith, l)) ∙ ap (λ k. xs ++ take k ys) e)
+
+pub length_take : (n : ℕ) (xs : List ℕ) → length (take n xs) ≤ n
+length_take zero xs = omega arith
+length_take (suc n) [] = omega arith
+length_take (suc n) (x ∷ xs) = omega (arith, length_take n xs)
+
+take_nil : (n : ℕ) → take {A = ℕ} n [] ≡ []
+take_nil zero = refl
+take_nil (suc n) = refl
+
+pub take_more : (xs : List ℕ) (n m : ℕ) → take (n + m) xs ≡ take n xs ++ take m (drop n xs)
+take_more xs zero m = let e : 0 + m ≡ m = omega arith in ap (λ k. take k xs) e
+take_more [] (suc n) m = take_nil (suc n + m) ∙ sym (take_nil m)
+take_more (x ∷ xs) (suc n) m = let e : suc n + m ≡ suc (n + m) = omega arith in ap (λ k. take k (x ∷ xs)) e ∙ ap (λ ys. x ∷ ys) (take_more xs n m)
+
+-- ---- what is told and what is found
+
+pub said_length : (told : List Feature) (found : List FeatureFinding) → SayFindings told found → length told ≡ length found
+said_length [] [] h = refl
+said_length [] (f ∷ fs) h = absurd h
+said_length (t ∷ ts) [] h = absurd h
+said_length (t ∷ ts) (f ∷ fs) h = ap suc (said_length ts fs h.1)
+
+-- of so many as were told, each says the finding at its place
+pub said_at : (told : List Feature) (found : List FeatureFinding) (i : ℕ) (finding : FeatureFinding) → SayFindings told found → slice_get found i ≡ Some finding
+    → (feature : Feature) × (slice_get told i ≡ Some feature) × SaysFinding feature finding
+said_at [] [] zero finding h e = absurd (let f : None ≡ Some finding = e in cc)
+said_at [] [] (suc i) finding h e = absurd (let f : None ≡ Some finding = e in cc)
+said_at [] (f ∷ fs) i finding h e = absurd h
+said_at (t ∷ ts) [] i finding h e = absurd h
+said_at (t ∷ ts) (f ∷ fs) zero finding h e = (t, refl, (let same : Some f ≡ Some finding = e in let g : f ≡ finding = cc in subst (SaysFinding t) g h.0))
+said_at (t ∷ ts) (f ∷ fs) (suc i) finding h e = said_at ts fs i finding h.1 e
+
+some_at : (found : List FeatureFinding) (i : ℕ) → i < length found → (finding : FeatureFinding) × (slice_get found i ≡ Some finding)
+some_at [] i l = absurd (omega (arith, l))
+some_at (f ∷ fs) zero l = (f, refl)
+some_at (f ∷ fs) (suc i) l = some_at fs i (omega (arith, l))
+
+none_at : (found : List FeatureFinding) (i : ℕ) → length found ≤ i → slice_get found i ≡ None
+none_at [] i l = refl
+none_at (f ∷ fs) zero l = absurd (omega (arith, l))
+none_at (f ∷ fs) (suc i) l = none_at fs i (omega (arith, l))
+
+-- the feature that is kept at a place is the next of those that were found
+pub next_found : (latest : LatestFeatures) (found : List FeatureFinding) (pulled : ℕ) (feature : Feature) (told : Finding) → length found < 2 ^ 64 → TellFindings (Keeps latest) found
+    → pulled < length found → length found ≤ pulled + ROOM → slice_get latest.features (pulled % ROOM) ≡ Some feature
+    → ((finding : FeatureFinding) → SaysFinding feature finding → IsFeature finding told) → IsNextOf (slice_get found pulled) true told
+next_found latest found pulled feature told few h more room at says_so =
+    let (features, keeps, says) = h in
+    let e = said_length features found says in
+    let kept = keeps (omega (arith, few, e)) in
+    let (finding, is) = some_at found pulled more in
+    let (one, there, said) = said_at features found pulled finding says is in
+    let here : Some one ≡ Some feature = sym (kept.kept pulled one there (omega (arith, room, e))) ∙ at in
+    let same : one ≡ feature = cc in
+    subst (λ (o : Option FeatureFinding). IsNextOf o true told) (sym is) (refl, says_so finding (subst (λ (f : Feature). SaysFinding f finding) same said))
+
+-- where no more were told than were pulled, there is none
+pub none_next : (o : Option Judging) (pulled : ℕ) (ready : Bool) (told : Finding) (limits : Allowed) (bytes : List ℕ) → ready ≡ false → ready_by o pulled ≡ false
+    → OfLinter o Counted → IsJudging o pulled limits bytes → OfNext o pulled ready limits bytes told
+none_next None pulled ready told limits bytes e r counts j = absurd j
+none_next (Some linter) pulled ready told limits bytes e r counts j = λ text rest t few.
+    let n = counts limits bytes j.stands j.under text rest t few in
+    let l : (sink_of linter).told ≤ pulled = grind (arith, nat_tests) in
+    subst (λ (o : Option FeatureFinding). IsNextOf o ready told) (sym (none_at (findings_by (offset_of linter) text) pulled (omega (arith, n, l)))) e
+
+-- one more was pulled
+pub pulled_on : (linter : Judging) (pulled : ℕ) (limits : Allowed) (bytes : List ℕ) → tells_more linter pulled ≡ true → Counted linter → Judges linter pulled limits bytes → Judges linter (pulled + 1) limits bytes
+pulled_on linter pulled limits bytes more counts j = record {
+  stands = j.stands;
+  under = j.under;
+  room = λ text rest t few.
+      let n = counts limits bytes j.stands j.under text rest t few in
+      let room = j.room text rest t few in
+      let l : pulled < (sink_of linter).told = grind (arith, nat_tests) in
+      (omega (arith, n, l), omega (arith, room.1));
+}
+
+-- where no more were told than were pulled, there is room for as many as are kept
+pub room_for : (linter : Judging) (pulled : ℕ) (limits : Allowed) (bytes run : List ℕ) → tells_more linter pulled ≡ false → Counted linter → Judges linter pulled limits bytes → length run ≤ ROOM
+    → OfFeatures linter limits bytes (HasRoomFor (length run) pulled)
+room_for linter pulled limits bytes run none counts j short = λ text rest t few.
+    let n = counts limits bytes j.stands j.under text rest t few in
+    let room = j.room text rest t few in
+    let l : (sink_of linter).told ≤ pulled = grind (arith, nat_tests) in
+    (room.0, omega (arith, n, l, short))
+
+-- how many were told
+pub counted : (latest : LatestFeatures) (found : List FeatureFinding) → length found < 2 ^ 64 → TellFindings (Keeps latest) found → latest.told ≡ length found
+counted latest found few h =
+    let (features, keeps, says) = h in
+    let e = said_length features found says in
+    (keeps (omega (arith, few, e))).told ∙ e
+
+-- ---- how many there are, as more bytes come
+
+grows : (n m : ℕ) (vs : List Tree) → n ≤ m → length (complete_in n vs) ≤ length (complete_in m vs)
+grows n m [] l = omega arith
+grows n m (v ∷ vs) l = cut (nat_le (complete_at v) n) refl (grows n m vs l)
+  where
+    cut : (t : Bool) → nat_le (complete_at v) n ≡ t → length (complete_in n vs) ≤ length (complete_in m vs)
+        → length (if t then v ∷ complete_in n vs else []) ≤ length (complete_in m (v ∷ vs))
+    cut true e on =
+        let i : complete_at v ≤ n = grind (arith, nat_tests) in
+        let j : nat_le (complete_at v) m ≡ true = grind (arith, nat_tests) in
+        rw j (omega (arith, on))
+    cut false e on = omega arith
+
+as_many : (i : ℕ) (vs : List Tree) → length (findings_from i vs) ≡ length vs
+as_many i [] = refl
+as_many i (v ∷ vs) = ap suc (as_many (i + 1) vs)
+
+found_more : (n m : ℕ) (text : Text) → n ≤ m → length (findings_by n text) ≤ length (findings_by m text)
+found_more n m text l =
+    let vs = features_of text.value in
+    omega (arith, grows n m vs l, as_many 0 (complete_in n vs), as_many 0 (complete_in m vs))
+
+-- no more than so many bytes complete
+abbrev pub InTime : Type 0
+InTime = (text : Text) (bytes : List ℕ) (m n : ℕ) → IsText text bytes → m ≤ n → length (findings_by n text) ≤ length (findings_by m text) + (n - m)
+
+pub room_on : InTime → (old new : Judging) (pulled : ℕ) (limits : Allowed) (bytes chunk : List ℕ) → offset_of old ≤ offset_of new → offset_of old ≤ length bytes
+    → offset_of new ≤ length (bytes ++ chunk) → (refusal_of old ≡ None → offset_of old ≡ length bytes) → ((fault : JsonFault) → refusal_of old ≡ Some fault → new ≡ old)
+    → OfFeatures old limits bytes (HasRoom pulled) → OfFeatures old limits bytes (HasRoomFor (length chunk) pulled)
+    → OfFeatures new limits (bytes ++ chunk) (HasRoom pulled)
+room_on in_time old new pulled limits bytes chunk on within taken all same room more = by_refusal (refusal_of old) refl
+  where
+    by_refusal : (o : Option JsonFault) → refusal_of old ≡ o → OfFeatures new limits (bytes ++ chunk) (HasRoom pulled)
+    by_refusal (Some fault) e =
+        subst (λ (j : Judging). OfFeatures j limits (bytes ++ chunk) (HasRoom pulled)) (sym (same fault e))
+        (λ text rest t few. room text rest (subst (λ bs. IsTextWithin limits.depth text (bs ++ rest)) (take-append-le (offset_of old) bytes chunk within) t) few)
+    by_refusal None e = λ text rest t few.
+        let n = offset_of old in
+        let m = offset_of new in
+        let full : n ≡ length bytes = all e in
+        let at : take m (bytes ++ chunk) ≡ bytes ++ take (m - length bytes) chunk = take_on bytes chunk m (omega (arith, on, full)) in
+        let start : take n bytes ≡ bytes = take_all n bytes (omega (arith, full)) in
+        let k = take (m - length bytes) chunk ++ rest in
+        let same : take m (bytes ++ chunk) ++ rest ≡ take n bytes ++ k =
+        ap (λ bs. bs ++ rest) at ∙ (append_assoc bytes (take (m - length bytes) chunk) rest ∙ ap (λ bs. bs ++ k) (sym start)) in
+        let old_found = more text k (subst (λ bs. IsTextWithin limits.depth text bs) same t) few in
+        let late = in_time text _ n m t.0 on in
+        let longer = length-append bytes chunk in
+        (omega (arith, old_found.0, found_more n m text on), omega (arith, old_found.1, late, taken, longer, full))

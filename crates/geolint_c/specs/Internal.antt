@@ -1,0 +1,2 @@
+-- What only the proofs and the private functions need.
+pub mod Pulling

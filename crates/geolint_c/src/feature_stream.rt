@@ -1,0 +1,107 @@
+//! The calls of C on a handle that tells features, which lies in memory that the host provides. At null a call answers that, and
+//! does nothing.
+//!
+//! The calls over values are those of [`FeatureHandle`]; here is only what leads from a pointer to one, and that is proved by hand.
+ghost use Rattle.std.specs.Prelude.{◌≡◌};
+ghost use Rattle.std.specs.Borrow.{full_share, sem};
+ghost use Rattle.std.specs.Ptr.{lies_at, room_at, if_non_null};
+ghost use denote.RawPtr.{Testable};
+ghost use denote.Memory.{lone};
+ghost use prog.Memory.{size, align};
+ghost use Rattle.geolint_c.specs.contracts.features.FeatureHandle.{the_row};
+ghost use Rattle.geolint_c.specs.FeatureStream.{BegunAt, FedAt, NextAt, OffsetAt, FinishedAt};
+
+use crate::features::FeatureHandle;
+use crate::finding::{Finding, Progress, no_finding, no_progress};
+use crate::handle::begun_status;
+use crate::report::{Report, no_report};
+use crate::status::NULL;
+use crate::stream::Memory;
+use std::mem::size_of;
+
+/// How many bytes a handle takes. It lies where one of `geolint_size` may lie.
+#[unsafe(no_mangle)]
+pub extern "C" fn geolint_features_size() -> usize
+    ensures { result ≡ size (lone the_row.mir) }
+{
+    size_of::<FeatureHandle>()
+}
+
+/// Begins a handle in this memory, before the first byte of an input. Where the limits are not allowed, it has ended.
+#[unsafe(no_mangle)]
+pub unsafe extern "C" fn geolint_features_begin(
+    memory: *mut Memory,
+    max_depth: u32,
+    max_bytes: u64,
+) -> u32
+    requires testable { Testable memory }
+    requires* room { sem 𝓛 (if_non_null memory (room_at the_row memory)) }
+    ensures* begun { ∃ₛ (λ (new : FeatureHandle). sem 𝓛 (if_non_null memory (lies_at the_row full_share memory new)) ∗ ⌜ BegunAt memory max_depth max_bytes result new ⌝) }
+{
+    let handle = memory as *mut FeatureHandle;
+    if handle.is_null() {
+        return NULL;
+    }
+    std::ptr::write(handle, FeatureHandle::begun(max_depth, max_bytes));
+    begun_status(max_depth, max_bytes)
+}
+
+/// Takes the next bytes of the input, up to the end of the next feature.
+#[unsafe(no_mangle)]
+pub unsafe extern "C" fn geolint_features_feed(memory: *mut Memory, piece: &[u8]) -> Progress
+    ghost held: { FeatureHandle }
+    requires testable { Testable memory }
+    requires* handle { sem 𝓛 (if_non_null memory (lies_at the_row full_share memory held)) }
+    ensures* fed { ∃ₛ (λ (new : FeatureHandle). sem 𝓛 (if_non_null memory (lies_at the_row full_share memory new)) ∗ ⌜ FedAt memory held piece.now result new ⌝) }
+{
+    let handle = memory as *mut FeatureHandle;
+    if handle.is_null() {
+        return no_progress(NULL);
+    }
+    (*handle).feed(piece)
+}
+
+/// The next feature that has ended.
+#[unsafe(no_mangle)]
+pub unsafe extern "C" fn geolint_features_next(memory: *mut Memory) -> Finding
+    ghost held: { FeatureHandle }
+    requires testable { Testable memory }
+    requires* handle { sem 𝓛 (if_non_null memory (lies_at the_row full_share memory held)) }
+    ensures* told { ∃ₛ (λ (new : FeatureHandle). sem 𝓛 (if_non_null memory (lies_at the_row full_share memory new)) ∗ ⌜ NextAt memory held result new ⌝) }
+{
+    let handle = memory as *mut FeatureHandle;
+    if handle.is_null() {
+        return no_finding(NULL);
+    }
+    (*handle).next()
+}
+
+/// How many bytes were taken: the place of the refused one, once there was one.
+#[unsafe(no_mangle)]
+pub unsafe extern "C" fn geolint_features_offset(memory: *mut Memory) -> u64
+    ghost held: { FeatureHandle }
+    requires testable { Testable memory }
+    requires* handle { sem 𝓛 (if_non_null memory (lies_at the_row full_share memory held)) }
+    ensures* told { ∃ₛ (λ (new : FeatureHandle). sem 𝓛 (if_non_null memory (lies_at the_row full_share memory new)) ∗ ⌜ OffsetAt memory held result new ⌝) }
+{
+    let handle = memory as *mut FeatureHandle;
+    if handle.is_null() {
+        return 0;
+    }
+    (*handle).offset()
+}
+
+/// The verdict of what was fed, and the end of the handle.
+#[unsafe(no_mangle)]
+pub unsafe extern "C" fn geolint_features_finish(memory: *mut Memory) -> Report
+    ghost held: { FeatureHandle }
+    requires testable { Testable memory }
+    requires* handle { sem 𝓛 (if_non_null memory (lies_at the_row full_share memory held)) }
+    ensures* finished { ∃ₛ (λ (new : FeatureHandle). sem 𝓛 (if_non_null memory (lies_at the_row full_share memory new)) ∗ ⌜ FinishedAt memory held result new ⌝) }
+{
+    let handle = memory as *mut FeatureHandle;
+    if handle.is_null() {
+        return no_report(NULL);
+    }
+    (*handle).finish()
+}

@@ -1,0 +1,209 @@
+//! The features of a text that comes in pieces, pulled from a handle. Here are the calls over values; `feature_stream` takes
+//! them to C.
+ghost use Rattle.std.specs.Prelude.{◌≡◌, ◌+◌, ◌<◌, ◌≤◌, ◌^◌, length, IsTrue};
+ghost use Rattle.geolint_c.specs.Features.{IsBegun, IsFed, IsNext, IsFinished, IsOffset, tells_more, is_ready};
+ghost use Rattle.geolint_c.specs.Internal.Pulling.{Begins, Takes, IsPulled, Counted, OfLinter, GoesOn, ShowsOn};
+ghost use Rattle.geolint_c.specs.Handle.{status_of};
+ghost use Rattle.geolint_c.specs.declared.latest.TheConstants.{ROOM};
+
+use crate::finding::{Finding, Progress, finding_of_feature, no_finding, progress_of};
+use crate::handle::is_for_any_thread;
+use crate::latest::{LatestFeatures, ROOM};
+use crate::options::limits_of;
+use crate::report::{Report, no_report, report_of};
+use crate::status::{DONE, ENDED, NONE, READY, REFUSED};
+use gj_json::Limits;
+use gj_rules::feature_laws::{features_in_time, few_features};
+use gj_rules::{FeatureLinter, Progress as Shown};
+use memchr::memchr;
+
+/// A linter that tells features, until it has ended.
+#[derive(Drop)]
+pub struct FeatureHandle {
+    /// None where the limits are not allowed. It stays where it is at the end, since it is large.
+    linter: Option<FeatureLinter<LatestFeatures>>,
+    /// How many features were pulled.
+    pulled: u64,
+    ended: bool,
+}
+
+/// How many bytes are taken at once: up to the end of the next object, and no more than features are kept of.
+fn run_length(rest: &[u8]) -> usize
+    requires { 0 < length rest.now }
+    ensures some { 0 < result }
+    ensures within { result ≤ length rest.now }
+    ensures room { result ≤ ROOM }
+{
+    let most = rest.len().min(ROOM);
+    match memchr(b'}', &rest[..most]) {
+        Some(close) => close + 1,
+        None => most,
+    }
+}
+
+fn status_of(shown: Shown) -> u32
+    ensures { result ≡ status_of shown }
+{
+    match shown {
+        Shown::Open => DONE,
+        Shown::Refused(_) => REFUSED,
+    }
+}
+
+/// Before the first byte of an input under these limits.
+fn judging(limits: Limits) -> FeatureLinter<LatestFeatures>
+    ensures { Begins limits result }
+{
+    few_features();
+    FeatureLinter::new(limits, LatestFeatures::new())
+}
+
+/// Whether more features were told than were pulled.
+fn tells_more(linter: &FeatureLinter<LatestFeatures>, pulled: u64) -> bool
+    ensures value { result ≡ tells_more linter.now pulled }
+    ensures counted { Counted linter.now }
+    ensures below { IsTrue result → pulled + 1 < 2 ^ 64 }
+{
+    few_features();
+    linter.sink().told() > pulled
+}
+
+/// Feeds the linter bytes for which it has room.
+fn feed_run(linter: &mut FeatureLinter<LatestFeatures>, run: &[u8]) -> Shown
+    ensures judges { GoesOn linter.old run.now linter.new }
+    ensures answer { ShowsOn linter.old run.now result linter.new }
+{
+    features_in_time();
+    let _from = linter.offset();
+    let shown = linter.feed(run);
+    let _to = linter.offset();
+    shown
+}
+
+/// Takes the next bytes, up to the end of the next feature.
+fn take(linter: &mut FeatureLinter<LatestFeatures>, pulled: u64, piece: &[u8]) -> Progress
+    ensures { Takes linter.old pulled piece.now result linter.new }
+{
+    let mut at = 0;
+    let mut shown = feed_run(linter, &piece[..0]);
+    while at < piece.len() {
+        if tells_more(linter, pulled) {
+            let early = status_of(shown);
+            return progress_of(at, early, true);
+        }
+        let next = at + run_length(&piece[at..]);
+        shown = feed_run(linter, &piece[at..next]);
+        at = next;
+    }
+    let status = status_of(shown);
+    let ready = tells_more(linter, pulled);
+    progress_of(at, status, ready)
+}
+
+/// The next feature that was told.
+fn pull(linter: &FeatureLinter<LatestFeatures>, pulled: u64) -> Finding
+    ensures { IsPulled linter.now pulled result }
+{
+    few_features();
+    let _counted = tells_more(linter, pulled);
+    finding_of_feature(linter.sink().get(pulled))
+}
+
+/// A handle may go from one thread to another between two calls: the check of this call sees that its type is `Send`.
+fn may_move(handle: &FeatureHandle) {
+    is_for_any_thread(handle);
+}
+
+impl FeatureHandle {
+    /// Before the first byte of an input under these limits; where they are not allowed, a handle that has ended.
+    pub fn begun(max_depth: u32, max_bytes: u64) -> FeatureHandle
+        ensures { IsBegun max_depth max_bytes result }
+    {
+        let linter = match limits_of(max_depth, max_bytes) {
+            Some(limits) => Some(judging(limits)),
+            None => None,
+        };
+        let ended = linter.is_none();
+        FeatureHandle {
+            linter,
+            pulled: 0,
+            ended,
+        }
+    }
+
+    /// Whether a finding is ready.
+    fn is_ready(&self) -> bool
+        ensures value { result ≡ is_ready self.now }
+        ensures counted { OfLinter self.now.linter Counted }
+        ensures below { IsTrue result → self.now.pulled + 1 < 2 ^ 64 }
+    {
+        match &self.linter {
+            Some(linter) => {
+                let more = tells_more(linter, self.pulled);
+                !self.ended && more
+            }
+            None => false,
+        }
+    }
+
+    /// Takes the next bytes of the input, up to the end of the next feature.
+    pub fn feed(&mut self, piece: &[u8]) -> Progress
+        ensures { IsFed self.old piece.now result self.new }
+    {
+        if self.ended {
+            return progress_of(0, ENDED, false);
+        }
+        if self.is_ready() {
+            return progress_of(0, READY, true);
+        }
+        let pulled = self.pulled;
+        match &mut self.linter {
+            Some(linter) => take(linter, pulled, piece),
+            None => progress_of(piece.len(), ENDED, false),
+        }
+    }
+
+    /// The next feature that has ended.
+    pub fn next(&mut self) -> Finding
+        ensures { IsNext self.old result self.new }
+    {
+        if !self.is_ready() {
+            return no_finding(NONE);
+        }
+        match &self.linter {
+            Some(linter) => {
+                let finding = pull(linter, self.pulled);
+                self.pulled += 1;
+                finding
+            }
+            None => no_finding(NONE),
+        }
+    }
+
+    /// How many bytes were taken: the place of the refused one, once there was one.
+    pub fn offset(&mut self) -> u64
+        ensures { IsOffset self.old result self.new }
+    {
+        match &self.linter {
+            Some(linter) if !self.ended => linter.offset(),
+            _ => 0,
+        }
+    }
+
+    /// The verdict of what was fed, and the end of the handle.
+    pub fn finish(&mut self) -> Report
+        ensures { IsFinished self.old result self.new }
+    {
+        if self.ended {
+            return no_report(ENDED);
+        }
+        if self.is_ready() {
+            return no_report(READY);
+        }
+        self.ended = true;
+        match &mut self.linter {
+            Some(linter) => report_of(&linter.end()),
+            None => no_report(ENDED),
+        }
+    }
+}

@@ -1,0 +1,137 @@
+//! The records of an input that comes in pieces, pulled from a handle. Here are the calls over values; `record_stream` takes
+//! them to C.
+ghost use Rattle.std.specs.Prelude.{◌≡◌};
+ghost use Rattle.geolint_c.specs.Records.{framing_of, IsBegun, BegunStatus, IsFed, IsNext, IsOffset, IsFinished, over_status};
+
+use crate::finding::{
+    Finding, Progress, Whole, finding_of_record, no_finding, no_whole, progress_of, whole_of,
+};
+use crate::handle::is_for_any_thread;
+use crate::last::LastRecord;
+use crate::options::limits_of;
+use crate::status::{DONE, ENDED, LIMITS, NONE, READY, REFUSED};
+use gj_rules::{Framing, Records};
+
+/// A judge of records that tells each, until it has ended.
+#[derive(Drop)]
+pub struct RecordHandle {
+    /// None where the limits or the framing are not allowed. It stays where it is at the end, since it is large.
+    records: Option<Records>,
+    last: LastRecord,
+    /// Whether the last record that was told is not pulled yet.
+    ready: bool,
+    ended: bool,
+}
+
+/// The framing of this number.
+fn framing_of(framing: u32) -> Option<Framing>
+    ensures { result ≡ framing_of framing }
+{
+    match framing {
+        0 => Some(Framing::Sequence),
+        1 => Some(Framing::Lines),
+        _ => None,
+    }
+}
+
+fn over_status(is_over: bool) -> u32
+    ensures { result ≡ over_status is_over }
+{
+    if is_over { REFUSED } else { DONE }
+}
+
+/// A handle may go from one thread to another between two calls: the check of this call sees that its type is `Send`.
+fn may_move(handle: &RecordHandle) {
+    is_for_any_thread(handle);
+}
+
+impl RecordHandle {
+    /// Before the first byte of an input; where the limits or the framing are not allowed, a handle that has ended.
+    pub fn begun(framing: u32, max_depth: u32, max_bytes: u64) -> RecordHandle
+        ensures { IsBegun framing max_depth max_bytes result }
+    {
+        let records = match (framing_of(framing), limits_of(max_depth, max_bytes)) {
+            (Some(framing), Some(limits)) => Some(Records::new(framing, limits)),
+            _ => None,
+        };
+        let ended = records.is_none();
+        RecordHandle {
+            records,
+            last: LastRecord::new(),
+            ready: false,
+            ended,
+        }
+    }
+
+    /// Takes the next bytes of the input, up to the end of the next record.
+    pub fn feed(&mut self, piece: &[u8]) -> Progress
+        ensures { IsFed self.old piece.now result self.new }
+    {
+        if self.ended {
+            return progress_of(0, ENDED, false);
+        }
+        if self.ready {
+            return progress_of(0, READY, true);
+        }
+        match &mut self.records {
+            Some(records) => {
+                let taken = records.feed_one(piece, &mut self.last);
+                self.ready = taken.told;
+                progress_of(taken.count, over_status(records.is_over()), taken.told)
+            }
+            None => progress_of(piece.len(), ENDED, false),
+        }
+    }
+
+    /// The record that has ended.
+    pub fn next(&mut self) -> Finding
+        ensures { IsNext self.old result self.new }
+    {
+        if !self.ready {
+            return no_finding(NONE);
+        }
+        self.ready = false;
+        finding_of_record(self.last.get())
+    }
+
+    /// How many bytes were taken, of those that are allowed.
+    pub fn offset(&mut self) -> u64
+        ensures { IsOffset self.old result self.new }
+    {
+        match &self.records {
+            Some(records) if !self.ended => records.offset(),
+            _ => 0,
+        }
+    }
+
+    /// What the input is as a whole, and the end of the handle. The last record is then ready, where there is one.
+    pub fn finish(&mut self) -> Whole
+        ensures { IsFinished self.old result self.new }
+    {
+        if self.ended {
+            return no_whole(ENDED);
+        }
+        if self.ready {
+            return no_whole(READY);
+        }
+        self.ended = true;
+        match &mut self.records {
+            Some(records) => {
+                let whole = records.end(&mut self.last);
+                self.ready = whole.told;
+                whole_of(&whole.verdict)
+            }
+            None => no_whole(ENDED),
+        }
+    }
+}
+
+/// What beginning a handle under these limits answers.
+pub fn begun_status(framing: u32, max_depth: u32, max_bytes: u64) -> u32
+    ensures { BegunStatus framing max_depth max_bytes result }
+{
+    match (framing_of(framing), limits_of(max_depth, max_bytes)) {
+        (Some(_), Some(_)) => DONE,
+        _ => LIMITS,
+    }
+}
