@@ -32,6 +32,28 @@ RETURNS geojson_verdict AS 'MODULE_PATHNAME', 'geojson_report_text' LANGUAGE C I
 CREATE FUNCTION geojson_report(body bytea, max_depth integer DEFAULT 256, max_bytes bigint DEFAULT 1152921504606846976)
 RETURNS geojson_verdict AS 'MODULE_PATHNAME', 'geojson_report_bytea' LANGUAGE C IMMUTABLE STRICT PARALLEL SAFE COST 100;
 
+CREATE TYPE geojson_finding AS (
+    index bigint,
+    start_place bigint,
+    end_place bigint,
+    id_place bigint,
+    valid boolean,
+    rule text,
+    place bigint,
+    message text,
+    warnings jsonb
+);
+COMMENT ON TYPE geojson_finding IS 'what is found in a feature: its number, from 0, its bytes from start_place to before end_place, the place of its id; valid, or the broken rule at this byte; warnings of a valid one';
+
+CREATE FUNCTION geojson_features(body text, max_depth integer DEFAULT 256, max_bytes bigint DEFAULT 1152921504606846976)
+RETURNS SETOF geojson_finding AS 'MODULE_PATHNAME', 'geojson_features_text' LANGUAGE C IMMUTABLE STRICT PARALLEL SAFE COST 100 ROWS 1000;
+
+CREATE FUNCTION geojson_features(body json, max_depth integer DEFAULT 256, max_bytes bigint DEFAULT 1152921504606846976)
+RETURNS SETOF geojson_finding AS 'MODULE_PATHNAME', 'geojson_features_text' LANGUAGE C IMMUTABLE STRICT PARALLEL SAFE COST 100 ROWS 1000;
+
+CREATE FUNCTION geojson_features(body bytea, max_depth integer DEFAULT 256, max_bytes bigint DEFAULT 1152921504606846976)
+RETURNS SETOF geojson_finding AS 'MODULE_PATHNAME', 'geojson_features_bytea' LANGUAGE C IMMUTABLE STRICT PARALLEL SAFE COST 100 ROWS 1000;
+
 CREATE FUNCTION geolint_version()
 RETURNS text AS 'MODULE_PATHNAME', 'version_of_geolint' LANGUAGE C IMMUTABLE STRICT PARALLEL SAFE;
 COMMENT ON FUNCTION geolint_version() IS 'the version of the library in this module';

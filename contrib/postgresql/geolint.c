@@ -1,5 +1,5 @@
 /* The functions of geolint--0.1.0.sql. */
-#include "judge.h"
+#include "walk.h"
 
 #include <fmgr.h>
 #include <funcapi.h>
@@ -10,40 +10,48 @@
 
 PG_MODULE_MAGIC;
 
-/* The attributes of geojson_verdict, in their order. */
+/* The attributes of geojson_verdict, in their order, and those of geojson_finding. */
 enum { VALID, RULE, PLACE, PATH, MESSAGE, WARNINGS, ATTRIBUTES };
+enum { INDEX, START, END, ID, FEATURE_VALID, FEATURE_RULE, FEATURE_PLACE, FEATURE_MESSAGE, FEATURE_WARNINGS, FEATURE_ATTRIBUTES };
 
 /* What the arguments of a call say. */
-static Judging asked(FunctionCallInfo fcinfo, Question question, Coding coding) {
-    Judging judging = {question, coding, PG_GETARG_INT32(1), PG_GETARG_INT64(2)};
-    return judging;
+static Allowed allowed_by(FunctionCallInfo fcinfo) {
+    Allowed allowed = {PG_GETARG_INT32(1), PG_GETARG_INT64(2)};
+    return allowed;
 }
 
-static Datum judge_argument(FunctionCallInfo fcinfo, Coding coding) {
-    Judging judging = asked(fcinfo, IS_IT_VALID, coding);
-    geolint_report report = judge_value(&judging, PG_GETARG_DATUM(0));
-    PG_RETURN_BOOL(report.verdict == GEOLINT_VALID);
+static geolint_report judge_argument(FunctionCallInfo fcinfo, Question question, Coding coding) {
+    Allowed allowed = allowed_by(fcinfo);
+    Pieces pieces;
+    begin_value(&pieces, coding, PG_GETARG_DATUM(0));
+    return judge(&pieces, question, &allowed);
+}
+
+static Datum is_argument_valid(FunctionCallInfo fcinfo, Coding coding) {
+    PG_RETURN_BOOL(judge_argument(fcinfo, IS_IT_VALID, coding).verdict == GEOLINT_VALID);
 }
 
 PG_FUNCTION_INFO_V1(is_geojson_text);
 Datum is_geojson_text(PG_FUNCTION_ARGS) {
-    return judge_argument(fcinfo, CHARACTERS);
+    return is_argument_valid(fcinfo, CHARACTERS);
 }
 
 PG_FUNCTION_INFO_V1(is_geojson_bytea);
 Datum is_geojson_bytea(PG_FUNCTION_ARGS) {
-    return judge_argument(fcinfo, BYTES);
+    return is_argument_valid(fcinfo, BYTES);
 }
 
 /* A jsonb keeps no text: the one that it prints is judged. */
 PG_FUNCTION_INFO_V1(is_geojson_jsonb);
 Datum is_geojson_jsonb(PG_FUNCTION_ARGS) {
-    Judging judging = asked(fcinfo, IS_IT_VALID, CHARACTERS);
+    Allowed allowed = allowed_by(fcinfo);
     Jsonb *body = PG_GETARG_JSONB_P(0);
     StringInfoData text;
+    Pieces pieces;
     initStringInfo(&text);
     JsonbToCString(&text, &body->root, VARSIZE(body));
-    geolint_report report = judge_string(&judging, text.data, text.len);
+    begin_string(&pieces, CHARACTERS, text.data, text.len);
+    geolint_report report = judge(&pieces, IS_IT_VALID, &allowed);
     pfree(text.data);
     PG_FREE_IF_COPY(body, 0);
     PG_RETURN_BOOL(report.verdict == GEOLINT_VALID);
@@ -55,17 +63,24 @@ typedef struct Kept {
     Datum no_warnings;
 } Kept;
 
+/* In the memory context of the call. */
+static Kept keep(FunctionCallInfo fcinfo, int attributes) {
+    Kept kept;
+    TupleDesc type;
+    if (get_call_result_type(fcinfo, NULL, &type) != TYPEFUNC_COMPOSITE || type->natts != attributes)
+        ereport(ERROR, errcode(ERRCODE_DATATYPE_MISMATCH), errmsg("the result is not of the type that this version of geolint has"),
+                errhint("Run ALTER EXTENSION geolint UPDATE, or create the extension again."));
+    kept.type = BlessTupleDesc(CreateTupleDescCopy(type));
+    kept.no_warnings = DirectFunctionCall1(jsonb_in, CStringGetDatum("[]"));
+    return kept;
+}
+
 static const Kept *kept_for(FunctionCallInfo fcinfo) {
     Kept *kept = fcinfo->flinfo->fn_extra;
     if (!kept) {
         MemoryContext outer = MemoryContextSwitchTo(fcinfo->flinfo->fn_mcxt);
-        TupleDesc type;
-        if (get_call_result_type(fcinfo, NULL, &type) != TYPEFUNC_COMPOSITE || type->natts != ATTRIBUTES)
-            ereport(ERROR, errcode(ERRCODE_DATATYPE_MISMATCH), errmsg("geojson_verdict is not the type that this version of geolint has"),
-                    errhint("Run ALTER EXTENSION geolint UPDATE, or create the extension again."));
         kept = palloc(sizeof *kept);
-        kept->type = BlessTupleDesc(CreateTupleDescCopy(type));
-        kept->no_warnings = DirectFunctionCall1(jsonb_in, CStringGetDatum("[]"));
+        *kept = keep(fcinfo, ATTRIBUTES);
         MemoryContextSwitchTo(outer);
         fcinfo->flinfo->fn_extra = kept;
     }
@@ -92,29 +107,34 @@ static Datum warnings_of(const geolint_report *report) {
     return DirectFunctionCall1(jsonb_in, CStringGetDatum(json.data));
 }
 
-static Datum verdict_of(FunctionCallInfo fcinfo, const geolint_report *report) {
-    Datum values[ATTRIBUTES] = {0};
-    bool nulls[ATTRIBUTES] = {false, true, true, true, true, true};
-    bool is_broken = report->verdict == GEOLINT_BROKEN;
-    const Kept *kept = kept_for(fcinfo);
-    values[VALID] = BoolGetDatum(report->verdict == GEOLINT_VALID);
-    if (report->verdict == GEOLINT_VALID) {
-        values[WARNINGS] = report->warned ? warnings_of(report) : kept->no_warnings;
-        nulls[WARNINGS] = false;
-    } else {
-        uint32 number = is_broken ? report->rule : report->cause;
-        values[RULE] = CStringGetTextDatum(psprintf("%c%u", is_broken ? 'G' : 'J', number));
-        values[PLACE] = Int64GetDatum((int64)report->place);
-        values[MESSAGE] = CStringGetTextDatum(is_broken ? geolint_rule(number) : geolint_cause(number));
-        nulls[RULE] = nulls[PLACE] = nulls[MESSAGE] = false;
+/* Where the attributes of a report stand in a row. */
+typedef struct Slots {
+    int valid, rule, place, message, warnings;
+} Slots;
+
+/* Fills the attributes of a row that say what the report does. The others are as they were. */
+static void fill_report(const geolint_report *report, const Kept *kept, Slots at, Datum *values, bool *nulls) {
+    bool is_broken = report->verdict == GEOLINT_BROKEN, is_valid = report->verdict == GEOLINT_VALID;
+    uint32 number = is_broken ? report->rule : report->cause;
+    values[at.valid] = BoolGetDatum(is_valid);
+    nulls[at.warnings] = !is_valid;
+    nulls[at.rule] = nulls[at.place] = nulls[at.message] = is_valid;
+    if (is_valid) {
+        values[at.warnings] = report->warned ? warnings_of(report) : kept->no_warnings;
+        return;
     }
-    return HeapTupleGetDatum(heap_form_tuple(kept->type, values, nulls));
+    values[at.rule] = CStringGetTextDatum(psprintf("%c%u", is_broken ? 'G' : 'J', number));
+    values[at.place] = Int64GetDatum((int64)report->place);
+    values[at.message] = CStringGetTextDatum(is_broken ? geolint_rule(number) : geolint_cause(number));
 }
 
 static Datum report_argument(FunctionCallInfo fcinfo, Coding coding) {
-    Judging judging = asked(fcinfo, WHAT_IS_IT, coding);
-    geolint_report report = judge_value(&judging, PG_GETARG_DATUM(0));
-    return verdict_of(fcinfo, &report);
+    geolint_report report = judge_argument(fcinfo, WHAT_IS_IT, coding);
+    const Kept *kept = kept_for(fcinfo);
+    Datum values[ATTRIBUTES] = {0};
+    bool nulls[ATTRIBUTES] = {[PATH] = true};
+    fill_report(&report, kept, (Slots){VALID, RULE, PLACE, MESSAGE, WARNINGS}, values, nulls);
+    return HeapTupleGetDatum(heap_form_tuple(kept->type, values, nulls));
 }
 
 PG_FUNCTION_INFO_V1(geojson_report_text);
@@ -125,6 +145,62 @@ Datum geojson_report_text(PG_FUNCTION_ARGS) {
 PG_FUNCTION_INFO_V1(geojson_report_bytea);
 Datum geojson_report_bytea(PG_FUNCTION_ARGS) {
     return report_argument(fcinfo, BYTES);
+}
+
+/* A query over the features of a text: what is kept from one row to the next. */
+typedef struct Rows {
+    Walk *walk;
+    Kept kept;
+} Rows;
+
+static Datum row_of(const geolint_finding *finding, const Kept *kept) {
+    Datum values[FEATURE_ATTRIBUTES] = {0};
+    bool nulls[FEATURE_ATTRIBUTES] = {false};
+    values[INDEX] = Int64GetDatum((int64)finding->number);
+    values[START] = Int64GetDatum((int64)finding->place);
+    values[END] = Int64GetDatum((int64)finding->end);
+    nulls[END] = finding->end == 0;
+    values[ID] = Int64GetDatum((int64)finding->id);
+    nulls[ID] = finding->id == 0;
+    fill_report(&finding->report, kept, (Slots){FEATURE_VALID, FEATURE_RULE, FEATURE_PLACE, FEATURE_MESSAGE, FEATURE_WARNINGS}, values, nulls);
+    return HeapTupleGetDatum(heap_form_tuple(kept->type, values, nulls));
+}
+
+/* A row for each feature, as it is asked for. */
+static Datum features_of_argument(FunctionCallInfo fcinfo, Coding coding) {
+    FuncCallContext *calls;
+    MemoryContext outer;
+    geolint_finding finding;
+    bool is_there;
+    Rows *rows;
+    if (SRF_IS_FIRSTCALL()) {
+        Allowed allowed = allowed_by(fcinfo);
+        calls = SRF_FIRSTCALL_INIT();
+        outer = MemoryContextSwitchTo(calls->multi_call_memory_ctx);
+        rows = palloc(sizeof *rows);
+        rows->kept = keep(fcinfo, FEATURE_ATTRIBUTES);
+        rows->walk = begin_walk(coding, PG_GETARG_DATUM(0), &allowed);
+        calls->user_fctx = rows;
+        MemoryContextSwitchTo(outer);
+    }
+    calls = SRF_PERCALL_SETUP();
+    rows = calls->user_fctx;
+    outer = MemoryContextSwitchTo(calls->multi_call_memory_ctx);
+    is_there = next_feature(rows->walk, &finding);
+    MemoryContextSwitchTo(outer);
+    if (!is_there)
+        SRF_RETURN_DONE(calls);
+    SRF_RETURN_NEXT(calls, row_of(&finding, &rows->kept));
+}
+
+PG_FUNCTION_INFO_V1(geojson_features_text);
+Datum geojson_features_text(PG_FUNCTION_ARGS) {
+    return features_of_argument(fcinfo, CHARACTERS);
+}
+
+PG_FUNCTION_INFO_V1(geojson_features_bytea);
+Datum geojson_features_bytea(PG_FUNCTION_ARGS) {
+    return features_of_argument(fcinfo, BYTES);
 }
 
 PG_FUNCTION_INFO_V1(version_of_geolint);

@@ -2,7 +2,7 @@
 #ifndef JUDGE_H
 #define JUDGE_H
 
-#include <postgres.h>
+#include "pieces.h"
 
 #include <geolint.h>
 
@@ -12,22 +12,17 @@ typedef enum Question {
     WHAT_IS_IT   /* to the byte that is refused */
 } Question;
 
-/* What the bytes of a value are. */
-typedef enum Coding {
-    BYTES,     /* the text itself */
-    CHARACTERS /* characters in the encoding of the database: they are judged, and places counted, in UTF-8 */
-} Coding;
-
-typedef struct Judging {
-    Question question;
-    Coding coding;
+/* What a text may be. */
+typedef struct Allowed {
     int32 max_depth; /* 1 to 256 */
     int64 max_bytes; /* 1 to 2^60 */
-} Judging;
+} Allowed;
 
-/* The report of a value as it is stored, and of a string. Where the question is IS_IT_VALID, only that is known of it. A statement
- * that is cancelled ends within a piece; limits that are not allowed are an error of the statement. */
-__attribute__((visibility("hidden"))) geolint_report judge_value(const Judging *judging, Datum value);
-__attribute__((visibility("hidden"))) geolint_report judge_string(const Judging *judging, const char *bytes, Size length);
+/* An error of the statement, which says what limits there are: where the library allows none such. */
+HIDDEN void wants_allowed(const Allowed *allowed, bool is_begun);
+
+/* The report of what the pieces have, which are read as far as the question needs, and end. Where the question is IS_IT_VALID, only that is
+ * known of it. Limits that are not allowed are an error of the statement. */
+HIDDEN geolint_report judge(Pieces *pieces, Question question, const Allowed *allowed);
 
 #endif

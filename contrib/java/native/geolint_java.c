@@ -9,6 +9,9 @@ enum { PIECE = 16384 };
 
 /* Where a report's numbers stand: as in Native.java. */
 enum { VERDICT, NUMBER, PLACE, WARNINGS, REPORT = WARNINGS + 2 * GEOLINT_KINDS };
+enum { INDEX, START, END, ID, OF_FEATURE, FINDING = OF_FEATURE + REPORT };
+/* What nextFeature answers. */
+enum { OPEN, REFUSED, FOUND };
 
 static geolint_linter *linter_at(jlong address) {
     return (geolint_linter *)(intptr_t)address;
@@ -55,17 +58,97 @@ JNIEXPORT jlong JNICALL Java_geolint_Native_offset(JNIEnv *env, jclass native, j
     return (jlong)geolint_offset(linter_at(linter));
 }
 
+/* Writes the numbers of a report. */
+static void write_report(jlong *all, const geolint_report *report) {
+    all[VERDICT] = report->verdict;
+    all[NUMBER] = report->rule + report->cause; /* one of them is 0 */
+    all[PLACE] = (jlong)report->place;
+    for (int kind = 0; kind < GEOLINT_KINDS; kind++) {
+        all[WARNINGS + 2 * kind] = (jlong)report->warnings[kind].count;
+        all[WARNINGS + 2 * kind + 1] = (jlong)report->warnings[kind].first;
+    }
+}
+
 JNIEXPORT void JNICALL Java_geolint_Native_finish(JNIEnv *env, jclass native, jlong linter, jlongArray numbers) {
     geolint_report report = geolint_finish(linter_at(linter));
     jlong all[REPORT];
     (void)native;
-    all[VERDICT] = report.verdict;
-    all[NUMBER] = report.rule + report.cause; /* one of them is 0 */
-    all[PLACE] = (jlong)report.place;
-    for (int kind = 0; kind < GEOLINT_KINDS; kind++) {
-        all[WARNINGS + 2 * kind] = (jlong)report.warnings[kind].count;
-        all[WARNINGS + 2 * kind + 1] = (jlong)report.warnings[kind].first;
+    write_report(all, &report);
+    (*env)->SetLongArrayRegion(env, numbers, 0, REPORT, all);
+}
+
+/* A text whose features are told, with the bytes that were taken over of it. */
+typedef struct walk {
+    geolint_features *features;
+    jint from, to;
+    jbyte piece[PIECE];
+} walk;
+
+static walk *walk_at(jlong address) {
+    return (walk *)(intptr_t)address;
+}
+
+JNIEXPORT jlong JNICALL Java_geolint_Native_newFeatures(JNIEnv *env, jclass native, jint max_depth, jlong max_bytes) {
+    size_t alignment = geolint_alignment();
+    walk *it = (walk *)malloc(sizeof *it + geolint_features_size() + alignment);
+    (void)env, (void)native;
+    if (!it)
+        return 0;
+    it->features = (geolint_features *)(((uintptr_t)(it + 1) + alignment - 1) / alignment * alignment);
+    it->from = it->to = 0;
+    geolint_features_begin(it->features, (uint32_t)max_depth, (uint64_t)max_bytes);
+    return (jlong)(intptr_t)it;
+}
+
+JNIEXPORT void JNICALL Java_geolint_Native_freeFeatures(JNIEnv *env, jclass native, jlong features) {
+    (void)env, (void)native;
+    free(walk_at(features));
+}
+
+JNIEXPORT jint JNICALL Java_geolint_Native_fill(JNIEnv *env, jclass native, jlong features, jbyteArray bytes, jint offset, jint length) {
+    walk *it = walk_at(features);
+    jint size = length < PIECE ? length : PIECE;
+    (void)native;
+    if (it->from < it->to || size <= 0)
+        return 0;
+    (*env)->GetByteArrayRegion(env, bytes, offset, size, it->piece);
+    if ((*env)->ExceptionCheck(env))
+        return 0;
+    it->from = 0;
+    it->to = size;
+    return size;
+}
+
+JNIEXPORT jint JNICALL Java_geolint_Native_nextFeature(JNIEnv *env, jclass native, jlong features, jlongArray numbers) {
+    walk *it = walk_at(features);
+    jlong all[FINDING];
+    (void)native;
+    for (;;) {
+        geolint_progress progress;
+        geolint_finding finding = geolint_features_next(it->features);
+        if (finding.report.status == GEOLINT_DONE) {
+            all[INDEX] = (jlong)finding.number;
+            all[START] = (jlong)finding.place;
+            all[END] = (jlong)finding.end;
+            all[ID] = (jlong)finding.id;
+            write_report(all + OF_FEATURE, &finding.report);
+            (*env)->SetLongArrayRegion(env, numbers, 0, FINDING, all);
+            return FOUND;
+        }
+        if (it->from == it->to)
+            return OPEN;
+        progress = geolint_features_feed(it->features, it->piece + it->from, (size_t)(it->to - it->from));
+        it->from += (jint)progress.taken;
+        if (progress.status != GEOLINT_DONE && !progress.ready)
+            return REFUSED;
     }
+}
+
+JNIEXPORT void JNICALL Java_geolint_Native_finishFeatures(JNIEnv *env, jclass native, jlong features, jlongArray numbers) {
+    geolint_report report = geolint_features_finish(walk_at(features)->features);
+    jlong all[REPORT];
+    (void)native;
+    write_report(all, &report);
     (*env)->SetLongArrayRegion(env, numbers, 0, REPORT, all);
 }
 

@@ -23,6 +23,15 @@ SELECT * FROM geojson_report('01'::bytea);
 SELECT rule, place, message FROM geojson_report('{"type":"Point", "coordinates":[1]}'::json);
 SELECT (geojson_report('7')).message;
 
+-- The features of a text, with what is found in each: a row for each element of the first array `features`.
+SELECT * FROM geojson_features('{"type":"FeatureCollection","features":[{"type":"Feature","id":7,"geometry":null,"properties":{}},{"type":"Feature","geometry":null},null]}');
+SELECT index, valid, warnings FROM geojson_features('{"features":[{"type":"Feature","geometry":{"type":"Point","coordinates":[200,2]},"properties":{}}]}'::json);
+SELECT index, rule, place FROM geojson_features('{"features":[{},{},{'::bytea);
+SELECT count(*) FROM geojson_features('{"type":"Point","coordinates":[1,2]}');
+SELECT count(*) FROM geojson_features(NULL::text);
+SELECT index FROM geojson_features('{"features":[{},{},{}]}', max_bytes => 17);
+SELECT geojson_features('[]', max_depth => 0);
+
 -- Places are byte offsets, and a character may have several bytes.
 SELECT place FROM geojson_report('{"name":"Žilina","type":"Nope"}');
 
@@ -75,4 +84,4 @@ RESET ALL;
 
 -- A text that is known when a query is planned is judged once.
 EXPLAIN (COSTS OFF, VERBOSE) SELECT is_geojson('[1,2]');
-SELECT proname, provolatile, proparallel, proisstrict, count(*) FROM pg_proc WHERE proname IN ('is_geojson', 'geojson_report') GROUP BY 1, 2, 3, 4 ORDER BY 1;
+SELECT proname, provolatile, proparallel, proisstrict, count(*) FROM pg_proc WHERE proname IN ('is_geojson', 'geojson_report', 'geojson_features') GROUP BY 1, 2, 3, 4 ORDER BY 1;

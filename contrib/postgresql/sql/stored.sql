@@ -31,6 +31,26 @@ WITH stored AS (
     UNION ALL SELECT id, geojson_report(body), is_geojson(body) FROM bytes
 )
 SELECT count(*), count(*) FILTER (WHERE report = geojson_report(body) AND yes = is_geojson(body)) AS "as above" FROM stored JOIN texts USING (id);
+-- The features of long texts are the same in each, however they are cut: the last one, which is broken, ends behind all others.
+CREATE VIEW collections AS
+SELECT 0 AS id, '{"features":[' || repeat('{"type":"Feature","geometry":null,"properties":{"name":"žltá"}},', 20000) || '{"type":"Feature","geometry":null}]}' AS body
+UNION ALL SELECT 1, '{"x":"' || repeat('ž', 128 * 998 - 12) || '","features":[{},7, {}]}'
+UNION ALL SELECT 2, '{"features":[{}' || repeat(' ', 1000000) || ',[]' || repeat(' ', 1000000);
+TRUNCATE apart, packed, bytes;
+INSERT INTO apart SELECT * FROM collections;
+INSERT INTO packed SELECT * FROM collections;
+INSERT INTO bytes SELECT id, convert_to(body, 'UTF8') FROM collections;
+SELECT id, count(*), count(*) FILTER (WHERE valid) AS valid, max(start_place) AS start_place, max(end_place) AS end_place, max(place) AS place FROM collections, geojson_features(body) GROUP BY id ORDER BY id;
+WITH stored AS (
+    SELECT id, it FROM apart, geojson_features(body) AS it
+    UNION ALL SELECT id, it FROM packed, geojson_features(body) AS it
+    UNION ALL SELECT id, it FROM bytes, geojson_features(body) AS it
+), counted AS (SELECT id, it, count(*) FROM stored GROUP BY id, it)
+SELECT count(*), count(*) FILTER (WHERE count = 3) AS "as above" FROM counted JOIN (SELECT id, it FROM collections, geojson_features(body) AS it) AS given USING (id, it);
+TRUNCATE apart, packed;
+INSERT INTO apart SELECT * FROM texts;
+INSERT INTO packed SELECT * FROM texts;
+
 -- They store them out of line as they are, out of line and compressed, and compressed in the row.
 SELECT id, pg_column_size(apart.body) > 100000 AS "as it is", pg_column_size(packed.body) < 40000 AS compressed, pg_column_size(packed.body) < 2000 AS "in the row"
 FROM apart JOIN packed USING (id) WHERE id IN (1, 10) ORDER BY id;

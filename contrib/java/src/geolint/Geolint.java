@@ -1,5 +1,6 @@
 package geolint;
 
+import java.io.ByteArrayInputStream;
 import java.io.IOException;
 import java.io.InputStream;
 import java.nio.ByteBuffer;
@@ -16,7 +17,7 @@ import java.util.concurrent.ArrayBlockingQueue;
  * }</pre>
  *
  * <p>Any thread may call it. A text that comes in pieces is judged by a {@link Linter}, and one that something else reads by a
- * {@link JudgingInputStream}.
+ * {@link JudgingInputStream}. {@link #features} tells what is found in each feature.
  */
 public final class Geolint {
     private static final int PIECE = 65536;
@@ -105,6 +106,37 @@ public final class Geolint {
         } finally {
             give(linter);
         }
+    }
+
+    /**
+     * The features of a text that a stream gives, under the widest limits.
+     *
+     * @param text a stream of its bytes, which stays open
+     * @return what is found in each, one at a time; to be closed
+     */
+    public static Features features(InputStream text) {
+        return features(text, Limits.WIDEST);
+    }
+
+    /**
+     * The features of a text that a stream gives.
+     *
+     * @param text a stream of its bytes, which stays open
+     * @param limits how deep and how long it may be
+     * @return what is found in each, one at a time; to be closed
+     */
+    public static Features features(InputStream text, Limits limits) {
+        return new Features(text, limits);
+    }
+
+    /**
+     * The features of a text in memory, under the widest limits.
+     *
+     * @param text its bytes
+     * @return what is found in each, one at a time; to be closed
+     */
+    public static Features features(byte[] text) {
+        return features(new ByteArrayInputStream(text));
     }
 
     /**

@@ -2,8 +2,6 @@ package geolint;
 
 import java.lang.ref.Cleaner;
 import java.nio.ByteBuffer;
-import java.util.ArrayList;
-import java.util.List;
 import java.util.Objects;
 
 /**
@@ -172,21 +170,7 @@ public final class Linter implements AutoCloseable {
         long[] report = new long[Native.REPORT];
         Native.finish(memory, report);
         state = State.ENDED;
-        int number = (int) report[Native.NUMBER];
-        long place = report[Native.PLACE];
-        if (report[Native.VERDICT] == Native.VALID)
-            return new Verdict.Valid(warnings(report));
-        return report[Native.VERDICT] == Native.BROKEN ? new Verdict.Broken(number, place) : new Verdict.NotJson(number, place);
-    }
-
-    private static List<Verdict.Warning> warnings(long[] report) {
-        List<Verdict.Warning> warnings = new ArrayList<>();
-        for (int kind = 1; kind <= Native.KINDS; kind++) {
-            int at = Native.WARNINGS + 2 * (kind - 1);
-            if (report[at] > 0)
-                warnings.add(new Verdict.Warning(kind, report[at], report[at + 1]));
-        }
-        return warnings;
+        return Native.verdict(report);
     }
 
     /** Gives the memory back. A second call does nothing, and every other call is an {@link IllegalStateException}. */

@@ -5,9 +5,11 @@ import java.io.InputStream;
 import java.nio.file.Files;
 import java.nio.file.Path;
 import java.nio.file.StandardCopyOption;
+import java.util.ArrayList;
+import java.util.List;
 import java.util.Locale;
 
-/** The calls of the library for C. A linter is the address of its memory; each call trusts it, so only {@link Linter} makes them. */
+/** The calls of the library for C. A linter is the address of its memory; each call trusts it, so only {@link Linter} and {@link Features} make them. */
 final class Native {
     /** What a piece shows, and what a text is: the numbers of {@code geolint.h}. */
     static final int REFUSED = 1;
@@ -23,6 +25,18 @@ final class Native {
     static final int PLACE = 2;
     static final int WARNINGS = 3;
     static final int REPORT = WARNINGS + 2 * KINDS;
+
+    /** Where the numbers of a feature stand, before those of its report. A place that there is not is 0. */
+    static final int INDEX = 0;
+    static final int START = 1;
+    static final int END = 2;
+    static final int ID = 3;
+    static final int OF_FEATURE = 4;
+    static final int FINDING = OF_FEATURE + REPORT;
+
+    /** What {@link #nextFeature} answers beside {@link #REFUSED}: it wants more bytes, or has found a feature. */
+    static final int OPEN = 0;
+    static final int FOUND = 2;
 
     static {
         load();
@@ -46,6 +60,20 @@ final class Native {
     /** Ends the linter and writes its report, of {@link #REPORT} numbers. */
     static native void finish(long linter, long[] report);
 
+    /** The memory of a text whose features are told, which has begun, or 0 where there is none. */
+    static native long newFeatures(int maxDepth, long maxBytes);
+
+    static native void freeFeatures(long features);
+
+    /** Takes over some of the bytes, where all that were taken over are used up; answers how many. */
+    static native int fill(long features, byte[] bytes, int offset, int length);
+
+    /** Goes on in the bytes that were taken over to the end of the next feature, and writes its {@link #FINDING} numbers. */
+    static native int nextFeature(long features, long[] finding);
+
+    /** Ends the text and writes its report. */
+    static native void finishFeatures(long features, long[] report);
+
     static native String ruleText(int rule);
 
     static native String causeText(int cause);
@@ -53,6 +81,25 @@ final class Native {
     static native String warningText(int kind);
 
     static native String version();
+
+    /** The verdict that these numbers are. */
+    static Verdict verdict(long[] report) {
+        int number = (int) report[NUMBER];
+        long place = report[PLACE];
+        if (report[VERDICT] == VALID)
+            return new Verdict.Valid(warnings(report));
+        return report[VERDICT] == BROKEN ? new Verdict.Broken(number, place) : new Verdict.NotJson(number, place);
+    }
+
+    private static List<Verdict.Warning> warnings(long[] report) {
+        List<Verdict.Warning> warnings = new ArrayList<>();
+        for (int kind = 1; kind <= KINDS; kind++) {
+            int at = WARNINGS + 2 * (kind - 1);
+            if (report[at] > 0)
+                warnings.add(new Verdict.Warning(kind, report[at], report[at + 1]));
+        }
+        return warnings;
+    }
 
     /** Loads the library that {@code -Dgeolint.library} names, otherwise the one in the jar, otherwise the system's. */
     private static void load() {
