@@ -20,12 +20,13 @@ web: $(WEB_OUT)/index.html
 
 # rt's crates.txt has a crate once, for one machine. So rattle is called here as rt calls it, over the libraries that rt has proved;
 # what it kept of the crate's own proof for this machine is used again.
-below := gj_rules gj_coords gj_json gj_number
+below := gj_places gj_rules gj_coords gj_json gj_number
+from_kit := itoa memchr core std
 rlib = $(top)/crates/$(1)/out/rlib
 kept = $(WEB_BUILD)/incremental-$(1)
 build_for = rm -rf $(kept) && { cp -r $(GEOLINT_C)/out/incremental $(kept) 2>/dev/null || mkdir -p $(kept); } && cd $(GEOLINT_C) && $(KIT)/bin/rattle build --crate-name geolint_c src/lib.rt \
     $(foreach it,$(filter-out gj_number,$(below)),--extern $(it)=$(call rlib,$(it))/$(it).rlib) $(foreach it,$(below),-L dependency=$(call rlib,$(it))) \
-    --extern core=$(KIT)/rlibs/core.rlib --extern std=$(KIT)/rlibs/std.rlib -L dependency=$(KIT)/rlibs \
+    $(foreach it,$(from_kit),--extern $(it)=$(KIT)/rlibs/$(it).rlib) -L dependency=$(KIT)/rlibs \
     --antt-project $(KIT)/rattle/logic/antt-project.json --logic-built $(KIT)/logic_built --incremental $(kept) \
     --jobs 2 --crate-type staticlib --target $(1) --toolchain $(KIT)/toolchain -o $(2)
 # needs COMMAND PACKAGES: says how to install what is missing.
@@ -49,7 +50,7 @@ $(WEB_OUT)/index.html: $(WEB_BUILD)/geolint.wasm $(wildcard $(WEB)/*) $(top)/doc
 	$(WEB_PYTHON) $(WEB)/build $< $@
 	@echo "geolint: the page is $@, $$(($$(gzip -9c $@ | wc -c) / 1000)) kB as a server sends it" >&2
 
-npm_sources := geolint.js geolint.d.ts check.js linter.js lines.js paths.js report.js
+npm_sources := geolint.js geolint.d.ts check.js findings.js linter.js lines.js names.js paths.js report.js source.js split.js
 npm: $(WEB_BUILD)/geolint.wasm
 	@$(call needs,npm,npm)
 	rm -rf $(NPM_BUILD)

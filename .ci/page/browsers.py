@@ -14,7 +14,8 @@ import urllib.request
 
 import websocket
 
-KEYS = {"Tab": ("\ue004", 9), "Enter": ("\ue006", 13), "Space": (" ", 32)}
+KEYS = {"Tab": ("\ue004", 9), "Enter": ("\ue006", 13), "Space": (" ", 32), "Escape": ("\ue00c", 27), "ArrowDown": ("\ue015", 40), "ArrowUp": ("\ue013", 38),
+        "PageDown": ("\ue00f", 34), "Home": ("\ue011", 36), "End": ("\ue010", 35)}
 
 
 class Browser:
@@ -123,7 +124,7 @@ class Chromium(Browser):
     def press(self, key):
         text, code = KEYS[key]
         words = {"key": " " if key == "Space" else key, "code": key, "windowsVirtualKeyCode": code}
-        self.call("Input.dispatchKeyEvent", type="keyDown", **words, **({"text": "\r" if key == "Enter" else text} if key != "Tab" else {}))
+        self.call("Input.dispatchKeyEvent", type="keyDown", **words, **({"text": "\r" if key == "Enter" else text} if key in ("Enter", "Space") else {}))
         self.call("Input.dispatchKeyEvent", type="keyUp", **words)
 
     def write(self, text):

@@ -22,7 +22,7 @@ Kind = {"chromium": Chromium, "firefox": Firefox}[name]
 passed = failed = 0
 
 EXAMPLES = [str(it) for folder in ("examples", "examples/faulty") for it in sorted(ROOT.glob(f"{folder}/*.geojson"))]
-DONE = "document.querySelectorAll('.card').length === {}"
+DONE = "document.querySelectorAll('.card').length === {} && document.getElementById('run').hidden"
 READY = "document.body && !document.getElementById('choose').disabled"
 SENTENCE = "document.querySelector('.card:last-child .verdict').textContent"
 
@@ -77,10 +77,15 @@ def reports(browser):
     wanted = sorts((room / "native.jsonl").read_text())
     browser.value("document.getElementById('save-lines').click()")
     got = sorts(browser.downloaded("geolint-report.jsonl"))
+    of_features = [it for it in got if "feature" in it]
+    got = [it for it in got if "feature" not in it]
     wants("the saved lines are the native report", got == wanted, [(a, b) for a, b in zip(got, wanted) if a != b][:1])
+    # Each of these files has one fault or one kind of warning, and where it lies in a feature it is told there too.
+    first = [{it["path"]: it for it in wanted}[it["path"]] for it in of_features]
+    wants("with those of features", len(first) > 4 and all(a["offset"] == (b["offset"] if b["rule"] else b["warnings"][0]["offset"]) for a, b in zip(of_features, first)), of_features)
     browser.value("document.getElementById('save-sarif').click()")
     log = json.loads(browser.downloaded("geolint-report.sarif"))
-    told = [(it["ruleId"], it["locations"][0]["physicalLocation"]["region"]["byteOffset"]) for it in log["runs"][0]["results"]]
+    told = [(it["ruleId"], it["locations"][0]["physicalLocation"]["region"]["byteOffset"]) for it in log["runs"][0]["results"] if "properties" not in it]
     mine = [(f["rule"], f["offset"]) for it in wanted for f in ([it] if it["rule"] else it["warnings"])]
     wants("the saved log has each finding", told == mine and len(log["runs"][0]["tool"]["driver"]["rules"]) == 34, told)
     browser.value("document.getElementById('save-page').click()")
@@ -117,7 +122,7 @@ def dropped(browser):
           browser.value("document.querySelector('.card').textContent"))
     wants("its line and column", "Line 6, column 7" in browser.value("document.querySelector('.card').textContent"))
     for path, wanted in (("docs/page.png", "Not GeoJSON. It looks as if the file is an image."),
-                         ("examples/moorings.geojsons", "Not GeoJSON. It looks as if the file is a text sequence (RFC 8142). The program geolint-files judges it; this page cannot yet.")):
+                         ("examples/moorings.geojsons", "Valid: each of its 3 texts is GeoJSON.")):
         count = browser.value("document.querySelectorAll('.card').length")
         browser.choose("#files", [f"{ROOT}/{path}"])
         browser.wait(DONE.format(count + 1))
@@ -142,10 +147,19 @@ def stopped(browser):
     browser.wait(DONE.format(2))
     wants("Stop", browser.value("document.querySelector('.card .verdict').textContent") == "Stopped: there is no verdict.")
     wants("the next file after it", browser.value(SENTENCE) == "Valid GeoJSON.", browser.value(SENTENCE))
+    # Each feature of it has a warning. The verdict is told before these are listed, and stays where the listing is stopped.
     browser.choose("#files", [str(room / "large.geojson")])
-    browser.wait(DONE.format(3), 120)
+    browser.wait("document.querySelectorAll('.card').length === 3", 120)
+    browser.wait("document.getElementById('run-name').textContent.startsWith('Listing')", 60)
+    wants("the verdict before the list", browser.value(SENTENCE).startswith("Valid GeoJSON, with") and "being listed" in browser.value("document.querySelector('.card:last-child').textContent"))
+    browser.value("document.getElementById('stop').click()")
+    browser.wait(DONE.format(3))
     told = browser.value("document.querySelector('.card:last-child').textContent")
-    wants("the large file to its end", "Valid GeoJSON" in told, told[:300])
+    wants("it stays", "Valid GeoJSON" in told and "being listed" not in told and "have a warning" not in told, told[:300])
+    browser.choose("#files", [str(room / "large.geojson")])
+    browser.wait(DONE.format(4), 400)
+    told = browser.value("document.querySelector('.card:last-child').textContent")
+    wants("the large file to its end", "Valid GeoJSON" in told and "have a warning and no fault." in told, told[:300])
     print(f"{name}: the large file: {told[:80]}")
 
 
@@ -177,6 +191,86 @@ def by_keyboard(browser):
     wants("and opens", not browser.value("document.querySelector('.details').hidden"))
     ring = "getComputedStyle(document.activeElement).outlineStyle"
     wants("the focus is seen", browser.value(ring) == "solid", browser.value(ring))
+
+
+RING = '{"type":"Feature","id":%d,"geometry":{"type":"Polygon","coordinates":[[[0,0],[4,0],[4,3],[1,%d.5]]]},"properties":{"name":"Meadow %d"}}'
+POINT = '{"type":"Feature","geometry":{"type":"Point","coordinates":[%d.5,2]},"properties":{}}'
+ROWS = "document.querySelectorAll('.rows .item').length"
+CHOSEN = "document.querySelector('.rows .item[aria-selected=true]')?.textContent ?? ''"
+DETAIL = "document.querySelector('.chosen').textContent"
+
+
+def listed(browser):
+    """10,000 broken features: the list, the keys, the choice of a rule, and the valid ones saved."""
+    features = [POINT % (i % 100) if i % 6 == 5 else RING % (i, i % 3, i) for i in range(12_000)]
+    features[7] = '{"type":"Feature","geometry":null,"properties":3}'
+    (room / "many.geojson").write_text('{"type":"FeatureCollection","features":[\n' + ",\n".join(features) + "\n]}\n")
+    opened(browser)
+    browser.choose("#files", [str(room / "many.geojson")])
+    browser.wait(DONE.format(1), 120)
+    browser.wait(f"{DETAIL}.includes('How to mend it')")
+    told = browser.value("document.querySelector('.summary').textContent")
+    wants("how many are broken", told == "10,000 of 12,000 features have a fault.", told)
+    wants("few rows are made", 0 < browser.value(ROWS) < 40, browser.value(ROWS))
+    wants("the first is chosen", browser.value(CHOSEN) == "1Meadow 0G15 A ring does not end where it begins.2:70", browser.value(CHOSEN))
+    detail = browser.value(DETAIL)
+    wants("its details", all(it in detail for it in ("Feature 1: Meadow 0", "Line 2, column 70.", "$.features[0].geometry.coordinates[0]", "Write the first position of the ring")), detail)
+    wants("its drawing", browser.value("document.querySelectorAll('.chosen svg .faulty').length") >= 2)
+    wants("its excerpt", browser.value("document.querySelector('.chosen mark').textContent") == "[")
+    browser.shot(shots / f"{name}-list.png")
+    browser.value("(() => { const it = document.querySelector('.rows'); it.scrollTop = it.scrollHeight; })()")
+    browser.wait("[...document.querySelectorAll('.rows .item')].some((it) => it.getAttribute('aria-posinset') === '10000')")
+    wants("few rows at the end", browser.value(ROWS) < 40, browser.value(ROWS))
+    # The keys.
+    browser.value("document.querySelector('.rows').focus()")
+    for key, wanted in (("Home", "1Meadow"), ("ArrowDown", "2Meadow 1"), ("ArrowDown", "3Meadow 2"), ("ArrowUp", "2Meadow 1"), ("End", "11999Meadow 11998"), ("ArrowUp", "11998Meadow 11997")):
+        browser.press(key)
+        wants(f"the key {key}", browser.value(CHOSEN).startswith(wanted), browser.value(CHOSEN))
+    wants("the chosen row is seen", browser.value("""(() => { const [it, box] = [document.querySelector('.item[aria-selected=true]'), document.querySelector('.rows')].map((it) => it.getBoundingClientRect());
+        return it.top >= box.top && it.bottom <= box.bottom + 1; })()"""))
+    wants("the chosen row is named", browser.value("document.getElementById(document.querySelector('.rows').getAttribute('aria-activedescendant')).ariaSelected") == "true")
+    browser.wait(f"{DETAIL}.includes('Feature 11,998: Meadow 11997')")
+    wants("its line", "Line 11,999, column 74." in browser.value(DETAIL), browser.value(DETAIL))
+    browser.press("Enter")
+    wants("into the details", browser.value("document.activeElement.className") == "detail chosen", browser.value("document.activeElement.outerHTML.slice(0, 99)"))
+    browser.press("Escape")
+    wants("and back", browser.value("document.activeElement.className") == "rows")
+    # One rule.
+    browser.value("(() => { const it = document.querySelector('.which select'); it.value = [...it.options].find((o) => o.text.startsWith('G18')).value; it.dispatchEvent(new Event('change')); })()")
+    browser.wait(f"{DETAIL}.includes('Feature 8 ')")
+    wants("one rule alone", browser.value(ROWS) == 1)
+    for look, words in {"light": {}, "phone": {"width": 360, "height": 740}, **({"dark": {"scheme": "dark"}} if name == "chromium" else {})}.items():
+        browser.look(**words)
+        ratio, where = json.loads(browser.value(CONTRAST))
+        wants(f"the contrast of the list, {look}", ratio >= 4.5, f"{ratio:.2f} {where}")
+        wants(f"no scrolling to the side, {look}", browser.value("document.documentElement.scrollWidth <= innerWidth"), browser.value(WIDEST))
+        browser.shot(shots / f"{name}-list-{look}.png")
+    browser.look()
+    # The valid features, which are then judged.
+    browser.value("document.querySelector('.save-valid').click()")
+    saved = browser.downloaded("many.valid.geojsons")
+    wants("the valid features are saved unchanged", saved == "".join(f"\x1e{it}\n" for i, it in enumerate(features) if i % 6 == 5), saved[:200])
+    wants("that is told", browser.value("document.getElementById('status').textContent") == "2,000 valid ones of many.geojson are saved as a text sequence.",
+          browser.value("document.getElementById('status').textContent"))
+    (room / "saved.geojsons").write_text(saved)
+    (room / "broken.ndjson").write_text(f'{POINT % 1}\r\n\n{RING % (2, 2, 2)}\n{POINT % 300}\n')
+    browser.choose("#files", [str(room / "saved.geojsons"), str(room / "broken.ndjson")])
+    browser.wait(DONE.format(3))
+    browser.wait("document.querySelectorAll('.chosen')[1].textContent.includes('How to mend it')")
+    wants("what was saved is valid", browser.value("document.querySelectorAll('.verdict')[1].textContent") == "Valid: each of its 2,000 texts is GeoJSON.")
+    wants("newline-delimited texts", browser.value(SENTENCE) == "Not valid. Text 2: A ring does not end where it begins.", browser.value(SENTENCE))
+    last = browser.value("document.querySelector('.card:last-child').textContent")
+    wants("its list", all(it in last for it in ("1 of 3 texts is not valid. 1 of 3 texts is valid and has a warning.", "Text 2: Meadow 2", "Line 3, column 70.", "Save the valid texts")), last)
+    browser.value("document.getElementById('save-lines').click()")
+    lines = sorts(browser.downloaded("geolint-report.jsonl"))
+    wants("the saved lines have each finding", [len(lines), sum("feature" in it for it in lines), [it["record"] for it in lines[-2:]]] == [1 + 10_000 + 1 + 1 + 2, 10_000, [2, 3]], lines[-3:])
+    wants("with line and path", [lines[1][it] for it in ("feature", "id", "rule", "line", "column", "json_path")] == [0, "0", "G15", 2, 70, "$.features[0].geometry.coordinates[0]"], lines[1])
+    browser.value("document.getElementById('save-sarif').click()")
+    log = json.loads(browser.downloaded("geolint-report.sarif"))
+    wants("and the log", len(log["runs"][0]["results"]) == 1 + 10_000 + 1 + 2, len(log["runs"][0]["results"]))
+    browser.value("document.getElementById('save-page').click()")
+    printed = browser.downloaded("geolint-report.html")
+    wants("and the page", printed.count("<tr>") >= 10_000 and "Meadow 11998" in printed, printed.count("<tr>"))
 
 
 def refused():
@@ -237,7 +331,7 @@ def pictures(browser):
 browser = Kind()
 print(f"{name}: {browser.version}")
 try:
-    for part in (by_keyboard, reports, dropped, stopped, served, pictures):
+    for part in (by_keyboard, reports, listed, dropped, stopped, served, pictures):
         part(browser)
     asked = {url.split(":")[0] for url in browser.requests() if not url.startswith("http://127.0.0.1:")}
     wants("no request to anywhere", asked <= {"file", "blob", "data", "about"}, asked)

@@ -1,10 +1,18 @@
 // What the package's types allow and refuse; .ci/web compiles it and does not run it.
-import { load, textOf, Verdict, Finding } from "geolint";
+import { load, textOf, jsonOfFindings, Verdict, Finding, FoundFeature } from "geolint";
 
 const geolint = await load();
 const verdict: Verdict = await geolint.check(new Uint8Array(1), { maxBytes: 10n, onProgress: ({ read }) => console.log(read + 1) });
 const findings: Finding[] = verdict.verdict === "valid" ? verdict.warnings : [verdict];
 console.log(textOf(verdict), findings.map((it) => it.line), verdict.warnings.map((it) => it.count + 1));
 await geolint.check(new Blob([]).stream());
+const features = geolint.features(new Blob([]), { which: "faults", most: 10 });
+const items: FoundFeature[] = [];
+for await (const it of features) items.push(it);
+console.log(features.verdict?.rule, features.counts?.faults, jsonOfFindings("a", items), items[0]?.index);
+for await (const it of geolint.records(new Uint8Array(1), { framing: "lines" })) console.log(it.number + 1, it.end);
+console.log((await geolint.split(new Blob([]), { framing: "sequence" })).blob.size);
 // @ts-expect-error: a string is no input
 await geolint.check("text");
+// @ts-expect-error: how the texts stand in it must be said
+geolint.records(new Uint8Array(1));

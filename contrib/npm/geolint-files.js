@@ -5,24 +5,28 @@ import { open, readdir, stat } from "node:fs/promises";
 import { readFileSync } from "node:fs";
 import { join } from "node:path";
 import { parseArgs } from "node:util";
-import { load, textOf, jsonOf, jsonOfUnread, linesOf, sarifOf } from "./geolint.js";
+import { load, textOf, jsonOf, jsonOfUnread, linesOf, sarifOf, eachOf, textOfFindings, jsonOfFindings, linesOfFindings } from "./geolint.js";
 
 const USAGE = `Judges GeoJSON files, and says of each that is not valid where and why not
 
 Usage: geolint-files [--strict] [--allow W4,W9] [--max-bytes N] [--format lines|json|sarif|text] [--summary]
-                     [--ending ENDING] [--allow-empty] [PATH ..]
+                     [--seq | --ndjson] [--every[=warnings]] [--most N] [--ending ENDING] [--allow-empty] [PATH ..]
 
   --strict         A valid file with a warning does not pass
   --allow KINDS    Under --strict, kinds of warnings that do not fail a file, as W4,W9
   --max-bytes N    Refuse longer files
   --format FORMAT  The form of the report: lines (the default), json, sarif or text
   --summary        Say at the end how many files are what
+  --seq            Each file is a text sequence (RFC 8142), as each *.geojsons is by itself
+  --ndjson         Each line of a file is a text, as in each *.ndjson and *.geojsonl by itself
+  --every          After a file's report, a line for each of its features with a fault; =warnings: also the others' warnings
+  --most N         Under --every, no more than so many lines for a file (1000; 0: all)
   --ending ENDING  In a folder, judge also the files whose names end so, as json; may be given several times
   --allow-empty    A call in which no file is judged ends with status 0 and says nothing
   --help, --version
 
-A PATH is a file, a folder, in which each *.geojson is judged, or -, standard input, as where there is none. Text sequences
-(RFC 8142) are judged by the native program alone.
+A PATH is a file, a folder, in which each *.geojson, *.geojsons, *.ndjson and *.geojsonl is judged, or -, standard input, as
+where there is none.
 
 Status: 0 where each file passes, 1 where one does not, 2 where one could not be read, none was judged, or the words are wrong.
 `;
@@ -36,6 +40,10 @@ const OPTIONS = {
   ending: { type: "string", multiple: true, default: [] },
   "allow-empty": { type: "boolean" },
   seq: { type: "boolean" },
+  ndjson: { type: "boolean" },
+  every: { type: "boolean" },
+  "every-warnings": { type: "boolean" },
+  most: { type: "string", default: "1000" },
   help: { type: "boolean" },
   version: { type: "boolean" },
 };
@@ -47,12 +55,14 @@ class WrongWords extends Error {}
 function givenWords() {
   let given;
   try {
-    given = parseArgs({ options: OPTIONS, allowPositionals: true });
+    const args = process.argv.slice(2).map((it) => (it === "--every=warnings" ? "--every-warnings" : it));
+    given = parseArgs({ args, options: OPTIONS, allowPositionals: true });
   } catch (error) {
     throw new WrongWords(error.message);
   }
   const { values, positionals } = given;
-  if (values.seq) throw new WrongWords("--seq: text sequences are judged by the native program geolint-files alone");
+  if (values.seq && values.ndjson) throw new WrongWords("--seq and --ndjson cannot be given together");
+  if (!/^[0-9]+$/.test(values.most)) throw new WrongWords(`invalid value '${values.most}' for '--most': it is a number`);
   if (!FORMATS.includes(values.format)) throw new WrongWords(`invalid value '${values.format}' for '--format': it is ${FORMATS.join(", ")}`);
   const most = values["max-bytes"];
   if (most !== undefined && (!/^[0-9]+$/.test(most) || BigInt(most) < 1n || BigInt(most) > 1n << 60n)) {
@@ -61,8 +71,10 @@ function givenWords() {
   const allowed = values.allow.flatMap((it) => it.toUpperCase().split(","));
   const unknown = allowed.find((it) => !/^W[1-9]$/.test(it));
   if (unknown !== undefined) throw new WrongWords(`invalid value '${unknown}' for '--allow': it is W1 to W9`);
-  const endings = ["geojson", ...values.ending].map((it) => `.${it.replace(/^\./, "").toLowerCase()}`);
-  return { ...values, maxBytes: most === undefined ? 0 : BigInt(most), allowed, endings, paths: positionals.length ? positionals : ["-"] };
+  const which = values["every-warnings"] ? "findings" : values.every ? "faults" : null;
+  const framing = values.seq ? "sequence" : values.ndjson ? "lines" : null;
+  const endings = ["geojson", "geojsons", "ndjson", "geojsonl", ...values.ending].map((it) => `.${it.replace(/^\./, "").toLowerCase()}`);
+  return { ...values, maxBytes: most === undefined ? 0 : BigInt(most), allowed, endings, which, framing, most: Number(values.most) || Infinity, paths: positionals.length ? positionals : ["-"] };
 }
 
 /** The files that the paths name: { name } each, or { name, reason } where one cannot be looked at. */
@@ -102,17 +114,35 @@ async function* filesAt(path, endings, others, seen, isInFolder = false) {
 const endsSo = (path, endings) => endings.some((it) => path.toLowerCase().endsWith(it));
 const reasonOf = (error) => error.message.replace(/^\w+: /, "").replace(/, \w+( '.*')?$/s, "");
 
-/** The verdict of a file, or of standard input. */
-async function judge(geolint, name, maxBytes) {
-  if (name === "-") return geolint.check(process.stdin, { maxBytes });
+/** How a file of this name holds many texts; null where it is one. */
+const framingOf = (name) => (/\.geojsons$/i.test(name) ? "sequence" : /\.(?:ndjson|geojsonl)$/i.test(name) ? "lines" : null);
+
+/** The report of a file, or of standard input. */
+async function judge(geolint, name, words) {
+  if (name === "-") return judgeInput(geolint, name, process.stdin, words);
   const file = await open(name);
   try {
     const is = await file.stat();
-    if (!is.isFile()) return await geolint.check(file.createReadStream({ autoClose: false }), { maxBytes });
-    return await geolint.check({ size: is.size, read: (from, to) => bytesOf(file, from, to) }, { maxBytes });
+    const input = is.isFile() ? { size: is.size, read: (from, to) => bytesOf(file, from, to) } : file.createReadStream({ autoClose: false });
+    return await judgeInput(geolint, name, input, words);
   } finally {
     await file.close();
   }
+}
+
+/** The verdict, and under --every what is found in the features: `items`, and how many `more` there are. */
+async function judgeInput(geolint, name, input, { maxBytes, framing = null, which, most }) {
+  const form = framing ?? framingOf(name);
+  const [items, counts] = [[], { all: 0 }];
+  if (!form && !which) return { verdict: await geolint.check(input, { maxBytes }), items, more: 0 };
+  const findings = form ? geolint.records(input, { framing: form, maxBytes, most: 0 }) : geolint.features(input, { maxBytes, which });
+  for await (const it of findings) {
+    for (const one of eachOf([it])) if (counts.all++ < most) items.push(one);
+  }
+  const { verdict } = findings;
+  // Of a file that is no JSON text only the report is told.
+  if (verdict.verdict === "not JSON" || form) return { verdict, items: [], more: 0 };
+  return { verdict, items, more: counts.all - items.length };
 }
 
 async function bytesOf(file, from, to) {
@@ -131,9 +161,9 @@ async function run(words) {
   const geolint = await load();
   const passes = (it) => it.verdict === "valid" && (!words.strict || it.warnings.every(({ rule }) => words.allowed.includes(rule)));
   const forms = {
-    lines: linesOf,
-    json: (name, verdict) => `${jsonOf(name, verdict, passes)}\n`,
-    text: (name, verdict) => `==> ${name} <==\n${textOf(verdict)}`,
+    lines: (name, { verdict, items, more }) => linesOf(name, verdict) + linesOfFindings(name, items, more),
+    json: (name, { verdict, items, more }) => [jsonOf(name, verdict, passes), ...jsonOfFindings(name, items, more), ""].join("\n"),
+    text: (name, { verdict, items, more }) => `==> ${name} <==\n${textOf(verdict)}${textOfFindings(items, more)}`,
     sarif: () => "",
   };
   const counts = { valid: 0, "valid with warnings": 0, broken: 0, "not JSON": 0, "not read": 0 };
@@ -142,9 +172,10 @@ async function run(words) {
   for await (const { name, reason } of filesOf(words.paths, words.endings, others)) {
     try {
       if (reason) throw new Error(reason);
-      const verdict = await judge(geolint, name, words.maxBytes);
-      await write(forms[words.format](name, verdict));
-      if (words.format === "sarif") reports.push({ name, verdict });
+      const report = await judge(geolint, name, words);
+      const { verdict } = report;
+      await write(forms[words.format](name, report));
+      if (words.format === "sarif") reports.push({ name, ...report });
       counts[verdict.verdict === "valid" && verdict.warnings.length ? "valid with warnings" : verdict.verdict]++;
       if (!passes(verdict)) status = Math.max(status, 1);
     } catch (error) {

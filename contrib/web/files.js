@@ -2,10 +2,14 @@
 
 /** The endings of files that are judged in a folder. */
 export const ENDINGS = [".geojson", ".json", ".geojsons", ".geojsonl", ".ndjson"];
-/** Those that hold many texts. */
-const MANY_TEXTS = /\.(?:geojsons|geojsonl|geojsonseq|ndgeojson|ndjson|jsonl)$/i;
+/** Those that hold many texts, by their framing. */
+const FRAMINGS = [
+  ["sequence", /\.(?:geojsons|geojsonseq)$/i],
+  ["lines", /\.(?:geojsonl|ndgeojson|ndjson|jsonl)$/i],
+];
 
-export const holdsManyTexts = (name) => MANY_TEXTS.test(name);
+/** How a file of this name holds many texts; undefined where it is one. */
+export const framingOf = (name) => FRAMINGS.find(([, ending]) => ending.test(name))?.[0];
 const isJudged = (name) => ENDINGS.some((ending) => name.toLowerCase().endsWith(ending));
 
 /** What is dropped: `files` as { name, file }, and how many others lie in the folders. */

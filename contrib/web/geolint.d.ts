@@ -1,5 +1,5 @@
 /** Where and why: a broken rule, the reason that a text is no JSON, or the first of a kind of warning. */
-export interface Finding {
+export interface Place {
   /** `G1` to `G21` of a broken text, `J1` to `J4` of what is no JSON text, `W1` to `W9` of a warning. */
   rule: string | null;
   /** What the rule says, as `ring not closed`. */
@@ -10,8 +10,12 @@ export interface Finding {
   line: number | null;
   /** From 1, in characters. */
   column: number | null;
-  /** The value at the place, as `$.features[3].geometry`. Null where it is not JSON, or lies beyond `PATH_REACH`. */
+  /** The value at the place, as `$.features[3].geometry`. Null where it is not JSON. */
   path: string | null;
+}
+
+/** A place in a text. Its path is null also where it lies beyond `PATH_REACH` and outside of every feature. */
+export interface Finding extends Place {
   /** The feature around the place: its index in the collection, or null where the text is one feature, and its value. */
   feature: { index: number | null; value: unknown } | null;
   /** The part of the line around the place, of at most 50 characters on each side. */
@@ -30,21 +34,73 @@ export interface Excerpt {
   linesAfter: string[];
 }
 
-export interface Warning extends Finding {
+/** The warnings of one kind: how many there are, and where the first is. */
+export interface Kind extends Place {
   rule: string;
   text: string;
   offset: number;
-  /** How many there are; it stays at 4294967295. */
+  /** It stays at 4294967295. */
   count: number;
 }
 
-/** What a text is. The members of `Finding` are null where it is valid. */
+export interface Warning extends Kind, Finding {
+  rule: string;
+  text: string;
+  offset: number;
+}
+
+/** What a text is, or an input of many. The members of `Finding` are null where it is valid. */
 export interface Verdict extends Finding {
   verdict: "valid" | "broken" | "not JSON";
   /** Of a valid text: each kind of which there is one, in the order of their numbers. */
   warnings: Warning[];
   /** How many bytes were read. */
   read: number;
+  /** Of an input of many texts: the number of the first that is not valid, or null where all are. */
+  record: number | null;
+  /** How many texts there are, where all are valid. */
+  records: number | null;
+}
+
+/** What is found in a feature or in a text of many: the least of its faults, or where it has none its warnings. */
+export interface Found extends Place {
+  verdict: "valid" | "broken" | "not JSON";
+  /** The place of its first byte, and that after its last; `end` is null of a feature that is no object and no array. */
+  place: number;
+  end: number | null;
+  /** Its `name` or another property of that kind, otherwise its `id`. Of what is longer than 256 KiB it is not sought. */
+  name: string | null;
+  warnings: Kind[];
+}
+
+export interface FoundFeature extends Found {
+  /** How many features stand before it. */
+  index: number;
+  /** Its `id` as it is written, in the first 40 characters. */
+  id: string | null;
+}
+
+export interface FoundRecord extends Found {
+  /** From 1. Of a text sequence it is 0 where it is what stands before the first text. */
+  number: number;
+}
+
+export interface Counts {
+  /** How many features or texts there are. */
+  all: number;
+  faults: number;
+  /** Without a fault and with a warning. */
+  warned: number;
+  /** How many were told. */
+  told: number;
+}
+
+/** Findings, as they come in one reading. When they have ended, `verdict` and `counts` are there. */
+export interface Findings<T extends Found> extends AsyncIterable<T> {
+  next(): Promise<IteratorResult<T, void>>;
+  return(): Promise<IteratorResult<T, void>>;
+  verdict: Verdict | null;
+  counts: Counts | null;
 }
 
 /** What can be read from any place, as an open file. `read` gives the bytes from `from` up to `to`. */
@@ -55,19 +111,44 @@ export interface Readable {
 
 export type Input = ArrayBuffer | ArrayBufferView | Blob | Readable | ReadableStream<Uint8Array> | AsyncIterable<Uint8Array> | Iterable<Uint8Array>;
 
-export interface Options {
-  /** The most bytes that a text may have, from 1 to 2^60. */
+/** How an input holds many texts: as a text sequence (RFC 8142), or one in each line. */
+export type Framing = "sequence" | "lines";
+
+export interface Limits {
+  /** The most bytes that an input may have, from 1 to 2^60. */
   maxBytes?: number | bigint;
   /** The most arrays and objects inside one another, from 1 to 256. */
   maxDepth?: number;
   signal?: AbortSignal;
+}
+
+export interface Options extends Limits {
   /** Called after each piece. `isDoomed`: the input cannot be valid any more. */
   onProgress?(progress: { read: number; size: number | null; isDoomed: boolean }): void;
 }
 
+export interface SearchOptions extends Limits {
+  /** What is told: what has a fault, also what has a warning (the default), or all. */
+  which?: "faults" | "findings" | "all";
+  /** No more than so many faults are told, and of what has warnings alone no more than so many. `counts` has them all. */
+  most?: number;
+  /** Called after each piece. */
+  onProgress?(progress: Counts & { read: number; size: number | null }): void;
+}
+
 export class Geolint {
-  /** Judges an input, which is read once. Any number of calls may be under way at once. */
+  /** Judges a text, which is read once. Any number of calls may be under way at once. */
   check(input: Input, options?: Options): Promise<Verdict>;
+  /** What is found in each feature of a text: in each element of the array that the first member `features` of its object holds. */
+  features(input: Input, options?: SearchOptions): Findings<FoundFeature>;
+  /** What is found in each text of an input of many. */
+  records(input: Input, options: SearchOptions & { framing: Framing }): Findings<FoundRecord>;
+  /** The valid features of a file, or its valid texts where there is a framing, as a text sequence: each by its own bytes. `count` is
+   *  how many these are, and `others` how many are left out. */
+  split(
+    file: Blob,
+    options?: Limits & { framing?: Framing; onProgress?(progress: { read: number; size: number }): void },
+  ): Promise<{ blob: Blob; count: number; others: number }>;
   version(): Promise<string>;
   /** All rules, warnings and causes with their texts. */
   texts(): Promise<[rule: string, text: string][]>;
@@ -83,11 +164,17 @@ export function jsonOf(name: string, verdict: Verdict, passes?: (verdict: Verdic
 export function jsonOfUnread(name: string, reason: string): string;
 export function linesOf(name: string, verdict: Verdict): string;
 export function sarifOf(
-  reports: { name: string; verdict: Verdict }[],
+  reports: { name: string; verdict: Verdict; items?: Found[]; more?: number }[],
   rules: [rule: string, text: string][],
   version: string,
   unread?: { name: string; reason: string }[],
 ): string;
+/** Findings, with each warning by itself. */
+export function eachOf<T extends Found>(items: T[]): T[];
+/** The forms of `geolint-files --every`; `more` is how many are not told. */
+export function jsonOfFindings(name: string, items: Found[], more?: number): string[];
+export function linesOfFindings(name: string, items: Found[], more?: number): string;
+export function textOfFindings(items: Found[], more?: number): string;
 
-/** A path is told for places up to so many bytes from the start. */
+/** A path is told for places up to so many bytes from the start, and inside features for all. */
 export const PATH_REACH: number;

@@ -1,8 +1,9 @@
-// The calls of the WebAssembly module on one linter. Nothing proves this file; the module below it is built from proved source.
+// The calls of the WebAssembly module, each kind of linter as a class. Nothing proves this file; the module below it is built from
+// proved source.
 //
-// An instance has one linter, room for one report and one piece, all taken at its start: the memory grows no more after it, so the
-// views of it stay good. Addresses and lengths are BigInt at the boundary, in the 64-bit module and in the one that is
-// lowered to a 32-bit memory.
+// An instance of the module has one handle, room for what a call answers and for one piece, all taken at its start: the memory grows
+// no more after it, so the views of it stay good. Addresses and lengths are BigInt at the boundary, in the 64-bit module and in
+// the one that is lowered to a 32-bit memory.
 
 const PAGE = 65536;
 /** How many kinds of warning there are: W1 to W9. */
@@ -10,12 +11,16 @@ export const KINDS = 9;
 /** How many rules there are: G1 to G21. */
 export const RULES = 21;
 const REPORT_SIZE = 32 + 16 * KINDS;
+/** Of a finding: its number, its two ends and the place of its id stand before its report. */
+const FINDING_HEAD = 32;
 const DONE = 0;
 const REFUSED = 1;
 const LIMITS = 3;
 const VERDICTS = ["none", "valid", "broken", "not JSON"];
+const FRAMINGS = { sequence: 0, lines: 1 };
 
 const roundUp = (number, step) => Math.ceil(number / step) * step;
+const wrongState = (status) => new Error(`the linter answers ${status}: it was not begun, or has ended`);
 
 /** Lets the memory grow, by a Number or, where its addresses have 64 bits, in most engines by a BigInt. */
 function grow(memory, pages) {
@@ -27,34 +32,105 @@ function grow(memory, pages) {
   }
 }
 
-/** The calls of the module on one linter. */
-export class Linter {
-  /** A linter over `module`, a WebAssembly.Module; `piece` is how many bytes one call of the module takes at most. */
+/** A handle of the library in an instance of its own. */
+class Handle {
+  /** A handle over `module`, a WebAssembly.Module; `piece` is how many bytes one call of the module takes at most. */
   static async make(module, piece = 1 << 20) {
-    return new Linter((await WebAssembly.instantiate(module, {})).exports, piece);
+    return new this((await WebAssembly.instantiate(module, {})).exports, piece);
   }
 
-  constructor(calls, piece) {
+  constructor(calls, size, piece) {
     this.calls = calls;
     this.piece = piece;
     // The module's data and its stack end at __heap_base; what follows is free.
-    this.linter = roundUp(Number(calls.__heap_base.value), Number(calls.geolint_alignment()));
-    this.report = roundUp(this.linter + Number(calls.geolint_size()), 16);
-    this.text = roundUp(this.report + REPORT_SIZE, 16);
+    const handle = roundUp(Number(calls.__heap_base.value), Number(calls.geolint_alignment()));
+    this.report = roundUp(handle + Number(size), 16);
+    this.text = roundUp(this.report + FINDING_HEAD + REPORT_SIZE, 16);
     this.room = roundUp(this.text + 16, 64);
     const lacking = Math.ceil((this.room + piece - calls.memory.buffer.byteLength) / PAGE);
     if (lacking > 0) grow(calls.memory, lacking);
     this.bytes = new Uint8Array(calls.memory.buffer);
     this.view = new DataView(calls.memory.buffer);
-    this.address = BigInt(this.linter);
+    this.address = BigInt(handle);
+    // A struct comes back through a pointer, which is the first argument.
+    this.answer = BigInt(this.report);
+  }
+
+  wordAt(at) {
+    return this.view.getUint32(this.report + at, true);
+  }
+
+  longAt(at) {
+    return Number(this.view.getBigUint64(this.report + at, true));
+  }
+
+  /** The report that stands `at` so many bytes from the start of the answer. Places are byte offsets from 0. */
+  reportAt(at) {
+    if (this.wordAt(at) !== DONE) throw wrongState(this.wordAt(at));
+    const [verdict, rule, cause] = [4, 8, 12].map((it) => this.wordAt(at + it));
+    const warnings = [];
+    for (let kind = 1; kind <= KINDS; kind++) {
+      const [count, offset] = [this.longAt(at + 16 + 16 * kind), this.longAt(at + 24 + 16 * kind)];
+      if (count > 0) warnings.push({ rule: `W${kind}`, text: this.warningText(kind), count, offset });
+    }
+    const found = { verdict: VERDICTS[verdict], rule: null, text: null, offset: null, warnings };
+    if (rule) return { ...found, rule: `G${rule}`, text: this.ruleText(rule), offset: this.longAt(at + 16) };
+    if (cause) return { ...found, rule: `J${cause}`, text: this.causeText(cause), offset: this.longAt(at + 16) };
+    return found;
+  }
+
+  /** What a handle begins with, which is allowed or not. */
+  begun(status) {
+    if (status === LIMITS) throw new RangeError("maxBytes is from 1 to 2^60, and maxDepth from 1 to 256");
+  }
+
+  ruleText(rule) {
+    return this.#textBy("rule", rule);
+  }
+
+  causeText(cause) {
+    return this.#textBy("cause", cause);
+  }
+
+  warningText(kind) {
+    return this.#textBy("warning", kind);
+  }
+
+  version() {
+    return this.#textBy("version");
+  }
+
+  #texts = new Map();
+
+  #textBy(name, ...number) {
+    const key = `${name} ${number}`;
+    if (!this.#texts.has(key)) this.#texts.set(key, this.#readText(this.calls[`geolint_${name}_text`], number));
+    return this.#texts.get(key);
+  }
+
+  #readText(call, number) {
+    // What is there must be a text already: one of no bytes, at an address that is not null.
+    this.view.setBigUint64(this.text, BigInt(this.room), true);
+    this.view.setBigUint64(this.text + 8, 0n, true);
+    call(...number, BigInt(this.text));
+    const at = Number(this.view.getBigUint64(this.text, true));
+    const size = Number(this.view.getBigUint64(this.text + 8, true));
+    // A byte 0 ends it.
+    return new TextDecoder().decode(this.bytes.slice(at, at + size - 1));
+  }
+}
+
+/** The verdict of a text. */
+export class Linter extends Handle {
+  constructor(calls, piece) {
+    super(calls, calls.geolint_size(), piece);
     this.isBegun = false;
   }
 
   /** Begins anew. `maxBytes` and `maxDepth` are the limits; 0 stands for the most of either. */
   begin(maxBytes = 0, maxDepth = 0) {
     const begin = this.isBegun ? this.calls.geolint_begin_again : this.calls.geolint_begin;
-    const status = begin(this.address, maxDepth, BigInt(maxBytes));
-    if (status === LIMITS) throw new RangeError("maxBytes is from 1 to 2^60, and maxDepth from 1 to 256");
+    this.begun(begin(this.address, maxDepth, BigInt(maxBytes)));
     this.isBegun = true;
   }
 
@@ -65,7 +141,7 @@ export class Linter {
       this.bytes.set(piece, this.room);
       const status = this.calls.geolint_feed(this.address, BigInt(this.room), BigInt(piece.length));
       if (status === REFUSED) return false;
-      if (status !== DONE) throw new Error(`the linter answers ${status}: it was not begun, or has ended`);
+      if (status !== DONE) throw wrongState(status);
     }
     return true;
   }
@@ -75,49 +151,149 @@ export class Linter {
     return this.calls.geolint_doomed(this.address) === 1;
   }
 
-  /** The verdict of all bytes since `begin`, and the end of the linter. Places are byte offsets from 0. */
+  /** The verdict of all bytes since `begin`, and the end of the linter. */
   finish() {
-    // A struct comes back through a pointer, which is the first argument.
-    this.calls.geolint_finish(BigInt(this.report), this.address);
-    const word = (at) => this.view.getUint32(this.report + at, true);
-    const long = (at) => Number(this.view.getBigUint64(this.report + at, true));
-    if (word(0) !== DONE) throw new Error(`the linter answers ${word(0)}: it was not begun, or has ended`);
-    const [verdict, rule, cause] = [word(4), word(8), word(12)];
-    const warnings = [];
-    for (let kind = 1; kind <= KINDS; kind++) {
-      const at = 32 + 16 * (kind - 1);
-      if (long(at) > 0) warnings.push({ rule: `W${kind}`, text: this.warningText(kind), count: long(at), offset: long(at + 8) });
+    this.calls.geolint_finish(this.answer, this.address);
+    return this.reportAt(0);
+  }
+}
+
+/** What linters of features and of records have in common: a piece is taken up to the next finding, which is then pulled. */
+class Puller extends Handle {
+  /** Takes the next bytes, and calls `each` after each finding, which the getters below then tell. False once the input is refused. */
+  feed(bytes, each) {
+    const { take } = this;
+    for (let from = 0; from < bytes.length; from += this.piece) {
+      const piece = bytes.subarray(from, from + this.piece);
+      this.bytes.set(piece, this.room);
+      for (let at = 0; at < piece.length; ) {
+        take(this.answer, this.address, BigInt(this.room + at), BigInt(piece.length - at));
+        const [taken, status, isReady] = [this.longAt(0), this.wordAt(8), this.wordAt(12)];
+        at += taken;
+        if (isReady) this.pull(each);
+        if (status === REFUSED) return false;
+        if (status !== DONE || taken === 0) throw wrongState(status);
+      }
     }
-    const found = { verdict: VERDICTS[verdict], rule: null, text: null, offset: null, warnings };
-    if (rule) return { ...found, rule: `G${rule}`, text: this.ruleText(rule), offset: long(16) };
-    if (cause) return { ...found, rule: `J${cause}`, text: this.causeText(cause), offset: long(16) };
-    return found;
+    return true;
   }
 
-  ruleText(rule) {
-    return this.#textBy(this.calls.geolint_rule_text, rule);
+  /** Calls `each` after each finding that is ready. */
+  pull(each) {
+    for (;;) {
+      this.next(this.answer, this.address);
+      if (this.wordAt(FINDING_HEAD) !== DONE) return;
+      each();
+    }
   }
 
-  causeText(cause) {
-    return this.#textBy(this.calls.geolint_cause_text, cause);
+  /** Of the finding that was pulled last, before anything else is called. */
+  get number() {
+    return this.longAt(0);
   }
 
-  warningText(kind) {
-    return this.#textBy(this.calls.geolint_warning_text, kind);
+  get place() {
+    return this.longAt(8);
   }
 
-  version() {
-    return this.#textBy(this.calls.geolint_version_text);
+  get end() {
+    return this.longAt(16);
   }
 
-  #textBy(call, ...number) {
-    // What is there must be a text already: one of no bytes, at an address that is not null.
-    this.view.setBigUint64(this.text, BigInt(this.room), true);
-    this.view.setBigUint64(this.text + 8, 0n, true);
-    call(...number, BigInt(this.text));
-    const at = Number(this.view.getBigUint64(this.text, true));
-    const size = Number(this.view.getBigUint64(this.text + 8, true));
-    // A byte 0 ends it.
-    return new TextDecoder().decode(this.bytes.slice(at, at + size - 1));
+  get isValid() {
+    return this.wordAt(FINDING_HEAD + 4) === 1;
+  }
+
+  get isWarned() {
+    return this.wordAt(FINDING_HEAD + 24) === 1;
+  }
+
+  /** The kinds of its warnings. */
+  get kinds() {
+    const kinds = [];
+    for (let kind = 1; kind <= KINDS; kind++) if (this.longAt(FINDING_HEAD + 16 + 16 * kind) > 0) kinds.push(`W${kind}`);
+    return kinds;
+  }
+
+  /** All of it: `id` is the place of the value of the member, and like `end` it is null where there is none. */
+  get finding() {
+    const { number, place } = this;
+    return { number, place, end: this.end || null, id: this.longAt(24) || null, ...this.reportAt(FINDING_HEAD) };
+  }
+}
+
+/** The features of a text, each as soon as its last byte has come, and the verdict. */
+export class FeatureLinter extends Puller {
+  constructor(calls, piece) {
+    super(calls, calls.geolint_features_size(), piece);
+    this.take = calls.geolint_features_feed;
+    this.next = calls.geolint_features_next;
+  }
+
+  begin(maxBytes = 0, maxDepth = 0) {
+    this.begun(this.calls.geolint_features_begin(this.address, maxDepth, BigInt(maxBytes)));
+  }
+
+  /** The verdict, and the end. */
+  finish() {
+    this.calls.geolint_features_finish(this.answer, this.address);
+    return this.reportAt(0);
+  }
+}
+
+/** The texts of an input of many: of a text sequence (RFC 8142), or one in each line. */
+export class RecordLinter extends Puller {
+  constructor(calls, piece) {
+    super(calls, calls.geolint_records_size(), piece);
+    this.take = calls.geolint_records_feed;
+    this.next = calls.geolint_records_next;
+  }
+
+  /** `framing` is "sequence" or "lines". */
+  begin(framing, maxBytes = 0, maxDepth = 0) {
+    if (!Object.hasOwn(FRAMINGS, framing)) throw new RangeError("framing is sequence or lines");
+    this.begun(this.calls.geolint_records_begin(this.address, FRAMINGS[framing], maxDepth, BigInt(maxBytes)));
+  }
+
+  /** What the input is as a whole, with the number of the first record that is not valid, or how many there are. `each` is called
+   *  after the last record, where there is one. */
+  finish(each) {
+    this.calls.geolint_records_finish(this.answer, this.address);
+    const found = this.reportAt(0);
+    const number = this.longAt(REPORT_SIZE);
+    this.pull(each);
+    const isValid = found.verdict === "valid";
+    return { ...found, record: isValid ? null : number, records: isValid ? number : null };
+  }
+}
+
+/** The path to a place of a text. */
+export class Locator extends Handle {
+  constructor(calls, piece) {
+    super(calls, calls.geolint_locator_size(), piece);
+  }
+
+  begin() {
+    this.begun(this.calls.geolint_locator_begin(this.address, 0, 0n));
+  }
+
+  /** Takes the bytes before the place, and the one that stands there. */
+  feed(bytes) {
+    for (let at = 0; at < bytes.length; at += this.piece) {
+      const piece = bytes.subarray(at, at + this.piece);
+      this.bytes.set(piece, this.room);
+      this.calls.geolint_locator_feed(this.address, BigInt(this.room), BigInt(piece.length));
+    }
+  }
+
+  /** The steps after the root, as `.features[3]`. */
+  steps() {
+    let steps = "";
+    for (let i = 0; ; i++) {
+      this.calls.geolint_locator_step(this.answer, this.address, i);
+      const size = this.longAt(0);
+      if (size === 0) return steps;
+      steps += String.fromCharCode(...this.bytes.subarray(this.report + 8, this.report + 8 + size));
+    }
   }
 }

@@ -2,13 +2,16 @@
 // address at all.
 
 import { say, speak, preferred, languages, size, time } from "./language.js";
-import { droppedFiles, chosenFiles, ENDINGS } from "./files.js";
-import { make, cardOf, groupOf, sentenceOf, STEP } from "./view.js";
-import { saveLines, saveSarif, savePage } from "./save.js";
+import { droppedFiles, chosenFiles, framingOf, ENDINGS } from "./files.js";
+import { make } from "./dom.js";
+import { cardOf, groupOf, sentenceOf, STEP } from "./view.js";
+import { summaryOf } from "./listing.js";
+import { saveLines, saveSarif, savePage, saveSequence } from "./save.js";
 
 const $ = (id) => document.getElementById(id);
 
-/** All files in their order: { name, file }, and when it is judged `verdict`, `hint`, `milliseconds`, or else `reason`. */
+/** All files in their order: { name, file }, and when it is judged `verdict`, `hint`, `milliseconds`, or else `reason`; `items` are what is
+ *  found in its features, and `counts` how many there are. */
 const entries = [];
 let worker = null;
 let isReady = false;
@@ -19,50 +22,96 @@ let shown = STEP;
 
 // ---- the checker
 
-/** The module as it was packed: gzip tells where a byte of it has changed. */
-async function unpackedModule() {
-  const packed = Uint8Array.from(atob($("module").textContent.trim()), (it) => it.charCodeAt(0));
-  return new Response(new Blob([packed]).stream().pipeThrough(new DecompressionStream("gzip"))).arrayBuffer();
-}
-
+/** The module: as the page has it packed, and once a worker has unpacked it, its bytes. */
 let module = null;
-async function start() {
+function start() {
   if (typeof WebAssembly === "undefined") return warn(() => say("noWasm"));
-  if (typeof DecompressionStream === "undefined") return warn(() => say("noInflate"));
-  try {
-    module ??= await unpackedModule();
-  } catch {
-    return warn(() => say("damaged"));
-  }
+  const { textContent, dataset } = $("module");
+  module ??= { packed: textContent.trim(), size: Number(dataset.size), sum: Number(dataset.sum) };
   const source = new Blob([$("worker").textContent], { type: "text/javascript" });
   const url = URL.createObjectURL(source);
-  worker = new Worker(url);
-  worker.onmessage = ({ data }) => heard[data.kind](data);
+  const it = new Worker(url);
+  worker = it;
+  // What one that was stopped had still to tell counts no more.
+  worker.onmessage = ({ data }) => it === worker && heard[data.kind](data);
   worker.onerror = (event) => heard.failed({ step: isReady ? "check" : "start", isTrap: true, reason: event.message });
-  worker.postMessage({ kind: "start", module });
+  worker.postMessage({ kind: "start", ...module });
 }
 
 const heard = {
-  ready(data) {
+  ready({ bytes, ...data }) {
+    module = { bytes };
     about = data;
     isReady = true;
     for (const id of ["choose", "choose-folder", "show-paste"]) $(id).disabled = false;
     $("version").textContent = say("version", { version: data.version });
-    next();
+    // What a worker was making that is gone is asked for again.
+    for (const key of saves.keys()) askToSave(key);
+    if (current) askToCheck();
+    else next();
   },
-  progress({ read, isDoomed, milliseconds }) {
-    showProgress(read, isDoomed, milliseconds);
+  progress(told) {
+    showProgress(told);
   },
   verdict({ verdict, hint, milliseconds }) {
-    settle({ verdict, hint, milliseconds });
+    Object.assign(current, { verdict, hint, milliseconds, isListing: true });
+    announce(`${current.name}: ${sentenceOf(current)}`);
+    draw();
   },
-  failed({ step, isTrap, reason }) {
-    if (step === "start") return warn(() => say("noStart", { reason }));
+  items({ items }) {
+    (current.items ??= []).push(...items);
+  },
+  listed({ counts }) {
+    settle({ counts });
+  },
+  saving({ key, read, size: all }) {
+    saves.get(key).button.textContent = say("saving", { percent: Math.floor((read / all) * 100) });
+  },
+  saved({ key, blob, count }) {
+    const { entry, button, text } = saves.get(key);
+    saves.delete(key);
+    saveSequence(blob, entry.name);
+    endSave(button, text, say("savedValid", { count, name: entry.name }));
+  },
+  failed({ step, key, isTrap, reason }) {
+    if (step === "start") return warn(() => (reason === "damaged" ? say("damaged") : say("noStart", { reason })));
+    const told = isTrap ? say("trapped") : say("unreadable", { reason });
     // After a trap the module answers no more, so the next file gets a new worker.
     restart();
-    settle({ reason: isTrap ? say("trapped") : say("unreadable", { reason }) });
+    if (step !== "split") {
+      // A verdict that is there stays.
+      if (current?.verdict) notice(told);
+      return settle({ items: [], counts: null, ...(current?.verdict ? {} : { reason: told }) });
+    }
+    const { button, text } = saves.get(key);
+    saves.delete(key);
+    endSave(button, text, told);
+    notice(told);
   },
 };
+
+/** The sequences that are being made, by a number: { entry, button, text }. */
+const saves = new Map();
+let lastSave = 0;
+
+/** Saves the valid features of a file, which the worker reads once more. */
+function saveValid(entry, button) {
+  const text = button.textContent;
+  saves.set(++lastSave, { entry, button, text });
+  button.disabled = true;
+  askToSave(lastSave);
+}
+
+function askToSave(key) {
+  const { entry } = saves.get(key);
+  if (isReady) worker.postMessage({ kind: "split", key, file: entry.file, framing: framingOf(entry.name) });
+}
+
+function endSave(button, text, told) {
+  button.disabled = false;
+  button.textContent = text;
+  announce(told);
+}
 
 function restart() {
   worker?.terminate();
@@ -102,13 +151,19 @@ function next() {
   $("run-name").textContent = say("reading", { name: current.name });
   $("stop-all").hidden = entries.filter(isOpen).length < 2;
   $("bar").value = 0;
-  showProgress(0, false, 0);
-  worker.postMessage({ kind: "check", file: current.file });
+  askToCheck();
 }
 
-function showProgress(read, isDoomed, milliseconds) {
+function askToCheck() {
+  Object.assign(current, { verdict: null, items: [], counts: null });
+  showProgress({ read: 0 });
+  worker.postMessage({ kind: "check", file: current.file, framing: framingOf(current.name) });
+}
+
+/** `isListing`: the verdict is there, and the features are listed. */
+function showProgress({ read, isDoomed = false, isListing = false, faults = 0, milliseconds = 0 }) {
   const all = current.file.size;
-  const waiting = entries.filter(isOpen).length - 1;
+  const waiting = entries.filter((it) => it !== current && isOpen(it)).length;
   const speed = milliseconds > 0 ? (read / milliseconds) * 1000 : 0;
   const left = speed > 0 ? (all - read) / speed : 0;
   $("bar").value = all ? read / all : 0;
@@ -117,20 +172,32 @@ function showProgress(read, isDoomed, milliseconds) {
   if (milliseconds > 500 && left >= 1) parts.push(say("left", { time: time(Math.ceil(left)) }));
   if (waiting > 0) parts.push(say("waiting", { count: waiting }));
   if (isDoomed) parts.push(say("doomed"));
+  if (isListing) $("run-name").textContent = say("listing", { name: current.name });
+  if (faults > 0) parts.push(say("foundSoFar", { count: faults }));
   $("run-note").textContent = parts.join(" · ");
   const percent = Math.floor((all ? read / all : 0) * 100);
   if (milliseconds > 500) document.title = `${percent} % · geolint`;
   // Told aloud at each quarter, and not each time.
   const quarter = Math.floor(percent / 25);
-  if (quarter > (current.quarter ?? 0)) announce(`${current.name}: ${quarter * 25} %`);
+  if (quarter > (current.quarter ?? 0) && !isListing) announce(`${current.name}: ${quarter * 25} %`);
   current.quarter = quarter;
 }
 
+/** What is known of a file is whole: of a verdict that was told already the card is drawn anew, with all that was found. */
 function settle(found) {
   if (!current) return;
-  Object.assign(current, found);
-  announce(`${current.name}: ${sentenceOf(current)}`);
+  const entry = current;
   current = null;
+  const wasTold = entry.isListing;
+  Object.assign(entry, found, { isListing: false });
+  const card = wasTold ? $("list").children[entries.filter((it) => !isOpen(it)).indexOf(entry)] : null;
+  if (!wasTold) announce(`${entry.name}: ${sentenceOf(entry)}`);
+  if (entry.counts && entry.items.length) {
+    card?.replaceWith(cardOf(entry, saveValid));
+    announce(`${entry.name}: ${sentenceOf(entry)} ${summaryOf(entry)}`);
+  } else {
+    card?.querySelector(".listing-note")?.replaceWith("");
+  }
   draw();
   next();
 }
@@ -142,7 +209,8 @@ function announce(text) {
 function stop() {
   if (!current) return;
   restart();
-  settle({ reason: say("stopped") });
+  // A verdict that is there stays, without a list that is not whole.
+  settle({ items: [], counts: null, ...(current.verdict ? {} : { reason: say("stopped") }) });
 }
 
 function stopAll() {
@@ -151,7 +219,7 @@ function stopAll() {
 }
 
 function clear() {
-  entries.splice(0, entries.length, ...entries.filter(isOpen));
+  entries.splice(0, entries.length, ...entries.filter((it) => it === current || isOpen(it)));
   shown = STEP;
   notice("");
   draw();
@@ -176,7 +244,7 @@ function draw(isAnew = false) {
   $("results").hidden = done.length === 0;
   if (isAnew || list.childElementCount > done.length) list.replaceChildren();
   if (done.length) $("counts").textContent = countsText();
-  for (const it of done.slice(list.childElementCount, shown)) list.append(cardOf(it));
+  for (const it of done.slice(list.childElementCount, shown)) list.append(cardOf(it, saveValid));
   $("more").hidden = done.length <= shown;
   $("more").textContent = done.length > shown ? say("more", { count: done.length - shown }) : "";
 }

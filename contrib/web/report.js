@@ -1,27 +1,36 @@
 // The forms of a report: the lines of the program geolint, and those of geolint-files. A report is a list of
 // { name, verdict }, where `verdict` is what `check` gives; `passes` says of a verdict whether the file passes.
 
+const isTold = (it) => it !== null && it !== undefined;
+
+/** What is found in a feature or a record, each warning by itself. */
+export const eachOf = (items) => items.flatMap((it) => (it.verdict === "valid" ? it.warnings.map((one) => ({ ...it, ...one, warnings: [one] })) : [it]));
+const wordOf = (it) => (it.rule.startsWith("W") ? "warning" : it.verdict);
+const calledIn = (it) => (it.index === undefined ? `record ${it.number}` : `feature ${it.index}`);
+
 export const passesAlways = (verdict) => verdict.verdict === "valid";
 
 /** The lines of `geolint`, which tell byte offsets. */
 export function textOf(verdict) {
-  const { verdict: name, rule, text, offset, warnings, path } = verdict;
-  if (name === "broken") return `broken ${rule} at ${offset}: ${text}\n${path ? `path ${path}\n` : ""}`;
-  if (name === "not JSON") return `not JSON at ${offset}: ${text}\n`;
-  return ["valid", ...warnings.map((it) => `warning ${it.rule} count ${it.count} first ${it.offset}: ${it.text}`)].join("\n") + "\n";
+  const { verdict: name, rule, text, offset, warnings, path, record, records } = verdict;
+  const inside = isTold(record) ? `record ${record}\n` : "";
+  if (name === "broken") return `${inside}broken ${rule} at ${offset}: ${text}\n${path ? `path ${path}\n` : ""}`;
+  if (name === "not JSON") return `${inside}not JSON at ${offset}: ${text}\n`;
+  const all = isTold(records) ? [`records ${records}`] : [];
+  return ["valid", ...all, ...warnings.map((it) => `warning ${it.rule} count ${it.count} first ${it.offset}: ${it.text}`)].join("\n") + "\n";
 }
 
 /** The form `json`: one object in one line. */
 export function jsonOf(name, verdict, passes = passesAlways) {
-  const { rule, text, offset, line, column, path, warnings } = verdict;
+  const { rule, text, offset, line, column, path, warnings, record = null, records = null } = verdict;
   const of = (it) => ({ rule: it.rule, text: it.text, offset: it.offset, line: it.line, column: it.column, json_path: it.path });
   const told = { rule, text, offset, line, column, json_path: path };
   return JSON.stringify({
     path: name,
     verdict: verdict.verdict,
     passes: passes(verdict),
-    record: null,
-    records: null,
+    record,
+    records,
     ...told,
     warnings: warnings.map((it) => ({ count: it.count, ...of(it) })),
   });
@@ -33,9 +42,37 @@ export function jsonOfUnread(name, text) {
   return JSON.stringify({ path: name, verdict: "not read", passes: false, ...nothing, text, offset: null, line: null, column: null, json_path: null, warnings: [] });
 }
 
+/** Of what is found in a feature or a record, as geolint-files has it under `--every`. `more`: how many are not told. */
+export function jsonOfFindings(name, items, more = 0) {
+  const lines = eachOf(items).map(({ index, number, id, rule, text, offset, line, column, path }) => {
+    const called = index === undefined ? { record: number } : { feature: index, id };
+    return JSON.stringify({ path: name, ...called, rule, text, offset, line, column, json_path: path });
+  });
+  if (more > 0) lines.push(JSON.stringify({ path: name, more }));
+  return lines;
+}
+
+export function textOfFindings(items, more = 0) {
+  const lines = eachOf(items).map((it) => {
+    const id = isTold(it.id) ? ` id ${it.id}` : "";
+    const spot = [`at ${it.offset}`, it.line !== null && `line ${it.line}, column ${it.column}`, it.path].filter(Boolean).join(", ");
+    return `${calledIn(it)}${id} ${wordOf(it)} ${it.rule} ${spot}: ${it.text}\n`;
+  });
+  return lines.join("") + (more > 0 ? `and ${more} more\n` : "");
+}
+
+export function linesOfFindings(name, items, more = 0) {
+  const lines = eachOf(items).map((it) => {
+    const id = isTold(it.id) ? `id ${it.id}` : null;
+    const details = [calledIn(it), id, it.line === null && `at byte ${it.offset}`, it.path].filter(Boolean).join(", ");
+    return `${place(name, it)}: ${wordOf(it)} ${it.rule}: ${it.text} (${details})\n`;
+  });
+  return lines.join("") + (more > 0 ? `${name}: and ${more} more\n` : "");
+}
+
 const place = (name, it) => (it.line === null ? name : `${name}:${it.line}:${it.column}`);
 function detailsOf(it) {
-  const details = [it.count > 1 && `${it.count} times`, it.line === null && `at byte ${it.offset}`, it.path].filter(Boolean);
+  const details = [isTold(it.record) && `record ${it.record}`, it.count > 1 && `${it.count} times`, it.line === null && `at byte ${it.offset}`, it.path].filter(Boolean);
   return details.length ? ` (${details.join(", ")})` : "";
 }
 
@@ -52,7 +89,7 @@ export function linesOf(name, verdict) {
 
 const levelOf = (rule) => (rule.startsWith("W") ? "warning" : "error");
 
-/** A log in SARIF 2.1.0. `rules` are pairs of a rule and its text; `unread` are { name, reason } of what could not be read. */
+/** A log in SARIF 2.1.0. A report is { name, verdict }, and where features are told `items` and `more`. `rules` are pairs of a rule and its text; `unread` are { name, reason } of what could not be read. */
 export function sarifOf(reports, rules, version, unread = []) {
   const described = rules.map(([id, text]) => ({
     id,
@@ -60,9 +97,11 @@ export function sarifOf(reports, rules, version, unread = []) {
     help: { text: `docs/rules.md, ${id}: ${text}` },
     defaultConfiguration: { level: levelOf(id) },
   }));
-  const results = reports.flatMap(({ name, verdict }) =>
-    (verdict.verdict === "valid" ? verdict.warnings : [verdict]).map((it) => resultOf(name, it)),
-  );
+  const results = reports.flatMap(({ name, verdict, items = [], more = 0 }) => [
+    ...(verdict.verdict === "valid" ? verdict.warnings : [verdict]).map((it) => resultOf(name, it)),
+    ...eachOf(items).map((it) => resultOfFinding(name, it)),
+    ...(more > 0 ? [{ level: "note", message: { text: `and ${more} more` }, locations: [{ physicalLocation: { artifactLocation: { uri: encodeURI(name) } } }] }] : []),
+  ]);
   const notifications = unread.map(({ name, reason }) => ({ level: "error", message: { text: `${name}: ${reason}` } }));
   const log = {
     $schema: "https://json.schemastore.org/sarif-2.1.0.json",
@@ -83,6 +122,13 @@ function resultOf(name, it) {
   const start = it.line === null ? {} : { startLine: it.line, startColumn: it.column };
   const location = { physicalLocation: { artifactLocation: { uri: encodeURI(name) }, region: { ...start, byteOffset: it.offset, byteLength: 0 } } };
   if (it.path) location.logicalLocations = [{ fullyQualifiedName: it.path }];
-  const times = it.count > 1 ? `, ${it.count} times` : "";
+  const times = (it.count > 1 ? `, ${it.count} times` : "") + (isTold(it.record) ? `, record ${it.record}` : "");
   return { ruleId: it.rule, level: levelOf(it.rule), message: { text: it.text + times }, locations: [location] };
+}
+
+function resultOfFinding(name, it) {
+  const { index, number, id } = it;
+  const told = resultOf(name, { ...it, count: 1 });
+  const properties = index === undefined ? { record: number } : { feature: index, id };
+  return { ...told, message: { text: `${it.text}, ${calledIn(it)}` }, properties };
 }

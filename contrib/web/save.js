@@ -1,14 +1,21 @@
 // The report as a file: JSON lines and SARIF in the forms of geolint-files, and a page to print.
 
-import { jsonOf, jsonOfUnread, sarifOf } from "./report.js";
+import { jsonOf, jsonOfFindings, jsonOfUnread, sarifOf } from "./report.js";
 import { language, say } from "./language.js";
-import { make, cardOf } from "./view.js";
+import { make } from "./dom.js";
+import { cardOf } from "./view.js";
 
-const judged = (entries) => entries.filter((it) => it.verdict);
+/** What is listed of a file, once the list is whole, and how many more there are. */
+const listedOf = ({ items, counts }) => (counts ? { items, more: counts.faults + counts.warned - items.length } : { items: [], more: 0 });
+const judged = (entries) => entries.filter((it) => it.verdict).map((it) => ({ ...it, ...listedOf(it) }));
 const unread = (entries) => entries.filter((it) => it.reason).map(({ name, reason }) => ({ name, reason }));
 
 export function saveLines(entries) {
-  const lines = entries.map(({ name, verdict, reason }) => (verdict ? jsonOf(name, verdict) : jsonOfUnread(name, reason)));
+  const lines = entries.flatMap((entry) => {
+    const { name, verdict, reason } = entry;
+    const { items, more } = listedOf(entry);
+    return verdict ? [jsonOf(name, verdict), ...jsonOfFindings(name, items, more)] : [jsonOfUnread(name, reason)];
+  });
   download(lines.join("\n") + "\n", "application/jsonl", "geolint-report.jsonl");
 }
 
@@ -35,6 +42,11 @@ function printablePage(entries, counts) {
   const style = document.querySelector("style").textContent;
   const head = make("head", "", make("title", "", title), make("style", "", style));
   return `<!doctype html>\n<html lang="${language()}"><meta charset="utf-8">${head.innerHTML}<body>${main.outerHTML}</body></html>\n`;
+}
+
+/** The valid features of a file, under its name with the ending of text sequences. */
+export function saveSequence(blob, name) {
+  download(blob, blob.type, `${name.replace(/^.*\//, "").replace(/\.[^.]*$/, "")}.valid.geojsons`);
 }
 
 function download(text, type, name) {

@@ -2,21 +2,13 @@
 
 import { say, size, time, number, whatOf, mendOf } from "./language.js";
 import { pictureOf, drawingOf } from "./draw.js";
-import { holdsManyTexts } from "./files.js";
 import { isOtherKind } from "./hints.js";
+import { make } from "./dom.js";
+import { listingOf, tableOfAll } from "./listing.js";
+import { calledOf } from "./names.js";
 
 /** So many rows of a table, and cards of a list, are drawn at once. */
 export const STEP = 100;
-/** The name of a feature is taken from the first of these properties. */
-const NAMES = ["name", "Name", "NAME", "title", "Title", "label", "ref"];
-
-/** A new element with a class and children: elements and texts. */
-export function make(kind, name = "", ...children) {
-  const it = document.createElement(kind);
-  if (name) it.className = name;
-  it.append(...children.filter((child) => child !== null && child !== undefined && child !== ""));
-  return it;
-}
 
 /** What is told of a file: the fault, or each kind of warning. */
 export const findingsOf = (verdict) => (verdict.verdict === "valid" ? verdict.warnings : [verdict]);
@@ -33,19 +25,22 @@ export function sentenceOf(entry) {
   const { verdict, reason } = entry;
   if (!verdict) return reason ?? say("sentence.none");
   const group = groupOf(entry);
-  if (group === "valid") return say("sentence.valid");
+  const { record, records } = verdict;
+  if (group === "valid") return records === null ? say("sentence.valid") : say("sentence.validMany", { count: records });
   if (group === "warned") return say("sentence.warned", { count: verdict.warnings.length });
+  if (record !== null) return say("sentence.brokenMany", { number: record, what: whatOf(verdict.rule) });
   if (isOtherKind(entry.hint)) return say("sentence.otherKind", { hint: hintText(entry) });
   return say(verdict.verdict === "broken" ? "sentence.broken" : "sentence.notJson", { what: whatOf(verdict.rule) });
 }
 
 const hintText = ({ hint }) => `${say("hint")} ${say(`hints.${hint}`)}`;
 
-export function cardOf(entry) {
+/** The card of a file. `save(entry, button)` saves its valid features; where there is no such call, the card is for paper. */
+export function cardOf(entry, save = null) {
   const { name, verdict, milliseconds } = entry;
   const took = verdict ? make("span", "note", tookText(verdict.read, milliseconds / 1000)) : null;
   const card = make("article", `card ${groupOf(entry)}`, make("div", "head", make("h3", "", name), took), make("p", "verdict", sentenceOf(entry)));
-  if (verdict && groupOf(entry) !== "valid") card.append(...tableOf(entry));
+  if (verdict && groupOf(entry) !== "valid") card.append(...foundIn(entry, save));
   card.dataset.milliseconds = milliseconds ?? "";
   return card;
 }
@@ -53,9 +48,19 @@ export function cardOf(entry) {
 /** How much was read, and how long that took where it is worth saying. */
 const tookText = (read, seconds) => (seconds < 0.1 ? size(read) : say("took", { size: size(read), time: time(seconds) }));
 
+/** All that was found: of the file as a whole, and in its features. */
+function foundIn(entry, save) {
+  const { verdict, items = [], counts } = entry;
+  if (!items.length || !counts) return tableOf(entry);
+  const listing = save ? [listingOf(entry, detailsOf, save)] : tableOfAll(entry);
+  // The first fault is in the list already, unless it is one of the text's object itself.
+  const isListed = verdict.verdict !== "valid" && items.some((it) => it.verdict !== "valid" && it.offset === verdict.offset);
+  return isListed ? listing : [...tableOf(entry), ...listing];
+}
+
 /** The table of the findings, and what is said below it. */
 function tableOf(entry) {
-  const { verdict, name } = entry;
+  const { verdict, items = [] } = entry;
   const findings = findingsOf(verdict);
   const body = make("tbody");
   const head = ["rule", "what", "where", "inside"].map((it) => make("th", "", say(`table.${it}`)));
@@ -75,8 +80,8 @@ function tableOf(entry) {
   more.onclick = draw;
   draw();
   const below = [];
-  if (verdict.verdict === "broken") below.push(make("p", "note", say("firstOnly")));
-  if (verdict.verdict === "not JSON" && holdsManyTexts(name) && entry.hint !== "sequence") below.push(make("p", "hint", say("sequence")));
+  if (entry.isListing && verdict.verdict !== "not JSON") below.push(make("p", "note listing-note", say("listingNow")));
+  else if (verdict.verdict === "broken" && !items.length) below.push(make("p", "note", say("firstOnly")));
   return [table, more, ...below];
 }
 
@@ -114,12 +119,6 @@ export function insideOf({ feature, path, rule }) {
   if (!feature || feature.index === null) return called ?? say("wholeText");
   const values = { number: feature.index + 1, name: called };
   return called === null ? say("feature", values) : say("featureCalled", values);
-}
-
-function calledOf(value) {
-  const told = (it) => (typeof it === "string" && it.trim()) || Number.isFinite(it);
-  const named = NAMES.map((it) => value?.properties?.[it]).find(told) ?? [value?.id].find(told);
-  return named === undefined ? null : String(named).slice(0, 60);
 }
 
 /** The excerpt, how to mend it, the hint, the drawing and the chapter on the rule. */

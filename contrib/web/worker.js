@@ -2,31 +2,70 @@
 
 import { Geolint } from "./check.js";
 import { hintFor } from "./hints.js";
+import { unpacked, checksumOf } from "./unpack.js";
 
 /** The page is told how far the reading is no more often than this, in milliseconds. */
 const PAUSE = 80;
+/** So many faults of a file are listed, and so many features with warnings; the others are counted. */
+const MOST = 65_536;
+/** So many are told to the page at once. */
+const BATCH = 1000;
 
 let geolint;
 
+/** Tells how far a reading is, with what else is told of it. */
+function meter(kind, more = {}) {
+  const begun = performance.now();
+  let told = begun;
+  return (progress) => {
+    const now = performance.now();
+    if (now - told < PAUSE) return;
+    told = now;
+    postMessage({ kind, ...more, ...progress, milliseconds: now - begun });
+  };
+}
+
+/** Tells the page what is found, as it comes. */
+async function list(findings) {
+  let items = [];
+  for await (const it of findings) {
+    if (items.push(it) < BATCH) continue;
+    postMessage({ kind: "items", items });
+    items = [];
+  }
+  postMessage({ kind: "items", items });
+  return findings;
+}
+
 const answers = {
-  async start({ module }) {
-    geolint = new Geolint(await WebAssembly.compile(module));
-    return { kind: "ready", version: await geolint.version(), texts: await geolint.texts() };
+  /** The module comes packed, or as the bytes that another worker has unpacked. */
+  async start({ bytes, packed, size, sum }) {
+    bytes ??= unpacked(Uint8Array.from(atob(packed), (it) => it.charCodeAt(0)), size);
+    if (packed && checksumOf(bytes) !== sum) throw new Error("damaged");
+    geolint = new Geolint(await WebAssembly.compile(bytes));
+    return { kind: "ready", bytes, version: await geolint.version(), texts: await geolint.texts() };
   },
 
-  async check({ file }) {
+  /** A file of one text is read once for its verdict, and where there is anything to list, once more. */
+  async check({ file, framing }) {
     const begun = performance.now();
-    let told = begun;
-    const onProgress = ({ read, isDoomed }) => {
-      const now = performance.now();
-      if (now - told < PAUSE) return;
-      told = now;
-      postMessage({ kind: "progress", read, isDoomed, milliseconds: now - begun });
-    };
-    const verdict = await geolint.check(file, { onProgress });
+    if (framing) {
+      const { verdict, counts } = await list(geolint.records(file, { framing, most: MOST, onProgress: meter("progress") }));
+      postMessage({ kind: "verdict", verdict, hint: null, milliseconds: performance.now() - begun });
+      return { kind: "listed", counts };
+    }
+    const verdict = await geolint.check(file, { onProgress: meter("progress") });
     const milliseconds = performance.now() - begun;
     const read = async (from, to) => new Uint8Array(await file.slice(from, to).arrayBuffer());
-    return { kind: "verdict", verdict, hint: await hintFor(verdict, read), milliseconds };
+    postMessage({ kind: "verdict", verdict, hint: await hintFor(verdict, read), milliseconds });
+    if (verdict.verdict === "not JSON" || (verdict.verdict === "valid" && !verdict.warnings.length)) return { kind: "listed", counts: null };
+    const found = await list(geolint.features(file, { most: MOST, onProgress: meter("progress", { isListing: true }) }));
+    return { kind: "listed", counts: found.counts };
+  },
+
+  async split({ key, file, framing }) {
+    const { blob, count } = await geolint.split(file, { framing, onProgress: meter("saving", { key }) });
+    return { kind: "saved", key, blob, count };
   },
 };
 
@@ -35,6 +74,6 @@ onmessage = async ({ data }) => {
     postMessage(await answers[data.kind](data));
   } catch (error) {
     const isTrap = error instanceof WebAssembly.RuntimeError;
-    postMessage({ kind: "failed", step: data.kind, isTrap, reason: String(error?.message ?? error) });
+    postMessage({ kind: "failed", step: data.kind, key: data.key, isTrap, reason: String(error?.message ?? error) });
   }
 };

@@ -1,0 +1,83 @@
+// Compares what features() and records() find, and what split() saves, with what is expected: node found.mjs SOURCES MODULE FOLDER
+//
+// FOLDER is what found.py wrote. Each input is given as a Blob, as a stream and in pieces of random length.
+
+import { readFileSync } from "node:fs";
+import { pathToFileURL } from "node:url";
+
+const [sources, modulePath, folder] = process.argv.slice(2);
+const { load } = await import(pathToFileURL(`${sources}/geolint.js`));
+const geolint = await load(readFileSync(modulePath));
+
+let seed = 5;
+const random = (below) => ((seed = (Math.imul(seed, 1103515245) + 12345) >>> 0), seed % below);
+function* cut(bytes, longest) {
+  for (let at = 0; at < bytes.length; ) {
+    const size = 1 + random(longest);
+    yield bytes.subarray(at, at + size);
+    at += size;
+  }
+}
+
+const framings = { geojsons: "sequence", ndjson: "lines" };
+const ways = [(bytes) => new Blob([bytes]), (bytes) => new Blob([bytes]).stream(), (bytes) => cut(bytes, 9), (bytes) => cut(bytes, 300)];
+const place = ({ rule, offset, line, column, path }) => ({ rule, offset, line, column, path });
+const plain = ({ index, number, place: start, end, warnings, ...it }) =>
+  JSON.stringify({ called: index ?? number, start, end, ...place(it), warnings: warnings.map((one) => ({ count: one.count, ...place(one) })) });
+
+let [inputs, found, failed] = [0, 0, 0];
+const differs = (...told) => failed++ < 5 && console.log("DIFFERS:", ...told);
+for (const line of readFileSync(`${folder}/expected.jsonl`, "utf8").trim().split("\n")) {
+  const { name, found: wanted, split } = JSON.parse(line);
+  const bytes = readFileSync(`${folder}/${name}`);
+  const framing = framings[name.split(".")[1]];
+  inputs++;
+  for (const way of ways) {
+    const findings = framing ? geolint.records(way(bytes), { framing }) : geolint.features(way(bytes));
+    const got = [];
+    for await (const it of findings) got.push(it);
+    const { verdict } = findings;
+    if (wanted === null) {
+      if (verdict.verdict !== "not JSON") differs(name, "is no JSON text", verdict.verdict);
+      continue;
+    }
+    found += got.length;
+    const [mine, theirs] = [got.map(plain).join("\n"), wanted.map(plain).join("\n")];
+    if (mine !== theirs) differs(name, `\n${mine}\n  expected\n${theirs}`);
+    const first = wanted.find((it) => it.rule !== null);
+    if (framing && JSON.stringify(place(verdict)) !== JSON.stringify(place(first ?? verdict))) differs(name, "the verdict", verdict);
+    if (!framing && JSON.stringify(await geolint.check(bytes)) !== JSON.stringify(verdict)) differs(name, "the verdict of check", verdict);
+  }
+  if (split === null) continue;
+  const { blob, count } = await geolint.split(new Blob([bytes]), { framing });
+  const saved = Buffer.from(await blob.arrayBuffer());
+  if (saved.toString("latin1") !== split) differs(name, `split\n${saved.toString("latin1")}\n  expected\n${split}`);
+  const again = geolint.records(blob, { framing: "sequence", which: "all" });
+  let all = 0;
+  for await (const it of again) all += it.verdict === "valid" ? 1 : 0;
+  if (all !== count || again.verdict.records !== count) differs(name, "what is saved is judged", all, count, again.verdict);
+}
+// Features that are longer than what is judged at once, some of them over the end of a piece that is read.
+const long = Array.from({ length: 90 }, (_, i) => `{"type":"Feature","id":${i},"properties":{"pad":"${"é".repeat(100_000)}"},"geometry":{"type":"Point","coordinates":[1${i % 3 ? "" : ",2"}]}}`);
+const whole = Buffer.from(`{"type":"FeatureCollection","features":[\n${long.join(",\n")}\n]}`);
+for (const way of ways.slice(0, 2)) {
+  const findings = geolint.features(way(whole));
+  let at = 0;
+  for await (const it of findings) {
+    while (at % 3 === 0) at++;
+    const start = whole.indexOf(`{"type":"Feature","id":${at},`);
+    const [offset, column] = [start + Buffer.from(long[at]).length - 5, [...long[at]].length - 4];
+    const path = `$.features[${at}].geometry.coordinates`;
+    const wanted = JSON.stringify([at, start, offset + 5, "G12", offset, at + 2, column, path, `${at}`]);
+    const got = JSON.stringify([it.index, it.place, it.end, it.rule, it.offset, it.line, it.column, it.path, it.name]);
+    if (got !== wanted) differs("long features", got, wanted);
+    at++;
+  }
+  inputs++;
+  if (at !== 90 || findings.counts.faults !== 60 || findings.verdict.line !== 3) differs("long features", at, findings.counts, findings.verdict.line);
+}
+const { blob, count } = await geolint.split(new Blob([whole]));
+if (count !== 30 || (await blob.text()) !== long.filter((_, i) => i % 3 === 0).map((it) => `\x1e${it}\n`).join("")) differs("long features are saved", count, blob.size);
+
+console.log(`${inputs} inputs, ${found} findings, ${failed} differ`);
+process.exit(failed ? 1 : 0);

@@ -1,0 +1,107 @@
+// What an input is read by: bytes, a Blob, what can be read from any place, or what comes once.
+
+import { STRIDE } from "./lines.js";
+
+/** So many bytes of a stream are kept, for what is near the end of what was read. */
+const KEPT = 4 * STRIDE;
+
+/** What an input is read by: `pieces()` in order, and `read(from, to)`, which is null for bytes that are gone. */
+export function sourceOf(input) {
+  if (typeof input === "string") {
+    throw new TypeError("it takes no string: new TextEncoder().encode(text) makes bytes of a text, and fs.openAsBlob(path) a Blob of a file");
+  }
+  if (input instanceof ArrayBuffer) return new SlicedSource(byBytes(new Uint8Array(input)));
+  if (ArrayBuffer.isView(input)) return new SlicedSource(byBytes(new Uint8Array(input.buffer, input.byteOffset, input.byteLength)));
+  if (typeof Blob !== "undefined" && input instanceof Blob) return new SlicedSource(byBlob(input));
+  if (typeof input?.read === "function" && typeof input?.size === "number") return new SlicedSource(input);
+  if (typeof input?.getReader === "function") return new FlowingSource(piecesOfStream(input));
+  if (input?.[Symbol.asyncIterator] || input?.[Symbol.iterator]) return new FlowingSource(input);
+  throw new TypeError("it takes bytes, a Blob, a ReadableStream, an iterable of bytes, or an object with size and read(from, to)");
+}
+
+const byBytes = (bytes) => ({ size: bytes.length, read: async (from, to) => bytes.subarray(from, to) });
+const byBlob = (blob) => ({ size: blob.size, read: async (from, to) => new Uint8Array(await blob.slice(from, to).arrayBuffer()) });
+
+/** An input that can be read from any place. The next piece is read while this one is judged. */
+class SlicedSource {
+  #input;
+
+  constructor(input) {
+    this.#input = input;
+    this.size = input.size;
+  }
+
+  async *pieces() {
+    let next = this.read(0, STRIDE);
+    for (let at = 0; ; ) {
+      const bytes = await next;
+      if (bytes.length === 0) return;
+      at += bytes.length;
+      next = this.read(at, at + STRIDE);
+      // A piece that nobody asks for any more may fail.
+      next.catch(() => {});
+      yield bytes;
+    }
+  }
+
+  async read(from, to) {
+    if (this.size !== null && from >= this.size) return new Uint8Array(0);
+    return this.#input.read(from, this.size === null ? to : Math.min(to, this.size));
+  }
+}
+
+/** An input that comes once. Its last bytes are kept, and all of it where it is short. */
+class FlowingSource {
+  #input;
+  #kept = [];
+  #start = 0;
+  #end = 0;
+
+  constructor(input) {
+    this.#input = input;
+    this.size = null;
+  }
+
+  async *pieces() {
+    for await (const piece of this.#input) {
+      if (!ArrayBuffer.isView(piece) && !(piece instanceof ArrayBuffer)) throw new TypeError("each piece must be bytes, as a Uint8Array");
+      const bytes = piece instanceof ArrayBuffer ? new Uint8Array(piece) : new Uint8Array(piece.buffer, piece.byteOffset, piece.byteLength);
+      // What gives the pieces may fill them anew.
+      this.#keep(bytes.slice());
+      yield bytes;
+    }
+  }
+
+  #keep(bytes) {
+    this.#kept.push(bytes);
+    this.#end += bytes.length;
+    while (this.#kept.length > 1 && this.#end - this.#start - this.#kept[0].length >= KEPT) this.#start += this.#kept.shift().length;
+  }
+
+  async read(from, to) {
+    if (from < this.#start) return null;
+    const bytes = new Uint8Array(Math.max(0, Math.min(to, this.#end) - from));
+    let at = this.#start;
+    for (const piece of this.#kept) {
+      const first = Math.max(from, at);
+      const last = Math.min(at + piece.length, from + bytes.length);
+      if (first < last) bytes.set(piece.subarray(first - at, last - at), first - from);
+      at += piece.length;
+    }
+    return bytes;
+  }
+}
+
+async function* piecesOfStream(stream) {
+  const reader = stream.getReader();
+  try {
+    for (;;) {
+      const { done, value } = await reader.read();
+      if (done) return;
+      yield value;
+    }
+  } finally {
+    // Where the reading ends early, the stream is told so.
+    reader.cancel().catch(() => {});
+  }
+}
