@@ -232,5 +232,5 @@ fn a_report_goes_out_in_one_write(rt: HostRuntime) {
 fn says_the_version(rt: HostRuntime) {
     let mut sink = ArraySink::new(usize::MAX, usize::MAX, Ending::Fails);
     assert_eq!(rt; write_version(&mut sink), Ok(()));
-    assert_eq!(rt; sink.bytes(), b"geolint 0.1.0\n");
+    assert_eq!(rt; sink.bytes(), b"geolint 0.1.0\n".as_slice());
 }
