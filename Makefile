@@ -1,4 +1,5 @@
-# Builds and installs geolint and geolint-files: the programs, their man pages and the completions for bash, zsh and fish.
+# Builds and installs geolint and geolint-files: the programs, their man pages, docs/rules.md and the completions for bash, zsh
+# and fish.
 #
 #     make install PREFIX=$HOME/.local
 #     make install DESTDIR=package PREFIX=/usr
@@ -13,6 +14,7 @@ manual := $(to)/share/man/man1/geolint.1
 bash := $(to)/share/bash-completion/completions/geolint
 zsh := $(to)/share/zsh/site-functions/_geolint
 fish := $(to)/share/fish/vendor_completions.d/geolint.fish
+rules := $(to)/share/doc/geolint/rules.md
 
 program_files := $(to)/bin/geolint-files
 manual_files := $(to)/share/man/man1/geolint-files.1
@@ -31,6 +33,7 @@ install: build
 	install -D -m 644 contrib/completions/geolint.bash "$(bash)"
 	install -D -m 644 contrib/completions/_geolint "$(zsh)"
 	install -D -m 644 contrib/completions/geolint.fish "$(fish)"
+	install -D -m 644 docs/rules.md "$(rules)"
 	install -D -m 755 crates/geolint_files/out/geolint_files "$(program_files)"
 	install -D -m 644 docs/geolint-files.1 "$(manual_files)"
 	install -D -m 644 contrib/completions/geolint-files.bash "$(bash_files)"
@@ -38,7 +41,7 @@ install: build
 	install -D -m 644 contrib/completions/geolint-files.fish "$(fish_files)"
 
 uninstall:
-	rm -f "$(program)" "$(manual)" "$(bash)" "$(zsh)" "$(fish)"
+	rm -f "$(program)" "$(manual)" "$(bash)" "$(zsh)" "$(fish)" "$(rules)"
 	rm -f "$(program_files)" "$(manual_files)" "$(bash_files)" "$(zsh_files)" "$(fish_files)"
 
 # The library for C: `make library`, `make install-library`.

@@ -4,9 +4,13 @@ _geolint_files() {
     local word=${COMP_WORDS[COMP_CWORD]} before=${COMP_WORDS[COMP_CWORD - 1]}
     COMPREPLY=()
     case $before in
-    --max-bytes | --ending) return ;;
+    --max-bytes | --most | --ending) return ;;
     --format)
         mapfile -t COMPREPLY < <(compgen -W 'text lines json github sarif' -- "$word")
+        return
+        ;;
+    --explain)
+        mapfile -t COMPREPLY < <(compgen -W "$(echo G{1..21} W{1..9} J{1..4})" -- "$word")
         return
         ;;
     --allow)
@@ -18,7 +22,7 @@ _geolint_files() {
         ;;
     esac
     case $word in
-    -*) mapfile -t COMPREPLY < <(compgen -W '--strict --allow --quick --seq --ndjson --max-bytes --format --summary --files-from --null --ending --allow-empty --help --version' -- "$word") ;;
+    -*) mapfile -t COMPREPLY < <(compgen -W '--strict --allow --quick --seq --ndjson --max-bytes --format --summary --every --every=warnings --most --split --force --files-from --null --ending --allow-empty --explain --help --version' -- "$word") ;;
     *)
         compopt -o filenames 2>/dev/null
         mapfile -t COMPREPLY < <(compgen -f -- "$word")

@@ -17,4 +17,7 @@ mod DetailsInParentheses
 mod ResultsBetween
 mod PlacesInOrder
 mod ToldFiles
+mod ListedFiles
+mod KeptNotes
+mod CursorPlaces
 mod WalkedEntries

@@ -5,6 +5,7 @@ pub mod Github
 pub mod Text
 pub mod Lines
 pub mod Sarif
+pub mod Features
 use Rattle.std.specs.Prelude.{◌≡◌, ℕ, Bool, ◌&&◌, List, [], ◌++◌, Vec}
 use Rattle.std.specs.declared.alloc.Global.{Global}
 use Rattle.gj_places.specs.Strings.{SpellsString}
@@ -16,7 +17,7 @@ use Rattle.geolint_files.specs.declared.report.Report.{Report}
 use Rattle.geolint_files.specs.Finding.{fault_of}
 use Rattle.geolint_files.specs.Forms.Github.{github_told, github_unread}
 use Rattle.geolint_files.specs.Forms.Json.{json_line, json_unread}
-use Rattle.geolint_files.specs.Forms.Lines.{AreLines}
+use Rattle.geolint_files.specs.Forms.Lines.{AreLines, lines_hint}
 use Rattle.geolint_files.specs.Forms.Sarif.{next_results, next_unread, sarif_told}
 use Rattle.geolint_files.specs.Forms.Text.{text_told}
 use Rattle.geolint_files.specs.Internal.WrittenCommas.{is_none_yet}
@@ -25,7 +26,7 @@ use Rattle.geolint_files.specs.Line.{Adds}
 -- the report of a file that was judged; in a log the first result has no comma before it
 abbrev pub IsReport : Format → Style → Bool → Report → Bool → Kinds → List ℕ → Type 0
 IsReport Format.Text style is_first report strict allowed bytes = bytes ≡ text_told report
-IsReport Format.Lines style is_first report strict allowed bytes = AreLines style report (fault_of report.finding) bytes
+IsReport Format.Lines style is_first report strict allowed bytes = (lines : List ℕ) × AreLines style report (fault_of report.finding) lines × (bytes ≡ lines ++ lines_hint report.hint)
 IsReport Format.Json style is_first report strict allowed bytes = (name : List ℕ) × SpellsString report.name.now name × (bytes ≡ json_line name report)
 IsReport Format.Github style is_first report strict allowed bytes = bytes ≡ github_told report strict allowed
 IsReport Format.Sarif style is_first report strict allowed bytes = bytes ≡ next_results is_first (sarif_told report strict allowed)

@@ -5,3 +5,4 @@ pub mod RunState
 pub mod WrittenCommas
 pub mod WrittenDetails
 pub mod SoughtPlaces
+pub mod Cursors

@@ -11,4 +11,6 @@ pub mod Forms
 pub mod Run
 pub mod Walk
 pub mod Told
+pub mod Every
+pub mod Listed
 pub mod Internal

@@ -1,8 +1,10 @@
--- What a run tells: of each file in turn its report, at the end a summary, and the worst of the outcomes.
+-- What a run tells: of each file in turn its report and the lines of its features, at the end a summary, and the worst of the outcomes.
 use Rattle.std.specs.Prelude.{◌≡◌, ℕ, Bool, true, false, if◌then◌else◌, List, [], ◌∷◌, ◌++◌, map, Option, Some, None}
 use Rattle.std.specs.Io.KnownBytes.{Appends}
+use Rattle.geolint_files.specs.declared.every.entry.Entry.{Entry}
 use Rattle.geolint_files.specs.declared.formats.lines.Style.{Style}
 use Rattle.geolint_files.specs.declared.judge.Finding.{Finding}
+use Rattle.geolint_files.specs.declared.options.Every.{Every}
 use Rattle.geolint_files.specs.declared.options.Format.{Format}
 use Rattle.geolint_files.specs.declared.options.Options.{Options}
 use Rattle.geolint_files.specs.declared.outcome.Outcome.{Outcome}
@@ -10,22 +12,31 @@ use Rattle.geolint_files.specs.declared.outcome.Outcome.TheVariants.{Unread}
 use Rattle.geolint_files.specs.declared.report.Report.{Report}
 use Rattle.geolint_files.specs.Finding.{outcome_of, passes, worst}
 use Rattle.geolint_files.specs.Forms.{IsReport, IsUnreadReport, KeepsUnread, first_after}
+use Rattle.geolint_files.specs.Forms.Features.{IsEntry, IsMore, first_behind}
 use Rattle.geolint_files.specs.Forms.Sarif.{sarif_begin, sarif_end}
 use Rattle.geolint_files.specs.Summary.{summary_of}
 
--- a file of which a report is told, or one that could not be opened or read, for this reason
+-- a line about a feature of a file, or about how many others there are
+pub data FeatureLine : Type 0 where
+  feature_line : (entry : Entry) → FeatureLine
+  others_line : (name : List ℕ) → (count : ℕ) → FeatureLine
+
+-- a file of which a report is told, or one that could not be opened or read, for this reason, or one of which the features are told too
 pub data ToldFile : Type 0 where
   judged : (report : Report) → ToldFile
   not_read : (name reason : List ℕ) → ToldFile
+  listed : (report : Report) → (lines : List FeatureLine) → ToldFile
 
 -- what a summary counts
 abbrev pub finding_in : ToldFile → Option Finding
 finding_in (judged report) = Some report.finding
 finding_in (not_read name reason) = None
+finding_in (listed report lines) = Some report.finding
 
 abbrev pub outcome_in : Options → ToldFile → Outcome
 outcome_in options (judged report) = outcome_of (passes options.strict options.allowed report.finding)
 outcome_in options (not_read name reason) = Unread
+outcome_in options (listed report lines) = outcome_of (passes options.strict options.allowed report.finding)
 
 -- the outcome of a run that told these files
 abbrev pub worst_of : Options → List ToldFile → Outcome
@@ -55,9 +66,33 @@ pub record AddsUnread (options : Options) (name reason : List ℕ) (before after
   pub first : after.is_first ≡ before.is_first
   pub unread : KeepsUnread options.format name reason before.unread after.unread
 
+abbrev pub IsLine : Options → Style → Bool → FeatureLine → List ℕ → Type 0
+IsLine options style is_first (feature_line entry) bytes = IsEntry options.format style is_first entry options.strict options.allowed bytes
+IsLine options style is_first (others_line name count) bytes = IsMore options.format style is_first name count bytes
+
+-- what a line about a feature adds
+pub record AddsLine (options : Options) (style : Style) (line : FeatureLine) (before after : Written) : Type 0 where
+  pub told : List ℕ
+  pub is_line : IsLine options style before.is_first line told
+  pub bytes : after.bytes ≡ before.bytes ++ told
+  pub first : after.is_first ≡ first_behind options.format before.is_first
+  pub unread : after.unread ≡ before.unread
+
+abbrev pub AddsLines : Options → Style → List FeatureLine → Written → Written → Type 0
+AddsLines options style [] before after = after ≡ before
+AddsLines options style (line ∷ more) before after = (middle : Written) × AddsLine options style line before middle × AddsLines options style more middle after
+
+-- features are told only where that is asked for
+pub record AddsListed (options : Options) (style : Style) (report : Report) (lines : List FeatureLine) (before after : Written) : Type 0 where
+  pub asked : options.every ≡ Every.Nothing → ⊥
+  pub middle : Written
+  pub report_told : AddsReport options style report before middle
+  pub lines_told : AddsLines options style lines middle after
+
 abbrev pub AddsFile : Options → Style → ToldFile → Written → Written → Type 0
 AddsFile options style (judged report) before after = AddsReport options style report before after
 AddsFile options style (not_read name reason) before after = AddsUnread options name reason before after
+AddsFile options style (listed report lines) before after = AddsListed options style report lines before after
 
 -- what files add, one after the other
 abbrev pub AddsFiles : Options → Style → List ToldFile → Written → Written → Type 0

@@ -11,7 +11,7 @@ use Rattle.geolint_files.specs.declared.report.Report.{Report}
 use Rattle.geolint_files.specs.declared.sites.Sites.{Sites}
 use Rattle.geolint_files.specs.Judged.{Finds, framing_in}
 use Rattle.geolint_files.specs.Report.{has_places, IsToldPlace}
-use Rattle.geolint_files.specs.Run.{ToldFile, judged, not_read}
+use Rattle.geolint_files.specs.Run.{ToldFile, judged, not_read, listed}
 use Rattle.geolint_files.specs.Sites.{AreSitesIn, NoneFound, sought}
 use Rattle.geolint_files.specs.Walk.{framing_of}
 
@@ -53,11 +53,13 @@ HasSites reading limits text failed now_failed report = HasSitesIf (has_places r
 -- what is told of a source that had these bytes: what they are found to be, or that a read failed
 abbrev pub IsToldOnce : Reading → Allowed → List ℕ → Option (List ℕ) → (failed now_failed : ℕ) → ToldFile → Type 0
 IsToldOnce reading limits name had failed now_failed (judged report) =
-    (report.name.now ≡ name) × (report.sites ≡ None) × (now_failed ≡ failed) × ((left : Option (List ℕ)) × Finds reading limits had left report.finding)
+    (report.name.now ≡ name) × (report.sites ≡ None) × (report.hint ≡ None) × (now_failed ≡ failed) × ((left : Option (List ℕ)) × Finds reading limits had left report.finding)
 IsToldOnce reading limits name had failed now_failed (not_read told reason) = (told ≡ name) × (now_failed ≡ u64_saturate (failed + 1))
+IsToldOnce reading limits name had failed now_failed (listed report lines) = ⊥
 
 -- the same of one that is read again: `text` are its bytes from the first one on
 abbrev pub IsToldTwice : Reading → Allowed → List ℕ → Option (List ℕ) → Option (List ℕ) → (failed now_failed : ℕ) → ToldFile → Type 0
 IsToldTwice reading limits name had text failed now_failed (judged report) =
     (report.name.now ≡ name) × ((left : Option (List ℕ)) × Finds reading limits had left report.finding) × HasSites reading limits text failed now_failed report
 IsToldTwice reading limits name had text failed now_failed (not_read told reason) = (told ≡ name) × (now_failed ≡ u64_saturate (failed + 1))
+IsToldTwice reading limits name had text failed now_failed (listed report lines) = ⊥

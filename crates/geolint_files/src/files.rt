@@ -45,6 +45,10 @@ pub fn spell(alloc: Global, name: &[u8]) -> io::Result<Spelled> {
 }
 
 impl Spelled {
+    pub fn as_str(&self) -> &str {
+        self.text.as_str()
+    }
+
     pub fn metadata(&self, rt: &HostRuntime) -> io::Result<Metadata> {
         fs::metadata(rt, self.text.as_str())
     }

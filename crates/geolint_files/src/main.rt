@@ -6,13 +6,16 @@
 #![tactic(auto)]
 
 mod arguments;
+mod every;
 mod files;
 mod formats;
+mod hints;
 mod judge;
 mod line;
 mod names;
 mod options;
 mod outcome;
+mod parts;
 mod progress;
 mod report;
 mod run;
@@ -26,12 +29,14 @@ mod words;
 use crate::arguments::{given_words, shown_words};
 use crate::formats::put_name;
 use crate::outcome::Outcome;
+use crate::parts::set_apart;
 use crate::run::{Failure, judge_all};
 use crate::walk::Others;
 use crate::words::{Order, order_in};
 use clap::Error;
 use clap::error::ErrorKind;
-use std::io::{self, BufWriter};
+use gj_manual::Topic;
+use std::io::{self, BufWriter, Write};
 use std::process::ExitCode;
 
 /// The status where nobody reads the report any more: the one that a shell gives for a program that SIGPIPE ends.
@@ -40,7 +45,7 @@ const NO_READER: u8 = 141;
 /// What keeps a run from its order.
 #[derive(Clone, Copy)]
 enum NoOrder {
-    /// Help or the version was asked for, and written.
+    /// Help, the version or the manual was asked for, and written.
     Answered,
     Usage,
     Failed,
@@ -53,10 +58,7 @@ enum NoOrder {
 /// words are wrong or that the report could not be written, and 141 that nobody reads it any more.
 fn main(rt: HostRuntime) -> ExitCode {
     match read_order(&rt) {
-        Ok(order) => match judge_to_output(&rt, &order) {
-            Ok(outcome) => ExitCode::from(outcome.status()),
-            Err(failure) => ExitCode::from(end_by(&rt, &failure)),
-        },
+        Ok(order) => ExitCode::from(run_order(&rt, &order)),
         Err(NoOrder::Answered) => ExitCode::from(0),
         Err(NoOrder::Usage) => ExitCode::from(2),
         Err(NoOrder::NoReader) => ExitCode::from(NO_READER),
@@ -64,6 +66,19 @@ fn main(rt: HostRuntime) -> ExitCode {
             let _ = eprintln!(rt; "geolint-files: out of memory");
             ExitCode::from(2)
         }
+    }
+}
+
+/// The status of a run. Where the features of a file are to be set apart, and were not, nothing is judged.
+fn run_order(rt: &HostRuntime, order: &Order) -> u8 {
+    if let Some(parts) = &order.parts
+        && !set_apart(rt, order, parts)
+    {
+        return 2;
+    }
+    match judge_to_output(rt, order) {
+        Ok(outcome) => outcome.status(),
+        Err(failure) => end_by(rt, &failure),
     }
 }
 
@@ -114,8 +129,25 @@ fn read_order(rt: &HostRuntime) -> Result<Order, NoOrder> {
         return Err(NoOrder::Failed);
     };
     match order_in(rt.alloc(), words.as_slice()) {
-        Ok(order) => Ok(order),
+        Ok(order) => match order.explained {
+            Some(topic) => Err(explain(rt, topic)),
+            None => Ok(order),
+        },
         Err(error) => Err(answer(rt, words.as_slice(), &error)),
+    }
+}
+
+/// Writes what a rule, a warning or a cause means.
+fn explain(rt: &HostRuntime, topic: Topic) -> NoOrder {
+    answered(rt.stdout().write_all(topic.text().as_bytes()))
+}
+
+/// Whether what was asked for was written.
+fn answered(written: io::Result<()>) -> NoOrder {
+    match written {
+        Ok(()) => NoOrder::Answered,
+        Err(error) if has_no_reader(&error) => NoOrder::NoReader,
+        Err(_) => NoOrder::Usage,
     }
 }
 
@@ -123,11 +155,7 @@ fn read_order(rt: &HostRuntime) -> Result<Order, NoOrder> {
 fn answer(rt: &HostRuntime, words: &[String], error: &Error) -> NoOrder {
     match error.kind() {
         ErrorKind::OutOfMemory => NoOrder::Failed,
-        ErrorKind::DisplayHelp | ErrorKind::DisplayVersion => match error.print(rt) {
-            Ok(()) => NoOrder::Answered,
-            Err(error) if has_no_reader(&error) => NoOrder::NoReader,
-            Err(_) => NoOrder::Usage,
-        },
+        ErrorKind::DisplayHelp | ErrorKind::DisplayVersion => answered(error.print(rt)),
         _ => say_wrong(rt, words),
     }
 }

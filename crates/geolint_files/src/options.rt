@@ -43,6 +43,16 @@ impl Kinds {
     }
 }
 
+/// What is told of each feature of a file, behind the file's own report.
+#[derive(Clone, Copy, Debug, PartialEq, Eq)]
+pub enum Every {
+    Nothing,
+    /// The fault of each that has one.
+    Faults,
+    /// That, and of each without a fault its kinds of warning.
+    Warnings,
+}
+
 /// How the files are judged and told.
 #[derive(Clone, Copy)]
 pub struct Options {
@@ -56,6 +66,9 @@ pub struct Options {
     pub framing: Option<Framing>,
     pub format: Format,
     pub summary: bool,
+    pub every: Every,
+    /// The most findings of features that are told of a file: all where it is 0.
+    pub most: u64,
 }
 
 impl Options {

@@ -4,6 +4,7 @@ use crate::judge::Finding;
 use crate::sites::{MOST_PLACES, Sites, Spot};
 use crate::texts::Code;
 use gj_coords::{KINDS, Kind, Warnings};
+use gj_hints::Hint;
 use gj_json::Path;
 use gj_rules::{SeqVerdict, Verdict};
 
@@ -15,6 +16,8 @@ pub struct Report<'a> {
     /// None where no place was sought.
     pub sites: Option<&'a Sites>,
     pub passes: bool,
+    /// What the file looks like, where its bytes show it. It is advice, and no part of the finding.
+    pub hint: Option<Hint>,
 }
 
 /// A fault or a kind of warning, and its place.

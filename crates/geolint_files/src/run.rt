@@ -10,10 +10,13 @@ ghost use Rattle.geolint_files.specs.Sites.{AreSitesIn};
 ghost use Rattle.geolint_files.specs.Told.{AreSought, AreSoughtFor};
 ghost use Rattle.geolint_files.specs.Walk.{first_named, is_input, is_input_path, takes_input_twice};
 
+mod features;
+
 use crate::files::{Spelled, is_lost_link, is_memory, look_up, reason, spell};
 use crate::formats::lines::Style;
 use crate::formats::sarif::Log;
 use crate::formats::{github, json, lines, put_name, text};
+use crate::hints::find_hint;
 use crate::judge::{Finding, Reading, judge};
 use crate::line::put;
 use crate::names::{Listed, NameEnd, Names};
@@ -26,6 +29,7 @@ use crate::source::{FileSource, FromRead, Rewind, Source};
 use crate::summary::Summary;
 use crate::walk::{Others, Pending, Walk, framing_of, is_taken};
 use crate::words::Order;
+use gj_hints::Hint;
 use gj_json::Limits;
 use gj_rules::{Framing, Linter};
 use std::alloc::AllocError;
@@ -179,7 +183,7 @@ fn style_of(rt: &HostRuntime, is_terminal: bool) -> Style {
 }
 
 impl<'a, W: Write + Drop> Run<'a, W> {
-    ghost use Rattle.std.specs.Prelude.{◌≡◌, [], ℕ, List, Option, IfOk, OnOk, IsSomeAnd, map};
+    ghost use Rattle.std.specs.Prelude.{◌≡◌, [], ℕ, List, Option, None, IfOk, OnOk, IsSomeAnd, map};
     ghost use Rattle.std.specs.Io.KnownBytes.{Appends, Keeps};
     ghost use Rattle.geolint_files.specs.declared.formats.lines.Style.{Style};
     ghost use Rattle.geolint_files.specs.declared.options.Options.{Options};
@@ -490,14 +494,22 @@ impl<'a, W: Write + Drop> Run<'a, W> {
     fn judge_stream<R: Read + Drop>(&mut self, name: &[u8], reader: R) -> Result<(), Failure>
         ensures { OnOk result (TellsFiles W.contents self.old self.new) }
     {
-        self.judge_once(name, &mut FromRead::new(reader))
+        let mut source = FromRead::new(reader);
+        match self.asked_for(name) {
+            Some(asked) => self.list_once(name, &mut source, asked),
+            None => self.judge_once(name, &mut source),
+        }
     }
 
     /// Judges a file, and reads it again for the lines of what is told.
     fn judge_file(&mut self, name: &[u8], file: File) -> Result<(), Failure>
         ensures { OnOk result (TellsFiles W.contents self.old self.new) }
     {
-        self.judge_twice(name, &mut FileSource::new(file))
+        let mut source = FileSource::new(file);
+        match self.asked_for(name) {
+            Some(asked) => self.list_twice(name, &mut source, asked),
+            None => self.judge_twice(name, &mut source),
+        }
     }
 
     /// Tells what a source has. No line is known of its places.
@@ -548,7 +560,8 @@ impl<'a, W: Write + Drop> Run<'a, W> {
         source: &mut S,
         reading: Reading,
     ) -> Result<(), Failure>
-        ensures { OnOk result ((report : Report) × (report.name.now ≡ name.now) × (report.finding ≡ finding)
+        ensures text { S.text source.new ≡ S.text source.old }
+        ensures told { OnOk result ((report : Report) × (report.name.now ≡ name.now) × (report.finding ≡ finding)
             × HasSites reading self.old.options.limits (S.text source.old) (S.failed_reads source.old) (S.failed_reads source.new) report
             × TellsFile W.contents (judged report) self.old self.new) }
     {
@@ -570,7 +583,8 @@ impl<'a, W: Write + Drop> Run<'a, W> {
         source: &mut S,
         reading: Reading,
     ) -> Result<(), Failure>
-        ensures { OnOk result ((report : Report) × (report.name.now ≡ name.now) × (report.finding ≡ finding)
+        ensures text { S.text source.new ≡ S.text source.old }
+        ensures told { OnOk result ((report : Report) × (report.name.now ≡ name.now) × (report.finding ≡ finding)
             × IsSomeAnd report.sites (λ sites. AreSought finding reading self.old.options.limits (S.text source.old) (S.failed_reads source.old) (S.failed_reads source.new) sites.now)
             × TellsFile W.contents (judged report) self.old self.new) }
     {
@@ -581,7 +595,8 @@ impl<'a, W: Write + Drop> Run<'a, W> {
             self.options.limits,
             &mut self.progress,
         );
-        self.tell(name, finding, Some(&sites))
+        let hint = find_hint(&finding, self.linter, source);
+        self.tell_with_hint(name, finding, Some(&sites), hint)
     }
 
     /// Tells a file that was judged.
@@ -591,6 +606,26 @@ impl<'a, W: Write + Drop> Run<'a, W> {
           finding = finding;
           sites = sites.entry;
           passes = passes self.old.options.strict self.old.options.allowed finding;
+          hint = None;
+        })) self.old self.new) }
+    {
+        self.tell_with_hint(name, finding, sites, None)
+    }
+
+    /// Tells a file that was judged, and what it looks like.
+    fn tell_with_hint(
+        &mut self,
+        name: &[u8],
+        finding: Finding,
+        sites: Option<&Sites>,
+        hint: Option<Hint>,
+    ) -> Result<(), Failure>
+        ensures { OnOk result (TellsFile W.contents (judged (record {
+          name = name.entry;
+          finding = finding;
+          sites = sites.entry;
+          passes = passes self.old.options.strict self.old.options.allowed finding;
+          hint = hint;
         })) self.old self.new) }
     {
         self.progress.clear();
@@ -602,6 +637,7 @@ impl<'a, W: Write + Drop> Run<'a, W> {
             finding,
             sites,
             passes,
+            hint,
         };
         self.put(&report)?;
         self.write()?;
@@ -694,7 +730,8 @@ fn find_sites<S: Rewind>(
     limits: Limits,
     meter: &mut Meter,
 ) -> Sites
-    ensures { AreSought finding.now reading limits (S.text source.old) (S.failed_reads source.old) (S.failed_reads source.new) result }
+    ensures text { S.text source.new ≡ S.text source.old }
+    ensures sought { AreSought finding.now reading limits (S.text source.old) (S.failed_reads source.old) (S.failed_reads source.new) result }
 {
     match read_sites(finding, source, reading, limits, meter) {
         Ok(sites) => sites,
@@ -713,6 +750,7 @@ fn read_sites<S: Rewind>(
     ensures sites { IfOk result (AreSitesIn limits (framing_in reading) (S.text source.old)) }
     ensures places { IfOk result (AreSoughtFor finding.now) }
     ensures failed { CountsFailure (S.failed_reads source.old) (S.failed_reads source.new) result }
+    ensures text { S.text source.new ≡ S.text source.old }
 {
     meter.read_again();
     source.rewind()?;

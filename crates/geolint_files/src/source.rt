@@ -1,13 +1,14 @@
 //! What the bytes of a file are read from.
 
-ghost use Rattle.std.specs.Prelude.{◌≡◌, ℕ, List, Option, None, OnOk};
+ghost use Rattle.std.specs.Prelude.{◌≡◌, ◌≤◌, ℕ, List, Option, None, OnOk, length};
 ghost use Rattle.std.specs.Io.{ReadsAtMost};
 ghost use Rattle.std.specs.Io.KnownBytes.{ReadConsumes};
 ghost use Rattle.geolint_files.specs.Judged.{CountsFailure};
+ghost use Rattle.geolint_files.specs.Every.{GivesFrom};
 
 use std::fs::{File, Metadata};
 use std::io::{self, ErrorKind, Read, Seek, SeekFrom};
-use std::os::unix::fs::MetadataExt;
+use std::os::unix::fs::{FileExt, MetadataExt};
 
 /// What bytes are read from, piece by piece.
 ///
@@ -41,6 +42,19 @@ pub trait Rewind: Source {
         ensures bytes { OnOk result (Self.remaining self.new ≡ Self.text self.old) }
         ensures text { Self.text self.new ≡ Self.text self.old }
         ensures failed { CountsFailure (Self.failed_reads self.old) (Self.failed_reads self.new) result };
+
+    /// Reads into the front of the piece from a place on, and answers how many bytes came: 0 into a piece with room only where no
+    /// byte is there. On an error no byte came. It says nothing of what the next read gives.
+    fn read_from(&mut self, place: u64, piece: &mut [u8]) -> io::Result<usize>
+        ensures bound { ReadsAtMost result piece.new }
+        ensures bytes { GivesFrom (Self.text self.old) place result piece.new }
+        ensures text { Self.text self.new ≡ Self.text self.old }
+        ensures failed { CountsFailure (Self.failed_reads self.old) (Self.failed_reads self.new) result };
+
+    /// Looks at the bytes from a place on: how many came into the front of the piece, none where that failed. The next read
+    /// gives what it gave without this, and no failure is counted.
+    fn peek(&self, place: u64, piece: &mut [u8]) -> usize
+        ensures { result ≤ length piece.new };
 
     /// An error where the bytes may be others than those of the first reading.
     fn expect_unchanged(&mut self) -> io::Result<()>
@@ -149,6 +163,20 @@ impl Rewind for FileSource {
                 Err(error)
             }
         }
+    }
+
+    fn read_from(&mut self, place: u64, piece: &mut [u8]) -> io::Result<usize> {
+        match self.file.read_at(piece, place) {
+            Ok(count) => Ok(count),
+            Err(error) => {
+                self.failed_reads = self.failed_reads.saturating_add(1);
+                Err(error)
+            }
+        }
+    }
+
+    fn peek(&self, place: u64, piece: &mut [u8]) -> usize {
+        self.file.read_at(piece, place).unwrap_or(0)
     }
 
     fn expect_unchanged(&mut self) -> io::Result<()> {

@@ -2,16 +2,21 @@
 
 use crate::arguments::to_bytes;
 use crate::names::NameEnd;
-use crate::options::{Format, Kinds, Options};
+use crate::options::{Every, Format, Kinds, Options};
+use crate::walk::framing_of;
 use clap::error::ErrorKind;
 use clap::{Arg, ArgAction, ArgMatches, Command, Error, value_parser};
 use gj_coords::{KINDS, Kind};
 use gj_json::Limits;
+use gj_manual::{Topic, named};
 use gj_rules::Framing;
 use std::alloc::{AllocError, Global};
 
 /// The most bytes that a file may have.
 const MOST_BYTES: i64 = 1 << 60;
+
+/// The most findings of features that are told of a file, where nothing is said.
+const MOST_TOLD: u64 = 1000;
 
 const VERSION: &str = "0.1.0";
 
@@ -34,6 +39,7 @@ Exit status:
 Examples:
   geolint-files data
   geolint-files --strict --allow W4,W9 --summary data
+  geolint-files --explain G15
   geolint-files --format json data | jq -r 'select(.passes | not) | .path'
   git ls-files -z '*.geojson' | geolint-files --null --files-from -";
 
@@ -41,6 +47,8 @@ Examples:
 #[derive(Drop)]
 pub struct Order {
     pub options: Options,
+    /// What is to be explained, in place of a run.
+    pub explained: Option<Topic>,
     /// What is to be judged, as it was given.
     pub paths: Vec<Vec<u8>>,
     /// The file with more names.
@@ -50,6 +58,17 @@ pub struct Order {
     pub endings: Vec<Vec<u8>>,
     /// A call in which no file is judged is no failure.
     pub allows_empty: bool,
+    /// Where the features of the file are written.
+    pub parts: Option<Parts>,
+}
+
+/// The files that the features of a file are set apart into.
+#[derive(Drop)]
+pub struct Parts {
+    /// What their names begin with.
+    pub prefix: Vec<u8>,
+    /// Files of these names are written over.
+    pub overwrites: bool,
 }
 
 /// The order that the words give.
@@ -72,7 +91,9 @@ fn command<'a>(alloc: Global) -> Result<Command<'a>, AllocError> {
     let command = with_warnings(alloc, command)?;
     let command = with_reading(alloc, command)?;
     let command = with_report(alloc, command)?;
-    with_files(alloc, command)
+    let command = with_parts(alloc, command)?;
+    let command = with_files(alloc, command)?;
+    with_manual(alloc, command)
 }
 
 fn with_warnings<'a>(alloc: Global, command: Command<'a>) -> Result<Command<'a>, AllocError> {
@@ -129,7 +150,51 @@ fn with_report<'a>(alloc: Global, command: Command<'a>) -> Result<Command<'a>, A
         .long("summary")
         .help("Say at the end how many files are what, and the rules by count")
         .action(ArgAction::SetTrue);
-    command.arg(summary)
+    let command = command.arg(summary)?;
+    with_features(alloc, command)
+}
+
+fn with_features<'a>(alloc: Global, command: Command<'a>) -> Result<Command<'a>, AllocError> {
+    let every = Arg::new(alloc, "every")
+        .long("every")
+        .value_name("WHAT")
+        .help(
+            "Tell each feature with a fault; of the others also each kind of warning, as --every=warnings",
+        )
+        .num_args(0..=1)
+        .require_equals(true)
+        .default_missing_value("faults")
+        .value_parser(["faults", "warnings"].as_slice())
+        .action(ArgAction::Set)
+        .conflicts_with("quick")?;
+    let command = command.arg(every)?;
+    let most = Arg::new(alloc, "most")
+        .long("most")
+        .value_name("N")
+        .help(
+            "Under --every, tell no more of a file than so many, and say how many others there are: 0 for all",
+        )
+        .value_parser(value_parser!(u64))
+        .default_value("1000")
+        .action(ArgAction::Set);
+    command.arg(most)
+}
+
+fn with_parts<'a>(alloc: Global, command: Command<'a>) -> Result<Command<'a>, AllocError> {
+    let split = Arg::new(alloc, "split")
+        .long("split")
+        .value_name("PREFIX")
+        .help(
+            "Also write the features of the one file to PREFIX.valid.geojsons and PREFIX.broken.geojsons, and to PREFIX.broken.json what is wrong",
+        )
+        .action(ArgAction::Set);
+    let command = command.arg(split)?;
+    let force = Arg::new(alloc, "force")
+        .long("force")
+        .help("Write over the files of --split")
+        .action(ArgAction::SetTrue)
+        .requires_arg("split")?;
+    command.arg(force)
 }
 
 fn with_files<'a>(alloc: Global, command: Command<'a>) -> Result<Command<'a>, AllocError> {
@@ -171,12 +236,29 @@ fn with_files<'a>(alloc: Global, command: Command<'a>) -> Result<Command<'a>, Al
     command.arg(path)
 }
 
+fn with_manual<'a>(alloc: Global, command: Command<'a>) -> Result<Command<'a>, AllocError> {
+    let explain = Arg::new(alloc, "explain")
+        .long("explain")
+        .value_name("CODE")
+        .help("Say what a rule, a warning or a cause means, as G15, W5 or J1, and judge nothing")
+        .action(ArgAction::Set);
+    command.arg(explain)
+}
+
 /// What was asked for, or the line on a word that is wrong.
 fn order_of(alloc: Global, given: &ArgMatches<'_>) -> Result<Result<Order, String>, AllocError> {
     let options = match options_of(given) {
         Ok(options) => options,
         Err(word) => {
             return Ok(Err(format!(in alloc; "invalid value '{word}' for '--allow <KINDS>'")?));
+        }
+    };
+    let explained = match explained_in(given) {
+        Ok(explained) => explained,
+        Err(word) => {
+            return Ok(Err(format!(in alloc;
+                "invalid value '{word}' for '--explain <CODE>': the codes are G1 to G21, W1 to W9 and J1 to J4"
+            )?));
         }
     };
     let mut endings = Vec::new(alloc);
@@ -201,18 +283,63 @@ fn order_of(alloc: Global, given: &ArgMatches<'_>) -> Result<Result<Order, Strin
     if paths.is_empty() && list.is_none() {
         paths.push(Vec::from_slice(alloc, b"-")?)?;
     }
+    if let Some(wrong) = wrong_split(given, paths.as_slice(), list.is_some()) {
+        return Ok(Err(String::from_str(alloc, wrong)?));
+    }
+    let parts = match given.get_str("split") {
+        Some(prefix) => Some(Parts {
+            prefix: to_bytes(alloc, prefix)?,
+            overwrites: given.get_flag("force"),
+        }),
+        None => None,
+    };
     let name_end = match given.get_flag("null") {
         true => NameEnd::Nul,
         false => NameEnd::Lf,
     };
     Ok(Ok(Order {
         options,
+        explained,
         paths,
         list,
         name_end,
         endings,
         allows_empty: given.get_flag("allow-empty"),
+        parts,
     }))
+}
+
+/// What is to be explained, or a word that is no code.
+fn explained_in<'a>(given: &ArgMatches<'a>) -> Result<Option<Topic>, &'a str> {
+    match given.get_str("explain") {
+        Some(word) => match named(word) {
+            Some(topic) => Ok(Some(topic)),
+            None => Err(word),
+        },
+        None => Ok(None),
+    }
+}
+
+/// Why the features of what is named are not set apart.
+fn wrong_split(given: &ArgMatches<'_>, paths: &[Vec<u8>], has_list: bool) -> Option<&'static str> {
+    if given.get_str("split").is_none() {
+        return None;
+    }
+    match paths {
+        [path] if !has_list => match path.as_slice() {
+            b"-" => Some(
+                "'--split <PREFIX>' needs a file, which it reads twice: write standard input to one first",
+            ),
+            name
+                if given.get_flag("seq")
+                    || given.get_flag("ndjson")
+                    || framing_of(name).is_some() => {
+                Some("'--split <PREFIX>' takes one text, and no file of records or lines")
+            }
+            _ => None,
+        },
+        _ => Some("'--split <PREFIX>' takes one file"),
+    }
 }
 
 /// An ending with its dot, which may be left out: none for one with no more than a dot, or with a slash.
@@ -240,6 +367,8 @@ fn options_of<'a>(given: &ArgMatches<'a>) -> Result<Options, &'a str> {
         framing: framing_in(given),
         format: format_in(given),
         summary: given.get_flag("summary"),
+        every: every_in(given),
+        most: most_in(given),
     })
 }
 
@@ -251,6 +380,21 @@ fn framing_in(given: &ArgMatches<'_>) -> Option<Framing> {
         Some(Framing::Lines)
     } else {
         None
+    }
+}
+
+fn every_in(given: &ArgMatches<'_>) -> Every {
+    match given.get_str("every") {
+        Some("warnings") => Every::Warnings,
+        Some(_) => Every::Faults,
+        None => Every::Nothing,
+    }
+}
+
+fn most_in(given: &ArgMatches<'_>) -> u64 {
+    match given.get_one::<u64>("most") {
+        Some(most) => most,
+        None => MOST_TOLD,
     }
 }
 

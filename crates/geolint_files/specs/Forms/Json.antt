@@ -5,6 +5,8 @@ use Rattle.std.specs.List.{flat_map}
 use Rattle.gj_coords.specs.declared.kind.Kind.{Kind}
 use Rattle.gj_coords.specs.declared.warnings.Warnings.{Warnings}
 use Rattle.gj_coords.specs.Warnings.{kinds}
+use Rattle.gj_hints.specs.declared.kind.Hint.{Hint}
+use Rattle.gj_hints.specs.Texts.{text_of}
 use Rattle.gj_json.specs.declared.path.Path.{Path}
 use Rattle.gj_json.specs.declared.path.PathStep.{PathStep}
 use Rattle.gj_json.specs.Path.{steps_of}
@@ -52,6 +54,14 @@ abbrev pub json_fault : Report → Option Told → List ℕ
 json_fault report (Some told) = json_placed report told
 json_fault report None = json_nothing
 
+unfoldable pub json_hint_text : Hint → List ℕ
+json_hint_text hint = codes ",\"hint\":\"" ++ (text_of hint ++ codes "\"")
+
+-- what the file looks like
+abbrev pub json_hint : Option Hint → List ℕ
+json_hint (Some hint) = json_hint_text hint
+json_hint None = codes ",\"hint\":null"
+
 -- the object of a kind of warning, which is given so often
 unfoldable pub json_object : Report → Told → ℕ → List ℕ
 json_object report told count = codes "{\"count\":" ++ (decimal count ++ (json_placed report told ++ codes "}"))
@@ -84,11 +94,12 @@ json_warnings_of report None = []
 unfoldable pub json_line : List ℕ → Report → List ℕ
 json_line name report =
     json_head name report.finding report.passes
-    ++ (json_fault report (fault_of report.finding) ++ (codes ",\"warnings\":[" ++ (json_warnings_of report (warnings_of report.finding) ++ codes "]}\n")))
+    ++ (json_fault report (fault_of report.finding)
+    ++ (json_hint report.hint ++ (codes ",\"warnings\":[" ++ (json_warnings_of report (warnings_of report.finding) ++ codes "]}\n"))))
 
 -- the line of a file that could not be opened or read
 unfoldable pub json_unread : List ℕ → List ℕ → List ℕ
 json_unread name reason =
     codes "{\"path\":"
     ++ (name ++ (codes ",\"verdict\":\"not read\",\"passes\":false,\"record\":null,\"records\":null,\"rule\":null,\"text\":"
-    ++ (reason ++ codes ",\"offset\":null,\"line\":null,\"column\":null,\"json_path\":null,\"warnings\":[]}\n")))
+    ++ (reason ++ codes ",\"offset\":null,\"line\":null,\"column\":null,\"json_path\":null,\"hint\":null,\"warnings\":[]}\n")))

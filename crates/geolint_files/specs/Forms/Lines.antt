@@ -6,6 +6,8 @@ use Rattle.unicode_width.specs.Width.{str_width}
 use Rattle.gj_coords.specs.declared.kind.Kind.{Kind}
 use Rattle.gj_coords.specs.declared.warnings.Warnings.{Warnings}
 use Rattle.gj_coords.specs.Warnings.{kinds}
+use Rattle.gj_hints.specs.declared.kind.Hint.{Hint}
+use Rattle.gj_hints.specs.Texts.{text_of}
 use Rattle.gj_json.specs.declared.path.Path.{Path}
 use Rattle.gj_json.specs.Path.{steps_of}
 use Rattle.gj_places.specs.declared.excerpt.Excerpt.{Excerpt}
@@ -126,7 +128,16 @@ IsExcerpt style (Some spot) (Some excerpt) bytes = (text : List ℕ) × (columns
 IsExcerpt style (Some spot) None bytes = ⊥
 IsExcerpt style None excerpt bytes = bytes ≡ []
 
--- ---- the lines of a file
+-- ---- what the file looks like
+
+unfoldable pub hint_line : Hint → List ℕ
+hint_line hint = codes "    hint: " ++ (text_of hint ++ codes "\n")
+
+abbrev pub lines_hint : Option Hint → List ℕ
+lines_hint (Some hint) = hint_line hint
+lines_hint None = []
+
+-- ---- the lines of a file, before that
 
 abbrev pub AreLines : Style → Report → Option Told → List ℕ → Type 0
 AreLines style report (Some told) bytes =

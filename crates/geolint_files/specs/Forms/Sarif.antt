@@ -150,10 +150,13 @@ next_unread before name reason = break_unless (is_nothing before) ++ sarif_unrea
 unfoldable pub name_and_text : Code → List ℕ
 name_and_text code = code_name code ++ (codes ": " ++ code_text code)
 
+unfoldable pub explained : Code → List ℕ
+explained code = name_and_text code ++ (codes " (geolint-files --explain " ++ (code_name code ++ codes ")"))
+
 -- the section of docs/rules.md
 abbrev pub section_of : Code → List ℕ
 section_of Code.NotValid = codes "what geolint says"
-section_of code = name_and_text code
+section_of code = explained code
 
 unfoldable pub sarif_rule : Code → List ℕ → List ℕ
 sarif_rule code level =

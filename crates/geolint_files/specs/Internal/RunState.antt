@@ -3,10 +3,11 @@ use Rattle.std.specs.Prelude.{◌≡◌, ℕ, true, List, [], ◌∷◌, ◌++�
 use Rattle.std.specs.Io.KnownBytes.{Appends, Keeps}
 use Rattle.geolint_files.specs.declared.formats.lines.Style.{Style}
 use Rattle.geolint_files.specs.declared.options.Options.{Options}
+use Rattle.geolint_files.specs.declared.report.Report.{Report}
 use Rattle.geolint_files.specs.declared.run.Run.{Run}
 use Rattle.geolint_files.specs.Finding.{worst}
 use Rattle.geolint_files.specs.Internal.FileCounts.{Counts}
-use Rattle.geolint_files.specs.Run.{ToldFile, finding_in, worst_of, Written, AddsFiles, begun}
+use Rattle.geolint_files.specs.Run.{ToldFile, listed, FeatureLine, finding_in, worst_of, Written, AddsFiles, begun}
 
 -- `held` is what the writer had before the run, and `contents` what a writer has
 pub record HasTold {W : Type 0} (contents : W → Option (List ℕ)) (held : Option (List ℕ)) (options : Options) (style : Style) (files : List ToldFile) (run : Run W) : Type 0 where
@@ -34,6 +35,11 @@ pub record IsFresh {W : Type 0} (contents : W → Option (List ℕ)) (held : Opt
 pub record TellsFile {W : Type 0} (contents : W → Option (List ℕ)) (file : ToldFile) (old new : Run W) : Type 0 where
   pub tells : (held : Option (List ℕ)) (options : Options) (style : Style) (files : List ToldFile)
       → HasTold contents held options style files old → HasTold contents held options style (files ++ file ∷ []) new
+
+-- a call told more lines of the features of the last file
+pub record TellsLines {W : Type 0} (contents : W → Option (List ℕ)) (lines : List FeatureLine) (old new : Run W) : Type 0 where
+  pub tells : (held : Option (List ℕ)) (options : Options) (style : Style) (files : List ToldFile) (report : Report) (before : List FeatureLine)
+      → HasTold contents held options style (files ++ listed report before ∷ []) old → HasTold contents held options style (files ++ listed report (before ++ lines) ∷ []) new
 
 -- it told some more, or none
 pub record TellsFiles {W : Type 0} (contents : W → Option (List ℕ)) (old new : Run W) : Type 0 where

@@ -94,7 +94,12 @@ fn put_not_valid(alloc: Global, name: &[u8], line: &mut Vec<u8>) -> Result<(), A
 }
 
 /// The level and the file, as its name is shown.
-fn put_file(alloc: Global, level: &[u8], name: &[u8], line: &mut Vec<u8>) -> Result<(), AllocError>
+pub fn put_file(
+    alloc: Global,
+    level: &[u8],
+    name: &[u8],
+    line: &mut Vec<u8>,
+) -> Result<(), AllocError>
     ensures { OnOk result (Adds line.old line.new (github_file level.now name.now)) }
 {
     put_all(line, &[b"::", level, b" file="])?;
@@ -120,7 +125,7 @@ fn put_command(
     put_message(report, told, count, line)
 }
 
-fn put_spot(spot: Option<Spot>, line: &mut Vec<u8>) -> Result<(), AllocError>
+pub fn put_spot(spot: Option<Spot>, line: &mut Vec<u8>) -> Result<(), AllocError>
     ensures { OnOk result (Adds line.old line.new (github_spot spot)) }
 {
     match spot {
@@ -203,7 +208,7 @@ fn put_byte_in_property(byte: u8, line: &mut Vec<u8>) -> Result<(), AllocError>
     }
 }
 
-fn put_in_message(text: &[u8], line: &mut Vec<u8>) -> Result<(), AllocError>
+pub fn put_in_message(text: &[u8], line: &mut Vec<u8>) -> Result<(), AllocError>
     ensures { OnOk result (Adds line.old line.new (flat_map escaped_in_message text.now)) }
 {
     for byte in text {

@@ -3,7 +3,7 @@ ghost use Rattle.std.specs.Prelude.{◌≡◌, ◌&&◌, ℕ, List, OnOk, IfOk};
 ghost use Rattle.gj_json.specs.Path.{steps_of};
 ghost use Rattle.gj_places.specs.Strings.{SpellsString};
 ghost use Rattle.geolint_files.specs.Finding.{word_of, record_of, records_of, fault_of, warnings_of};
-ghost use Rattle.geolint_files.specs.Forms.Json.{json_spot, json_path, json_path_string, json_told, json_head, json_nothing, json_placed, json_fault, json_object, json_kind, json_warnings, json_warnings_of, json_line, json_unread};
+ghost use Rattle.geolint_files.specs.Forms.Json.{json_spot, json_path, json_path_string, json_told, json_head, json_nothing, json_placed, json_fault, json_hint, json_hint_text, json_object, json_kind, json_warnings, json_warnings_of, json_line, json_unread};
 ghost use Rattle.geolint_files.specs.Internal.WrittenCommas.{is_none_yet, next_items, comma_unless};
 ghost use Rattle.geolint_files.specs.Line.{Adds, optional_number};
 
@@ -13,6 +13,7 @@ use crate::line::{put, put_all, put_number, put_optional, put_truth};
 use crate::report::{Report, Told, warning};
 use crate::sites::Spot;
 use gj_coords::{KINDS, Kind, Warnings};
+use gj_hints::Hint;
 use gj_json::Path;
 use gj_places::json_string;
 use itoa::Buffer;
@@ -32,6 +33,7 @@ fn put_line(name: &[u8], report: &Report<'_>, line: &mut Vec<u8>) -> Result<(), 
 {
     put_head(name, &report.finding, report.passes, line)?;
     put_fault(report, line)?;
+    put_hint(report.hint, line)?;
     put(line, b",\"warnings\":[")?;
     put_all_warnings(report, line)?;
     put(line, b"]}\n")
@@ -44,6 +46,23 @@ fn put_fault(report: &Report<'_>, line: &mut Vec<u8>) -> Result<(), AllocError>
         Some(told) => put_placed(report, &told, line),
         None => put_nothing(line),
     }
+}
+
+/// What the file looks like, where its bytes show it. The text has no character that a JSON string escapes.
+fn put_hint(hint: Option<Hint>, line: &mut Vec<u8>) -> Result<(), AllocError>
+    ensures { OnOk result (Adds line.old line.new (json_hint hint)) }
+{
+    match hint {
+        Some(hint) => put_hint_text(hint, line),
+        None => put(line, b",\"hint\":null"),
+    }
+}
+
+#[tactic(auto, unfolding(crate::specs::Forms::Json::json_hint_text))]
+fn put_hint_text(hint: Hint, line: &mut Vec<u8>) -> Result<(), AllocError>
+    ensures { OnOk result (Adds line.old line.new (json_hint_text hint)) }
+{
+    put_all(line, &[b",\"hint\":\"", hint.text().as_bytes(), b"\""])
 }
 
 /// The members where no rule is broken.
@@ -170,7 +189,7 @@ fn put_placed(report: &Report<'_>, told: &Told, line: &mut Vec<u8>) -> Result<()
 }
 
 /// The members for what is told at a place. Texts and paths have no character that a JSON string escapes.
-fn put_told(
+pub fn put_told(
     told: &Told,
     spot: Option<Spot>,
     path: Option<Path>,
@@ -253,6 +272,6 @@ fn put_unread_line(name: &[u8], reason: &[u8], line: &mut Vec<u8>) -> Result<(),
     put(line, reason)?;
     put(
         line,
-        b",\"offset\":null,\"line\":null,\"column\":null,\"json_path\":null,\"warnings\":[]}\n",
+        b",\"offset\":null,\"line\":null,\"column\":null,\"json_path\":null,\"hint\":null,\"warnings\":[]}\n",
     )
 }

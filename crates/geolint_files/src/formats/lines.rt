@@ -3,7 +3,7 @@ ghost use Rattle.std.specs.Prelude.{◌≡◌, ◌||◌, ◌++◌, ℕ, List, On
 ghost use Rattle.std.specs.Fmt.{decimal};
 ghost use Rattle.gj_places.specs.declared.excerpt.Excerpt.{Excerpt};
 ghost use Rattle.geolint_files.specs.Finding.{word_of, fault_of, warnings_of, record_of};
-ghost use Rattle.geolint_files.specs.Forms.Lines.{beginning, ending, and_spot, lines_place, lines_code, record_detail, times_detail, byte_detail, path_detail, details, in_parentheses, lines_line, lines_warning, lines_kind, lines_warnings, lines_not_valid, lines_rest, lines_excerpt, IsShown, IsExcerpt, AreLines};
+ghost use Rattle.geolint_files.specs.Forms.Lines.{beginning, ending, and_spot, lines_place, lines_code, record_detail, times_detail, byte_detail, path_detail, details, in_parentheses, lines_line, lines_warning, lines_kind, lines_warnings, lines_not_valid, lines_rest, lines_excerpt, hint_line, lines_hint, IsShown, IsExcerpt, AreLines};
 ghost use Rattle.geolint_files.specs.Internal.WrittenDetails.{next_details, has_details, separator, end};
 ghost use Rattle.geolint_files.specs.Line.{Adds};
 ghost use Rattle.geolint_files.specs.Report.{spot_of, excerpt_in, path_of};
@@ -14,6 +14,7 @@ use crate::report::{Report, Told, warning};
 use crate::sites::Spot;
 use crate::texts::Code;
 use gj_coords::{KINDS, Kind, Warnings};
+use gj_hints::Hint;
 use gj_json::Path;
 use gj_places::Excerpt;
 use itoa::Buffer;
@@ -28,7 +29,7 @@ pub enum Style {
 
 /// The part of a line.
 #[derive(Clone, Copy)]
-enum Part {
+pub enum Part {
     Name,
     Fault,
     Warning,
@@ -57,13 +58,13 @@ fn ending(style: Style) -> &'static [u8]
     }
 }
 
-fn put_beginning(part: Part, style: Style, line: &mut Vec<u8>) -> Result<(), AllocError>
+pub fn put_beginning(part: Part, style: Style, line: &mut Vec<u8>) -> Result<(), AllocError>
     ensures { OnOk result (Adds line.old line.new (beginning part style)) }
 {
     put(line, beginning(part, style))
 }
 
-fn put_ending(style: Style, line: &mut Vec<u8>) -> Result<(), AllocError>
+pub fn put_ending(style: Style, line: &mut Vec<u8>) -> Result<(), AllocError>
     ensures { OnOk result (Adds line.old line.new (ending style)) }
 {
     put(line, ending(style))
@@ -76,12 +77,43 @@ pub fn put_report(
     style: Style,
     line: &mut Vec<u8>,
 ) -> Result<(), AllocError>
+    ensures { OnOk result ((bytes : List ℕ) × AreLines style report.now (fault_of report.now.finding) bytes
+        × Adds line.old line.new (bytes ++ lines_hint report.now.hint)) }
+{
+    put_finding(alloc, report, style, line)?;
+    put_hint(report.hint, line)
+}
+
+/// The lines of what was found.
+fn put_finding(
+    alloc: Global,
+    report: &Report<'_>,
+    style: Style,
+    line: &mut Vec<u8>,
+) -> Result<(), AllocError>
     ensures { OnOk result ((bytes : List ℕ) × AreLines style report.now (fault_of report.now.finding) bytes × Adds line.old line.new bytes) }
 {
     match report.finding.fault() {
         Some(told) => put_fault(alloc, report, &told, style, line),
         None => put_rest(report, style, line),
     }
+}
+
+/// What the file looks like, where its bytes show it.
+fn put_hint(hint: Option<Hint>, line: &mut Vec<u8>) -> Result<(), AllocError>
+    ensures { OnOk result (Adds line.old line.new (lines_hint hint)) }
+{
+    match hint {
+        Some(hint) => put_hint_line(hint, line),
+        None => Ok(()),
+    }
+}
+
+#[tactic(auto, unfolding(crate::specs::Forms::Lines::hint_line))]
+fn put_hint_line(hint: Hint, line: &mut Vec<u8>) -> Result<(), AllocError>
+    ensures { OnOk result (Adds line.old line.new (hint_line hint)) }
+{
+    put_all(line, &[b"    hint: ", hint.text().as_bytes(), b"\n"])
 }
 
 fn put_fault(
@@ -197,7 +229,7 @@ fn put_place(
     put(line, b": ")
 }
 
-fn put_spot(spot: Option<Spot>, line: &mut Vec<u8>) -> Result<(), AllocError>
+pub fn put_spot(spot: Option<Spot>, line: &mut Vec<u8>) -> Result<(), AllocError>
     ensures { OnOk result (Adds line.old line.new (and_spot spot)) }
 {
     match spot {
@@ -218,7 +250,7 @@ fn put_spot(spot: Option<Spot>, line: &mut Vec<u8>) -> Result<(), AllocError>
     }
 }
 
-fn put_code(code: Code, style: Style, line: &mut Vec<u8>) -> Result<(), AllocError>
+pub fn put_code(code: Code, style: Style, line: &mut Vec<u8>) -> Result<(), AllocError>
     ensures { OnOk result (Adds line.old line.new (lines_code style code)) }
 {
     put(line, b" ")?;

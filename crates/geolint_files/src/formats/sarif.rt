@@ -4,7 +4,7 @@ ghost use Rattle.std.specs.List.{flat_map};
 ghost use Rattle.gj_json.specs.Path.{steps_of};
 ghost use Rattle.geolint_files.specs.Finding.{record_of};
 ghost use Rattle.geolint_files.specs.Forms.Messages.{and_record};
-ghost use Rattle.geolint_files.specs.Forms.Sarif.{is_plain_in_uri, percent_of, in_uri, scheme_of, uri_of, id_of, sarif_message, location, region_start, region_start_of, region, region_if, logical_location, logical_location_of, sarif_result, break_unless, sarif_unread, name_and_text, section_of, sarif_rule, rule_and_break, break_and_warning, sarif_rules, sarif_causes, sarif_kinds};
+ghost use Rattle.geolint_files.specs.Forms.Sarif.{is_plain_in_uri, percent_of, in_uri, scheme_of, uri_of, id_of, sarif_message, location, region_start, region_start_of, region, region_if, logical_location, logical_location_of, sarif_result, break_unless, sarif_unread, name_and_text, explained, section_of, sarif_rule, rule_and_break, break_and_warning, sarif_rules, sarif_causes, sarif_kinds};
 ghost use Rattle.geolint_files.specs.Line.{Adds};
 ghost use Rattle.geolint_files.specs.Report.{spot_of};
 
@@ -29,10 +29,10 @@ pub struct Log {
 }
 
 impl Log {
-    ghost use Rattle.std.specs.Prelude.{◌≡◌, ◌&&◌, ◌++◌, ◌∷◌, [], ℕ, List, OnOk, true};
+    ghost use Rattle.std.specs.Prelude.{◌≡◌, ◌&&◌, ◌++◌, ◌∷◌, [], ℕ, List, OnOk, true, false};
     ghost use Rattle.gj_places.specs.Strings.{SpellsString};
     ghost use Rattle.geolint_files.specs.Finding.{warnings_of};
-    ghost use Rattle.geolint_files.specs.Forms.Sarif.{sarif_result, sarif_kind, sarif_warnings, sarif_rest, sarif_told, next_results, next_unread, sarif_begin, sarif_end, is_nothing};
+    ghost use Rattle.geolint_files.specs.Forms.Sarif.{sarif_result, break_unless, sarif_kind, sarif_warnings, sarif_rest, sarif_told, next_results, next_unread, sarif_begin, sarif_end, is_nothing};
     ghost use Rattle.geolint_files.specs.Internal.WrittenCommas.{is_none_yet};
     ghost use Rattle.geolint_files.specs.Line.{Adds};
 
@@ -150,9 +150,19 @@ impl Log {
         ensures first { OnOk result (self.new.is_first ≡ (self.old.is_first && is_none_yet (sarif_result report.now level.now told.now count ∷ []))) }
         ensures unread { self.new.unread ≡ self.old.unread }
     {
-        put_break_unless(self.is_first, line)?;
-        self.is_first = false;
+        self.begin_result(line)?;
         put_one(level, report, told, count, line)
+    }
+
+    /// Puts what comes before a result.
+    pub fn begin_result(&mut self, line: &mut Vec<u8>) -> Result<(), AllocError>
+        ensures bytes { OnOk result (Adds line.old line.new (break_unless self.old.is_first)) }
+        ensures first { self.new.is_first ≡ false }
+        ensures unread { self.new.unread ≡ self.old.unread }
+    {
+        let is_first = self.is_first;
+        self.is_first = false;
+        put_break_unless(is_first, line)
     }
 
     /// Keeps that a file could not be opened or read.
@@ -262,7 +272,7 @@ fn put_record(report: &Report<'_>, line: &mut Vec<u8>) -> Result<(), AllocError>
 }
 
 /// Which file it is.
-fn put_location(name: &[u8], line: &mut Vec<u8>) -> Result<(), AllocError>
+pub fn put_location(name: &[u8], line: &mut Vec<u8>) -> Result<(), AllocError>
     ensures { OnOk result (Adds line.old line.new (location name.now)) }
 {
     put(
@@ -293,7 +303,7 @@ fn put_region(report: &Report<'_>, place: u64, line: &mut Vec<u8>) -> Result<(),
     put(line, b",\"byteLength\":0}")
 }
 
-fn put_region_start_of(spot: Option<Spot>, line: &mut Vec<u8>) -> Result<(), AllocError>
+pub fn put_region_start_of(spot: Option<Spot>, line: &mut Vec<u8>) -> Result<(), AllocError>
     ensures { OnOk result (Adds line.old line.new (region_start_of spot)) }
 {
     match spot {
@@ -312,7 +322,7 @@ fn put_region_start(spot: Spot, line: &mut Vec<u8>) -> Result<(), AllocError>
     put(line, b",")
 }
 
-fn put_logical_location_of(path: Option<Path>, line: &mut Vec<u8>) -> Result<(), AllocError>
+pub fn put_logical_location_of(path: Option<Path>, line: &mut Vec<u8>) -> Result<(), AllocError>
     ensures { OnOk result (Adds line.old line.new (logical_location_of path)) }
 {
     match path {
@@ -399,8 +409,18 @@ fn put_section(code: Code, line: &mut Vec<u8>) -> Result<(), AllocError>
 {
     match code {
         Code::NotValid => put(line, b"what geolint says"),
-        code => put_name_and_text(code, line),
+        code => put_explained(code, line),
     }
+}
+
+/// The section, and the words that print it.
+fn put_explained(code: Code, line: &mut Vec<u8>) -> Result<(), AllocError>
+    ensures { OnOk result (Adds line.old line.new (explained code)) }
+{
+    put_name_and_text(code, line)?;
+    put(line, b" (geolint-files --explain ")?;
+    code.put_name(line)?;
+    put(line, b")")
 }
 
 fn put_name_and_text(code: Code, line: &mut Vec<u8>) -> Result<(), AllocError>

@@ -6,7 +6,7 @@ use Rattle.geolint_files.proofs.formats.json.put_unread_line.Goals as goal
 pub returns : goal.returns
 unfolding json_unread
 returns c =
-    let rest4 : List ℕ = codes ",\"offset\":null,\"line\":null,\"column\":null,\"json_path\":null,\"warnings\":[]}\n" in
+    let rest4 : List ℕ = codes ",\"offset\":null,\"line\":null,\"column\":null,\"json_path\":null,\"hint\":null,\"warnings\":[]}\n" in
     let part4 : List ℕ = c.args.reason.now in
     let rest3 : List ℕ = part4 ++ rest4 in
     let part3 : List ℕ = codes ",\"verdict\":\"not read\",\"passes\":false,\"record\":null,\"records\":null,\"rule\":null,\"text\":" in

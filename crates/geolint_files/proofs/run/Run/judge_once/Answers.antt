@@ -15,8 +15,8 @@ returns-in-Ok g c =
     let left = g.S.Source.remaining c.judge.new.reader in
     let found = subst (λ (reading : Reading). Finds reading old.options.limits (g.S.Source.remaining c.args.source.now) left finding) c.reading-reading.ensures c.in-Ok.ensures.found in
     on_ok_weaker c.tell.result (λ told. (
-      judged (record { name = c.args.name; finding = finding; sites = None; passes = passes old.options.strict old.options.allowed finding }),
-      (refl, refl, c.in-Ok.ensures.failed, (left, found)),
+      judged (record { name = c.args.name; finding = finding; sites = None; passes = passes old.options.strict old.options.allowed finding; hint = None }),
+      (refl, refl, refl, c.in-Ok.ensures.failed, (left, found)),
       TellsFile-after g.W.Write.contents _ old _ c.tell.new.self (record { same = record { options = refl; style = refl; outcome = refl; summary = refl }; out = refl; log = refl; line = refl }) told,
     )) c.tell.ensures
 

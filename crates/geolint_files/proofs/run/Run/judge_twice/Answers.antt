@@ -27,7 +27,7 @@ returns-in-Ok g c =
       judged report,
       (name, (left, found), with_sites),
       TellsFile-after g.W.Write.contents _ old _ c.tell_found.new.self (record { same = record { options = refl; style = refl; outcome = refl; summary = refl }; out = refl; log = refl; line = refl }) tells,
-    )) c.tell_found.ensures
+    )) c.tell_found.ensures.told
 
 pub returns-in-Err : goal.returns-in-Err
 returns-in-Err g c =

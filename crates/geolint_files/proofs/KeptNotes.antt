@@ -1,0 +1,98 @@
+-- Lemmas on the notes that are kept.
+use Rattle.std.proofs.Common.{arith, refl, ◌≡◌, ◌<◌, ◌≤◌, ℕ, ◌+◌, ◌-◌, ◌++◌, ◌∷◌, [], List, Bool, true, false, ap, sym, ◌∙◌, subst, length, take, append_assoc, append-nil, length-append, min}
+use Rattle.std.proofs.lemmas.List.{length-take, take-append-le, take_all, take_more}
+use Rattle.std.proofs.lemmas.List.Concat.{flat_map-append}
+use Rattle.std.specs.Io.Iter.{u64_saturate}
+use Rattle.std.specs.Io.KnownBytes.{Consumes, IsAtEnd}
+use Rattle.std.specs.List.{flat_map}
+use Rattle.std.specs.Prelude.{Option, Some, None}
+use Rattle.gj_json.specs.Limits.{Allowed}
+use Rattle.gj_json.specs.declared.fault.JsonFault.{JsonFault}
+use Rattle.gj_rules.specs.declared.verdict.Verdict.{Verdict}
+use Rattle.gj_rules.specs.declared.verdict.Verdict.TheVariants.{Valid, Broken, NotJson}
+use Rattle.gj_rules.specs.declared.feature.Feature.{Feature}
+use Rattle.geolint_files.specs.declared.every.listing.Note.{Note}
+use Rattle.geolint_files.specs.declared.every.listing.Asked.{Asked}
+use Rattle.geolint_files.specs.declared.every.listing.Listing.{Listing}
+use Rattle.geolint_files.specs.Every.{feature_notes, notes_of, Keeps, KeepsNotes, Lists, ListsBy, ListsFor, AreNotesBy}
+
+-- there is room for one more
+pub take-longer : {A : Type 0} (room : ℕ) (all : List A) (x : A) → length (take room all) < room → take room (all ++ x ∷ []) ≡ take room all ++ x ∷ []
+take-longer {A = A} room all x some =
+    let few : length all < room = omega (arith, some, length-take room all) in
+    let longer : length (all ++ x ∷ []) ≡ length all + 1 = length-append all (x ∷ []) in
+    take_all room (all ++ x ∷ []) (omega (arith, few, longer)) ∙ ap (λ (ys : List A). ys ++ x ∷ []) (sym (take_all room all (omega (arith, few))))
+
+-- there is none
+pub take-full : {A : Type 0} (room : ℕ) (all : List A) (x : A) → room ≤ length (take room all) → take room (all ++ x ∷ []) ≡ take room all
+take-full room all x none =
+    let many : room ≤ length all = omega (arith, none, length-take room all) in
+    take-append-le room all (x ∷ []) many
+
+-- the notes of one feature more
+pub notes_of-more : (with_warnings : Bool) (features : List Feature) (feature : Feature)
+    → notes_of with_warnings (features ++ feature ∷ []) ≡ notes_of with_warnings features ++ feature_notes with_warnings feature
+unfolding notes_of
+notes_of-more with_warnings features feature =
+    flat_map-append (feature_notes with_warnings) features (feature ∷ []) ∙ ap (λ (ys : List Note). flat_map (feature_notes with_warnings) features ++ ys) (append-nil (feature_notes with_warnings feature))
+
+-- ---- before the first feature
+
+pub KeepsNotes-none : (listing : Listing) → Keeps listing [] → KeepsNotes listing []
+unfolding notes_of
+KeepsNotes-none listing keeps = keeps
+
+-- ---- a feature more
+
+pub KeepsNotes-more : (old new : Listing) (features : List Feature) (feature : Feature) → new.asked ≡ old.asked
+    → ((all : List Note) → Keeps old all → Keeps new (all ++ feature_notes old.asked.with_warnings feature)) → KeepsNotes old features → KeepsNotes new (features ++ feature ∷ [])
+KeepsNotes-more old new features feature asked adds keeps =
+    let all = notes_of old.asked.with_warnings features in
+    subst (λ (a : Asked). Keeps new (notes_of a.with_warnings (features ++ feature ∷ []))) (sym asked)
+    (subst (λ (ys : List Note). Keeps new ys) (sym (notes_of-more old.asked.with_warnings features feature)) (adds all keeps))
+
+-- ---- when the input has ended
+
+pub Lists-end : (verdict : Verdict) (here limits : Allowed) (old new : Option (List ℕ)) (read : List ℕ) (listing : Listing) → here ≡ limits → Consumes old new read → IsAtEnd new
+    → Lists here read listing → ListsFor verdict limits old listing
+Lists-end verdict here limits old new read listing same took ended lists = for-any verdict (at-end old new took ended)
+  where
+    at-end : (old new : Option (List ℕ)) → Consumes old new read → IsAtEnd new → ListsBy limits old listing
+    at-end None new took ended = tt
+    at-end (Some all) None took ended = absurd took
+    at-end (Some all) (Some rest) took ended =
+        let is : all ≡ read = took ∙ (ap (λ (ys : List ℕ). read ++ ys) ended ∙ append-nil read) in
+        subst (λ (bytes : List ℕ). Lists limits bytes listing) (sym is) (subst (λ (l : Allowed). Lists l read listing) same lists)
+
+    for-any : (verdict : Verdict) → ListsBy limits old listing → ListsFor verdict limits old listing
+    for-any (NotJson fault) by = tt
+    for-any (Valid warnings) by = by
+    for-any (Broken fault) by = by
+
+pub Lists-refused : (verdict : Verdict) (fault : JsonFault) (limits : Allowed) (old : Option (List ℕ)) (listing : Listing) → verdict ≡ NotJson fault → ListsFor verdict limits old listing
+Lists-refused verdict fault limits old listing is = subst (λ (v : Verdict). ListsFor v limits old listing) (sym is) tt
+
+-- ---- what is told of them
+
+pub AreNotes-of : (verdict : Verdict) (listing : Listing) (asked : Asked) (notes : List Note) (count : ℕ) (limits : Allowed) (had : Option (List ℕ)) → listing.asked ≡ asked
+    → ((all : List Note) → Keeps listing all → (notes ≡ take listing.asked.room all) × (count ≡ u64_saturate (length all)))
+    → ListsFor verdict limits had listing → ((fault : JsonFault) → verdict ≡ NotJson fault → ⊥) → AreNotesBy asked notes count limits had
+AreNotes-of verdict listing asked notes count limits had same kept lists is_json = by-bytes had (of-json verdict lists is_json)
+  where
+    of-json : (verdict : Verdict) → ListsFor verdict limits had listing → ((fault : JsonFault) → verdict ≡ NotJson fault → ⊥) → ListsBy limits had listing
+    of-json (NotJson fault) lists is_json = absurd (is_json fault refl)
+    of-json (Valid warnings) lists is_json = lists
+    of-json (Broken fault) lists is_json = lists
+
+    by-bytes : (had : Option (List ℕ)) → ListsBy limits had listing → AreNotesBy asked notes count limits had
+    by-bytes None lists = tt
+    by-bytes (Some bytes) lists = λ text admitted.
+        let (features, keeps, say) = lists text admitted in
+        let (first, counted) = kept (notes_of listing.asked.with_warnings features) keeps in (
+          features,
+          record {
+            first = first ∙ ap (λ (a : Asked). take a.room (notes_of a.with_warnings features)) same;
+            count_is = counted ∙ ap (λ (a : Asked). u64_saturate (length (notes_of a.with_warnings features))) same;
+          },
+          say,
+        )

@@ -1,0 +1,242 @@
+-- A run that has told lines of the features of its last file.
+use Rattle.std.proofs.Common.{arith, zero, suc, ◌≡◌, ◌<◌, ◌≤◌, ◌+◌, ◌-◌, ◌++◌, ◌∷◌, [], List, ℕ, length, take, get_or, refl, sym, subst, ap, ◌∙◌, append_assoc, append-nil}
+use Rattle.std.specs.Prelude.{Bool, map, Option, Some, None}
+use Rattle.std.specs.Io.KnownBytes.{Appends, Keeps}
+use Rattle.std.proofs.KnownBytes.{Appends-trans, Appends-kept, Keeps-refl}
+use Rattle.std.proofs.lemmas.List.{map-append, take_more, take_all}
+use Rattle.geolint_files.specs.declared.every.entry.Entry.{Entry}
+use Rattle.geolint_files.specs.declared.every.listing.Asked.{Asked}
+use Rattle.geolint_files.specs.declared.every.listing.Note.{Note}
+use Rattle.geolint_files.specs.declared.formats.lines.Style.{Style}
+use Rattle.geolint_files.specs.declared.judge.Finding.{Finding}
+use Rattle.geolint_files.specs.declared.judge.Reading.{Reading}
+use Rattle.geolint_files.specs.declared.options.Every.{Every}
+use Rattle.geolint_files.specs.declared.options.Options.{Options}
+use Rattle.geolint_files.specs.declared.outcome.Outcome.{Outcome}
+use Rattle.geolint_files.specs.declared.report.Report.{Report}
+use Rattle.geolint_files.specs.declared.run.Run.{Run}
+use Rattle.geolint_files.specs.declared.summary.Summary.{Summary}
+use Rattle.geolint_files.specs.Finding.{worst}
+use Rattle.geolint_files.specs.Internal.FileCounts.{Counts}
+use Rattle.geolint_files.specs.Internal.RunState.{HasTold, TellsFile, TellsLines, SameTold}
+use Rattle.geolint_files.specs.Every.{asked_in, asked_by}
+use Rattle.geolint_files.specs.Listed.{IsEntryOf, AreEntriesOf, AreLinesOf, others_of, asked_when}
+use Rattle.geolint_files.specs.Run.{ToldFile, judged, listed, FeatureLine, feature_line, others_line, finding_in, outcome_in, Written, AddsFile, AddsFiles, AddsLine, AddsLines, AddsListed, begun}
+
+-- ---- what is written
+
+AddsLines-more : (options : Options) (style : Style) (lines more : List FeatureLine) (a b c : Written)
+    → AddsLines options style lines a b → AddsLines options style more b c → AddsLines options style (lines ++ more) a c
+AddsLines-more options style [] more a b c none adds = subst (λ (before : Written). AddsLines options style more before c) none adds
+AddsLines-more options style (first ∷ rest) more a b c (middle, here, others) adds = (middle, here, AddsLines-more options style rest more middle b c others adds)
+
+-- the last file has these lines more
+AddsFiles-lines : (options : Options) (style : Style) (files : List ToldFile) (report : Report) (before lines : List FeatureLine) (a b c : Written)
+    → AddsFiles options style (files ++ listed report before ∷ []) a b → AddsLines options style lines b c → AddsFiles options style (files ++ listed report (before ++ lines) ∷ []) a c
+AddsFiles-lines options style [] report before lines a b c (middle, adds, none) more = (
+  c,
+  record {
+    asked = adds.asked;
+    middle = adds.middle;
+    report_told = adds.report_told;
+    lines_told = AddsLines-more options style before lines adds.middle middle c adds.lines_told (subst (λ (w : Written). AddsLines options style lines w c) none more);
+  },
+  refl,
+)
+AddsFiles-lines options style (first ∷ rest) report before lines a b c (middle, here, others) more = (middle, here, AddsFiles-lines options style rest report before lines middle b c others more)
+
+-- a file that was judged is one of which no feature is told yet
+AddsFiles-as : (options : Options) (style : Style) (files : List ToldFile) (report : Report) (a b : Written) → (options.every ≡ Every.Nothing → ⊥)
+    → AddsFiles options style (files ++ judged report ∷ []) a b → AddsFiles options style (files ++ listed report [] ∷ []) a b
+AddsFiles-as options style [] report a b asked (middle, adds, none) = (middle, record { asked = asked; middle = middle; report_told = adds; lines_told = refl }, none)
+AddsFiles-as options style (first ∷ rest) report a b asked (middle, here, others) = (middle, here, AddsFiles-as options style rest report middle b asked others)
+
+-- ---- what is counted
+
+outcomes-are : (options : Options) (files : List ToldFile) (one other : ToldFile) → outcome_in options one ≡ outcome_in options other
+    → worst (map (outcome_in options) (files ++ one ∷ [])) ≡ worst (map (outcome_in options) (files ++ other ∷ []))
+outcomes-are options files one other same =
+    ap worst (map-append (outcome_in options) files (one ∷ []) ∙ (ap (λ (o : Outcome). map (outcome_in options) files ++ o ∷ []) same ∙ sym (map-append (outcome_in options) files (other ∷ []))))
+
+findings-are : (files : List ToldFile) (one other : ToldFile) → finding_in one ≡ finding_in other → map finding_in (files ++ one ∷ []) ≡ map finding_in (files ++ other ∷ [])
+findings-are files one other same =
+    map-append finding_in files (one ∷ []) ∙ (ap (λ (f : Option Finding). map finding_in files ++ f ∷ []) same ∙ sym (map-append finding_in files (other ∷ [])))
+
+-- ---- a call that told lines
+
+-- what a call did that told a line
+pub record AddsOneLine {W : Type 0} (contents : W → Option (List ℕ)) (line : FeatureLine) (old new : Run W) : Type 0 where
+  pub same : SameTold old new
+  pub told : List ℕ
+  pub out : old.line.items ≡ [] → Appends (contents old.out) (contents new.out) told
+  pub line_is : new.line.items ≡ []
+  pub adds : (bytes : List ℕ) → AddsLine old.options old.style line
+      (record { bytes = bytes; is_first = old.log.is_first; unread = old.log.unread.items })
+      (record { bytes = bytes ++ told; is_first = new.log.is_first; unread = new.log.unread.items })
+
+AddsLine-at : (options given : Options) (style asked : Style) (line : FeatureLine) (before after : Written) (is_first : Bool) (unread : List ℕ)
+    → given ≡ options → asked ≡ style → is_first ≡ before.is_first → unread ≡ before.unread
+    → AddsLine given asked line (record { bytes = before.bytes; is_first = is_first; unread = unread }) after → AddsLine options style line before after
+AddsLine-at options given style asked line before after is_first unread options_are style_is first unread_is adds =
+    subst (λ (o : Options). AddsLine o style line before after) options_are
+    (subst (λ (s : Style). AddsLine given s line before after) style_is
+    (subst (λ (f : Bool). AddsLine given asked line (record { bytes = before.bytes; is_first = f; unread = before.unread }) after) first
+    (subst (λ (u : List ℕ). AddsLine given asked line (record { bytes = before.bytes; is_first = is_first; unread = u }) after) unread_is adds)))
+
+pub TellsLines-of : {W : Type 0} (contents : W → Option (List ℕ)) (line : FeatureLine) (old new : Run W) → AddsOneLine contents line old new → TellsLines contents (line ∷ []) old new
+TellsLines-of contents line old new one = record {
+  tells = λ held options style files report before has.
+      let written = has.written in
+      record {
+        options_are = one.same.options ∙ has.options_are;
+        style_is = one.same.style ∙ has.style_is;
+        outcome = one.same.outcome ∙ (has.outcome ∙ outcomes-are options files (listed report before) (listed report (before ++ line ∷ [])) refl);
+        summary = subst (λ (summary : Summary). Counts summary (map finding_in (files ++ listed report (before ++ line ∷ []) ∷ []))) (sym one.same.summary)
+            (subst (Counts old.summary) (findings-are files (listed report before) (listed report (before ++ line ∷ [])) refl) has.summary);
+        written = record { bytes = written.bytes ++ one.told; is_first = new.log.is_first; unread = new.log.unread.items };
+        files_told = AddsFiles-lines options style files report before (line ∷ []) (begun options.format) written _ has.files_told
+            (_, AddsLine-at options old.options style old.style line written _ old.log.is_first old.log.unread.items has.options_are has.style_is has.first has.unread (one.adds written.bytes), refl);
+        out = Appends-trans held (contents old.out) (contents new.out) written.bytes one.told has.out (one.out has.line);
+        first = refl;
+        unread = refl;
+        line = one.line_is;
+      };
+}
+
+pub TellsLines-then : {W : Type 0} (contents : W → Option (List ℕ)) (lines more : List FeatureLine) (old middle new : Run W)
+    → TellsLines contents lines old middle → TellsLines contents more middle new → TellsLines contents (lines ++ more) old new
+TellsLines-then contents lines more old middle new first second = record {
+  tells = λ held options style files report before has.
+      subst (λ (all : List FeatureLine). HasTold contents held options style (files ++ listed report all ∷ []) new) (append_assoc before lines more)
+      (second.tells held options style files report (before ++ lines) (first.tells held options style files report before has));
+}
+
+-- a call that wrote nothing
+pub record IsShown {W : Type 0} (contents : W → Option (List ℕ)) (old new : Run W) : Type 0 where
+  pub same : SameTold old new
+  pub log : new.log ≡ old.log
+  pub line : new.line ≡ old.line
+  pub out : Keeps (contents old.out) (contents new.out)
+
+HasTold-shown : {W : Type 0} (contents : W → Option (List ℕ)) (held : Option (List ℕ)) (options : Options) (style : Style) (files : List ToldFile) (old new : Run W)
+    → IsShown contents old new → HasTold contents held options style files old → HasTold contents held options style files new
+HasTold-shown contents held options style files old new shown has = record {
+  options_are = shown.same.options ∙ has.options_are;
+  style_is = shown.same.style ∙ has.style_is;
+  outcome = shown.same.outcome ∙ has.outcome;
+  summary = subst (λ (summary : Summary). Counts summary (map finding_in files)) (sym shown.same.summary) has.summary;
+  written = has.written;
+  files_told = has.files_told;
+  out = Appends-kept _ _ _ has.written.bytes has.out shown.out;
+  first = ap (λ log. log.is_first) shown.log ∙ has.first;
+  unread = ap (λ log. log.unread.items) shown.log ∙ has.unread;
+  line = ap (λ line. line.items) shown.line ∙ has.line;
+}
+
+pub TellsLines-none : {W : Type 0} (contents : W → Option (List ℕ)) (old new : Run W) → IsShown contents old new → TellsLines contents [] old new
+TellsLines-none contents old new shown = record {
+  tells = λ held options style files report before has.
+      subst (λ (all : List FeatureLine). HasTold contents held options style (files ++ listed report all ∷ []) new) (sym (append-nil before))
+      (HasTold-shown contents held options style (files ++ listed report before ∷ []) old new shown has);
+}
+
+pub TellsLines-shown : {W : Type 0} (contents : W → Option (List ℕ)) (lines : List FeatureLine) (old middle new : Run W)
+    → TellsLines contents lines old middle → IsShown contents middle new → TellsLines contents lines old new
+TellsLines-shown contents lines old middle new tells shown = record {
+  tells = λ held options style files report before has.
+      HasTold-shown contents held options style (files ++ listed report (before ++ lines) ∷ []) middle new shown (tells.tells held options style files report before has);
+}
+
+-- a file was told, and then lines of its features
+pub TellsFile-listed : {W : Type 0} (contents : W → Option (List ℕ)) (report : Report) (lines : List FeatureLine) (old middle new : Run W)
+    → (old.options.every ≡ Every.Nothing → ⊥) → TellsFile contents (judged report) old middle → TellsLines contents lines middle new → TellsFile contents (listed report lines) old new
+TellsFile-listed contents report lines old middle new asked first second = record {
+  tells = λ held options style files has.
+      let then = first.tells held options style files has in
+      second.tells held options style files report [] (record {
+        options_are = then.options_are;
+        style_is = then.style_is;
+        outcome = then.outcome ∙ outcomes-are options files (judged report) (listed report []) refl;
+        summary = subst (Counts middle.summary) (findings-are files (judged report) (listed report []) refl) then.summary;
+        written = then.written;
+        files_told = AddsFiles-as options style files report (begun options.format) then.written (λ none. asked (ap (λ (o : Options). o.every) has.options_are ∙ none)) then.files_told;
+        out = then.out;
+        first = then.first;
+        unread = then.unread;
+        line = then.line;
+      });
+}
+
+-- ---- lines of notes, one by one
+
+pub AreEntriesOf-more : (Right : Entry → Type 0) (name : List ℕ) (notes : List Note) (lines : List FeatureLine) (note : Note) (line : FeatureLine)
+    → AreEntriesOf Right name notes lines → IsEntryOf Right name note line → AreEntriesOf Right name (notes ++ note ∷ []) (lines ++ line ∷ [])
+AreEntriesOf-more Right name [] [] note line are is = (is, tt)
+AreEntriesOf-more Right name [] (first ∷ rest) note line are is = absurd are
+AreEntriesOf-more Right name (one ∷ more) [] note line are is = absurd are
+AreEntriesOf-more Right name (one ∷ more) (first ∷ rest) note line (here, others) is = (here, AreEntriesOf-more Right name more rest note line others is)
+
+-- nothing is told yet
+pub none-told : {W : Type 0} (contents : W → Option (List ℕ)) (Right : Entry → Type 0) (name : List ℕ) (run : Run W)
+    → (lines : List FeatureLine) × AreEntriesOf Right name [] lines × TellsLines contents lines run run
+none-told contents Right name run = ([], tt, TellsLines-none contents run run (record { same = record { options = refl; style = refl; outcome = refl; summary = refl }; log = refl; line = refl; out = Keeps-refl (contents run.out) }))
+
+-- a note more is told
+pub more-told : {W : Type 0} (contents : W → Option (List ℕ)) (Right : Entry → Type 0) (name : List ℕ) (notes : List Note) (i : ℕ) (d : Note) (line : FeatureLine) (old middle new : Run W) → i < length notes
+    → (lines : List FeatureLine) × AreEntriesOf Right name (take i notes) lines × TellsLines contents lines old middle
+    → IsEntryOf Right name (get_or notes i d) line → TellsLines contents (line ∷ []) middle new
+    → (lines : List FeatureLine) × AreEntriesOf Right name (take (i + 1) notes) lines × TellsLines contents lines old new
+more-told contents Right name notes i d line old middle new within (lines, are, tells) is told = (
+  lines ++ line ∷ [],
+  subst (λ (ns : List Note). AreEntriesOf Right name ns (lines ++ line ∷ [])) (sym (take_more notes i d within)) (AreEntriesOf-more Right name (take i notes) lines (get_or notes i d) line are is),
+  TellsLines-then contents lines (line ∷ []) old middle new tells told,
+)
+
+-- all are told, and then how many others there are
+pub all-told : {W : Type 0} (contents : W → Option (List ℕ)) (Right : Entry → Type 0) (name : List ℕ) (notes : List Note) (count : ℕ) (old middle new : Run W)
+    → (lines : List FeatureLine) × AreEntriesOf Right name notes lines × TellsLines contents lines old middle
+    → TellsLines contents (others_of name (count - length notes)) middle new
+    → (lines : List FeatureLine) × AreLinesOf Right name notes count lines × TellsLines contents lines old new
+all-told contents Right name notes count old middle new (lines, are, tells) others = (
+  lines ++ others_of name (count - length notes),
+  record { entries = lines; are = are; all = refl },
+  TellsLines-then contents lines (others_of name (count - length notes)) old middle new tells others,
+)
+
+pub whole-told : {W : Type 0} (contents : W → Option (List ℕ)) (Right : Entry → Type 0) (name : List ℕ) (notes : List Note) (i : ℕ) (old new : Run W) → length notes ≤ i
+    → (lines : List FeatureLine) × AreEntriesOf Right name (take i notes) lines × TellsLines contents lines old new
+    → (lines : List FeatureLine) × AreEntriesOf Right name notes lines × TellsLines contents lines old new
+whole-told contents Right name notes i old new whole (lines, are, tells) = (lines, subst (λ (ns : List Note). AreEntriesOf Right name ns lines) (take_all i notes whole) are, tells)
+
+-- the call begins where nothing of what is told has changed
+pub TellsLines-after : {W : Type 0} (contents : W → Option (List ℕ)) (lines : List FeatureLine) (old middle new : Run W) → IsShown contents old middle → TellsLines contents lines middle new → TellsLines contents lines old new
+TellsLines-after contents lines old middle new shown tells = record {
+  tells = λ held options style files report before has.
+      tells.tells held options style files report before (HasTold-shown contents held options style (files ++ listed report before ∷ []) old middle shown has);
+}
+
+-- what is asked of the features of a file is asked at all
+pub asked-every : (options : Options) (reading : Reading) (asked : Asked) → asked_when reading (asked_in options) ≡ Some asked → options.every ≡ Every.Nothing → ⊥
+asked-every options reading asked is nothing = by-reading reading (asked_in options) is (ap (λ (every : Every). asked_by every options.most) nothing)
+  where
+    no-none : (asked : Asked) → None ≡ Some asked → ⊥
+    no-none asked is = absurd (cc)
+
+    by-reading : (reading : Reading) (given : Option Asked) → asked_when reading given ≡ Some asked → given ≡ None → ⊥
+    by-reading Reading.Text given is none = no-none asked (sym none ∙ is)
+    by-reading Reading.Quick given is none = no-none asked is
+    by-reading Reading.Sequence given is none = no-none asked is
+    by-reading Reading.Lines given is none = no-none asked is
+
+pub others_of-some : (name : List ℕ) (count : ℕ) → 0 < count → others_of name count ≡ others_line name count ∷ []
+others_of-some name zero some = absurd (omega (arith, some))
+others_of-some name (suc count) some = refl
+
+-- the same, where the notes are gone through by another name
+pub more-told-in : {W : Type 0} (contents : W → Option (List ℕ)) (Right : Entry → Type 0) (name : List ℕ) (items notes : List Note) (i : ℕ) (d : Note) (line : FeatureLine) (old middle new : Run W) → items ≡ notes
+    → i < length items → (lines : List FeatureLine) × AreEntriesOf Right name (take i notes) lines × TellsLines contents lines old middle
+    → IsEntryOf Right name (get_or items i d) line → TellsLines contents (line ∷ []) middle new
+    → (lines : List FeatureLine) × AreEntriesOf Right name (take (i + 1) notes) lines × TellsLines contents lines old new
+more-told-in contents Right name items notes i d line old middle new same within told is tells =
+    more-told contents Right name notes i d line old middle new (subst (λ (ns : List Note). i < length ns) same within) told
+    (subst (λ (ns : List Note). IsEntryOf Right name (get_or ns i d) line) same is) tells

@@ -1,0 +1,20 @@
+use Rattle.std.proofs.Common.{subst, List, ℕ}
+use Rattle.std.specs.Prelude.{Option}
+use Rattle.std.proofs.lemmas.Result.{on_ok_weaker}
+use Rattle.geolint_files.specs.Listed.{AreLinesOf, IsPlaced}
+use Rattle.geolint_files.proofs.ListedFiles.{TellsFile-listed}
+use Rattle.geolint_files.proofs.run.Run.list_placed.Goals as goal
+
+pub returns : goal.returns
+returns g c = λ asked.
+    let notes = c.args.notes.now in
+    let (report, name, finding, sites, tells) = c.in_ok-tell_found.ensures.told in
+    on_ok_weaker c.tell_placed.result (λ told.
+    let (lines, are, more) = told in
+    let placed = subst (λ (text : Option (List ℕ)). AreLinesOf (IsPlaced text) c.args.name.now notes.notes.items notes.count lines) c.tell_found.ensures.text are in (
+      report,
+      name,
+      finding,
+      (g.S.Source.failed_reads c.tell_found.new.source, sites),
+      (lines, placed, TellsFile-listed g.W.Write.contents report lines c.args.self.now c.tell_found.new.self c.tell_placed.new.self asked tells more),
+    )) c.tell_placed.ensures

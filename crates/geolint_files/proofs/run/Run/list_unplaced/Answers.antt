@@ -1,0 +1,9 @@
+use Rattle.std.proofs.lemmas.Result.{on_ok_weaker}
+use Rattle.geolint_files.proofs.ListedFiles.{TellsFile-listed}
+use Rattle.geolint_files.proofs.run.Run.list_unplaced.Goals as goal
+
+pub returns : goal.returns
+returns g c = λ asked.
+    on_ok_weaker c.tell_unplaced.result (λ told.
+    let (lines, are, tells) = told in
+    (lines, are, TellsFile-listed g.W.Write.contents _ lines c.args.self.now c.tell.new.self c.tell_unplaced.new.self asked c.in_ok-tell.ensures tells)) c.tell_unplaced.ensures
