@@ -151,7 +151,7 @@ impl<W: ValueReader, G: Gather<W>> Array<W, G> {
         self.after_item();
     }
 
-    /// Behind an event of an element: gathers it where it has ended.
+    /// After an event of an element: gathers the element where it has ended.
     #[inline]
     fn after_item(&mut self)
         ensures { self.new ≡ behind W.machine G.gathering self.old self.old.item }

@@ -15,7 +15,7 @@ use crate::value_reader::{Gather, ValueReader};
 use crate::warnings::Warnings;
 use gj_json::{Event, What};
 
-/// A bounding box needs this many numbers.
+/// The least number of elements of a bounding box.
 const NEEDED: u8 = 4;
 
 /// What a bounding box gathers of its elements.
@@ -137,10 +137,10 @@ impl Gather<Element> for BoxGather {
     }
 }
 
-/// Takes the events of one value of `bbox`, and tells its least fault and its warnings.
+/// Takes the events of one value of `bbox`, and gives its least fault and its warnings.
 ///
-/// It holds one fixed record, whatever the value. So it counts the levels in it in 64 bits, and promises nothing for a
-/// value of 2^64 levels or more.
+/// It holds one fixed record, whatever the value. It counts the levels of the value in 64 bits, and promises nothing
+/// for a value of 2^64 levels or more.
 #[derive(Clone, Copy)]
 pub struct Bbox {
     reader: Array<Element, BoxGather>,
@@ -166,7 +166,7 @@ impl Bbox {
         }
     }
 
-    /// One event more, whatever it is.
+    /// Takes one event, whatever it is.
     pub fn event(&mut self, event: Event)
         ensures stands { (events : List Event) → StandsFor self.old events → StandsFor self.new (events ++ event ∷ []) }
     {

@@ -13,13 +13,13 @@ use crate::warnings::Warnings;
 use gj_json::{Event, Flat};
 use std::mem::size_of;
 
-/// Takes the events of one value of `coordinates`, and tells its least fault and its warnings for each of the six types.
+/// Takes the events of one value of `coordinates`, and gives its least fault and its warnings for each of the six types.
 ///
-/// Most positions come as one [`Flat`]. From the second of a line or a linear ring on, such a position changes nothing but
-/// what is gathered of these positions, and their count, and takes one step.
+/// Most positions come as one [`Flat`]. From the second of a line or a linear ring on, such a position changes only
+/// what is gathered of these positions, and their count: it takes one step.
 ///
-/// It holds one fixed record, whatever the value. So it counts the levels in it in 64 bits, and promises nothing for a
-/// value of 2^64 levels or more.
+/// It holds one fixed record, whatever the value. It counts the levels of the value in 64 bits, and promises nothing
+/// for a value of 2^64 levels or more.
 #[derive(Clone, Copy)]
 pub struct Coordinates {
     walk: Walk,
@@ -68,14 +68,14 @@ impl Coordinates {
         self.walk.restart();
     }
 
-    /// One event more, whatever it is.
+    /// Takes one event, whatever it is.
     pub fn event(&mut self, event: Event)
         ensures stands { (events : List Event) → StandsFor self.old events → StandsFor self.new (events ++ event ∷ []) }
     {
         self.take(&event);
     }
 
-    /// The same for an event that stays where it is.
+    /// Takes one event by reference, whatever it is.
     #[inline]
     pub fn take(&mut self, event: &Event)
         ensures stands { (events : List Event) → StandsFor self.old events →
@@ -85,7 +85,7 @@ impl Coordinates {
         self.walk.event(event);
     }
 
-    /// The same of an opening bracket of an array.
+    /// Takes the opening bracket of an array.
     #[inline]
     pub fn open_array(&mut self, place: u64)
         ensures stands { (events : List Event) → StandsFor self.old events →
@@ -95,7 +95,7 @@ impl Coordinates {
         self.walk.open_array(place);
     }
 
-    /// The same of a closing bracket of an array.
+    /// Takes the closing bracket of an array.
     #[inline]
     pub fn close_array(&mut self, place: u64)
         ensures stands { (events : List Event) → StandsFor self.old events →
@@ -105,7 +105,7 @@ impl Coordinates {
         self.walk.close_array(place);
     }
 
-    /// The events of an array of numbers that is told as one.
+    /// Takes the events of an array of numbers that comes as one [`Flat`].
     #[inline]
     pub fn take_flat(&mut self, flat: &Flat)
         ensures stands { (events : List Event) → StandsFor self.old events →
@@ -114,8 +114,8 @@ impl Coordinates {
         self.ends_by_flat(flat);
     }
 
-    /// The same, and whether they end the value. Mostly an array around them goes on.
-    #[inline]
+    /// Takes the events of an array of numbers, and returns whether they end the value. Mostly an array around them goes on.
+    #[inline(always)]
     pub fn ends_by_flat(&mut self, flat: &Flat) -> bool
         ensures stands { (events : List Event) → StandsFor self.old events →
             StandsFor self.new (events ++ flat_events flat.now) }
@@ -140,7 +140,7 @@ impl Coordinates {
         self.done()
     }
 
-    /// The same wherever the value stands.
+    /// Takes the events of an array of numbers, at any depth of the value.
     #[inline(never)]
     fn take_anywhere(&mut self, flat: &Flat)
         ensures stands { (events : List Event) → StandsFor self.old events →
@@ -152,7 +152,7 @@ impl Coordinates {
         }
     }
 
-    /// The same where the value itself is due.
+    /// Takes the events of an array of numbers that is the value itself.
     #[inline]
     fn take_whole(&mut self, flat: &Flat)
         ensures stands { (events : List Event) → self.old.walk.stage ≡ Due → StandsFor self.old events →
@@ -163,7 +163,7 @@ impl Coordinates {
         self.depth = Depth::OrEmpty;
     }
 
-    /// The same within the value.
+    /// Takes the events of an array of numbers within the value.
     #[inline]
     fn take_inside(&mut self, flat: &Flat)
         ensures stands { (events : List Event) → StandsFor self.old events →
@@ -209,8 +209,9 @@ impl Coordinates {
 
     /// The warnings of the value as the coordinates of this type (RFC 7946, sections 3.1, 3.1.1, 3.1.6, 4 and 11.2).
     ///
-    /// What breaks a rule, as a position or as a linear ring, gives none. How a ring runs is told by a sum in 128 bits,
-    /// which is exact where the value has fewer than 2^64 events; [`crate::laws::kept_warnings`] says so of what is kept.
+    /// A position or a linear ring that breaks a rule gives none. The direction of a ring follows from a sum in 128
+    /// bits, which is exact where the value has fewer than 2^64 events; [`crate::laws::kept_warnings`] says so of what
+    /// is kept.
     pub fn warnings(&self, simple: Simple) -> Warnings
         ensures kept { (value : Tree) → StandsFor self.now (value_events value) → depth value < 2 ^ 64 →
             result ≡ coordinates_kept simple value }
@@ -224,7 +225,8 @@ impl Coordinates {
         }
     }
 
-    /// Whether a few looks show that there are none of any type. Where it answers `false` there may be none all the same.
+    /// Whether a few comparisons show that there are none under any type. Where it returns `false`, there may be none
+    /// all the same.
     #[inline]
     pub fn is_quiet(&self) -> bool
         ensures none { (value : Tree) (simple : Simple) → StandsFor self.now (value_events value) → depth value < 2 ^ 64 → IsTrue result →

@@ -5,8 +5,8 @@ ghost use Rattle.gj_coords.specs.Texts.{rule_text};
 
 use std::fmt;
 
-/// The rules that a GeoJSON text may break. In brackets stands the section of RFC 7946, and behind the colon what is at the
-/// place of the fault.
+/// The rules that a GeoJSON text may break. The section of RFC 7946 stands in brackets. What is at the place of the
+/// fault stands after the colon.
 #[derive(Clone, Copy, Debug, PartialEq, Eq)]
 pub enum Rule {
     /// Not an object where one is due (sections 2, 3.1.8, 3.2 and 3.3): the value.

@@ -5,7 +5,7 @@ use crate::position::misshapen;
 use crate::value_reader::Judged;
 use crate::warned::Warned;
 
-/// What is found in a value: its least fault, and what is worth a warning in it.
+/// What is found in a value: its least fault, and what deserves a warning in it.
 #[derive(Clone, Copy)]
 pub struct Findings {
     pub fault: Option<Fault>,
@@ -16,7 +16,7 @@ impl Findings {
     ghost use Rattle.std.specs.Prelude.{◌≡◌};
     ghost use Rattle.gj_coords.specs.Internal.Findings.{misshapen_found, empty_found, found_in};
 
-    /// In a value that has not the shape that is due.
+    /// In a value of the wrong shape.
     pub fn misshapen(place: u64) -> Findings
         ensures { result ≡ misshapen_found place }
     {
@@ -38,7 +38,7 @@ impl Findings {
         }
     }
 
-    /// In a value that was answered for so.
+    /// In a value with this answer.
     pub fn of<A: Judged>(answer: &A) -> Findings
         ensures { result ≡ found_in A.judgement answer.now }
     {

@@ -1,4 +1,4 @@
-//! A position that is told as one.
+//! A position that comes as one `Flat`.
 ghost use Rattle.std.specs.Prelude.{◌≡◌, Some, IfSome, true, false};
 ghost use Rattle.gj_number.specs.Short.{exact_of};
 ghost use Rattle.gj_coords.specs.CoordinateWarnings.{is_precise};
@@ -68,7 +68,7 @@ fn is_too_precise(number: Short) -> bool
     number.is_precise()
 }
 
-/// Whether of both at most seven places are written, so that neither is too precise.
+/// Whether both are written with at most seven places, so that neither is too precise.
 #[inline(always)]
 fn is_pair_short(first: Short, second: Short) -> bool
     ensures first { result ≡ true → is_precise (Some (exact_of first)) ≡ false }
@@ -77,7 +77,7 @@ fn is_pair_short(first: Short, second: Short) -> bool
     (first.places | second.places) <= MOST_PLACES
 }
 
-/// The same of one.
+/// Whether a number is written with at most seven places, so that it is not too precise.
 #[inline(always)]
 fn is_written_short(number: Short) -> bool
     ensures { result ≡ true → is_precise (Some (exact_of number)) ≡ false }
@@ -85,7 +85,7 @@ fn is_written_short(number: Short) -> bool
     number.places <= MOST_PLACES
 }
 
-/// The same of the third number, where there is one.
+/// Whether there is no third number, or one that is written with at most seven places.
 #[inline(always)]
 fn is_third_short(third: &Option<Numbered>) -> bool
     ensures { result ≡ true → (noted : KindWarnings) → third_precise third.now noted ≡ noted }
@@ -96,7 +96,7 @@ fn is_third_short(third: &Option<Numbered>) -> bool
     }
 }
 
-/// The same of all its numbers.
+/// Whether all its numbers are written with at most seven places, so that none is too precise.
 #[inline(always)]
 fn is_all_short(flat: &Flat) -> bool
     ensures { result ≡ true → flat_precise flat.now ≡ nothing_noted }
@@ -164,7 +164,7 @@ pub fn corner(flat: &Flat) -> Option<Corner>
     Corner::of(flat.first.value, flat.second.value)
 }
 
-/// Judges a position of two numbers that is in range. `None` promises nothing.
+/// What is known of a position of two numbers, where it is in range. `None` promises nothing.
 #[inline(always)]
 pub fn judged(flat: &Flat) -> Option<JudgedPair>
     ensures { IfSome result (λ pair. IsJudged flat.now pair) }
@@ -185,7 +185,7 @@ pub fn judged(flat: &Flat) -> Option<JudgedPair>
     })
 }
 
-/// The corner of a position in which a look at how it is written shows nothing worth a warning, as it mostly does.
+/// The corner of a position where the way it is written shows that nothing in it deserves a warning, as it mostly does.
 #[tactic(auto, using(crate::proofs::Walks::PreciseNumbers::plain_if))]
 #[inline(always)]
 pub fn plain_corner(flat: &Flat) -> Option<Corner>
@@ -234,7 +234,7 @@ pub fn ring_fault(flat: &Flat) -> Option<Fault>
     }
 }
 
-/// Notes what is worth a warning in it, by its corner.
+/// Notes what deserves a warning in it, by its corner.
 pub fn warn(flat: &Flat, corner: &Option<Corner>, warned: &mut Warned)
     ensures { warned.new ≡ position_noted warned.old flat.now.place (flat_count flat.now.third) corner.now (flat_precise flat.now) }
 {
@@ -245,7 +245,7 @@ pub fn warn(flat: &Flat, corner: &Option<Corner>, warned: &mut Warned)
     }
 }
 
-/// The same where it is in range, number by number.
+/// Notes what deserves a warning in it where it is in range: numbers that are too precise.
 #[inline(never)]
 fn warn_precise(flat: &Flat, warned: &mut Warned)
     ensures { warned.new ≡ precise_noted warned.old (flat_precise flat.now) }
@@ -256,7 +256,7 @@ fn warn_precise(flat: &Flat, warned: &mut Warned)
     }
 }
 
-/// The same where it may be out of range.
+/// Notes what deserves a warning in it where it may be out of range.
 #[inline(never)]
 fn warn_beyond(flat: &Flat, corner: &Option<Corner>, warned: &mut Warned)
     ensures { warned.new ≡ position_noted warned.old flat.now.place (flat_count flat.now.third) corner.now (flat_precise flat.now) }
@@ -264,7 +264,7 @@ fn warn_beyond(flat: &Flat, corner: &Option<Corner>, warned: &mut Warned)
     note_position(flat.place, count(flat), corner, precise(flat), warned);
 }
 
-/// Notes what is worth a warning in it. Mostly there is nothing.
+/// Notes what deserves a warning in it. Mostly there is nothing.
 #[inline]
 pub fn warn_quick(flat: &Flat, warned: &mut Warned)
     ensures { warned.new ≡ sound_noted warned.old (flat_position flat.now) }
@@ -274,7 +274,7 @@ pub fn warn_quick(flat: &Flat, warned: &mut Warned)
     }
 }
 
-/// The same of a position in which there may be something. Mostly it has two numbers and is in range.
+/// Notes what deserves a warning in a position where there may be something. Mostly it has two numbers and is in range.
 #[inline(never)]
 fn warn_slow(flat: &Flat, warned: &mut Warned)
     ensures { warned.new ≡ sound_noted warned.old (flat_position flat.now) }
@@ -285,7 +285,7 @@ fn warn_slow(flat: &Flat, warned: &mut Warned)
     }
 }
 
-/// The same of any position.
+/// Notes what deserves a warning in any position.
 #[inline(never)]
 fn warn_other(flat: &Flat, warned: &mut Warned)
     ensures { warned.new ≡ sound_noted warned.old (flat_position flat.now) }

@@ -5,8 +5,8 @@ ghost use Rattle.gj_coords.specs.Warnings.{kind_number, kinds, index_of};
 
 use std::fmt;
 
-/// What a warning is given for. In brackets stands the section of RFC 7946, and behind the colon what is at the place of the
-/// warning.
+/// The reason for a warning. The section of RFC 7946 stands in brackets. What is at the place of the warning stands
+/// after the colon.
 #[derive(Clone, Copy, Debug, PartialEq, Eq)]
 pub enum Kind {
     /// A byte order mark (RFC 8259, section 8.1): the mark.
@@ -115,7 +115,7 @@ impl<T: Copy> ByKind<T> {
     ghost use Rattle.std.specs.Prelude.{◌≡◌};
     ghost use Rattle.gj_coords.specs.Internal.ByKind.{each, of_kind, with_value};
 
-    /// The same for each.
+    /// One value for every kind.
     #[inline]
     pub fn all(value: T) -> ByKind<T>
         ensures { result ≡ each (λ kind. value) }
@@ -133,7 +133,7 @@ impl<T: Copy> ByKind<T> {
         }
     }
 
-    /// That of a kind.
+    /// The value for a kind.
     #[inline]
     pub fn of(&self, kind: Kind) -> T
         ensures { result ≡ of_kind self.now kind }
@@ -151,7 +151,7 @@ impl<T: Copy> ByKind<T> {
         }
     }
 
-    /// Replaces that of a kind.
+    /// Replaces the value for a kind.
     #[inline]
     pub fn set(&mut self, kind: Kind, value: T)
         ensures { self.new ≡ with_value self.old kind value }

@@ -41,8 +41,8 @@ pub fn positions_agree()
     ensures { (a b : Tree) → IsTrue (agree a b) ↔ (first_values a ≡ first_values b) }
 {}
 
-/// Warnings can be joined in any grouping and order, and none of them change nothing. What is kept of two lists, one
-/// behind the other, is what is kept of each, joined.
+/// Warnings can be joined in any grouping and order, and none of them change nothing. What is kept of two lists in a
+/// row is what is kept of each, joined.
 pub fn joined_warnings()
     ensures none_first { (a : Warnings) → joined no_warnings a ≡ a }
     ensures none_last { (a : Warnings) → joined a no_warnings ≡ a }
@@ -51,8 +51,8 @@ pub fn joined_warnings()
     ensures append { (warnings others : List Warning) → warnings_of (warnings ++ others) ≡ joined (warnings_of warnings) (warnings_of others) }
 {}
 
-/// Whatever it keeps, a `Warnings` tells the counts and the least places of some list of warnings; and where it stands for
-/// a list, those of that list. A number of a law has no bound, so that a count of 32 bits is a premise.
+/// Whatever it keeps, a `Warnings` has the counts and the least places of some list of warnings; and where it stands
+/// for a list, those of that list. A number of a law has no bound, so that a count of 32 bits is a premise.
 pub fn told_warnings()
     ensures some { (told : Warnings) → CountsFit told → (warnings : List Warning) × Tells told warnings }
     ensures stands { (told : Warnings) (warnings : List Warning) → StandsFor told warnings → Tells told warnings }

@@ -20,10 +20,10 @@ use crate::winding::Corner;
 use gj_json::{Event, Flat, Numbered, What};
 use gj_number::{Decimal, Short};
 
-/// A position needs this many elements.
+/// The least number of elements of a position.
 const NEEDED: u8 = 2;
 
-/// This many numbers of a position must be held, and are compared.
+/// The number of first numbers of a position that must be held, and are compared.
 pub const MOST_VALUES: u8 = 3;
 
 /// A number with more decimal places than these is too precise.
@@ -59,7 +59,7 @@ pub struct Position {
     pub precise: KindWarnings,
 }
 
-/// Whether a few looks show that it is not this number.
+/// Whether a few comparisons show that it is not this number. `false` promises nothing.
 #[inline(always)]
 fn differs(number: &Option<Decimal>, other: Short) -> bool
     ensures { result ≡ true → option_eq same_parts number.now (Some (exact_of other)) ≡ false }
@@ -70,7 +70,8 @@ fn differs(number: &Option<Decimal>, other: Short) -> bool
     }
 }
 
-/// The same of a decimal. Both have mostly as many places as are written, and then their digits tell.
+/// Whether a few comparisons show that a decimal is not this number. Mostly both have the same number of places, and
+/// then their digits decide.
 #[inline(always)]
 fn parts_differ(number: &Decimal, other: Short) -> bool
     ensures { result ≡ true → same_parts number.now (exact_of other) ≡ false }
@@ -93,7 +94,7 @@ fn is_same(number: &Option<Decimal>, other: Short) -> bool
     }
 }
 
-/// The same of a third number, where there is one.
+/// Whether the third numbers are the same, or neither is there.
 fn is_third_same(number: &Option<Decimal>, other: &Option<Numbered>) -> bool
     ensures { result ≡ option_eq same_parts number.now (third_value other.now) }
 {
@@ -147,8 +148,8 @@ impl Values {
         *self == *other
     }
 
-    /// Whether a position that is told as one has the same values, and as many. Mostly the digits of the first numbers
-    /// differ.
+    /// Whether a position that comes as one [`Flat`] has the same values, and as many. Mostly the digits of the first
+    /// numbers differ.
     #[inline(always)]
     pub fn same_flat(&self, other: &Flat) -> bool
         ensures { result ≡ same_values self.now (flat_values other.now) }
@@ -215,7 +216,7 @@ impl Numbers {
         self.precise = KindWarnings::nothing();
     }
 
-    /// Judges one of the first three numbers.
+    /// Adds one of the first three numbers.
     fn judge_first(&mut self, place: u64, value: &Option<Decimal>)
         ensures { self.new ≡ first_judged self.old place value.now }
     {
@@ -299,7 +300,7 @@ impl Numbers {
         }
     }
 
-    /// Notes what is worth a warning in a position that breaks no rule, and has this corner.
+    /// Notes what deserves a warning in a position that breaks no rule and has this corner.
     #[inline]
     pub fn warn(&self, corner: &Option<Corner>, warned: &mut Warned)
         ensures { warned.new ≡ position_noted warned.old self.now.tally.place self.now.tally.count corner.now self.now.precise }
@@ -313,7 +314,7 @@ impl Numbers {
         );
     }
 
-    /// Notes what is worth a warning in a position, if it breaks no rule.
+    /// Notes what deserves a warning in a position, if it breaks no rule.
     pub fn warn_as(&self, fault: &Option<Fault>, warned: &mut Warned)
         ensures { warned.new ≡ judged_noted fault.now warned.old (position_closed self.now) }
     {
@@ -373,7 +374,7 @@ impl Gather<Element> for Numbers {
     }
 }
 
-/// The fault of a value that has not the shape that is due.
+/// The fault of a value of the wrong shape.
 pub fn misshapen(place: u64) -> Option<Fault>
     ensures { result ≡ misshapen_at place }
 {

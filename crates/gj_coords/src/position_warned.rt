@@ -1,4 +1,4 @@
-//! What is worth a warning in a position (RFC 7946, sections 3.1.1, 4 and 11.2).
+//! What deserves a warning in a position (RFC 7946, sections 3.1.1, 4 and 11.2).
 ghost use Rattle.std.specs.Prelude.{◌≡◌};
 ghost use Rattle.gj_coords.specs.Internal.PositionGather.{position_noted};
 
@@ -10,8 +10,8 @@ use crate::value_reader::Judged;
 use crate::warned::Warned;
 use crate::winding::Corner;
 
-/// Notes what is worth a warning in a position that breaks no rule, by its place, its count, its corner and those of its
-/// numbers that are too precise.
+/// Notes what deserves a warning in a position that breaks no rule, by its place, its count, its corner and its numbers
+/// that are too precise.
 #[inline]
 pub fn note_position(
     place: u64,

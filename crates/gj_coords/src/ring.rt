@@ -13,11 +13,11 @@ use crate::warned::Warned;
 use crate::winding::{Corner, Turn, Winding};
 use gj_json::{Event, Flat};
 
-/// A linear ring needs this many positions.
+/// The least number of positions of a linear ring.
 const NEEDED: u8 = 4;
 
-/// What an array of positions gathers: its least fault, and what is worth a warning in them; and where there is no fault,
-/// the values of its first position, whether its last position has the same, and how they run.
+/// What an array of positions gathers: its least fault, and what deserves a warning in it. Where there is no fault,
+/// also the values of its first position, whether its last position has the same, and how the positions run.
 #[derive(Clone, Copy)]
 pub struct Positions {
     pub first: Option<Values>,
@@ -50,7 +50,7 @@ pub struct LinearRing {
 }
 
 impl RingRole {
-    /// The one of a ring behind so many others.
+    /// The role of a ring after this many others.
     pub fn behind(others: u8) -> RingRole
         ensures { result ≡ role_behind others }
     {
@@ -117,7 +117,7 @@ impl Positions {
         }
     }
 
-    /// Adds a position that is told as one, wherever it stands.
+    /// Adds a position that comes as one [`Flat`], wherever it stands.
     #[inline(never)]
     pub fn add_flat(&mut self, position: &Flat)
         ensures { self.new ≡ position_added self.old (flat_position position.now) }
@@ -125,7 +125,7 @@ impl Positions {
         self.add_quick(position);
     }
 
-    /// The same, for the one place where most positions come.
+    /// Adds a position that comes as one [`Flat`], inlined for the one caller that most positions reach.
     #[inline(always)]
     pub fn add_quick(&mut self, position: &Flat)
         ensures { self.new ≡ position_added self.old (flat_position position.now) }
@@ -140,7 +140,7 @@ impl Positions {
         }
     }
 
-    /// The same where it may be worth a warning. Mostly it has two numbers and is in range.
+    /// Adds a position that may deserve a warning. Mostly it has two numbers and is in range.
     #[inline(always)]
     fn add_warned(&mut self, position: &Flat)
         ensures { self.new ≡ position_added self.old (flat_position position.now) }
@@ -151,7 +151,7 @@ impl Positions {
         }
     }
 
-    /// The same of two numbers in range, by what is known of them.
+    /// Adds a position of two numbers in range, by what is known of them.
     #[inline(always)]
     fn add_judged(&mut self, position: &Flat, pair: &JudgedPair)
         requires { IsJudged position.now pair.now }
@@ -163,7 +163,7 @@ impl Positions {
         }
     }
 
-    /// The same of any position.
+    /// Adds any position that comes as one [`Flat`].
     #[inline(never)]
     fn add_other(&mut self, position: &Flat)
         ensures { self.new ≡ position_added self.old (flat_position position.now) }
@@ -179,7 +179,7 @@ impl Positions {
         }
     }
 
-    /// Adds a position that is told as one after others without a fault.
+    /// Adds a position without a fault that comes as one [`Flat`], after others without a fault.
     #[inline(always)]
     fn add_sound_flat(&mut self, position: &Flat, corner: Corner)
         ensures { self.new ≡ sound_joined self.old (flat_values position.now) (Some corner) }
@@ -193,7 +193,7 @@ impl Positions {
         }
     }
 
-    /// Adds the first position that has no fault, told as one: its values are written where they are kept.
+    /// Adds the first position, where it has no fault and comes as one [`Flat`]: its values are written where they are kept.
     #[inline(never)]
     fn begin_flat(&mut self, position: &Flat, corner: Corner)
         ensures { self.old.first ≡ None → self.new ≡ sound_joined self.old (flat_values position.now) (Some corner) }
@@ -225,7 +225,7 @@ impl Positions {
         join_fault(&mut self.fault, misshapen(place));
     }
 
-    /// Notes what is worth a warning in these positions as a linear ring at this place that has this least fault.
+    /// Notes what deserves a warning in these positions as a linear ring at this place that has this least fault.
     pub fn warn_ring(&self, role: RingRole, place: u64, fault: &Option<Fault>, warned: &mut Warned)
         ensures { warned.new ≡ ring_noted role warned.old place fault.now (turn_in self.now.winding) self.now.warned }
     {

@@ -14,7 +14,7 @@ use gj_json::Event;
 /// A list may be empty.
 pub const LIST_NEEDS: u8 = 0;
 
-/// A line needs this many positions.
+/// The least number of positions of a line.
 pub const LINE_NEEDS: u8 = 2;
 
 /// The least fault of a line whose positions have this least fault.
@@ -36,7 +36,7 @@ impl<const NEEDED: u8> Several<NEEDED> {
     ghost use Rattle.std.specs.Prelude.{◌≡◌};
     ghost use Rattle.gj_coords.specs.Internal.ListGather.{several_gathering};
 
-    /// Adds an element that was answered for so.
+    /// Adds an element with this answer.
     fn add_answer<A: Judged>(&mut self, answer: &A)
         ensures { self.new ≡ (several_gathering A.judgement NEEDED).added self.old answer.now }
     {

@@ -18,7 +18,7 @@ pub struct SimpleFaults {
 impl SimpleFaults {
     ghost use Rattle.gj_coords.specs.SimpleFaults.{by_simple};
 
-    /// The same for each type.
+    /// One fault for every type.
     pub fn all(fault: Option<Fault>) -> SimpleFaults
         ensures { result ≡ by_simple (λ simple. fault) }
     {

@@ -21,7 +21,7 @@ impl Tally {
         Tally { place, count: 0 }
     }
 
-    /// Whether an element more is counted.
+    /// Whether one more element is counted.
     #[inline(always)]
     pub fn is_open(&self) -> bool
         ensures { result ≡ nat_lt self.now.count 4 }

@@ -21,11 +21,11 @@ pub trait ValueReader: Copy {
     fn new() -> Self
         ensures { result ≡ machine.start };
 
-    /// One event more, whatever it is.
+    /// Takes one event, whatever it is.
     fn event(&mut self, event: &Event)
         ensures { self.new ≡ machine.after self.old event.now };
 
-    /// The same of an opening bracket of an array.
+    /// Takes the opening bracket of an array.
     #[inline]
     fn open_array(&mut self, place: u64)
         ensures { self.new ≡ machine.after self.old (event_at place OpenArray) }
@@ -36,7 +36,7 @@ pub trait ValueReader: Copy {
         });
     }
 
-    /// The same of a closing bracket of an array.
+    /// Takes the closing bracket of an array.
     #[inline]
     fn close_array(&mut self, place: u64)
         ensures { self.new ≡ machine.after self.old (event_at place CloseArray) }
@@ -100,7 +100,7 @@ pub trait Gather<W: ValueReader>: Copy {
         ensures { result ≡ gathering.otherwise head.now };
 }
 
-/// An answer that tells of its value the least fault, and what is worth a warning.
+/// An answer that has the least fault of its value, and what deserves a warning in it.
 pub trait Judged: Copy {
     /// What its methods do, as functions.
     ghost judgement: { Judgement Self };
@@ -108,7 +108,7 @@ pub trait Judged: Copy {
     fn fault(&self) -> Option<Fault>
         ensures { result ≡ judgement.fault_of self.now };
 
-    /// Notes what is worth a warning in the value, which is an element behind so many others.
+    /// Notes what deserves a warning in the value, which is an element after this many others.
     fn warn(&self, others: u8, warned: &mut Warned)
         ensures { warned.new ≡ judgement.warned_behind others warned.old self.now };
 }

@@ -40,7 +40,7 @@ pub fn least_fault(walk: &Walk, simple: Simple) -> Option<Fault>
     }
 }
 
-/// The same for each type.
+/// The least fault of the value that was read, for each type.
 #[inline]
 pub fn least_faults(walk: &Walk, faults: &mut SimpleFaults)
     ensures { faults.new ≡ by_simple (λ simple. fault_as simple (walk_machine.answered walk.now)) }
@@ -51,7 +51,8 @@ pub fn least_faults(walk: &Walk, faults: &mut SimpleFaults)
     }
 }
 
-/// Whether a few looks show that there is nothing worth a warning in the value that was read, for any type.
+/// Whether a few comparisons show that nothing in the value that was read deserves a warning under any type. `false`
+/// promises nothing.
 #[inline]
 pub fn is_quiet(walk: &Walk) -> bool
     ensures { result ≡ quiet_as (walk_machine.answered walk.now) }
@@ -72,7 +73,7 @@ pub fn all_warnings(walk: &Walk, simple: Simple) -> Warnings
     }
 }
 
-/// Adds the same to others.
+/// Adds the warnings of the value that was read, for a type, to others.
 pub fn warn(walk: &Walk, simple: Simple, warned: &mut Warned)
     ensures { warned.new ≡ taken warned.old (warned_as simple (walk_machine.answered walk.now)) }
 {
@@ -82,7 +83,7 @@ pub fn warn(walk: &Walk, simple: Simple, warned: &mut Warned)
     }
 }
 
-/// Takes an array of numbers that is told as one.
+/// Takes an array of numbers that comes as one [`Flat`].
 pub fn take_flat(walk: &mut Walk, flat: &Flat)
     ensures { walk.new ≡ flat_taken flat.now walk.old }
 {
@@ -93,7 +94,7 @@ pub fn take_flat(walk: &mut Walk, flat: &Flat)
     }
 }
 
-/// Takes it where an element of the value is due.
+/// Takes such an array where an element of the value is due.
 #[inline]
 fn take_element(walk: &mut Walk, flat: &Flat)
     ensures { walk.new ≡ second_due flat.now walk.old.item.stage walk.old }
@@ -107,7 +108,7 @@ fn take_element(walk: &mut Walk, flat: &Flat)
     }
 }
 
-/// Takes it within an element of the value.
+/// Takes such an array within an element of the value.
 #[inline]
 fn take_within(walk: &mut Walk, flat: &Flat)
     ensures { walk.new ≡ in_second flat.now walk.old.item.stage walk.old }

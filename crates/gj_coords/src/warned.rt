@@ -3,8 +3,8 @@ use crate::kind::Kind;
 use crate::kind_warnings::KindWarnings;
 use crate::warnings::Warnings;
 
-/// Warnings that are gathered. Mostly there are none: then they are nothing, begin anew in one step, and add nothing to
-/// others.
+/// Warnings that are gathered. Mostly there are none: then they take no room, are cleared in one step, and add nothing
+/// to others.
 #[derive(Clone, Copy)]
 pub struct Warned {
     warnings: Option<Warnings>,
@@ -33,7 +33,7 @@ impl Warned {
         }
     }
 
-    /// Forgets them all. Mostly there is nothing to write.
+    /// Removes them all. Mostly there is nothing to write.
     #[tactic(auto, using(crate::proofs::Walks::HeldPositions::is_no_warned))]
     #[inline(always)]
     pub fn clear(&mut self)
@@ -53,7 +53,7 @@ impl Warned {
         self.warnings = None;
     }
 
-    /// Whether it is nothing, as mostly it is. If not, it may still have no warning.
+    /// Whether it holds nothing, as it mostly does. If not, it may still have no warning.
     #[inline(always)]
     pub fn is_nothing(&self) -> bool
         ensures exact { result ≡ is_none self.now.warnings }
@@ -84,7 +84,7 @@ impl Warned {
     }
 
     /// Takes one warning more.
-    // It is seldom called: what it holds has no room where it is called.
+    // Not inlined: it is seldom called, and its locals take no room in the caller's frame.
     #[inline(never)]
     pub fn note(&mut self, kind: Kind, place: u64)
         ensures exact { self.new ≡ noted_in self.old kind place }

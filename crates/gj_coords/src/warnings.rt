@@ -84,7 +84,8 @@ impl Warnings {
         }
     }
 
-    /// The same warnings, each so many bytes further on. It asks that no place goes past 2^61, which `first` tells.
+    /// These warnings, each place moved on by `by` bytes. It requires that no place goes past 2^61, which
+    /// [`Warnings::first`] shows.
     pub fn shifted(self, by: u64) -> Warnings
         requires { (kind : Kind) (place : ℕ) → first_in kind self ≡ Some place → place + by ≤ 2 ^ 61 }
         ensures stands { (warnings : List Warning) → StandsFor self warnings →
@@ -96,7 +97,7 @@ impl Warnings {
         all
     }
 
-    /// Moves each place so many bytes further on.
+    /// Moves each place on by `by` bytes.
     #[tactic(auto, unfolding(crate::specs::Internal::KeptWarnings::shifted))]
     fn shift(&mut self, by: u64)
         requires { (kind : Kind) (place : ℕ) → first_in kind self.old ≡ Some place → place + by ≤ 2 ^ 61 }
@@ -108,7 +109,7 @@ impl Warnings {
         }
     }
 
-    /// What is kept of a kind, so many bytes further on, where there is one.
+    /// What is kept of a kind, its place moved on by `by` bytes where there is one.
     fn kept_shifted(&self, kind: Kind, by: u64) -> KindWarnings
         requires { (place : ℕ) → first_in kind self.now ≡ Some place → place + by ≤ 2 ^ 61 }
         ensures { result ≡ shifted_noted by (kept self.now kind) }

@@ -1,6 +1,6 @@
 //! A watcher for each of the six types: each of them alone, composed of its parts.
 //!
-//! `Coordinates` answers for all six at once in one walk, and is several times faster than they are side by side.
+//! `Coordinates` does the work of all six in one walk, several times faster than six watchers.
 ghost use Rattle.std.specs.Prelude.{◌≡◌, ◌↔◌, ◌<◌, ◌^◌, ◌++◌, ◌∷◌, List as EventList, [], length, IsTrue};
 ghost use Rattle.gj_json.specs.declared.event.Event.{Event};
 ghost use Rattle.gj_json.specs.Tree.{Tree, depth};
@@ -27,19 +27,19 @@ use crate::warnings::Warnings;
 use crate::watcher::or_empty::OrEmpty;
 use gj_json::Event;
 
-/// Takes the events of one value of `coordinates`, and tells its least fault and its warnings under one type.
+/// Takes the events of one value of `coordinates`, and gives its least fault and its warnings under one type.
 pub trait Watcher: Copy {
     /// The type.
     ghost simple: { Simple };
 
-    /// It was given these events.
+    /// It was given exactly these events.
     ghost stands: { Self → EventList Event → Type 0 };
 
     /// No event has come.
     fn new() -> Self
         ensures { stands result [] };
 
-    /// One event more, whatever it is.
+    /// Takes one event, whatever it is.
     fn event(&mut self, event: Event)
         ensures { (events : EventList Event) → stands self.old events → stands self.new (events ++ event ∷ []) };
 

@@ -41,7 +41,7 @@ pub enum Turn {
     Unjudged,
 }
 
-/// Takes the corners of a ring in turn, and tells how it runs. It holds one fixed record, whatever their number.
+/// Takes the corners of a ring in turn, and gives the direction of the ring. It holds one fixed record, whatever their number.
 #[derive(Clone, Copy)]
 pub struct Winding {
     /// The sum of the terms so far, in 128 bits.
@@ -66,7 +66,7 @@ impl Corner {
         )
     }
 
-    /// The same of two numbers as most are written.
+    /// The corner of two numbers of ordinary form, where both are in range.
     #[inline(always)]
     pub fn of(longitude: Short, latitude: Short) -> Option<Corner>
         ensures { result ≡ corner_of (Some (exact_of longitude)) (Some (exact_of latitude)) }
@@ -77,7 +77,7 @@ impl Corner {
         )
     }
 
-    /// The term of the area for the way from this corner to the next, which 64 bits hold.
+    /// The term of the area for the edge from this corner to the next. It fits 64 bits.
     #[inline(always)]
     fn cross(&self, next: &Corner) -> i64
         ensures { result ≡ cross self.now next.now }
@@ -86,7 +86,7 @@ impl Corner {
     }
 }
 
-/// The cut number of a number as most are written, where it is at most so many degrees from zero.
+/// The cut number of a number of ordinary form, where it is at most `degrees` from zero.
 #[inline(always)]
 fn cut_within(number: Short, degrees: u8) -> Option<i32>
     requires { degrees ≤ 200 }
@@ -95,7 +95,7 @@ fn cut_within(number: Short, degrees: u8) -> Option<i32>
     number.cut_within(degrees)
 }
 
-/// The same, and whether the number is too precise.
+/// The cut number of a number, where it is at most `degrees` from zero, and whether the number is too precise.
 #[inline(always)]
 pub fn judged_within(number: Short, degrees: u8) -> Option<(i32, bool)>
     requires { degrees ≤ 200 }
@@ -105,7 +105,7 @@ pub fn judged_within(number: Short, degrees: u8) -> Option<(i32, bool)>
     number.judged_within(degrees)
 }
 
-/// The cut number of a number, where it is at most so far from zero.
+/// The cut number of a number, where it is at most `most` from zero.
 fn bounded_cut(number: &Option<Decimal>, most: i32) -> Option<i32>
     ensures { result ≡ bounded_cut most (cut_value number.now) }
 {
@@ -118,7 +118,7 @@ fn bounded_cut(number: &Option<Decimal>, most: i32) -> Option<i32>
     }
 }
 
-/// The number, where it is at most so far from zero.
+/// The number, where it is at most `most` from zero.
 #[inline(always)]
 fn within(number: i64, most: i32) -> Option<i32>
     ensures { result ≡ bounded most number }
@@ -202,7 +202,7 @@ impl Winding {
         }
     }
 
-    /// One position more: its corner, where it is in range.
+    /// Takes one position: its corner, where it is in range.
     pub fn add(&mut self, corner: Option<Corner>)
         ensures added { self.new ≡ winding_added self.old corner }
         ensures stands { (corners : List (Option Corner)) → StandsFor self.old corners → StandsFor self.new (corners ++ corner ∷ []) }
@@ -221,8 +221,8 @@ impl Winding {
         self.last = Some(*corner);
     }
 
-    /// Adds a corner, for the one place where most positions come: after a first corner the sum and the last corner are
-    /// written where they are.
+    /// Adds a corner, inlined for the one caller that most positions reach: after a first corner it writes the sum and
+    /// the last corner in place.
     #[inline(always)]
     pub fn add_next(&mut self, corner: &Corner)
         ensures { self.new ≡ corner_added self.old corner.now }
@@ -237,7 +237,7 @@ impl Winding {
         }
     }
 
-    /// The term of the area for the way from the last corner to this one.
+    /// The term of the area for the edge from the last corner to this one.
     fn term(&self, corner: &Corner) -> i64
         ensures { result ≡ term_of self.now.last corner.now }
     {

@@ -11,7 +11,7 @@ use std::marker::Model;
 /// A cut number is ten to this power times the value.
 const CUT_PLACES: i16 = 7;
 
-/// How many digits a cut number has at most.
+/// The most digits of a cut number.
 const CUT_DIGITS: usize = 17;
 
 /// A decimal: its digits times ten to its power, below zero where it is negative.
@@ -71,7 +71,7 @@ impl Decimal {
         (self.negative, self.digits, self.power)
     }
 
-    /// How many digits stand behind the point where no zero is written at the end.
+    /// The number of digits after the point, where no zero is written at the end.
     pub fn places(&self) -> u16
         ensures places { result ≡ places_of self.now }
     {

@@ -19,21 +19,21 @@ pub(crate) const MOST_DIGITS: u8 = 30;
 /// 1,000 and whatever digits follow.
 const FAR: u8 = 31;
 
-/// How many digits behind the point are counted, and how many zeros before it. A number whose last
-/// digit but zeros stands further off is not held, since an exponent moves it by at most 1,000
-/// places and the power of a held number is from -400 to 400.
+/// The most digits after the point that are counted, and the most zeros before it. A number whose last digit other than
+/// zero stands further off is not held, since an exponent moves it by at most 1,000 places and the power of a held
+/// number is from -400 to 400.
 const MOST_PLACES: u16 = 1400;
 
-/// The digits of a number up to the last that is no zero, without the zeros in front.
+/// The digits of a number up to the last that is no zero, without leading zeros.
 #[derive(Clone, Copy)]
 pub(crate) struct Digits {
     /// The first nineteen digits, or fewer where fewer have come.
     head: u64,
-    /// The digits behind these.
+    /// The digits after these.
     rest: u64,
-    /// How many zeros stand behind the kept digits.
+    /// The number of zeros after the kept digits.
     pending: u16,
-    /// How many digits stand behind the point.
+    /// The number of digits after the point.
     places: u16,
     /// How many digits are kept, or [`FAR`].
     count: u8,
@@ -74,7 +74,7 @@ impl Digits {
         }
     }
 
-    /// Takes a zero before the point and behind a digit that is none.
+    /// Takes a zero that stands before the point and after a digit that is not zero.
     #[inline]
     fn add_zero(&mut self)
         requires { self.old.count ≢ 0 }
@@ -87,7 +87,7 @@ impl Digits {
         }
     }
 
-    /// Takes a digit behind the point.
+    /// Takes a digit after the point.
     #[inline]
     pub(crate) fn push_fraction(&mut self, digit: u8)
         requires { digit < 10 }
@@ -133,7 +133,7 @@ impl Digits {
         }
     }
 
-    /// The same where zeros are to be kept too, or all are kept.
+    /// Keeps a digit that is not zero, where zeros before it are kept too, or where all digits are kept already.
     fn keep_behind(&mut self, digit: u8)
         requires digit { digit < 10 }
         requires nonzero { digit ≢ 0 }

@@ -31,8 +31,8 @@ impl Exponent {
         self.magnitude = (self.magnitude * 10 + digit as u16).min(EXPONENT_LIMIT + 1);
     }
 
-    /// How many digits at the front of the piece make no difference, since the magnitude is past the limit, or is zero as
-    /// they are.
+    /// The number of first digits of the piece that make no difference: the magnitude is past the limit, or it and they
+    /// are zero.
     #[inline]
     pub(crate) fn pass_run(&self, piece: &[u8]) -> usize
         ensures length { result ≤ length piece.now }

@@ -10,8 +10,8 @@ ghost use Rattle.gj_number.specs.Internal.DigitRuns.{IsRun, IsPointed, SpellsOn,
 
 use std::simd::prelude::*;
 
-/// Where the lanes of a vector come from whose first so many are moved to its end, from the place on that is their
-/// count: 128 stands for none.
+/// Indices that move the first `count` lanes of a vector to its end, read from the index `count` on. 128 stands for no
+/// lane.
 static PLACES: [u8; 32] = [
     128, 128, 128, 128, 128, 128, 128, 128, 128, 128, 128, 128, 128, 128, 128, 128, 0, 1, 2, 3, 4,
     5, 6, 7, 8, 9, 10, 11, 12, 13, 14, 15,
@@ -20,10 +20,10 @@ static PLACES: [u8; 32] = [
 /// Two digits in a word, the first in its lower byte: times this, the upper byte is their number.
 const BY_TEN: u16 = 10 * 256 + 1;
 
-/// The same of two numbers below 100, each in a half of a word.
+/// Two numbers below 100, each in a half of a word: times this, the upper half is the number of both.
 const BY_HUNDRED: u32 = 100 * 65_536 + 1;
 
-/// Sixteen rows of places: in row `at` all but the place `at`, and one that is no lane.
+/// Sixteen rows of indices: row `at` has all but the index `at`, and one of no lane.
 static OTHERS: [u8; 256] = [
     1, 2, 3, 4, 5, 6, 7, 8, 9, 10, 11, 12, 13, 14, 15, 128, 0, 2, 3, 4, 5, 6, 7, 8, 9, 10, 11, 12,
     13, 14, 15, 128, 0, 1, 3, 4, 5, 6, 7, 8, 9, 10, 11, 12, 13, 14, 15, 128, 0, 1, 2, 4, 5, 6, 7,
@@ -37,8 +37,8 @@ static OTHERS: [u8; 256] = [
     6, 7, 8, 9, 10, 11, 12, 13, 14, 128,
 ];
 
-/// Rows of sixteen places, from one to three digits before a point and up to fifteen after it: in row
-/// `16 * (natural - 1) + fraction` those of so many digits, after places of no lane.
+/// Rows of sixteen places, from one to three digits before a point and up to fifteen after it: row `16 * (natural - 1)
+/// + fraction` has those of `natural` and `fraction` digits, after places of no lane.
 static POINTED: [u8; 768] = [
     128, 128, 128, 128, 128, 128, 128, 128, 128, 128, 128, 128, 128, 128, 128, 0, 128, 128, 128,
     128, 128, 128, 128, 128, 128, 128, 128, 128, 128, 128, 0, 2, 128, 128, 128, 128, 128, 128, 128,
@@ -83,7 +83,7 @@ fn from_ten(lanes: u8x16) -> u64
     lanes.simd_ge(u8x16::splat(10)).to_bitmask()
 }
 
-/// The same, and a bit after those of the lanes.
+/// A bit for each lane that is 10 or more, and one bit after those of the lanes.
 #[inline(always)]
 fn from_ten_ended(lanes: u8x16) -> u64
     ensures { result ≡ mask_l (map (nat_le 10) (lanes ++ 10 ∷ [])) }
@@ -91,7 +91,7 @@ fn from_ten_ended(lanes: u8x16) -> u64
     from_ten(lanes) + 0x1_0000
 }
 
-/// How many lanes come before the first that is 10 or more.
+/// The number of lanes before the first that is 10 or more.
 #[inline(always)]
 fn leading_digits(lanes: u8x16) -> usize
     ensures count { result ≡ leading lanes }
@@ -221,7 +221,7 @@ pub(crate) fn digit_run(piece: &[u8]) -> usize
         if count < 16 {
             return at + count;
         }
-        // By a number of its own, so that no turn waits for the count of the one before.
+        // The index has a variable of its own, so that no turn waits for the count of the one before.
         at += 16;
     }
     at

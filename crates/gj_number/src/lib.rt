@@ -6,7 +6,7 @@
 //! exponent of a magnitude of at most 1,000.
 //!
 //! A [`Short`] is an ordinary number, of at most eighteen digits and no exponent, which [`read_short`] reads whole from
-//! the start of a piece. What is read off it is what is read off its decimal.
+//! the start of a piece. What its methods say of it, they say of its decimal.
 #![tactic(auto)]
 
 mod decimal;

@@ -15,7 +15,7 @@ use std::mem::size_of;
 pub enum Step {
     /// The byte was taken.
     Goes,
-    /// The bytes so far with this one begin no number, and nothing changed.
+    /// No number begins with the bytes so far and this one. Nothing changed.
     Ends,
 }
 
@@ -97,8 +97,8 @@ impl Literal {
         }
     }
 
-    /// Takes the digits at the front of the piece as [`Literal::push`] of each would, up to the
-    /// first byte that is no digit or that `push` would refuse, and answers how many.
+    /// Takes the first digits of the piece as [`Literal::push`] of each would, up to the first byte that is no digit or
+    /// that `push` would refuse. It returns how many it took.
     pub fn push_digits(&mut self, piece: &[u8]) -> usize
         ensures length { result ≤ length piece.now }
         ensures digits { All IsDigit (take result piece.now) }
@@ -118,8 +118,8 @@ impl Literal {
         at
     }
 
-    /// Takes the bytes at the front of the piece as [`Literal::push`] of each would, up to the first that
-    /// `push` would refuse, and answers how many.
+    /// Takes the first bytes of the piece as [`Literal::push`] of each would, up to the first that `push` would refuse.
+    /// It returns how many it took.
     pub fn push_piece(&mut self, piece: &[u8]) -> usize
         ensures length { result ≤ length piece.now }
         ensures stands { (bytes : List ℕ) → StandsFor self.old bytes → StandsFor self.new (bytes ++ take result piece.now) }
@@ -138,7 +138,7 @@ impl Literal {
         at
     }
 
-    /// Takes the first digit of a number, if it stands at the front of the piece, and answers how many.
+    /// Takes the first digit of a number, if the piece begins with it, and returns how many bytes it took.
     #[inline]
     fn push_first(&mut self, piece: &[u8]) -> usize
         ensures length { result ≤ length piece.now }
@@ -160,8 +160,8 @@ impl Literal {
         }
     }
 
-    /// Takes digits at the front of the piece, and a point and the digits behind it where they follow, and
-    /// answers how many bytes.
+    /// Takes first digits of the piece, and a point and the digits after it where they follow. It returns how many
+    /// bytes it took.
     #[inline]
     fn push_plain(&mut self, piece: &[u8]) -> usize
         ensures length { result ≤ length piece.now }
@@ -184,7 +184,7 @@ impl Literal {
         }
     }
 
-    /// Takes some of the digits at the front of the piece, and answers how many.
+    /// Takes some of the first digits of the piece, and returns how many.
     #[inline]
     fn push_run(&mut self, piece: &[u8]) -> usize
         ensures length { result ≤ length piece.now }
@@ -226,8 +226,8 @@ impl Literal {
         self.state.may_end()
     }
 
-    /// The decimal that the number denotes, or `None` where it is not held. Where the bytes so far are
-    /// no number, as [`Literal::may_end`] says, the answer means nothing.
+    /// The decimal that the number denotes, or `None` where it is not held. Where the bytes so far are no number, as
+    /// [`Literal::may_end`] says, the value means nothing.
     pub fn value(&self) -> Option<Decimal>
         ensures value { (bytes : List ℕ) → StandsFor self.now bytes → IsNumber bytes → result ≡ value_of bytes }
     {

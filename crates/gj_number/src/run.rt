@@ -27,11 +27,11 @@ pub(crate) struct Stripped {
     pub(crate) head: u64,
     /// How many these are.
     pub(crate) count: u8,
-    /// How many zeros stand behind them.
+    /// The number of zeros after them.
     pub(crate) zeros: u8,
 }
 
-/// How many zeros stand at the front of the piece.
+/// The number of zeros that the piece begins with.
 #[inline]
 pub(crate) fn zeros_in_front(piece: &[u8]) -> usize
     ensures length { result ≤ length piece.now }
@@ -48,7 +48,7 @@ pub(crate) fn zeros_in_front(piece: &[u8]) -> usize
 impl Run {
     ghost use Rattle.gj_number.specs.Internal.KeptDigits.{RunKeeps};
 
-    /// The run that begins with this many digits and zeros behind them.
+    /// The run that begins with this many digits, and zeros after them.
     #[inline]
     pub(crate) fn new(head: u64, count: u8, zeros: u8) -> Run
         requires some { 0 < head }
@@ -63,7 +63,7 @@ impl Run {
         }
     }
 
-    /// Takes the digits at the front of the piece, as far as there is room, and answers how many.
+    /// Takes the first digits of the piece, as far as there is room, and returns how many.
     #[inline]
     pub(crate) fn take(&mut self, piece: &[u8]) -> usize
         ensures length { result ≤ length piece.now }
@@ -85,8 +85,8 @@ impl Run {
         front.len()
     }
 
-    /// Takes a point at the front of the piece and the digits behind it, as far as there is room, and
-    /// answers how many digits. With no digit the point stays too.
+    /// Takes a point at the start of the piece and the digits after it, as far as there is room, and returns how many
+    /// digits. Where no digit follows, it does not take the point.
     #[inline]
     pub(crate) fn take_fraction(&mut self, piece: &[u8]) -> usize
         ensures point { 0 < result → slice_index piece.now 0 ≡ decimal_point }
@@ -114,7 +114,7 @@ impl Run {
         };
     }
 
-    /// The same digits, the zeros at the end apart.
+    /// These digits, with the zeros at the end apart.
     #[inline]
     pub(crate) fn stripped(&self) -> Stripped
         ensures all { self.now.all ≡ result.head * 10 ^ result.zeros }

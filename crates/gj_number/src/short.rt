@@ -12,7 +12,7 @@ use crate::tens::ten_to;
 /// A cut number is ten to this power times the value.
 const CUT_PLACES: u8 = 7;
 
-/// How many digits it has after the point at most.
+/// The most digits of a cut number after the point.
 const MOST_PLACES: u64 = 18;
 
 /// A number as most are written: at most eighteen digits, and no exponent.
@@ -58,7 +58,7 @@ impl Short {
         )
     }
 
-    /// The number times ten to the power `by`, or to minus that power where `down` is true, if eighteen digits write it.
+    /// The number times ten to the power `by`, or to the power `-by` where `down` is true, if eighteen digits can write it.
     #[inline(always)]
     fn moved(self, down: bool, by: u64) -> Option<Short>
         requires { by < 1000 }
@@ -116,7 +116,7 @@ impl Short {
         }
     }
 
-    /// The same, where it is at most `most` times 10^7 from zero.
+    /// The value times 10^7, cut toward zero, or `None` where its magnitude is more than `most` times 10^7.
     #[inline(always)]
     pub fn cut_within(self, most: u8) -> Option<i32>
         requires { most ≤ 200 }
@@ -153,8 +153,7 @@ impl Short {
         without_last(self.digits, down) * ten_to(down as usize) != self.digits
     }
 
-    /// Both at once: the value times 10^7, cut toward zero, where it is at most `most` times 10^7 from zero, and whether
-    /// more than seven digits stand after the point where no zero is written at the end.
+    /// [`Short::cut_within`] and [`Short::is_precise`] at once.
     #[inline(always)]
     pub fn judged_within(self, most: u8) -> Option<(i32, bool)>
         requires { most ≤ 200 }
@@ -227,8 +226,8 @@ fn raised(digits: u64, up: usize) -> Option<u64>
     Some(digits * ten_to(up))
 }
 
-/// The digits of a number with so many places, with seven of them, where the number is at most `most`.
-// That is asked of the digits as they are, so that who asks for nothing else multiplies no more.
+/// The digits of a number with `places` places, once it is written with seven, where the number is at most `most`.
+// The comparison is on the digits as they are, so that a caller that needs nothing else pays for no multiplication.
 #[inline(always)]
 fn raised_within(digits: u64, places: usize, most: u64) -> Option<u64>
     requires places { places ≤ 7 }
@@ -289,7 +288,7 @@ static RECIPROCALS: [u64; 12] = [
     49_517_601_571_415_211,
 ];
 
-/// By how many bits the product is shifted then.
+/// The number of bits by which the product is then shifted.
 static SHIFTS: [u32; 12] = [0, 0, 2, 3, 9, 13, 16, 17, 18, 24, 27, 28];
 
 /// The digits without the last `down`, by a multiplication.

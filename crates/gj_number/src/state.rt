@@ -60,7 +60,7 @@ pub(crate) fn may_stand(byte: u8) -> bool
     }
 }
 
-/// Whether the byte is one that stands after nearly every number of a text. It goes on in none.
+/// Whether the byte is one of those that stand after nearly every number of a text. No number contains it.
 #[inline(always)]
 #[tactic(auto, unfolding(crate::specs::Internal::NumberMachine::class_of))]
 pub(crate) fn is_behind(byte: u8) -> bool
@@ -74,19 +74,19 @@ pub(crate) fn is_behind(byte: u8) -> bool
 pub(crate) enum State {
     Start,
     AfterMinus,
-    /// Behind a first digit 0, which no digit may follow.
+    /// After a first digit 0, which no digit may follow.
     AfterZero,
     InNatural,
     AfterPoint,
     InFraction,
     AfterLetter,
-    /// Behind the sign of an exponent.
+    /// After the sign of an exponent.
     AfterSign,
     InExponent,
 }
 
 impl State {
-    /// The state behind a byte of this class, or `None` where no such byte may stand here.
+    /// The state after a byte of this class, or `None` where no such byte may stand here.
     #[inline]
     pub(crate) fn next(self, class: Class) -> Option<State>
         ensures { result ≡ next_of self class }

@@ -7,7 +7,7 @@ ghost use Rattle.gj_coords.specs.Winding.{cut_value};
 use gj_json::What;
 use gj_number::Decimal;
 
-/// What of the numbers tells south and north, as cut numbers: the second, the fourth and the fifth.
+/// The numbers that give south and north, as cut numbers: the second, the fourth and the fifth.
 #[derive(Clone, Copy)]
 pub struct Latitudes {
     pub second: Option<i64>,
@@ -62,7 +62,7 @@ impl Latitudes {
         }
     }
 
-    /// One element more, a number that is held or not.
+    /// Takes one element: a number that is held, or anything else.
     pub fn add(&mut self, number: Option<Decimal>)
         ensures { self.new ≡ latitude_added self.old.count number self.old }
     {

@@ -1,4 +1,4 @@
-//! At which depth a position that is told as one changes nothing but what is gathered of positions, and their count.
+//! The depth at which a position that comes as one `Flat` changes only what is gathered of positions, and their count.
 //!
 //! An array of positions has its least fault under the types that want no position there from its first element on. So
 //! from the second position on it stays as it is.
@@ -13,7 +13,7 @@ use crate::position::Numbers;
 use crate::walk::Walk;
 use gj_json::Flat;
 
-/// In how many open arrays a position is due.
+/// The number of open arrays in which a position is due.
 #[derive(Clone, Copy)]
 pub enum Depth {
     /// It is not known, or a position more may change something else.
@@ -21,8 +21,8 @@ pub enum Depth {
     First,
     Second,
     Third,
-    /// In none: the value is a position that was told as one. Of what the walk then gathers only the least fault as
-    /// positions is held, which is that of each type but `Point`, and as its warnings those for `Point`.
+    /// None: the value is a position that came as one `Flat`. Of what the walk gathers, only two things are then held:
+    /// the least fault as positions, which is that of each type but `Point`, and the warnings for `Point`.
     OrEmpty,
 }
 
@@ -42,7 +42,7 @@ impl Depth {
         }
     }
 
-    /// In two.
+    /// Whether a position is due in two open arrays.
     #[inline(always)]
     pub fn is_second(&self) -> bool
         ensures { result ≡ true → self.now ≡ Second }
@@ -53,7 +53,7 @@ impl Depth {
         }
     }
 
-    /// In three.
+    /// Whether a position is due in three open arrays.
     #[inline(always)]
     pub fn is_third(&self) -> bool
         ensures { result ≡ true → self.now ≡ Third }
@@ -64,7 +64,7 @@ impl Depth {
         }
     }
 
-    /// Whether the value is a position that was told as one.
+    /// Whether the value is a position that came as one `Flat`.
     #[inline(always)]
     pub fn is_whole(&self) -> bool
         ensures { result ≡ is_whole self.now }
@@ -158,7 +158,7 @@ fn is_third(floor: u64, walk: &Walk) -> bool
         && is_settled(floor, &walk.item.item.gather.numbers)
 }
 
-/// At which depth the walk is steady after the place.
+/// The depth at which the walk is steady after the place.
 pub fn depth_of(floor: u64, walk: &Walk) -> Depth
     ensures { IsSteady result floor walk.now }
 {
@@ -173,7 +173,7 @@ pub fn depth_of(floor: u64, walk: &Walk) -> Depth
     }
 }
 
-/// Whether all of the position stands after the place: no number of it stands before its bracket.
+/// Whether the whole position stands after the place: no number of it stands before its bracket.
 #[inline(always)]
 pub fn is_past(floor: u64, position: &Flat) -> bool
     ensures { result ≡ true → IsPast floor position.now }

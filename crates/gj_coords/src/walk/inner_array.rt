@@ -15,7 +15,7 @@ pub struct InnerSummary {
     pub ring: Option<Fault>,
     /// How its positions run.
     pub turn: Turn,
-    /// What is worth a warning in its positions.
+    /// What deserves a warning in its positions.
     pub warned: Warned,
 }
 
@@ -45,7 +45,7 @@ impl InnerArray {
         self.positions.add(element);
     }
 
-    /// Adds an element that is a position told as one.
+    /// Adds an element that is a position and comes as one [`Flat`].
     #[inline]
     pub fn add_flat(&mut self, position: &Flat)
         ensures { self.new ≡ third_gathering.added self.old (flat_position position.now) }
@@ -54,7 +54,7 @@ impl InnerArray {
         self.positions.add_flat(position);
     }
 
-    /// The same where it changes no fault.
+    /// Adds such an element where it changes no fault.
     #[inline(always)]
     pub fn add_steady(&mut self, position: &Flat)
         ensures { IsCounted self.old.numbers → self.new ≡ third_steady position.now self.old }

@@ -20,9 +20,9 @@ pub struct MiddleSummary {
     pub polygon: Option<Fault>,
     /// How its positions run.
     pub turn: Turn,
-    /// What is worth a warning in its positions.
+    /// What deserves a warning in its positions.
     pub warned: Warned,
-    /// What is worth a warning in its elements as the rings of a polygon.
+    /// What deserves a warning in its elements as the rings of a polygon.
     pub rings_warned: Warned,
 }
 
@@ -61,7 +61,7 @@ impl MiddleArray {
         join_fault(&mut self.rings, ring);
     }
 
-    /// Adds an element that is a position told as one.
+    /// Adds an element that is a position and comes as one [`Flat`].
     #[inline]
     pub fn add_flat(&mut self, position: &Flat)
         ensures { self.new ≡ second_gathering.added self.old (flat_third position.now) }
@@ -71,7 +71,7 @@ impl MiddleArray {
         join_fault(&mut self.rings, flat::ring_fault(position));
     }
 
-    /// The same where it changes no fault.
+    /// Adds such an element where it changes no fault.
     #[inline(always)]
     pub fn add_steady(&mut self, position: &Flat)
         ensures { IsCounted self.old.numbers → self.new ≡ second_steady position.now self.old }

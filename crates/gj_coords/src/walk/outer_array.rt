@@ -13,8 +13,8 @@ use crate::walk::middle_array::{MiddleArray, MiddleReader};
 use crate::warned::Warned;
 use gj_json::{Event, Flat};
 
-/// What the whole value gathers of its elements: as numbers; and of them as positions, as lines, as linear rings and as
-/// polygons the least fault and what is worth a warning.
+/// What the whole value gathers of its elements: as numbers; and, as positions, as lines, as linear rings and as
+/// polygons, their least fault and what deserves a warning in them.
 #[derive(Clone, Copy)]
 pub struct OuterArray {
     pub numbers: Numbers,
@@ -68,7 +68,7 @@ impl OuterArray {
         join_fault(&mut self.polygons, element.rings);
     }
 
-    /// Adds an element that is a position told as one.
+    /// Adds an element that is a position and comes as one [`Flat`].
     #[inline]
     pub fn add_flat(&mut self, position: &Flat)
         ensures { self.new ≡ first_gathering.added self.old (flat_second position.now) }
@@ -81,7 +81,7 @@ impl OuterArray {
         join_fault(&mut self.polygons, misshapen);
     }
 
-    /// The same where it changes no fault.
+    /// Adds such an element where it changes no fault.
     #[inline(always)]
     pub fn add_steady(&mut self, position: &Flat)
         ensures { IsCounted self.old.numbers → self.new ≡ first_steady position.now self.old }
@@ -90,7 +90,8 @@ impl OuterArray {
         flat::warn_quick(position, &mut self.positions_warned);
     }
 
-    /// Holds of a position told as one, which is the whole value, its least fault as positions and its own warnings.
+    /// Takes a position that is the whole value and comes as one [`Flat`]: it keeps the least fault of its numbers as
+    /// positions, and its own warnings.
     #[inline]
     pub fn hold_flat(&mut self, position: &Flat)
         ensures { self.new ≡ flat_held position.now self.old }
@@ -124,7 +125,7 @@ impl OuterArray {
         faults.multi_polygon = self.positions;
     }
 
-    /// What is worth a warning in such a value for a type.
+    /// What deserves a warning in such a value for a type.
     #[inline]
     pub fn held_warned(&self, simple: Simple) -> Warned
         ensures { result ≡ held_warned simple self.now.positions_warned }
@@ -163,7 +164,7 @@ impl OuterArray {
         }
     }
 
-    /// Whether a few looks show that there is nothing worth a warning for any type.
+    /// Whether a few comparisons show that nothing deserves a warning for any type. `false` promises nothing.
     #[inline]
     pub fn is_quiet(&self) -> bool
         ensures { result ≡ quiet_in self.now }
@@ -175,7 +176,7 @@ impl OuterArray {
         }
     }
 
-    /// The same of an array that is not empty.
+    /// Whether they show it of an array that is not empty.
     #[inline]
     fn is_some_quiet(&self) -> bool
         ensures { result ≡ some_quiet_in self.now }
@@ -210,7 +211,7 @@ impl OuterArray {
         }
     }
 
-    /// What is worth a warning for a type.
+    /// What deserves a warning for a type.
     pub fn warned(&self, simple: Simple) -> Warned
         ensures { result ≡ warned_in simple self.now }
     {
@@ -223,7 +224,7 @@ impl OuterArray {
         }
     }
 
-    /// What is worth a warning in an array that is not empty.
+    /// What deserves a warning in an array that is not empty.
     fn some_warned(&self, simple: Simple) -> Warned
         ensures { result ≡ some_warned_in simple self.now }
     {
@@ -236,7 +237,7 @@ impl OuterArray {
         }
     }
 
-    /// Adds what is worth a warning for a type to others.
+    /// Adds what deserves a warning for a type to other warnings.
     pub fn warn(&self, simple: Simple, warned: &mut Warned)
         ensures { warned.new ≡ taken warned.old (warned_in simple self.now) }
     {
@@ -247,7 +248,7 @@ impl OuterArray {
         }
     }
 
-    /// Adds what is worth a warning in an array that is not empty.
+    /// Adds what deserves a warning in an array that is not empty.
     fn warn_some(&self, simple: Simple, warned: &mut Warned)
         ensures { warned.new ≡ taken warned.old (some_warned_in simple self.now) }
     {

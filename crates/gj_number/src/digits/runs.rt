@@ -7,7 +7,7 @@ use super::{Digits, FAR, MOST_PLACES};
 use crate::lanes::{digit_run, zero_run};
 use crate::run::{HEAD_DIGITS, Run, zeros_in_front};
 
-/// How many digits are taken before a point and behind it.
+/// The number of digits that are taken before a point, and after it.
 #[derive(Clone, Copy)]
 pub(crate) struct Plain {
     pub(crate) before: usize,
@@ -17,8 +17,8 @@ pub(crate) struct Plain {
 impl Digits {
     ghost use Rattle.gj_number.specs.Internal.KeptDigits.{Keeps, KeepsAll, RunKeeps, HasRoom};
 
-    /// Takes the digits at the front of the piece that stand before the point, while `head` has room
-    /// for them or where they make no difference any more, and answers how many.
+    /// Takes the first digits of the piece, which stand before the point, while `head` has room for them or where they
+    /// make no difference any more. It returns how many it took.
     #[inline]
     pub(crate) fn push_natural_run(&mut self, piece: &[u8]) -> usize
         ensures length { result ≤ length piece.now }
@@ -33,7 +33,7 @@ impl Digits {
         }
     }
 
-    /// How many digits at the front of the piece make no difference, since the number is not held whatever follows.
+    /// The number of first digits of the piece that make no difference, since the number is not held whatever follows.
     #[inline]
     fn pass_run(&self, piece: &[u8]) -> usize
         ensures length { result ≤ length piece.now }
@@ -50,7 +50,7 @@ impl Digits {
         }
     }
 
-    /// As `push_natural_run` for digits that stand behind the point.
+    /// Takes the first digits of the piece as `push_natural_run` does, where they stand after the point.
     #[inline]
     pub(crate) fn push_fraction_run(&mut self, piece: &[u8]) -> usize
         ensures length { result ≤ length piece.now }
@@ -73,7 +73,7 @@ impl Digits {
         }
     }
 
-    /// How many zeros at the front of the piece make no difference, since they stand past the places that are counted.
+    /// The number of first zeros of the piece that make no difference, since they stand past the places that are counted.
     #[inline]
     fn pass_zeros(&self, piece: &[u8]) -> usize
         requires { self.now.places ≡ 1400 }
@@ -85,7 +85,7 @@ impl Digits {
         zero_run(piece)
     }
 
-    /// The same one by one, as far as places are counted.
+    /// Takes digits after the point one by one, as far as places are counted. It returns how many it took.
     #[inline(never)]
     fn push_rest_run(&mut self, piece: &[u8]) -> usize
         ensures length { result ≤ length piece.now }
@@ -105,7 +105,7 @@ impl Digits {
         piece.len()
     }
 
-    /// The same where no digit but zeros has come.
+    /// Takes digits after the point where no digit but zeros has come. It returns how many it took.
     #[inline]
     fn push_small_run(&mut self, piece: &[u8]) -> usize
         requires { self.old.count ≡ 0 }
@@ -119,7 +119,7 @@ impl Digits {
         zeros + self.push_first_run(&piece[zeros..])
     }
 
-    /// The same where the first of the digits is no zero.
+    /// Takes digits after the point where none has come and the first of them is no zero. It returns how many it took.
     #[inline]
     fn push_first_run(&mut self, piece: &[u8]) -> usize
         requires { self.old.count ≡ 0 }
@@ -148,8 +148,8 @@ impl Digits {
         self.count > 0 && self.count as u16 + self.pending < HEAD_DIGITS as u16
     }
 
-    /// Takes the digits at the front of the piece that stand before the point and, where a point and a digit
-    /// follow, those behind the point, while `head` has room for them.
+    /// Takes the first digits of the piece, which stand before the point, and where a point and a digit follow, those
+    /// after the point, while `head` has room for them.
     #[inline]
     pub(crate) fn push_plain_run(&mut self, piece: &[u8]) -> Plain
         ensures length { result.before ≤ length piece.now }
@@ -173,7 +173,7 @@ impl Digits {
         Plain { before, behind }
     }
 
-    /// Takes a run of digits, but for how many stand behind the point.
+    /// Takes a run of digits, and leaves the count of those after the point as it is. It returns how many it took.
     #[inline]
     fn push_run(&mut self, piece: &[u8]) -> usize
         requires { HasRoom self.old }
@@ -189,7 +189,7 @@ impl Digits {
         taken
     }
 
-    /// The kept digits and the zeros behind them.
+    /// The kept digits and the zeros after them.
     #[inline]
     fn run(&self) -> Run
         requires { HasRoom self.now }
@@ -198,7 +198,7 @@ impl Digits {
         Run::new(self.head, self.count, self.pending as u8)
     }
 
-    /// The digits of a run, of which so many stand behind the point.
+    /// The digits of a run, of which `places` stand after the point.
     #[inline]
     fn of_run(run: Run, places: u16) -> Digits
         requires { places ≤ 1400 }

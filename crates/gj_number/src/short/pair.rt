@@ -1,7 +1,7 @@
 //! Two numbers with a comma between them, read at once.
 //!
 //! Most positions are two numbers of a few digits before a point and up to a dozen after it. Such numbers are found by
-//! few looks, and the digits of both make their values together.
+//! a few comparisons, and the digits of both make their values together.
 ghost use mir.Val.{bool_byte};
 ghost use Rattle.std.specs.Prelude.{◌≡◌, ◌==◌, ℕ, ◌+◌, ◌^◌, ◌<◌, ◌≤◌, length, get_or, IfSome};
 ghost use Rattle.std.specs.List.{fold};
@@ -17,7 +17,7 @@ use super::Short;
 use crate::lanes::{numbers_of, pointed_prefix};
 use std::simd::prelude::*;
 
-/// How long a piece must be at the least, so that nothing is read past its end.
+/// The least length of a piece, so that nothing is read past its end.
 const ROOM: usize = 40;
 
 /// Where two numbers stand: how many bytes the first has, and the indices of the second and of the byte after it.
@@ -38,8 +38,8 @@ struct Digits {
 
 /// The index two bytes after that of a comma.
 ///
-/// It is a call of its own, so that the processor guesses whether a space follows, and does not wait for the byte before it
-/// reads on.
+/// It is a function of its own, so that the processor predicts whether a space follows, and does not wait for the byte
+/// before it reads on.
 #[inline(never)]
 fn after_space(comma: usize) -> usize
     requires { comma + 2 < 2 ^ 64 }
@@ -95,7 +95,7 @@ pub fn read_pair(piece: &[u8], first: &mut Short, second: &mut Short) -> Option<
     })
 }
 
-/// The same of a piece that is too short for them to be read where they stand: they are read in a copy with room after it.
+/// Reads two such numbers from a piece that is too short for [`read_pair`]: it reads them in a copy with room after it.
 #[inline(never)]
 pub fn read_last_pair(piece: &[u8], first: &mut Short, second: &mut Short) -> Option<Pair>
     requires { length piece.now < 40 }

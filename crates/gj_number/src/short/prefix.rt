@@ -1,8 +1,8 @@
 //! The ordinary number that a piece starts with, read at once.
 //!
-//! Nearly all are read as sixteen bytes in lanes ([`short_number`]). A longer one, or one before an unusual byte, is read
-//! by its runs of digits ([`long_number`]), so that each ordinary number is taken. An exponent moves the point of the digits before it, so a
-//! number with a small one is read as the ordinary number that it is equal to.
+//! Nearly all are read as sixteen bytes in lanes ([`short_number`]). A longer one, or one before an unusual byte, is
+//! read by its runs of digits ([`long_number`]), so that each ordinary number is read. An exponent moves the point of
+//! the digits before it, so a number with a small exponent is read as the ordinary number that it is equal to.
 ghost use Rattle.std.specs.Prelude.{◌≡◌, ◌↔◌, ℕ, ◌+◌, ◌-◌, ◌*◌, ◌^◌, ◌<◌, ◌≤◌, ◌∷◌, [], length, take, get_or, IsTrue};
 ghost use Rattle.gj_number.specs.Bytes.{zero_digit, IsDigit, IsExponentLetter, IsNumberByte};
 ghost use Rattle.gj_number.specs.Short.{exact_of, StartsWithNumber, StartsOrdinary};
@@ -15,17 +15,17 @@ use crate::lanes::{first_digits, unsigned_prefix};
 use crate::state::{is_behind, may_stand};
 use crate::tens::ten_to;
 
-/// How many digits an ordinary number has at most.
+/// The most digits of an ordinary number.
 const MOST_DIGITS: usize = 18;
 
 /// How many digits are read at once.
 const AT_ONCE: usize = 16;
 
-/// How many digits of an exponent are read at most.
+/// The most digits of an exponent that are read.
 const MOST_EXPONENT_DIGITS: usize = 3;
 
-/// How long a piece must be at the least, so that nothing is read past its end: a sign, the digits before the point, the
-/// point, and as many bytes as the digits after it are read with.
+/// The least length of a piece, so that nothing is read past its end: a sign, the digits before the point, the point,
+/// and as many bytes as the digits after it are read with.
 const ROOM: usize = 40;
 
 /// Digits that were read: how many, and the number that they spell after those before them.
@@ -35,12 +35,12 @@ struct Spelled {
     count: usize,
 }
 
-/// Reads the ordinary number that the piece starts with: how many bytes it has, or 0 where none is found.
+/// Reads the ordinary number that the piece starts with. It returns the number of its bytes, or 0 where none is found.
 ///
-/// It is found in each piece of at least 40 bytes that starts with one, where the byte after it is of no number; in a
-/// shorter piece it is read from a copy. A number with an exponent is found too where it is equal to an ordinary one, and
-/// few digits write the exponent. Where 0 is answered, the piece may start with another number, and `number` is no longer
-/// of use.
+/// It is found in each piece of at least 40 bytes that starts with one, where no number contains the byte after it; in
+/// a shorter piece it is read from a copy. A number with an exponent is found too where it is equal to an ordinary one,
+/// and few digits write the exponent. Where it returns 0, the piece may start with another number, and the content of
+/// `number` means nothing.
 #[inline(always)]
 pub fn read_short(piece: &[u8], number: &mut Short) -> usize
     ensures number { 0 < result → StartsWithNumber piece.now (exact_of number.new) result }
@@ -158,8 +158,8 @@ fn long_number(piece: &[u8], negative: bool, number: &mut Short) -> usize
     end + 1 + fraction.count
 }
 
-/// Reads the exponent after a number of so many bytes that has none, and moves the number's point by it: how many bytes
-/// both have, or 0 where no exponent follows, or none that can be told by eighteen digits.
+/// Reads the exponent after a number that ends at `end`, and moves the number's point by it. It returns the number of
+/// bytes of both, or 0 where no exponent follows or eighteen digits cannot express the result.
 #[inline(always)]
 fn with_exponent(piece: &[u8], end: usize, number: &mut Short) -> usize
     requires room { end + 8 ≤ length piece.now }
@@ -220,7 +220,7 @@ fn is_letter(byte: u8) -> bool
     byte == b'e' || byte == b'E'
 }
 
-/// Whether so many digits, of which this is the first, may stand before a point: no digit follows on a first zero.
+/// Whether `count` digits, of which this is the first, may stand before a point: no digit follows a first zero.
 #[inline(always)]
 fn is_natural(first: u8, count: usize) -> bool
     ensures { IsTrue result ↔ ((0 < count) × (first ≡ zero_digit → count ≡ 1)) }
@@ -228,7 +228,7 @@ fn is_natural(first: u8, count: usize) -> bool
     count == 1 || count > 1 && first != b'0'
 }
 
-/// The same of digits of which each is counted.
+/// Whether this byte may be the first of `count` digits before a point, where `count` counts each of them.
 #[inline(always)]
 fn leads(first: u8, count: usize) -> bool
     ensures some { IsTrue result → count ≡ 0 → IsDigit first }
@@ -270,7 +270,7 @@ fn fraction_run(piece: &[u8], natural: Spelled) -> Spelled
     }
 }
 
-/// The digits that the piece starts with, up to the first byte that is none and at most so many.
+/// The digits that the piece starts with, up to the first byte that is none, and at most `most` of them.
 #[inline(always)]
 fn first_run(piece: &[u8], before: u64, most: usize) -> Spelled
     requires within { most ≤ length piece.now }
