@@ -20,6 +20,16 @@ pub enum PathStep {
     Member(Known),
 }
 
+/// Whether a member of this name holds no features, no geometry and no coordinates (RFC 7946, sections 3 and 5).
+#[inline(always)]
+fn holds_no_geometry(name: Known) -> bool {
+    match name {
+        Known::Features | Known::Geometry | Known::Geometries | Known::Coordinates | Known::Bbox =>
+            false,
+        _ => true,
+    }
+}
+
 /// The step to the first element of an array.
 const FIRST: PathStep = PathStep::Index(0);
 
@@ -116,6 +126,18 @@ impl Path {
         }
     }
 
+    /// Whether the innermost level is the value of a member that holds no feature, no geometry and no coordinates.
+    #[inline(always)]
+    fn is_in_other_member(&self) -> bool {
+        if self.count < 2 {
+            return false;
+        }
+        match self.steps[self.count as usize - 2] {
+            PathStep::Member(known) => holds_no_geometry(known),
+            PathStep::Index(_) => false,
+        }
+    }
+
     /// Takes the steps to where they are after an event.
     #[inline(always)]
     fn follow(&mut self, what: What)
@@ -154,4 +176,16 @@ impl EventSink for Path {
     }
 
     fn pass(&mut self, _left: u16) {}
+
+    #[inline(always)]
+    fn may_miss(&self) -> bool {
+        self.is_in_other_member()
+    }
+
+    #[inline(always)]
+    fn tell_closed(&mut self) -> bool {
+        self.close();
+        self.advance();
+        true
+    }
 }

@@ -1,5 +1,5 @@
 //! What a reader tells its events to.
-ghost use Rattle.std.specs.Prelude.{◌≡◌, ℕ, ◌≤◌, ◌<◌, ◌∷◌, ◌++◌, [], List, length};
+ghost use Rattle.std.specs.Prelude.{◌≡◌, ℕ, ◌≤◌, ◌<◌, ◌∷◌, ◌++◌, [], List, length, IsTrue, false};
 
 use crate::event::{Event, What};
 use crate::flat::Flat;
@@ -55,6 +55,23 @@ pub trait EventSink {
     /// Events came within the levels that it ignores, whichever they are, and so many of these levels are left to close.
     fn pass(&mut self, left: u16)
         ensures { (events inner : List Event) → 0 < ignores self.old → heard self.old events → Leaves (ignores self.old) inner left → heard self.new (events ++ inner) };
+
+    /// Whether it can do without the events in the array or object that was just opened, where that closes in the same piece.
+    /// The reader then tries to close it at once.
+    #[inline(always)]
+    fn may_miss(&self) -> bool {
+        false
+    }
+
+    /// The array or object that was just opened has closed, and no event was told since: whether it has heard the same as by
+    /// these events, whichever they are. If not, it is unchanged.
+    #[inline(always)]
+    fn tell_closed(&mut self) -> bool
+        ensures heard { IsTrue result → (events inner : List Event) → heard self.old events → Leaves 1 inner 0 → heard self.new (events ++ inner) }
+        ensures same { result ≡ false → self.new ≡ self.old }
+    {
+        false
+    }
 }
 
 /// The events of one byte, of which there are two at the most.

@@ -144,3 +144,15 @@ pub ignored_by : (before after : List Event → Type 0) (m n : ℕ) (old new : R
     → MatchResult result (λ k. FeedsAll before after old new (take k piece)) (FeedsTo before after old new piece)
 ignored_by before after m n old new piece (Ok k) p f = all_as m n old new (take k piece) p f
 ignored_by before after m n old new piece (Err fault) p f = to_as m n old new piece fault p f
+
+-- the innermost level has closed
+pub innermost_closed : (floor : ℕ) (old new : Reader) (given : List ℕ) → length (levels_in old.levels) ≡ floor + 1 → length (levels_in new.levels) ≡ floor → FeedsWithin floor old new given
+    → FeedsAll (λ events. events ≡ []) (λ events. Leaves 1 events 0) old new given
+innermost_closed floor old new given e c f =
+    let m : above floor old ≡ 1 = omega (arith, e) in
+    let n : above floor new ≡ 0 = omega (arith, c) in
+    all_by {before = λ events. events ≡ []} {within = λ events. Leaves (above floor old) events (above floor new)} {after = λ events. Leaves 1 events 0} old new given
+    (λ events inner h l.
+    let k : Leaves 1 inner (above floor new) = subst (λ x. Leaves x inner (above floor new)) m l in
+    let j : Leaves 1 inner 0 = subst (λ x. Leaves 1 inner x) n k in
+    rw h j) f

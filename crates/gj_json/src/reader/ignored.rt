@@ -1,6 +1,6 @@
 //! Bytes whose events do not matter to the sink.
 
-ghost use Rattle.std.specs.Prelude.{◌≡◌, ◌+◌, ◌^◌, ◌≤◌, ◌<◌, length, take, IfOk, MatchResult, None};
+ghost use Rattle.std.specs.Prelude.{◌≡◌, ◌+◌, ◌^◌, ◌≤◌, ◌<◌, [], length, take, IfOk, MatchResult, None};
 ghost use Rattle.gj_json.specs.Internal.OpenLevels.{levels_in};
 
 use super::Reader;
@@ -9,6 +9,7 @@ use crate::mode::Mode;
 use crate::sink::{EventSink, NoEvents};
 
 impl Reader {
+    ghost use Rattle.gj_json.specs.Ignored.{Leaves};
     ghost use Rattle.gj_json.specs.Internal.FedReader.{FeedsAll, FeedsTo, FeedsWithin, FeedsWithinTo};
 
     /// Takes bytes from the front of the piece, one at least, where some levels above the floor are open: how many.
@@ -103,5 +104,67 @@ impl Reader {
             Mode::ObjectOpened | Mode::ArrayOpened => self.take_ignored(piece, sink),
             _ => Ok(0),
         }
+    }
+
+    /// Takes the bytes of the piece up to the end of the innermost array or object: how many, or 0 where it does not end there.
+    fn take_innermost(&mut self, piece: &[u8]) -> usize
+        requires live { self.old.fault ≡ None }
+        requires room { self.old.offset + length piece.now ≤ self.old.limits.bytes }
+        requires small { self.old.limits.bytes ≤ 2 ^ 60 }
+        ensures within { result ≤ length piece.now }
+        ensures feeds { 0 < result → FeedsAll (λ events. events ≡ []) (λ events. Leaves 1 events 0) self.old self.new (take result piece.now) }
+    {
+        let open = self.levels.len();
+        if open == 0 {
+            return 0;
+        }
+        match self.take_within(piece, open - 1) {
+            Ok(count) => { if self.levels.len() < open { count } else { 0 } }
+            Err(_) => 0,
+        }
+    }
+
+    /// Takes the array or object that was just opened, where it ends in the piece and the sink may miss its events: how many
+    /// bytes, or 0 where nothing was taken.
+    #[inline(never)]
+    fn take_missed<S: EventSink>(&mut self, piece: &[u8], sink: &mut S) -> usize
+        requires live { self.old.fault ≡ None }
+        requires room { self.old.offset + length piece.now ≤ self.old.limits.bytes }
+        requires small { self.old.limits.bytes ≤ 2 ^ 60 }
+        ensures within { result ≤ length piece.now }
+        ensures feeds { FeedsAll (S.heard sink.old) (S.heard sink.new) self.old self.new (take result piece.now) }
+    {
+        let before = *self;
+        let count = self.take_innermost(piece);
+        if count > 0 && sink.tell_closed() {
+            return count;
+        }
+        *self = before;
+        0
+    }
+
+    /// The same, told at once where no such array or object has just been opened, or fewer than `least` bytes are left.
+    ///
+    /// Where it ends only after the piece, or a byte in it is refused, these bytes are read again with their events. So no other
+    /// is tried in the piece then, and none where less is left than the last one had: each byte is read twice at the most.
+    #[inline(always)]
+    pub(super) fn take_if_missed<S: EventSink>(
+        &mut self,
+        piece: &[u8],
+        least: &mut usize,
+        sink: &mut S,
+    ) -> usize
+        requires live { self.old.fault ≡ None }
+        requires room { self.old.offset + length piece.now ≤ self.old.limits.bytes }
+        requires small { self.old.limits.bytes ≤ 2 ^ 60 }
+        ensures within { result ≤ length piece.now }
+        ensures feeds { FeedsAll (S.heard sink.old) (S.heard sink.new) self.old self.new (take result piece.now) }
+    {
+        if piece.len() < *least || !self.may_be_missed(sink) {
+            return 0;
+        }
+        let count = self.take_missed(piece, sink);
+        *least = if count > 0 { count } else { usize::MAX };
+        count
     }
 }

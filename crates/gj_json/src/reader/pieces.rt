@@ -178,6 +178,7 @@ impl Reader {
             Ok(count) => count,
             Err(fault) => return Err(fault),
         };
+        let mut least = 1;
         while at < piece.len() {
             match self.take_some(&piece[at..], sink) {
                 Ok(count) => at += count,
@@ -187,6 +188,7 @@ impl Reader {
                 Ok(count) => at += count,
                 Err(fault) => return Err(fault),
             }
+            at += self.take_if_missed(&piece[at..], &mut least, sink);
         }
         Ok(())
     }

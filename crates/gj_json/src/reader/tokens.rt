@@ -432,7 +432,7 @@ impl Reader {
         ensures feeds { FeedsAll (S.heard sink.old) (S.heard sink.new) self.old self.new (take result piece.now) }
     {
         let mut at = self.take_open(Level::Array, piece, sink);
-        if self.is_ignored(sink) {
+        if self.is_ignored(sink) || self.may_be_missed(sink) {
             return at;
         }
         let mut numbers = 0;
@@ -513,6 +513,15 @@ impl Reader {
         }
     }
 
+    /// Whether a container has just been opened whose events the sink may miss, where it closes in the piece.
+    #[inline(always)]
+    pub(super) fn may_be_missed<S: EventSink>(&self, sink: &S) -> bool {
+        match self.mode {
+            Mode::ObjectOpened | Mode::ArrayOpened => sink.may_miss(),
+            _ => false,
+        }
+    }
+
     /// Takes the tokens that stand whole at the start of the piece, one after another, as far as their events matter to the
     /// sink: how many bytes.
     #[inline(never)]
@@ -530,6 +539,9 @@ impl Reader {
                 return at;
             }
             at += count;
+            if self.may_be_missed(sink) {
+                return at;
+            }
         }
         at
     }

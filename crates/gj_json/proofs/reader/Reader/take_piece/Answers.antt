@@ -14,10 +14,14 @@ loop-at-preserved g c =
     let piece = c.args.piece.now in
     let some = CallsInTurn.piece_all c.args.self.now c.loop-at.self c.take_some.new.self piece c.loop-at.at c.in-Ok-take_some.count c.loop-at.invariant.fed
     (CallsInTurn.rest_all c.loop-at.self c.take_some.new.self piece c.loop-at.at c.in-Ok-take_some.count fed) in
+    let more = CallsInTurn.piece_all c.args.self.now c.take_some.new.self c.take_if_opened.new.self piece at c.in-Ok-take_if_opened.count some
+    (CallsInTurn.rest_all c.take_some.new.self c.take_if_opened.new.self piece at c.in-Ok-take_if_opened.count passed) in
+    let next = at + c.in-Ok-take_if_opened.count in
+    let count = c.take_if_missed-at.result in
     record {
-      within = more_within piece at c.in-Ok-take_if_opened.count (more_within piece c.loop-at.at c.in-Ok-take_some.count c.loop-at.invariant.within within.1) also;
-      fed = CallsInTurn.piece_all c.args.self.now c.take_some.new.self c.take_if_opened.new.self piece at c.in-Ok-take_if_opened.count some
-          (CallsInTurn.rest_all c.take_some.new.self c.take_if_opened.new.self piece at c.in-Ok-take_if_opened.count passed);
+      within = more_within piece next count (more_within piece at c.in-Ok-take_if_opened.count (more_within piece c.loop-at.at c.in-Ok-take_some.count c.loop-at.invariant.within within.1) also) c.take_if_missed-at.ensures.within;
+      fed = CallsInTurn.piece_all c.args.self.now c.take_if_opened.new.self c.take_if_missed-at.new.self piece next count more
+          (CallsInTurn.rest_all c.take_if_opened.new.self c.take_if_missed-at.new.self piece next count c.take_if_missed-at.ensures.feeds);
     }
 
 pub returns-in-Err-take_some : goal.returns-in-Err-take_some

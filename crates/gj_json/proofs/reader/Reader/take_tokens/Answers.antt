@@ -19,3 +19,9 @@ returns-then-count-eq0-clause-feeds g c =
     subst P e
     (CallsInTurn.piece_all c.args.self.now c.loop-at.self c.take_token-count.new.self c.args.piece.now c.loop-at.at c.take_token-count.result c.loop-at.invariant.fed
     (CallsInTurn.rest_all c.loop-at.self c.take_token-count.new.self c.args.piece.now c.loop-at.at c.take_token-count.result c.take_token-count.ensures.feeds))
+
+-- a container was opened whose events the sink may miss
+pub returns-then-may_be_missed-clause-feeds : goal.returns-then-may_be_missed-clause-feeds
+returns-then-may_be_missed-clause-feeds g c =
+    CallsInTurn.piece_all c.args.self.now c.loop-at.self c.take_token-count.new.self c.args.piece.now c.loop-at.at c.take_token-count.result c.loop-at.invariant.fed
+    (CallsInTurn.rest_all c.loop-at.self c.take_token-count.new.self c.args.piece.now c.loop-at.at c.take_token-count.result c.take_token-count.ensures.feeds)
