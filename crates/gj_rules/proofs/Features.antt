@@ -6,3 +6,4 @@ pub mod FeaturesSoFar
 pub mod EventsPassed
 pub mod FeaturesSaid
 pub mod FeaturesInTime
+pub mod FeaturesByCommas

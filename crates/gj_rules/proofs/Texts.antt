@@ -7,6 +7,7 @@ pub mod RoleDepths
 pub mod OneEventMore
 pub mod IgnoredValues
 pub mod LinterEvents
+pub mod WiderLimits
 pub mod OneFlatMore
 pub mod PlacesOfFaults
 pub mod PlacesOfWarnings

@@ -1,7 +1,8 @@
 -- What is found in each feature of a text: in each element of the array that the first `features` of the text's object holds
 -- (RFC 7946, section 3.3), whatever the object's type says and wherever it stands.
-use Rattle.std.specs.Prelude.{ℕ, ◌+◌, nat_le, ◌≡◌, if◌then◌else◌, List, [], ◌∷◌, length, Option, Some, None}
-use Rattle.std.specs.List.{flat_map}
+use Rattle.std.specs.Prelude.{ℕ, ◌+◌, nat_le, nat_eq, ◌≡◌, if◌then◌else◌, Bool, List, [], ◌∷◌, length, Option, Some, None}
+use Rattle.std.specs.List.{flat_map, count_by}
+use Rattle.gj_json.specs.Bytes.{comma}
 use Rattle.gj_json.specs.declared.names.Known.TheVariants.{Features, Id}
 use Rattle.gj_json.specs.declared.names.Word.{Word}
 use Rattle.gj_json.specs.Grammar.{letters_of}
@@ -19,12 +20,14 @@ use Rattle.gj_rules.specs.TextWarnings.{first_value, warnings, text_warnings}
 
 -- ---- one feature
 
--- `index` counts the elements from 0. `place` is that of the element's first byte, `end` that after its last, and `id` that of
--- the first byte of the value of its first member `id`, where it has one.
+-- `index` counts the elements from 0. `place` is that of the element's first byte, `end` that after its last, `close` that of its
+-- closing bracket, where it is an object or an array, and `id` that of the first byte of the value of its first member `id`, where
+-- it has one.
 pub record FeatureFinding : Type 0 where
   pub index : ℕ
   pub place : ℕ
   pub end : ℕ
+  pub close : Option ℕ
   pub id : Option ℕ
   pub fault : Option Fault
   pub warnings : List Warning
@@ -36,6 +39,12 @@ end_of (number place literal end) = end
 end_of (string place content end) = end
 end_of (array place elements close) = close + 1
 end_of (object place members close) = close + 1
+
+-- the place of its closing bracket, where it has one
+abbrev pub closing_of : Tree → Option ℕ
+closing_of (array place elements close) = Some close
+closing_of (object place members close) = Some close
+closing_of _ = None
 
 abbrev pub place_if : Option Tree → Option ℕ
 place_if None = None
@@ -56,6 +65,7 @@ finding_of index value = record {
   index = index;
   place = place_of value;
   end = end_of value;
+  close = closing_of value;
   id = id_place value;
   fault = least (faults Role.Feature value);
   warnings = unless_broken (least (faults Role.Feature value)) (warnings Role.Feature value);
@@ -95,6 +105,15 @@ complete_in n (value ∷ more) = if nat_le (complete_at value) n then value ∷ 
 -- what is found in the features that are complete in the first n bytes
 abbrev pub findings_by : ℕ → Text → List FeatureFinding
 findings_by n text = findings_from 0 (complete_in n (features_of text.value))
+
+-- ---- in a run of bytes
+
+abbrev pub is_comma : ℕ → Bool
+is_comma byte = nat_eq byte comma
+
+-- how many of these bytes are commas
+abbrev pub commas : List ℕ → ℕ
+commas bytes = count_by is_comma bytes
 
 -- ---- the text without its features
 

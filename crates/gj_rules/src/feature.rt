@@ -31,3 +31,10 @@ pub trait FeatureSink {
     fn tell_feature(&mut self, feature: &Feature)
         ensures { (features : List Feature) → told self.old features → told self.new (features ++ feature.now ∷ []) };
 }
+
+/// A sink that can forget what it was told.
+pub trait ForgetfulSink: FeatureSink {
+    /// As before the first feature.
+    fn forget(&mut self)
+        ensures { Self.told self.new [] };
+}

@@ -8,7 +8,7 @@ ghost use Rattle.gj_json.specs.Tree.{Text};
 ghost use Rattle.gj_coords.specs.Fault.{least, lesser};
 ghost use Rattle.gj_rules.specs.Faults.{text_faults};
 ghost use Rattle.gj_rules.specs.TextWarnings.{text_warnings};
-ghost use Rattle.gj_rules.specs.FeatureFindings.{FeatureFinding, feature_findings, findings_by, own_faults, own_warnings, IsCollection, least_found, warnings_found};
+ghost use Rattle.gj_rules.specs.FeatureFindings.{FeatureFinding, feature_findings, findings_by, commas, own_faults, own_warnings, IsCollection, least_found, warnings_found};
 ghost use Rattle.gj_rules.specs.FeaturesTold.{SayFindings};
 ghost use Rattle.gj_rules.specs.Internal.FeatureSteps.{features_by};
 
@@ -32,6 +32,13 @@ pub fn features_so_far()
 /// that the piece completes.
 pub fn features_in_time()
     ensures { (text : Text) (bytes : List ℕ) (m n : ℕ) → IsText text bytes → m ≤ n → length (findings_by n text) ≤ length (findings_by m text) + (n - m) }
+{}
+
+/// Between two features of a text stands a comma. So in a run of its bytes at most one feature more is complete than the run has
+/// commas, and a queue with room for as many takes all.
+pub fn features_by_commas()
+    ensures { (text : Text) (before run after : List ℕ) → IsText text (before ++ run ++ after)
+        → length (findings_by (length before + length run) text) ≤ length (findings_by (length before) text) + commas run + 1 }
 {}
 
 /// No more features of a text are complete in its first bytes than there are bytes.

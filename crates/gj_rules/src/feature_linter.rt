@@ -5,7 +5,7 @@ ghost use Rattle.gj_json.specs.declared.fault.JsonFault.{JsonFault};
 ghost use Rattle.gj_json.specs.declared.limits.TheConstants.{MOST_LEVELS};
 ghost use Rattle.gj_json.specs.Reader.{limits_of as reader_limits};
 
-use crate::feature::FeatureSink;
+use crate::feature::{FeatureSink, ForgetfulSink};
 use crate::feature_laws::features_say;
 use crate::feature_rules::FeatureRules;
 use crate::linter::{Progress, tell_last, verdict_of};
@@ -123,5 +123,20 @@ impl<S: FeatureSink> FeatureLinter<S> {
     {
         bytes_taken();
         self.reader.offset()
+    }
+}
+
+impl<S: ForgetfulSink> FeatureLinter<S> {
+    ghost use Rattle.gj_rules.specs.FeatureLinter.{StandsFor, limits_of, refusal_of, offset_of};
+
+    /// As a new linter under these limits, where it lies: little of it is written, and the sink forgets.
+    pub fn begin_again(&mut self, limits: Limits)
+        ensures stands { StandsFor S.told self.new [] }
+        ensures limits { limits_of self.new ≡ limits }
+        ensures refusal { refusal_of self.new ≡ None }
+        ensures offset { offset_of self.new ≡ 0 }
+    {
+        self.rules.begin_again();
+        self.reader = Reader::new(limits);
     }
 }

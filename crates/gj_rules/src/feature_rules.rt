@@ -1,7 +1,7 @@
 //! Rules that tell each feature as it ends.
 ghost use Rattle.std.specs.Prelude.{◌≡◌, ℕ, ◌<◌, ◌≤◌, ◌^◌, [], ◌∷◌, ◌++◌, List, length};
 
-use crate::feature::FeatureSink;
+use crate::feature::{FeatureSink, ForgetfulSink};
 use crate::feature_count::FeatureCount;
 use crate::rules::Rules;
 use gj_json::{Event, EventSink, Flat, What};
@@ -104,6 +104,19 @@ impl<S: FeatureSink> FeatureRules<S> {
             place: flat.close,
             what: What::CloseArray,
         });
+    }
+}
+
+impl<S: ForgetfulSink> FeatureRules<S> {
+    ghost use Rattle.gj_rules.specs.Internal.FeatureSteps.{Stand};
+
+    /// Before the first event of another text, whatever was told: little is written, and the sink forgets.
+    pub(crate) fn begin_again(&mut self)
+        ensures { Stand (S.told self.new.sink) self.new.rules self.new.count [] }
+    {
+        self.rules.begin_again();
+        self.count = FeatureCount::new();
+        self.sink.forget();
     }
 }
 

@@ -8,6 +8,7 @@
 //! the length of the text and wherever an object's `type` stands.
 //!
 //! A [`FeatureLinter`] tells what is found in each feature of a text too, as soon as the feature has ended.
+//! [`check_text`] answers the verdict of a text in memory, and writes few frames for a small one.
 #![tactic(auto)]
 
 mod feature;
@@ -30,13 +31,15 @@ mod role;
 mod rules;
 mod sequence;
 mod shapes;
+mod text;
 mod verdict;
 
-pub use feature::{Feature, FeatureSink};
+pub use feature::{Feature, FeatureSink, ForgetfulSink};
 pub use feature_linter::FeatureLinter;
 pub use feature_rules::FeatureRules;
 pub use linter::{Linter, Progress};
 pub use records::{Framing, Record, RecordSink, Records, Taken, Whole};
 pub use rules::Rules;
 pub use sequence::{SeqProgress, SeqVerdict, Sequence, one_sequence_verdict};
+pub use text::check_text;
 pub use verdict::{Verdict, one_verdict};

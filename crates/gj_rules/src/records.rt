@@ -84,6 +84,25 @@ impl Records {
         }
     }
 
+    /// As new ones, where they lie: little of them is written.
+    pub fn begin_again(&mut self, framing: Framing, limits: Limits)
+        ensures stands { StandsFor self.new [] [] }
+        ensures framing { framing_of self.new ≡ framing }
+        ensures limits { limits_of self.new ≡ limits }
+    {
+        self.record.begin_under(record_limits(limits), 0);
+        self.whole = SeqVerdict::Valid {
+            records: 0,
+            warnings: Warnings::none(),
+        };
+        self.limits = limits;
+        self.number = framing.first_number();
+        self.framing = framing;
+        let has_bytes = false;
+        self.is_void = !has_bytes;
+        self.is_over = has_bytes;
+    }
+
     /// Takes the next bytes of the input, and tells the sink each record that ends in them. The first byte beyond the limit
     /// ends the open record, which is then too long, and all after that is passed over.
     pub fn feed<S: RecordSink>(&mut self, piece: &[u8], sink: &mut S)

@@ -1,6 +1,6 @@
 //! The rules and the warnings of RFC 7946, found from the events of a text.
 ghost use Rattle.std.specs.Prelude.{◌≡◌, ℕ, ◌<◌, ◌≤◌, ◌^◌, [], List, length, true, false, None, IsTrue};
-ghost use Rattle.gj_rules.specs.declared.rules.TheConstants.{MOST_AROUND};
+ghost use Rattle.gj_rules.specs.declared.rules.TheConstants.{MOST_FRAMES};
 
 mod doomed;
 mod events;
@@ -17,18 +17,21 @@ use gj_coords::{Bbox, Coordinates, Fault, Warned, Warnings};
 use gj_json::{Event, EventSink, Flat, Known, MOST_LEVELS, What};
 use std::mem::size_of;
 
-/// How many objects with a role can be open around the innermost one: at most one for each two levels.
-const MOST_AROUND: usize = MOST_LEVELS as usize / 2;
+/// How many objects with a role can be open in a text within the limits: at most one for each two levels, and one.
+pub const MOST_FRAMES: usize = MOST_LEVELS as usize / 2 + 1;
 
 /// Finds the least fault and the warnings of a text from its events, in whatever order the members
 /// stand.
 ///
 /// Only an object with a role has a frame, whatever its type and those of the objects around it. A
 /// value without a role is skipped by a count of its levels.
+///
+/// There are `FRAMES` frames, which are written when the rules are made: that is what rules cost which see a small text. So
+/// many serve a text that nests at most `2 * FRAMES - 2` levels deep. [`Rules`] has enough of them for every text.
 #[derive(Drop)]
-pub struct Rules {
+pub struct FramedRules<const FRAMES: usize> {
     /// The frames of the open objects with a role, the outermost first: up to that of the innermost one.
-    frames: [Frame; MOST_AROUND + 1],
+    frames: [Frame; FRAMES],
     /// How many are open around the innermost one. Its frame is the one at this index.
     around: u16,
     coordinates: Coordinates,
@@ -38,13 +41,28 @@ pub struct Rules {
     mode: Mode,
     /// How many levels of a value are open that is not looked into.
     skipped: u16,
-    ghost fits: { around ≤ MOST_AROUND },
+    ghost fits: { around < FRAMES },
+    ghost few: { FRAMES ≤ MOST_FRAMES },
 }
 
+/// The rules with as many frames as there can be open objects with a role.
+pub type Rules = FramedRules<MOST_FRAMES>;
+
 // The frames lie in it from the start.
-const _: () = prove!(size_of::<Rules>() <= (MOST_AROUND + 1) * size_of::<Frame>() + 4096);
+const _: () = prove!(size_of::<Rules>() <= MOST_FRAMES * size_of::<Frame>() + 4096);
 
 impl Rules {
+    ghost use Rattle.gj_rules.specs.Rules.{StandsFor};
+
+    /// Before the first event of a text.
+    pub fn new() -> Self
+        ensures stands { StandsFor result [] }
+    {
+        FramedRules::at_start()
+    }
+}
+
+impl<const FRAMES: usize> FramedRules<FRAMES> {
     ghost use Rattle.gj_json.specs.Tree.{Tree, Text, depth};
     ghost use Rattle.gj_json.specs.Events.{all_events, events_by, value_events};
     ghost use Rattle.gj_json.specs.Text.{IsText};
@@ -61,23 +79,27 @@ impl Rules {
     ghost use Rattle.gj_rules.specs.Internal.EventSteps.{start, core_step, is_feeding, ended_as};
     ghost use Rattle.gj_rules.specs.Internal.Summaries.{StandsForCoordinates, StandsForBbox};
     ghost use Rattle.gj_rules.specs.Internal.RulesState.{core_of, frames_by, Holds, HasRoom, Feeds};
-    ghost use Rattle.gj_rules.specs.Levels.{most_levels};
+    ghost use Rattle.gj_rules.specs.Levels.{most_levels, levels_within};
     ghost use Rattle.gj_rules.specs.Internal.SkippedLevels.{most_skipped};
     ghost use Rattle.gj_rules.specs.Rules.{StandsFor};
 
     /// Before the first event of a text.
-    pub fn new() -> Self
+    pub(crate) fn at_start() -> Self
+        requires some { 0 < FRAMES }
+        requires few { FRAMES ≤ MOST_FRAMES }
         ensures stands { StandsFor result [] }
     {
-        Rules::at_start()
+        FramedRules::started()
     }
 
-    fn at_start() -> Self
+    fn started() -> Self
+        requires some { 0 < FRAMES }
+        requires few { FRAMES ≤ MOST_FRAMES }
         ensures core { core_of result ≡ start.core }
         ensures holds { Holds result [] }
     {
-        Rules {
-            frames: [Frame::new(Role::Root, 0); MOST_AROUND + 1],
+        FramedRules {
+            frames: [Frame::new(Role::Root, 0); FRAMES],
             around: 0,
             coordinates: Coordinates::new(),
             bbox: Bbox::new(),
@@ -107,15 +129,15 @@ impl Rules {
 
     /// The least fault of the text whose events were told.
     pub fn fault(&self) -> Option<Fault>
-        ensures { (text : Text) → depth text.value ≤ most_levels → StandsFor self.now (all_events text) → result ≡ least (text_faults text) }
+        ensures { (text : Text) → depth text.value ≤ levels_within FRAMES → StandsFor self.now (all_events text) → result ≡ least (text_faults text) }
     {
         self.answer.fault
     }
 
     /// The warnings of the text whose events were told: those that the definition lists, for a text of fewer than 2^64 events.
     pub fn warnings(&self) -> Warnings
-        ensures kept { (text : Text) → depth text.value ≤ most_levels → StandsFor self.now (all_events text) → result ≡ text_kept text }
-        ensures stands { (text : Text) → depth text.value ≤ most_levels → StandsFor self.now (all_events text) →
+        ensures kept { (text : Text) → depth text.value ≤ levels_within FRAMES → StandsFor self.now (all_events text) → result ≡ text_kept text }
+        ensures stands { (text : Text) → depth text.value ≤ levels_within FRAMES → StandsFor self.now (all_events text) →
             length (all_events text) < 2 ^ 64 → WarningsStandFor result (text_warnings text) }
     {
         kept_warnings();
@@ -136,7 +158,7 @@ impl Rules {
 
     /// In a front of a text the number of open objects with a role, which is that of the frames in use.
     pub fn judged(&self) -> u16
-        ensures { (text : Text) (bytes : List ℕ) (n : ℕ) → IsText text bytes → depth text.value ≤ most_levels → StandsFor self.now (events_by n text) → result ≡ judged_at n text }
+        ensures { (text : Text) (bytes : List ℕ) (n : ℕ) → IsText text bytes → depth text.value ≤ levels_within FRAMES → StandsFor self.now (events_by n text) → result ≡ judged_at n text }
     {
         self.frames()
     }
@@ -168,7 +190,7 @@ impl Rules {
     // Where its kind is known, it is one step of these.
     #[inline(always)]
     fn take(&mut self, what: What, place: u64)
-        ensures core { self.old.skipped < most_skipped → (self.old.skipped ≡ 0 → HasRoom what (core_of self.old).outer) → core_of self.new ≡ core_step (record { place = place; what = what }) (core_of self.old) }
+        ensures core { self.old.skipped < most_skipped → (self.old.skipped ≡ 0 → HasRoom FRAMES what (core_of self.old).outer) → core_of self.new ≡ core_step (record { place = place; what = what }) (core_of self.old) }
         ensures holds { is_feeding self.old.skipped self.old.mode ≡ false → Holds self.new [] }
     {
         if self.skipped > 0 {
@@ -289,7 +311,7 @@ impl Rules {
     }
 }
 
-impl EventSink for Rules {
+impl<const FRAMES: usize> EventSink for FramedRules<FRAMES> {
     ghost use Rattle.gj_rules.specs.Rules.{StandsFor};
 
     ghost heard = { λ rules events. StandsFor rules events };

@@ -21,11 +21,11 @@ use Rattle.gj_coords.specs.declared.fault.Rule.TheVariants.{G1, G3, G5, G6, G7, 
 use Rattle.gj_coords.specs.declared.simple.Simple.{Simple}
 use Rattle.gj_coords.specs.declared.warnings.Warnings.{Warnings}
 use Rattle.gj_coords.specs.Fault.{lesser, least, fault_at}
-use Rattle.gj_rules.specs.Levels.{most_levels}
+use Rattle.gj_rules.specs.Levels.{levels_within}
 use Rattle.gj_rules.specs.Internal.FrameMeaning.{Findings, Frame, Shapes, MemberSlots}
 use Rattle.gj_rules.specs.declared.role.Role.{Role}
 use Rattle.gj_rules.specs.declared.mode.Mode.TheVariants.{Names, Done}
-use Rattle.gj_rules.specs.declared.rules.Rules.{Rules}
+use Rattle.gj_rules.specs.declared.rules.FramedRules.{FramedRules}
 use Rattle.gj_rules.specs.declared.member_slots.Slot.{Slot}
 use Rattle.gj_rules.specs.declared.member_slots.TypeValue.{TypeValue}
 use Rattle.gj_rules.specs.Doomed.{names, first_type, repeats, type_fails, members_fail, unmarked_fails, is_doomed}
@@ -310,7 +310,7 @@ marked_answers true v (x ∷ d) rest e =
 
 -- ---- the rules
 
-pub answers : (rules : Rules) (text : Text) (bytes : List ℕ) (n : ℕ) → IsText text bytes → depth text.value ≤ most_levels → StandsFor rules (events_by n text)
+pub answers : {frames : ℕ} (rules : FramedRules frames) (text : Text) (bytes : List ℕ) (n : ℕ) → IsText text bytes → depth text.value ≤ levels_within frames → StandsFor rules (events_by n text)
     → (core_lost (core_of rules) ≡ true → text_faults text ≡ [] → ⊥) × (is_doomed (events_by n text) ≡ true → core_lost (core_of rules) ≡ true)
 answers rules text bytes n t d h =
     let front = front_text text bytes n t in

@@ -41,8 +41,8 @@ no_collection = record {
 }
 
 of_no_collection : feature_findings no_collection
-    ≡ record { index = 0; place = 13; end = 14; id = None; fault = Some (fault_at 13 G1); warnings = [] }
-    ∷ (record { index = 1; place = 15; end = 25; id = Some 21; fault = Some (fault_at 15 G2); warnings = [] } ∷ [])
+    ≡ record { index = 0; place = 13; end = 14; close = None; id = None; fault = Some (fault_at 13 G1); warnings = [] }
+    ∷ (record { index = 1; place = 15; end = 25; close = Some 24; id = Some 21; fault = Some (fault_at 15 G2); warnings = [] } ∷ [])
 unfolding known_of word_of
 of_no_collection = refl
 
@@ -51,7 +51,7 @@ before_the_comma : findings_by 14 no_collection ≡ []
 unfolding known_of word_of
 before_the_comma = refl
 
-after_the_comma : findings_by 15 no_collection ≡ record { index = 0; place = 13; end = 14; id = None; fault = Some (fault_at 13 G1); warnings = [] } ∷ []
+after_the_comma : findings_by 15 no_collection ≡ record { index = 0; place = 13; end = 14; close = None; id = None; fault = Some (fault_at 13 G1); warnings = [] } ∷ []
 unfolding known_of word_of
 after_the_comma = refl
 
@@ -59,7 +59,7 @@ after_the_comma = refl
 features_of_a_feature : feature_findings (record {
   marked = false;
   value = object 0 (member 1 (codes "features") 11 (array 12 (element (object 13 (member 14 (codes "features") 24 (array 25 (element (number 26 (codes "7") 27) end_of_array) 27) end_of_object) 28) end_of_array) 29) end_of_object) 30;
-}) ≡ record { index = 0; place = 13; end = 29; id = None; fault = Some (fault_at 13 G2); warnings = [] } ∷ []
+}) ≡ record { index = 0; place = 13; end = 29; close = Some 28; id = None; fault = Some (fault_at 13 G2); warnings = [] } ∷ []
 unfolding known_of word_of
 features_of_a_feature = refl
 
@@ -67,7 +67,7 @@ features_of_a_feature = refl
 warned : feature_findings (record {
   marked = false;
   value = object 0 (member 1 (codes "features") 11 (array 12 (element (object 13 (member 14 (codes "type") 20 (string 21 (codes "Feature") 30) (member 31 (codes "geometry") 41 (constant Null 42) (member 47 (codes "properties") 59 (constant Null 60) (member 65 (codes "crs") 70 (number 71 (codes "1") 72) end_of_object)))) 72) end_of_array) 73) end_of_object) 74;
-}) ≡ record { index = 0; place = 13; end = 73; id = None; fault = None; warnings = warning_at 65 W9 ∷ [] } ∷ []
+}) ≡ record { index = 0; place = 13; end = 73; close = Some 72; id = None; fault = None; warnings = warning_at 65 W9 ∷ [] } ∷ []
 unfolding known_of word_of
 warned = refl
 
@@ -75,6 +75,6 @@ warned = refl
 broken_and_warned : feature_findings (record {
   marked = false;
   value = object 0 (member 1 (codes "features") 11 (array 12 (element (object 13 (member 14 (codes "type") 20 (string 21 (codes "Feature") 30) (member 31 (codes "geometry") 41 (constant Null 42) (member 47 (codes "crs") 52 (number 53 (codes "1") 54) end_of_object))) 54) end_of_array) 55) end_of_object) 56;
-}) ≡ record { index = 0; place = 13; end = 55; id = None; fault = Some (fault_at 13 G7); warnings = [] } ∷ []
+}) ≡ record { index = 0; place = 13; end = 55; close = Some 54; id = None; fault = Some (fault_at 13 G7); warnings = [] } ∷ []
 unfolding known_of word_of
 broken_and_warned = refl

@@ -16,6 +16,7 @@ use Rattle.gj_rules.specs.declared.feature_count.Stage.{Stage}
 use Rattle.gj_rules.specs.declared.member_slots.Slot.{Slot}
 use Rattle.gj_rules.specs.declared.mode.Mode.TheVariants.{Names, Due, Elements}
 use Rattle.gj_rules.specs.declared.role.Role.{Role}
+use Rattle.gj_rules.specs.declared.rules.TheConstants.{MOST_FRAMES}
 use Rattle.gj_rules.specs.Faults.{faults}
 use Rattle.gj_rules.specs.FeatureFindings.{place_if, elements_if, features_of, complete_at}
 use Rattle.gj_rules.specs.Members.{same, is_known}
@@ -134,12 +135,12 @@ members_seen (member place name end v more) rest s i p d =
 run_due : (v : Tree) (name : Known) (f : Frame) (o : List Frame) (a : Findings) (n : ℕ) (r : Role)
     → n + depth v ≤ most_levels → IsWithin n o r → f.slots.role ≡ r → MayHold r name → run (told v) (due_st name v f o a) ≡ st 0 Names (filled name v f) o a
 run_due v name f o a n r d w e m =
-    leads_to (told v) [] (due_st name v f o a) (λ t. t ≡ st 0 Names (filled name v f) o a) (lead_due v name [] f o a (λ t. t ≡ st 0 Names (filled name v f) o a) n r d w e m refl)
+    leads_to MOST_FRAMES (told v) [] (due_st name v f o a) (λ t. t ≡ st 0 Names (filled name v f) o a) (lead_due MOST_FRAMES (omega arith) v name [] f o a (λ t. t ≡ st 0 Names (filled name v f) o a) n r d w e m refl)
 
 run_members : (ms : Members) (f : Frame) (o : List Frame) (a : Findings) (n : ℕ) (r : Role)
     → n + members_depth ms ≤ most_levels → IsWithin n o r → f.slots.role ≡ r → run (members_told ms) (st 0 Names f o a) ≡ st 0 Names (members_taken ms f) o a
 run_members ms f o a n r d w e =
-    leads_to (members_told ms) [] (st 0 Names f o a) (λ t. t ≡ st 0 Names (members_taken ms f) o a) (lead_members ms [] f o a (λ t. t ≡ st 0 Names (members_taken ms f) o a) n r d w e refl)
+    leads_to MOST_FRAMES (members_told ms) [] (st 0 Names f o a) (λ t. t ≡ st 0 Names (members_taken ms f) o a) (lead_members MOST_FRAMES (omega arith) ms [] f o a (λ t. t ≡ st 0 Names (members_taken ms f) o a) n r d w e refl)
 
 abbrev listing : Frame → Findings → State
 listing f a = st 0 (Elements Role.Feature) f [] a
@@ -147,7 +148,7 @@ listing f a = st 0 (Elements Role.Feature) f [] a
 run_element : (v : Tree) (f : Frame) (a : Findings) → 2 + depth v ≤ most_levels → run (told v) (listing f a) ≡ listing (taken_any Features (least (faults Role.Feature v)) (kept Role.Feature v) f) a
 run_element v f a d =
     let g : Frame = taken_any Features (least (faults Role.Feature v)) (kept Role.Feature v) f in
-    leads_to (told v) [] (listing f a) (λ t. t ≡ listing g a) (lead_element v Role.Feature tt [] f [] a (λ t. t ≡ listing g a) 2 d (omega arith) refl)
+    leads_to MOST_FRAMES (told v) [] (listing f a) (λ t. t ≡ listing g a) (lead_element MOST_FRAMES (omega arith) v Role.Feature tt [] f [] a (λ t. t ≡ listing g a) 2 d (omega arith) refl)
 
 -- ---- the elements of `features`
 

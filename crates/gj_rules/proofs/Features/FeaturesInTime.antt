@@ -52,7 +52,7 @@ mutual
       omega (arith, more_members_end more close _ _ i.after.after, then_length h, then_length h.after, then_length j, then_length j.after, then_length k, then_length k.after, then_length i, then_length i.after)
 
 -- where a value is complete that is spelled
-complete_within : (v : Tree) (n : ℕ) (bytes : List ℕ) → Spells v n bytes → (n < complete_at v) × (complete_at v ≤ n + length bytes + 1)
+pub complete_within : (v : Tree) (n : ℕ) (bytes : List ℕ) → Spells v n bytes → (n < complete_at v) × (complete_at v ≤ n + length bytes + 1)
 complete_within (constant which place) n bytes h =
     let e : length bytes ≡ length (letters_of which) = ap length h.1 in
     (omega (arith, h.0, constant_long which), omega (arith, h.0, e))
@@ -136,7 +136,7 @@ few_more b m n (v ∷ vs) l h = cut (nat_le (complete_at v) m) refl (few_more (c
         let k : length (complete_in n (v ∷ vs)) ≤ n - m = few_later m n (v ∷ vs) (i, h.1) in
         omega (arith, k)
 
-as_many : (i : ℕ) (vs : List Tree) → length (findings_from i vs) ≡ length vs
+pub as_many : (i : ℕ) (vs : List Tree) → length (findings_from i vs) ≡ length vs
 as_many i [] = refl
 as_many i (v ∷ vs) = ap suc (as_many (i + 1) vs)
 

@@ -20,9 +20,9 @@ use Rattle.gj_coords.specs.Items.{items, elements_of}
 use Rattle.gj_coords.specs.Warnings.{Warning}
 use Rattle.gj_rules.specs.declared.role.Role.{Role}
 use Rattle.gj_rules.specs.Faults.{faults}
-use Rattle.gj_rules.specs.FeatureFindings.{unless_broken, end_of, elements_if, features_of, findings_from, findings_by, feature_findings, complete_at, complete_in}
-use Rattle.gj_rules.specs.FeaturesTold.{SaysEnd, SayFindings}
-use Rattle.gj_rules.specs.Internal.FeatureSteps.{kept_unless, closing_of, features_from, features_by}
+use Rattle.gj_rules.specs.FeatureFindings.{unless_broken, elements_if, features_of, findings_from, findings_by, feature_findings, complete_at, complete_in}
+use Rattle.gj_rules.specs.FeaturesTold.{SayFindings}
+use Rattle.gj_rules.specs.Internal.FeatureSteps.{kept_unless, features_from, features_by}
 use Rattle.gj_rules.specs.Members.{same}
 use Rattle.gj_rules.specs.TextWarnings.{first_value, warnings}
 use Rattle.gj_rules.proofs.Objects.WarningsKept.{value_is}
@@ -72,13 +72,6 @@ few_complete n (v ∷ vs) h = cut (nat_le (complete_at v) n) (few_complete n vs 
 
 -- ---- what is told says what is found
 
-end_says : (v : Tree) → SaysEnd (closing_of v) (end_of v)
-end_says (array place es close) = refl
-end_says (object place ms close) = refl
-end_says (constant which place) = tt
-end_says (number place literal end) = tt
-end_says (string place content end) = tt
-
 warned_says : (o : Option Fault) (kept : Warnings) (all : List Warning) → kept ≡ warnings_of all → kept_unless o kept ≡ warnings_of (unless_broken o all)
 warned_says None kept all e = e
 warned_says (Some fault) kept all e = sym warnings_of_none
@@ -87,7 +80,7 @@ module _ (law : (simple : Simple) (value : Tree) → length (value_events value)
   all_say : (i j : ℕ) (vs : List Tree) → i ≡ j → AllFew vs → SayFindings (features_from i vs) (findings_from j vs)
   all_say i j [] e h = tt
   all_say i j (v ∷ vs) e h = (
-    (e, refl, end_says v, refl, refl, warned_says (least (faults Role.Feature v)) _ (warnings Role.Feature v) (value_is (2 ^ 64) law Role.Feature v h.0)),
+    (e, refl, refl, refl, refl, warned_says (least (faults Role.Feature v)) _ (warnings Role.Feature v) (value_is (2 ^ 64) law Role.Feature v h.0)),
     all_say (suc i) (j + 1) vs (omega (arith, e)) h.1,
   )
 

@@ -15,7 +15,8 @@ use Rattle.gj_rules.specs.Levels.{most_levels}
 use Rattle.gj_rules.specs.declared.feature.Feature.{Feature}
 use Rattle.gj_rules.specs.declared.feature_count.FeatureCount.{FeatureCount}
 use Rattle.gj_rules.specs.declared.feature_count.Stage.{Stage}
-use Rattle.gj_rules.specs.declared.rules.Rules.{Rules}
+use Rattle.gj_rules.specs.declared.rules.FramedRules.{FramedRules}
+use Rattle.gj_rules.specs.declared.rules.TheConstants.{MOST_FRAMES}
 use Rattle.gj_rules.specs.FeatureFindings.{complete_at, complete_in, features_of}
 use Rattle.gj_rules.specs.Internal.RulesState.{core_of}
 use Rattle.gj_rules.specs.Internal.EventSteps.{Core, State, step, run, start}
@@ -196,7 +197,7 @@ heard-last xs x =
     ∙ (map-append (λ (t : TimedFeature). t.feature) (heard xs start no_count) (timed_at (at_of x) fs ++ [])
     ∙ ap (λ gs. features_in (heard xs start no_count) ++ gs) (ap features_in (append-nil (timed_at (at_of x) fs)) ∙ untimed (at_of x) fs))
 
-pub told_more : (Old New : List Feature → Type 0) (rules : Rules) (c after : FeatureCount) (event : Event) (events : List Event) (told : Option Feature)
+pub told_more : (Old New : List Feature → Type 0) (rules : FramedRules MOST_FRAMES) (c after : FeatureCount) (event : Event) (events : List Event) (told : Option Feature)
     → option_to_list told ≡ tells_at c.inner event.what event.place (core_of rules).top c
     → (c.inner < 2 ^ 63 → c.index < 2 ^ 63 → after ≡ count_at c.inner event.what event.place (starts_at rules.skipped rules.mode) c)
     → ((fs : List Feature) → Old fs → New (fs ++ option_to_list told))

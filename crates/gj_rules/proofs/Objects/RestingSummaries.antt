@@ -7,7 +7,7 @@ use Rattle.gj_coords.specs.declared.bbox.Bbox as B
 use Rattle.gj_rules.specs.Internal.FrameMeaning.{Findings, Frame}
 use Rattle.gj_rules.specs.declared.mode.Mode.{Mode}
 use Rattle.gj_rules.specs.declared.mode.Mode.TheVariants.{RootDue, Names, Due, Elements, Done}
-use Rattle.gj_rules.specs.declared.rules.Rules.{Rules}
+use Rattle.gj_rules.specs.declared.rules.FramedRules.{FramedRules}
 use Rattle.gj_rules.specs.Internal.RulesState.{core_of, top_of, Holds, HoldsIn}
 use Rattle.gj_rules.specs.Internal.EventSteps.{Core, names_step, core_step, is_feeding, skip}
 
@@ -21,7 +21,7 @@ holds zero (Due _) c b e = tt
 holds zero (Elements role) c b e = tt
 holds zero Done c b e = tt
 
-pub rests : (rules : Rules) → is_feeding 0 rules.mode ≡ false → Holds rules []
+pub rests : {frames : ℕ} (rules : FramedRules frames) → is_feeding 0 rules.mode ≡ false → Holds rules []
 rests rules e = holds rules.skipped rules.mode rules.coordinates rules.bbox e
 
 skip_at : (k : ℕ) (what : What) (place : ℕ) (m : Mode) (f : Frame) (o : List Frame) (a : Findings) (s : Core)
@@ -30,7 +30,7 @@ skip_at : (k : ℕ) (what : What) (place : ℕ) (m : Mode) (f : Frame) (o : List
 skip_at zero what place m f o a s e h = absurd (omega arith)
 skip_at (suc k) what place m f o a s e h = rw e refl
 
-pub skips : (rules : Rules) (what : What) (place : ℕ) → 0 < rules.skipped
+pub skips : {frames : ℕ} (rules : FramedRules frames) (what : What) (place : ℕ) → 0 < rules.skipped
     → record (core_of rules) { skipped = skip what rules.skipped } ≡ core_step (record { place = place; what = what }) (core_of rules)
 skips rules what place h = skip_at rules.skipped what place rules.mode (top_of rules) (core_of rules).outer (core_of rules).answer (core_of rules) refl h
 
@@ -40,7 +40,7 @@ named_at : (k : ℕ) (m : Mode) (what : What) (place : ℕ) (f : Frame) (o : Lis
     → names_step what place s ≡ core_step (record { place = place; what = what }) s
 named_at k m what place f o a s e p q = rw (e, p, q) refl
 
-pub names : (rules : Rules) (what : What) (place : ℕ) → rules.skipped ≡ 0 → rules.mode ≡ Names
+pub names : {frames : ℕ} (rules : FramedRules frames) (what : What) (place : ℕ) → rules.skipped ≡ 0 → rules.mode ≡ Names
     → names_step what place (core_of rules) ≡ core_step (record { place = place; what = what }) (core_of rules)
 names rules what place p q =
     named_at rules.skipped rules.mode what place (top_of rules) (core_of rules).outer (core_of rules).answer (core_of rules) refl p q

@@ -19,8 +19,8 @@ use Rattle.gj_coords.specs.declared.warnings.Warnings.{Warnings}
 use Rattle.gj_coords.specs.CoordinateWarnings.{coordinates_warnings}
 use Rattle.gj_coords.specs.Internal.CoordinatesKept.{coordinates_kept}
 use Rattle.gj_coords.specs.Internal.KeptWarnings.{warnings_of}
-use Rattle.gj_rules.specs.Levels.{most_levels}
-use Rattle.gj_rules.specs.declared.rules.Rules.{Rules}
+use Rattle.gj_rules.specs.Levels.{levels_within}
+use Rattle.gj_rules.specs.declared.rules.FramedRules.{FramedRules}
 use Rattle.gj_rules.specs.Faults.{text_faults}
 use Rattle.gj_rules.specs.Linter.{AreToldOf}
 use Rattle.gj_rules.specs.Rules.{StandsFor as RulesStandFor}
@@ -116,21 +116,21 @@ fewer_of_value text =
     rw (length-map (text_events text) (λ x. x.event), length-map (events text.value) (λ x. x.event), length-append (mark_events text.marked) (events text.value)) (omega arith)
 
 -- the verdict of an admitted text whose events were told
-pub end_verdict : (limits : Allowed) (bytes : List ℕ) (Told : List Event → Type 0) (after : Rules) (last : Option Event) (o : Option Fault) (w : Warnings) → limits.depth ≤ most_levels → limits.bytes ≤ 2 ^ 60 → AreToldOf Told bytes (length bytes)
+pub end_verdict : {frames : ℕ} (limits : Allowed) (bytes : List ℕ) (Told : List Event → Type 0) (after : FramedRules frames) (last : Option Event) (o : Option Fault) (w : Warnings) → limits.depth ≤ levels_within frames → limits.bytes ≤ 2 ^ 60 → AreToldOf Told bytes (length bytes)
     → (f : (text : Text) × IsAdmitted limits text bytes × (all_events text ≡ events_by (length bytes) text ++ option_to_list last))
     → ((events : List Event) → Told events → RulesStandFor after (events ++ option_to_list last))
-    → ((text : Text) → depth text.value ≤ most_levels → RulesStandFor after (all_events text) → o ≡ least (text_faults text))
-    → ((text : Text) → depth text.value ≤ most_levels → RulesStandFor after (all_events text) → w ≡ text_kept text)
+    → ((text : Text) → depth text.value ≤ levels_within frames → RulesStandFor after (all_events text) → o ≡ least (text_faults text))
+    → ((text : Text) → depth text.value ≤ levels_within frames → RulesStandFor after (all_events text) → w ≡ text_kept text)
     → ((text : Text) (bytes : List ℕ) → IsText text bytes → length (all_events text) ≤ length bytes)
     → ((simple : Simple) (value : Tree) → length (value_events value) < 2 ^ 64 → coordinates_kept simple value ≡ warnings_of (coordinates_warnings simple value))
     → IsVerdict limits bytes (verdict_of o w)
-end_verdict limits bytes Told after last o w shallow short k f told fault warned few law =
+end_verdict {frames} limits bytes Told after last o w shallow short k f told fault warned few law =
     let text = f.0 in
     let t : IsText text (bytes ++ []) = (let x = f.1.0.0 in rw (append-nil bytes) x) in
     let e : all_events text ≡ k.events ++ option_to_list last = f.2 ∙ ap (λ xs. xs ++ option_to_list last) (k.complete text [] t) in
     let P : List Event → Type 0 = λ xs. RulesStandFor after xs in
     let heard = subst P (sym e) (told k.events k.told) in
-    let deep : depth text.value ≤ most_levels = omega (arith, f.1.0.1) in
+    let deep : depth text.value ≤ levels_within frames = omega (arith, f.1.0.1) in
     let small : length (value_events text.value) < 2 ^ 64 = omega (arith, few text bytes f.1.0.0, fewer_of_value text, f.1.1) in
     text_verdict limits bytes text f.1 o w (fault text deep heard) (warned text deep heard ∙ text_is (2 ^ 64) law text small)
 

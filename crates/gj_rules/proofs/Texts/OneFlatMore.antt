@@ -13,7 +13,7 @@ use Rattle.gj_json.specs.Tree.{Tree, constant, number, string, array, object}
 use Rattle.gj_rules.specs.Internal.FrameMeaning.{Findings}
 use Rattle.gj_rules.specs.Internal.FrameMeaning.{Frame}
 use Rattle.gj_rules.specs.declared.mode.Mode.{Mode}
-use Rattle.gj_rules.specs.declared.rules.Rules.{Rules}
+use Rattle.gj_rules.specs.declared.rules.FramedRules.{FramedRules}
 use Rattle.gj_rules.specs.Internal.RulesState.{core_of, top_of, Stands, Fed, FeedsMany}
 use Rattle.gj_rules.specs.Rules.{StandsFor}
 use Rattle.gj_rules.specs.Internal.EventSteps.{Core, Feed, State, is_feeding, ended, fed, idle, step, run, start}
@@ -57,7 +57,7 @@ run_fed x (y ∷ ys) left v taken k m f o a e =
     ap (λ (s : State). run (y ∷ ys) s) (step_fed x (feeding v taken (map event_of (x ∷ (y ∷ ys)) ++ left)) k m f o a e) ∙ run_fed y ys left v (taken ++ event_of x ∷ []) k m f o a e
     ∙ ap (λ (es : List Event). outcome left v es (core k m f o a)) (append_assoc taken (event_of x ∷ []) (map event_of (y ∷ ys)))
 
-outcome_stands : (old new : Rules) (v : Tree) (taken left : List Event) → is_feeding old.skipped old.mode ≡ true → Fed old v taken left new → Stands new (outcome left v taken (core_of old))
+outcome_stands : {frames : ℕ} (old new : FramedRules frames) (v : Tree) (taken left : List Event) → is_feeding old.skipped old.mode ≡ true → Fed old v taken left new → Stands new (outcome left v taken (core_of old))
 outcome_stands old new v taken [] e h =
     (h, holds_names new.skipped new.mode new.coordinates new.bbox [] (ap (λ (c : Core). c.mode) h ∙ ended_names v old.skipped old.mode (top_of old) (core_of old).outer (core_of old).answer e))
 outcome_stands old new v taken (y ∷ ys) e h = h
@@ -161,7 +161,7 @@ within_value place numbers close v taken left front bs next later l s e = elim (
 
 -- ---- a call
 
-module _ (old new : Rules) (place : ℕ) (numbers : List Numbered) (close : ℕ) (feeds : is_feeding old.skipped old.mode ≡ true) (t : FeedsMany old (numbers_events place numbers close) new) where
+module _ {frames : ℕ} (old new : FramedRules frames) (place : ℕ) (numbers : List Numbered) (close : ℕ) (feeds : is_feeding old.skipped old.mode ≡ true) (t : FeedsMany old (numbers_events place numbers close) new) where
   abbrev fs : List Event
   fs = numbers_events place numbers close
 
@@ -177,10 +177,10 @@ module _ (old new : Rules) (place : ℕ) (numbers : List Numbered) (close : ℕ)
       subst (λ (s : State). Stands new s)
       (sym (ap (λ (es : List Event). run (x ∷ xs) (with_feed (core_of old) (feeding v taken es))) l ∙ (r ∙ ap (λ (es : List Event). outcome w.0 v (taken ++ es) (core_of old)) e))) done
 
-  flat_run : (xs rest : List Told) (s : State) (found : Findings) → map event_of xs ≡ fs → Stands old s → Leads (xs ++ rest) s found → Stands new (run xs s)
+  flat_run : (xs rest : List Told) (s : State) (found : Findings) → map event_of xs ≡ fs → Stands old s → Leads frames (xs ++ rest) s found → Stands new (run xs s)
   flat_run [] rest s found e h g = cc
   flat_run (x ∷ xs) rest s found e h g =
-      let fits = fits_of x (xs ++ rest) s.feed old.skipped old.mode (top_of old) (core_of old).outer (core_of old).answer feeds (good_core old x (xs ++ rest) s h.0 g.0) in
+      let fits = fits_of frames x (xs ++ rest) s.feed old.skipped old.mode (top_of old) (core_of old).outer (core_of old).answer feeds (good_core old x (xs ++ rest) s h.0 g.0) in
       subst (λ (c : Core). Stands new (run (x ∷ xs) (with_feed c s.feed))) h.0 (from_fits x xs rest s.feed.value s.feed.taken s.feed.left e (refl, h.1) fits)
 
   pub told_flat : (events : List Event) → StandsFor old events → StandsFor new (events ++ fs)
@@ -188,5 +188,5 @@ module _ (old new : Rules) (place : ℕ) (numbers : List Numbered) (close : ℕ)
       let k = split_told done events fs f in
       let split : text_told text ≡ k.0 ++ (k.1 ++ rest) = e ∙ (ap (λ (ts : List Told). ts ++ rest) k.2 ∙ append_assoc k.0 k.1 rest) in
       let stands = h text k.0 (k.1 ++ rest) split k.3 d in
-      let leads = leads_at k.0 (k.1 ++ rest) start (text_found text) (subst (λ (ts : List Told). Leads ts start (text_found text)) split (lead_text text d)) in
+      let leads = leads_at frames k.0 (k.1 ++ rest) start (text_found text) (subst (λ (ts : List Told). Leads frames ts start (text_found text)) split (lead_text frames old.few text d)) in
       subst (λ (s : State). Stands new s) (sym (ap (λ (ts : List Told). run ts start) k.2 ∙ run-append k.0 k.1 start)) (flat_run k.1 rest (run k.0 start) (text_found text) k.4 stands leads)

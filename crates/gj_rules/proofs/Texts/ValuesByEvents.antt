@@ -16,13 +16,14 @@ use Rattle.gj_coords.specs.declared.fault.Rule.TheVariants.{G1}
 use Rattle.gj_coords.specs.Fault.{least, fault_at}
 use Rattle.gj_coords.specs.declared.warnings.Warnings.{Warnings}
 use Rattle.gj_coords.specs.Internal.KeptWarnings as Noted
-use Rattle.gj_rules.specs.Levels.{most_levels}
+use Rattle.gj_rules.specs.Levels.{most_levels, levels_within}
 use Rattle.gj_rules.specs.Internal.SkippedLevels.{most_skipped}
 use Rattle.gj_rules.specs.Internal.FrameMeaning.{Findings}
 use Rattle.gj_rules.specs.Internal.FrameMeaning.{Frame}
 use Rattle.gj_rules.specs.Internal.FrameMeaning.{MemberSlots}
 use Rattle.gj_rules.specs.declared.member_slots.Slot.{Slot}
 use Rattle.gj_rules.specs.declared.role.Role.{Role}
+use Rattle.gj_rules.specs.declared.rules.TheConstants.{MOST_FRAMES}
 use Rattle.gj_rules.specs.declared.mode.Mode.{Mode}
 use Rattle.gj_rules.specs.declared.mode.Mode.TheVariants.{RootDue, Names, Due, Elements, Done}
 use Rattle.gj_rules.specs.Faults.{faults, all_faults, text_faults}
@@ -51,89 +52,46 @@ pub record Fits (feed : Feed) (rest : List Told) : Type 0 where
   pub comes : map event_of rest ≡ feed.left ++ more
   pub deep : depth feed.value ≤ most_levels
 
--- before the event x and those behind it
-abbrev pub GoodAt : ℕ → Mode → Told → List Told → State → Type 0
-GoodAt (suc k) m x xs s = suc k < most_skipped
-GoodAt zero (Due Coordinates) x xs s = Fits s.feed (x ∷ xs)
-GoodAt zero (Due Bbox) x xs s = Fits s.feed (x ∷ xs)
-GoodAt zero _ x xs s = HasRoom (event_of x).what s.core.outer
+-- with so many frames
+module _ (frames : ℕ) where
+  -- before the event x and those behind it
+  abbrev pub GoodAt : ℕ → Mode → Told → List Told → State → Type 0
+  GoodAt (suc k) m x xs s = suc k < most_skipped
+  GoodAt zero (Due Coordinates) x xs s = Fits s.feed (x ∷ xs)
+  GoodAt zero (Due Bbox) x xs s = Fits s.feed (x ∷ xs)
+  GoodAt zero _ x xs s = HasRoom frames (event_of x).what s.core.outer
 
-abbrev pub Good : Told → List Told → State → Type 0
-Good x xs s = GoodAt s.core.skipped s.core.mode x xs s
+  abbrev pub Good : Told → List Told → State → Type 0
+  Good x xs s = GoodAt s.core.skipped s.core.mode x xs s
 
--- the events lead from the state to one of which Z holds, and each state before one of them is good
-abbrev pub LeadsTo : List Told → State → (State → Type 0) → Type 0
-LeadsTo [] s Z = Z s
-LeadsTo (x ∷ xs) s Z = Good x xs s × LeadsTo xs (step x s) Z
+  -- the events lead from the state to one of which Z holds, and each state before one of them is good
+  abbrev pub LeadsTo : List Told → State → (State → Type 0) → Type 0
+  LeadsTo [] s Z = Z s
+  LeadsTo (x ∷ xs) s Z = Good x xs s × LeadsTo xs (step x s) Z
 
--- to the answer z
-abbrev pub Leads : List Told → State → Findings → Type 0
-Leads xs s z = LeadsTo xs s (λ t. t.core.answer ≡ z)
+  -- to the answer z
+  abbrev pub Leads : List Told → State → Findings → Type 0
+  Leads xs s z = LeadsTo xs s (λ t. t.core.answer ≡ z)
+
+  pub leads_to : (done rest : List Told) (s : State) (Z : State → Type 0) → LeadsTo (done ++ rest) s Z → LeadsTo rest (run done s) Z
+  leads_to [] rest s Z h = h
+  leads_to (x ∷ xs) rest s Z h = leads_to xs rest (step x s) Z h.1
+
+  pub leads_at : (done rest : List Told) (s : State) (z : Findings) → Leads (done ++ rest) s z → Leads rest (run done s) z
+  leads_at done rest s z h = leads_to done rest s (λ t. t.core.answer ≡ z) h
 
 -- With no value under way. From here on k is the number of skipped levels, m the mode, f the innermost frame, o the
 -- frames around it, a the answer so far, and n the level of the object with that frame.
 abbrev pub st : ℕ → Mode → Frame → List Frame → Findings → State
 st skipped mode top outer answer = record { core = record { skipped = skipped; mode = mode; top = top; outer = outer; answer = answer }; feed = idle }
 
--- ---- what is not looked into
+-- ---- counts of levels
 
 pub up : (k : ℕ) → suc k + 1 ≡ suc (suc k)
 up k = omega arith
 
 pub down : (k : ℕ) → suc (suc k) - 1 ≡ suc k
 down k = omega arith
-
-mutual
-  skip_value : (v : Tree) (rest : List Told) (k : ℕ) (m : Mode) (f : Frame) (o : List Frame) (a : Findings) (z : State → Type 0) → k + depth v ≤ most_levels
-      → LeadsTo rest (st (suc k) m f o a) z → LeadsTo (told v ++ rest) (st (suc k) m f o a) z
-  skip_value (constant Null place) rest k m f o a z d h = (omega arith, h)
-  skip_value (constant True place) rest k m f o a z d h = (omega arith, h)
-  skip_value (constant False place) rest k m f o a z d h = (omega arith, h)
-  skip_value (number place literal end) rest k m f o a z d h = (omega arith, h)
-  skip_value (string place content end) rest k m f o a z d h = (omega arith, h)
-  skip_value (array place es close) rest k m f o a z d h = (
-    omega arith,
-    rw (append_assoc (elements_told es) (plain (close + 1) close What.CloseArray ∷ []) rest)
-        (subst (λ n. LeadsTo (elements_told es ++ plain (close + 1) close What.CloseArray ∷ rest) (st n m f o a) z) (sym (up k))
-        (skip_elements es (plain (close + 1) close What.CloseArray ∷ rest) (suc k) m f o a z (omega arith)
-        (omega arith, subst (λ n. LeadsTo rest (st n m f o a) z) (sym (down k)) h))),
-  )
-  skip_value (object place ms close) rest k m f o a z d h = (
-    omega arith,
-    rw (append_assoc (members_told ms) (plain (close + 1) close What.CloseObject ∷ []) rest)
-        (subst (λ n. LeadsTo (members_told ms ++ plain (close + 1) close What.CloseObject ∷ rest) (st n m f o a) z) (sym (up k))
-        (skip_members ms (plain (close + 1) close What.CloseObject ∷ rest) (suc k) m f o a z (omega arith)
-        (omega arith, subst (λ n. LeadsTo rest (st n m f o a) z) (sym (down k)) h))),
-  )
-
-  skip_elements : (es : Tree.Elements) (rest : List Told) (k : ℕ) (m : Mode) (f : Frame) (o : List Frame) (a : Findings) (z : State → Type 0) → k + elements_depth es ≤ most_levels
-      → LeadsTo rest (st (suc k) m f o a) z → LeadsTo (elements_told es ++ rest) (st (suc k) m f o a) z
-  skip_elements end_of_array rest k m f o a z d h = h
-  skip_elements (element v more) rest k m f o a z d h =
-      rw (append_assoc (told v) (elements_told more) rest)
-      (skip_value v (elements_told more ++ rest) k m f o a z (omega arith) (skip_elements more rest k m f o a z (omega arith) h))
-
-  skip_members : (ms : Members) (rest : List Told) (k : ℕ) (m : Mode) (f : Frame) (o : List Frame) (a : Findings) (z : State → Type 0) → k + members_depth ms ≤ most_levels
-      → LeadsTo rest (st (suc k) m f o a) z → LeadsTo (members_told ms ++ rest) (st (suc k) m f o a) z
-  skip_members end_of_object rest k m f o a z d h = h
-  skip_members (member place name end v more) rest k m f o a z d h = (
-    omega arith,
-    rw (append_assoc (told v) (members_told more) rest)
-        (skip_value v (members_told more ++ rest) k m f o a z (omega arith) (skip_members more rest k m f o a z (omega arith) h)),
-  )
-
--- the rest of an array or an object that is not looked into
-array_skipped : (es : Tree.Elements) (close : ℕ) (rest : List Told) (m : Mode) (f : Frame) (o : List Frame) (a : Findings) (z : State → Type 0) → elements_depth es ≤ most_levels
-    → LeadsTo rest (st 0 m f o a) z → LeadsTo ((elements_told es ++ plain (close + 1) close What.CloseArray ∷ []) ++ rest) (st 1 m f o a) z
-array_skipped es close rest m f o a z d h =
-    rw (append_assoc (elements_told es) (plain (close + 1) close What.CloseArray ∷ []) rest)
-    (skip_elements es (plain (close + 1) close What.CloseArray ∷ rest) 0 m f o a z (omega arith) (omega arith, h))
-
-object_skipped : (ms : Members) (close : ℕ) (rest : List Told) (m : Mode) (f : Frame) (o : List Frame) (a : Findings) (z : State → Type 0) → members_depth ms ≤ most_levels
-    → LeadsTo rest (st 0 m f o a) z → LeadsTo ((members_told ms ++ plain (close + 1) close What.CloseObject ∷ []) ++ rest) (st 1 m f o a) z
-object_skipped ms close rest m f o a z d h =
-    rw (append_assoc (members_told ms) (plain (close + 1) close What.CloseObject ∷ []) rest)
-    (skip_members ms (plain (close + 1) close What.CloseObject ∷ rest) 0 m f o a z (omega arith) (omega arith, h))
 
 -- ---- what a summary takes
 
@@ -153,16 +111,6 @@ fits v taken x xs rest d e = record { deep = d; next = event_of x; later = map e
 pub one_more : (v : Tree) (taken : List Event) (x : Told) (xs : List Told) → taken ++ map event_of (x ∷ xs) ≡ value_events v → (taken ++ event_of x ∷ []) ++ map event_of xs ≡ value_events v
 one_more v taken x xs e = append_assoc taken (event_of x ∷ []) (map event_of xs) ∙ e
 
-feed_all : (name : Known) → IsFed name → (v : Tree) (taken : List Event) (x : Told) (xs rest : List Told) (f : Frame) (o : List Frame) (a : Findings) (z : State → Type 0) → depth v ≤ most_levels → taken ++ map event_of (x ∷ xs) ≡ value_events v
-    → LeadsTo rest (st 0 Names (filled name v f) o a) z → LeadsTo ((x ∷ xs) ++ rest) (feeding name v taken (map event_of (x ∷ xs)) f o a) z
-feed_all Coordinates i v taken x [] rest f o a z d e h = (fits v taken x [] rest d e, h)
-feed_all Coordinates i v taken x (y ∷ ys) rest f o a z d e h =
-    (fits v taken x (y ∷ ys) rest d e, feed_all Coordinates i v (taken ++ event_of x ∷ []) y ys rest f o a z d (one_more v taken x (y ∷ ys) e) h)
-feed_all Bbox i v taken x [] rest f o a z d e h = (fits v taken x [] rest d e, h)
-feed_all Bbox i v taken x (y ∷ ys) rest f o a z d e h =
-    (fits v taken x (y ∷ ys) rest d e, feed_all Bbox i v (taken ++ event_of x ∷ []) y ys rest f o a z d (one_more v taken x (y ∷ ys) e) h)
-feed_all _ i v taken x xs rest f o a z d e h = absurd i
-
 -- a value has an event
 pub some_told : (v : Tree) → (x : Told) × (xs : List Told) × (told v ≡ x ∷ xs)
 some_told (constant which place) = (_, _, refl)
@@ -170,17 +118,6 @@ some_told (number place literal end) = (_, _, refl)
 some_told (string place content end) = (_, _, refl)
 some_told (array place es close) = (_, _, refl)
 some_told (object place ms close) = (_, _, refl)
-
-feed_told : (name : Known) → IsFed name → (v : Tree) (x : Told) (xs rest : List Told) (f : Frame) (o : List Frame) (a : Findings) (z : State → Type 0) → depth v ≤ most_levels → told v ≡ x ∷ xs
-    → LeadsTo rest (st 0 Names (filled name v f) o a) z → LeadsTo (told v ++ rest) (feeding name v [] (value_events v) f o a) z
-feed_told name i v x xs rest f o a z d e h =
-    subst (λ (es : List Event). LeadsTo (told v ++ rest) (feeding name v [] es f o a) z) (told-events v)
-    (subst (λ (ts : List Told). LeadsTo (ts ++ rest) (feeding name v [] (map event_of ts) f o a) z) (sym e)
-    (feed_all name i v [] x xs rest f o a z d (ap (λ (ts : List Told). map event_of ts) (sym e) ∙ told-events v) h))
-
-feed_value : (name : Known) → IsFed name → (v : Tree) (rest : List Told) (f : Frame) (o : List Frame) (a : Findings) (z : State → Type 0) → depth v ≤ most_levels
-    → LeadsTo rest (st 0 Names (filled name v f) o a) z → LeadsTo (told v ++ rest) (feeding name v [] (value_events v) f o a) z
-feed_value name i v rest f o a z d h = let s = some_told v in feed_told name i v s.0 s.1 rest f o a z d s.2 h
 
 -- ---- what has a role
 
@@ -254,96 +191,9 @@ behind_idle close Role.Geometry found f o a = refl
 behind_idle close Role.Part found f o a = refl
 behind_idle close Role.Feature found f o a = refl
 
-close_below : (r : Role) (place close : ℕ) (ms : Members) (rest : List Told) (f : Frame) (o : List Frame) (a : Findings) (z : State → Type 0)
-    → LeadsTo rest (st 0 (mode_behind r) (taken_any (member_of r) (least (faults r (object place ms close))) (kept r (object place ms close)) f) o a) z
-    → LeadsTo (plain (close + 1) close What.CloseObject ∷ rest) (st 0 Names (members_taken ms (blank r place)) (f ∷ o) a) z
-close_below r place close ms rest f o a z h =
-    let inner : Frame = members_taken ms (blank r place) in
-    let e : inner.slots.role ≡ r = frame_role ms (blank r place) in (
-      tt,
-      subst (λ (q : Role). LeadsTo rest (behind close q (settled inner) f o a) z) (sym e)
-          (subst (λ (s : State). LeadsTo rest s z) (sym (behind_idle close r (settled inner) f o a))
-          (subst (λ (x : Findings). LeadsTo rest (st 0 (mode_behind r) (taken_in (member_of r) x f) o a) z) (sym (all_closed r place close ms)) h)),
-    )
-
 -- the value behind a name is due
 abbrev pub due_st : Known → Tree → Frame → List Frame → Findings → State
 due_st name v f o a = record { core = record { skipped = 0; mode = Due name; top = f; outer = o; answer = a }; feed = due_feed name v }
-
-mutual
-  -- the value of a first member, in an object at level n
-  pub lead_due : (v : Tree) (name : Known) (rest : List Told) (f : Frame) (o : List Frame) (a : Findings) (z : State → Type 0) (n : ℕ) (r : Role)
-      → n + depth v ≤ most_levels → IsWithin n o r → f.slots.role ≡ r → MayHold r name → LeadsTo rest (st 0 Names (filled name v f) o a) z → LeadsTo (told v ++ rest) (due_st name v f o a) z
-  lead_due v Coordinates rest f o a z n r d w e m h = feed_value Coordinates tt v rest f o a z (omega arith) h
-  lead_due v Bbox rest f o a z n r d w e m h = feed_value Bbox tt v rest f o a z (omega arith) h
-  lead_due (constant Null place) name rest f o a z n r d w e m h = (tt, h)
-  lead_due (constant True place) name rest f o a z n r d w e m h = (tt, h)
-  lead_due (constant False place) name rest f o a z n r d w e m h = (tt, h)
-  lead_due (number place literal end) name rest f o a z n r d w e m h = (tt, h)
-  lead_due (string place content end) name rest f o a z n r d w e m h = (tt, h)
-  lead_due (array place es close) Geometries rest f o a z n r d w e m h = (
-    tt,
-    rw (append_assoc (elements_told es) (plain (close + 1) close What.CloseArray ∷ []) rest)
-        (lead_elements es Role.Part tt (plain (close + 1) close What.CloseArray ∷ rest) f o a z (n + 1) (omega arith) (omega (arith, credit_small r)) (tt, h)),
-  )
-  lead_due (array place es close) Features rest f o a z n r d w e m h = (
-    tt,
-    rw (append_assoc (elements_told es) (plain (close + 1) close What.CloseArray ∷ []) rest)
-        (lead_elements es Role.Feature tt (plain (close + 1) close What.CloseArray ∷ rest) f o a z (n + 1) (omega arith) (omega (arith, m)) (tt, h)),
-  )
-  lead_due (array place es close) name rest f o a z n r d w e m h = (tt, array_skipped es close rest Names (filled name (array place es close) f) o a z (omega arith) h)
-  lead_due (object place ms close) Geometry rest f o a z n r d w e m h = (
-    omega (arith, credit_small r),
-    rw (append_assoc (members_told ms) (plain (close + 1) close What.CloseObject ∷ []) rest)
-        (lead_members ms (plain (close + 1) close What.CloseObject ∷ rest) (blank Role.Geometry place) (f ∷ o) a z (n + 1) Role.Geometry (omega arith) (omega (arith, m)) refl
-        (close_below Role.Geometry place close ms rest f o a z h)),
-  )
-  lead_due (object place ms close) name rest f o a z n r d w e m h = (omega (arith, credit_small r), object_skipped ms close rest Names (filled name (object place ms close) f) o a z (omega arith) h)
-
-  -- an element of an array of values with a role, where the array is at level n
-  pub lead_element : (v : Tree) (r : Role) → IsListed r → (rest : List Told) (f : Frame) (o : List Frame) (a : Findings) (z : State → Type 0) (n : ℕ)
-      → n + depth v ≤ most_levels → 2 * (length o + 2) ≤ n + 1 + credit r → LeadsTo rest (st 0 (Elements r) (taken_any (member_of r) (least (faults r v)) (kept r v) f) o a) z → LeadsTo (told v ++ rest) (st 0 (Elements r) f o a) z
-  lead_element (constant Null place) Role.Part i rest f o a z n d w h = (tt, h)
-  lead_element (constant Null place) Role.Feature i rest f o a z n d w h = (tt, h)
-  lead_element (constant Null place) _ i rest f o a z n d w h = absurd i
-  lead_element (constant True place) r i rest f o a z n d w h = (tt, h)
-  lead_element (constant False place) r i rest f o a z n d w h = (tt, h)
-  lead_element (number place literal end) r i rest f o a z n d w h = (tt, h)
-  lead_element (string place content end) r i rest f o a z n d w h = (tt, h)
-  lead_element (array place es close) r i rest f o a z n d w h = (tt, array_skipped es close rest (Elements r) (joined (member_of r) (Some (fault_at place G1)) f) o a z (omega arith) h)
-  lead_element (object place ms close) r i rest f o a z n d w h = (
-    omega (arith, credit_small r),
-    rw (append_assoc (members_told ms) (plain (close + 1) close What.CloseObject ∷ []) rest)
-        (lead_members ms (plain (close + 1) close What.CloseObject ∷ rest) (blank r place) (f ∷ o) a z (n + 1) r (omega arith) (omega arith) refl
-        (close_below r place close ms rest f o a z
-        (subst (λ (m : Mode). LeadsTo rest (st 0 m (taken_any (member_of r) (least (faults r (object place ms close))) (kept r (object place ms close)) f) o a) z) (sym (mode_listed r i)) h))),
-  )
-
-  lead_elements : (es : Tree.Elements) (r : Role) → IsListed r → (rest : List Told) (f : Frame) (o : List Frame) (a : Findings) (z : State → Type 0) (n : ℕ)
-      → n + elements_depth es ≤ most_levels → 2 * (length o + 2) ≤ n + 1 + credit r
-      → LeadsTo rest (st 0 (Elements r) (taken_any (member_of r) (least (all_faults r es)) (all_kept r es) f) o a) z → LeadsTo (elements_told es ++ rest) (st 0 (Elements r) f o a) z
-  lead_elements end_of_array r i rest f o a z n d w h = subst (λ (g : Frame). LeadsTo rest (st 0 (Elements r) g o a) z) (taken_none (member_of r) f) h
-  lead_elements (element v more) r i rest f o a z n d w h =
-      rw (append_assoc (told v) (elements_told more) rest)
-      (lead_element v r i (elements_told more ++ rest) f o a z n (omega arith) w
-      (lead_elements more r i rest (taken_any (member_of r) (least (faults r v)) (kept r v) f) o a z n (omega arith) w
-      (subst (λ (g : Frame). LeadsTo rest (st 0 (Elements r) g o a) z)
-      (ap (λ (x : Option Fault). taken_any (member_of r) x (all_kept r (element v more)) f) (least-append (faults r v) (all_faults r more))
-      ∙ sym (taken_twice (member_of r) f (least (faults r v)) (least (all_faults r more)) (kept r v) (all_kept r more) (known_list r i))) h)))
-
-  -- the members of an object at level n
-  pub lead_members : (ms : Members) (rest : List Told) (f : Frame) (o : List Frame) (a : Findings) (z : State → Type 0) (n : ℕ) (r : Role)
-      → n + members_depth ms ≤ most_levels → IsWithin n o r → f.slots.role ≡ r → LeadsTo rest (st 0 Names (members_taken ms f) o a) z → LeadsTo (members_told ms ++ rest) (st 0 Names f o a) z
-  lead_members end_of_object rest f o a z n r d w e h = h
-  lead_members (member place name end v more) rest f o a z n r d w e h = (
-    tt,
-    rw (append_assoc (told v) (members_told more) rest)
-        (lead_due v (due_after (known_of name) f) (members_told more ++ rest) (named (known_of name) place f) o a z n r (omega arith) w
-        ((named_object (known_of name) place f.slots (is_known (known_of name)) (slot_of (known_of name) f.slots)).role ∙ e)
-        (subst (λ (q : Role). MayHold r (if is_known (known_of name) then due_known (known_of name) (slot_of (known_of name) f.slots) q else Other)) (sym e)
-        (due_holds (known_of name) r (is_known (known_of name)) (uses r (known_of name)) (slot_of (known_of name) f.slots) refl))
-        (lead_members more rest (member_taken place (known_of name) v f) o a z n r (omega arith) w ((member_object (known_of name) place v f.slots).role ∙ e) h)),
-  )
 
 -- ---- the text
 
@@ -358,35 +208,191 @@ had_found had = record { fault = None; warned = had }
 abbrev pub due_root : Warnings → State
 due_root had = st 0 RootDue (blank Role.Root 0) [] (had_found had)
 
-lead_root : (v : Tree) (had : Warnings) → depth v ≤ most_levels → Leads (told v) (due_root had) (found_behind had v)
-lead_root (constant Null place) had d = (tt, refl)
-lead_root (constant True place) had d = (tt, refl)
-lead_root (constant False place) had d = (tt, refl)
-lead_root (number place literal end) had d = (tt, refl)
-lead_root (string place content end) had d = (tt, refl)
-lead_root (array place es close) had d =
-    let found : Findings = found_behind had (array place es close) in
-    (tt, skip_elements es (plain (close + 1) close What.CloseArray ∷ []) 0 Done (blank Role.Root 0) [] found (λ t. t.core.answer ≡ found) (omega arith) (omega arith, refl))
-lead_root (object place ms close) had d = (
-  omega arith,
-  lead_members ms (plain (close + 1) close What.CloseObject ∷ []) (blank Role.Root place) [] (had_found had) (λ t. t.core.answer ≡ found_behind had (object place ms close)) 1 Role.Root (omega arith) (omega arith) refl
-      (tt, ap (λ (x : Findings). record { fault = x.fault; warned = Noted.joined had x.warned }) (all_closed Role.Root place close ms)),
-)
-
-lead_marked : (marked : Bool) (v : Tree) → depth v ≤ most_levels → Leads (mark_told marked ++ told v) start (found_behind (marked_kept marked) v)
-lead_marked true v d = (tt, lead_root v (marked_kept true) d)
-lead_marked false v d = lead_root v (marked_kept false) d
-
 -- what is found in a text
 abbrev pub text_found : Text → Findings
 text_found text = record { fault = least (text_faults text); warned = text_kept text }
 
-pub lead_text : (text : Text) → depth text.value ≤ most_levels → Leads (text_told text) start (text_found text)
-lead_text text d = lead_marked text.marked text.value d
+-- ---- the events of a value lead on, with so many frames
 
-pub leads_to : (done rest : List Told) (s : State) (Z : State → Type 0) → LeadsTo (done ++ rest) s Z → LeadsTo rest (run done s) Z
-leads_to [] rest s Z h = h
-leads_to (x ∷ xs) rest s Z h = leads_to xs rest (step x s) Z h.1
+module _ (frames : ℕ) (few : frames ≤ MOST_FRAMES) where
+  mutual
+    skip_value : (v : Tree) (rest : List Told) (k : ℕ) (m : Mode) (f : Frame) (o : List Frame) (a : Findings) (z : State → Type 0) → k + depth v ≤ levels_within frames
+        → LeadsTo frames rest (st (suc k) m f o a) z → LeadsTo frames (told v ++ rest) (st (suc k) m f o a) z
+    skip_value (constant Null place) rest k m f o a z d h = (omega arith, h)
+    skip_value (constant True place) rest k m f o a z d h = (omega arith, h)
+    skip_value (constant False place) rest k m f o a z d h = (omega arith, h)
+    skip_value (number place literal end) rest k m f o a z d h = (omega arith, h)
+    skip_value (string place content end) rest k m f o a z d h = (omega arith, h)
+    skip_value (array place es close) rest k m f o a z d h = (
+      omega arith,
+      rw (append_assoc (elements_told es) (plain (close + 1) close What.CloseArray ∷ []) rest)
+          (subst (λ n. LeadsTo frames (elements_told es ++ plain (close + 1) close What.CloseArray ∷ rest) (st n m f o a) z) (sym (up k))
+          (skip_elements es (plain (close + 1) close What.CloseArray ∷ rest) (suc k) m f o a z (omega arith)
+          (omega arith, subst (λ n. LeadsTo frames rest (st n m f o a) z) (sym (down k)) h))),
+    )
+    skip_value (object place ms close) rest k m f o a z d h = (
+      omega arith,
+      rw (append_assoc (members_told ms) (plain (close + 1) close What.CloseObject ∷ []) rest)
+          (subst (λ n. LeadsTo frames (members_told ms ++ plain (close + 1) close What.CloseObject ∷ rest) (st n m f o a) z) (sym (up k))
+          (skip_members ms (plain (close + 1) close What.CloseObject ∷ rest) (suc k) m f o a z (omega arith)
+          (omega arith, subst (λ n. LeadsTo frames rest (st n m f o a) z) (sym (down k)) h))),
+    )
 
-pub leads_at : (done rest : List Told) (s : State) (z : Findings) → Leads (done ++ rest) s z → Leads rest (run done s) z
-leads_at done rest s z h = leads_to done rest s (λ t. t.core.answer ≡ z) h
+    skip_elements : (es : Tree.Elements) (rest : List Told) (k : ℕ) (m : Mode) (f : Frame) (o : List Frame) (a : Findings) (z : State → Type 0) → k + elements_depth es ≤ levels_within frames
+        → LeadsTo frames rest (st (suc k) m f o a) z → LeadsTo frames (elements_told es ++ rest) (st (suc k) m f o a) z
+    skip_elements end_of_array rest k m f o a z d h = h
+    skip_elements (element v more) rest k m f o a z d h =
+        rw (append_assoc (told v) (elements_told more) rest)
+        (skip_value v (elements_told more ++ rest) k m f o a z (omega arith) (skip_elements more rest k m f o a z (omega arith) h))
+
+    skip_members : (ms : Members) (rest : List Told) (k : ℕ) (m : Mode) (f : Frame) (o : List Frame) (a : Findings) (z : State → Type 0) → k + members_depth ms ≤ levels_within frames
+        → LeadsTo frames rest (st (suc k) m f o a) z → LeadsTo frames (members_told ms ++ rest) (st (suc k) m f o a) z
+    skip_members end_of_object rest k m f o a z d h = h
+    skip_members (member place name end v more) rest k m f o a z d h = (
+      omega arith,
+      rw (append_assoc (told v) (members_told more) rest)
+          (skip_value v (members_told more ++ rest) k m f o a z (omega arith) (skip_members more rest k m f o a z (omega arith) h)),
+    )
+
+  -- the rest of an array or an object that is not looked into
+  array_skipped : (es : Tree.Elements) (close : ℕ) (rest : List Told) (m : Mode) (f : Frame) (o : List Frame) (a : Findings) (z : State → Type 0) → elements_depth es ≤ levels_within frames
+      → LeadsTo frames rest (st 0 m f o a) z → LeadsTo frames ((elements_told es ++ plain (close + 1) close What.CloseArray ∷ []) ++ rest) (st 1 m f o a) z
+  array_skipped es close rest m f o a z d h =
+      rw (append_assoc (elements_told es) (plain (close + 1) close What.CloseArray ∷ []) rest)
+      (skip_elements es (plain (close + 1) close What.CloseArray ∷ rest) 0 m f o a z (omega arith) (omega arith, h))
+
+  object_skipped : (ms : Members) (close : ℕ) (rest : List Told) (m : Mode) (f : Frame) (o : List Frame) (a : Findings) (z : State → Type 0) → members_depth ms ≤ levels_within frames
+      → LeadsTo frames rest (st 0 m f o a) z → LeadsTo frames ((members_told ms ++ plain (close + 1) close What.CloseObject ∷ []) ++ rest) (st 1 m f o a) z
+  object_skipped ms close rest m f o a z d h =
+      rw (append_assoc (members_told ms) (plain (close + 1) close What.CloseObject ∷ []) rest)
+      (skip_members ms (plain (close + 1) close What.CloseObject ∷ rest) 0 m f o a z (omega arith) (omega arith, h))
+
+  feed_all : (name : Known) → IsFed name → (v : Tree) (taken : List Event) (x : Told) (xs rest : List Told) (f : Frame) (o : List Frame) (a : Findings) (z : State → Type 0) → depth v ≤ levels_within frames → taken ++ map event_of (x ∷ xs) ≡ value_events v
+      → LeadsTo frames rest (st 0 Names (filled name v f) o a) z → LeadsTo frames ((x ∷ xs) ++ rest) (feeding name v taken (map event_of (x ∷ xs)) f o a) z
+  feed_all Coordinates i v taken x [] rest f o a z d e h = (fits v taken x [] rest (omega arith) e, h)
+  feed_all Coordinates i v taken x (y ∷ ys) rest f o a z d e h =
+      (fits v taken x (y ∷ ys) rest (omega arith) e, feed_all Coordinates i v (taken ++ event_of x ∷ []) y ys rest f o a z d (one_more v taken x (y ∷ ys) e) h)
+  feed_all Bbox i v taken x [] rest f o a z d e h = (fits v taken x [] rest (omega arith) e, h)
+  feed_all Bbox i v taken x (y ∷ ys) rest f o a z d e h =
+      (fits v taken x (y ∷ ys) rest (omega arith) e, feed_all Bbox i v (taken ++ event_of x ∷ []) y ys rest f o a z d (one_more v taken x (y ∷ ys) e) h)
+  feed_all _ i v taken x xs rest f o a z d e h = absurd i
+
+  feed_told : (name : Known) → IsFed name → (v : Tree) (x : Told) (xs rest : List Told) (f : Frame) (o : List Frame) (a : Findings) (z : State → Type 0) → depth v ≤ levels_within frames → told v ≡ x ∷ xs
+      → LeadsTo frames rest (st 0 Names (filled name v f) o a) z → LeadsTo frames (told v ++ rest) (feeding name v [] (value_events v) f o a) z
+  feed_told name i v x xs rest f o a z d e h =
+      subst (λ (es : List Event). LeadsTo frames (told v ++ rest) (feeding name v [] es f o a) z) (told-events v)
+      (subst (λ (ts : List Told). LeadsTo frames (ts ++ rest) (feeding name v [] (map event_of ts) f o a) z) (sym e)
+      (feed_all name i v [] x xs rest f o a z d (ap (λ (ts : List Told). map event_of ts) (sym e) ∙ told-events v) h))
+
+  feed_value : (name : Known) → IsFed name → (v : Tree) (rest : List Told) (f : Frame) (o : List Frame) (a : Findings) (z : State → Type 0) → depth v ≤ levels_within frames
+      → LeadsTo frames rest (st 0 Names (filled name v f) o a) z → LeadsTo frames (told v ++ rest) (feeding name v [] (value_events v) f o a) z
+  feed_value name i v rest f o a z d h = let s = some_told v in feed_told name i v s.0 s.1 rest f o a z d s.2 h
+
+  close_below : (r : Role) (place close : ℕ) (ms : Members) (rest : List Told) (f : Frame) (o : List Frame) (a : Findings) (z : State → Type 0)
+      → LeadsTo frames rest (st 0 (mode_behind r) (taken_any (member_of r) (least (faults r (object place ms close))) (kept r (object place ms close)) f) o a) z
+      → LeadsTo frames (plain (close + 1) close What.CloseObject ∷ rest) (st 0 Names (members_taken ms (blank r place)) (f ∷ o) a) z
+  close_below r place close ms rest f o a z h =
+      let inner : Frame = members_taken ms (blank r place) in
+      let e : inner.slots.role ≡ r = frame_role ms (blank r place) in (
+        tt,
+        subst (λ (q : Role). LeadsTo frames rest (behind close q (settled inner) f o a) z) (sym e)
+            (subst (λ (s : State). LeadsTo frames rest s z) (sym (behind_idle close r (settled inner) f o a))
+            (subst (λ (x : Findings). LeadsTo frames rest (st 0 (mode_behind r) (taken_in (member_of r) x f) o a) z) (sym (all_closed r place close ms)) h)),
+      )
+
+  mutual
+    -- the value of a first member, in an object at level n
+    pub lead_due : (v : Tree) (name : Known) (rest : List Told) (f : Frame) (o : List Frame) (a : Findings) (z : State → Type 0) (n : ℕ) (r : Role)
+        → n + depth v ≤ levels_within frames → IsWithin n o r → f.slots.role ≡ r → MayHold r name → LeadsTo frames rest (st 0 Names (filled name v f) o a) z → LeadsTo frames (told v ++ rest) (due_st name v f o a) z
+    lead_due v Coordinates rest f o a z n r d w e m h = feed_value Coordinates tt v rest f o a z (omega arith) h
+    lead_due v Bbox rest f o a z n r d w e m h = feed_value Bbox tt v rest f o a z (omega arith) h
+    lead_due (constant Null place) name rest f o a z n r d w e m h = (tt, h)
+    lead_due (constant True place) name rest f o a z n r d w e m h = (tt, h)
+    lead_due (constant False place) name rest f o a z n r d w e m h = (tt, h)
+    lead_due (number place literal end) name rest f o a z n r d w e m h = (tt, h)
+    lead_due (string place content end) name rest f o a z n r d w e m h = (tt, h)
+    lead_due (array place es close) Geometries rest f o a z n r d w e m h = (
+      tt,
+      rw (append_assoc (elements_told es) (plain (close + 1) close What.CloseArray ∷ []) rest)
+          (lead_elements es Role.Part tt (plain (close + 1) close What.CloseArray ∷ rest) f o a z (n + 1) (omega arith) (omega (arith, credit_small r)) (tt, h)),
+    )
+    lead_due (array place es close) Features rest f o a z n r d w e m h = (
+      tt,
+      rw (append_assoc (elements_told es) (plain (close + 1) close What.CloseArray ∷ []) rest)
+          (lead_elements es Role.Feature tt (plain (close + 1) close What.CloseArray ∷ rest) f o a z (n + 1) (omega arith) (omega (arith, m)) (tt, h)),
+    )
+    lead_due (array place es close) name rest f o a z n r d w e m h = (tt, array_skipped es close rest Names (filled name (array place es close) f) o a z (omega arith) h)
+    lead_due (object place ms close) Geometry rest f o a z n r d w e m h = (
+      omega (arith, credit_small r),
+      rw (append_assoc (members_told ms) (plain (close + 1) close What.CloseObject ∷ []) rest)
+          (lead_members ms (plain (close + 1) close What.CloseObject ∷ rest) (blank Role.Geometry place) (f ∷ o) a z (n + 1) Role.Geometry (omega arith) (omega (arith, m)) refl
+          (close_below Role.Geometry place close ms rest f o a z h)),
+    )
+    lead_due (object place ms close) name rest f o a z n r d w e m h = (omega (arith, credit_small r), object_skipped ms close rest Names (filled name (object place ms close) f) o a z (omega arith) h)
+
+    -- an element of an array of values with a role, where the array is at level n
+    pub lead_element : (v : Tree) (r : Role) → IsListed r → (rest : List Told) (f : Frame) (o : List Frame) (a : Findings) (z : State → Type 0) (n : ℕ)
+        → n + depth v ≤ levels_within frames → 2 * (length o + 2) ≤ n + 1 + credit r → LeadsTo frames rest (st 0 (Elements r) (taken_any (member_of r) (least (faults r v)) (kept r v) f) o a) z → LeadsTo frames (told v ++ rest) (st 0 (Elements r) f o a) z
+    lead_element (constant Null place) Role.Part i rest f o a z n d w h = (tt, h)
+    lead_element (constant Null place) Role.Feature i rest f o a z n d w h = (tt, h)
+    lead_element (constant Null place) _ i rest f o a z n d w h = absurd i
+    lead_element (constant True place) r i rest f o a z n d w h = (tt, h)
+    lead_element (constant False place) r i rest f o a z n d w h = (tt, h)
+    lead_element (number place literal end) r i rest f o a z n d w h = (tt, h)
+    lead_element (string place content end) r i rest f o a z n d w h = (tt, h)
+    lead_element (array place es close) r i rest f o a z n d w h = (tt, array_skipped es close rest (Elements r) (joined (member_of r) (Some (fault_at place G1)) f) o a z (omega arith) h)
+    lead_element (object place ms close) r i rest f o a z n d w h = (
+      omega (arith, credit_small r),
+      rw (append_assoc (members_told ms) (plain (close + 1) close What.CloseObject ∷ []) rest)
+          (lead_members ms (plain (close + 1) close What.CloseObject ∷ rest) (blank r place) (f ∷ o) a z (n + 1) r (omega arith) (omega arith) refl
+          (close_below r place close ms rest f o a z
+          (subst (λ (m : Mode). LeadsTo frames rest (st 0 m (taken_any (member_of r) (least (faults r (object place ms close))) (kept r (object place ms close)) f) o a) z) (sym (mode_listed r i)) h))),
+    )
+
+    lead_elements : (es : Tree.Elements) (r : Role) → IsListed r → (rest : List Told) (f : Frame) (o : List Frame) (a : Findings) (z : State → Type 0) (n : ℕ)
+        → n + elements_depth es ≤ levels_within frames → 2 * (length o + 2) ≤ n + 1 + credit r
+        → LeadsTo frames rest (st 0 (Elements r) (taken_any (member_of r) (least (all_faults r es)) (all_kept r es) f) o a) z → LeadsTo frames (elements_told es ++ rest) (st 0 (Elements r) f o a) z
+    lead_elements end_of_array r i rest f o a z n d w h = subst (λ (g : Frame). LeadsTo frames rest (st 0 (Elements r) g o a) z) (taken_none (member_of r) f) h
+    lead_elements (element v more) r i rest f o a z n d w h =
+        rw (append_assoc (told v) (elements_told more) rest)
+        (lead_element v r i (elements_told more ++ rest) f o a z n (omega arith) w
+        (lead_elements more r i rest (taken_any (member_of r) (least (faults r v)) (kept r v) f) o a z n (omega arith) w
+        (subst (λ (g : Frame). LeadsTo frames rest (st 0 (Elements r) g o a) z)
+        (ap (λ (x : Option Fault). taken_any (member_of r) x (all_kept r (element v more)) f) (least-append (faults r v) (all_faults r more))
+        ∙ sym (taken_twice (member_of r) f (least (faults r v)) (least (all_faults r more)) (kept r v) (all_kept r more) (known_list r i))) h)))
+
+    -- the members of an object at level n
+    pub lead_members : (ms : Members) (rest : List Told) (f : Frame) (o : List Frame) (a : Findings) (z : State → Type 0) (n : ℕ) (r : Role)
+        → n + members_depth ms ≤ levels_within frames → IsWithin n o r → f.slots.role ≡ r → LeadsTo frames rest (st 0 Names (members_taken ms f) o a) z → LeadsTo frames (members_told ms ++ rest) (st 0 Names f o a) z
+    lead_members end_of_object rest f o a z n r d w e h = h
+    lead_members (member place name end v more) rest f o a z n r d w e h = (
+      tt,
+      rw (append_assoc (told v) (members_told more) rest)
+          (lead_due v (due_after (known_of name) f) (members_told more ++ rest) (named (known_of name) place f) o a z n r (omega arith) w
+          ((named_object (known_of name) place f.slots (is_known (known_of name)) (slot_of (known_of name) f.slots)).role ∙ e)
+          (subst (λ (q : Role). MayHold r (if is_known (known_of name) then due_known (known_of name) (slot_of (known_of name) f.slots) q else Other)) (sym e)
+          (due_holds (known_of name) r (is_known (known_of name)) (uses r (known_of name)) (slot_of (known_of name) f.slots) refl))
+          (lead_members more rest (member_taken place (known_of name) v f) o a z n r (omega arith) w ((member_object (known_of name) place v f.slots).role ∙ e) h)),
+    )
+
+  lead_root : (v : Tree) (had : Warnings) → depth v ≤ levels_within frames → Leads frames (told v) (due_root had) (found_behind had v)
+  lead_root (constant Null place) had d = (tt, refl)
+  lead_root (constant True place) had d = (tt, refl)
+  lead_root (constant False place) had d = (tt, refl)
+  lead_root (number place literal end) had d = (tt, refl)
+  lead_root (string place content end) had d = (tt, refl)
+  lead_root (array place es close) had d =
+      let found : Findings = found_behind had (array place es close) in
+      (tt, skip_elements es (plain (close + 1) close What.CloseArray ∷ []) 0 Done (blank Role.Root 0) [] found (λ t. t.core.answer ≡ found) (omega arith) (omega arith, refl))
+  lead_root (object place ms close) had d = (
+    omega arith,
+    lead_members ms (plain (close + 1) close What.CloseObject ∷ []) (blank Role.Root place) [] (had_found had) (λ t. t.core.answer ≡ found_behind had (object place ms close)) 1 Role.Root (omega arith) (omega arith) refl
+        (tt, ap (λ (x : Findings). record { fault = x.fault; warned = Noted.joined had x.warned }) (all_closed Role.Root place close ms)),
+  )
+
+  lead_marked : (marked : Bool) (v : Tree) → depth v ≤ levels_within frames → Leads frames (mark_told marked ++ told v) start (found_behind (marked_kept marked) v)
+  lead_marked true v d = (tt, lead_root v (marked_kept true) d)
+  lead_marked false v d = lead_root v (marked_kept false) d
+
+  pub lead_text : (text : Text) → depth text.value ≤ levels_within frames → Leads frames (text_told text) start (text_found text)
+  lead_text text d = lead_marked text.marked text.value d

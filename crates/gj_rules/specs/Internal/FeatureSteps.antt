@@ -4,7 +4,7 @@ use Rattle.gj_json.specs.declared.event.Event.{Event}
 use Rattle.gj_json.specs.declared.event.What.{What}
 use Rattle.gj_json.specs.declared.names.Known.{Known}
 use Rattle.gj_json.specs.declared.names.Known.TheVariants.{Features, Id}
-use Rattle.gj_json.specs.Tree.{Tree, array, object, Text, depth}
+use Rattle.gj_json.specs.Tree.{Tree, Text, depth}
 use Rattle.gj_coords.specs.declared.fault.Fault.{Fault}
 use Rattle.gj_coords.specs.declared.fault.Rule.TheVariants.{G1}
 use Rattle.gj_coords.specs.declared.warnings.Warnings.{Warnings}
@@ -20,8 +20,9 @@ use Rattle.gj_rules.specs.declared.role.Role.{Role}
 use Rattle.gj_rules.specs.Faults.{faults}
 use Rattle.gj_rules.specs.Levels.{most_levels}
 use Rattle.gj_rules.specs.Rules.{StandsFor as RulesStandFor}
-use Rattle.gj_rules.specs.declared.rules.Rules.{Rules}
-use Rattle.gj_rules.specs.FeatureFindings.{id_place, complete_at, complete_in, features_of}
+use Rattle.gj_rules.specs.declared.rules.FramedRules.{FramedRules}
+use Rattle.gj_rules.specs.declared.rules.TheConstants.{MOST_FRAMES}
+use Rattle.gj_rules.specs.FeatureFindings.{closing_of, id_place, complete_at, complete_in, features_of}
 use Rattle.gj_rules.specs.Internal.EventSteps.{State, step, start}
 use Rattle.gj_rules.specs.Internal.FrameCalls.{settled}
 use Rattle.gj_rules.specs.Internal.FrameMeaning.{Findings, Frame}
@@ -34,11 +35,6 @@ use Rattle.gj_rules.specs.Internal.TextKept.{or_none, kept}
 abbrev pub kept_unless : Option Fault → Warnings → Warnings
 kept_unless None kept = kept
 kept_unless (Some fault) kept = no_warnings
-
-abbrev pub closing_of : Tree → Option ℕ
-closing_of (array place elements close) = Some close
-closing_of (object place members close) = Some close
-closing_of _ = None
 
 abbrev pub feature_of : ℕ → Tree → Feature
 feature_of index value = record {
@@ -224,5 +220,5 @@ FeaturesAre Told c events = (text : Text) (done rest : List L.Told) → text_tol
     → (c ≡ count done start no_count) × Told (features_in (heard done start no_count))
 
 -- rules and a count were told these events, and this holds of what these tell
-abbrev pub Stand : (List Feature → Type 0) → Rules → FeatureCount → List Event → Type 0
+abbrev pub Stand : (List Feature → Type 0) → FramedRules MOST_FRAMES → FeatureCount → List Event → Type 0
 Stand Told rules c events = RulesStandFor rules events × FeaturesAre Told c events

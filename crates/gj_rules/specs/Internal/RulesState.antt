@@ -15,8 +15,7 @@ use Rattle.gj_rules.specs.declared.mode.Mode.{Mode}
 use Rattle.gj_rules.specs.declared.mode.Mode.TheVariants.{RootDue, Due, Done}
 use Rattle.gj_rules.specs.declared.role.Role.{Role}
 use Rattle.gj_rules.specs.declared.member_slots.Shaped.{Shaped}
-use Rattle.gj_rules.specs.declared.rules.Rules.{Rules}
-use Rattle.gj_rules.specs.declared.rules.TheConstants.{MOST_AROUND}
+use Rattle.gj_rules.specs.declared.rules.FramedRules.{FramedRules}
 use Rattle.gj_coords.specs.SimpleFaults.{by_simple}
 use Rattle.gj_rules.specs.Levels.{most_levels}
 use Rattle.gj_rules.specs.Internal.EventSteps.{Core, State, ended}
@@ -58,10 +57,10 @@ no_frame = record {
 }
 
 -- the frame of the innermost open object with a role
-abbrev pub top_of : Rules → Frame
+abbrev pub top_of : {frames : ℕ} → FramedRules frames → Frame
 top_of rules = frame_in (slice_index_or rules.frames rules.around no_frame)
 
-abbrev pub core_of : Rules → Core
+abbrev pub core_of : {frames : ℕ} → FramedRules frames → Core
 core_of rules = record {
   skipped = rules.skipped;
   mode = rules.mode;
@@ -76,10 +75,10 @@ HoldsIn zero (Due Known.Coordinates) coordinates bbox taken = StandsForCoordinat
 HoldsIn zero (Due Known.Bbox) coordinates bbox taken = StandsForBbox bbox taken
 HoldsIn _ _ coordinates bbox taken = Unit {0}
 
-abbrev pub Holds : Rules → List Event → Type 0
+abbrev pub Holds : {frames : ℕ} → FramedRules frames → List Event → Type 0
 Holds rules taken = HoldsIn rules.skipped rules.mode rules.coordinates rules.bbox taken
 
-abbrev pub Stands : Rules → State → Type 0
+abbrev pub Stands : {frames : ℕ} → FramedRules frames → State → Type 0
 Stands rules s = (core_of rules ≡ s.core) × Holds rules s.feed.taken
 
 -- ---- what the calls of the rules do
@@ -90,22 +89,22 @@ frames_by RootDue outer = 0
 frames_by Done outer = 0
 frames_by _ outer = length outer + 1
 
--- an object that opens has room for its frame
-abbrev pub HasRoom : What → List Frame → Type 0
-HasRoom What.OpenObject outer = length outer < MOST_AROUND
-HasRoom _ outer = Unit {0}
+-- an object that opens has room for its frame among so many
+abbrev pub HasRoom : ℕ → What → List Frame → Type 0
+HasRoom frames What.OpenObject outer = length outer + 1 < frames
+HasRoom frames _ outer = Unit {0}
 
 -- the summary took one event more of its value
-abbrev pub Fed : Rules → Tree → List Event → List Event → Rules → Type 0
+abbrev pub Fed : {frames : ℕ} → FramedRules frames → Tree → List Event → List Event → FramedRules frames → Type 0
 Fed old value taken [] new = core_of new ≡ ended value (core_of old)
 Fed old value taken (next ∷ more) new = (core_of new ≡ core_of old) × Holds new taken
 
 -- the event was one more of the value that a summary takes
-abbrev pub Feeds : Rules → Event → Rules → Type 0
+abbrev pub Feeds : {frames : ℕ} → FramedRules frames → Event → FramedRules frames → Type 0
 Feeds old event new =
     (value : Tree) (taken left : List Event) → depth value ≤ most_levels → Holds old taken → (taken ++ event ∷ []) ++ left ≡ value_events value
     → Fed old value (taken ++ event ∷ []) left new
 
 -- the events were more of the value that a summary takes
-abbrev pub FeedsMany : Rules → List Event → Rules → Type 0
+abbrev pub FeedsMany : {frames : ℕ} → FramedRules frames → List Event → FramedRules frames → Type 0
 FeedsMany old events new = (value : Tree) (taken left : List Event) → depth value ≤ most_levels → Holds old taken → (taken ++ events) ++ left ≡ value_events value → Fed old value (taken ++ events) left new

@@ -1,17 +1,17 @@
 //! Whether the events so far show that the text breaks a rule, whatever comes after them.
 ghost use Rattle.std.specs.Prelude.{◌≡◌, ◌≤◌, ℕ, [], List, true};
 
-use super::Rules;
+use super::FramedRules;
 use crate::member_slots::MemberSlots;
 
-impl Rules {
+impl<const FRAMES: usize> FramedRules<FRAMES> {
     ghost use Rattle.gj_json.specs.Tree.{Text, depth};
     ghost use Rattle.gj_json.specs.Text.{IsText};
     ghost use Rattle.gj_json.specs.Events.{events_by};
     ghost use Rattle.gj_rules.specs.Doomed.{is_doomed};
     ghost use Rattle.gj_rules.specs.Faults.{text_faults};
     ghost use Rattle.gj_rules.specs.Internal.RulesState.{core_of};
-    ghost use Rattle.gj_rules.specs.Levels.{most_levels};
+    ghost use Rattle.gj_rules.specs.Levels.{levels_within};
     ghost use Rattle.gj_rules.specs.Internal.LostObjects.{core_lost, root_of};
     ghost use Rattle.gj_rules.specs.Internal.FrameReading.{slots_in};
     ghost use Rattle.gj_rules.specs.Rules.{StandsFor};
@@ -31,9 +31,9 @@ impl Rules {
 
     /// Each text that has these events first has a fault.
     pub fn doomed(&self) -> bool
-        ensures sound { (text : Text) (bytes : List ℕ) (n : ℕ) → IsText text bytes → depth text.value ≤ most_levels → StandsFor self.now (events_by n text)
+        ensures sound { (text : Text) (bytes : List ℕ) (n : ℕ) → IsText text bytes → depth text.value ≤ levels_within FRAMES → StandsFor self.now (events_by n text)
             → result ≡ true → text_faults text ≡ [] → ⊥ }
-        ensures early { (text : Text) (bytes : List ℕ) (n : ℕ) → IsText text bytes → depth text.value ≤ most_levels → StandsFor self.now (events_by n text)
+        ensures early { (text : Text) (bytes : List ℕ) (n : ℕ) → IsText text bytes → depth text.value ≤ levels_within FRAMES → StandsFor self.now (events_by n text)
             → is_doomed (events_by n text) ≡ true → result ≡ true }
     {
         self.is_lost()

@@ -1,8 +1,8 @@
 //! What an event does that goes to no summary.
-ghost use Rattle.std.specs.Prelude.{◌≡◌, ◌<◌, [], length, false, IsTrue};
+ghost use Rattle.std.specs.Prelude.{◌≡◌, ◌+◌, ◌<◌, [], length, false, IsTrue};
 ghost use Rattle.gj_json.specs.declared.event.What.TheVariants as W;
 
-use super::{MOST_AROUND, Rules};
+use super::FramedRules;
 use crate::findings::Findings;
 use crate::mode::Mode;
 use crate::opening::{levels_in, opening_fault, word_in};
@@ -10,20 +10,20 @@ use crate::role::Role;
 use gj_coords::{Fault, Kind, Rule};
 use gj_json::{Known, What};
 
-impl Rules {
+impl<const FRAMES: usize> FramedRules<FRAMES> {
     ghost use Rattle.gj_rules.specs.Internal.FrameCalls.{settled};
     ghost use Rattle.gj_rules.specs.Internal.Summaries.{none_found};
     ghost use Rattle.gj_rules.specs.Internal.EventSteps.{skip, pushed, popped, root_step, names_step, due_step, begun, element_step, is_feeding};
     ghost use Rattle.gj_rules.specs.Internal.RulesState.{core_of, HasRoom, Holds};
     ghost use Rattle.gj_rules.specs.Internal.SkippedLevels.{most_skipped};
 
-    /// An object with a role opens. A text within the limits has at most [`MOST_AROUND`] of them open around it.
+    /// An object with a role opens. Its frame is the next one: a text that is not too deep for the frames has no more open.
     #[inline(never)]
     fn push(&mut self, role: Role, place: u64)
         ensures rests { is_feeding 0 self.new.mode ≡ false }
-        ensures core { length (core_of self.old).outer < MOST_AROUND → core_of self.new ≡ pushed role place (core_of self.old) }
+        ensures core { length (core_of self.old).outer + 1 < FRAMES → core_of self.new ≡ pushed role place (core_of self.old) }
     {
-        if (self.around as usize) < MOST_AROUND {
+        if self.around as usize + 1 < FRAMES {
             self.around += 1;
         }
         self.frames[self.around as usize].again(role, place);
@@ -154,7 +154,7 @@ impl Rules {
     #[inline(always)]
     pub(super) fn value(&mut self, name: Known, what: What, place: u64)
         ensures rests { is_feeding 0 self.new.mode ≡ false }
-        ensures core { HasRoom what (core_of self.old).outer → core_of self.new ≡ due_step name what place (core_of self.old) }
+        ensures core { HasRoom FRAMES what (core_of self.old).outer → core_of self.new ≡ due_step name what place (core_of self.old) }
     {
         match (name, what) {
             (Known::Geometry, What::OpenObject) => self.push(Role::Geometry, place),
@@ -168,7 +168,7 @@ impl Rules {
     #[inline(always)]
     pub(super) fn element(&mut self, role: Role, what: What, place: u64)
         ensures rests { is_feeding 0 self.old.mode ≡ false → is_feeding 0 self.new.mode ≡ false }
-        ensures core { HasRoom what (core_of self.old).outer → core_of self.new ≡ element_step role what place (core_of self.old) }
+        ensures core { HasRoom FRAMES what (core_of self.old).outer → core_of self.new ≡ element_step role what place (core_of self.old) }
     {
         match what {
             What::OpenObject => self.push(role, place),

@@ -3,7 +3,7 @@ ghost use Rattle.std.specs.Prelude.{◌≡◌};
 ghost use Rattle.std.specs.Option.{option_to_list};
 ghost use Rattle.gj_rules.specs.Internal.FeatureSteps.{no_feature};
 
-use super::Rules;
+use super::FramedRules;
 use crate::feature::Feature;
 use crate::feature_count::{FeatureCount, Stage};
 use crate::findings::Findings;
@@ -28,7 +28,7 @@ fn no_feature(index: u64, place: u64, close: Option<u64>) -> Feature
     }
 }
 
-impl Rules {
+impl<const FRAMES: usize> FramedRules<FRAMES> {
     ghost use Rattle.gj_rules.specs.Internal.FeatureSteps.{starts_at, list_tells, element_tells, tells_at, feature_found};
     ghost use Rattle.gj_rules.specs.Internal.FrameCalls.{settled};
     ghost use Rattle.gj_rules.specs.Internal.RulesState.{core_of};

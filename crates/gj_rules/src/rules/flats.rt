@@ -4,11 +4,11 @@ ghost use Rattle.std.specs.Prelude.{◌≡◌, ◌++◌, List, IsTrue};
 ghost use Rattle.gj_json.specs.declared.event.Event.{Event};
 ghost use Rattle.gj_json.specs.Flat.{flat_events};
 
-use super::Rules;
+use super::FramedRules;
 use crate::mode::Mode;
 use gj_json::{Event, EventSink, Flat, Known, What};
 
-impl Rules {
+impl<const FRAMES: usize> FramedRules<FRAMES> {
     ghost use Rattle.gj_rules.specs.Internal.RulesState.{FeedsMany};
     ghost use Rattle.gj_rules.specs.Rules.{StandsFor};
 

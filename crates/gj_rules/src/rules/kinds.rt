@@ -3,11 +3,11 @@ ghost use Rattle.std.specs.Prelude.{◌≡◌, ◌++◌, ◌∷◌, [], List, Is
 ghost use Rattle.gj_json.specs.declared.event.Event.{Event};
 ghost use Rattle.gj_json.specs.declared.event.What.TheVariants as W;
 
-use super::Rules;
+use super::FramedRules;
 use crate::mode::Mode;
 use gj_json::{Event, Known, What, Word};
 
-impl Rules {
+impl<const FRAMES: usize> FramedRules<FRAMES> {
     ghost use Rattle.gj_rules.specs.Internal.RulesState.{Feeds};
     ghost use Rattle.gj_rules.specs.Rules.{StandsFor};
 

@@ -193,6 +193,22 @@ impl OpenRecord {
         self.last = SEPARATOR; // It has no byte.
     }
 
+    /// As a new record under these limits, where it lies.
+    pub fn begin_under(&mut self, limits: Limits, start: u64)
+        requires within { start ≤ 2 ^ 60 }
+        requires wide { limits.bytes ≡ 2 ^ 60 }
+        ensures stands { StandsFor self.new [] }
+        ensures limits { self.new.limits ≡ limits }
+        ensures start { self.new.start ≡ start }
+        ensures end { self.new.end ≡ start }
+    {
+        self.linter.begin_again(limits);
+        self.limits = limits;
+        self.start = start;
+        self.end = start;
+        self.last = SEPARATOR; // It has no byte.
+    }
+
     /// How many arrays and objects are open in it.
     pub fn levels(&self) -> u16
         ensures { (bytes rest : List ℕ) (text : Text) → StandsFor self.now bytes → refusal_of self.now.linter ≡ None → IsText text (bytes ++ rest) →

@@ -1,0 +1,22 @@
+-- No part has ended, and the open one has no byte.
+use Rattle.std.proofs.Common.{[], refl, ap, sym, ◌∙◌, arith}
+use Rattle.gj_rules.specs.Records.{parts_from}
+use Rattle.gj_rules.specs.declared.sequence.verdict.SeqVerdict.{SeqVerdict}
+use Rattle.gj_rules.proofs.Parts.PartCuts.{no_bytes_void}
+use Rattle.gj_rules.proofs.records.Records.begin_again.Goals as goal
+
+pub returns-clause-stands : goal.returns-clause-stands
+returns-clause-stands c = record {
+  done = [];
+  given = [];
+  cut = λ last more. ap (λ n. parts_from c.args.framing last n more) (sym c.begin_under.ensures.start);
+  plain = refl;
+  stands = c.begin_under.ensures.stands;
+  depth = ap (λ l. l.depth) (c.begin_under.ensures.limits ∙ c.record_limits.ensures);
+  taken = c.begin_under.ensures.end;
+  fits = omega arith;
+  void = sym (no_bytes_void c.args.framing);
+  number = c.first_number-self.ensures;
+  are = tt;
+  whole = ap (λ w. SeqVerdict.Valid 0 w) c.none.ensures.exact;
+}

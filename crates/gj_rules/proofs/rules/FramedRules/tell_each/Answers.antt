@@ -1,0 +1,21 @@
+-- The events, one after another.
+use Rattle.std.proofs.Common.{◌≡◌, ◌∷◌, ◌++◌, [], List, subst, append_assoc}
+use Rattle.gj_rules.specs.Rules.{StandsFor}
+use Rattle.gj_json.specs.declared.event.Event.{Event}
+use Rattle.gj_rules.proofs.rules.FramedRules.tell_each.Goals as goal
+use Rattle.gj_rules.proofs.rules.FramedRules.tell_each.Goals.{in-Some, in_default}
+
+four : (xs : List Event) (a b c d : Event) → (((xs ++ a ∷ []) ++ b ∷ []) ++ c ∷ []) ++ d ∷ [] ≡ xs ++ (a ∷ b ∷ c ∷ d ∷ [])
+four xs a b c d = simp append_assoc
+
+five : (xs : List Event) (a b c d e : Event) → ((((xs ++ a ∷ []) ++ b ∷ []) ++ c ∷ []) ++ d ∷ []) ++ e ∷ [] ≡ xs ++ (a ∷ b ∷ c ∷ d ∷ e ∷ [])
+five xs a b c d e = simp append_assoc
+
+pub returns : goal.returns
+returns g c = λ events h.
+    let H : List Event → Type 0 = λ es. StandsFor c.tell-4.new.self es in
+    let two = c.tell-3.ensures _ (c.tell-2.ensures _ (c.tell.ensures events h)) in
+    elim c.match-flat.branch [
+      | in-Some w ↦ (let heard = c.tell-4.ensures _ (rw (w.self-is) (w.tell-in-Some.ensures _ two)) in rw (w.in-Some.is, ← c.decimal.ensures, ← c.decimal-2.ensures, ← w.decimal-in-Some.ensures) (subst H (five events _ _ _ _ _) heard))
+      | in_default w ↦ (let heard = c.tell-4.ensures _ (rw (w.self-is) two) in rw (w.in_default.is, ← c.decimal.ensures, ← c.decimal-2.ensures) (subst H (four events _ _ _ _) heard))
+    ]

@@ -1,0 +1,16 @@
+use Rattle.std.proofs.Common.{◌≡◌, false, refl, ◌∙◌}
+use Rattle.gj_json.specs.declared.event.What.TheVariants as W
+use Rattle.gj_rules.specs.Internal.EventSteps.{is_feeding}
+use Rattle.gj_rules.proofs.Objects.RestingSummaries.{names}
+use Rattle.gj_rules.proofs.Texts.OneEventMore.{told_on, steps_taken}
+use Rattle.gj_rules.proofs.rules.FramedRules.tell_name.Goals as goal
+
+pub returns-then-is_at_names : goal.returns-then-is_at_names
+returns-then-is_at_names g c = λ events h.
+    let old = c.args.self.now in
+    let none = c.is_at_names.ensures.skipped c.if-is_at_names.true in
+    let due = c.is_at_names.ensures.mode c.if-is_at_names.true in
+    let rests : is_feeding old.skipped old.mode ≡ false = rw (none, due) refl in
+    told_on old c.names.new.self _ events
+    (steps_taken old c.names.new.self _ rests
+    (λ few room. c.names.ensures.core ∙ names old (W.Name c.args.name) c.args.place none due) c.names.ensures.holds) h

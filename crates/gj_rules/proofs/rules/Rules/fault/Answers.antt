@@ -1,7 +1,0 @@
-use Rattle.std.proofs.Common.{ap}
-use Rattle.gj_rules.specs.Internal.FrameMeaning.{Findings}
-use Rattle.gj_rules.proofs.Texts.OneEventMore.{answered}
-use Rattle.gj_rules.proofs.rules.Rules.fault.Goals as goal
-
-pub returns : goal.returns
-returns c = λ text d h. ap (λ (x : Findings). x.fault) (answered c.args.self.now text d h)

@@ -1,9 +1,0 @@
-use Rattle.std.proofs.Common.{◌∙◌}
-use Rattle.gj_rules.proofs.Objects.RestingSummaries.{rests}
-use Rattle.gj_rules.proofs.rules.Rules.names.Goals as goal
-
-pub returns-in-Name-clause-core : goal.returns-in-Name-clause-core
-returns-in-Name-clause-core c = rw c.in-Name.is (c.renew.ensures.core ∙ c.name.ensures)
-
-pub returns-in_default-clause-holds : goal.returns-in_default-clause-holds
-returns-in_default-clause-holds c = rests c.pop.new.self c.pop.ensures.rests
