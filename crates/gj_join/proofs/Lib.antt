@@ -1,0 +1,3 @@
+mod JoinedRecords
+mod JoinedParts
+mod JoinedGroups

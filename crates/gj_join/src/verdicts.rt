@@ -1,0 +1,67 @@
+//! The verdict of a sequence from those of two parts of it.
+
+ghost use Rattle.std.specs.Prelude.{◌≡◌, ◌++◌, ℕ, List, length, IfSome, IsSome};
+ghost use Rattle.gj_json.specs.Limits.{Allowed};
+ghost use Rattle.gj_join.specs.Joined.{Fit, NumbersFit, joined_judgement};
+ghost use Rattle.gj_join.specs.Parts.{ArePartsOf, limits_after};
+ghost use Rattle.gj_rules.specs.Sequence.{IsSequenceVerdict, SequenceJudgement, SequenceSays};
+ghost use Rattle.gj_rules.specs.declared.sequence.verdict.SeqVerdict.{SeqVerdict};
+
+use crate::laws::joined_judgements;
+use crate::moved::{moved, moved_warnings};
+use gj_coords::Warnings;
+use gj_rules::{SeqVerdict, one_sequence_verdict};
+
+/// The verdict of a text sequence (RFC 8142), given those of two parts of it, of which the first has so many bytes.
+///
+/// The second part begins with a separator, the first does not end with one, and it is shorter than the limit on the bytes of
+/// the whole. The limit for the second part is what the first leaves. `None` where a number goes past 64 bits, which the
+/// verdicts of such parts under the usual limits never do.
+pub fn join(first: SeqVerdict, end: u64, second: SeqVerdict) -> Option<SeqVerdict>
+    ensures joined { IfSome result (λ whole. (limits : Allowed) (part rest : List ℕ) → ArePartsOf limits part rest → end ≡ length part
+        → IsSequenceVerdict limits part first → IsSequenceVerdict (limits_after limits end) rest second
+        → IsSequenceVerdict limits (part ++ rest) whole) }
+    ensures fits { Fit end first second → IsSome result }
+{
+    joined_judgements();
+    one_sequence_verdict();
+    said(first, end, second)
+}
+
+/// What the verdict of the whole says.
+fn said(first: SeqVerdict, end: u64, second: SeqVerdict) -> Option<SeqVerdict>
+    ensures says { IfSome result (λ whole. (one other : SequenceJudgement) → SequenceSays first one → SequenceSays second other
+        → SequenceSays whole (joined_judgement end one other)) }
+    ensures fits { Fit end first second → IsSome result }
+{
+    match first {
+        SeqVerdict::Record { .. } => Some(first),
+        SeqVerdict::Valid { records, warnings } => after_valid(records, warnings, end, second),
+    }
+}
+
+/// The verdict of the whole where the first part is valid.
+fn after_valid(records: u64, warnings: Warnings, end: u64, second: SeqVerdict) -> Option<SeqVerdict>
+    ensures says { IfSome result (λ whole. (one other : SequenceJudgement) → SequenceSays (SeqVerdict.Valid records warnings) one → SequenceSays second other
+        → SequenceSays whole (joined_judgement end one other)) }
+    ensures fits { NumbersFit records end second → IsSome result }
+{
+    match second {
+        SeqVerdict::Valid {
+            records: more,
+            warnings: others,
+        } => match (records.checked_add(more), moved_warnings(others, end)) {
+            (Some(records), Some(others)) => Some(SeqVerdict::Valid {
+                records,
+                warnings: warnings.join(others),
+            }),
+            _ => None,
+        },
+        SeqVerdict::Record { number, verdict } => {
+            match (records.checked_add(number), moved(verdict, end)) {
+                (Some(number), Some(verdict)) => Some(SeqVerdict::Record { number, verdict }),
+                _ => None,
+            }
+        }
+    }
+}
