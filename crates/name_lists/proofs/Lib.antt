@@ -1,0 +1,2 @@
+mod GivenNames
+mod NamesLeft

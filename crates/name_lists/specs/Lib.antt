@@ -1,0 +1,4 @@
+pub mod Listed
+pub mod Adding
+pub mod Left
+pub mod Internal
