@@ -14,7 +14,7 @@ const SEPARATOR: [u8; 1] = [0x1E];
 /// What is wrong with a file, as far as a hint depends on it.
 #[derive(Clone, Copy, Debug, PartialEq, Eq)]
 pub enum Wrong {
-    /// No JSON text begins so.
+    /// No JSON text begins with the bytes up to the place.
     Refused,
     /// Bytes follow a whole text.
     TextFollows,
@@ -41,7 +41,7 @@ pub struct Clues<'a> {
     pub after: &'a [u8],
 }
 
-/// What the bytes look like, where that helps.
+/// What the bytes look like, where that helps the reader: a guess, by the first bytes of the file and those around the place.
 pub fn hint(wrong: Wrong, clues: &Clues<'_>) -> Option<Hint>
     ensures { result ≡ hint_of wrong clues.now }
 {
@@ -59,7 +59,7 @@ pub fn hint(wrong: Wrong, clues: &Clues<'_>) -> Option<Hint>
     }
 }
 
-/// What a file is that is no JSON text, or what its first byte is that cannot stand there.
+/// What a file that is no JSON text looks like, or else what its first byte that is refused looks like.
 fn refused(clues: &Clues<'_>) -> Option<Hint>
     ensures { result ≡ refused clues.now }
 {

@@ -7,7 +7,7 @@ use memchr::memmem;
 
 const GZIP: [u8; 2] = [0x1F, 0x8B];
 
-/// `PK`, and that an entry of the archive follows.
+/// `PK`, and the mark of an entry of the archive.
 const ZIP: [u8; 4] = [0x50, 0x4B, 0x03, 0x04];
 
 /// The number 9994, its highest byte first.
@@ -93,7 +93,7 @@ fn is_utf_16(head: &[u8]) -> bool
         || begins(head, &BRACE_BIG)
 }
 
-/// Which kind of markup it is.
+/// The kind of markup.
 fn markup_kind(head: &[u8]) -> Hint
     ensures { result ≡ markup_kind head.now }
 {
@@ -117,7 +117,7 @@ fn is_html(head: &[u8]) -> bool
         || holds(head, b"<!doctype html")
 }
 
-/// The bytes behind a byte order mark, where there is one.
+/// The bytes after a byte order mark, where there is one.
 fn without_mark(head: &[u8]) -> &[u8]
     ensures { result.now ≡ without_mark head.now }
 {
@@ -128,21 +128,21 @@ fn without_mark(head: &[u8]) -> &[u8]
     }
 }
 
-/// The bytes without the white space at their front.
+/// The bytes without leading white space.
 pub fn without_white(bytes: &[u8]) -> &[u8]
     ensures { result.now ≡ without_white bytes.now }
 {
     bytes.trim_ascii_start()
 }
 
-/// Whether some bytes begin so.
+/// Whether the bytes begin with these.
 pub fn begins(bytes: &[u8], front: &[u8]) -> bool
     ensures { result ≡ begins bytes.now front.now }
 {
     bytes.starts_with(front)
 }
 
-/// Whether these stand in some bytes.
+/// Whether these stand in the bytes.
 pub fn holds(bytes: &[u8], part: &[u8]) -> bool
     ensures { result ≡ holds bytes.now part.now }
 {

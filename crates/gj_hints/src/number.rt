@@ -6,7 +6,7 @@ ghost use Rattle.gj_hints.specs.Numbers.{number_hint, has_many_digits, behind_th
 use crate::formats::begins;
 use crate::kind::Hint;
 
-/// Why the number with which the bytes begin is not read.
+/// The reason why the number that the bytes begin with is not read.
 pub fn number_hint(bytes: &[u8]) -> Hint
     ensures { result ≡ number_hint bytes.now }
 {
@@ -19,14 +19,14 @@ pub fn number_hint(bytes: &[u8]) -> Hint
     }
 }
 
-/// Whether a digit of value stands behind the first thirty digits.
+/// Whether a digit other than 0 stands after the first thirty digits.
 fn has_many_digits(digits: &[u8]) -> bool
     ensures { result ≡ has_many_digits digits.now }
 {
     has_value(behind_thirty(digits))
 }
 
-/// What stands behind thirty digits, among which there may be a point.
+/// What stands after thirty digits, among which there may be a point.
 fn behind_thirty(digits: &[u8]) -> &[u8]
     ensures { result.now ≡ behind_thirty digits.now }
 {
@@ -80,7 +80,7 @@ fn exponent(bytes: &[u8]) -> &[u8]
     behind(bytes, mantissa_len(bytes))
 }
 
-/// The digits from the first one of value on.
+/// The digits from the first one other than 0 on.
 fn significant(mantissa: &[u8]) -> &[u8]
     ensures { result.now ≡ significant mantissa.now }
 {
@@ -115,7 +115,7 @@ fn is_in_mantissa(byte: u8) -> bool
     byte.is_ascii_digit() || byte == b'-' || byte == b'.'
 }
 
-/// Whether it stands before the first digit of value.
+/// Whether it may stand before the first digit other than 0.
 fn is_idle(byte: u8) -> bool
     ensures { result ≡ is_idle byte }
 {

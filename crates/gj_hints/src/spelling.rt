@@ -1,11 +1,11 @@
-//! Bytes that only look like JSON, by those around the first that cannot stand there.
+//! Bytes that only look like JSON, by those around the first byte that is refused.
 ghost use Rattle.std.specs.Prelude.{◌≡◌};
 ghost use Rattle.gj_hints.specs.Spellings.{first_byte, last_byte, last_solid, without_white_behind, is_number_word, is_infinity, is_comment, is_extra_comma, opens_character, begins_no_character, is_other_encoding, word_at, sign_at, spelling};
 
 use crate::formats::begins;
 use crate::kind::Hint;
 
-/// What stands at a place where no JSON text goes on so.
+/// What stands at the place of a refused byte.
 pub fn spelling(before: &[u8], after: &[u8]) -> Option<Hint>
     ensures { result ≡ spelling before.now after.now }
 {
@@ -78,7 +78,8 @@ fn is_extra_comma(before: Option<u8>, at: Option<u8>) -> bool
     }
 }
 
-/// Whether the bytes at the place are no UTF-8: a character has begun that they do not go on with, or none begins so.
+/// Whether the bytes at the place are no UTF-8: they do not go on with a character that has begun, or no character
+/// begins with them.
 fn is_other_encoding(before: &[u8], after: &[u8]) -> bool
     ensures { result ≡ is_other_encoding before.now after.now }
 {
@@ -126,7 +127,7 @@ fn last_solid(bytes: &[u8]) -> Option<u8>
     last_byte(without_white_behind(bytes))
 }
 
-/// The bytes without the white space at their end.
+/// The bytes without trailing white space.
 fn without_white_behind(bytes: &[u8]) -> &[u8]
     ensures { result.now ≡ without_white_behind bytes.now }
 {

@@ -28,7 +28,7 @@ fn are_swapped(first: &[u8], second: &[u8]) -> bool
         && degrees(second) < 180
 }
 
-/// The bytes up to the comma or the bracket behind a number.
+/// The bytes up to the comma or the bracket after a number.
 fn field(bytes: &[u8]) -> &[u8]
     ensures { result.now ≡ field bytes.now }
 {
@@ -62,7 +62,7 @@ fn is_inside(byte: u8) -> bool
     !(byte == b',' || byte == b']')
 }
 
-/// Whether a number is spelled with no exponent.
+/// Whether a number is written without an exponent.
 fn is_plain(field: &[u8]) -> bool
     ensures { result ≡ is_plain field.now }
 {
@@ -91,7 +91,7 @@ fn without_sign(number: &[u8]) -> &[u8]
     }
 }
 
-/// The digits at the front.
+/// The leading digits.
 fn digits(bytes: &[u8]) -> &[u8]
     ensures { result.now ≡ digits_of bytes.now }
 {
@@ -110,7 +110,7 @@ fn digits_len(bytes: &[u8]) -> usize
     bytes.len()
 }
 
-/// What up to three digits say, and a number that is no degree for more or none.
+/// The number that one to three digits spell. For more digits or none, a number that is no degree.
 fn whole(digits: &[u8]) -> u16
     ensures { result ≡ whole digits.now }
 {

@@ -1,4 +1,4 @@
-//! The codes, and where each leads.
+//! The codes, and the section of each.
 ghost use Rattle.std.specs.Prelude.{◌≡◌};
 ghost use Rattle.std.specs.List.{find};
 ghost use Rattle.gj_manual.specs.Manual.{is_named};
@@ -83,7 +83,7 @@ pub const TOPICS: [Topic; 34] = [
     Topic::J4,
 ];
 
-/// The topic of a code, in capitals or not: none where there is no such code.
+/// The topic of a code, in capitals or not, or `None` where there is no such code.
 pub fn named(code: &str) -> Option<Topic>
     ensures { result ≡ find (is_named code.now) TOPICS }
 {
@@ -111,7 +111,7 @@ impl Topic {
     ghost use Rattle.std.specs.Prelude.{◌≡◌, ◌++◌, true, codes};
     ghost use Rattle.gj_manual.specs.Manual.{begins, code_of};
 
-    /// As `G15`.
+    /// Its code, as `G15`.
     pub fn code(self) -> &'static str
         ensures { result.now ≡ code_of self }
     {

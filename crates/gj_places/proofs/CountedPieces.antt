@@ -1,5 +1,6 @@
 -- Lines and characters of bytes behind others.
-use Rattle.std.proofs.Common.{arith, ◌≡◌, ◌<◌, ◌≤◌, ◌∙◌, ℕ, suc, ◌+◌, ◌-◌, ◌++◌, ◌∷◌, [], List, ap, sym, refl, length, take, drop, get_or, append_assoc, length-drop}
+use Rattle.std.proofs.Common.{arith, ◌≡◌, ◌<◌, ◌≤◌, ◌∙◌, ℕ, suc, ◌+◌, ◌-◌, ◌++◌, ◌∷◌, [], List, ap, sym, refl, length, take, drop}
+use Rattle.std.proofs.Common.{get_or, append_assoc, length-drop}
 use Rattle.std.proofs.lemmas.List.{take_more, take_all, get_or-drop, take-append-drop}
 use Rattle.std.specs.Prelude.{Bool, true, false, ◌||◌, if◌then◌else◌}
 use Rattle.gj_places.specs.Lines.{is_line_feed, begins_character, line_feeds, characters, has_line_feed, last_line, line_of, column_of}
@@ -27,10 +28,12 @@ pub characters-at-most : (xs : List ℕ) → characters xs ≤ length xs
 characters-at-most [] = omega arith
 characters-at-most (x ∷ xs) = at-most-by (begins_character x) (characters xs) (length xs) (characters-at-most xs)
 
-pub line_feeds-take : (xs : List ℕ) (i : ℕ) → i < length xs → line_feeds (take (i + 1) xs) ≡ line_feeds (take i xs) + (if is_line_feed (get_or xs i 0) then 1 else 0)
+pub line_feeds-take : (xs : List ℕ) (i : ℕ) → i < length xs →
+    line_feeds (take (i + 1) xs) ≡ line_feeds (take i xs) + (if is_line_feed (get_or xs i 0) then 1 else 0)
 line_feeds-take xs i within = ap line_feeds (take_more xs i 0 within) ∙ line_feeds-more (take i xs) (get_or xs i 0)
 
-pub characters-take : (xs : List ℕ) (i : ℕ) → i < length xs → characters (take (i + 1) xs) ≡ characters (take i xs) + (if begins_character (get_or xs i 0) then 1 else 0)
+pub characters-take : (xs : List ℕ) (i : ℕ) → i < length xs →
+    characters (take (i + 1) xs) ≡ characters (take i xs) + (if begins_character (get_or xs i 0) then 1 else 0)
 characters-take xs i within = ap characters (take_more xs i 0 within) ∙ characters-more (take i xs) (get_or xs i 0)
 
 neither : (a b : Bool) → (a || b) ≡ false → (a ≡ false) × (b ≡ false)
@@ -66,7 +69,8 @@ pub none-has : (xs : List ℕ) → ((k : ℕ) → k < length xs → is_line_feed
 none-has [] none = refl
 none-has (x ∷ xs) none =
     let here : is_line_feed x ≡ false = none 0 (omega arith) in
-    let more : (k : ℕ) → k < length xs → is_line_feed (get_or xs k 0) ≡ false = λ k within. (let next : is_line_feed (get_or (x ∷ xs) (suc k) 0) ≡ false = none (suc k) (omega arith) in next) in
+    let more : (k : ℕ) → k < length xs → is_line_feed (get_or xs k 0) ≡ false =
+    λ k within. (let next : is_line_feed (get_or (x ∷ xs) (suc k) 0) ≡ false = none (suc k) (omega arith) in next) in
     rw here (none-has xs more)
 
 not_true : (b : Bool) → (b ≡ true → ⊥) → b ≡ false

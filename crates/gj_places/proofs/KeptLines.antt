@@ -1,5 +1,6 @@
 -- What is kept of a line with more bytes.
-use Rattle.std.proofs.Common.{arith, refl, ◌≡◌, ◌≤◌, ◌<◌, ℕ, ◌+◌, ◌-◌, ◌++◌, ◌∷◌, [], List, length, take, drop, ap, sym, ◌∙◌, append_assoc, append-nil, length-append, length-drop}
+use Rattle.std.proofs.Common.{arith, refl, ◌≡◌, ◌≤◌, ◌<◌, ℕ, ◌+◌, ◌-◌, ◌++◌, ◌∷◌, [], List, length, take, drop, ap, sym, ◌∙◌}
+use Rattle.std.proofs.Common.{append_assoc, append-nil, length-append, length-drop}
 use Rattle.std.specs.Prelude.{Bool, true, false, ◌||◌, if◌then◌else◌, get_or, encode_utf8, encode_utf8_all, codes, min, nat_lt}
 use Rattle.std.proofs.lemmas.Grind.{common_steps}
 use Rattle.std.proofs.lemmas.List.{length-take, take-append-drop, take_more, take_all, take-append-le, drop-append-le, drop-drop, drop_at}
@@ -106,7 +107,8 @@ recent n before piece many =
 
 -- ---- the first line
 
-ended-by : (b : Bool) (x : ℕ) (more : Bool) (xs ys : List ℕ) → (b || more) ≡ true → (more ≡ true → xs ≡ ys) → (if b then [] else x ∷ xs) ≡ (if b then [] else x ∷ ys)
+ended-by : (b : Bool) (x : ℕ) (more : Bool) (xs ys : List ℕ) → (b || more) ≡ true → (more ≡ true → xs ≡ ys) →
+    (if b then [] else x ∷ xs) ≡ (if b then [] else x ∷ ys)
 ended-by true x more xs ys is same = refl
 ended-by false x more xs ys is same = ap (λ (zs : List ℕ). x ∷ zs) (same is)
 
@@ -133,7 +135,8 @@ pub first_line-none : (xs : List ℕ) → has_line_feed xs ≡ false → first_l
 first_line-none xs lacks = ap first_line (sym (append-nil xs)) ∙ first_line-open xs [] lacks ∙ append-nil xs
 
 -- as many of its bytes as there is room for stay as they are
-first-by : (n : ℕ) (xs ys : List ℕ) (has : Bool) → has_line_feed xs ≡ has → n ≤ length (take n (first_line xs)) → take n (first_line (xs ++ ys)) ≡ take n (first_line xs)
+first-by : (n : ℕ) (xs ys : List ℕ) (has : Bool) → has_line_feed xs ≡ has → n ≤ length (take n (first_line xs)) →
+    take n (first_line (xs ++ ys)) ≡ take n (first_line xs)
 first-by n xs ys true is full = ap (take n) (first_line-ended xs ys is)
 first-by n xs ys false lacks full =
     let long : n ≤ length (take n xs) = rw (first_line-none xs lacks) at full in
@@ -173,7 +176,8 @@ contrary false is isnt = cc
 
 -- ---- characters, one more
 
-pub encodes-more : (xs : List ℕ) (i c : ℕ) → i < length xs → c ≡ get_or xs i c → encode_utf8_all (take (i + 1) xs) ≡ encode_utf8_all (take i xs) ++ encode_utf8 c
+pub encodes-more : (xs : List ℕ) (i c : ℕ) → i < length xs → c ≡ get_or xs i c →
+    encode_utf8_all (take (i + 1) xs) ≡ encode_utf8_all (take i xs) ++ encode_utf8 c
 encodes-more xs i c within is =
     ap encode_utf8_all (take_more xs i c within) ∙ encodes-append (take i xs) (get_or xs i c ∷ [])
     ∙ ap (λ (ys : List ℕ). encode_utf8_all (take i xs) ++ ys) (append-nil (encode_utf8 (get_or xs i c)))
@@ -192,7 +196,8 @@ cut_back-more shown most is fewer =
     let many : nat_lt 50 (length shown) ≡ true = grind (arith, common_steps) in
     rw (many, all) (encodes-append (take 50 shown) (codes "...") ∙ ap (λ (ys : List ℕ). encode_utf8_all (take 50 shown) ++ ys) dots)
 
-pub cut_back-all : (shown : List ℕ) (most : ℕ) → most ≡ min (length shown) 50 → length shown ≤ most → encode_utf8_all (cut_back shown) ≡ encode_utf8_all (take most shown)
+pub cut_back-all : (shown : List ℕ) (most : ℕ) → most ≡ min (length shown) 50 → length shown ≤ most →
+    encode_utf8_all (cut_back shown) ≡ encode_utf8_all (take most shown)
 cut_back-all shown most is all =
     let few : nat_lt 50 (length shown) ≡ false = grind (arith, common_steps) in
     rw few (ap encode_utf8_all (sym (take_all most shown all)))

@@ -1,5 +1,6 @@
 -- The part of a line around a place, as a terminal shows it.
-use Rattle.std.specs.Prelude.{ℕ, ◌-◌, ◌++◌, List, [], ◌∷◌, length, take, drop, map, chars, codes, get_or, Bool, ◌&&◌, ◌||◌, nat_eq, nat_le, nat_lt, if◌then◌else◌}
+use Rattle.std.specs.Prelude.{ℕ, ◌-◌, ◌++◌, List, [], ◌∷◌, length, take, drop, map, chars, codes, get_or, Bool, ◌&&◌, ◌||◌, nat_eq}
+use Rattle.std.specs.Prelude.{nat_le, nat_lt, if◌then◌else◌}
 use Rattle.std.specs.Str.Lossy.{utf8_lossy}
 use Rattle.gj_places.specs.Lines.{is_line_feed, last_line}
 

@@ -7,10 +7,10 @@ use arrayvec::ArrayVec;
 use std::alloc::{AllocError, Global};
 use unicode_width::UnicodeWidthStr;
 
-/// How many characters are shown before the place at most, and from it on.
+/// The most characters that are shown before the place, and from it on.
 const MOST_SHOWN: usize = 50;
 
-/// How many bytes are shown of the line before the place, and from it on: they have more characters than are shown.
+/// The number of bytes that are kept before the place, and from it on: enough for more characters than are shown.
 const MOST_BYTES: usize = 256;
 
 /// What stands where a part of the line is left out.
@@ -85,7 +85,7 @@ impl Excerpt {
         self.before.push(byte);
     }
 
-    /// Takes the next bytes, all at the place or behind it.
+    /// Takes the next bytes, all at the place or after it.
     pub fn feed_after(&mut self, piece: &[u8])
         ensures { (before after : List ℕ) → Keeps self.old before after → Keeps self.new before (after ++ piece.now) }
     {

@@ -9,10 +9,11 @@ use memchr::memrchr;
 /// The byte that ends a line.
 const LINE_FEED: u8 = b'\n';
 
-/// How many bytes are counted at a time: so few that a `u8` holds the count, and one vector instruction counts 16 of them.
+/// The number of bytes that are counted at a time: few enough that a `u8` holds the count, and one vector instruction
+/// counts 16 of them.
 const BLOCK: usize = 192;
 
-/// The line and the column of the place behind the bytes that were fed.
+/// The line and the column of the place after the bytes that were fed.
 ///
 /// Lines and columns count from 1. A line ends with LF alone. A column counts characters, which begin at each byte that is
 /// no continuation byte of UTF-8: so a tab, a byte order mark and the CR before an LF are one character each. Both counts
@@ -93,7 +94,7 @@ impl Lines {
         Lines { line: 1, column: 1 }
     }
 
-    /// Goes on behind these bytes.
+    /// Moves on past these bytes.
     pub fn feed(&mut self, piece: &[u8])
         ensures { (bytes : List ℕ) → StandsFor self.old bytes → StandsFor self.new (bytes ++ piece.now) }
     {
@@ -106,7 +107,7 @@ impl Lines {
         }
     }
 
-    /// Goes on behind these bytes and an LF.
+    /// Moves on past these bytes and an LF.
     fn end_lines(&mut self, lines: &[u8])
         ensures { (bytes : List ℕ) → StandsFor self.old bytes → StandsFor self.new (bytes ++ (lines.now ++ LINE_FEED ∷ [])) }
     {
@@ -117,7 +118,7 @@ impl Lines {
         self.column = 1;
     }
 
-    /// Goes on behind these bytes of a line.
+    /// Moves on past these bytes of a line.
     fn go_on(&mut self, rest: &[u8])
         requires { has_line_feed rest.now ≡ false }
         ensures { (bytes : List ℕ) → StandsFor self.old bytes → StandsFor self.new (bytes ++ rest.now) }

@@ -11,8 +11,8 @@ use Rattle.gj_json.specs.Grammar.{Spells, letters_of}
 use Rattle.gj_json.specs.Text.{IsText}
 use Rattle.gj_json.specs.Tree.{Tree, constant, number, string, array, object, Text, place_of}
 use Rattle.gj_rules.specs.declared.feature.Feature.{Feature}
-use Rattle.gj_rules.specs.FeatureFindings.{end_of, finding_of, findings_from, features_of, feature_findings}
-use Rattle.gj_rules.specs.FeaturesTold.{SaysEnd, SaysFinding, SayFindings}
+use Rattle.gj_rules.specs.FeatureFindings.{closing_of, end_of, finding_of, findings_from, features_of, feature_findings}
+use Rattle.gj_rules.specs.FeaturesTold.{SaysFinding, SayFindings}
 use Rattle.gj_split.specs.declared.scan.Scan.{Scan}
 use Rattle.gj_split.specs.Internal.ScannedValues.{ends_word, scan_next, count_after, scan_length, is_running}
 use Rattle.gj_split.specs.Split.{bytes_between, with_feature, split_findings, split_of}
@@ -198,6 +198,18 @@ scalar_length (object place members close) n own after h f e =
 
 -- ---- what was told and what is found
 
+-- the byte after a closing bracket is the end
+abbrev SaysEnd : Option ℕ → ℕ → Type 0
+SaysEnd None end = Unit {0}
+SaysEnd (Some close) end = close + 1 ≡ end
+
+end_says : (v : Tree) → SaysEnd (closing_of v) (end_of v)
+end_says (array place es close) = refl
+end_says (object place ms close) = refl
+end_says (constant which place) = tt
+end_says (number place literal end) = tt
+end_says (string place content end) = tt
+
 -- a feature that was told ends where the feature does
 end_is : (v : Tree) (bytes : List ℕ) (close : Option ℕ) → IsElementIn v 0 bytes → SaysEnd close (end_of v) → IsEndKnown (place_of v) close bytes → end_told (place_of v) close bytes ≡ end_of v
 end_is v bytes (Some close) s e k = e
@@ -221,7 +233,7 @@ told_own : (index : ℕ) (v : Tree) (bytes : List ℕ) (feature : Feature) → I
 told_own index v bytes feature s h k =
     let place : feature.place ≡ place_of v = h.1 in
     let known : IsEndKnown (place_of v) feature.close bytes = subst (λ p. IsEndKnown p feature.close bytes) place k in
-    ap (λ p. bytes_between p (end_told p feature.close bytes) bytes) place ∙ ap (λ e. bytes_between (place_of v) e bytes) (end_is v bytes feature.close s h.2 known)
+    ap (λ p. bytes_between p (end_told p feature.close bytes) bytes) place ∙ ap (λ e. bytes_between (place_of v) e bytes) (end_is v bytes feature.close s (subst (λ o. SaysEnd o (end_of v)) (sym h.2) (end_says v)) known)
 
 told_from : (index : ℕ) (vs : List Tree) (bytes : List ℕ) (features : List Feature) → AllByRecursion (λ v. IsElementIn v 0 bytes) vs → SayFindings features (findings_from index vs) →
     AllByRecursion (EndsKnown bytes) features → told_split bytes features ≡ split_findings bytes (findings_from index vs)

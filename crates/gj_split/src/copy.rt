@@ -1,4 +1,4 @@
-//! A part of a text is written as it stands.
+//! Copies a part of a text, byte for byte.
 ghost use Rattle.std.specs.Prelude.{◌≡◌, ℕ, List, Some, OnOk, min};
 ghost use Rattle.std.specs.Io.KnownBytes.{Appends};
 ghost use Rattle.gj_split.specs.Split.{bytes_between};

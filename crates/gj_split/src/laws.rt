@@ -1,4 +1,4 @@
-//! What holds of the features of a text that are set apart: each contract is a law of the definitions.
+//! Laws of the definitions of a split: each is the contract of a function that does nothing.
 ghost use Rattle.std.specs.Prelude.{List, ℕ, length};
 ghost use Rattle.std.specs.List.{AllByRecursion};
 ghost use Rattle.gj_json.specs.Limits.{Allowed};

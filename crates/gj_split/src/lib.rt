@@ -1,9 +1,9 @@
-//! The features of a GeoJSON text, set apart: those without a fault, and the others, each as a text sequence (RFC 8142).
+//! Splits the features of a GeoJSON text into two text sequences (RFC 8142): those without a fault, and the others.
 //!
-//! [`split`] reads a text once and copies the bytes of each feature, unchanged, to one of two writers, as soon as the feature
-//! has ended. It holds no feature, however many or long they are. Where the source and the writers tell their bytes, and the
-//! text is JSON, the first holds a valid text sequence with as many records as features without a fault, and both together
-//! hold each feature once, in order.
+//! [`split`] reads a text once and copies the bytes of each feature, unchanged, to one of two writers, as soon as the
+//! feature has ended. It keeps no feature in memory, however many or long they are. Where the source and the writers
+//! tell their bytes, and the text is JSON, the first holds a valid text sequence with as many records as features
+//! without a fault, and both together hold each feature once, in order.
 #![tactic(auto)]
 
 mod copy;

@@ -1,33 +1,33 @@
-//! What the bytes of a text are read from.
+//! A source from which the bytes of a text are read at byte offsets.
 ghost use Rattle.std.specs.Prelude.{ℕ, List, Option};
 ghost use Rattle.std.specs.Io.{ReadsAtMost};
 ghost use Rattle.gj_split.specs.Ranges.{ReadsFrom};
 
 use std::io;
 
-/// What bytes are read from by their places.
+/// A source whose bytes are read at byte offsets.
 ///
-/// Each value of the type reads the same text.
+/// Every value of the type reads the same text.
 pub trait Ranges {
     // All bytes of the text, where the type tells them.
     ghost text: { Option (List ℕ) };
 
-    /// Reads the bytes from a place on into the front of the piece, and answers how many came: 0 into a piece with room only
-    /// where no byte stands there.
+    /// Reads bytes from this offset on into the start of the piece, and returns how many it read. It returns 0 for a
+    /// piece with room only where the text has no byte at the offset.
     fn read_at(&self, place: u64, piece: &mut [u8]) -> io::Result<usize>
         ensures bound { ReadsAtMost result piece.new }
         ensures bytes { ReadsFrom text place result piece.new };
 }
 
-/// What ends a split before its end.
+/// The reason why a split stops before its end.
 #[derive(Drop)]
 pub enum Stop {
     /// The text could not be read.
     Read(io::Error),
-    /// A byte that was read is not there any more.
+    /// A byte that was read before is no longer there.
     Shorter,
-    /// It is not told where an array or an object among the features ends.
+    /// The linter does not say where an array or an object among the features ends.
     NoEnd,
-    /// A writer took no more.
+    /// A write failed.
     Write(io::Error),
 }

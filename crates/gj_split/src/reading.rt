@@ -1,4 +1,4 @@
-//! A text is read once, and its features are set apart as they come.
+//! Reads a text once, and splits its features as they end.
 ghost use Rattle.std.specs.Prelude.{◌≡◌, ℕ, List, [], length, Some, None, IfOk, OnOk, IsErr};
 ghost use Rattle.gj_json.specs.declared.fault.JsonFault.{JsonFault};
 ghost use Rattle.gj_json.specs.Refusal.{IsAdmitted};
@@ -19,11 +19,11 @@ use std::io::Write;
 /// The most bytes of a read.
 const PIECE: usize = 16384;
 
-/// Sets the features of a text apart: each without a fault as a record of one text sequence (RFC 8142), and each other as one
-/// of a second, its bytes as they stand.
+/// Splits the features of a text: it writes each one without a fault as a record of one text sequence (RFC 8142), and
+/// each other one as a record of a second. The bytes of a feature stay as they are.
 ///
-/// A text that is refused as JSON gives the features before the refusal. Where a read or a write fails, no more is written: each
-/// record that is counted is whole, and the last of a writer may be cut off.
+/// Of a text that is refused as JSON, it writes the features before the refusal. Where a read or a write fails, no more
+/// is written: each record that is counted is whole, and the last of a writer may be cut off.
 pub fn split<R: Ranges, V: Write + Drop, B: Write + Drop, L: BrokenList + Drop>(
     source: &R,
     limits: Limits,
@@ -45,7 +45,7 @@ pub fn split<R: Ranges, V: Write + Drop, B: Write + Drop, L: BrokenList + Drop>(
     }
 }
 
-/// Feeds the whole text to a linter, or what comes before a byte that is refused. It answers what stopped it before that.
+/// Feeds the text to a linter, up to its end or to a byte that is refused. It returns what stopped it before that.
 fn feed_all<R: Ranges, S: FeatureSink + Stopping>(
     source: &R,
     linter: &mut FeatureLinter<S>,
@@ -79,7 +79,7 @@ fn feed_all<R: Ranges, S: FeatureSink + Stopping>(
     Some(Stop::Shorter)
 }
 
-/// After the last byte, or the one that was refused, or a write that failed.
+/// Ends a split after the last byte, after the byte that was refused, or after a write that failed.
 fn finished<'a, R: Ranges, V: Write + Drop, B: Write + Drop, L: BrokenList + Drop>(
     linter: FeatureLinter<Splitter<'a, R, V, B, L>>,
 ) -> Ended<V, B, L>
@@ -94,7 +94,7 @@ fn finished<'a, R: Ranges, V: Write + Drop, B: Write + Drop, L: BrokenList + Dro
     splitter.end(Ok(verdict))
 }
 
-/// A read or a write has failed. What stopped the linter's sink comes first.
+/// Ends a split after a read or a write that failed. A failure of the linter's sink comes first.
 fn stopped<'a, R: Ranges, V: Write + Drop, B: Write + Drop, L: BrokenList + Drop>(
     linter: FeatureLinter<Splitter<'a, R, V, B, L>>,
     stop: Stop,

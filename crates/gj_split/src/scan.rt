@@ -1,4 +1,4 @@
-//! Where a value ends that is no array and no object.
+//! Finds the end of a value that is no array and no object.
 ghost use Rattle.std.specs.Prelude.{◌≡◌, ℕ, ◌+◌, ◌≤◌, List, Some, IfOk, OnOk, drop, true, ◌||◌, ◌==◌};
 ghost use Rattle.gj_json.specs.Bytes.{open_bracket, open_brace};
 ghost use Rattle.gj_split.specs.Internal.ScannedValues.{scan_length};
@@ -9,12 +9,12 @@ use crate::ranges::{Ranges, Stop};
 /// The most bytes of a read.
 const PIECE: usize = 256;
 
-/// What was seen of the value.
+/// The state of the scan.
 #[derive(Clone, Copy, PartialEq, Eq)]
 pub enum Scan {
     /// Nothing.
     Start,
-    /// A number, or the front of `null`, `true` or `false`.
+    /// A number, or a prefix of `null`, `true` or `false`.
     Word,
     /// A string.
     Text,
@@ -26,7 +26,7 @@ pub enum Scan {
     Past,
 }
 
-/// What was seen after some bytes more, and how many of them are the value's.
+/// The state after some more bytes, and how many of them belong to the value.
 #[derive(Clone, Copy)]
 struct Scanned {
     scan: Scan,
@@ -37,7 +37,7 @@ impl Scan {
     ghost use Rattle.std.specs.Prelude.{◌≡◌, ℕ, ◌+◌, ◌≤◌, List, ◌++◌, length, true};
     ghost use Rattle.gj_split.specs.Internal.ScannedValues.{scan_next, scan_length, rest_length, is_running};
 
-    /// After one byte more.
+    /// The state after one more byte.
     fn next(self, byte: u8) -> Scan
         ensures { result ≡ scan_next self byte }
     {
@@ -58,7 +58,7 @@ impl Scan {
         }
     }
 
-    /// After a piece, or at the end of the value in it.
+    /// The state after a piece, or at the end of the value in it.
     fn over(self, piece: &[u8]) -> Scanned
         requires running { is_running self ≡ true }
         ensures within { result.count ≤ length piece.now }
@@ -91,7 +91,7 @@ impl Scan {
     }
 }
 
-/// An error where an array or an object stands at the place.
+/// Returns an error where an array or an object begins at the byte offset.
 pub fn expect_flat<R: Ranges>(source: &R, place: u64) -> Result<(), Stop>
     ensures { OnOk result ((bytes : List ℕ) → R.text ≡ Some bytes → is_flat (drop place bytes) ≡ true) }
 {
@@ -115,7 +115,7 @@ fn is_opening(byte: u8) -> bool
     byte == b'[' || byte == b'{'
 }
 
-/// The place after the last byte of the value at the place, which is no array and no object.
+/// The byte offset after the value that begins at this one, which is no array and no object.
 pub fn end_of_value<R: Ranges>(source: &R, place: u64) -> Result<u64, Stop>
     ensures { IfOk result (λ end. (bytes : List ℕ) → R.text ≡ Some bytes → end ≡ place + scan_length Scan.Start (drop place bytes)) }
 {

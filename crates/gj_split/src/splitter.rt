@@ -1,4 +1,4 @@
-//! Each feature that is told is written as a record.
+//! Writes each feature that the linter reports as a record.
 ghost use Rattle.std.specs.Prelude.{◌≡◌, ℕ, List, [], ◌∷◌, Some, OnOk, IfOk};
 ghost use Rattle.std.specs.Io.KnownBytes.{Appends};
 ghost use Rattle.gj_split.specs.Internal.HeldRecords.{WritesRecord};
@@ -13,19 +13,19 @@ use std::io::{self, Write};
 /// The byte before a record (RFC 8142, section 2): RS.
 const SEPARATOR: u8 = 0x1E;
 
-/// What each feature with a fault is told to, after its record is written.
+/// Receives each feature with a fault, after its record is written.
 pub trait BrokenList {
     fn add(&mut self, feature: &Feature) -> io::Result<()>;
 }
 
-/// How many records were written whole.
+/// The number of records that were written whole.
 #[derive(Clone, Copy, Debug, Default, PartialEq, Eq)]
 pub struct Counts {
     pub valid: u64,
     pub broken: u64,
 }
 
-/// What the records are written to.
+/// The writers of the records.
 #[derive(Drop)]
 pub struct Outputs<V, B, L> {
     /// Each feature without a fault.
@@ -35,22 +35,22 @@ pub struct Outputs<V, B, L> {
     pub list: L,
 }
 
-/// What came of a split.
+/// The result of a split.
 #[derive(Drop)]
 pub struct Ended<V, B, L> {
-    /// What the text is, or why it was not read to its end.
+    /// The verdict of the text, or why it was not read to its end.
     pub outcome: Result<Verdict, Stop>,
-    /// How many records were written whole.
+    /// The number of records that were written whole.
     pub counts: Counts,
     pub outputs: Outputs<V, B, L>,
 }
 
-/// What can stop before the text has ended.
+/// A sink that can stop before the text has ended.
 pub trait Stopping {
     fn has_stopped(&self) -> bool;
 }
 
-/// Writes each feature that it is told to the writer that it belongs to, until one stops it.
+/// Writes each reported feature to its writer, until a read or a write fails.
 #[derive(Drop)]
 pub struct Splitter<'a, R, V, B, L> {
     source: &'a R,
@@ -65,7 +65,7 @@ impl<'a, R: Ranges, V: Write, B: Write, L: BrokenList> Splitter<'a, R, V, B, L> 
     ghost use Rattle.gj_split.specs.Holding.{AreKnown};
     ghost use Rattle.gj_split.specs.Internal.HeldRecords.{Holds};
 
-    /// Before the first feature.
+    /// A splitter before the first feature.
     pub fn new(source: &'a R, outputs: Outputs<V, B, L>) -> Self
         ensures held { (bytes : List ℕ) → AreKnown R.text (V.contents outputs.valid) (B.contents outputs.broken) bytes →
             ⟦<Splitter<'a, R, V, B, L> as FeatureSink>⟧.told result [] }
@@ -78,7 +78,7 @@ impl<'a, R: Ranges, V: Write, B: Write, L: BrokenList> Splitter<'a, R, V, B, L> 
         }
     }
 
-    /// What came of it, where the text is this, or was not read to its end.
+    /// Ends the split, given the verdict of the text or why it was not read to its end.
     pub fn end(self, outcome: Result<Verdict, Stop>) -> Ended<V, B, L>
         ensures outcome { IfOk result.outcome (λ verdict. (self.entry.stop ≡ None) × (outcome ≡ Ok verdict)) }
         ensures outputs { result.outputs ≡ self.entry.outputs }
@@ -151,7 +151,7 @@ fn write_record<R: Ranges, W: Write>(source: &R, feature: &Feature, out: &mut W)
     write_byte(out, b'\n')
 }
 
-/// The place after the last byte of a feature.
+/// The byte offset after the last byte of a feature.
 fn end_of<R: Ranges>(source: &R, feature: &Feature) -> Result<u64, Stop>
     ensures end { IfOk result (λ end. (bytes : List ℕ) → R.text ≡ Some bytes → end ≡ told_end bytes feature.now) }
     ensures known { OnOk result ((bytes : List ℕ) → R.text ≡ Some bytes → EndsKnown bytes feature.now) }

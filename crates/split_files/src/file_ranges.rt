@@ -1,4 +1,4 @@
-//! A file as what the bytes of a text are read from.
+//! A file from which the bytes of a text are read.
 
 ghost use Rattle.std.specs.Prelude.{None};
 
@@ -7,16 +7,16 @@ use std::fs::{File, Metadata};
 use std::io;
 use std::os::unix::fs::{FileExt, MetadataExt};
 
-/// A regular file, whose bytes are read by their places. None of them is known before it is read.
+/// A regular file, whose bytes are read at byte offsets. No contract knows a byte before it is read.
 #[derive(Drop)]
 pub struct FileRanges {
     file: File,
-    /// What the system said of it before it was read.
+    /// The metadata of the file before it was read.
     before: Metadata,
 }
 
 impl FileRanges {
-    /// The file; none where it is a folder, a pipe or a device, whose bytes cannot be read twice.
+    /// Takes the file. It returns `None` for a folder, a pipe or a device, whose bytes cannot be read twice.
     pub fn new(file: File) -> io::Result<Option<FileRanges>> {
         let before = file.metadata()?;
         if before.is_file() {
@@ -26,7 +26,7 @@ impl FileRanges {
         }
     }
 
-    /// Whether the file is as it was, as far as the system tells.
+    /// Whether the file is unchanged, as far as its metadata shows.
     pub fn is_unchanged(&self) -> bool {
         match self.file.metadata() {
             Ok(after) => {

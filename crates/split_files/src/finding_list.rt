@@ -1,12 +1,13 @@
-//! What is found in the features that have a fault: a line of JSON for each.
+//! The faults of the features: a line of JSON for each feature that has one.
 
 use gj_rules::Feature;
 use gj_split::BrokenList;
 use itoa::Buffer;
 use std::io::{self, Write};
 
-/// Writes `{"index":1,"offset":42,"rule":"G6","text":"geometry missing","at":42}` for each feature: how many features stand before
-/// it, where its first byte stands in the file, the rule that it breaks, and where.
+/// Writes `{"index":1,"offset":42,"rule":"G6","text":"geometry missing","at":42}` for each feature: the number of
+/// features before it, the byte offset of its first byte in the file, the rule that it breaks, and the byte offset of
+/// the fault.
 #[derive(Drop)]
 pub struct FindingList<W> {
     pub out: W,

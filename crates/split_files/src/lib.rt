@@ -1,4 +1,4 @@
-//! The features of a file are set apart into files.
+//! The features of a file, written to separate files.
 //!
 //! [`split_file`] reads `NAME` and writes `PREFIX.valid.geojsons` and `PREFIX.broken.geojsons`, a text sequence (RFC 8142) each, as
 //! [`gj_split::split`] sets the features apart, and `PREFIX.broken.json`, a line of JSON for each feature of the second.

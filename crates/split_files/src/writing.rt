@@ -1,4 +1,4 @@
-//! A file is read, and its parts are written.
+//! Reads a file and writes its parts.
 
 use crate::file_ranges::FileRanges;
 use crate::finding_list::FindingList;
@@ -9,14 +9,14 @@ use std::alloc::{AllocError, Global};
 use std::fs::{self, File, OpenOptions};
 use std::io::{self, BufWriter, Write};
 
-/// What is to be set apart.
+/// A file to be split, and where its parts go.
 #[derive(Drop)]
 pub struct Order<'a> {
     /// The name of the file that is read.
     pub name: &'a str,
-    /// What the names of the files begin with that are written.
+    /// The prefix of the names of the files that are written.
     pub prefix: &'a str,
-    /// Files of these names are written over.
+    /// Whether existing files of these names are overwritten.
     pub overwrites: bool,
     pub limits: Limits,
 }
@@ -30,7 +30,7 @@ pub enum Part {
 }
 
 impl Part {
-    /// What follows the prefix in its name.
+    /// The part of its name after the prefix.
     pub fn ending(self) -> &'static str {
         match self {
             Part::Valid => ".valid.geojsons",
@@ -40,24 +40,24 @@ impl Part {
     }
 }
 
-/// A file that was set apart.
+/// What came of a file that was split.
 #[derive(Clone, Copy)]
 pub struct Written {
-    /// What the file is as a text. One that is not JSON gives the features before the refusal.
+    /// The verdict of the file as a text. Of a file that is not JSON, the features before the refusal were written.
     pub verdict: Verdict,
     pub counts: Counts,
 }
 
-/// Why a file was not set apart.
+/// The reason why a file was not split.
 #[derive(Drop)]
 pub enum Undone {
     /// It could not be opened.
     Open(io::Error),
     /// It is no regular file, and cannot be read twice.
     NotRegular,
-    /// A part could not be made: one of its name may be there.
+    /// A part could not be created: a file of its name may exist.
     Make(Part, io::Error),
-    /// Reading or writing stopped after so many whole records.
+    /// Reading or writing stopped after this many whole records.
     Stopped(Stop, Counts),
     /// The file changed while it was read.
     Changed,
@@ -70,7 +70,7 @@ impl From<AllocError> for Undone {
     }
 }
 
-/// Writes the parts of a file.
+/// Splits a file: writes its parts.
 pub fn split_file(rt: &HostRuntime, order: &Order<'_>) -> Result<Written, Undone> {
     let source = match open(rt, order.name) {
         Ok(Some(source)) => source,
@@ -106,7 +106,7 @@ fn open(rt: &HostRuntime, name: &str) -> io::Result<Option<FileRanges>> {
     FileRanges::new(fs::open(rt, name)?)
 }
 
-/// A new file for a part, or one that is written over.
+/// Creates the file for a part, or empties an existing one if the order says so.
 fn make(rt: &HostRuntime, order: &Order<'_>, part: Part) -> Result<BufWriter<File>, Undone> {
     let mut name = String::from_str(rt.alloc(), order.prefix)?;
     name.push_str(part.ending())?;

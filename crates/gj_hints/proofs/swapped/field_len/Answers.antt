@@ -11,6 +11,7 @@ returns-then-not-is_inside c = record {
 
 pub returns : goal.returns
 returns c = record {
-  value = sym (prefix_len_is is_inside c.args.bytes.now _ 0 (omega arith) (λ k below. c.loop-i.invariant k (omega (arith, below, c.loop-i-test.false))) (λ less. absurd (omega (arith, less))));
+  value = sym (prefix_len_is is_inside c.args.bytes.now _ 0 (omega arith) (λ k below.
+      c.loop-i.invariant k (omega (arith, below, c.loop-i-test.false))) (λ less. absurd (omega (arith, less))));
   within = omega arith;
 }

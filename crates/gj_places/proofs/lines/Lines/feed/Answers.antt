@@ -6,7 +6,8 @@ use Rattle.gj_places.proofs.CountedPieces.{rest_has, all_rest, parted}
 use Rattle.gj_places.proofs.lines.Lines.feed.Goals as goal
 
 pub go_on-requires : goal.go_on-requires
-go_on-requires c = rw (all_rest c.args.piece.now (c.in-Some.last + 1)) (rest_has c.args.piece.now (c.in-Some.last + 1) (λ k from within is. c.in-Some.ensures.0.after k from within is))
+go_on-requires c = rw (all_rest c.args.piece.now (c.in-Some.last + 1)) (rest_has c.args.piece.now (c.in-Some.last + 1)
+    (λ k from within is. c.in-Some.ensures.0.after k from within is))
 
 pub go_on-requires-in-None : goal.go_on-requires-in-None
 go_on-requires-in-None c = rest_has c.args.piece.now 0 (λ k from within is. c.in-None.ensures k from within is)
