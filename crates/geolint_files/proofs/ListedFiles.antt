@@ -4,22 +4,22 @@ use Rattle.std.specs.Prelude.{Bool, map, Option, Some, None}
 use Rattle.std.specs.Io.KnownBytes.{Appends, Keeps}
 use Rattle.std.proofs.KnownBytes.{Appends-trans, Appends-kept, Keeps-refl}
 use Rattle.std.proofs.lemmas.List.{map-append, take_more, take_all}
-use Rattle.geolint_files.specs.declared.every.entry.Entry.{Entry}
-use Rattle.geolint_files.specs.declared.every.listing.Asked.{Asked}
-use Rattle.geolint_files.specs.declared.every.listing.Note.{Note}
-use Rattle.geolint_files.specs.declared.formats.lines.Style.{Style}
-use Rattle.geolint_files.specs.declared.judge.Finding.{Finding}
-use Rattle.geolint_files.specs.declared.judge.Reading.{Reading}
-use Rattle.geolint_files.specs.declared.options.Every.{Every}
-use Rattle.geolint_files.specs.declared.options.Options.{Options}
+use Rattle.geolint_report.specs.declared.every.listing.Asked.{Asked}
+use Rattle.geolint_report.specs.declared.every.listing.Note.{Note}
+use Rattle.geolint_report.specs.declared.judge.Finding.{Finding}
+use Rattle.geolint_report.specs.declared.judge.Reading.{Reading}
+use Rattle.geolint_report.specs.declared.report.Report.{Report}
+use Rattle.report_forms.specs.declared.every.entry.Entry.{Entry}
+use Rattle.report_forms.specs.declared.formats.lines.Style.{Style}
+use Rattle.report_forms.specs.declared.options.Every.{Every}
+use Rattle.report_forms.specs.declared.options.Options.{Options}
+use Rattle.report_forms.specs.declared.summary.Summary.{Summary}
+use Rattle.report_forms.specs.FileCounts.{Counts}
 use Rattle.geolint_files.specs.declared.outcome.Outcome.{Outcome}
-use Rattle.geolint_files.specs.declared.report.Report.{Report}
 use Rattle.geolint_files.specs.declared.run.Run.{Run}
-use Rattle.geolint_files.specs.declared.summary.Summary.{Summary}
-use Rattle.geolint_files.specs.Finding.{worst}
-use Rattle.geolint_files.specs.Internal.FileCounts.{Counts}
+use Rattle.geolint_files.specs.Outcome.{worst}
 use Rattle.geolint_files.specs.Internal.RunState.{HasTold, TellsFile, TellsLines, SameTold}
-use Rattle.geolint_files.specs.Every.{asked_in, asked_by}
+use Rattle.geolint_files.specs.Listed.{asked_in, asked_by}
 use Rattle.geolint_files.specs.Listed.{IsEntryOf, AreEntriesOf, AreLinesOf, others_of, asked_when}
 use Rattle.geolint_files.specs.Run.{ToldFile, judged, listed, FeatureLine, feature_line, others_line, finding_in, outcome_in, Written, AddsFile, AddsFiles, AddsLine, AddsLines, AddsListed, begun}
 
@@ -225,8 +225,15 @@ asked-every options reading asked is nothing = by-reading reading (asked_in opti
     by-reading : (reading : Reading) (given : Option Asked) → asked_when reading given ≡ Some asked → given ≡ None → ⊥
     by-reading Reading.Text given is none = no-none asked (sym none ∙ is)
     by-reading Reading.Quick given is none = no-none asked is
-    by-reading Reading.Sequence given is none = no-none asked is
-    by-reading Reading.Lines given is none = no-none asked is
+    by-reading Reading.Sequence given is none = no-none asked (sym none ∙ is)
+    by-reading Reading.Lines given is none = no-none asked (sym none ∙ is)
+
+-- nothing is asked of features where only yes or no is asked
+pub asked-slowly : (reading : Reading) (given : Option Asked) (asked : Asked) → asked_when reading given ≡ Some asked → reading ≡ Reading.Quick → ⊥
+asked-slowly reading given asked is quick = no-none asked (sym (ap (λ (r : Reading). asked_when r given) quick) ∙ is)
+  where
+    no-none : (asked : Asked) → None ≡ Some asked → ⊥
+    no-none asked is = absurd (cc)
 
 pub others_of-some : (name : List ℕ) (count : ℕ) → 0 < count → others_of name count ≡ others_line name count ∷ []
 others_of-some name zero some = absurd (omega (arith, some))

@@ -6,17 +6,17 @@ use Rattle.std.specs.Io.KnownBytes.{Appends, Keeps}
 use Rattle.std.specs.Result.{OnOk}
 use Rattle.std.proofs.KnownBytes.{Appends-trans}
 use Rattle.std.proofs.lemmas.List.{map-append}
-use Rattle.geolint_files.specs.declared.formats.lines.Style.{Style}
-use Rattle.geolint_files.specs.declared.formats.sarif.Log.{Log}
-use Rattle.geolint_files.specs.declared.judge.Finding.{Finding}
-use Rattle.geolint_files.specs.declared.options.Options.{Options}
+use Rattle.geolint_report.specs.declared.judge.Finding.{Finding}
+use Rattle.geolint_report.specs.declared.report.Report.{Report}
+use Rattle.geolint_report.specs.declared.sites.Sites.{Sites}
+use Rattle.report_forms.specs.declared.formats.lines.Style.{Style}
+use Rattle.report_forms.specs.declared.formats.sarif.Log.{Log}
+use Rattle.report_forms.specs.declared.options.Options.{Options}
+use Rattle.report_forms.specs.declared.summary.Summary.{Summary}
+use Rattle.report_forms.specs.FileCounts.{Counts}
 use Rattle.geolint_files.specs.declared.outcome.Outcome.{Outcome}
-use Rattle.geolint_files.specs.declared.report.Report.{Report}
 use Rattle.geolint_files.specs.declared.run.Run.{Run}
-use Rattle.geolint_files.specs.declared.sites.Sites.{Sites}
-use Rattle.geolint_files.specs.declared.summary.Summary.{Summary}
-use Rattle.geolint_files.specs.Finding.{worst}
-use Rattle.geolint_files.specs.Internal.FileCounts.{Counts}
+use Rattle.geolint_files.specs.Outcome.{worst}
 use Rattle.geolint_files.specs.Internal.RunState.{HasTold, TellsFile, TellsFiles, Unchanged}
 use Rattle.geolint_files.specs.Run.{ToldFile, judged, finding_in, outcome_in, Written, AddsFile, AddsFiles, begun}
 

@@ -2,7 +2,7 @@
 use Rattle.std.proofs.Common.{◌≡◌, ◌++◌, ◌∷◌, [], List, refl, ap, ◌∙◌}
 use Rattle.geolint_files.specs.declared.outcome.Outcome.{Outcome}
 use Rattle.geolint_files.specs.declared.outcome.Outcome.TheVariants.{Pass, Fail, Unread}
-use Rattle.geolint_files.specs.Finding.{worse, worst}
+use Rattle.geolint_files.specs.Outcome.{worse, worst}
 
 worse-Pass : (a : Outcome) → worse a Pass ≡ a
 worse-Pass Pass = refl

@@ -1,16 +1,6 @@
-pub mod Line
-pub mod Texts
-pub mod Names
-pub mod Judged
-pub mod Finding
-pub mod Counts
-pub mod Summary
-pub mod Sites
-pub mod Report
-pub mod Forms
+pub mod Outcome
 pub mod Run
 pub mod Walk
 pub mod Told
-pub mod Every
 pub mod Listed
 pub mod Internal

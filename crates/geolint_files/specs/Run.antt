@@ -1,20 +1,21 @@
 -- What a run tells: of each file in turn its report and the lines of its features, at the end a summary, and the worst of the outcomes.
 use Rattle.std.specs.Prelude.{◌≡◌, ℕ, Bool, true, false, if◌then◌else◌, List, [], ◌∷◌, ◌++◌, map, Option, Some, None}
 use Rattle.std.specs.Io.KnownBytes.{Appends}
-use Rattle.geolint_files.specs.declared.every.entry.Entry.{Entry}
-use Rattle.geolint_files.specs.declared.formats.lines.Style.{Style}
-use Rattle.geolint_files.specs.declared.judge.Finding.{Finding}
-use Rattle.geolint_files.specs.declared.options.Every.{Every}
-use Rattle.geolint_files.specs.declared.options.Format.{Format}
-use Rattle.geolint_files.specs.declared.options.Options.{Options}
+use Rattle.geolint_report.specs.declared.judge.Finding.{Finding}
+use Rattle.geolint_report.specs.declared.report.Report.{Report}
+use Rattle.report_forms.specs.declared.every.entry.Entry.{Entry}
+use Rattle.report_forms.specs.declared.formats.lines.Style.{Style}
+use Rattle.report_forms.specs.declared.options.Every.{Every}
+use Rattle.report_forms.specs.declared.options.Format.{Format}
+use Rattle.report_forms.specs.declared.options.Options.{Options}
+use Rattle.report_forms.specs.Passing.{passes}
+use Rattle.report_forms.specs.Forms.{IsReport, IsUnreadReport, KeepsUnread, first_after}
+use Rattle.report_forms.specs.Forms.Features.{IsEntry, IsMore, first_behind}
+use Rattle.report_forms.specs.Forms.Sarif.{sarif_begin, sarif_end}
+use Rattle.report_forms.specs.Summary.{summary_of}
 use Rattle.geolint_files.specs.declared.outcome.Outcome.{Outcome}
 use Rattle.geolint_files.specs.declared.outcome.Outcome.TheVariants.{Unread}
-use Rattle.geolint_files.specs.declared.report.Report.{Report}
-use Rattle.geolint_files.specs.Finding.{outcome_of, passes, worst}
-use Rattle.geolint_files.specs.Forms.{IsReport, IsUnreadReport, KeepsUnread, first_after}
-use Rattle.geolint_files.specs.Forms.Features.{IsEntry, IsMore, first_behind}
-use Rattle.geolint_files.specs.Forms.Sarif.{sarif_begin, sarif_end}
-use Rattle.geolint_files.specs.Summary.{summary_of}
+use Rattle.geolint_files.specs.Outcome.{outcome_of, worst}
 
 -- a line about a feature of a file, or about how many others there are
 pub data FeatureLine : Type 0 where

@@ -1,18 +1,15 @@
 -- What is told of a file that was read: what its bytes were found to be, and where its places stand.
-use Rattle.std.specs.Prelude.{◌≡◌, ◌<◌, ◌+◌, ◌-◌, ◌^◌, ◌⊎◌, ℕ, Bool, true, false, List, Option, Some, None, IsSomeAnd}
+use Rattle.std.specs.Prelude.{◌≡◌, ◌+◌, ℕ, Bool, true, false, List, Option, Some, None, IsSomeAnd}
 use Rattle.std.specs.Io.Iter.{u64_saturate}
-use Rattle.std.specs.List.{Contains}
 use Rattle.gj_json.specs.Limits.{Allowed}
 use Rattle.gj_rules.specs.declared.records.framing.Framing.{Framing}
-use Rattle.geolint_files.specs.declared.judge.Finding.{Finding}
-use Rattle.geolint_files.specs.declared.judge.Reading.{Reading}
-use Rattle.geolint_files.specs.declared.options.Options.{Options}
-use Rattle.geolint_files.specs.declared.report.Report.{Report}
-use Rattle.geolint_files.specs.declared.sites.Sites.{Sites}
-use Rattle.geolint_files.specs.Judged.{Finds, framing_in}
-use Rattle.geolint_files.specs.Report.{has_places, IsToldPlace}
+use Rattle.geolint_report.specs.declared.judge.Reading.{Reading}
+use Rattle.geolint_report.specs.declared.report.Report.{Report}
+use Rattle.geolint_report.specs.Judged.{Finds}
+use Rattle.geolint_report.specs.Report.{has_places}
+use Rattle.geolint_report.specs.Sought.{AreSought}
+use Rattle.report_forms.specs.declared.options.Options.{Options}
 use Rattle.geolint_files.specs.Run.{ToldFile, judged, not_read, listed}
-use Rattle.geolint_files.specs.Sites.{AreSitesIn, NoneFound, sought}
 use Rattle.geolint_files.specs.Walk.{framing_of}
 
 -- how a file of this name is read
@@ -29,18 +26,6 @@ framing_by None name = framing_of name
 
 abbrev pub reading_of : Options → List ℕ → Reading
 reading_of options name = reading_by (framing_by options.framing name) options.quick
-
--- the places that are sought are those that are told, as far as a u64 goes
-pub record AreSoughtFor (finding : Finding) (sites : Sites) : Type 0 where
-  pub all : (place : ℕ) → IsToldPlace finding place → place < 2 ^ 64 - 1 → Contains (sought sites) place
-  pub only : (place : ℕ) → Contains (sought sites) place → IsToldPlace finding place
-
--- A second reading of these bytes found the sites; `failed` and `now_failed` say how many calls of the source had failed before
--- and after. Where one failed, or the file is no more as it was, none is found.
-abbrev pub AreSought : Finding → Reading → Allowed → Option (List ℕ) → (failed now_failed : ℕ) → Sites → Type 0
-AreSought finding reading limits text failed now_failed sites =
-    ((now_failed ≡ failed) × AreSoughtFor finding sites × AreSitesIn limits (framing_in reading) text sites)
-    ⊎ ((now_failed ≡ u64_saturate (failed + 1)) × NoneFound sites.sites)
 
 -- the source is read again exactly where a place is told
 abbrev pub HasSitesIf : Bool → Reading → Allowed → Option (List ℕ) → (failed now_failed : ℕ) → Report → Type 0

@@ -7,8 +7,6 @@ use Rattle.std.specs.declared.cmp.Ordering.{Ordering}
 use Rattle.std.specs.Str.{str_eq_ignore_ascii_case}
 use Rattle.std.specs.declared.alloc.Global.{Global}
 use Rattle.gj_rules.specs.declared.records.framing.Framing.{Framing}
-use Rattle.geolint_files.specs.declared.names.Listed.{Listed}
-use Rattle.geolint_files.specs.declared.names.NameEnd.{NameEnd}
 use Rattle.geolint_files.specs.declared.walk.Pending.{Pending}
 
 -- a name ends so, in capitals or not
@@ -68,16 +66,3 @@ abbrev pub first_named : List (Vec ℕ Global) → Option (Vec ℕ Global) → L
 first_named (path ∷ more) list = path.items
 first_named [] (Some list) = list.items
 first_named [] None = codes "-"
-
--- ---- lists of names
-
--- the byte that ends each name
-abbrev pub end_byte : NameEnd → ℕ
-end_byte NameEnd.Lf = 10
-end_byte NameEnd.Nul = 0
-
--- what a list has next: by whether NUL came before the end of the name, and whether no other byte did
-abbrev pub listed_by : Bool → Bool → Listed
-listed_by true is_empty = Listed.NameWithNul
-listed_by false true = Listed.End
-listed_by false false = Listed.Name

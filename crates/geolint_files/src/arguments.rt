@@ -3,7 +3,7 @@
 //! The reader of words takes text alone. So a word is written as text that leads back to its bytes: each byte of what is
 //! no UTF-8 is a character of the last 256 of Unicode, which nobody uses, and so is each byte of such a character.
 
-use crate::formats::put_name;
+use report_forms::formats::put_name;
 use std::alloc::{AllocError, Global};
 use std::env::{Env, FillError};
 

@@ -6,28 +6,14 @@
 #![tactic(auto)]
 
 mod arguments;
-mod every;
 mod files;
-mod formats;
-mod hints;
-mod judge;
-mod line;
-mod names;
-mod options;
 mod outcome;
 mod parts;
-mod progress;
-mod report;
 mod run;
-mod sites;
-mod source;
-mod summary;
-mod texts;
 mod walk;
 mod words;
 
 use crate::arguments::{given_words, shown_words};
-use crate::formats::put_name;
 use crate::outcome::Outcome;
 use crate::parts::set_apart;
 use crate::run::{Failure, judge_all};
@@ -36,6 +22,7 @@ use crate::words::{Order, order_in};
 use clap::Error;
 use clap::error::ErrorKind;
 use gj_manual::Topic;
+use report_forms::formats::put_name;
 use std::io::{self, BufWriter, Write};
 use std::process::ExitCode;
 

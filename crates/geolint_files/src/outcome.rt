@@ -14,7 +14,7 @@ pub enum Outcome {
 impl Outcome {
     ghost use Rattle.std.specs.Prelude.{◌≡◌, ◌++◌, ◌∷◌, [], List};
     ghost use Rattle.geolint_files.specs.declared.outcome.Outcome.{Outcome};
-    ghost use Rattle.geolint_files.specs.Finding.{status_of, outcome_of, worse, worst};
+    ghost use Rattle.geolint_files.specs.Outcome.{status_of, outcome_of, worse, worst};
 
     /// Of one file that was read.
     pub fn of(passes: bool) -> Outcome

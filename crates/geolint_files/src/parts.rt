@@ -1,10 +1,10 @@
 //! The features of a file are set apart into files, and it is said how many they are.
 
 use crate::files::{is_memory, reason, spell};
-use crate::formats::put_name;
-use crate::line::{put, put_number};
 use crate::words::{Order, Parts};
+use geolint_report::line::{put, put_number};
 use gj_rules::Verdict;
+use report_forms::formats::put_name;
 use split_files::{Counts, Order as SplitOrder, Part, Stop, Undone, Written, split_file};
 use std::alloc::AllocError;
 use std::io::{self, ErrorKind, Write};

@@ -1,37 +1,32 @@
 //! Judges what the words name, file by file, and tells each.
 ghost use Rattle.std.specs.Prelude.{◌≡◌, [], IfOk, OnOk, true, false};
 ghost use Rattle.std.specs.List.{list_any};
-ghost use Rattle.geolint_files.specs.Internal.FileCounts.{Counts};
-ghost use Rattle.geolint_files.specs.Judged.{CountsFailure, framing_in};
-ghost use Rattle.geolint_files.specs.Line.{Adds};
-ghost use Rattle.geolint_files.specs.Names.{unread_line};
+ghost use Rattle.report_forms.specs.FileCounts.{Counts};
 ghost use Rattle.geolint_files.specs.Run.{IsRun};
-ghost use Rattle.geolint_files.specs.Sites.{AreSitesIn};
-ghost use Rattle.geolint_files.specs.Told.{AreSought, AreSoughtFor};
 ghost use Rattle.geolint_files.specs.Walk.{first_named, is_input, is_input_path, takes_input_twice};
 
 mod features;
 
 use crate::files::{Spelled, is_lost_link, is_memory, look_up, reason, spell};
-use crate::formats::lines::Style;
-use crate::formats::sarif::Log;
-use crate::formats::{github, json, lines, put_name, text};
-use crate::hints::find_hint;
-use crate::judge::{Finding, Reading, judge};
-use crate::line::put;
-use crate::names::{Listed, NameEnd, Names};
-use crate::options::{Format, Options};
 use crate::outcome::Outcome;
-use crate::progress::Meter;
-use crate::report::Report;
-use crate::sites::Sites;
-use crate::source::{FileSource, FromRead, Rewind, Source};
-use crate::summary::Summary;
 use crate::walk::{Others, Pending, Walk, framing_of, is_taken};
 use crate::words::Order;
+use geolint_report::found::{Found, found_at};
+use geolint_report::hints::find_hint;
+use geolint_report::judge::{Finding, Reading, judge};
+use geolint_report::progress::Meter;
+use geolint_report::report::Report;
+use geolint_report::rereading::find_sites;
+use geolint_report::sites::Sites;
+use geolint_report::source::{FileSource, FromRead, Rewind, Source};
 use gj_hints::Hint;
-use gj_json::Limits;
 use gj_rules::{Framing, Linter};
+use name_lists::{Listed, NameEnd, Names};
+use report_forms::formats::lines::Style;
+use report_forms::formats::sarif::Log;
+use report_forms::formats::{github, json, lines, put_unread_line, text};
+use report_forms::options::{Format, Options};
+use report_forms::summary::Summary;
 use std::alloc::AllocError;
 use std::fs::{File, Metadata};
 use std::io::{self, ErrorKind, IsTerminal, Read, Write};
@@ -185,16 +180,17 @@ fn style_of(rt: &HostRuntime, is_terminal: bool) -> Style {
 impl<'a, W: Write + Drop> Run<'a, W> {
     ghost use Rattle.std.specs.Prelude.{◌≡◌, [], ℕ, List, Option, None, IfOk, OnOk, IsSomeAnd, map};
     ghost use Rattle.std.specs.Io.KnownBytes.{Appends, Keeps};
-    ghost use Rattle.geolint_files.specs.declared.formats.lines.Style.{Style};
-    ghost use Rattle.geolint_files.specs.declared.options.Options.{Options};
-    ghost use Rattle.geolint_files.specs.declared.report.Report.{Report};
-    ghost use Rattle.geolint_files.specs.Finding.{passes};
-    ghost use Rattle.geolint_files.specs.Forms.{TellsReport, TellsUnread, KeepsInLog, first_after};
-    ghost use Rattle.geolint_files.specs.Internal.FileCounts.{Counts};
+    ghost use Rattle.geolint_report.specs.declared.report.Report.{Report};
+    ghost use Rattle.geolint_report.specs.Line.{Adds};
+    ghost use Rattle.geolint_report.specs.Sought.{AreSought};
+    ghost use Rattle.report_forms.specs.declared.formats.lines.Style.{Style};
+    ghost use Rattle.report_forms.specs.declared.options.Options.{Options};
+    ghost use Rattle.report_forms.specs.Passing.{passes};
+    ghost use Rattle.report_forms.specs.Forms.{TellsReport, TellsUnread, KeepsInLog, first_after};
+    ghost use Rattle.report_forms.specs.FileCounts.{Counts};
     ghost use Rattle.geolint_files.specs.Internal.RunState.{HasTold, IsFresh, TellsFile, TellsFiles, SameTold, Unchanged};
-    ghost use Rattle.geolint_files.specs.Line.{Adds};
     ghost use Rattle.geolint_files.specs.Run.{ToldFile, judged, not_read, finding_in, IsWholeReport, end_of, summary_in};
-    ghost use Rattle.geolint_files.specs.Told.{reading_of, framing_by, IsToldOnce, IsToldTwice, HasSites, AreSought};
+    ghost use Rattle.geolint_files.specs.Told.{reading_of, framing_by, IsToldOnce, IsToldTwice, HasSites};
 
     fn new(
         rt: &HostRuntime,
@@ -349,7 +345,7 @@ impl<'a, W: Write + Drop> Run<'a, W> {
     ) -> Result<(), Failure>
         ensures { OnOk result (TellsFiles W.contents self.old self.new) }
     {
-        let mut names = Names::new(&self.rt, reader, name_end)?;
+        let mut names = Names::new(reader, name_end);
         let mut name = Vec::new(self.rt.alloc());
         for _ in 0..u64::MAX {
             match names.next_into(&mut name) {
@@ -595,8 +591,9 @@ impl<'a, W: Write + Drop> Run<'a, W> {
             self.options.limits,
             &mut self.progress,
         );
+        let found = found_at(&finding, &sites, source);
         let hint = find_hint(&finding, self.linter, source);
-        self.tell_with_hint(name, finding, Some(&sites), hint)
+        self.tell_with_hint(name, finding, Some(&sites), found, hint)
     }
 
     /// Tells a file that was judged.
@@ -606,10 +603,11 @@ impl<'a, W: Write + Drop> Run<'a, W> {
           finding = finding;
           sites = sites.entry;
           passes = passes self.old.options.strict self.old.options.allowed finding;
+          found = None;
           hint = None;
         })) self.old self.new) }
     {
-        self.tell_with_hint(name, finding, sites, None)
+        self.tell_with_hint(name, finding, sites, None, None)
     }
 
     /// Tells a file that was judged, and what it looks like.
@@ -618,6 +616,7 @@ impl<'a, W: Write + Drop> Run<'a, W> {
         name: &[u8],
         finding: Finding,
         sites: Option<&Sites>,
+        found: Option<Found>,
         hint: Option<Hint>,
     ) -> Result<(), Failure>
         ensures { OnOk result (TellsFile W.contents (judged (record {
@@ -625,6 +624,7 @@ impl<'a, W: Write + Drop> Run<'a, W> {
           finding = finding;
           sites = sites.entry;
           passes = passes self.old.options.strict self.old.options.allowed finding;
+          found = found;
           hint = hint;
         })) self.old self.new) }
     {
@@ -637,6 +637,7 @@ impl<'a, W: Write + Drop> Run<'a, W> {
             finding,
             sites,
             passes,
+            found,
             hint,
         };
         self.put(&report)?;
@@ -709,72 +710,6 @@ impl<'a, W: Write + Drop> Run<'a, W> {
         }
         Ok(())
     }
-}
-
-/// The line on standard error about a file that could not be opened or read.
-fn put_unread_line(name: &[u8], reason: &[u8], line: &mut Vec<u8>) -> Result<(), AllocError>
-    ensures { OnOk result (Adds line.old line.new (unread_line name.now reason.now)) }
-{
-    put(line, b"geolint-files: ")?;
-    put_name(name, line)?;
-    put(line, b": ")?;
-    put(line, reason)?;
-    put(line, b"\n")
-}
-
-/// The lines, columns and paths of what is told: none where the source cannot be read again as it was.
-fn find_sites<S: Rewind>(
-    finding: &Finding,
-    source: &mut S,
-    reading: Reading,
-    limits: Limits,
-    meter: &mut Meter,
-) -> Sites
-    ensures text { S.text source.new ≡ S.text source.old }
-    ensures sought { AreSought finding.now reading limits (S.text source.old) (S.failed_reads source.old) (S.failed_reads source.new) result }
-{
-    match read_sites(finding, source, reading, limits, meter) {
-        Ok(sites) => sites,
-        Err(_) => Sites::none(),
-    }
-}
-
-/// The lines, columns and paths of what is told, in the source from its first byte on.
-fn read_sites<S: Rewind>(
-    finding: &Finding,
-    source: &mut S,
-    reading: Reading,
-    limits: Limits,
-    meter: &mut Meter,
-) -> io::Result<Sites>
-    ensures sites { IfOk result (AreSitesIn limits (framing_in reading) (S.text source.old)) }
-    ensures places { IfOk result (AreSoughtFor finding.now) }
-    ensures failed { CountsFailure (S.failed_reads source.old) (S.failed_reads source.new) result }
-    ensures text { S.text source.new ≡ S.text source.old }
-{
-    meter.read_again();
-    source.rewind()?;
-    let sites = sites_in(finding, source, limits, reading.framing(), meter)?;
-    source.expect_unchanged()?;
-    Ok(sites)
-}
-
-/// The lines, columns and paths of what is told of a finding, in what a source has left.
-fn sites_in<S: Source>(
-    finding: &Finding,
-    reader: &mut S,
-    limits: Limits,
-    framing: Option<Framing>,
-    meter: &mut Meter,
-) -> io::Result<Sites>
-    ensures sites { IfOk result (AreSitesIn limits framing (S.remaining reader.old)) }
-    ensures places { IfOk result (AreSoughtFor finding.now) }
-    ensures text { S.text reader.new ≡ S.text reader.old }
-    ensures failed { CountsFailure (S.failed_reads reader.old) (S.failed_reads reader.new) result }
-{
-    let mut sites = finding.places();
-    sites.find(reader, limits, framing, meter)?;
-    Ok(sites)
 }
 
 /// How many bytes the paths have, where each is a file.

@@ -1,8 +1,6 @@
 //! The words of the command.
 
 use crate::arguments::to_bytes;
-use crate::names::NameEnd;
-use crate::options::{Every, Format, Kinds, Options};
 use crate::walk::framing_of;
 use clap::error::ErrorKind;
 use clap::{Arg, ArgAction, ArgMatches, Command, Error, value_parser};
@@ -10,6 +8,8 @@ use gj_coords::{KINDS, Kind};
 use gj_json::Limits;
 use gj_manual::{Topic, named};
 use gj_rules::Framing;
+use name_lists::NameEnd;
+use report_forms::options::{Every, Format, Kinds, Options};
 use std::alloc::{AllocError, Global};
 
 /// The most bytes that a file may have.
@@ -159,7 +159,7 @@ fn with_features<'a>(alloc: Global, command: Command<'a>) -> Result<Command<'a>,
         .long("every")
         .value_name("WHAT")
         .help(
-            "Tell each feature with a fault; of the others also each kind of warning, as --every=warnings",
+            "Tell each feature or record with a fault; of the others also each kind of warning, as --every=warnings",
         )
         .num_args(0..=1)
         .require_equals(true)

@@ -1,12 +1,12 @@
 -- Which files a run has told.
 use Rattle.std.specs.Prelude.{◌≡◌, ℕ, true, List, [], ◌∷◌, ◌++◌, map, Option}
 use Rattle.std.specs.Io.KnownBytes.{Appends, Keeps}
-use Rattle.geolint_files.specs.declared.formats.lines.Style.{Style}
-use Rattle.geolint_files.specs.declared.options.Options.{Options}
-use Rattle.geolint_files.specs.declared.report.Report.{Report}
+use Rattle.geolint_report.specs.declared.report.Report.{Report}
+use Rattle.report_forms.specs.declared.formats.lines.Style.{Style}
+use Rattle.report_forms.specs.declared.options.Options.{Options}
+use Rattle.report_forms.specs.FileCounts.{Counts}
 use Rattle.geolint_files.specs.declared.run.Run.{Run}
-use Rattle.geolint_files.specs.Finding.{worst}
-use Rattle.geolint_files.specs.Internal.FileCounts.{Counts}
+use Rattle.geolint_files.specs.Outcome.{worst}
 use Rattle.geolint_files.specs.Run.{ToldFile, listed, FeatureLine, finding_in, worst_of, Written, AddsFiles, begun}
 
 -- `held` is what the writer had before the run, and `contents` what a writer has

@@ -1,20 +1,23 @@
-//! Tells each feature of a file, behind the file's own report.
-ghost use Rattle.std.specs.Prelude.{◌≡◌, ◌-◌, length, IfSome};
-ghost use Rattle.geolint_files.specs.Every.{room_of};
-ghost use Rattle.geolint_files.specs.Internal.Cursors.{StandBy};
-ghost use Rattle.geolint_files.specs.Listed.{IsMarkBy};
+//! Tells each feature or record of a file, behind the file's own report.
+ghost use Rattle.std.specs.Prelude.{◌≡◌, ◌-◌, ℕ, List, length, IfSome, Option, None, true, false};
+ghost use Rattle.gj_rules.specs.declared.records.framing.Framing.{Framing};
+ghost use Rattle.geolint_report.specs.Texts.{is_cause};
+ghost use Rattle.geolint_files.specs.Listed.{room_of};
+ghost use Rattle.geolint_report.specs.Cursors.{StandBy};
+ghost use Rattle.geolint_report.specs.Marks.{IsMarkBy};
 
-use crate::every::cursor::{Cursors, Mark};
-use crate::every::entry::Entry;
-use crate::every::id::Id;
-use crate::every::listing::{Asked, Note, Notes, notes_for};
-use crate::every::reading::judge_features;
-use crate::every::{github, json, lines, sarif, text};
-use crate::judge::{Finding, Reading};
-use crate::options::{Every, Format};
 use crate::run::{Failure, Run};
-use crate::source::{Rewind, Source};
-use gj_rules::Verdict;
+use geolint_report::every::cursor::{Cursors, Mark};
+use geolint_report::every::id::Id;
+use geolint_report::every::listing::{Asked, Item, Note, Notes, notes_for};
+use geolint_report::every::reading::judge_every;
+use geolint_report::judge::{Finding, Reading};
+use geolint_report::source::{Rewind, Source};
+use geolint_report::texts::Code;
+use gj_rules::Framing;
+use report_forms::every::entry::Entry;
+use report_forms::every::{github, json, lines, sarif, text};
+use report_forms::options::{Every, Format};
 use std::alloc::AllocError;
 use std::io::Write;
 
@@ -33,28 +36,28 @@ fn room_of(most: u64) -> u64
 }
 
 impl<'a, W: Write + Drop> Run<'a, W> {
-    ghost use Rattle.std.specs.Prelude.{◌≡◌, ◌-◌, ◌∷◌, [], ℕ, List, Some, None, length, OnOk};
-    ghost use Rattle.geolint_files.specs.declared.every.entry.Entry.{Entry};
-    ghost use Rattle.geolint_files.specs.declared.judge.Finding.{Finding};
-    ghost use Rattle.geolint_files.specs.declared.judge.Reading.{Reading};
-    ghost use Rattle.geolint_files.specs.declared.options.Every.{Every};
-    ghost use Rattle.geolint_files.specs.declared.report.Report.{Report};
-    ghost use Rattle.geolint_files.specs.Finding.{passes};
-    ghost use Rattle.geolint_files.specs.Told.{HasSites};
-    ghost use Rattle.geolint_files.specs.Every.{asked_in};
-    ghost use Rattle.geolint_files.specs.Forms.Features.{TellsEntry, TellsMore, first_behind};
+    ghost use Rattle.std.specs.Prelude.{◌≡◌, ◌-◌, ◌∷◌, [], ℕ, List, Option, Some, None, length, OnOk};
+    ghost use Rattle.gj_rules.specs.declared.records.framing.Framing.{Framing};
+    ghost use Rattle.report_forms.specs.declared.every.entry.Entry.{Entry};
+    ghost use Rattle.geolint_report.specs.declared.judge.Finding.{Finding};
+    ghost use Rattle.report_forms.specs.declared.options.Every.{Every};
+    ghost use Rattle.geolint_report.specs.declared.report.Report.{Report};
+    ghost use Rattle.report_forms.specs.Passing.{passes};
+    ghost use Rattle.geolint_report.specs.Judged.{framing_in};
+    ghost use Rattle.geolint_files.specs.Told.{HasSites, reading_of};
+    ghost use Rattle.geolint_report.specs.Cursors.{StandBy};
+    ghost use Rattle.geolint_files.specs.Listed.{asked_in, asked_for, AreLinesOf, others_of, IsUnplaced, IsPlaced, IsListedOnce, IsListedTwice};
+    ghost use Rattle.report_forms.specs.Forms.Features.{TellsEntry, TellsMore, first_behind};
     ghost use Rattle.geolint_files.specs.Internal.RunState.{TellsFile, TellsLines, SameTold};
-    ghost use Rattle.geolint_files.specs.Internal.Cursors.{StandBy};
-    ghost use Rattle.geolint_files.specs.Listed.{asked_for, AreLinesOf, others_of, IsUnplaced, IsPlaced, IsListedOnce, IsListedTwice};
     ghost use Rattle.geolint_files.specs.Run.{ToldFile, FeatureLine, feature_line, others_line, listed};
 
-    /// What is asked of the features of a file of this name.
+    /// What is asked of the features or the records of a file of this name.
     pub fn asked_for(&self, name: &[u8]) -> Option<Asked>
         ensures { result ≡ asked_for self.now.options name.now }
     {
         match self.reading(name) {
-            Reading::Text => self.asked(),
-            _ => None,
+            Reading::Quick => None,
+            _ => self.asked(),
         }
     }
 
@@ -84,37 +87,40 @@ impl<'a, W: Write + Drop> Run<'a, W> {
     ) -> Result<(), Failure>
         requires { asked_for self.now.options name.now ≡ Some asked }
         ensures { OnOk result ((file : ToldFile)
-            × IsListedOnce asked self.old.options.limits name.now (S.remaining source.old) (S.failed_reads source.old) (S.failed_reads source.new) file
+            × IsListedOnce (reading_of self.old.options name.now) asked self.old.options.limits name.now (S.remaining source.old) (S.failed_reads source.old) (S.failed_reads source.new) file
             × TellsFile W.contents file self.old self.new) }
     {
+        let reading = self.reading(name);
         self.progress.add_file(None);
-        match judge_features(
+        match judge_every(
             self.rt.alloc(),
             source,
             self.options.limits,
+            reading,
             asked,
             &mut self.progress,
         ) {
             Ok(found) => match notes_for(found.0, found.1, asked)? {
                 Some(notes) => self.list_unplaced(name, found.0, &notes),
-                None => self.tell(name, Finding::Text(found.0), None),
+                None => self.tell(name, found.0, None),
             },
             Err(error) => self.tell_unread(name, &error),
         }
     }
 
     /// Tells a file that was judged, and then notes, of whose places nothing is known.
-    fn list_unplaced(&mut self, name: &[u8], verdict: Verdict, notes: &Notes) -> Result<(), Failure>
+    fn list_unplaced(&mut self, name: &[u8], finding: Finding, notes: &Notes) -> Result<(), Failure>
         ensures { (self.old.options.every ≡ Every.Nothing → ⊥) → OnOk result ((lines : List FeatureLine) × AreLinesOf IsUnplaced name.now notes.now.notes.items notes.now.count lines
             × TellsFile W.contents (listed (record {
               name = name.entry;
-              finding = Finding.Text verdict;
+              finding = finding;
               sites = None;
-              passes = passes self.old.options.strict self.old.options.allowed (Finding.Text verdict);
+              passes = passes self.old.options.strict self.old.options.allowed finding;
+              found = None;
               hint = None;
             }) lines) self.old self.new) }
     {
-        self.tell(name, Finding::Text(verdict), None)?;
+        self.tell(name, finding, None)?;
         self.tell_unplaced(name, notes)
     }
 
@@ -128,7 +134,7 @@ impl<'a, W: Write + Drop> Run<'a, W> {
         self.tell_others(name, notes)
     }
 
-    /// Tells what a source has, and reads it again for the lines, the paths and the `id`s of its features.
+    /// Tells what a source has, and reads it again for the lines and the paths of its features or records, and the `id`s of its features.
     pub fn list_twice<S: Rewind>(
         &mut self,
         name: &[u8],
@@ -137,20 +143,22 @@ impl<'a, W: Write + Drop> Run<'a, W> {
     ) -> Result<(), Failure>
         requires { asked_for self.now.options name.now ≡ Some asked }
         ensures { OnOk result ((file : ToldFile)
-            × IsListedTwice asked self.old.options.limits name.now (S.remaining source.old) (S.text source.old) (S.failed_reads source.old) (S.failed_reads source.new) file
+            × IsListedTwice (reading_of self.old.options name.now) asked self.old.options.limits name.now (S.remaining source.old) (S.text source.old) (S.failed_reads source.old) (S.failed_reads source.new) file
             × TellsFile W.contents file self.old self.new) }
     {
+        let reading = self.reading(name);
         self.progress.add_file(source.size());
-        match judge_features(
+        match judge_every(
             self.rt.alloc(),
             source,
             self.options.limits,
+            reading,
             asked,
             &mut self.progress,
         ) {
             Ok(found) => match notes_for(found.0, found.1, asked)? {
-                Some(notes) => self.list_placed(name, found.0, source, &notes),
-                None => self.tell_found(name, Finding::Text(found.0), source, Reading::Text),
+                Some(notes) => self.list_placed(name, found.0, source, reading, &notes),
+                None => self.tell_found(name, found.0, source, reading),
             },
             Err(error) => self.tell_unread(name, &error),
         }
@@ -160,16 +168,18 @@ impl<'a, W: Write + Drop> Run<'a, W> {
     fn list_placed<S: Rewind>(
         &mut self,
         name: &[u8],
-        verdict: Verdict,
+        finding: Finding,
         source: &mut S,
+        reading: Reading,
         notes: &Notes,
     ) -> Result<(), Failure>
-        ensures { (self.old.options.every ≡ Every.Nothing → ⊥) → OnOk result ((report : Report) × (report.name.now ≡ name.now) × (report.finding ≡ Finding.Text verdict)
-            × ((middle : ℕ) × HasSites Reading.Text self.old.options.limits (S.text source.old) (S.failed_reads source.old) middle report)
-            × ((lines : List FeatureLine) × AreLinesOf (IsPlaced (S.text source.old)) name.now notes.now.notes.items notes.now.count lines × TellsFile W.contents (listed report lines) self.old self.new)) }
+        ensures { (self.old.options.every ≡ Every.Nothing → ⊥) → OnOk result ((report : Report) × (report.name.now ≡ name.now) × (report.finding ≡ finding)
+            × ((middle : ℕ) × HasSites reading self.old.options.limits (S.text source.old) (S.failed_reads source.old) middle report)
+            × ((lines : List FeatureLine) × AreLinesOf (IsPlaced (framing_in reading) (S.text source.old)) name.now notes.now.notes.items notes.now.count lines
+            × TellsFile W.contents (listed report lines) self.old self.new)) }
     {
-        self.tell_found(name, Finding::Text(verdict), source, Reading::Text)?;
-        self.tell_placed(name, source, notes)
+        self.tell_found(name, finding, source, reading)?;
+        self.tell_placed(name, source, reading.framing(), notes)
     }
 
     /// Tells notes, each with its line, its path and its `id`: without them where a read fails.
@@ -178,11 +188,12 @@ impl<'a, W: Write + Drop> Run<'a, W> {
         &mut self,
         name: &[u8],
         source: &mut S,
+        framing: Option<Framing>,
         notes: &Notes,
     ) -> Result<(), Failure>
-        ensures { OnOk result ((lines : List FeatureLine) × AreLinesOf (IsPlaced (S.text source.old)) name.now notes.now.notes.items notes.now.count lines × TellsLines W.contents lines self.old self.new) }
+        ensures { OnOk result ((lines : List FeatureLine) × AreLinesOf (IsPlaced framing (S.text source.old)) name.now notes.now.notes.items notes.now.count lines × TellsLines W.contents lines self.old self.new) }
     {
-        let mut cursors = Cursors::new(self.options.limits);
+        let mut cursors = Cursors::new(self.options.limits, framing);
         for note in &notes.notes {
             self.tell_at(name, note, &mut cursors, source)?;
         }
@@ -196,9 +207,10 @@ impl<'a, W: Write + Drop> Run<'a, W> {
         cursors: &mut Cursors,
         source: &mut S,
     ) -> Result<(), Failure>
-        ensures stand { StandBy (S.text source.old) cursors.old → StandBy (S.text source.old) cursors.new }
+        ensures stand { (framing : Option Framing) → StandBy framing (S.text source.old) cursors.old → StandBy framing (S.text source.old) cursors.new }
         ensures text { S.text source.new ≡ S.text source.old }
-        ensures told { StandBy (S.text source.old) cursors.old → OnOk result ((entry : Entry) × (entry.name.now ≡ name.now) × (entry.note ≡ note.now) × IsPlaced (S.text source.old) entry
+        ensures told { (framing : Option Framing) → StandBy framing (S.text source.old) cursors.old
+            → OnOk result ((entry : Entry) × (entry.name.now ≡ name.now) × (entry.note ≡ note.now) × IsPlaced framing (S.text source.old) entry
             × TellsLines W.contents (feature_line entry ∷ []) self.old self.new) }
     {
         let mark = find(cursors, source, note);
@@ -292,25 +304,40 @@ fn others(notes: &Notes) -> u64
 
 /// Where a place stands: nothing where a read fails.
 fn find<S: Rewind>(cursors: &mut Cursors, source: &mut S, note: &Note) -> Option<Mark>
-    ensures stand { StandBy (S.text source.old) cursors.old → StandBy (S.text source.old) cursors.new }
-    ensures mark { StandBy (S.text source.old) cursors.old → IfSome result (λ mark. IsMarkBy (S.text source.old) note.now.told.place mark) }
+    ensures stand { (framing : Option Framing) → StandBy framing (S.text source.old) cursors.old → StandBy framing (S.text source.old) cursors.new }
+    ensures mark { (framing : Option Framing) → StandBy framing (S.text source.old) cursors.old → IfSome result (λ mark. IsMarkBy framing (S.text source.old) note.now.told.place mark) }
     ensures text { S.text source.new ≡ S.text source.old }
 {
     match cursors.go_to(source, note) {
-        Ok(mark) => mark,
-        Err(_) => None,
+        Ok(Some(mark)) => Some(told_mark(mark, note.told.code)),
+        _ => None,
     }
 }
 
-/// The `id` of a feature: none where a read fails.
+/// Where a place stands. Of one at which a record is refused no path is told, since no text has that byte.
+fn told_mark(mark: Mark, code: Code) -> Mark
+    ensures mark { (framing : Option Framing) (text : Option (List ℕ)) (place : ℕ) → IsMarkBy framing text place mark → IsMarkBy framing text place result }
+    ensures none { is_cause code ≡ true → result.path ≡ None }
+    ensures same { is_cause code ≡ false → result ≡ mark }
+{
+    match code {
+        Code::Cause(_) => mark.without_path(),
+        _ => mark,
+    }
+}
+
+/// The `id` of a feature: none of a record, or where a read fails.
 fn id_of<S: Rewind>(note: &Note, source: &mut S) -> Id
     ensures text { S.text source.new ≡ S.text source.old }
 {
-    match note.id {
-        Some(place) => match Id::at(source, place) {
+    match note.item {
+        Item::Feature {
+            id: Some(place),
+            ..
+        } => match Id::at(source, place) {
             Ok(id) => id,
             Err(_) => Id::none(),
         },
-        None => Id::none(),
+        _ => Id::none(),
     }
 }

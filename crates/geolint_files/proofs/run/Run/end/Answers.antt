@@ -2,9 +2,9 @@ use Rattle.std.proofs.Common.{refl, ap, sym, ◌∙◌, subst, ◌++◌, ◌≡�
 use Rattle.std.specs.Prelude.{map}
 use Rattle.std.specs.Io.KnownBytes.{Appends}
 use Rattle.std.proofs.KnownBytes.{Appends-trans, Appends-kept}
-use Rattle.geolint_files.specs.declared.options.Options.{Options}
-use Rattle.geolint_files.specs.declared.summary.Summary.{Summary}
-use Rattle.geolint_files.specs.Internal.FileCounts.{Counts}
+use Rattle.report_forms.specs.declared.options.Options.{Options}
+use Rattle.report_forms.specs.declared.summary.Summary.{Summary}
+use Rattle.report_forms.specs.FileCounts.{Counts}
 use Rattle.geolint_files.specs.Run.{finding_in, end_of, summary_in}
 use Rattle.geolint_files.proofs.run.Run.end.Goals as goal
 

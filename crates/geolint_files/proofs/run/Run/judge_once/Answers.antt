@@ -1,9 +1,9 @@
 use Rattle.std.proofs.Common.{refl, subst}
 use Rattle.std.specs.Prelude.{None}
 use Rattle.std.proofs.lemmas.Result.{on_ok_weaker}
-use Rattle.geolint_files.specs.declared.judge.Reading.{Reading}
-use Rattle.geolint_files.specs.Finding.{passes}
-use Rattle.geolint_files.specs.Judged.{Finds}
+use Rattle.geolint_report.specs.declared.judge.Reading.{Reading}
+use Rattle.geolint_report.specs.Judged.{Finds}
+use Rattle.report_forms.specs.Passing.{passes}
 use Rattle.geolint_files.specs.Run.{judged, not_read}
 use Rattle.geolint_files.proofs.ToldFiles.{TellsFile-after}
 use Rattle.geolint_files.proofs.run.Run.judge_once.Goals as goal
@@ -15,7 +15,7 @@ returns-in-Ok g c =
     let left = g.S.Source.remaining c.judge.new.reader in
     let found = subst (λ (reading : Reading). Finds reading old.options.limits (g.S.Source.remaining c.args.source.now) left finding) c.reading-reading.ensures c.in-Ok.ensures.found in
     on_ok_weaker c.tell.result (λ told. (
-      judged (record { name = c.args.name; finding = finding; sites = None; passes = passes old.options.strict old.options.allowed finding; hint = None }),
+      judged (record { name = c.args.name; finding = finding; sites = None; passes = passes old.options.strict old.options.allowed finding; found = None; hint = None }),
       (refl, refl, refl, c.in-Ok.ensures.failed, (left, found)),
       TellsFile-after g.W.Write.contents _ old _ c.tell.new.self (record { same = record { options = refl; style = refl; outcome = refl; summary = refl }; out = refl; log = refl; line = refl }) told,
     )) c.tell.ensures

@@ -1,11 +1,15 @@
 use Rattle.std.proofs.Common.{refl, subst, sym, ◌≡◌, ◌∙◌}
-use Rattle.std.specs.Prelude.{None, Some, Option}
+use Rattle.std.specs.Prelude.{None}
 use Rattle.std.proofs.lemmas.Result.{on_ok_weaker}
-use Rattle.geolint_files.specs.declared.judge.Finding.{Finding}
-use Rattle.geolint_files.specs.Finding.{passes}
+use Rattle.geolint_report.specs.declared.judge.Reading.{Reading}
+use Rattle.geolint_report.specs.declared.report.Report.{Report}
+use Rattle.geolint_files.specs.Listed.{asked_in}
+use Rattle.report_forms.specs.Passing.{passes}
+use Rattle.geolint_report.specs.Judged.{framing_in}
+use Rattle.geolint_files.specs.Listed.{IsListedOnce}
 use Rattle.geolint_files.specs.Run.{judged, not_read, listed}
 use Rattle.geolint_files.specs.Told.{reading_of}
-use Rattle.geolint_files.proofs.ListedFiles.{asked-every}
+use Rattle.geolint_files.proofs.ListedFiles.{asked-every, asked-slowly}
 use Rattle.geolint_files.proofs.ToldFiles.{TellsFile-after}
 use Rattle.geolint_files.proofs.run.Run.list_once.Goals as goal
 
@@ -13,27 +17,39 @@ pub returns-in-Some : goal.returns-in-Some
 returns-in-Some g c =
     let old = c.args.self.now in
     let limits = old.options.limits in
-    let verdict = c.in-Ok.found.0 in
+    let reading = c.reading-reading.result in
+    let finding = c.in-Ok.found.0 in
     let notes = c.in-Some.notes in
     let kept = rw (c.in-Some.is) at c.in_ok-notes-in-Ok.ensures in
     let had = g.S.Source.remaining c.args.source.now in
-    let left = g.S.Source.remaining c.judge_features.new.reader in
+    let failed = g.S.Source.failed_reads c.args.source.now in
+    let left = g.S.Source.remaining c.judge_every.new.reader in
     let asked = asked-every old.options (reading_of old.options c.args.name.now) c.args.asked c.requires in
+    let slow : reading ≡ Reading.Quick → ⊥ = λ quick. asked-slowly (reading_of old.options c.args.name.now) (asked_in old.options) c.args.asked c.requires (sym c.reading-reading.ensures ∙ quick) in
+    let report : Report = record { name = c.args.name; finding = finding; sites = None; passes = passes old.options.strict old.options.allowed finding; found = None; hint = None } in
     on_ok_weaker c.list_unplaced.result (λ told.
     let (lines, are, tells) = told in (
-      listed (record { name = c.args.name; finding = Finding.Text verdict; sites = None; passes = passes old.options.strict old.options.allowed (Finding.Text verdict); hint = None }) lines,
-      (refl, refl, c.in-Ok.ensures.failed, (left, c.in-Ok.ensures.verdict), (notes.notes.items, notes.count, kept limits had c.in-Ok.ensures.listed, are)),
+      listed report lines,
+      subst (λ (r : Reading). IsListedOnce r c.args.asked limits c.args.name.now had failed (g.S.Source.failed_reads c.judge_every.new.reader) (listed report lines)) c.reading-reading.ensures
+          (refl, refl, c.in-Ok.ensures.failed, (left, c.in-Ok.ensures.found slow), (notes.notes.items, notes.count, kept (framing_in reading) limits had c.in-Ok.ensures.listed, are)),
       TellsFile-after g.W.Write.contents _ old _ c.list_unplaced.new.self (record { same = record { options = refl; style = refl; outcome = refl; summary = refl }; out = refl; log = refl; line = refl }) tells,
     )) (c.list_unplaced.ensures asked)
 
 pub returns-in-None : goal.returns-in-None
 returns-in-None g c =
     let old = c.args.self.now in
-    let verdict = c.in-Ok.found.0 in
-    let left = g.S.Source.remaining c.judge_features.new.reader in
+    let limits = old.options.limits in
+    let reading = c.reading-reading.result in
+    let finding = c.in-Ok.found.0 in
+    let had = g.S.Source.remaining c.args.source.now in
+    let failed = g.S.Source.failed_reads c.args.source.now in
+    let left = g.S.Source.remaining c.judge_every.new.reader in
+    let slow : reading ≡ Reading.Quick → ⊥ = λ quick. asked-slowly (reading_of old.options c.args.name.now) (asked_in old.options) c.args.asked c.requires (sym c.reading-reading.ensures ∙ quick) in
+    let report : Report = record { name = c.args.name; finding = finding; sites = None; passes = passes old.options.strict old.options.allowed finding; found = None; hint = None } in
     on_ok_weaker c.tell.result (λ told. (
-      judged (record { name = c.args.name; finding = Finding.Text verdict; sites = None; passes = passes old.options.strict old.options.allowed (Finding.Text verdict); hint = None }),
-      (refl, refl, refl, c.in-Ok.ensures.failed, (left, c.in-Ok.ensures.verdict)),
+      judged report,
+      subst (λ (r : Reading). IsListedOnce r c.args.asked limits c.args.name.now had failed (g.S.Source.failed_reads c.judge_every.new.reader) (judged report)) c.reading-reading.ensures
+          (refl, refl, refl, c.in-Ok.ensures.failed, (left, c.in-Ok.ensures.found slow)),
       TellsFile-after g.W.Write.contents _ old _ c.tell.new.self (record { same = record { options = refl; style = refl; outcome = refl; summary = refl }; out = refl; log = refl; line = refl }) told,
     )) c.tell.ensures
 

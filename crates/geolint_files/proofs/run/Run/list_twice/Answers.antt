@@ -1,13 +1,14 @@
 use Rattle.std.proofs.Common.{refl, subst, sym, ◌≡◌, ◌∙◌, List, ℕ}
 use Rattle.std.specs.Prelude.{Option}
 use Rattle.std.proofs.lemmas.Result.{on_ok_weaker}
-use Rattle.geolint_files.specs.declared.judge.Finding.{Finding}
-use Rattle.geolint_files.specs.declared.judge.Reading.{Reading}
-use Rattle.geolint_files.specs.Judged.{Finds}
-use Rattle.geolint_files.specs.Listed.{AreLinesOf, IsPlaced}
+use Rattle.geolint_report.specs.declared.judge.Finding.{Finding}
+use Rattle.geolint_report.specs.declared.judge.Reading.{Reading}
+use Rattle.geolint_files.specs.Listed.{asked_in}
+use Rattle.geolint_report.specs.Judged.{Finds, framing_in}
+use Rattle.geolint_files.specs.Listed.{AreLinesOf, IsPlaced, IsListedTwice}
 use Rattle.geolint_files.specs.Run.{judged, not_read, listed}
 use Rattle.geolint_files.specs.Told.{reading_of, HasSites}
-use Rattle.geolint_files.proofs.ListedFiles.{asked-every}
+use Rattle.geolint_files.proofs.ListedFiles.{asked-every, asked-slowly}
 use Rattle.geolint_files.proofs.ToldFiles.{TellsFile-after}
 use Rattle.geolint_files.proofs.run.Run.list_twice.Goals as goal
 
@@ -15,20 +16,23 @@ pub returns-in-Some : goal.returns-in-Some
 returns-in-Some g c =
     let old = c.args.self.now in
     let limits = old.options.limits in
+    let reading = c.reading-reading.result in
     let notes = c.in-Some.notes in
     let kept = rw (c.in-Some.is) at c.in_ok-notes-in-Ok.ensures in
     let had = g.S.Source.remaining c.args.source.now in
-    let left = g.S.Source.remaining c.judge_features.new.reader in
+    let left = g.S.Source.remaining c.judge_every.new.reader in
     let text = c.in-Ok.ensures.text in
     let asked = asked-every old.options (reading_of old.options c.args.name.now) c.args.asked c.requires in
+    let slow : reading ≡ Reading.Quick → ⊥ = λ quick. asked-slowly (reading_of old.options c.args.name.now) (asked_in old.options) c.args.asked c.requires (sym c.reading-reading.ensures ∙ quick) in
     on_ok_weaker c.list_placed.result (λ told.
     let (report, name, finding, (middle, sites), (lines, are, tells)) = told in
-    let found = subst (λ (given : Finding). Finds Reading.Text limits had left given) (sym finding) c.in-Ok.ensures.verdict in
-    let with_text = subst (λ (t : Option (List ℕ)). HasSites Reading.Text limits t (g.S.Source.failed_reads c.judge_features.new.reader) middle report) text sites in
-    let with_sites = subst (λ (n : ℕ). HasSites Reading.Text limits (g.S.Source.text c.args.source.now) n middle report) c.in-Ok.ensures.failed with_text in
-    let placed = subst (λ (t : Option (List ℕ)). AreLinesOf (IsPlaced t) c.args.name.now notes.notes.items notes.count lines) text are in (
+    let found = subst (λ (given : Finding). Finds reading limits had left given) (sym finding) (c.in-Ok.ensures.found slow) in
+    let with_text = subst (λ (t : Option (List ℕ)). HasSites reading limits t (g.S.Source.failed_reads c.judge_every.new.reader) middle report) text sites in
+    let with_sites = subst (λ (n : ℕ). HasSites reading limits (g.S.Source.text c.args.source.now) n middle report) c.in-Ok.ensures.failed with_text in
+    let placed = subst (λ (t : Option (List ℕ)). AreLinesOf (IsPlaced (framing_in reading) t) c.args.name.now notes.notes.items notes.count lines) text are in (
       listed report lines,
-      (name, (left, found), (middle, with_sites), (notes.notes.items, notes.count, kept limits had c.in-Ok.ensures.listed, placed)),
+      subst (λ (r : Reading). IsListedTwice r c.args.asked limits c.args.name.now had (g.S.Source.text c.args.source.now) (g.S.Source.failed_reads c.args.source.now) (g.S.Source.failed_reads c.list_placed.new.source) (listed report lines)) c.reading-reading.ensures
+          (name, (left, found), (middle, with_sites), (notes.notes.items, notes.count, kept (framing_in reading) limits had c.in-Ok.ensures.listed, placed)),
       TellsFile-after g.W.Write.contents _ old _ c.list_placed.new.self (record { same = record { options = refl; style = refl; outcome = refl; summary = refl }; out = refl; log = refl; line = refl }) tells,
     )) (c.list_placed.ensures asked)
 
@@ -36,17 +40,20 @@ pub returns-in-None : goal.returns-in-None
 returns-in-None g c =
     let old = c.args.self.now in
     let limits = old.options.limits in
+    let reading = c.reading-reading.result in
     let had = g.S.Source.remaining c.args.source.now in
-    let left = g.S.Source.remaining c.judge_features.new.reader in
+    let left = g.S.Source.remaining c.judge_every.new.reader in
     let failed_reads = g.S.Source.failed_reads in
     let after = c.tell_found.new.source in
+    let slow : reading ≡ Reading.Quick → ⊥ = λ quick. asked-slowly (reading_of old.options c.args.name.now) (asked_in old.options) c.args.asked c.requires (sym c.reading-reading.ensures ∙ quick) in
     on_ok_weaker c.tell_found.result (λ told.
     let (report, name, finding, sites, tells) = told in
-    let found = subst (λ (given : Finding). Finds Reading.Text limits had left given) (sym finding) c.in-Ok.ensures.verdict in
-    let with_text = subst (λ (t : Option (List ℕ)). HasSites Reading.Text limits t (failed_reads c.judge_features.new.reader) (failed_reads after) report) c.in-Ok.ensures.text sites in
-    let with_sites = subst (λ (n : ℕ). HasSites Reading.Text limits (g.S.Source.text c.args.source.now) n (failed_reads after) report) c.in-Ok.ensures.failed with_text in (
+    let found = subst (λ (given : Finding). Finds reading limits had left given) (sym finding) (c.in-Ok.ensures.found slow) in
+    let with_text = subst (λ (t : Option (List ℕ)). HasSites reading limits t (failed_reads c.judge_every.new.reader) (failed_reads after) report) c.in-Ok.ensures.text sites in
+    let with_sites = subst (λ (n : ℕ). HasSites reading limits (g.S.Source.text c.args.source.now) n (failed_reads after) report) c.in-Ok.ensures.failed with_text in (
       judged report,
-      (name, (left, found), with_sites),
+      subst (λ (r : Reading). IsListedTwice r c.args.asked limits c.args.name.now had (g.S.Source.text c.args.source.now) (failed_reads c.args.source.now) (failed_reads after) (judged report)) c.reading-reading.ensures
+          (name, (left, found), with_sites),
       TellsFile-after g.W.Write.contents _ old _ c.tell_found.new.self (record { same = record { options = refl; style = refl; outcome = refl; summary = refl }; out = refl; log = refl; line = refl }) tells,
     )) c.tell_found.ensures.told
 

@@ -1,8 +1,8 @@
 use Rattle.std.proofs.Common.{refl, sym, subst, ◌∙◌}
 use Rattle.std.specs.Prelude.{Bool, None}
 use Rattle.std.proofs.lemmas.Result.{on_ok_weaker}
-use Rattle.geolint_files.specs.declared.report.Report.{Report}
-use Rattle.geolint_files.specs.Finding.{passes}
+use Rattle.geolint_report.specs.declared.report.Report.{Report}
+use Rattle.report_forms.specs.Passing.{passes}
 use Rattle.geolint_files.specs.Told.{HasSitesIf}
 use Rattle.geolint_files.proofs.run.Run.tell_found.Goals as goal
 
@@ -10,7 +10,7 @@ pub returns-else-has_places-clause-told : goal.returns-else-has_places-clause-to
 returns-else-has_places-clause-told g c =
     let old = c.args.self.now in
     let finding = c.args.finding in
-    let report : Report = record { name = c.args.name; finding = finding; sites = None; passes = passes old.options.strict old.options.allowed finding; hint = None } in
+    let report : Report = record { name = c.args.name; finding = finding; sites = None; passes = passes old.options.strict old.options.allowed finding; found = None; hint = None } in
     let text = g.S.Source.text c.args.source.now in
     let failed = g.S.Source.failed_reads c.args.source.now in
     let none = subst (λ (has : Bool). HasSitesIf has c.args.reading old.options.limits text failed failed report) (sym c.if-has_places.false ∙ c.has_places.ensures) (refl, refl) in

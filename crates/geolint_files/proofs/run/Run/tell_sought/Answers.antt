@@ -1,6 +1,6 @@
 use Rattle.std.proofs.Common.{refl}
 use Rattle.std.proofs.lemmas.Result.{on_ok_weaker}
-use Rattle.geolint_files.specs.Told.{AreSought}
+use Rattle.geolint_report.specs.Sought.{AreSought}
 use Rattle.geolint_files.proofs.ToldFiles.{TellsFile-after, sought-told}
 use Rattle.geolint_files.proofs.run.Run.tell_sought.Goals as goal
 

@@ -1,6 +1,6 @@
 use Rattle.std.proofs.Common.{arith, refl, ap, List, length}
-use Rattle.geolint_files.specs.declared.every.listing.Note.{Note}
 use Rattle.std.proofs.lemmas.Result.{on_ok_weaker}
+use Rattle.geolint_report.specs.declared.every.listing.Note.{Note}
 use Rattle.geolint_files.specs.Listed.{IsUnplaced}
 use Rattle.geolint_files.proofs.ListedFiles.{none-told, more-told-in, whole-told, all-told}
 use Rattle.geolint_files.proofs.run.Run.tell_unplaced.Goals as goal

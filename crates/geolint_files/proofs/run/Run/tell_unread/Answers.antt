@@ -4,10 +4,10 @@ use Rattle.std.specs.declared.alloc.Global.{Global}
 use Rattle.std.specs.Io.KnownBytes.{Appends}
 use Rattle.std.proofs.KnownBytes.{Appends-kept}
 use Rattle.std.proofs.lemmas.Result.{on_ok_weaker}
-use Rattle.geolint_files.specs.declared.formats.sarif.Log.{Log}
-use Rattle.geolint_files.specs.declared.summary.Summary.{Summary}
-use Rattle.geolint_files.specs.Forms.{KeepsUnread}
-use Rattle.geolint_files.specs.Internal.FileCounts.{Counts}
+use Rattle.report_forms.specs.declared.formats.sarif.Log.{Log}
+use Rattle.report_forms.specs.declared.summary.Summary.{Summary}
+use Rattle.report_forms.specs.Forms.{KeepsUnread}
+use Rattle.report_forms.specs.FileCounts.{Counts}
 use Rattle.geolint_files.proofs.ToldFiles.{on_ok, kept-Appends, TellsFile-of, TellsFiles-one}
 use Rattle.geolint_files.proofs.run.Run.tell_unread.Goals as goal
 

@@ -3,13 +3,13 @@ use Rattle.std.specs.Prelude.{Bool, Some, Vec}
 use Rattle.std.specs.declared.alloc.Global.{Global}
 use Rattle.std.specs.Io.KnownBytes.{Appends}
 use Rattle.std.proofs.KnownBytes.{Appends-kept}
-use Rattle.geolint_files.specs.declared.formats.sarif.Log.{Log}
+use Rattle.geolint_report.specs.declared.report.Report.{Report}
+use Rattle.report_forms.specs.declared.formats.sarif.Log.{Log}
+use Rattle.report_forms.specs.declared.summary.Summary.{Summary}
+use Rattle.report_forms.specs.Forms.{IsReport, first_after}
+use Rattle.report_forms.specs.FileCounts.{Counts}
 use Rattle.geolint_files.specs.declared.outcome.Outcome.{Outcome}
-use Rattle.geolint_files.specs.declared.report.Report.{Report}
-use Rattle.geolint_files.specs.declared.summary.Summary.{Summary}
-use Rattle.geolint_files.specs.Finding.{outcome_of, worst}
-use Rattle.geolint_files.specs.Forms.{IsReport, first_after}
-use Rattle.geolint_files.specs.Internal.FileCounts.{Counts}
+use Rattle.geolint_files.specs.Outcome.{outcome_of, worst}
 use Rattle.geolint_files.proofs.ToldFiles.{on_ok, TellsFile-of}
 use Rattle.geolint_files.proofs.run.Run.tell_with_hint.Goals as goal
 
@@ -19,7 +19,7 @@ returns g c =
     let new = c.show.new.self in
     let contents = g.W.Write.contents in
     let (told, is_report, added) = c.in_ok-put.ensures.told in
-    let report : Bool → Report = λ (passing : Bool). record { name = c.args.name; finding = c.args.finding; sites = c.args.sites; passes = passing; hint = c.args.hint } in
+    let report : Bool → Report = λ (passing : Bool). record { name = c.args.name; finding = c.args.finding; sites = c.args.sites; passes = passing; found = c.args.found; hint = c.args.hint } in
     on_ok c.show.result (TellsFile-of contents _ old new (record {
       options = c.show.ensures.same.options ∙ c.write.ensures.same.options ∙ c.put.ensures.same.options;
       style = c.show.ensures.same.style ∙ c.write.ensures.same.style ∙ c.put.ensures.same.style;

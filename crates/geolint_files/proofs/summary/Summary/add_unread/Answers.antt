@@ -1,5 +1,0 @@
-use Rattle.geolint_files.proofs.FileCounts.{Counts-unread}
-use Rattle.geolint_files.proofs.summary.Summary.add_unread.Goals as goal
-
-pub returns : goal.returns
-returns c = λ files counts. Counts-unread c.args.self.now files _ c.saturating_add-self.ensures counts

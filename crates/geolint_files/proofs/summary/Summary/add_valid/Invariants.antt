@@ -1,8 +1,0 @@
-use Rattle.std.proofs.Common.{false}
-use Rattle.geolint_files.specs.Internal.FileCounts.{Adds}
-use Rattle.geolint_files.proofs.FileCounts.{until}
-use Rattle.geolint_files.proofs.summary.Summary.add_valid.Given as goal
-
--- the kinds before this one are counted
-abbrev pub invariant-loop-kind : goal.invariant-loop-kind
-invariant-loop-kind l = Adds l.initial.self l.self false false false false false (until l.kind-index l.warnings)

@@ -1,0 +1,121 @@
+-- Lemmas on the notes that are kept.
+use Rattle.std.proofs.Common.{arith, refl, ◌≡◌, ◌<◌, ◌≤◌, ℕ, ◌+◌, ◌++◌, ◌∷◌, [], List, Bool, ap, sym, ◌∙◌, subst, length, take, append-nil, length-append, get_or}
+use Rattle.std.proofs.lemmas.List.{length-take, take-append-le, take_all, take_more}
+use Rattle.std.proofs.lemmas.List.Concat.{flat_map-append}
+use Rattle.std.specs.Io.Iter.{u64_saturate}
+use Rattle.std.specs.Io.KnownBytes.{Consumes, IsAtEnd}
+use Rattle.std.specs.List.{flat_map}
+use Rattle.std.specs.Prelude.{Option, Some, None}
+use Rattle.gj_json.specs.Limits.{Allowed}
+use Rattle.gj_json.specs.declared.fault.JsonFault.{JsonFault}
+use Rattle.gj_rules.specs.declared.verdict.Verdict.{Verdict}
+use Rattle.gj_rules.specs.declared.verdict.Verdict.TheVariants.{Valid, Broken, NotJson}
+use Rattle.gj_rules.specs.declared.feature.Feature.{Feature}
+use Rattle.gj_rules.specs.declared.records.framing.Framing.{Framing}
+use Rattle.geolint_report.specs.declared.judge.Finding.{Finding}
+use Rattle.geolint_report.specs.declared.every.listing.Note.{Note}
+use Rattle.geolint_report.specs.declared.every.listing.Asked.{Asked}
+use Rattle.geolint_report.specs.declared.every.listing.Listing.{Listing}
+use Rattle.geolint_report.specs.Every.{feature_notes, notes_of, notes_of_records, Keeps, KeepsNotes, Lists, ListsIn, ListsBy, ListsFor, AreNotesIn, AreNotesBy}
+
+-- there is room for one more
+pub take-longer : {A : Type 0} (room : ℕ) (all : List A) (x : A) → length (take room all) < room → take room (all ++ x ∷ []) ≡ take room all ++ x ∷ []
+take-longer {A = A} room all x some =
+    let few : length all < room = omega (arith, some, length-take room all) in
+    let longer : length (all ++ x ∷ []) ≡ length all + 1 = length-append all (x ∷ []) in
+    take_all room (all ++ x ∷ []) (omega (arith, few, longer)) ∙ ap (λ (ys : List A). ys ++ x ∷ []) (sym (take_all room all (omega (arith, few))))
+
+-- there is none
+pub take-full : {A : Type 0} (room : ℕ) (all : List A) (x : A) → room ≤ length (take room all) → take room (all ++ x ∷ []) ≡ take room all
+take-full room all x none =
+    let many : room ≤ length all = omega (arith, none, length-take room all) in
+    take-append-le room all (x ∷ []) many
+
+-- the notes of one feature more
+pub notes_of-more : (with_warnings : Bool) (features : List Feature) (feature : Feature)
+    → notes_of with_warnings (features ++ feature ∷ []) ≡ notes_of with_warnings features ++ feature_notes with_warnings feature
+unfolding notes_of
+notes_of-more with_warnings features feature =
+    flat_map-append (feature_notes with_warnings) features (feature ∷ []) ∙ ap (λ (ys : List Note). flat_map (feature_notes with_warnings) features ++ ys) (append-nil (feature_notes with_warnings feature))
+
+-- ---- before the first feature
+
+pub KeepsNotes-none : (listing : Listing) → Keeps listing [] → KeepsNotes listing []
+unfolding notes_of
+KeepsNotes-none listing keeps = keeps
+
+-- ---- a feature more
+
+pub KeepsNotes-more : (old new : Listing) (features : List Feature) (feature : Feature) → new.asked ≡ old.asked
+    → ((all : List Note) → Keeps old all → Keeps new (all ++ feature_notes old.asked.with_warnings feature)) → KeepsNotes old features → KeepsNotes new (features ++ feature ∷ [])
+KeepsNotes-more old new features feature asked adds keeps =
+    let all = notes_of old.asked.with_warnings features in
+    subst (λ (a : Asked). Keeps new (notes_of a.with_warnings (features ++ feature ∷ []))) (sym asked)
+    (subst (λ (ys : List Note). Keeps new ys) (sym (notes_of-more old.asked.with_warnings features feature)) (adds all keeps))
+
+-- ---- when the input has ended
+
+-- of any verdict, since of what is no JSON nothing is said
+pub ListsFor-text : (verdict : Verdict) (limits : Allowed) (had : Option (List ℕ)) (listing : Listing) → ListsBy None limits had listing → ListsFor None (Finding.Text verdict) limits had listing
+ListsFor-text (NotJson fault) limits had listing by = tt
+ListsFor-text (Valid warnings) limits had listing by = by
+ListsFor-text (Broken fault) limits had listing by = by
+
+pub Lists-end : (verdict : Verdict) (here limits : Allowed) (old new : Option (List ℕ)) (read : List ℕ) (listing : Listing) → here ≡ limits → Consumes old new read → IsAtEnd new
+    → Lists here read listing → ListsFor None (Finding.Text verdict) limits old listing
+Lists-end verdict here limits old new read listing same took ended lists = ListsFor-text verdict limits old listing (at-end old new took ended)
+  where
+    at-end : (old new : Option (List ℕ)) → Consumes old new read → IsAtEnd new → ListsBy None limits old listing
+    at-end None new took ended = tt
+    at-end (Some all) None took ended = absurd took
+    at-end (Some all) (Some rest) took ended =
+        let is : all ≡ read = took ∙ (ap (λ (ys : List ℕ). read ++ ys) ended ∙ append-nil read) in
+        subst (λ (bytes : List ℕ). Lists limits bytes listing) (sym is) (subst (λ (l : Allowed). Lists l read listing) same lists)
+
+pub Lists-refused : (verdict : Verdict) (fault : JsonFault) (limits : Allowed) (old : Option (List ℕ)) (listing : Listing) → verdict ≡ NotJson fault → ListsFor None (Finding.Text verdict) limits old listing
+Lists-refused verdict fault limits old listing is = subst (λ (v : Verdict). ListsFor None (Finding.Text v) limits old listing) (sym is) tt
+
+-- ---- what is told of them
+
+pub AreNotes-of : (framing : Option Framing) (finding : Finding) (listing : Listing) (asked : Asked) (notes : List Note) (count : ℕ) (limits : Allowed) (had : Option (List ℕ)) → listing.asked ≡ asked
+    → ((all : List Note) → Keeps listing all → (notes ≡ take listing.asked.room all) × (count ≡ u64_saturate (length all)))
+    → ListsFor framing finding limits had listing → ((fault : JsonFault) → finding ≡ Finding.Text (NotJson fault) → ⊥) → AreNotesBy framing asked notes count limits had
+AreNotes-of framing finding listing asked notes count limits had same kept lists is_json = by-bytes had (of-json finding lists is_json)
+  where
+    of-json : (finding : Finding) → ListsFor framing finding limits had listing → ((fault : JsonFault) → finding ≡ Finding.Text (NotJson fault) → ⊥) → ListsBy framing limits had listing
+    of-json (Finding.Text (NotJson fault)) lists is_json = absurd (is_json fault refl)
+    of-json (Finding.Text (Valid warnings)) lists is_json = lists
+    of-json (Finding.Text (Broken fault)) lists is_json = lists
+    of-json (Finding.Sequence verdict) lists is_json = lists
+    of-json Finding.NotValid lists is_json = lists
+
+    by-framing : (framing : Option Framing) (bytes : List ℕ) → ListsIn framing limits bytes listing → AreNotesIn framing asked notes count limits bytes
+    by-framing None bytes lists = λ text admitted.
+        let (features, keeps, say) = lists text admitted in
+        let (first, counted) = kept (notes_of listing.asked.with_warnings features) keeps in (
+          features,
+          record {
+            first = first ∙ ap (λ (a : Asked). take a.room (notes_of a.with_warnings features)) same;
+            count_is = counted ∙ ap (λ (a : Asked). u64_saturate (length (notes_of a.with_warnings features))) same;
+          },
+          say,
+        )
+    by-framing (Some framing) bytes (found, are, keeps) =
+        let (first, counted) = kept (notes_of_records listing.asked.with_warnings found) keeps in (
+          found,
+          are,
+          record {
+            first = first ∙ ap (λ (a : Asked). take a.room (notes_of_records a.with_warnings found)) same;
+            count_is = counted ∙ ap (λ (a : Asked). u64_saturate (length (notes_of_records a.with_warnings found))) same;
+          },
+        )
+
+    by-bytes : (had : Option (List ℕ)) → ListsBy framing limits had listing → AreNotesBy framing asked notes count limits had
+    by-bytes None lists = tt
+    by-bytes (Some bytes) lists = by-framing framing bytes lists
+
+-- with one element more
+pub parts-more : {A B : Type 0} (part : A → List B) (xs : List A) (i : ℕ) (d : A) → i < length xs
+    → flat_map part (take (i + 1) xs) ≡ flat_map part (take i xs) ++ part (get_or xs i d)
+parts-more {A = A} {B = B} part xs i d within =
+    ap (λ (ys : List A). flat_map part ys) (take_more xs i d within) ∙ (flat_map-append part (take i xs) (get_or xs i d ∷ []) ∙ ap (λ (ys : List B). flat_map part (take i xs) ++ ys) (append-nil (part (get_or xs i d))))

@@ -1,0 +1,14 @@
+mod FileVerdicts
+mod QuickFiles
+mod DecidedFiles
+mod FoundSites
+mod SoughtPlaces
+mod FollowedPaths
+mod ToldPaths
+mod TextPlaces
+mod KeptExcerpts
+mod ReportedSites
+mod PlacesInOrder
+mod KeptNotes
+mod KeptRecords
+mod CursorPlaces

@@ -1,0 +1,7 @@
+use Rattle.std.proofs.Common.{ap, sym, ◌∙◌, Option}
+use Rattle.gj_rules.specs.declared.records.framing.Framing.{Framing}
+use Rattle.geolint_report.specs.Sites.{text_limits}
+use Rattle.geolint_report.proofs.sites.text_limits.Goals as goal
+
+pub returns-in-Some : goal.returns-in-Some
+returns-in-Some c = c.record_limits.ensures c.in-Some.field-0 ∙ ap (λ (f : Option Framing). text_limits f c.args.limits) (sym c.in-Some.is)

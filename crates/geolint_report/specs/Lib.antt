@@ -1,0 +1,13 @@
+pub mod Line
+pub mod Texts
+pub mod Judged
+pub mod Finding
+pub mod Sites
+pub mod Found
+pub mod Report
+pub mod Sought
+pub mod Items
+pub mod Every
+pub mod Marks
+pub mod Cursors
+pub mod Internal

@@ -1,0 +1,8 @@
+//! What is found of each feature or record of a file, and where its places stand.
+
+pub mod cursor;
+pub mod id;
+pub mod listing;
+pub mod reading;
+pub mod records;
+pub mod text_path;

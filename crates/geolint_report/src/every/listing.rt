@@ -1,0 +1,274 @@
+//! The features or records of a file of which something is told, as the linter tells them: so many are kept, and all are counted.
+ghost use Rattle.std.specs.Prelude.{◌≡◌, ℕ, List, Option, IfOk, IfSome};
+ghost use Rattle.gj_json.specs.Limits.{Allowed};
+ghost use Rattle.gj_rules.specs.declared.records.framing.Framing.{Framing};
+ghost use Rattle.geolint_report.specs.Every.{ListsFor, AreNotesBy, item_of};
+
+use crate::judge::Finding;
+use crate::report::{Told, warning};
+use crate::texts::Code;
+use gj_coords::{Fault, KINDS, Kind, Warnings};
+use gj_json::JsonFault;
+use gj_rules::{Feature, FeatureSink, Record, RecordSink, Verdict};
+use std::alloc::{AllocError, Global};
+
+/// A part of a file that is validated by itself.
+#[derive(Clone, Copy, Debug, PartialEq, Eq)]
+pub enum Item {
+    /// A feature of a text.
+    Feature {
+        /// How many features stand before it.
+        index: u64,
+        /// Where the value of its first member `id` begins.
+        id: Option<u64>,
+    },
+    /// A record of a text sequence, or a line of newline-delimited texts, by its number. It counts from 1; 0 stands for the bytes
+    /// before the first record of a sequence.
+    Record(u64),
+}
+
+impl Item {
+    ghost use Rattle.std.specs.Prelude.{◌≡◌};
+    ghost use Rattle.geolint_report.specs.Items.{item_word, item_number};
+
+    /// The word for it.
+    pub fn word(self) -> &'static [u8]
+        ensures { result.now ≡ item_word self }
+    {
+        match self {
+            Item::Feature { .. } => b"feature",
+            Item::Record(_) => b"record",
+        }
+    }
+
+    /// The index of a feature, which counts from 0, or the number of a record, which counts from 1.
+    pub fn number(self) -> u64
+        ensures { result ≡ item_number self }
+    {
+        match self {
+            Item::Feature { index, .. } => index,
+            Item::Record(number) => number,
+        }
+    }
+}
+
+/// What is told of a feature or a record: its fault, or a kind of warning of one without a fault.
+#[derive(Clone, Copy)]
+pub struct Note {
+    pub item: Item,
+    pub told: Told,
+}
+
+/// What is asked of the features or the records of a file.
+#[derive(Clone, Copy, Debug, PartialEq, Eq)]
+pub struct Asked {
+    /// The warnings of those without a fault are told too.
+    pub with_warnings: bool,
+    /// How many notes are kept at most.
+    pub room: u64,
+}
+
+/// What is told of the features or the records so far.
+#[derive(Drop)]
+pub struct Listing {
+    asked: Asked,
+    notes: Vec<Note>,
+    /// How many notes there were, with those that are not kept.
+    count: u64,
+    /// The memory did not suffice for one.
+    has_failed: bool,
+}
+
+/// The notes of a file that were asked for, and how many it has.
+#[derive(Drop)]
+pub struct Notes {
+    pub notes: Vec<Note>,
+    pub count: u64,
+}
+
+/// The notes of a file that were asked for: none of what is no JSON text.
+pub fn notes_for(
+    finding: Finding,
+    listing: Listing,
+    asked: Asked,
+) -> Result<Option<Notes>, AllocError>
+    ensures { IfOk result (λ found. IfSome found (λ notes. (framing : Option Framing) (limits : Allowed) (had : Option (List ℕ)) → ListsFor framing finding limits had listing
+        → AreNotesBy framing asked notes.notes.items notes.count limits had)) }
+{
+    match finding {
+        Finding::Text(Verdict::NotJson(_)) => Ok(None),
+        _ => match listing.into_notes(asked) {
+            Ok(notes) => Ok(Some(notes)),
+            Err(error) => Err(error),
+        },
+    }
+}
+
+impl Listing {
+    ghost use Rattle.std.specs.Prelude.{◌≡◌, ◌++◌, ◌∷◌, [], List, IfOk, length, take, true, false};
+    ghost use Rattle.std.specs.Io.Iter.{u64_saturate};
+    ghost use Rattle.geolint_report.specs.declared.every.listing.Note.{Note};
+    ghost use Rattle.geolint_report.specs.Every.{Keeps, note_of, fault_note, refusal_note, warning_notes, kind_notes, record_notes};
+
+    pub fn new(alloc: Global, asked: Asked) -> Listing
+        ensures asked { result.asked ≡ asked }
+        ensures keeps { Keeps result [] }
+    {
+        Listing {
+            asked,
+            notes: Vec::new(alloc),
+            count: 0,
+            has_failed: false,
+        }
+    }
+
+    /// The notes, where they are those that were asked for and all of these could be kept.
+    pub fn into_notes(self, asked: Asked) -> Result<Notes, AllocError>
+        ensures asked { IfOk result (λ notes. self.asked ≡ asked) }
+        ensures notes { IfOk result (λ notes. (all : List Note) → Keeps self all → (notes.notes.items ≡ take self.asked.room all) × (notes.count ≡ u64_saturate (length all))) }
+    {
+        if self.has_failed || self.asked != asked {
+            return Err(AllocError);
+        }
+        Ok(Notes {
+            notes: self.notes,
+            count: self.count,
+        })
+    }
+
+    fn add(&mut self, note: Note)
+        ensures keeps { (all : List Note) → Keeps self.old all → Keeps self.new (all ++ note ∷ []) }
+        ensures asked { self.new.asked ≡ self.old.asked }
+    {
+        self.keep_within(note);
+        self.count = self.count.saturating_add(1);
+    }
+
+    /// Keeps a note, where there is room.
+    fn keep_within(&mut self, note: Note)
+        ensures kept { (all : List Note) → (self.old.has_failed ≡ false → self.old.notes.items ≡ take self.old.asked.room all)
+            → self.new.has_failed ≡ false → self.new.notes.items ≡ take self.old.asked.room (all ++ note ∷ []) }
+        ensures asked { self.new.asked ≡ self.old.asked }
+        ensures count { self.new.count ≡ self.old.count }
+    {
+        if (self.notes.len() as u64) < self.asked.room {
+            self.keep(note);
+        }
+    }
+
+    fn keep(&mut self, note: Note)
+        ensures kept { self.new.has_failed ≡ false → (self.old.has_failed ≡ false) × (self.new.notes.items ≡ self.old.notes.items ++ note ∷ []) }
+        ensures asked { self.new.asked ≡ self.old.asked }
+        ensures count { self.new.count ≡ self.old.count }
+    {
+        if self.notes.push(note).is_err() {
+            self.has_failed = true;
+        }
+    }
+
+    fn add_told(&mut self, item: Item, told: Told)
+        ensures keeps { (all : List Note) → Keeps self.old all → Keeps self.new (all ++ note_of item told ∷ []) }
+        ensures asked { self.new.asked ≡ self.old.asked }
+    {
+        self.add(Note { item, told });
+    }
+
+    fn add_fault(&mut self, item: Item, fault: Fault)
+        ensures keeps { (all : List Note) → Keeps self.old all → Keeps self.new (all ++ fault_note item fault ∷ []) }
+        ensures asked { self.new.asked ≡ self.old.asked }
+    {
+        self.add_told(
+            item,
+            Told {
+                code: Code::Rule(fault.rule),
+                place: fault.place,
+            },
+        );
+    }
+
+    fn add_refusal(&mut self, item: Item, fault: JsonFault)
+        ensures keeps { (all : List Note) → Keeps self.old all → Keeps self.new (all ++ refusal_note item fault ∷ []) }
+        ensures asked { self.new.asked ≡ self.old.asked }
+    {
+        self.add_told(
+            item,
+            Told {
+                code: Code::Cause(fault.cause),
+                place: fault.place,
+            },
+        );
+    }
+
+    fn add_warnings(&mut self, item: Item, warnings: &Warnings)
+        ensures keeps { (all : List Note) → Keeps self.old all → Keeps self.new (all ++ warning_notes self.old.asked.with_warnings item warnings.now) }
+        ensures asked { self.new.asked ≡ self.old.asked }
+    {
+        if self.asked.with_warnings {
+            self.add_kinds(item, warnings);
+        }
+    }
+
+    fn add_kinds(&mut self, item: Item, warnings: &Warnings)
+        ensures keeps { (all : List Note) → Keeps self.old all → Keeps self.new (all ++ warning_notes true item warnings.now) }
+        ensures asked { self.new.asked ≡ self.old.asked }
+    {
+        for kind in &KINDS {
+            self.add_kind(item, warnings, *kind);
+        }
+    }
+
+    fn add_kind(&mut self, item: Item, warnings: &Warnings, kind: Kind)
+        ensures keeps { (all : List Note) → Keeps self.old all → Keeps self.new (all ++ kind_notes item warnings.now kind) }
+        ensures asked { self.new.asked ≡ self.old.asked }
+    {
+        if let Some((told, _)) = warning(kind, warnings) {
+            self.add_told(item, told);
+        }
+    }
+
+    /// Adds what is noted of a record.
+    fn add_record(&mut self, found: &Record)
+        ensures keeps { (all : List Note) → Keeps self.old all → Keeps self.new (all ++ record_notes self.old.asked.with_warnings found.now) }
+        ensures asked { self.new.asked ≡ self.old.asked }
+    {
+        let item = Item::Record(found.number);
+        match found.verdict {
+            Verdict::Valid(warnings) => self.add_warnings(item, &warnings),
+            Verdict::Broken(fault) => self.add_fault(item, fault),
+            Verdict::NotJson(fault) => self.add_refusal(item, fault),
+        }
+    }
+}
+
+fn item_of(feature: &Feature) -> Item
+    ensures { result ≡ item_of feature.now }
+{
+    Item::Feature {
+        index: feature.index,
+        id: feature.id,
+    }
+}
+
+impl FeatureSink for Listing {
+    ghost use Rattle.geolint_report.specs.Every.{KeepsNotes};
+
+    ghost told = { λ listing features. KeepsNotes listing features };
+
+    fn tell_feature(&mut self, feature: &Feature) {
+        let item = item_of(feature);
+        match feature.fault {
+            Some(fault) => self.add_fault(item, fault),
+            None => self.add_warnings(item, &feature.warnings),
+        }
+    }
+}
+
+impl RecordSink for Listing {
+    ghost use Rattle.geolint_report.specs.Every.{KeepsRecords};
+
+    ghost told = { λ listing records. KeepsRecords listing records };
+
+    fn tell_record(&mut self, found: &Record) {
+        self.add_record(found);
+    }
+}

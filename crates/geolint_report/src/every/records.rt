@@ -1,0 +1,52 @@
+//! The first reading of a file of which each record is told: a text sequence, or newline-delimited texts.
+ghost use Rattle.std.specs.Prelude.{◌≡◌, IfOk, Some};
+ghost use Rattle.geolint_report.specs.Every.{ListsBy};
+ghost use Rattle.geolint_report.specs.Judged.{CountsFailure, JudgesRecords};
+
+use crate::every::listing::{Asked, Listing};
+use crate::judge::PIECE;
+use crate::progress::Meter;
+use crate::source::Source;
+use gj_json::Limits;
+use gj_rules::{Framing, Records, SeqVerdict};
+use std::alloc::Global;
+use std::io;
+
+/// What the records of a reader are as a whole, and what is told of each of them. It is read to its end, or beyond the limit.
+pub fn judge_records<S: Source>(
+    alloc: Global,
+    reader: &mut S,
+    limits: Limits,
+    framing: Framing,
+    asked: Asked,
+    meter: &mut Meter,
+) -> io::Result<(SeqVerdict, Listing)>
+    ensures verdict { IfOk result (λ found. JudgesRecords framing limits (S.remaining reader.old) (S.remaining reader.new) found.0) }
+    ensures listed { IfOk result (λ found. ListsBy (Some framing) limits (S.remaining reader.old) found.1) }
+    ensures text { S.text reader.new ≡ S.text reader.old }
+    ensures failed { CountsFailure (S.failed_reads reader.old) (S.failed_reads reader.new) result }
+{
+    let _most = limits.bytes();
+    let mut records = Records::new(framing, limits);
+    let mut listing = Listing::new(alloc, asked);
+    let mut piece = [0; PIECE];
+    let mut offset = 0u64;
+    loop {
+        match reader.read_piece(&mut piece) {
+            Err(error) => return Err(error),
+            Ok(0) => {
+                let verdict = records.finish(&mut listing);
+                return Ok((verdict, listing));
+            }
+            Ok(count) => {
+                offset += count as u64;
+                meter.add_bytes(count);
+                records.feed(&piece[..count], &mut listing);
+                if records.is_over() {
+                    let verdict = records.finish(&mut listing);
+                    return Ok((verdict, listing));
+                }
+            }
+        }
+    }
+}

@@ -1,0 +1,242 @@
+//! The first reading: what a file is.
+ghost use Rattle.std.specs.Prelude.{◌≡◌, IfOk};
+ghost use Rattle.geolint_report.specs.Judged.{CountsFailure, JudgesRead, JudgesQuickly, JudgesSequence, JudgesLines, Finds, valid_in};
+
+use crate::progress::Meter;
+use crate::source::Source;
+use gj_coords::Warnings;
+use gj_json::Limits;
+use gj_rules::record_laws::one_finding;
+use gj_rules::{
+    Framing, Linter, Progress, Record, RecordSink, Records, SeqProgress, SeqVerdict, Sequence,
+    Verdict, one_sequence_verdict, one_verdict,
+};
+use std::io;
+
+/// The most bytes of a read.
+pub const PIECE: usize = 16384;
+
+/// What a file is found to be.
+#[derive(Clone, Copy)]
+pub enum Finding {
+    Text(Verdict),
+    /// Of a text sequence, and of newline-delimited texts.
+    Sequence(SeqVerdict),
+    /// Not valid, where nothing more was asked.
+    NotValid,
+}
+
+/// How a file is read.
+#[derive(Clone, Copy, Debug, PartialEq, Eq)]
+pub enum Reading {
+    /// As one text, to its end or to the byte that refuses it.
+    Text,
+    /// As one text, until it cannot be valid any more.
+    Quick,
+    /// As a text sequence.
+    Sequence,
+    /// As newline-delimited texts.
+    Lines,
+}
+
+impl Reading {
+    ghost use Rattle.std.specs.Prelude.{◌≡◌};
+    ghost use Rattle.geolint_report.specs.Judged.{framing_in};
+
+    /// How the texts of what is read are set apart, where it is of records.
+    pub fn framing(self) -> Option<Framing>
+        ensures { result ≡ framing_in self }
+    {
+        match self {
+            Reading::Sequence => Some(Framing::Sequence),
+            Reading::Lines => Some(Framing::Lines),
+            Reading::Text | Reading::Quick => None,
+        }
+    }
+}
+
+/// What the bytes of a reader are.
+///
+/// It is the linter's verdict of all of them, or that of a sequence or of lines; where only yes or no is asked, the warnings of
+/// a valid text, or that it is not valid. An error is answered where a read failed. The bytes are counted as they come. The linter is
+/// begun anew, whatever it was fed before.
+pub fn judge<S: Source>(
+    reader: &mut S,
+    limits: Limits,
+    reading: Reading,
+    linter: &mut Linter,
+    meter: &mut Meter,
+) -> io::Result<Finding>
+    ensures found { IfOk result (Finds reading limits (S.remaining reader.old) (S.remaining reader.new)) }
+    ensures text { S.text reader.new ≡ S.text reader.old }
+    ensures failed { CountsFailure (S.failed_reads reader.old) (S.failed_reads reader.new) result }
+{
+    match reading {
+        Reading::Text => match judge_text(reader, limits, linter, meter) {
+            Ok(verdict) => Ok(Finding::Text(verdict)),
+            Err(error) => Err(error),
+        },
+        Reading::Quick => match judge_quickly(reader, limits, linter, meter) {
+            Ok(Some(warnings)) => Ok(Finding::Text(Verdict::Valid(warnings))),
+            Ok(None) => Ok(Finding::NotValid),
+            Err(error) => Err(error),
+        },
+        Reading::Sequence => match judge_sequence(reader, limits, meter) {
+            Ok(verdict) => Ok(Finding::Sequence(verdict)),
+            Err(error) => Err(error),
+        },
+        Reading::Lines => match judge_lines(reader, limits, meter) {
+            Ok(verdict) => Ok(Finding::Sequence(verdict)),
+            Err(error) => Err(error),
+        },
+    }
+}
+
+/// The verdict of one text. No read follows a refusal.
+fn judge_text<S: Source>(
+    reader: &mut S,
+    limits: Limits,
+    linter: &mut Linter,
+    meter: &mut Meter,
+) -> io::Result<Verdict>
+    ensures verdict { IfOk result (λ verdict. JudgesRead limits (S.remaining reader.old) (S.remaining reader.new) verdict) }
+    ensures text { S.text reader.new ≡ S.text reader.old }
+    ensures failed { CountsFailure (S.failed_reads reader.old) (S.failed_reads reader.new) result }
+{
+    let _most = limits.bytes();
+    let _left = linter.finish_and_begin(limits);
+    let mut piece = [0; PIECE];
+    let mut offset = 0u64;
+    loop {
+        match reader.read_piece(&mut piece) {
+            Err(error) => return Err(error),
+            Ok(0) => return Ok(linter.finish_and_begin(limits)),
+            Ok(count) => {
+                offset += count as u64;
+                meter.add_bytes(count);
+                match linter.feed(&piece[..count]) {
+                    Progress::Open => {}
+                    Progress::Refused(fault) => return Ok(Verdict::NotJson(fault)),
+                }
+            }
+        }
+    }
+}
+
+/// The warnings of a valid text. No read follows the piece that says no.
+fn judge_quickly<S: Source>(
+    reader: &mut S,
+    limits: Limits,
+    linter: &mut Linter,
+    meter: &mut Meter,
+) -> io::Result<Option<Warnings>>
+    ensures valid { IfOk result (λ valid. JudgesQuickly limits (S.remaining reader.old) (S.remaining reader.new) valid) }
+    ensures text { S.text reader.new ≡ S.text reader.old }
+    ensures failed { CountsFailure (S.failed_reads reader.old) (S.failed_reads reader.new) result }
+{
+    let _most = limits.bytes();
+    one_verdict();
+    let _left = linter.finish_and_begin(limits);
+    let mut piece = [0; PIECE];
+    let mut offset = 0u64;
+    loop {
+        match reader.read_piece(&mut piece) {
+            Err(error) => return Err(error),
+            Ok(0) => return Ok(valid_in(linter.finish_and_begin(limits))),
+            Ok(count) => {
+                offset += count as u64;
+                meter.add_bytes(count);
+                match linter.feed(&piece[..count]) {
+                    Progress::Refused(_) => return Ok(None),
+                    Progress::Open => {
+                        if linter.doomed() {
+                            return Ok(None);
+                        }
+                    }
+                }
+            }
+        }
+    }
+}
+
+/// The warnings of a valid text.
+fn valid_in(verdict: Verdict) -> Option<Warnings>
+    ensures { result ≡ valid_in verdict }
+{
+    match verdict {
+        Verdict::Valid(warnings) => Some(warnings),
+        _ => None,
+    }
+}
+
+/// The verdict of a text sequence. No read follows the byte that decides it.
+fn judge_sequence<S: Source>(
+    reader: &mut S,
+    limits: Limits,
+    meter: &mut Meter,
+) -> io::Result<SeqVerdict>
+    ensures verdict { IfOk result (λ verdict. JudgesSequence limits (S.remaining reader.old) (S.remaining reader.new) verdict) }
+    ensures text { S.text reader.new ≡ S.text reader.old }
+    ensures failed { CountsFailure (S.failed_reads reader.old) (S.failed_reads reader.new) result }
+{
+    let _most = limits.bytes();
+    one_sequence_verdict();
+    let mut sequence = Sequence::new(limits);
+    let mut piece = [0; PIECE];
+    let mut offset = 0u64;
+    loop {
+        match reader.read_piece(&mut piece) {
+            Err(error) => return Err(error),
+            Ok(0) => return Ok(sequence.finish()),
+            Ok(count) => {
+                offset += count as u64;
+                meter.add_bytes(count);
+                match sequence.feed(&piece[..count]) {
+                    SeqProgress::Open => {}
+                    SeqProgress::Decided => return Ok(sequence.finish()),
+                }
+            }
+        }
+    }
+}
+
+/// What each line is goes to no one: the verdict of all is asked.
+#[derive(Drop)]
+struct Unheard;
+
+impl RecordSink for Unheard {
+    ghost told = { λ self records. Unit {0} };
+
+    fn tell_record(&mut self, _found: &Record) {}
+}
+
+/// The verdict of newline-delimited texts. No read follows the line that decides it.
+fn judge_lines<S: Source>(
+    reader: &mut S,
+    limits: Limits,
+    meter: &mut Meter,
+) -> io::Result<SeqVerdict>
+    ensures verdict { IfOk result (λ verdict. JudgesLines limits (S.remaining reader.old) (S.remaining reader.new) verdict) }
+    ensures text { S.text reader.new ≡ S.text reader.old }
+    ensures failed { CountsFailure (S.failed_reads reader.old) (S.failed_reads reader.new) result }
+{
+    let _most = limits.bytes();
+    one_finding();
+    let mut lines = Records::new(Framing::Lines, limits);
+    let mut piece = [0; PIECE];
+    let mut offset = 0u64;
+    loop {
+        match reader.read_piece(&mut piece) {
+            Err(error) => return Err(error),
+            Ok(0) => return Ok(lines.finish(&mut Unheard)),
+            Ok(count) => {
+                offset += count as u64;
+                meter.add_bytes(count);
+                lines.feed(&piece[..count], &mut Unheard);
+                if lines.is_decided() {
+                    return Ok(lines.finish(&mut Unheard));
+                }
+            }
+        }
+    }
+}

@@ -1,0 +1,288 @@
+-- Lemmas on the counts of files.
+use Rattle.std.specs.Prelude.{is_none, cond, is_some}
+use Rattle.std.proofs.Common.{arith, refl, not, ◌||◌, ◌&&◌, nat_le, ◌≢◌, inl, inr, set, length, map, ◌≡◌, ◌≤◌, ◌<◌, ◌+◌, ◌-◌, ℕ, Bool, true, false, List, [], ◌∷◌, ◌++◌, Option, Some, None, get_or, ap, sym, ◌∙◌, nat_eq}
+use Rattle.std.specs.Io.Iter.{u64_saturate}
+use Rattle.std.specs.List.{count_by}
+use Rattle.std.proofs.lemmas.Bool.Decides.{nat_tests, eqb_tells}
+use Rattle.std.proofs.lemmas.List.{get_or-set_same, get_or-set_other, get_or-map}
+use Rattle.std.proofs.lemmas.List.FromFn.{get_or-range_with_len}
+use Rattle.std.proofs.lemmas.List.Sums.{sum_by_push}
+use Rattle.gj_coords.specs.Fault.{number_of}
+use Rattle.gj_coords.specs.Warnings.{kind_number, kinds}
+use Rattle.gj_coords.specs.declared.fault.Rule.{Rule}
+use Rattle.gj_coords.specs.declared.fault.Rule.TheVariants.{G1, G2, G3, G4, G5, G6, G7, G8, G9, G10, G11, G12, G13, G14, G15, G16, G17, G18, G19, G20, G21}
+use Rattle.gj_coords.specs.declared.kind.Kind.{Kind}
+use Rattle.gj_json.specs.declared.fault.Cause.{Cause}
+use Rattle.gj_json.specs.declared.fault.Cause.TheVariants.{Syntax, Truncated, Depth, Length}
+use Rattle.gj_coords.specs.declared.warnings.Warnings.{Warnings}
+use Rattle.gj_coords.specs.Internal.KeptWarnings.{none_in, first_in}
+use Rattle.gj_coords.specs.Internal.ByKind.{kind_range, one_kind}
+use Rattle.gj_rules.specs.declared.sequence.verdict.SeqVerdict.{SeqVerdict}
+use Rattle.gj_rules.specs.declared.verdict.Verdict.TheVariants.{Valid, Broken, NotJson}
+use Rattle.geolint_report.specs.declared.judge.Finding.{Finding}
+use Rattle.geolint_report.specs.declared.report.Told.{Told}
+use Rattle.geolint_report.specs.Finding.{fault_of, warnings_of}
+use Rattle.geolint_report.specs.declared.texts.Code.{Code}
+use Rattle.geolint_report.specs.Texts.{is_cause, cause_number, code_number}
+use Rattle.report_forms.specs.declared.summary.Summary.{Summary}
+use Rattle.report_forms.specs.Counts.{same, is_valid, is_warned, is_broken, is_refused, is_not_valid, warns, tells}
+use Rattle.report_forms.specs.declared.summary.TheConstants.{CODES}
+use Rattle.report_forms.specs.FileCounts.{slot_of, Counts}
+use Rattle.report_forms.specs.Internal.AddedFiles.{more, Adds}
+
+rule-range : (rule : Rule) → (1 ≤ number_of rule) × (number_of rule ≤ 21)
+rule-range G1 = (omega arith, omega arith)
+rule-range G2 = (omega arith, omega arith)
+rule-range G3 = (omega arith, omega arith)
+rule-range G4 = (omega arith, omega arith)
+rule-range G5 = (omega arith, omega arith)
+rule-range G6 = (omega arith, omega arith)
+rule-range G7 = (omega arith, omega arith)
+rule-range G8 = (omega arith, omega arith)
+rule-range G9 = (omega arith, omega arith)
+rule-range G10 = (omega arith, omega arith)
+rule-range G11 = (omega arith, omega arith)
+rule-range G12 = (omega arith, omega arith)
+rule-range G13 = (omega arith, omega arith)
+rule-range G14 = (omega arith, omega arith)
+rule-range G15 = (omega arith, omega arith)
+rule-range G16 = (omega arith, omega arith)
+rule-range G17 = (omega arith, omega arith)
+rule-range G18 = (omega arith, omega arith)
+rule-range G19 = (omega arith, omega arith)
+rule-range G20 = (omega arith, omega arith)
+rule-range G21 = (omega arith, omega arith)
+
+cause-range : (cause : Cause) → (1 ≤ cause_number cause) × (cause_number cause ≤ 4)
+cause-range Syntax = (omega arith, omega arith)
+cause-range Truncated = (omega arith, omega arith)
+cause-range Depth = (omega arith, omega arith)
+cause-range Length = (omega arith, omega arith)
+
+-- each rule, kind and cause has a count
+pub rule-slot : (rule : Rule) → slot_of (Code.Rule rule) < CODES
+rule-slot rule = let w = rule-range rule in omega (arith, w.0, w.1)
+
+pub kind-slot : (kind : Kind) → slot_of (Code.Kind kind) < CODES
+kind-slot kind = let w = kind_range kind in omega (arith, w.0, w.1)
+
+pub cause-slot : (cause : Cause) → slot_of (Code.Cause cause) < CODES
+cause-slot cause = let w = cause-range cause in omega (arith, w.0, w.1)
+
+below : (m n : ℕ) → m ≤ n → nat_le m n ≡ true
+below m n less = grind (arith, nat_tests, less)
+
+above : (m n : ℕ) → n < m → nat_le m n ≡ false
+above m n more = grind (arith, nat_tests, more)
+
+lessened : (m n : ℕ) → 1 ≤ m → 1 ≤ n → nat_eq m n ≡ nat_eq (m - 1) (n - 1)
+lessened m n positive also = grind (arith, nat_tests, positive, also)
+
+shifted : (m n k : ℕ) → nat_eq m n ≡ nat_eq (m + k) (n + k)
+shifted m n k = grind (arith, nat_tests)
+
+differ : (m n : ℕ) → m < n → false ≡ nat_eq m n
+differ m n less = grind (arith, nat_tests, less)
+
+differ-back : (m n : ℕ) → n < m → false ≡ nat_eq m n
+differ-back m n less = grind (arith, nat_tests, less)
+
+-- codes that have a count are the same where their counts lie together
+pub same-slot : (a b : Code) → slot_of a < CODES → same a b ≡ nat_eq (slot_of a) (slot_of b)
+same-slot (Code.Rule r) (Code.Rule q) small = lessened (number_of r) (number_of q) (rule-range r).0 (rule-range q).0
+same-slot (Code.Rule r) (Code.Kind k) small = let w = rule-range r in differ _ _ (omega (arith, w.0, w.1))
+same-slot (Code.Rule r) (Code.Cause k) small = let w = rule-range r in differ _ _ (omega (arith, w.0, w.1))
+same-slot (Code.Rule r) Code.NotValid small = differ _ _ (omega (arith, small))
+same-slot (Code.Kind k) (Code.Rule r) small = let w = rule-range r in differ-back _ _ (omega (arith, w.0, w.1))
+same-slot (Code.Kind k) (Code.Kind j) small = lessened (kind_number k) (kind_number j) (kind_range k).0 (kind_range j).0 ∙ shifted (kind_number k - 1) (kind_number j - 1) 21
+same-slot (Code.Kind k) (Code.Cause c) small = let w = kind_range k in differ _ _ (omega (arith, w.0, w.1))
+same-slot (Code.Kind k) Code.NotValid small = differ _ _ (omega (arith, small))
+same-slot (Code.Cause c) (Code.Rule r) small = let w = rule-range r in differ-back _ _ (omega (arith, w.0, w.1))
+same-slot (Code.Cause c) (Code.Kind k) small = let w = kind_range k in differ-back _ _ (omega (arith, w.0, w.1))
+same-slot (Code.Cause c) (Code.Cause d) small = lessened (cause_number c) (cause_number d) (cause-range c).0 (cause-range d).0 ∙ shifted (cause_number c - 1) (cause_number d - 1) (21 + length kinds)
+same-slot (Code.Cause c) Code.NotValid small = differ _ _ (omega (arith, small))
+same-slot Code.NotValid b small = absurd (omega (arith, small))
+
+pub same-none : (a b : Code) → slot_of a < CODES → CODES ≤ slot_of b → same a b ≡ false
+same-none a b small none = same-slot a b small ∙ sym (differ (slot_of a) (slot_of b) (omega (arith, small, none)))
+
+-- one more at the place of a code
+pub counted-at : (counts : List ℕ) (a b : Code) (v : ℕ) → slot_of a < CODES → slot_of b < length counts → v ≡ more true (get_or counts (slot_of b) 0)
+    → get_or (set counts (slot_of b) v) (slot_of a) 0 ≡ more (same a b) (get_or counts (slot_of a) 0)
+counted-at counts a b v small within is = elim (eqb_tells (slot_of a) (slot_of b)) [
+  | inl e ↦ (ap (λ (n : ℕ). get_or (set counts (slot_of b) v) n 0) e.1 ∙ (get_or-set_same counts (slot_of b) v 0 within ∙ (is ∙ ap (λ (n : ℕ). more true (get_or counts n 0)) (sym e.1)))
+      ∙ ap (λ (t : Bool). more t (get_or counts (slot_of a) 0)) (sym (same-slot a b small ∙ e.0)))
+  | inr e ↦ (get_or-set_other counts (slot_of b) (slot_of a) v 0 e.1 ∙ ap (λ (t : Bool). more t (get_or counts (slot_of a) 0)) (sym (same-slot a b small ∙ e.0)))
+]
+
+-- ---- the kinds of warning in turn
+
+-- the kind is told, and is among the first
+abbrev pub until : ℕ → Warnings → Code → Bool
+until i warnings code = nat_le (code_number code) i && warns code warnings
+
+and-false : (b : Bool) → (b && false) ≡ false
+and-false true = refl
+and-false false = refl
+
+pub until-none : (warnings : Warnings) (code : Code) → until 0 warnings code ≡ false
+until-none warnings (Code.Rule rule) = and-false (nat_le (number_of rule) 0)
+until-none warnings (Code.Cause cause) = and-false (nat_le (cause_number cause) 0)
+until-none warnings Code.NotValid = refl
+until-none warnings (Code.Kind kind) = ap (λ (b : Bool). b && is_some (first_in kind warnings)) (above (kind_number kind) 0 (omega (arith, (kind_range kind).0)))
+
+pub until-all : (i : ℕ) (warnings : Warnings) (code : Code) → length kinds ≤ i → until i warnings code ≡ warns code warnings
+until-all i warnings (Code.Rule rule) all = and-false (nat_le (number_of rule) i)
+until-all i warnings (Code.Cause cause) all = and-false (nat_le (cause_number cause) i)
+until-all i warnings Code.NotValid all = and-false (nat_le 0 i)
+until-all i warnings (Code.Kind kind) all = ap (λ (b : Bool). b && is_some (first_in kind warnings)) (below (kind_number kind) i (omega (arith, all, (kind_range kind).1)))
+
+later : (m i : ℕ) → m ≢ i + 1 → nat_le m (i + 1) ≡ nat_le m i
+later m i other = grind (arith, nat_tests, other)
+
+pub until-more : (i : ℕ) (kind : Kind) (warnings : Warnings) (other : Code) (n : ℕ) → kind_number kind ≡ i + 1 → is_some (first_in kind warnings) ≡ true
+    → more (same other (Code.Kind kind)) (more (until i warnings other) n) ≡ more (until (i + 1) warnings other) n
+until-more i kind warnings (Code.Rule rule) n here has = rw (and-false (nat_le (number_of rule) i), and-false (nat_le (number_of rule) (i + 1))) refl
+until-more i kind warnings (Code.Cause cause) n here has = rw (and-false (nat_le (cause_number cause) i), and-false (nat_le (cause_number cause) (i + 1))) refl
+until-more i kind warnings Code.NotValid n here has = rw (and-false (nat_le 0 i), and-false (nat_le 0 (i + 1))) refl
+until-more i kind warnings (Code.Kind j) n here has = elim (eqb_tells (kind_number j) (kind_number kind)) [
+  | inl e ↦ (let is = one_kind j kind e.0 in
+      let told : is_some (first_in j warnings) ≡ true = ap (λ (k : Kind). is_some (first_in k warnings)) is ∙ has in
+      ap (λ (t : Bool). more t (more (nat_le (kind_number j) i && is_some (first_in j warnings)) n)) e.0
+      ∙ (ap (λ (t : Bool). more true (more (t && is_some (first_in j warnings)) n)) (above (kind_number j) i (omega (arith, e.1, here)))
+      ∙ sym (ap (λ (t : Bool). more (t && is_some (first_in j warnings)) n) (below (kind_number j) (i + 1) (omega (arith, e.1, here))) ∙ ap (λ (t : Bool). more t n) told)))
+  | inr e ↦ (ap (λ (t : Bool). more t (more (nat_le (kind_number j) i && is_some (first_in j warnings)) n)) e.0
+      ∙ ap (λ (t : Bool). more (t && is_some (first_in j warnings)) n) (sym (later (kind_number j) i (λ same. e.1 (same ∙ sym here)))))
+]
+
+pub until-same : (i : ℕ) (kind : Kind) (warnings : Warnings) (other : Code) → kind_number kind ≡ i + 1 → is_some (first_in kind warnings) ≡ false → until (i + 1) warnings other ≡ until i warnings other
+until-same i kind warnings (Code.Rule rule) here has = and-false (nat_le (number_of rule) (i + 1)) ∙ sym (and-false (nat_le (number_of rule) i))
+until-same i kind warnings (Code.Cause cause) here has = and-false (nat_le (cause_number cause) (i + 1)) ∙ sym (and-false (nat_le (cause_number cause) i))
+until-same i kind warnings Code.NotValid here has = and-false (nat_le 0 (i + 1)) ∙ sym (and-false (nat_le 0 i))
+until-same i kind warnings (Code.Kind j) here has = elim (eqb_tells (kind_number j) (kind_number kind)) [
+  | inl e ↦ (let is = one_kind j kind e.0 in
+      let none : is_some (first_in j warnings) ≡ false = ap (λ (k : Kind). is_some (first_in k warnings)) is ∙ has in
+      ap (λ (t : Bool). nat_le (kind_number j) (i + 1) && t) none ∙ (and-false (nat_le (kind_number j) (i + 1))
+      ∙ sym (ap (λ (t : Bool). nat_le (kind_number j) i && t) none ∙ and-false (nat_le (kind_number j) i))))
+  | inr e ↦ ap (λ (t : Bool). t && is_some (first_in j warnings)) (later (kind_number j) i (λ same. e.1 (same ∙ sym here)))
+]
+
+pub kinds-at : (i : ℕ) (d : Kind) → i < length kinds → kind_number (get_or kinds i d) ≡ i + 1
+kinds-at i d within =
+    let number : get_or (map kind_number kinds) i 0 ≡ 1 + i = get_or-range_with_len 1 (length kinds) i 0 within in
+    sym (get_or-map kind_number kinds i d 0 within) ∙ (number ∙ omega arith)
+
+pub Adds-kind : (old mid new : Summary) (i : ℕ) (kind : Kind) (warnings : Warnings) → kind_number kind ≡ i + 1 → is_some (first_in kind warnings) ≡ true
+    → Adds old mid false false false false false (until i warnings) → Adds mid new false false false false false (λ other. same other (Code.Kind kind)) → Adds old new false false false false false (until (i + 1) warnings)
+Adds-kind old mid new i kind warnings here has before adds = record {
+  valid_is = adds.valid_is ∙ before.valid_is;
+  warned_is = adds.warned_is ∙ before.warned_is;
+  broken_is = adds.broken_is ∙ before.broken_is;
+  refused_is = adds.refused_is ∙ before.refused_is;
+  not_valid_is = adds.not_valid_is ∙ before.not_valid_is;
+  unread_is = adds.unread_is ∙ before.unread_is;
+  codes_are = λ code small. adds.codes_are code small ∙ (ap (λ (n : ℕ). more (same code (Code.Kind kind)) n) (before.codes_are code small)
+      ∙ until-more i kind warnings code (get_or old.counts (slot_of code) 0) here has);
+}
+
+pub Adds-none : (old mid : Summary) (i : ℕ) (kind : Kind) (warnings : Warnings) → kind_number kind ≡ i + 1 → is_some (first_in kind warnings) ≡ false
+    → Adds old mid false false false false false (until i warnings) → Adds old mid false false false false false (until (i + 1) warnings)
+Adds-none old mid i kind warnings here has before = record {
+  valid_is = before.valid_is;
+  warned_is = before.warned_is;
+  broken_is = before.broken_is;
+  refused_is = before.refused_is;
+  not_valid_is = before.not_valid_is;
+  unread_is = before.unread_is;
+  codes_are = λ code small. before.codes_are code small ∙ ap (λ (t : Bool). more t (get_or old.counts (slot_of code) 0)) (sym (until-same i kind warnings code here has));
+}
+
+-- a file is of a kind, and then codes of it are told
+pub Adds-after : (old mid new : Summary) (valid warned broken refused : Bool) (told : Code → Bool) → mid.valid ≡ more valid old.valid → mid.warned ≡ more warned old.warned
+    → mid.broken ≡ more broken old.broken → mid.refused ≡ more refused old.refused → mid.not_valid ≡ old.not_valid → mid.unread ≡ old.unread → mid.counts ≡ old.counts
+    → Adds mid new false false false false false told → Adds old new valid warned broken refused false told
+Adds-after old mid new valid warned broken refused told v w b r n u c adds = record {
+  valid_is = adds.valid_is ∙ v;
+  warned_is = adds.warned_is ∙ w;
+  broken_is = adds.broken_is ∙ b;
+  refused_is = adds.refused_is ∙ r;
+  not_valid_is = adds.not_valid_is ∙ n;
+  unread_is = adds.unread_is ∙ u;
+  codes_are = λ code small. adds.codes_are code small ∙ ap (λ (counts : List ℕ). more (told code) (get_or counts (slot_of code) 0)) c;
+}
+
+pub no-cause : (code : Code) → ((cause : Cause) → code ≡ Code.Cause cause → ⊥) → is_cause code ≡ false
+no-cause (Code.Rule rule) none = refl
+no-cause (Code.Kind kind) none = refl
+no-cause (Code.Cause cause) none = absurd (none cause refl)
+no-cause Code.NotValid none = refl
+
+-- ---- one file more
+
+more-saturates : (b : Bool) (n : ℕ) → more b (u64_saturate n) ≡ u64_saturate (n + cond b 1 0)
+more-saturates true n = omega arith
+more-saturates false n = omega arith
+
+pub more-counted : {X : Type 0} (test : X → Bool) (xs : List X) (x : X) (b : Bool) (old new : ℕ) → test x ≡ b → old ≡ u64_saturate (count_by test xs) → new ≡ more b old
+    → new ≡ u64_saturate (count_by test (xs ++ x ∷ []))
+more-counted test xs x b old new is counted here =
+    here ∙ (ap (λ (n : ℕ). more b n) counted ∙ (more-saturates b (count_by test xs)
+    ∙ ap u64_saturate (ap (λ (t : Bool). count_by test xs + cond t 1 0) (sym is) ∙ sym (sum_by_push (λ (y : _). cond (test y) 1 0) xs x))))
+
+pub Counts-more : (old new : Summary) (files : List (Option Finding)) (file : Option Finding) (valid warned broken refused not_valid : Bool) (told : Code → Bool)
+    → Counts old files → Adds old new valid warned broken refused not_valid told → is_none file ≡ false
+    → is_valid file ≡ valid → is_warned file ≡ warned → is_broken file ≡ broken → is_refused file ≡ refused → is_not_valid file ≡ not_valid → ((code : Code) → tells code file ≡ told code)
+    → Counts new (files ++ file ∷ [])
+Counts-more old new files file valid warned broken refused not_valid told counts adds read v w b r n t = record {
+  valid = more-counted is_valid files file valid old.valid new.valid v counts.valid adds.valid_is;
+  warned = more-counted is_warned files file warned old.warned new.warned w counts.warned adds.warned_is;
+  broken = more-counted is_broken files file broken old.broken new.broken b counts.broken adds.broken_is;
+  refused = more-counted is_refused files file refused old.refused new.refused r counts.refused adds.refused_is;
+  not_valid = more-counted is_not_valid files file not_valid old.not_valid new.not_valid n counts.not_valid adds.not_valid_is;
+  unread = more-counted (λ (f : Option Finding). is_none f) files file false old.unread new.unread read counts.unread adds.unread_is;
+  codes = λ code small. more-counted (tells code) files file (told code) (get_or old.counts (slot_of code) 0) (get_or new.counts (slot_of code) 0) (t code) (counts.codes code small) (adds.codes_are code small);
+}
+
+or-false : (b : Bool) → (b || false) ≡ b
+or-false true = refl
+or-false false = refl
+
+-- a file that has a fault is not valid
+exclusive : (finding : Finding) (told : Told) → fault_of finding ≡ Some told → warnings_of finding ≡ None
+exclusive (Finding.Text (Valid warnings)) told is = cc
+exclusive (Finding.Text (Broken fault)) told is = refl
+exclusive (Finding.Text (NotJson fault)) told is = refl
+exclusive (Finding.Sequence (SeqVerdict.Valid records warnings)) told is = cc
+exclusive (Finding.Sequence (SeqVerdict.Record number verdict)) told is = refl
+exclusive Finding.NotValid told is = refl
+
+pub Counts-fault : (old new : Summary) (files : List (Option Finding)) (finding : Finding) (told : Told) → fault_of finding ≡ Some told → Counts old files
+    → Adds old new false false (not (is_cause told.code)) (is_cause told.code) false (λ other. same other told.code) → Counts new (files ++ Some finding ∷ [])
+Counts-fault old new files finding told is counts adds =
+    let none = exclusive finding told is in
+    Counts-more old new files (Some finding) false false (not (is_cause told.code)) (is_cause told.code) false (λ other. same other told.code) counts adds refl
+    (rw none refl) (rw none refl) (rw is refl) (rw is refl) (rw is refl) (λ code. rw (is, none) (or-false (same code told.code)))
+
+pub Counts-valid : (old new : Summary) (files : List (Option Finding)) (finding : Finding) (warnings : Warnings) → fault_of finding ≡ None → warnings_of finding ≡ Some warnings → Counts old files
+    → Adds old new (none_in warnings) (not (none_in warnings)) false false false (λ code. warns code warnings) → Counts new (files ++ Some finding ∷ [])
+Counts-valid old new files finding warnings none is counts adds =
+    Counts-more old new files (Some finding) (none_in warnings) (not (none_in warnings)) false false false (λ code. warns code warnings) counts adds refl
+    (rw is refl) (rw is refl) (rw none refl) (rw none refl) (rw (none, is) refl) (λ code. rw (none, is) refl)
+
+pub Counts-not_valid : (old new : Summary) (files : List (Option Finding)) (finding : Finding) → fault_of finding ≡ None → warnings_of finding ≡ None → Counts old files
+    → Adds old new false false false false true (λ code. false) → Counts new (files ++ Some finding ∷ [])
+Counts-not_valid old new files finding none is counts adds =
+    Counts-more old new files (Some finding) false false false false true (λ code. false) counts adds refl
+    (rw is refl) (rw is refl) (rw none refl) (rw none refl) (rw (none, is) refl) (λ code. rw (none, is) refl)
+
+pub Counts-unread : (old : Summary) (files : List (Option Finding)) (unread : ℕ) → unread ≡ more true old.unread → Counts old files
+    → Counts (record old { unread = unread }) (files ++ None ∷ [])
+Counts-unread old files unread is counts = record {
+  valid = more-counted is_valid files None false old.valid old.valid refl counts.valid refl;
+  warned = more-counted is_warned files None false old.warned old.warned refl counts.warned refl;
+  broken = more-counted is_broken files None false old.broken old.broken refl counts.broken refl;
+  refused = more-counted is_refused files None false old.refused old.refused refl counts.refused refl;
+  not_valid = more-counted is_not_valid files None false old.not_valid old.not_valid refl counts.not_valid refl;
+  unread = more-counted (λ (f : Option Finding). is_none f) files None true old.unread unread refl counts.unread is;
+  codes = λ code small. more-counted (tells code) files None false (get_or old.counts (slot_of code) 0) (get_or old.counts (slot_of code) 0) refl (counts.codes code small) refl;
+}

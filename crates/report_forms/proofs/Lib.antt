@@ -1,0 +1,6 @@
+mod JoinedElements
+mod FileCounts
+mod CommasBetween
+mod ShownNames
+mod DetailsInParentheses
+mod ResultsBetween

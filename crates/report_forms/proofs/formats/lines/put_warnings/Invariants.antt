@@ -1,0 +1,11 @@
+use Rattle.std.proofs.Common.{take, ◌++◌, ◌≡◌}
+use Rattle.std.specs.List.{flat_map}
+use Rattle.gj_coords.specs.Warnings.{kinds}
+use Rattle.report_forms.specs.Forms.Lines.{lines_kind}
+use Rattle.report_forms.proofs.formats.lines.put_warnings.Given as goal
+
+-- the lines of the kinds before this one are there
+abbrev pub invariant-loop-kind : goal.invariant-loop-kind
+invariant-loop-kind l = record {
+  done : l.line.items ≡ l.initial.line.items ++ flat_map (lines_kind l.style l.report l.warnings) (take l.kind-index kinds);
+}

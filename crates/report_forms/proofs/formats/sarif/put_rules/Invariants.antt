@@ -1,0 +1,13 @@
+use Rattle.std.proofs.Common.{take, ◌++◌, ◌≡◌}
+use Rattle.std.specs.List.{flat_map}
+use Rattle.gj_coords.specs.declared.fault.Rule.{Rule}
+use Rattle.geolint_report.specs.declared.texts.Code.{Code}
+use Rattle.report_forms.specs.Forms.Sarif.{rule_and_break}
+use Rattle.report_forms.specs.Summary.{rules}
+use Rattle.report_forms.proofs.formats.sarif.put_rules.Given as goal
+
+-- the rules before this one are there
+abbrev pub invariant-loop-rule : goal.invariant-loop-rule
+invariant-loop-rule l = record {
+  done : l.line.items ≡ l.initial.line.items ++ flat_map (λ (rule : Rule). rule_and_break (Code.Rule rule)) (take l.rule-index rules);
+}

@@ -1,0 +1,57 @@
+-- What is added for a file, by the form that is asked for.
+pub mod Messages
+pub mod Json
+pub mod Github
+pub mod Text
+pub mod Lines
+pub mod Sarif
+pub mod Features
+use Rattle.std.specs.Prelude.{◌≡◌, ℕ, Bool, ◌&&◌, List, [], ◌++◌, Vec}
+use Rattle.std.specs.declared.alloc.Global.{Global}
+use Rattle.gj_places.specs.Strings.{SpellsString}
+use Rattle.geolint_report.specs.declared.report.Report.{Report}
+use Rattle.geolint_report.specs.Finding.{fault_of}
+use Rattle.geolint_report.specs.Line.{Adds}
+use Rattle.report_forms.specs.declared.formats.lines.Style.{Style}
+use Rattle.report_forms.specs.declared.formats.sarif.Log.{Log}
+use Rattle.report_forms.specs.declared.options.Format.{Format}
+use Rattle.report_forms.specs.declared.options.Kinds.{Kinds}
+use Rattle.report_forms.specs.Forms.Github.{github_told, github_unread}
+use Rattle.report_forms.specs.Forms.Json.{IsJsonFound, json_line, json_unread}
+use Rattle.report_forms.specs.Forms.Lines.{AreLines, lines_found, lines_hint}
+use Rattle.report_forms.specs.Forms.Sarif.{next_results, next_unread, sarif_told}
+use Rattle.report_forms.specs.Forms.Text.{text_told}
+use Rattle.report_forms.specs.Internal.WrittenCommas.{is_none_yet}
+
+-- the report of a file that was judged; in a log the first result has no comma before it
+abbrev pub IsReport : Format → Style → Bool → Report → Bool → Kinds → List ℕ → Type 0
+IsReport Format.Text style is_first report strict allowed bytes = bytes ≡ text_told report
+IsReport Format.Lines style is_first report strict allowed bytes = (lines : List ℕ) × AreLines style report (fault_of report.finding) lines × (bytes ≡ lines ++ (lines_found report.found ++ lines_hint report.hint))
+IsReport Format.Json style is_first report strict allowed bytes = (name found : List ℕ) × SpellsString report.name.now name × IsJsonFound report.found found × (bytes ≡ json_line name found report)
+IsReport Format.Github style is_first report strict allowed bytes = bytes ≡ github_told report strict allowed
+IsReport Format.Sarif style is_first report strict allowed bytes = bytes ≡ next_results is_first (sarif_told report strict allowed)
+
+abbrev pub TellsReport : Format → Style → Bool → Report → Bool → Kinds → Vec ℕ Global → Vec ℕ Global → Type 0
+TellsReport format style is_first report strict allowed old new = (bytes : List ℕ) × IsReport format style is_first report strict allowed bytes × Adds old new bytes
+
+-- whether a log has no result yet, once that file is told
+abbrev pub first_after : Format → Bool → Report → Bool → Kinds → Bool
+first_after Format.Sarif is_first report strict allowed = is_first && is_none_yet (sarif_told report strict allowed)
+first_after format is_first report strict allowed = is_first
+
+-- the report of one that could not be opened or read: for people nothing, who read it on standard error; a log tells it at its end
+abbrev pub IsUnreadReport : Format → List ℕ → List ℕ → List ℕ → Type 0
+IsUnreadReport Format.Json name reason bytes = (file why : List ℕ) × SpellsString name file × SpellsString reason why × (bytes ≡ json_unread file why)
+IsUnreadReport Format.Github name reason bytes = bytes ≡ github_unread name reason
+IsUnreadReport format name reason bytes = bytes ≡ []
+
+abbrev pub TellsUnread : Format → List ℕ → List ℕ → Vec ℕ Global → Vec ℕ Global → Type 0
+TellsUnread format name reason old new = (bytes : List ℕ) × IsUnreadReport format name reason bytes × Adds old new bytes
+
+-- and what a log keeps of one, for its end
+abbrev pub KeepsUnread : Format → List ℕ → List ℕ → List ℕ → List ℕ → Type 0
+KeepsUnread Format.Sarif name reason old new = (why : List ℕ) × SpellsString reason why × (new ≡ old ++ next_unread old name why)
+KeepsUnread format name reason old new = new ≡ old
+
+abbrev pub KeepsInLog : Format → List ℕ → List ℕ → Log → Log → Type 0
+KeepsInLog format name reason old new = (new.is_first ≡ old.is_first) × KeepsUnread format name reason old.unread.items new.unread.items

@@ -1,0 +1,76 @@
+-- The form `github`: commands of GitHub, which shows them at the line.
+use Rattle.std.specs.Prelude.{ℕ, Bool, List, [], ◌∷◌, ◌++◌, Option, Some, None, codes, if◌then◌else◌, nat_eq}
+use Rattle.std.specs.Fmt.{decimal}
+use Rattle.std.specs.List.{flat_map}
+use Rattle.gj_coords.specs.declared.kind.Kind.{Kind}
+use Rattle.gj_coords.specs.declared.warnings.Warnings.{Warnings}
+use Rattle.gj_coords.specs.Warnings.{kinds}
+use Rattle.geolint_report.specs.declared.report.Report.{Report}
+use Rattle.geolint_report.specs.declared.report.Told.{Told}
+use Rattle.geolint_report.specs.declared.sites.Spot.{Spot}
+use Rattle.geolint_report.specs.declared.texts.Code.{Code}
+use Rattle.geolint_report.specs.Finding.{record_of, fault_of, warnings_of}
+use Rattle.geolint_report.specs.Report.{warning_of, of_warning, spot_of, path_of}
+use Rattle.geolint_report.specs.Texts.{code_name, code_text}
+use Rattle.report_forms.specs.declared.options.Kinds.{Kinds}
+use Rattle.report_forms.specs.Forms.Messages.{and_record, and_times, and_path, level_of}
+use Rattle.report_forms.specs.Names.{shown_name}
+use Rattle.report_forms.specs.Passing.{fails}
+
+-- what stands for a byte in a message, and in the value of a property
+abbrev pub escaped_in_message : ℕ → List ℕ
+escaped_in_message byte = if nat_eq byte 37 then codes "%25" else if nat_eq byte 13 then codes "%0D" else if nat_eq byte 10 then codes "%0A" else byte ∷ []
+
+abbrev pub escaped_in_property : ℕ → List ℕ
+escaped_in_property byte = if nat_eq byte 58 then codes "%3A" else if nat_eq byte 44 then codes "%2C" else escaped_in_message byte
+
+-- the level and the file, as its name is shown
+unfoldable pub github_file : List ℕ → List ℕ → List ℕ
+github_file level name = codes "::" ++ (level ++ (codes " file=" ++ flat_map escaped_in_property (shown_name name)))
+
+abbrev pub github_spot : Option Spot → List ℕ
+github_spot (Some spot) = codes ",line=" ++ (decimal spot.line ++ (codes ",col=" ++ decimal spot.column))
+github_spot None = []
+
+-- what comes before the text
+abbrev pub github_mark : Code → List ℕ
+github_mark (Code.Cause cause) = codes "::not JSON: "
+github_mark code = codes "::"
+
+unfoldable pub github_message : Report → Told → ℕ → List ℕ
+github_message report told count =
+    github_mark told.code
+    ++ (code_text told.code
+    ++ (and_record (record_of report.finding)
+    ++ (and_times count ++ (codes ", at byte " ++ (decimal told.place ++ (and_path (path_of report told) ++ codes "\n"))))))
+
+-- the command for what is told at a place, so often
+unfoldable pub github_command : Report → List ℕ → Told → ℕ → List ℕ
+github_command report level told count =
+    github_file level report.name.now
+    ++ (github_spot (spot_of report told.place) ++ (codes ",title=" ++ (code_name told.code ++ github_message report told count)))
+
+abbrev pub github_warning : Report → Bool → Kinds → Warnings → Kind → List ℕ
+github_warning report strict allowed warnings kind = of_warning (github_command report (level_of (fails strict allowed kind))) (warning_of kind warnings)
+
+unfoldable pub github_warnings : Report → Bool → Kinds → Warnings → List ℕ
+github_warnings report strict allowed warnings = flat_map (github_warning report strict allowed warnings) kinds
+
+unfoldable pub github_not_valid : List ℕ → List ℕ
+github_not_valid name = github_file (codes "error") name ++ codes "::not valid\n"
+
+abbrev pub github_rest : Report → Bool → Kinds → Option Warnings → List ℕ
+github_rest report strict allowed (Some warnings) = github_warnings report strict allowed warnings
+github_rest report strict allowed None = github_not_valid report.name.now
+
+abbrev pub github_of : Report → Bool → Kinds → Option Told → List ℕ
+github_of report strict allowed (Some told) = github_command report (codes "error") told 1
+github_of report strict allowed None = github_rest report strict allowed (warnings_of report.finding)
+
+-- the commands of a file: that of its fault, or one for each kind of warning
+abbrev pub github_told : Report → Bool → Kinds → List ℕ
+github_told report strict allowed = github_of report strict allowed (fault_of report.finding)
+
+-- the command of a file that could not be opened or read
+unfoldable pub github_unread : List ℕ → List ℕ → List ℕ
+github_unread name reason = github_file (codes "error") name ++ (codes "::" ++ (flat_map escaped_in_message reason ++ codes "\n"))

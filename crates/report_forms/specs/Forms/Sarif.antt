@@ -1,0 +1,194 @@
+-- The form `sarif`: a log in SARIF 2.1.0.
+use Rattle.std.specs.Prelude.{◌/◌, ◌%◌, ℕ, Bool, true, false, ◌||◌, List, [], ◌∷◌, ◌++◌, Option, Some, None, codes, get_or, if◌then◌else◌, nat_eq}
+use Rattle.std.specs.Char.{is_ascii_alphanumeric}
+use Rattle.std.specs.Fmt.{decimal}
+use Rattle.std.specs.List.{flat_map, list_any}
+use Rattle.gj_coords.specs.declared.fault.Rule.{Rule}
+use Rattle.gj_coords.specs.declared.kind.Kind.{Kind}
+use Rattle.gj_coords.specs.declared.warnings.Warnings.{Warnings}
+use Rattle.gj_coords.specs.Warnings.{kinds}
+use Rattle.gj_json.specs.declared.fault.Cause.{Cause}
+use Rattle.gj_json.specs.declared.path.Path.{Path}
+use Rattle.gj_json.specs.declared.path.PathStep.{PathStep}
+use Rattle.gj_json.specs.Path.{steps_of}
+use Rattle.geolint_report.specs.declared.report.Report.{Report}
+use Rattle.geolint_report.specs.declared.report.Told.{Told}
+use Rattle.geolint_report.specs.declared.sites.Spot.{Spot}
+use Rattle.geolint_report.specs.declared.texts.Code.{Code}
+use Rattle.geolint_report.specs.Finding.{record_of, fault_of, warnings_of}
+use Rattle.geolint_report.specs.Line.{truth}
+use Rattle.geolint_report.specs.Report.{warning_of, spot_of, path_of}
+use Rattle.geolint_report.specs.Texts.{code_name, code_text}
+use Rattle.report_forms.specs.declared.options.Kinds.{Kinds}
+use Rattle.report_forms.specs.Forms.Messages.{and_record, and_times, level_of, path_text}
+use Rattle.report_forms.specs.Names.{digit_in}
+use Rattle.report_forms.specs.Passing.{fails}
+use Rattle.report_forms.specs.Summary.{rules, causes}
+
+-- ---- a reference to a file
+
+-- what stands in a reference for itself; any other byte by its number (RFC 3986, sections 2.1 and 2.3)
+abbrev pub is_plain_in_uri : ℕ → Bool
+is_plain_in_uri byte = is_ascii_alphanumeric byte || list_any (λ other. nat_eq other byte) (codes "/-._~")
+
+unfoldable pub percent_of : ℕ → List ℕ
+percent_of byte = codes "%" ++ (digit_in (codes "0123456789ABCDEF") (byte / 16) ∷ digit_in (codes "0123456789ABCDEF") (byte % 16) ∷ [])
+
+abbrev pub in_uri : ℕ → List ℕ
+in_uri byte = if is_plain_in_uri byte then byte ∷ [] else percent_of byte
+
+-- an absolute name begins with a slash
+abbrev pub scheme_of : List ℕ → List ℕ
+scheme_of name = if nat_eq (get_or name 0 0) 47 then codes "\"file://" else codes "\""
+
+unfoldable pub uri_of : List ℕ → List ℕ
+uri_of name = scheme_of name ++ (flat_map in_uri name ++ codes "\"")
+
+-- ---- a result
+
+abbrev pub id_of : Code → List ℕ
+id_of Code.NotValid = codes "not-valid"
+id_of code = code_name code
+
+unfoldable pub sarif_message : Report → Told → ℕ → List ℕ
+sarif_message report told count = code_text told.code ++ (and_record (record_of report.finding) ++ and_times count)
+
+-- where a file is, in what follows a message
+unfoldable pub location : List ℕ → List ℕ
+location name = codes ",\"locations\":[{\"physicalLocation\":{\"artifactLocation\":{\"uri\":" ++ (uri_of name ++ codes "}")
+
+unfoldable pub region_start : Spot → List ℕ
+region_start spot = codes "\"startLine\":" ++ (decimal spot.line ++ (codes ",\"startColumn\":" ++ (decimal spot.column ++ codes ",")))
+
+abbrev pub region_start_of : Option Spot → List ℕ
+region_start_of (Some spot) = region_start spot
+region_start_of None = []
+
+unfoldable pub region : Report → ℕ → List ℕ
+region report place =
+    codes ",\"region\":{" ++ (region_start_of (spot_of report place) ++ (codes "\"byteOffset\":" ++ (decimal place ++ codes ",\"byteLength\":0}")))
+
+-- none where no place is told
+abbrev pub region_if : Code → List ℕ → List ℕ
+region_if Code.NotValid bytes = []
+region_if code bytes = bytes
+
+unfoldable pub logical_location : List PathStep → List ℕ
+logical_location steps = codes ",\"logicalLocations\":[{\"fullyQualifiedName\":\"" ++ (path_text steps ++ codes "\"}]")
+
+abbrev pub logical_location_of : Option Path → List ℕ
+logical_location_of (Some path) = logical_location (steps_of path)
+logical_location_of None = []
+
+-- what is told at a place, so often
+unfoldable pub sarif_result : Report → List ℕ → Told → ℕ → List ℕ
+sarif_result report level told count =
+    codes "{\"ruleId\":\""
+    ++ (id_of told.code
+    ++ (codes "\",\"level\":\""
+    ++ (level
+    ++ (codes "\",\"message\":{\"text\":\""
+    ++ (sarif_message report told count
+    ++ (codes "\"}"
+    ++ (location report.name.now
+    ++ (region_if told.code (region report told.place) ++ (codes "}" ++ (logical_location_of (path_of report told) ++ codes "}]}"))))))))))
+
+abbrev pub not_valid : Told
+not_valid = record { code = Code.NotValid; place = 0 }
+
+-- one, or none where there is no warning of the kind
+abbrev pub sarif_results : Report → List ℕ → Option (Told × ℕ) → List (List ℕ)
+sarif_results report level (Some warning) = sarif_result report level warning.0 warning.1 ∷ []
+sarif_results report level None = []
+
+abbrev pub sarif_kind : Report → Bool → Kinds → Warnings → Kind → List (List ℕ)
+sarif_kind report strict allowed warnings kind = sarif_results report (level_of (fails strict allowed kind)) (warning_of kind warnings)
+
+unfoldable pub sarif_warnings : Report → Bool → Kinds → Warnings → List (List ℕ)
+sarif_warnings report strict allowed warnings = flat_map (sarif_kind report strict allowed warnings) kinds
+
+abbrev pub sarif_rest : Report → Bool → Kinds → Option Warnings → List (List ℕ)
+sarif_rest report strict allowed (Some warnings) = sarif_warnings report strict allowed warnings
+sarif_rest report strict allowed None = sarif_result report (codes "error") not_valid 1 ∷ []
+
+abbrev pub sarif_found : Report → Bool → Kinds → Option Told → List (List ℕ)
+sarif_found report strict allowed (Some told) = sarif_result report (codes "error") told 1 ∷ []
+sarif_found report strict allowed None = sarif_rest report strict allowed (warnings_of report.finding)
+
+-- the results of a file
+abbrev pub sarif_told : Report → Bool → Kinds → List (List ℕ)
+sarif_told report strict allowed = sarif_found report strict allowed (fault_of report.finding)
+
+-- ---- what stands between two
+
+abbrev pub break_unless : Bool → List ℕ
+break_unless true = []
+break_unless false = codes ",\n"
+
+abbrev pub behind_breaks : List (List ℕ) → List ℕ
+behind_breaks items = flat_map (λ item. codes ",\n" ++ item) items
+
+-- the first of all has no comma before it
+abbrev pub next_results : Bool → List (List ℕ) → List ℕ
+next_results is_first [] = []
+next_results is_first (first ∷ more) = break_unless is_first ++ (first ++ behind_breaks more)
+
+-- ---- a file that could not be opened or read
+
+unfoldable pub sarif_unread : List ℕ → List ℕ → List ℕ
+sarif_unread name reason = codes "{\"level\":\"error\",\"message\":{\"text\":" ++ (reason ++ (codes "}" ++ (location name ++ codes "}}]}")))
+
+abbrev pub is_nothing : List ℕ → Bool
+is_nothing [] = true
+is_nothing (byte ∷ more) = false
+
+-- behind those before it
+abbrev pub next_unread : List ℕ → List ℕ → List ℕ → List ℕ
+next_unread before name reason = break_unless (is_nothing before) ++ sarif_unread name reason
+
+-- ---- what comes before the results, and behind them
+
+unfoldable pub name_and_text : Code → List ℕ
+name_and_text code = code_name code ++ (codes ": " ++ code_text code)
+
+unfoldable pub explained : Code → List ℕ
+explained code = name_and_text code ++ (codes " (geolint-files --explain " ++ (code_name code ++ codes ")"))
+
+-- the section of docs/rules.md
+abbrev pub section_of : Code → List ℕ
+section_of Code.NotValid = codes "what geolint says"
+section_of code = explained code
+
+unfoldable pub sarif_rule : Code → List ℕ → List ℕ
+sarif_rule code level =
+    codes "{\"id\":\""
+    ++ (id_of code
+    ++ (codes "\",\"shortDescription\":{\"text\":\""
+    ++ (code_text code
+    ++ (codes "\"},\"help\":{\"text\":\"docs/rules.md, " ++ (section_of code ++ (codes "\"},\"defaultConfiguration\":{\"level\":\"" ++ (level ++ codes "\"}}")))))))
+
+abbrev pub rule_and_break : Code → List ℕ
+rule_and_break code = sarif_rule code (codes "error") ++ codes ",\n"
+
+abbrev pub break_and_warning : Code → List ℕ
+break_and_warning code = codes ",\n" ++ sarif_rule code (codes "warning")
+
+unfoldable pub sarif_rules : List ℕ
+sarif_rules = flat_map (λ (rule : Rule). rule_and_break (Code.Rule rule)) rules
+
+unfoldable pub sarif_causes : List ℕ
+sarif_causes = flat_map (λ (cause : Cause). rule_and_break (Code.Cause cause)) causes
+
+unfoldable pub sarif_kinds : List ℕ
+sarif_kinds = flat_map (λ (kind : Kind). break_and_warning (Code.Kind kind)) kinds
+
+-- what comes before the first result: the program and its rules
+unfoldable pub sarif_begin : List ℕ
+sarif_begin =
+    codes "{\"$schema\":\"https://json.schemastore.org/sarif-2.1.0.json\",\"version\":\"2.1.0\",\"runs\":[{\"columnKind\":\"unicodeCodePoints\",\"tool\":{\"driver\":{\"name\":\"geolint-files\",\"version\":\"0.1.0\",\"rules\":[\n"
+    ++ (sarif_rules ++ (sarif_causes ++ (sarif_rule Code.NotValid (codes "error") ++ (sarif_kinds ++ codes "]}},\"results\":[\n"))))
+
+-- what comes behind the last: whether each file was read, and those that were not
+unfoldable pub sarif_end : List ℕ → List ℕ
+sarif_end unread =
+    codes "],\"invocations\":[{\"executionSuccessful\":" ++ (truth (is_nothing unread) ++ (codes ",\"toolExecutionNotifications\":[" ++ (unread ++ codes "]}]}]}\n")))

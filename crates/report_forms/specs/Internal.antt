@@ -1,0 +1,4 @@
+-- What the proofs and the private functions of this crate need.
+pub mod AddedFiles
+pub mod WrittenCommas
+pub mod WrittenDetails

@@ -1,0 +1,22 @@
+-- What one file more adds to a summary.
+use Rattle.std.specs.Prelude.{◌≡◌, ◌<◌, ◌+◌, ℕ, Bool, true, false, get_or}
+use Rattle.std.specs.Io.Iter.{u64_saturate}
+use Rattle.geolint_report.specs.declared.texts.Code.{Code}
+use Rattle.report_forms.specs.declared.summary.Summary.{Summary}
+use Rattle.report_forms.specs.declared.summary.TheConstants.{CODES}
+use Rattle.report_forms.specs.FileCounts.{slot_of}
+
+-- a count after one file more
+abbrev pub more : Bool → ℕ → ℕ
+more true count = u64_saturate (count + 1)
+more false count = count
+
+-- one file more of these kinds, of which these codes are told
+pub record Adds (old new : Summary) (valid warned broken refused not_valid : Bool) (told : Code → Bool) : Type 0 where
+  pub valid_is : new.valid ≡ more valid old.valid
+  pub warned_is : new.warned ≡ more warned old.warned
+  pub broken_is : new.broken ≡ more broken old.broken
+  pub refused_is : new.refused ≡ more refused old.refused
+  pub not_valid_is : new.not_valid ≡ more not_valid old.not_valid
+  pub unread_is : new.unread ≡ old.unread
+  pub codes_are : (code : Code) → slot_of code < CODES → get_or new.counts (slot_of code) 0 ≡ more (told code) (get_or old.counts (slot_of code) 0)

@@ -1,0 +1,9 @@
+//! What is told of each feature or record of a file, behind the report of the file.
+
+pub mod entry;
+pub mod forms;
+pub mod github;
+pub mod json;
+pub mod lines;
+pub mod sarif;
+pub mod text;

@@ -1,0 +1,108 @@
+//! The form `github`: a command for each finding.
+ghost use Rattle.std.specs.Prelude.{OnOk};
+ghost use Rattle.std.specs.List.{flat_map};
+ghost use Rattle.geolint_report.specs.Line.{Adds};
+ghost use Rattle.report_forms.specs.Forms.Features.{github_entry, github_text, github_id, github_some_id, github_more, level_in, spot_at};
+ghost use Rattle.report_forms.specs.Forms.Github.{github_spot, escaped_in_message};
+ghost use Rattle.report_forms.specs.Names.{shown_name};
+
+use crate::every::entry::{Entry, note_fails, spot_at};
+use crate::every::forms::{put_and_byte, put_and_more, put_item, put_path_at};
+use crate::formats::github::{put_file, put_in_message, put_spot};
+use crate::formats::{level, put_name};
+use crate::options::Options;
+use geolint_report::every::cursor::Mark;
+use geolint_report::line::put;
+use std::alloc::{AllocError, Global};
+
+/// Puts the command of a feature or a record.
+pub fn put_entry(
+    alloc: Global,
+    entry: &Entry<'_>,
+    options: &Options,
+    line: &mut Vec<u8>,
+) -> Result<(), AllocError>
+    ensures { OnOk result (Adds line.old line.new (github_entry (level_in options.now.strict options.now.allowed entry.now) entry.now)) }
+{
+    put_command(
+        alloc,
+        level(note_fails(entry.note.told.code, options)),
+        entry,
+        line,
+    )
+}
+
+fn put_command(
+    alloc: Global,
+    level: &[u8],
+    entry: &Entry<'_>,
+    line: &mut Vec<u8>,
+) -> Result<(), AllocError>
+    ensures { OnOk result (Adds line.old line.new (github_entry level.now entry.now)) }
+{
+    put_file(alloc, level, entry.name, line)?;
+    put_spot_at(entry.mark, line)?;
+    put(line, b",title=")?;
+    entry.note.told.code.put_name(line)?;
+    put_message(alloc, entry, line)
+}
+
+fn put_spot_at(mark: Option<Mark>, line: &mut Vec<u8>) -> Result<(), AllocError>
+    ensures { OnOk result (Adds line.old line.new (github_spot (spot_at mark))) }
+{
+    put_spot(spot_at(mark), line)
+}
+
+fn put_message(alloc: Global, entry: &Entry<'_>, line: &mut Vec<u8>) -> Result<(), AllocError>
+    ensures { OnOk result (Adds line.old line.new (github_text entry.now)) }
+{
+    put(line, b"::")?;
+    entry.note.told.code.put_text(line)?;
+    put(line, b", ")?;
+    put_item(entry.note.item, line)?;
+    put_id(alloc, entry.id, line)?;
+    put_and_byte(entry.note.told.place, line)?;
+    put_path_at(entry.mark, line)?;
+    put(line, b"\n")
+}
+
+fn put_id(alloc: Global, id: &[u8], line: &mut Vec<u8>) -> Result<(), AllocError>
+    ensures { OnOk result (Adds line.old line.new (github_id id.now)) }
+{
+    if id.is_empty() {
+        Ok(())
+    } else {
+        put_some_id(alloc, id, line)
+    }
+}
+
+#[tactic(auto, unfolding(crate::specs::Forms::Features::github_some_id))]
+fn put_some_id(alloc: Global, id: &[u8], line: &mut Vec<u8>) -> Result<(), AllocError>
+    ensures { OnOk result (Adds line.old line.new (github_some_id id.now)) }
+{
+    put(line, b", id ")?;
+    put_shown(alloc, id, line)
+}
+
+fn put_shown(alloc: Global, id: &[u8], line: &mut Vec<u8>) -> Result<(), AllocError>
+    ensures { OnOk result (Adds line.old line.new (flat_map escaped_in_message (shown_name id.now))) }
+{
+    let mut shown = Vec::new(alloc);
+    put_name(id, &mut shown)?;
+    put_in_message(shown.as_slice(), line)
+}
+
+/// Puts the command on what is not told.
+pub fn put_more(
+    alloc: Global,
+    name: &[u8],
+    count: u64,
+    line: &mut Vec<u8>,
+) -> Result<(), AllocError>
+    ensures { OnOk result (Adds line.old line.new (github_more name.now count)) }
+{
+    put_file(alloc, b"notice", name, line)?;
+    put(line, b"::")?;
+    put_and_more(count, line)?;
+    put(line, b"\n")
+}

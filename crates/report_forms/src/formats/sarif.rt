@@ -1,0 +1,487 @@
+//! A log in SARIF 2.1.0, written file by file.
+ghost use Rattle.std.specs.Prelude.{◌≡◌, ◌++◌, OnOk};
+ghost use Rattle.std.specs.List.{flat_map};
+ghost use Rattle.gj_json.specs.Path.{steps_of};
+ghost use Rattle.geolint_report.specs.Finding.{record_of};
+ghost use Rattle.geolint_report.specs.Line.{Adds};
+ghost use Rattle.geolint_report.specs.Report.{spot_of};
+ghost use Rattle.report_forms.specs.Forms.Messages.{and_record};
+ghost use Rattle.report_forms.specs.Forms.Sarif.{is_plain_in_uri, percent_of, in_uri, scheme_of, uri_of, id_of, sarif_message, location, region_start, region_start_of, region, region_if, logical_location, logical_location_of, sarif_result, break_unless, sarif_unread, name_and_text, explained, section_of, sarif_rule, rule_and_break, break_and_warning, sarif_rules, sarif_causes, sarif_kinds};
+
+use crate::formats::{digit_in, level, put_and_record, put_and_times, put_path};
+use crate::options::Options;
+use geolint_report::line::{put, put_all, put_number, put_truth};
+use geolint_report::report::{Report, Told, warning};
+use geolint_report::sites::Spot;
+use geolint_report::texts::{CAUSES, Code, RULES};
+use gj_coords::{KINDS, Kind, Warnings};
+use gj_json::Path;
+use gj_places::json_string;
+use std::alloc::{AllocError, Global};
+
+/// What has been written of a log.
+#[derive(Drop)]
+pub struct Log {
+    /// No result has been written.
+    is_first: bool,
+    /// The notifications of files that could not be read.
+    unread: Vec<u8>,
+}
+
+impl Log {
+    ghost use Rattle.std.specs.Prelude.{◌≡◌, ◌&&◌, ◌++◌, ◌∷◌, [], ℕ, List, OnOk, true, false};
+    ghost use Rattle.gj_places.specs.Strings.{SpellsString};
+    ghost use Rattle.geolint_report.specs.Finding.{warnings_of};
+    ghost use Rattle.geolint_report.specs.Line.{Adds};
+    ghost use Rattle.report_forms.specs.Forms.Sarif.{sarif_result, break_unless, sarif_kind, sarif_warnings, sarif_rest, sarif_told, next_results, next_unread, sarif_begin, sarif_end, is_nothing};
+    ghost use Rattle.report_forms.specs.Internal.WrittenCommas.{is_none_yet};
+
+    pub fn new(alloc: Global) -> Log
+        ensures { (result.is_first ≡ true) × (result.unread.items ≡ []) }
+    {
+        Log {
+            is_first: true,
+            unread: Vec::new(alloc),
+        }
+    }
+
+    /// Puts what comes before the first result: the program and its rules.
+    pub fn begin(&self, line: &mut Vec<u8>) -> Result<(), AllocError>
+        ensures { OnOk result (Adds line.old line.new sarif_begin) }
+    {
+        put(
+            line,
+            b"{\"$schema\":\"https://json.schemastore.org/sarif-2.1.0.json\",\"version\":\"2.1.0\",\"runs\":[{\"columnKind\":\"unicodeCodePoints\",\"tool\":{\"driver\":{\"name\":\"geolint-files\",\"version\":\"0.1.0\",\"rules\":[\n",
+        )?;
+        put_rules(line)?;
+        put_causes(line)?;
+        put_rule(Code::NotValid, b"error", line)?;
+        put_kinds(line)?;
+        put(line, b"]}},\"results\":[\n")
+    }
+
+    /// Puts the results of a file: none for one that is valid without a warning.
+    pub fn put_report(
+        &mut self,
+        report: &Report<'_>,
+        options: &Options,
+        line: &mut Vec<u8>,
+    ) -> Result<(), AllocError>
+        ensures bytes { OnOk result (Adds line.old line.new (next_results self.old.is_first (sarif_told report.now options.now.strict options.now.allowed))) }
+        ensures first { OnOk result (self.new.is_first ≡ (self.old.is_first && is_none_yet (sarif_told report.now options.now.strict options.now.allowed))) }
+        ensures unread { self.new.unread ≡ self.old.unread }
+    {
+        match report.finding.fault() {
+            Some(told) => self.put_result(b"error", report, &told, 1, line),
+            None => self.put_rest(report, options, line),
+        }
+    }
+
+    /// The results where there is no fault to tell.
+    fn put_rest(
+        &mut self,
+        report: &Report<'_>,
+        options: &Options,
+        line: &mut Vec<u8>,
+    ) -> Result<(), AllocError>
+        ensures bytes { OnOk result (Adds line.old line.new (next_results self.old.is_first (sarif_rest report.now options.now.strict options.now.allowed (warnings_of report.now.finding)))) }
+        ensures first { OnOk result (self.new.is_first ≡ (self.old.is_first && is_none_yet (sarif_rest report.now options.now.strict options.now.allowed (warnings_of report.now.finding)))) }
+        ensures unread { self.new.unread ≡ self.old.unread }
+    {
+        match report.finding.warnings() {
+            Some(warnings) => self.put_warnings(report, options, &warnings, line),
+            None => {
+                let told = Told {
+                    code: Code::NotValid,
+                    place: 0,
+                };
+                self.put_result(b"error", report, &told, 1, line)
+            }
+        }
+    }
+
+    fn put_warnings(
+        &mut self,
+        report: &Report<'_>,
+        options: &Options,
+        warnings: &Warnings,
+        line: &mut Vec<u8>,
+    ) -> Result<(), AllocError>
+        ensures bytes { OnOk result (Adds line.old line.new (next_results self.old.is_first (sarif_warnings report.now options.now.strict options.now.allowed warnings.now))) }
+        ensures first { OnOk result (self.new.is_first ≡ (self.old.is_first && is_none_yet (sarif_warnings report.now options.now.strict options.now.allowed warnings.now))) }
+        ensures unread { self.new.unread ≡ self.old.unread }
+    {
+        for kind in &KINDS {
+            self.put_kind(report, options, warnings, *kind, line)?;
+        }
+        Ok(())
+    }
+
+    /// The result of a kind of warning, where there is one.
+    fn put_kind(
+        &mut self,
+        report: &Report<'_>,
+        options: &Options,
+        warnings: &Warnings,
+        kind: Kind,
+        line: &mut Vec<u8>,
+    ) -> Result<(), AllocError>
+        ensures bytes { OnOk result (Adds line.old line.new (next_results self.old.is_first (sarif_kind report.now options.now.strict options.now.allowed warnings.now kind))) }
+        ensures first { OnOk result (self.new.is_first ≡ (self.old.is_first && is_none_yet (sarif_kind report.now options.now.strict options.now.allowed warnings.now kind))) }
+        ensures unread { self.new.unread ≡ self.old.unread }
+    {
+        match warning(kind, warnings) {
+            Some((told, count)) => {
+                self.put_result(level(options.fails(kind)), report, &told, count, line)
+            }
+            None => Ok(()),
+        }
+    }
+
+    fn put_result(
+        &mut self,
+        level: &[u8],
+        report: &Report<'_>,
+        told: &Told,
+        count: u32,
+        line: &mut Vec<u8>,
+    ) -> Result<(), AllocError>
+        ensures bytes { OnOk result (Adds line.old line.new (next_results self.old.is_first (sarif_result report.now level.now told.now count ∷ []))) }
+        ensures first { OnOk result (self.new.is_first ≡ (self.old.is_first && is_none_yet (sarif_result report.now level.now told.now count ∷ []))) }
+        ensures unread { self.new.unread ≡ self.old.unread }
+    {
+        self.begin_result(line)?;
+        put_one(level, report, told, count, line)
+    }
+
+    /// Puts what comes before a result.
+    pub fn begin_result(&mut self, line: &mut Vec<u8>) -> Result<(), AllocError>
+        ensures bytes { OnOk result (Adds line.old line.new (break_unless self.old.is_first)) }
+        ensures first { self.new.is_first ≡ false }
+        ensures unread { self.new.unread ≡ self.old.unread }
+    {
+        let is_first = self.is_first;
+        self.is_first = false;
+        put_break_unless(is_first, line)
+    }
+
+    /// Keeps that a file could not be opened or read.
+    pub fn keep_unread(
+        &mut self,
+        alloc: Global,
+        name: &[u8],
+        reason: &str,
+    ) -> Result<(), AllocError>
+        ensures kept { OnOk result ((why : List ℕ) × SpellsString reason.now why × Adds self.old.unread self.new.unread (next_unread self.old.unread.items name.now why)) }
+        ensures first { self.new.is_first ≡ self.old.is_first }
+    {
+        let why = json_string(alloc, reason.as_bytes())?;
+        let is_first = self.unread.is_empty();
+        put_next_unread(is_first, name, why.as_bytes(), &mut self.unread)
+    }
+
+    /// Whether each file could be opened and read.
+    fn has_read_all(&self) -> bool
+        ensures { result ≡ is_nothing self.now.unread.items }
+    {
+        self.unread.is_empty()
+    }
+
+    /// Puts what comes behind the last result.
+    pub fn end(&self, line: &mut Vec<u8>) -> Result<(), AllocError>
+        ensures { OnOk result (Adds line.old line.new (sarif_end self.now.unread.items)) }
+    {
+        put(line, b"],\"invocations\":[{\"executionSuccessful\":")?;
+        put_truth(line, self.has_read_all())?;
+        put(line, b",\"toolExecutionNotifications\":[")?;
+        put(line, self.unread.as_slice())?;
+        put(line, b"]}]}]}\n")
+    }
+}
+
+/// The comma between two.
+fn put_break_unless(is_first: bool, line: &mut Vec<u8>) -> Result<(), AllocError>
+    ensures { OnOk result (Adds line.old line.new (break_unless is_first)) }
+{
+    if is_first { Ok(()) } else { put(line, b",\n") }
+}
+
+fn put_next_unread(
+    is_first: bool,
+    name: &[u8],
+    reason: &[u8],
+    line: &mut Vec<u8>,
+) -> Result<(), AllocError>
+    ensures { OnOk result (Adds line.old line.new (break_unless is_first ++ sarif_unread name.now reason.now)) }
+{
+    put_break_unless(is_first, line)?;
+    put_unread(name, reason, line)
+}
+
+/// The notification of a file that could not be read; the reason is spelled as a JSON string.
+fn put_unread(name: &[u8], reason: &[u8], line: &mut Vec<u8>) -> Result<(), AllocError>
+    ensures { OnOk result (Adds line.old line.new (sarif_unread name.now reason.now)) }
+{
+    put(line, b"{\"level\":\"error\",\"message\":{\"text\":")?;
+    put(line, reason)?;
+    put(line, b"}")?;
+    put_location(name, line)?;
+    put(line, b"}}]}")
+}
+
+fn put_one(
+    level: &[u8],
+    report: &Report<'_>,
+    told: &Told,
+    count: u32,
+    line: &mut Vec<u8>,
+) -> Result<(), AllocError>
+    ensures { OnOk result (Adds line.old line.new (sarif_result report.now level.now told.now count)) }
+{
+    put(line, b"{\"ruleId\":\"")?;
+    put_id(told.code, line)?;
+    put(line, b"\",\"level\":\"")?;
+    put(line, level)?;
+    put(line, b"\",\"message\":{\"text\":\"")?;
+    put_message(report, told, count, line)?;
+    put(line, b"\"}")?;
+    put_location(report.name, line)?;
+    put_region_if(report, told, line)?;
+    put(line, b"}")?;
+    put_logical_location_of(report.path(told), line)?;
+    put(line, b"}]}")
+}
+
+fn put_message(
+    report: &Report<'_>,
+    told: &Told,
+    count: u32,
+    line: &mut Vec<u8>,
+) -> Result<(), AllocError>
+    ensures { OnOk result (Adds line.old line.new (sarif_message report.now told.now count)) }
+{
+    told.code.put_text(line)?;
+    put_record(report, line)?;
+    put_and_times(count, line)
+}
+
+fn put_record(report: &Report<'_>, line: &mut Vec<u8>) -> Result<(), AllocError>
+    ensures { OnOk result (Adds line.old line.new (and_record (record_of report.now.finding))) }
+{
+    put_and_record(report.finding.record(), line)
+}
+
+/// Which file it is.
+pub fn put_location(name: &[u8], line: &mut Vec<u8>) -> Result<(), AllocError>
+    ensures { OnOk result (Adds line.old line.new (location name.now)) }
+{
+    put(
+        line,
+        b",\"locations\":[{\"physicalLocation\":{\"artifactLocation\":{\"uri\":",
+    )?;
+    put_uri(name, line)?;
+    put(line, b"}")
+}
+
+/// The place in the file, where one is told.
+fn put_region_if(report: &Report<'_>, told: &Told, line: &mut Vec<u8>) -> Result<(), AllocError>
+    ensures { OnOk result (Adds line.old line.new (region_if told.now.code (region report.now told.now.place))) }
+{
+    match told.code {
+        Code::NotValid => Ok(()),
+        _ => put_region(report, told.place, line),
+    }
+}
+
+fn put_region(report: &Report<'_>, place: u64, line: &mut Vec<u8>) -> Result<(), AllocError>
+    ensures { OnOk result (Adds line.old line.new (region report.now place)) }
+{
+    put(line, b",\"region\":{")?;
+    put_region_start_of(report.spot(place), line)?;
+    put(line, b"\"byteOffset\":")?;
+    put_number(line, place)?;
+    put(line, b",\"byteLength\":0}")
+}
+
+pub fn put_region_start_of(spot: Option<Spot>, line: &mut Vec<u8>) -> Result<(), AllocError>
+    ensures { OnOk result (Adds line.old line.new (region_start_of spot)) }
+{
+    match spot {
+        Some(spot) => put_region_start(spot, line),
+        None => Ok(()),
+    }
+}
+
+fn put_region_start(spot: Spot, line: &mut Vec<u8>) -> Result<(), AllocError>
+    ensures { OnOk result (Adds line.old line.new (region_start spot)) }
+{
+    put(line, b"\"startLine\":")?;
+    put_number(line, spot.line)?;
+    put(line, b",\"startColumn\":")?;
+    put_number(line, spot.column)?;
+    put(line, b",")
+}
+
+pub fn put_logical_location_of(path: Option<Path>, line: &mut Vec<u8>) -> Result<(), AllocError>
+    ensures { OnOk result (Adds line.old line.new (logical_location_of path)) }
+{
+    match path {
+        Some(path) => put_logical_location(&path, line),
+        None => Ok(()),
+    }
+}
+
+fn put_logical_location(path: &Path, line: &mut Vec<u8>) -> Result<(), AllocError>
+    ensures { OnOk result (Adds line.old line.new (logical_location (steps_of path.now))) }
+{
+    put(line, b",\"logicalLocations\":[{\"fullyQualifiedName\":\"")?;
+    put_path(path, line)?;
+    put(line, b"\"}]")
+}
+
+fn put_id(code: Code, line: &mut Vec<u8>) -> Result<(), AllocError>
+    ensures { OnOk result (Adds line.old line.new (id_of code)) }
+{
+    match code {
+        Code::NotValid => put(line, b"not-valid"),
+        code => code.put_name(line),
+    }
+}
+
+fn put_rules(line: &mut Vec<u8>) -> Result<(), AllocError>
+    ensures { OnOk result (Adds line.old line.new sarif_rules) }
+{
+    for rule in &RULES {
+        put_rule_and_break(Code::Rule(*rule), line)?;
+    }
+    Ok(())
+}
+
+fn put_causes(line: &mut Vec<u8>) -> Result<(), AllocError>
+    ensures { OnOk result (Adds line.old line.new sarif_causes) }
+{
+    for cause in &CAUSES {
+        put_rule_and_break(Code::Cause(*cause), line)?;
+    }
+    Ok(())
+}
+
+fn put_kinds(line: &mut Vec<u8>) -> Result<(), AllocError>
+    ensures { OnOk result (Adds line.old line.new sarif_kinds) }
+{
+    for kind in &KINDS {
+        put_break_and_warning(Code::Kind(*kind), line)?;
+    }
+    Ok(())
+}
+
+fn put_rule_and_break(code: Code, line: &mut Vec<u8>) -> Result<(), AllocError>
+    ensures { OnOk result (Adds line.old line.new (rule_and_break code)) }
+{
+    put_rule(code, b"error", line)?;
+    put(line, b",\n")
+}
+
+fn put_break_and_warning(code: Code, line: &mut Vec<u8>) -> Result<(), AllocError>
+    ensures { OnOk result (Adds line.old line.new (break_and_warning code)) }
+{
+    put(line, b",\n")?;
+    put_rule(code, b"warning", line)
+}
+
+/// A rule, with its section of docs/rules.md.
+fn put_rule(code: Code, level: &[u8], line: &mut Vec<u8>) -> Result<(), AllocError>
+    ensures { OnOk result (Adds line.old line.new (sarif_rule code level.now)) }
+{
+    put(line, b"{\"id\":\"")?;
+    put_id(code, line)?;
+    put(line, b"\",\"shortDescription\":{\"text\":\"")?;
+    code.put_text(line)?;
+    put(line, b"\"},\"help\":{\"text\":\"docs/rules.md, ")?;
+    put_section(code, line)?;
+    put(line, b"\"},\"defaultConfiguration\":{\"level\":\"")?;
+    put(line, level)?;
+    put(line, b"\"}}")
+}
+
+fn put_section(code: Code, line: &mut Vec<u8>) -> Result<(), AllocError>
+    ensures { OnOk result (Adds line.old line.new (section_of code)) }
+{
+    match code {
+        Code::NotValid => put(line, b"what geolint says"),
+        code => put_explained(code, line),
+    }
+}
+
+/// The section, and the words that print it.
+fn put_explained(code: Code, line: &mut Vec<u8>) -> Result<(), AllocError>
+    ensures { OnOk result (Adds line.old line.new (explained code)) }
+{
+    put_name_and_text(code, line)?;
+    put(line, b" (geolint-files --explain ")?;
+    code.put_name(line)?;
+    put(line, b")")
+}
+
+fn put_name_and_text(code: Code, line: &mut Vec<u8>) -> Result<(), AllocError>
+    ensures { OnOk result (Adds line.old line.new (name_and_text code)) }
+{
+    code.put_name(line)?;
+    put(line, b": ")?;
+    code.put_text(line)
+}
+
+/// A name as the text of a reference to it, between quotation marks: of an absolute one with the scheme `file`, and relative
+/// otherwise. No byte of it is one that a JSON string escapes.
+fn put_uri(name: &[u8], line: &mut Vec<u8>) -> Result<(), AllocError>
+    ensures { OnOk result (Adds line.old line.new (uri_of name.now)) }
+{
+    put(line, scheme(name))?;
+    put_all_in_uri(name, line)?;
+    put(line, b"\"")
+}
+
+fn scheme(name: &[u8]) -> &'static [u8]
+    ensures { result.now ≡ scheme_of name.now }
+{
+    match name {
+        [b'/', ..] => b"\"file://",
+        _ => b"\"",
+    }
+}
+
+fn put_all_in_uri(name: &[u8], line: &mut Vec<u8>) -> Result<(), AllocError>
+    ensures { OnOk result (Adds line.old line.new (flat_map in_uri name.now)) }
+{
+    for byte in name {
+        put_in_uri(*byte, line)?;
+    }
+    Ok(())
+}
+
+fn put_in_uri(byte: u8, line: &mut Vec<u8>) -> Result<(), AllocError>
+    ensures { OnOk result (Adds line.old line.new (in_uri byte)) }
+{
+    if is_plain_in_uri(byte) {
+        put(line, &[byte])
+    } else {
+        put_percent(byte, line)
+    }
+}
+
+/// Whether a byte stands in a reference for itself.
+fn is_plain_in_uri(byte: u8) -> bool
+    ensures { result ≡ is_plain_in_uri byte }
+{
+    byte.is_ascii_alphanumeric() || b"/-._~".contains(&byte)
+}
+
+const UPPER_DIGITS: &[u8; 16] = b"0123456789ABCDEF";
+
+fn put_percent(byte: u8, line: &mut Vec<u8>) -> Result<(), AllocError>
+    ensures { OnOk result (Adds line.old line.new (percent_of byte)) }
+{
+    let high = digit_in(UPPER_DIGITS, byte / 16);
+    let low = digit_in(UPPER_DIGITS, byte % 16);
+    put_all(line, &[b"%", &[high, low]])
+}
