@@ -1,3 +1,3 @@
-/// A read or a write failed. Why it did is not told.
+/// A read or a write failed. The reason is not kept.
 #[derive(Clone, Copy, Debug, PartialEq, Eq)]
 pub struct Failed;

@@ -4,7 +4,7 @@ use thiserror::Error;
 #[derive(Clone, Copy, Debug, PartialEq, Eq, Error)]
 #[error("read failed after {offset} bytes")]
 pub struct ReadFault {
-    /// How many bytes had come before.
+    /// The number of bytes that had come before.
     pub offset: u64,
 }
 
@@ -12,11 +12,11 @@ pub struct ReadFault {
 #[derive(Clone, Copy, Debug, PartialEq, Eq, Error)]
 #[error("write failed after {written} bytes")]
 pub struct WriteFault {
-    /// How many bytes of the report had gone out before.
+    /// The number of bytes of the report that had gone out before.
     pub written: u64,
 }
 
-/// What ended a run before its report was whole.
+/// The reason why a run ended before its report was whole.
 #[derive(Clone, Copy, Debug, PartialEq, Eq, Error)]
 pub enum RunFault {
     /// Nothing was written.
@@ -27,10 +27,10 @@ pub enum RunFault {
     Write(WriteFault),
 }
 
-/// What keeps the program from a report. Its text is the line for standard error.
+/// The reason why the program gives no report. Its text is the line for standard error.
 #[derive(Clone, Copy, Debug, PartialEq, Eq, Error)]
 pub enum ProgramFault {
-    /// The words are not words of the command.
+    /// The arguments are not those of the command.
     #[error("{USAGE}")]
     Usage,
     /// The file could not be opened.

@@ -9,10 +9,10 @@ use crate::source::{PIECE, Source};
 use gj_json::Limits;
 use gj_rules::{Linter, Progress, Verdict};
 
-/// Reads an input until it ends or is refused, and answers its verdict.
+/// Reads an input until it ends or is refused, and returns its verdict.
 ///
-/// No read follows the one whose bytes are refused, and there are at most as many reads as the input may have bytes, and
-/// one. An error is answered where a read failed, with the number of bytes that had come before.
+/// No read follows the one whose bytes are refused. There is at most one read more than the input may have bytes. Where
+/// a read failed, the error has the number of bytes that had come before.
 pub fn lint_reader<S: Source>(reader: &mut S, limits: Limits) -> Result<Verdict, ReadFault>
     ensures few { S.reads reader.new ≤ S.reads reader.old + (limits.bytes + 1) }
     ensures stops { StopsAtRefusal limits (S.remaining reader.old) (S.remaining reader.new) (S.reads reader.old) (S.reads reader.new) }

@@ -7,7 +7,8 @@ use crate::fault::ReadFault;
 use crate::source::{PIECE, Source};
 use gj_json::{Limits, Locator, Path};
 
-/// How many bytes of the next piece are wanted, where so many lie before the place: those up to it, and the one there.
+/// The number of bytes of the next piece that are wanted, where `before` bytes lie before the place: those up to it,
+/// and the one there.
 fn wanted(count: usize, before: u64) -> usize
     ensures all { count ≤ before → result ≡ count }
     ensures some { before < count → result ≡ before + 1 }
@@ -19,11 +20,11 @@ fn wanted(count: usize, before: u64) -> usize
     }
 }
 
-/// Finds the path to the value at a place of an input: the one that begins there, where it is no array and no object, or
-/// the innermost array or object that is open behind the byte at the place, or the root.
+/// Finds the path to the value at a place of an input: the one that begins there, where it is no array and no object,
+/// or the innermost array or object that is open after the byte at the place, or the root.
 ///
-/// It reads up to that byte, and answers None where the input ends before or is refused there or before. An error is
-/// answered where a read failed, with the number of bytes that had come before.
+/// It reads up to that byte, and returns `None` where the input ends before or is refused there or before. Where a read
+/// failed, the error has the number of bytes that had come before.
 pub fn locate_reader<S: Source>(
     reader: &mut S,
     limits: Limits,

@@ -1,8 +1,9 @@
-//! `geolint` judges a GeoJSON text of any length in fixed memory: it reads the text in pieces and writes a report of
+//! `geolint` validates a GeoJSON text of any length in fixed memory: it reads the text in pieces and writes a report of
 //! its verdict.
 //!
-//! What a verdict means stands in `specs/Verdict.antt` of `gj_rules`, and for a text sequence in `specs/Sequence.antt` there; the
-//! bytes of its report stand in `specs/Report.antt` and `specs/Sequence.antt` here. Where the writer tells its bytes, exactly the report goes out, or a prefix of it where a write fails.
+//! `specs/Verdict.antt` of `gj_rules` defines a verdict, and `specs/Sequence.antt` there the verdict of a text
+//! sequence. `specs/Report.antt` and `specs/Sequence.antt` here define the bytes of the report. Where the writer tells
+//! its bytes, exactly the report goes out, or a prefix of it where a write fails.
 #![tactic(auto)]
 
 mod failed;
@@ -34,10 +35,10 @@ use std::fs::{self, File};
 use std::io::{self, ErrorKind};
 use std::process::ExitCode;
 
-/// Reads the words, judges the file or standard input, and writes the report to standard output.
+/// Reads the arguments, validates the file or standard input, and writes the report to standard output.
 ///
-/// Status 0 says that the input passes or that help or the version was asked for, 1 that it does not pass, 2 that there is no verdict or
-/// not all of its report: then a line on standard error says why.
+/// Status 0: the input passes, or help or the version was asked for. Status 1: it does not pass. Status 2: there is no
+/// verdict, or not all of its report went out, and a line on standard error says why.
 fn main(rt: HostRuntime) -> ExitCode {
     match answer(&rt) {
         Ok(Outcome::Pass) => ExitCode::from(0),
@@ -66,7 +67,7 @@ fn answer(rt: &HostRuntime) -> Result<Outcome, ProgramFault> {
     }
 }
 
-/// The order of the words behind the program's name.
+/// The order that the arguments after the program's name give.
 fn order(rt: &HostRuntime) -> Result<Order, WordsFault> {
     let words: Vec<String> = env::args(rt)
         .map_err(words_fault)?
@@ -75,7 +76,7 @@ fn order(rt: &HostRuntime) -> Result<Order, WordsFault> {
     read_words(rt.alloc(), words.as_slice())
 }
 
-/// Words that are no text are refused as words of another command are.
+/// Arguments that are not UTF-8 are refused as unknown arguments are.
 fn words_fault(error: io::Error) -> WordsFault {
     match error.kind() {
         ErrorKind::OutOfMemory => WordsFault::Memory,
@@ -105,7 +106,7 @@ fn obey(rt: &HostRuntime, order: &Order) -> Result<Outcome, ProgramFault> {
     Ok(outcome)
 }
 
-/// A sequence has no path, so that its file is opened once.
+/// A sequence has no path, so its file is opened once.
 fn obey_sequence<W: Sink>(
     rt: &HostRuntime,
     order: &Order,
@@ -122,8 +123,8 @@ fn open(rt: &HostRuntime, path: &String) -> Result<File, ProgramFault> {
     fs::open(rt, path.as_str()).map_err(open_fault)
 }
 
-/// Whether a second opening gives the same bytes: that of a named pipe or a device gives others, or waits for a writer
-/// that never comes.
+/// Whether a second opening gives the same bytes. A named pipe or a device gives others, or waits for a writer that
+/// never comes.
 fn is_regular(file: &File) -> bool {
     match file.metadata() {
         Ok(metadata) => metadata.is_file(),

@@ -1,14 +1,14 @@
 use gj_json::Limits;
 
-/// How a run judges its input.
+/// How a run validates its input.
 #[derive(Clone, Copy, PartialEq, Eq)]
 pub struct Options {
     /// How deep the input may nest, and how many bytes it may have.
     pub limits: Limits,
     /// A valid input with a warning does not pass.
     pub strict: bool,
-    /// Only whether the input is valid is asked: the reading stops as soon as it cannot be any more, and nothing else is
-    /// said of an input that is not.
+    /// The run says only whether the input is valid: it stops reading as soon as the input cannot be valid, and reports
+    /// nothing else of one that is not.
     pub quick: bool,
 }
 
@@ -32,8 +32,8 @@ impl Options {
 /// How a run ends, where nothing failed.
 #[derive(Clone, Copy, Debug, PartialEq, Eq)]
 pub enum Outcome {
-    /// The input is valid, and has no warning where that is asked for.
+    /// The input is valid, and has no warning under `strict`.
     Pass,
-    /// It is not, or has a warning where none may be.
+    /// The input is not valid, or has a warning where none is allowed.
     Fail,
 }

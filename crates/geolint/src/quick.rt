@@ -1,4 +1,4 @@
-//! A run that asks only whether an input is valid: it reads no further than it must to say no.
+//! A run that says only whether an input is valid: it reads no further than it must to say no.
 ghost use Rattle.std.specs.Prelude.{◌≡◌, ℕ, List, ◌+◌, ◌<◌, ◌≤◌, length, Option, MatchResult, IfOk, OnOk, IfErr};
 ghost use Rattle.std.specs.Io.KnownBytes.{Consumes, Appends};
 ghost use Rattle.gj_coords.specs.Warnings.{Warning};
@@ -17,7 +17,7 @@ use gj_coords::Warnings;
 use gj_json::Limits;
 use gj_rules::{Linter, Progress, Verdict, one_verdict};
 
-/// Reads an input until it ends or cannot be valid any more, and answers its warnings where it is valid.
+/// Reads an input until it ends or cannot be valid any more, and returns its warnings where it is valid.
 ///
 /// No read follows the piece that says no. Reads and errors are as `lint_reader` has them.
 pub fn lint_quickly<S: Source>(
@@ -68,7 +68,7 @@ fn valid_in(verdict: Verdict) -> Option<Warnings>
     }
 }
 
-/// Judges what the reader gives, and writes the report where it is valid, and otherwise the line `not valid`.
+/// Validates what the reader gives. It writes the report where the input is valid, and otherwise the line `not valid`.
 ///
 /// Errors are as `run` has them.
 pub fn run_quickly<S: Source, W: Sink>(
@@ -90,7 +90,7 @@ pub fn run_quickly<S: Source, W: Sink>(
     }
 }
 
-/// Writes the report, and answers whether the input passes.
+/// Writes the report, and returns whether the input passes.
 fn report_quickly<W: Sink>(
     valid: Option<Warnings>,
     writer: &mut W,

@@ -90,7 +90,8 @@ fn push_report(verdict: Verdict, path: Option<Path>, room: &mut Room)
 /// Writes the report of a verdict: its line, for a valid text one line more for each kind of warning that it has, and for
 /// a broken rule one with the path of the value that breaks it, where it is given.
 ///
-/// On `Ok` all of it is behind what the writer had taken. On an error the first `written` bytes of it are, and not all.
+/// On `Ok` the writer has taken all of it, after what it had taken before. On an error it has taken the first `written`
+/// bytes of it, and not all.
 #[tactic(auto, using(crate::proofs::VerdictReports::verdict_said))]
 pub fn write_report<W: Sink>(
     verdict: Verdict,
@@ -125,7 +126,7 @@ pub fn write_seq_report<W: Sink>(verdict: SeqVerdict, writer: &mut W) -> Result<
     write_bytes(room.bytes(), writer)
 }
 
-/// Writes the line of an input that is not valid, of which nothing more is asked, as `write_report` does a report.
+/// Writes the line of an input that is not valid, where nothing more is reported, as `write_report` does a report.
 pub fn write_not_valid<W: Sink>(writer: &mut W) -> Result<(), WriteFault>
     ensures whole { OnOk result (Appends (W.taken writer.old) (W.taken writer.new) not_valid_line) }
     ensures front { IfErr result (λ fault.

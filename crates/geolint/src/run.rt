@@ -19,12 +19,12 @@ use gj_coords::Fault;
 use gj_json::{Limits, Path};
 use gj_rules::Verdict;
 
-/// Judges what the reader gives, writes the report of the verdict, and answers whether the input passes.
+/// Validates what the reader gives, writes the report of the verdict, and returns whether the input passes.
 ///
-/// Under `quick` it is only asked whether the input is valid: of one that is not, no more is read than it takes to know
-/// it, and the line `not valid` stands for its report.
+/// Under `quick` the run says only whether the input is valid. Of one that is not, it reads no more than it takes to
+/// know that, and writes the line `not valid` in place of the report.
 ///
-/// After an error of the reader nothing was written. After one of the writer a front of the report was.
+/// After an error of the reader nothing was written. After one of the writer a prefix of the report was.
 pub fn run<S: Source, W: Sink>(
     reader: &mut S,
     writer: &mut W,
@@ -50,12 +50,12 @@ pub fn run<S: Source, W: Sink>(
     report(verdict, None, writer, options.strict)
 }
 
-/// Judges what the first reader gives, and writes the report of the verdict. Where a rule is broken, the path of the value
-/// that breaks it is sought in the second reader, which is to give the same bytes; where it is not found there, or a read
-/// fails, the report has no path. Where none is broken, or the first reader fails, the second is not read, and never under
-/// `quick`, which is as for `run`.
+/// Validates what the first reader gives, and writes the report of the verdict. Where a rule is broken, it seeks the
+/// path of the value that breaks it in the second reader, which is to give the same bytes. Where it does not find the
+/// path there, or a read fails, the report has no path. It does not read the second reader where no rule is broken or
+/// the first reader fails, and never under `quick`, which is as for `run`.
 ///
-/// After an error of the first reader nothing was written. After one of the writer a front of the report was.
+/// After an error of the first reader nothing was written. After one of the writer a prefix of the report was.
 pub fn run_with_path<S: Source, T: Source, W: Sink>(
     first: &mut S,
     second: &mut T,
@@ -104,7 +104,7 @@ fn judge<S: Source>(reader: &mut S, limits: Limits) -> Result<Verdict, RunFault>
     }
 }
 
-/// Writes the report, and answers whether the input passes.
+/// Writes the report, and returns whether the input passes.
 fn report<W: Sink>(
     verdict: Verdict,
     path: Option<Path>,

@@ -15,7 +15,7 @@ use crate::source::{PIECE, Source};
 use gj_json::Limits;
 use gj_rules::{SeqProgress, SeqVerdict, Sequence, Verdict, one_sequence_verdict};
 
-/// Reads a sequence until it ends or a byte decides that a record is not valid, and answers its verdict.
+/// Reads a sequence until it ends or a byte decides that a record is not valid, and returns its verdict.
 ///
 /// No read follows the one with that byte. Reads and errors are as `lint_reader` has them.
 pub fn lint_sequence<S: Source>(reader: &mut S, limits: Limits) -> Result<SeqVerdict, ReadFault>
@@ -49,7 +49,7 @@ pub fn lint_sequence<S: Source>(reader: &mut S, limits: Limits) -> Result<SeqVer
     }
 }
 
-/// Judges the sequence that the reader gives, writes its report, and answers whether it passes. It makes no use of `quick`.
+/// Validates the sequence that the reader gives, writes its report, and returns whether it passes. It ignores `quick`.
 ///
 /// Errors are as `run` has them.
 pub fn run_sequence<S: Source, W: Sink>(
@@ -71,7 +71,7 @@ pub fn run_sequence<S: Source, W: Sink>(
     }
 }
 
-/// Writes the report, and answers whether the sequence passes.
+/// Writes the report, and returns whether the sequence passes.
 fn report_sequence<W: Sink>(
     verdict: SeqVerdict,
     writer: &mut W,

@@ -14,10 +14,10 @@ pub trait Sink {
     // The bytes that it took, where the sink tells them.
     ghost taken: { Self → Option (List ℕ) };
 
-    // How many writes failed: errors, and answers of 0 to a piece that is not empty.
+    // The number of failed writes: errors, and results of 0 for a piece that is not empty.
     ghost failed_writes: { Self → ℕ };
 
-    /// Writes a front of the piece and answers how many bytes were taken: at most its length.
+    /// Writes a prefix of the piece, and returns the number of bytes taken: at most its length.
     ///
     /// On an error no byte was taken.
     fn write_piece(&mut self, piece: &[u8]) -> Result<usize, Failed>

@@ -26,8 +26,8 @@ pub trait Source {
     // How many bytes came.
     ghost bytes_given: { Self → ℕ };
 
-    /// Reads into the front of the piece and answers how many bytes came: at most its length, and 0 into a piece with
-    /// room only where no byte is left. What stands in the piece behind them is left open.
+    /// Reads into the start of the piece, and returns the number of bytes read: at most its length, and 0 for a piece
+    /// with room only where no byte is left. What the piece has after them is left open.
     ///
     /// On an error no byte came.
     fn read_piece(&mut self, piece: &mut [u8]) -> Result<usize, Failed>

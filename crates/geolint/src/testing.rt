@@ -1,4 +1,4 @@
-//! Readers and writers for tests, which give and take what a test tells them to.
+//! Readers and writers for tests, which give and take what a test says.
 
 mod array_sink;
 mod endless;

@@ -51,7 +51,7 @@ impl From<AllocError> for WordsFault {
     }
 }
 
-/// Reads the words behind the program's name. With none, standard input is read as by the word `stdin`.
+/// Reads the arguments after the program's name. With none, standard input is read as by the argument `stdin`.
 pub fn read_words(alloc: Global, words: &[String]) -> Result<Order, WordsFault> {
     if words.is_empty() {
         return Ok(Order {

@@ -1,4 +1,4 @@
-//! What a program over the libraries looks like: it judges standard input as it comes, and counts what is in it.
+//! An example of a program over the libraries: it validates standard input as it comes, and counts what is in it.
 #![tactic(auto)]
 
 ghost use Rattle.std.specs.Prelude.{◌≡◌, ◌<◌, ◌^◌, length};
@@ -7,7 +7,7 @@ use gj_json::{Event, EventSink, JsonFault, Limits, Reader};
 use gj_rules::{Linter, Progress, Verdict};
 use std::io::{self, Read};
 
-/// Judges what the reader gives, piece by piece, and reads no more once it is refused.
+/// Validates what the reader gives, piece by piece, and reads no more once it is refused.
 fn judge<R: Read>(reader: &mut R, limits: Limits) -> io::Result<Verdict> {
     let mut linter = Linter::new(limits);
     let mut piece = [0; 4096];
@@ -23,7 +23,7 @@ fn judge<R: Read>(reader: &mut R, limits: Limits) -> io::Result<Verdict> {
     Ok(linter.finish())
 }
 
-/// Counts the events that it is told.
+/// Counts the events that it is given.
 #[derive(Drop)]
 struct EventCount {
     count: u64,
@@ -43,7 +43,7 @@ impl EventSink for EventCount {
     fn pass(&mut self, _left: u16) {}
 }
 
-/// How many events a JSON text has, or where and why the bytes are no such text.
+/// The number of events of a JSON text, or where and why the bytes are no such text.
 fn count_events(text: &[u8], limits: Limits) -> Result<u64, JsonFault> {
     let mut reader = Reader::new(limits);
     let mut sink = EventCount { count: 0 };

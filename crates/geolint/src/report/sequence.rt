@@ -35,7 +35,7 @@ fn push_count(count: u64, room: &mut Room)
     room.push_all(&[b"records ", counted, b"\n"]);
 }
 
-/// The report of a sequence of so many records, all of them valid.
+/// The report of a sequence with this number of records, all of them valid.
 fn push_valid_sequence(records: u64, warnings: &Warnings, room: &mut Room)
     requires { length (written_in room.old) + (length kinds + 2) * MOST_LINE ≤ CAPACITY }
     ensures { Adds room.old room.new (codes "valid\n" ++ (count_line records ++ told_lines warnings.now)) }

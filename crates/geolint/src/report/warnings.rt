@@ -10,7 +10,7 @@ use crate::room::Room;
 use gj_coords::{KINDS, Kind, Warnings};
 use itoa::Buffer;
 
-/// The line of a kind, of whose warnings there are so many, the first at this place.
+/// The line of a kind with this number of warnings, the first of them at this place.
 fn push_warning(kind: Kind, count: u32, place: u64, room: &mut Room)
     requires { length (written_in room.old) + MOST_LINE ≤ CAPACITY }
     ensures line { Adds room.old room.new (warning_line kind count place) }

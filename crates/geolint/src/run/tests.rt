@@ -29,7 +29,7 @@ fn outcome_of(report: &str) -> Outcome {
     }
 }
 
-/// Where no warning may be.
+/// The outcome where no warning is allowed.
 fn strict_outcome_of(report: &str) -> Outcome {
     if report == "valid\n" {
         Outcome::Pass
@@ -65,7 +65,7 @@ fn gives(rt: &impl Abort, reader: &mut SliceSource, limits: Limits, line: &str) 
     assert_eq!(rt; sink.bytes(), line.as_bytes(), "{line}");
 }
 
-/// One run over an input whose first piece and whose others have at most so many bytes.
+/// One run over an input whose first piece, and each other piece, has at most this many bytes.
 fn in_pieces(rt: &impl Abort, input: &[u8], most: (usize, usize), limits: Limits, line: &str) {
     let mut reader = SliceSource::new(input, most.0, most.1);
     gives(rt, &mut reader, limits, line);
@@ -81,7 +81,7 @@ fn expect(rt: &impl Abort, input: &[u8], limits: Limits, line: &str) {
     }
 }
 
-/// The verdict of an input that comes in pieces of at most so many bytes.
+/// The verdict of an input that comes in pieces of at most this many bytes.
 fn verdict_of(input: &[u8], most: usize) -> Result<Verdict, ReadFault> {
     lint_reader(&mut SliceSource::new(input, most, most), Limits::usual())
 }

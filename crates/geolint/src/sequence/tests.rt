@@ -147,7 +147,7 @@ fn limits_end_a_sequence(rt: HostRuntime) {
             5,
             "record 1\nbroken G1 at 1: not an object\n",
         ),
-        // inside a run of separators, at one, and at the byte behind
+        // inside a run of separators, at one, and at the byte after
         (TWO, MOST_LEVELS, 39, "record 2\nnot JSON at 39: too long\n"),
         (TWO, MOST_LEVELS, 38, "record 1\nnot JSON at 38: too long\n"),
         (TWO, MOST_LEVELS, 40, "record 2\nnot JSON at 40: too long\n"),

@@ -13,7 +13,7 @@ pub enum Ending {
     TakesNothing,
 }
 
-/// A writer into an array: it takes at most so many bytes a write, and so many in all.
+/// A writer into an array, with a limit on the bytes of each write and on the bytes in all.
 #[derive(Drop)]
 pub struct ArraySink {
     bytes: [u8; ROOM],

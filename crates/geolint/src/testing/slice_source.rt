@@ -41,7 +41,7 @@ impl<'a> SliceSource<'a> {
         source
     }
 
-    /// Gives one byte a read, and fails at the read that so many others precede.
+    /// Gives one byte a read, and fails at the read after this many others.
     pub fn failing_after(bytes: &'a [u8], reads: u64) -> SliceSource<'a> {
         let mut source = SliceSource::new(bytes, 1, 1);
         source.failing = Some(reads);

@@ -15,7 +15,7 @@ fn words_of(alloc: Global, line: &str) -> Result<Vec<String>, AllocError> {
     Ok(words)
 }
 
-/// The same as `Limits::new` gives under the usual depth.
+/// The limits that `Limits::new` gives under the usual depth.
 fn at_most(bytes: u64) -> Limits {
     match Limits::new(MOST_LEVELS, bytes) {
         Some(limits) => limits,
