@@ -17,8 +17,8 @@
  *   - geolint_doomed answers 1 only where no input that begins with the bytes fed so far is valid, and otherwise 0;
  *   - geolint_offset tells how many bytes were taken: all that were fed, or once they are refused the place of the refusal;
  *   - geolint_features_next tells, of each text that goes on from the bytes taken, the features that have ended in them, in turn
- *     and each once: its number, its place, its end where that is told, the place of its `id`, and the report of the least of its
- *     faults, or where it has none of its warnings;
+ *     and each once: its number, its place, the place after its closing bracket where it is an object or an array, the place of its
+ *     `id`, and the report of the least of its faults, or where it has none of its warnings;
  *   - geolint_records_next tells the records that have ended in the bytes taken, in turn and each once: number, place, end and report;
  *     geolint_records_finish what the input is by them;
  *   - geolint_locator_step tells the steps of the path that the bytes taken lead to, in each text that goes on from them;
@@ -111,7 +111,7 @@ static inline const void *geolint_bytes(const void *bytes) {
 /* Judges `length` bytes. `max_depth` is how many arrays and objects may be open inside each other, from 1 to 256, and
  * `max_bytes` how many bytes a text may have, from 1 to 2^60; 0 stands for the most of either. Other limits give
  * GEOLINT_NO_VERDICT with GEOLINT_LIMITS. As measured, it needs 208 KiB of stack, all of
- * which it writes; on a smaller stack, and for many small texts, judge with a linter in other memory. */
+ * which it writes for a text of more than 8 KiB or of more than 8 levels; on a smaller stack judge with a linter in other memory. */
 geolint_report geolint_check(const void *bytes, size_t length, uint32_t max_depth, uint64_t max_bytes);
 
 /* ---- a text in pieces */
@@ -161,7 +161,7 @@ typedef struct geolint_progress {
 typedef struct geolint_finding {
     uint64_t number; /* of a feature: how many stand before it; of a record: counted from 1, 0 of bytes before the first RS */
     uint64_t place;  /* of its first byte */
-    uint64_t end;    /* the place after its last byte; 0 of a feature that is no object and no array */
+    uint64_t end;    /* the place after its last byte; of a feature that is neither an object nor an array 0 */
     uint64_t id;     /* of a feature: the place of the value of its first member `id`, or 0 where it has none; of a record 0 */
     geolint_report report; /* what it is; the status is GEOLINT_NONE where there is no finding */
 } geolint_finding;
@@ -169,7 +169,8 @@ typedef struct geolint_finding {
 /* ---- the features of a text
  *
  * A feature is an element of the array that the first member `features` of the text's object holds, whatever the object's `type`
- * says. Each is told in its turn, as soon as its last byte has come: the least of its faults, or where it has none its warnings.
+ * says. Each is told in its turn, once its last byte has come: the least of its faults, or where it has none its warnings. A call takes
+ * bytes up to where features have ended, and up to 256 of them wait then to be pulled.
  *
  *     while (length) {
  *         geolint_progress progress = geolint_features_feed(features, bytes, length);
@@ -194,10 +195,14 @@ size_t geolint_features_size(void);
 /* As geolint_begin. */
 uint32_t geolint_features_begin(geolint_features *features, uint32_t max_depth, uint64_t max_bytes);
 
-/* Takes the next bytes, up to the end of the next feature. It stops with the `}` that ends a feature, and may take at most 255 bytes
- * more after a feature that is no object; then all that have ended are told. The status is that of geolint_feed for the bytes
- * taken. Once the text is refused, each further piece is taken and changes nothing. Where a finding is ready before: GEOLINT_READY,
- * and nothing is taken. After the end: GEOLINT_ENDED. Null: GEOLINT_NULL. */
+/* As geolint_begin_again: findings that are not pulled yet are forgotten. */
+uint32_t geolint_features_begin_again(geolint_features *features, uint32_t max_depth, uint64_t max_bytes);
+
+/* Takes the next bytes, up to where features have ended: all of these bytes, or some, and then at least one finding is ready. More may
+ * be ready, each in its turn, and all are to be pulled before the next bytes. How much a call takes at once is not said: a finding's
+ * `end` says where its feature ends. The status is that of geolint_feed for the bytes taken. Once the text is refused, each further
+ * piece is taken and changes nothing. Where a finding is ready before: GEOLINT_READY, and nothing is taken. After the end:
+ * GEOLINT_ENDED. Null: GEOLINT_NULL. */
 geolint_progress geolint_features_feed(geolint_features *features, const void *bytes, size_t length);
 
 /* The next feature that has ended in the bytes taken, where one is ready; otherwise the status of its report is GEOLINT_NONE, and for
@@ -225,6 +230,9 @@ size_t geolint_records_size(void);
 /* As geolint_begin. The depth is allowed to each record, and the number of bytes to the whole input. A framing that is neither of
  * the two is answered as limits that are not allowed. */
 uint32_t geolint_records_begin(geolint_records *records, uint32_t framing, uint32_t max_depth, uint64_t max_bytes);
+
+/* As geolint_records_begin, for memory that it has got before, at little cost: a finding that is not pulled yet is forgotten. */
+uint32_t geolint_records_begin_again(geolint_records *records, uint32_t framing, uint32_t max_depth, uint64_t max_bytes);
 
 /* Takes the next bytes, up to and with the separator after the next record. A record that is not valid ends there as well, and the
  * next is judged. GEOLINT_REFUSED: more bytes came than are allowed, and no further one matters. Where a finding is ready before:

@@ -17,6 +17,14 @@
 #if defined(__cpp_exceptions)
 #include <stdexcept>
 #endif
+#if defined(__has_include)
+#if __has_include(<version>)
+#include <version>
+#endif
+#endif
+#if defined(__cpp_lib_expected)
+#include <expected>
+#endif
 
 namespace geolint {
 
@@ -118,7 +126,7 @@ public:
 
     /* Of a feature: how many stand before it. A record is counted from 1; 0 is what stands before the first RS of a sequence. */
     std::uint64_t number() const noexcept { return finding_.number; }
-    /* The place of its first byte, and that after its last, which is 0 of a feature that is no object and no array. */
+    /* The place of its first byte, and that after its last, which is 0 of a feature that is neither an object nor an array. */
     std::uint64_t place() const noexcept { return finding_.place; }
     std::uint64_t end() const noexcept { return finding_.end; }
     /* The place of the value of the feature's first member `id`, or 0 where it has none. */
@@ -171,6 +179,7 @@ public:
             typedef const Finding *pointer;
             typedef Finding reference;
 
+            iterator() noexcept : range_(nullptr), finding_() {}
             Finding operator*() const noexcept { return Finding(finding_); }
             iterator &operator++() noexcept {
                 if (!range_->next(&finding_))
@@ -261,6 +270,10 @@ public:
         if (geolint_features_begin(at(), limits.max_depth, limits.max_bytes) != GEOLINT_DONE)
             memory_.reset();
     }
+    /* Begins again, in the same memory, at little cost; findings that were not asked for are forgotten. */
+    bool begin(Limits limits = Limits()) noexcept {
+        return geolint_features_begin_again(at(), limits.max_depth, limits.max_bytes) == GEOLINT_DONE;
+    }
     std::uint64_t offset() noexcept { return geolint_features_offset(at()); }
     /* The verdict of all that was fed, and the end. */
     Verdict finish() noexcept { return Verdict(geolint_features_finish(at())); }
@@ -272,6 +285,10 @@ public:
     explicit Records(geolint_framing framing, Limits limits = Limits()) noexcept {
         if (geolint_records_begin(at(), framing, limits.max_depth, limits.max_bytes) != GEOLINT_DONE)
             memory_.reset();
+    }
+    /* Begins again, in the same memory, at little cost. */
+    bool begin(geolint_framing framing, Limits limits = Limits()) noexcept {
+        return geolint_records_begin_again(at(), framing, limits.max_depth, limits.max_bytes) == GEOLINT_DONE;
     }
     std::uint64_t offset() noexcept { return geolint_records_offset(at()); }
     /* What the input is as a whole, and the end; `number` is how many records there are, or that of the first that is not valid. */
@@ -329,6 +346,15 @@ public:
 private:
     geolint_lines lines_;
 };
+
+#if defined(__cpp_lib_expected)
+/* The verdict of a valid text, or as the error that of another, as a value: from C++23 on. */
+inline std::expected<Verdict, Verdict> expect_valid(const Verdict &verdict) noexcept {
+    if (verdict.valid())
+        return verdict;
+    return std::unexpected<Verdict>(verdict);
+}
+#endif
 
 #if defined(__cpp_exceptions)
 /* A text that is not valid, as an exception. */

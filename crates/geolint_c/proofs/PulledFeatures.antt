@@ -1,12 +1,13 @@
 -- Which features are ready, as more bytes come.
-use Rattle.std.proofs.Common.{◌≡◌, ℕ, zero, suc, ◌+◌, ◌-◌, ◌%◌, ◌<◌, ◌≤◌, ◌^◌, nat_le, Bool, true, false, if◌then◌else◌, List, [], ◌∷◌, ◌++◌, length, length-append, take, drop, slice_get, append_assoc, Option, Some, None, refl, ap, sym, subst, ◌∙◌, arith}
+use Rattle.std.proofs.Common.{◌≡◌, ℕ, zero, suc, ◌+◌, ◌-◌, ◌%◌, ◌<◌, ◌≤◌, ◌^◌, nat_le, Bool, true, false, cond, if◌then◌else◌, List, [], ◌∷◌, ◌++◌, length, length-append, take, drop, slice_get, append_assoc, Option, Some, None, refl, ap, sym, subst, ◌∙◌, arith}
 use Rattle.std.proofs.lemmas.Bool.Decides.{nat_tests}
-use Rattle.std.proofs.lemmas.List.{take_all, take-append-le}
+use Rattle.std.proofs.lemmas.List.{take_all, take-append-le, length-take-le}
+use Rattle.std.proofs.lemmas.List.Sums.{sum_by-take-le}
 use Rattle.gj_json.specs.Limits.{Allowed}
 use Rattle.gj_json.specs.Text.{IsText, IsTextWithin}
 use Rattle.gj_json.specs.Tree.{Tree, Text}
 use Rattle.gj_json.specs.declared.fault.JsonFault.{JsonFault}
-use Rattle.gj_rules.specs.FeatureFindings.{FeatureFinding, complete_at, complete_in, features_of, findings_from, findings_by}
+use Rattle.gj_rules.specs.FeatureFindings.{FeatureFinding, complete_at, complete_in, features_of, findings_from, findings_by, is_comma, commas}
 use Rattle.gj_rules.specs.FeatureLinter.{refusal_of, offset_of, sink_of}
 use Rattle.gj_rules.specs.FeaturesTold.{SaysFinding, SayFindings, TellFindings}
 use Rattle.gj_rules.specs.declared.feature.Feature.{Feature}
@@ -15,7 +16,7 @@ use Rattle.geolint_c.specs.declared.latest.TheConstants.{ROOM}
 use Rattle.geolint_c.specs.declared.finding.Finding.{Finding}
 use Rattle.geolint_c.specs.Finding.{IsFeature}
 use Rattle.geolint_c.specs.Features.{Judging, OfFeatures, HasRoom, Judges, IsJudging, OfNext, IsNextOf, tells_more, ready_by}
-use Rattle.geolint_c.specs.Internal.Pulling.{Counted, OfLinter, HasRoomFor}
+use Rattle.geolint_c.specs.Internal.Pulling.{Counted, OfLinter, HasRoomFor, most_in}
 use Rattle.geolint_c.specs.Latest.{Keeps}
 
 -- ---- lists
@@ -26,11 +27,6 @@ take_on (x ∷ xs) ys zero l = absurd (omega (arith, l))
 take_on (x ∷ xs) ys (suc m) l =
     let e : m - length xs ≡ suc m - suc (length xs) = omega arith in
     ap (λ zs. x ∷ zs) (take_on xs ys m (omega (arith, l)) ∙ ap (λ k. xs ++ take k ys) e)
-
-pub length_take : (n : ℕ) (xs : List ℕ) → length (take n xs) ≤ n
-length_take zero xs = omega arith
-length_take (suc n) [] = omega arith
-length_take (suc n) (x ∷ xs) = omega (arith, length_take n xs)
 
 take_nil : (n : ℕ) → take {A = ℕ} n [] ≡ []
 take_nil zero = refl
@@ -105,8 +101,8 @@ pulled_on linter pulled limits bytes more counts j = record {
 }
 
 -- where no more were told than were pulled, there is room for as many as are kept
-pub room_for : (linter : Judging) (pulled : ℕ) (limits : Allowed) (bytes run : List ℕ) → tells_more linter pulled ≡ false → Counted linter → Judges linter pulled limits bytes → length run ≤ ROOM
-    → OfFeatures linter limits bytes (HasRoomFor (length run) pulled)
+pub room_for : (linter : Judging) (pulled : ℕ) (limits : Allowed) (bytes run : List ℕ) → tells_more linter pulled ≡ false → Counted linter → Judges linter pulled limits bytes → most_in run ≤ ROOM
+    → OfFeatures linter limits bytes (HasRoomFor (most_in run) pulled)
 room_for linter pulled limits bytes run none counts j short = λ text rest t few.
     let n = counts limits bytes j.stands j.under text rest t few in
     let room = j.room text rest t few in
@@ -121,6 +117,9 @@ counted latest found few h =
     (keeps (omega (arith, few, e))).told ∙ e
 
 -- ---- how many there are, as more bytes come
+
+abbrev one_if : ℕ → ℕ
+one_if b = cond (is_comma b) 1 0
 
 grows : (n m : ℕ) (vs : List Tree) → n ≤ m → length (complete_in n vs) ≤ length (complete_in m vs)
 grows n m [] l = omega arith
@@ -147,11 +146,16 @@ found_more n m text l =
 abbrev pub InTime : Type 0
 InTime = (text : Text) (bytes : List ℕ) (m n : ℕ) → IsText text bytes → m ≤ n → length (findings_by n text) ≤ length (findings_by m text) + (n - m)
 
-pub room_on : InTime → (old new : Judging) (pulled : ℕ) (limits : Allowed) (bytes chunk : List ℕ) → offset_of old ≤ offset_of new → offset_of old ≤ length bytes
+-- and than so many commas, and one
+abbrev pub ByCommas : Type 0
+ByCommas = (text : Text) (before run after : List ℕ) → IsText text (before ++ run ++ after)
+    → length (findings_by (length before + length run) text) ≤ length (findings_by (length before) text) + commas run + 1
+
+pub room_on : InTime → ByCommas → (old new : Judging) (pulled : ℕ) (limits : Allowed) (bytes chunk : List ℕ) → offset_of old ≤ offset_of new → offset_of old ≤ length bytes
     → offset_of new ≤ length (bytes ++ chunk) → (refusal_of old ≡ None → offset_of old ≡ length bytes) → ((fault : JsonFault) → refusal_of old ≡ Some fault → new ≡ old)
-    → OfFeatures old limits bytes (HasRoom pulled) → OfFeatures old limits bytes (HasRoomFor (length chunk) pulled)
+    → OfFeatures old limits bytes (HasRoom pulled) → OfFeatures old limits bytes (HasRoomFor (most_in chunk) pulled)
     → OfFeatures new limits (bytes ++ chunk) (HasRoom pulled)
-room_on in_time old new pulled limits bytes chunk on within taken all same room more = by_refusal (refusal_of old) refl
+room_on in_time by_commas old new pulled limits bytes chunk on within taken all same room more = by_refusal (refusal_of old) refl
   where
     by_refusal : (o : Option JsonFault) → refusal_of old ≡ o → OfFeatures new limits (bytes ++ chunk) (HasRoom pulled)
     by_refusal (Some fault) e =
@@ -161,12 +165,18 @@ room_on in_time old new pulled limits bytes chunk on within taken all same room 
         let n = offset_of old in
         let m = offset_of new in
         let full : n ≡ length bytes = all e in
-        let at : take m (bytes ++ chunk) ≡ bytes ++ take (m - length bytes) chunk = take_on bytes chunk m (omega (arith, on, full)) in
+        let part = take (m - length bytes) chunk in
+        let at : take m (bytes ++ chunk) ≡ bytes ++ part = take_on bytes chunk m (omega (arith, on, full)) in
         let start : take n bytes ≡ bytes = take_all n bytes (omega (arith, full)) in
-        let k = take (m - length bytes) chunk ++ rest in
-        let same : take m (bytes ++ chunk) ++ rest ≡ take n bytes ++ k =
-        ap (λ bs. bs ++ rest) at ∙ (append_assoc bytes (take (m - length bytes) chunk) rest ∙ ap (λ bs. bs ++ k) (sym start)) in
-        let old_found = more text k (subst (λ bs. IsTextWithin limits.depth text bs) same t) few in
+        let same : take m (bytes ++ chunk) ++ rest ≡ take n bytes ++ (part ++ rest) =
+        ap (λ bs. bs ++ rest) at ∙ (append_assoc bytes part rest ∙ ap (λ bs. bs ++ (part ++ rest)) (sym start)) in
+        let old_found = more text (part ++ rest) (subst (λ bs. IsTextWithin limits.depth text bs) same t) few in
         let late = in_time text _ n m t.0 on in
+        let spaced = by_commas text bytes part rest (subst (λ bs. IsText text bs) (ap (λ bs. bs ++ rest) at) t.0) in
         let longer = length-append bytes chunk in
-        (omega (arith, old_found.0, found_more n m text on), omega (arith, old_found.1, late, taken, longer, full))
+        let long : length part ≡ m - length bytes = length-take-le (m - length bytes) chunk (omega (arith, taken, longer)) in
+        let end : length bytes + length part ≡ m = omega (arith, long, on, full) in
+        let at_end = ap (λ k. length (findings_by k text)) end in
+        let at_start = ap (λ k. length (findings_by k text)) full in
+        let part_of : commas part ≤ commas chunk = sum_by-take-le one_if chunk (m - length bytes) in
+        (omega (arith, old_found.0, found_more n m text on), omega (arith, old_found.1, late, spaced, at_end, at_start, part_of, taken, longer, full))

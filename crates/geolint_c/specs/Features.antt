@@ -74,8 +74,14 @@ is_ready handle = not handle.ended && ready_by handle.linter handle.pulled
 
 -- ---- begin
 
+-- it is before the first byte
+pub record IsLive (limits : Allowed) (handle : FeatureHandle) : Type 0 where
+  pub stands : StandsFor handle limits []
+  pub pulled : handle.pulled ≡ 0
+  pub refusal : refusal handle ≡ None
+
 pub record IsBegun (max_depth max_bytes : ℕ) (handle : FeatureHandle) : Type 0 where
-  pub live : AreAllowed max_depth max_bytes → StandsFor handle (limits_meant max_depth max_bytes) [] × (handle.pulled ≡ 0) × (refusal handle ≡ None)
+  pub live : AreAllowed max_depth max_bytes → IsLive (limits_meant max_depth max_bytes) handle
   pub ended : ¬ (AreAllowed max_depth max_bytes) → HasEnded handle
 
 -- ---- feed

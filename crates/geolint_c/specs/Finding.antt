@@ -1,9 +1,10 @@
 -- What is found in a feature or in a record, and in an input of records as a whole, in plain numbers.
-use Rattle.std.specs.Prelude.{◌≡◌, ◌⊎◌, ℕ, ◌+◌, List, Option, Some, None, Bool, false, if◌then◌else◌}
+use Rattle.std.specs.Prelude.{◌≡◌, ℕ, ◌+◌, List, Option, Some, None, Bool, false, if◌then◌else◌}
 use Rattle.std.specs.Io.Iter.{u64_saturate}
 use Rattle.gj_coords.specs.declared.fault.Fault.{Fault}
 use Rattle.gj_coords.specs.Warnings.{Warning}
 use Rattle.gj_rules.specs.FeatureFindings.{FeatureFinding}
+use Rattle.gj_rules.specs.declared.feature.Feature.{Feature}
 use Rattle.gj_rules.specs.Sequence.{SequenceJudgement, all_valid, failing, SequenceSays}
 use Rattle.gj_rules.specs.Verdict.{Judgement, Says}
 use Rattle.gj_rules.specs.declared.records.record.Record.{Record}
@@ -36,15 +37,22 @@ abbrev pub feature_report : Option Fault → List Warning → Report
 feature_report None warnings = valid_report warnings
 feature_report (Some fault) warnings = broken_report fault
 
--- The end of an element that is no object and no array is not told.
+-- what is found in a feature that was told, with this report
+abbrev pub finding_with : Feature → Report → Finding
+finding_with told report = record { number = told.index; place = told.place; end = end_or_zero told.close; id = place_or_zero told.id; report = report }
+
+-- The end is that of an element that is an object or an array, after its closing bracket; otherwise it is 0.
 pub record IsFeature (finding : FeatureFinding) (told : Finding) : Type 0 where
   pub number : told.number ≡ finding.index
   pub place : told.place ≡ finding.place
-  pub end : (told.end ≡ u64_saturate finding.end) ⊎ (told.end ≡ 0)
+  pub end : told.end ≡ end_or_zero finding.close
   pub id : told.id ≡ place_or_zero finding.id
   pub report : told.report ≡ feature_report finding.fault finding.warnings
 
 -- ---- a record
+
+abbrev pub record_with : Record → Report → Finding
+record_with found report = record { number = found.number; place = found.place; end = found.end; id = 0; report = report }
 
 pub record IsRecord (found : Record) (told : Finding) : Type 0 where
   pub number : told.number ≡ found.number

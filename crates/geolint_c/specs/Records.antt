@@ -55,8 +55,13 @@ abbrev pub MayNotBegin : Option Framing → ℕ → ℕ → Type 0 → Type 0
 MayNotBegin None max_depth max_bytes Then = Then
 MayNotBegin (Some framing) max_depth max_bytes Then = ¬ (AreAllowed max_depth max_bytes) → Then
 
+-- it is before the first byte
+pub record IsLive (framing : Framing) (limits : Allowed) (handle : RecordHandle) : Type 0 where
+  pub stands : StandsFor handle framing limits [] []
+  pub ready : handle.ready ≡ false
+
 pub record IsBegun (framing max_depth max_bytes : ℕ) (handle : RecordHandle) : Type 0 where
-  pub live : MayBegin (framing_of framing) max_depth max_bytes (λ framing. StandsFor handle framing (limits_meant max_depth max_bytes) [] [] × (handle.ready ≡ false))
+  pub live : MayBegin (framing_of framing) max_depth max_bytes (λ framing. IsLive framing (limits_meant max_depth max_bytes) handle)
   pub ended : MayNotBegin (framing_of framing) max_depth max_bytes (HasEnded handle)
 
 pub record BegunStatus (framing max_depth max_bytes status : ℕ) : Type 0 where

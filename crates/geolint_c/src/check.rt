@@ -1,22 +1,12 @@
 //! A text in memory, judged in one call.
 ghost use Rattle.std.specs.Prelude.{◌≡◌};
-ghost use Rattle.gj_rules.specs.Verdict.{IsVerdict};
 ghost use Rattle.geolint_c.specs.Options.{AreAllowed, limits_meant};
 ghost use Rattle.geolint_c.specs.Report.{Reports, no_report};
 
 use crate::options::limits_of;
 use crate::report::{Report, no_report, report_of};
 use crate::status::LIMITS;
-use gj_json::Limits;
-use gj_rules::{Linter, Verdict};
-
-fn verdict_of(text: &[u8], limits: Limits) -> Verdict
-    ensures { IsVerdict limits text.now result }
-{
-    let mut linter = Linter::new(limits);
-    let _ = linter.feed(text);
-    linter.finish_and_begin(limits)
-}
+use gj_rules::check_text;
 
 /// Judges a whole text, where the limits are allowed.
 #[unsafe(no_mangle)]
@@ -25,7 +15,7 @@ pub extern "C" fn geolint_check(text: &[u8], max_depth: u32, max_bytes: u64) -> 
     ensures refused { ¬ (AreAllowed max_depth max_bytes) → result ≡ no_report 3 }
 {
     match limits_of(max_depth, max_bytes) {
-        Some(limits) => report_of(&verdict_of(text, limits)),
+        Some(limits) => report_of(&check_text(text, limits)),
         None => no_report(LIMITS),
     }
 }

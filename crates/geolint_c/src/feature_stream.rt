@@ -46,7 +46,26 @@ pub unsafe extern "C" fn geolint_features_begin(
     begun_status(max_depth, max_bytes)
 }
 
-/// Takes the next bytes of the input, up to the end of the next feature.
+/// As `geolint_features_begin`, in memory that has a handle. It writes little where that one was begun well.
+#[unsafe(no_mangle)]
+pub unsafe extern "C" fn geolint_features_begin_again(
+    memory: *mut Memory,
+    max_depth: u32,
+    max_bytes: u64,
+) -> u32
+    ghost held: { FeatureHandle }
+    requires testable { Testable memory }
+    requires* handle { sem 𝓛 (if_non_null memory (lies_at the_row full_share memory held)) }
+    ensures* begun { ∃ₛ (λ (new : FeatureHandle). sem 𝓛 (if_non_null memory (lies_at the_row full_share memory new)) ∗ ⌜ BegunAt memory max_depth max_bytes result new ⌝) }
+{
+    let handle = memory as *mut FeatureHandle;
+    if handle.is_null() {
+        return NULL;
+    }
+    (*handle).begin_again(max_depth, max_bytes)
+}
+
+/// Takes the next bytes of the input, up to where features have ended.
 #[unsafe(no_mangle)]
 pub unsafe extern "C" fn geolint_features_feed(memory: *mut Memory, piece: &[u8]) -> Progress
     ghost held: { FeatureHandle }

@@ -1,21 +1,21 @@
 //! The features of a text that comes in pieces, pulled from a handle. Here are the calls over values; `feature_stream` takes
 //! them to C.
 ghost use Rattle.std.specs.Prelude.{◌≡◌, ◌+◌, ◌<◌, ◌≤◌, ◌^◌, length, IsTrue};
-ghost use Rattle.geolint_c.specs.Features.{IsBegun, IsFed, IsNext, IsFinished, IsOffset, tells_more, is_ready};
+ghost use Rattle.geolint_c.specs.Features.{IsLive, IsBegun, IsFed, IsNext, IsFinished, IsOffset, tells_more, is_ready};
 ghost use Rattle.geolint_c.specs.Internal.Pulling.{Begins, Takes, IsPulled, Counted, OfLinter, GoesOn, ShowsOn};
-ghost use Rattle.geolint_c.specs.Handle.{status_of};
+ghost use Rattle.geolint_c.specs.Handle.{status_of, BegunStatus};
 ghost use Rattle.geolint_c.specs.declared.latest.TheConstants.{ROOM};
 
+use crate::commas::few_commas;
 use crate::finding::{Finding, Progress, finding_of_feature, no_finding, progress_of};
 use crate::handle::is_for_any_thread;
 use crate::latest::{LatestFeatures, ROOM};
 use crate::options::limits_of;
 use crate::report::{Report, no_report, report_of};
-use crate::status::{DONE, ENDED, NONE, READY, REFUSED};
+use crate::status::{DONE, ENDED, LIMITS, NONE, READY, REFUSED};
 use gj_json::Limits;
-use gj_rules::feature_laws::{features_in_time, few_features};
+use gj_rules::feature_laws::{features_by_commas, features_in_time, few_features};
 use gj_rules::{FeatureLinter, Progress as Shown};
-use memchr::memchr;
 
 /// A linter that tells features, until it has ended.
 #[derive(Drop)]
@@ -25,20 +25,6 @@ pub struct FeatureHandle {
     /// How many features were pulled.
     pulled: u64,
     ended: bool,
-}
-
-/// How many bytes are taken at once: up to the end of the next object, and no more than features are kept of.
-fn run_length(rest: &[u8]) -> usize
-    requires { 0 < length rest.now }
-    ensures some { 0 < result }
-    ensures within { result ≤ length rest.now }
-    ensures room { result ≤ ROOM }
-{
-    let most = rest.len().min(ROOM);
-    match memchr(b'}', &rest[..most]) {
-        Some(close) => close + 1,
-        None => most,
-    }
 }
 
 fn status_of(shown: Shown) -> u32
@@ -58,6 +44,14 @@ fn judging(limits: Limits) -> FeatureLinter<LatestFeatures>
     FeatureLinter::new(limits, LatestFeatures::new())
 }
 
+/// Before the first byte of another input under these limits. Little is written.
+fn judging_again(linter: &mut FeatureLinter<LatestFeatures>, limits: Limits)
+    ensures { Begins limits linter.new }
+{
+    few_features();
+    linter.begin_again(limits);
+}
+
 /// Whether more features were told than were pulled.
 fn tells_more(linter: &FeatureLinter<LatestFeatures>, pulled: u64) -> bool
     ensures value { result ≡ tells_more linter.now pulled }
@@ -74,13 +68,14 @@ fn feed_run(linter: &mut FeatureLinter<LatestFeatures>, run: &[u8]) -> Shown
     ensures answer { ShowsOn linter.old run.now result linter.new }
 {
     features_in_time();
+    features_by_commas();
     let _from = linter.offset();
     let shown = linter.feed(run);
     let _to = linter.offset();
     shown
 }
 
-/// Takes the next bytes, up to the end of the next feature.
+/// Takes the next bytes, up to where features have ended.
 fn take(linter: &mut FeatureLinter<LatestFeatures>, pulled: u64, piece: &[u8]) -> Progress
     ensures { Takes linter.old pulled piece.now result linter.new }
 {
@@ -91,7 +86,7 @@ fn take(linter: &mut FeatureLinter<LatestFeatures>, pulled: u64, piece: &[u8]) -
             let early = status_of(shown);
             return progress_of(at, early, true);
         }
-        let next = at + run_length(&piece[at..]);
+        let next = at + few_commas(&piece[at..], ROOM);
         shown = feed_run(linter, &piece[at..next]);
         at = next;
     }
@@ -131,6 +126,34 @@ impl FeatureHandle {
         }
     }
 
+    /// As `begun`, whatever the handle was. Where it has a linter, little is written.
+    pub fn begin_again(&mut self, max_depth: u32, max_bytes: u64) -> u32
+        ensures begun { IsBegun max_depth max_bytes self.new }
+        ensures status { BegunStatus max_depth max_bytes result }
+    {
+        match limits_of(max_depth, max_bytes) {
+            Some(limits) => {
+                self.renew(limits);
+                DONE
+            }
+            None => {
+                self.ended = true;
+                LIMITS
+            }
+        }
+    }
+
+    fn renew(&mut self, limits: Limits)
+        ensures { IsLive limits self.new }
+    {
+        match &mut self.linter {
+            Some(linter) => judging_again(linter, limits),
+            None => self.linter = Some(judging(limits)),
+        }
+        self.pulled = 0;
+        self.ended = false;
+    }
+
     /// Whether a finding is ready.
     fn is_ready(&self) -> bool
         ensures value { result ≡ is_ready self.now }
@@ -146,7 +169,7 @@ impl FeatureHandle {
         }
     }
 
-    /// Takes the next bytes of the input, up to the end of the next feature.
+    /// Takes the next bytes of the input, up to where features have ended: no more than are kept.
     pub fn feed(&mut self, piece: &[u8]) -> Progress
         ensures { IsFed self.old piece.now result self.new }
     {

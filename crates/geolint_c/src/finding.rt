@@ -2,11 +2,14 @@
 ghost use Rattle.std.specs.Prelude.{◌≡◌, Bool};
 ghost use Rattle.gj_rules.specs.FeatureFindings.{FeatureFinding};
 ghost use Rattle.gj_rules.specs.FeaturesTold.{SaysFinding};
-ghost use Rattle.geolint_c.specs.Finding.{IsFeature, IsRecord, IsWhole, no_finding, no_whole, progress_of, no_progress, end_or_zero};
+ghost use Rattle.geolint_c.specs.Finding.{IsFeature, IsRecord, IsWhole, finding_with, record_with, no_finding, no_whole, progress_of, no_progress, end_or_zero};
 ghost use Rattle.geolint_c.specs.Report.{place_or_zero};
 
-use crate::report::{Report, no_report, report_of, report_of_broken, report_of_valid};
-use gj_rules::{Feature, Record, SeqVerdict};
+use crate::report::{
+    Report, no_report, report_of, report_of_broken, report_of_valid, report_of_warned,
+    report_without_warning,
+};
+use gj_rules::{Feature, Record, SeqVerdict, Verdict};
 
 /// What a call took of a piece: how many of its bytes, what they show, and 1 where a finding is ready, otherwise 0.
 #[repr(C)]
@@ -74,14 +77,11 @@ fn end_or_zero(close: Option<u64>) -> u64
     }
 }
 
-/// What is found in a feature.
-pub fn finding_of_feature(feature: &Feature) -> Finding
-    ensures { (finding : FeatureFinding) → SaysFinding feature.now finding → IsFeature finding result }
+/// What is found in a feature, with this report.
+#[inline]
+fn finding_with(feature: &Feature, report: Report) -> Finding
+    ensures { result ≡ finding_with feature.now report }
 {
-    let report = match feature.fault {
-        Some(fault) => report_of_broken(fault),
-        None => report_of_valid(&feature.warnings),
-    };
     Finding {
         number: feature.index,
         place: feature.place,
@@ -91,16 +91,40 @@ pub fn finding_of_feature(feature: &Feature) -> Finding
     }
 }
 
-/// What is found in a record.
-pub fn finding_of_record(found: &Record) -> Finding
-    ensures { IsRecord found.now result }
+/// What is found in a feature.
+pub fn finding_of_feature(feature: &Feature) -> Finding
+    ensures { (finding : FeatureFinding) → SaysFinding feature.now finding → IsFeature finding result }
+{
+    match feature.fault {
+        Some(fault) => finding_with(feature, report_of_broken(fault)),
+        None if feature.warnings.is_empty() => finding_with(feature, report_without_warning()),
+        None => finding_with(feature, report_of_warned(&feature.warnings)),
+    }
+}
+
+/// What is found in a record, with this report.
+#[inline]
+fn record_with(found: &Record, report: Report) -> Finding
+    ensures { result ≡ record_with found.now report }
 {
     Finding {
         number: found.number,
         place: found.place,
         end: found.end,
         id: 0,
-        report: report_of(&found.verdict),
+        report,
+    }
+}
+
+/// What is found in a record.
+pub fn finding_of_record(found: &Record) -> Finding
+    ensures { IsRecord found.now result }
+{
+    match &found.verdict {
+        Verdict::Valid(warnings) if warnings.is_empty() => {
+            record_with(found, report_without_warning())
+        }
+        verdict => record_with(found, report_of(verdict)),
     }
 }
 

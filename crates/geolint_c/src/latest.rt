@@ -1,8 +1,8 @@
 //! The features that were told last, where a host pulls them.
 use gj_coords::Warnings;
-use gj_rules::{Feature, FeatureSink};
+use gj_rules::{Feature, FeatureSink, ForgetfulSink};
 
-/// How many features are kept. A piece of so many bytes completes no more.
+/// How many features are kept. Where fewer commas stand in a piece, no more end in it.
 pub const ROOM: usize = 256;
 
 /// The last features that were told, each at its number modulo their room.
@@ -63,5 +63,11 @@ impl FeatureSink for LatestFeatures {
     fn tell_feature(&mut self, feature: &Feature) {
         self.features[(self.told % ROOM as u64) as usize] = *feature;
         self.told = self.told.saturating_add(1);
+    }
+}
+
+impl ForgetfulSink for LatestFeatures {
+    fn forget(&mut self) {
+        self.told = 0;
     }
 }

@@ -6,6 +6,7 @@
 #![tactic(auto)]
 
 mod check;
+mod commas;
 mod feature_stream;
 mod features;
 mod finding;

@@ -46,6 +46,26 @@ pub unsafe extern "C" fn geolint_records_begin(
     begun_status(framing, max_depth, max_bytes)
 }
 
+/// As `geolint_records_begin`, in memory that has a handle. It writes little where that one was begun well.
+#[unsafe(no_mangle)]
+pub unsafe extern "C" fn geolint_records_begin_again(
+    memory: *mut Memory,
+    framing: u32,
+    max_depth: u32,
+    max_bytes: u64,
+) -> u32
+    ghost held: { RecordHandle }
+    requires testable { Testable memory }
+    requires* handle { sem 𝓛 (if_non_null memory (lies_at the_row full_share memory held)) }
+    ensures* begun { ∃ₛ (λ (new : RecordHandle). sem 𝓛 (if_non_null memory (lies_at the_row full_share memory new)) ∗ ⌜ BegunAt memory framing max_depth max_bytes result new ⌝) }
+{
+    let handle = memory as *mut RecordHandle;
+    if handle.is_null() {
+        return NULL;
+    }
+    (*handle).begin_again(framing, max_depth, max_bytes)
+}
+
 /// Takes the next bytes of the input, up to the end of the next record.
 #[unsafe(no_mangle)]
 pub unsafe extern "C" fn geolint_records_feed(memory: *mut Memory, piece: &[u8]) -> Progress

@@ -1,7 +1,7 @@
 //! The records of an input that comes in pieces, pulled from a handle. Here are the calls over values; `record_stream` takes
 //! them to C.
 ghost use Rattle.std.specs.Prelude.{◌≡◌};
-ghost use Rattle.geolint_c.specs.Records.{framing_of, IsBegun, BegunStatus, IsFed, IsNext, IsOffset, IsFinished, over_status};
+ghost use Rattle.geolint_c.specs.Records.{framing_of, IsLive, IsBegun, BegunStatus, IsFed, IsNext, IsOffset, IsFinished, over_status};
 
 use crate::finding::{
     Finding, Progress, Whole, finding_of_record, no_finding, no_whole, progress_of, whole_of,
@@ -10,6 +10,7 @@ use crate::handle::is_for_any_thread;
 use crate::last::LastRecord;
 use crate::options::limits_of;
 use crate::status::{DONE, ENDED, LIMITS, NONE, READY, REFUSED};
+use gj_json::Limits;
 use gj_rules::{Framing, Records};
 
 /// A judge of records that tells each, until it has ended.
@@ -61,6 +62,35 @@ impl RecordHandle {
             ready: false,
             ended,
         }
+    }
+
+    /// As `begun`, whatever the handle was. Where it has a judge of records, little is written.
+    pub fn begin_again(&mut self, framing: u32, max_depth: u32, max_bytes: u64) -> u32
+        ensures begun { IsBegun framing max_depth max_bytes self.new }
+        ensures status { BegunStatus framing max_depth max_bytes result }
+    {
+        match (framing_of(framing), limits_of(max_depth, max_bytes)) {
+            (Some(framing), Some(limits)) => {
+                self.renew(framing, limits);
+                DONE
+            }
+            _ => {
+                self.ended = true;
+                LIMITS
+            }
+        }
+    }
+
+    fn renew(&mut self, framing: Framing, limits: Limits)
+        ensures { IsLive framing limits self.new }
+    {
+        match &mut self.records {
+            Some(records) => records.begin_again(framing, limits),
+            None => self.records = Some(Records::new(framing, limits)),
+        }
+        self.last = LastRecord::new();
+        self.ready = false;
+        self.ended = false;
     }
 
     /// Takes the next bytes of the input, up to the end of the next record.

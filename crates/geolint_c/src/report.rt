@@ -1,10 +1,10 @@
 //! A verdict in plain numbers.
-ghost use Rattle.std.specs.Prelude.{◌≡◌, ℕ, List};
+ghost use Rattle.std.specs.Prelude.{◌≡◌, ◌≢◌, ℕ, [], List};
 ghost use Rattle.gj_json.specs.Limits.{Allowed};
 ghost use Rattle.gj_coords.specs.Warnings.{Warning};
 ghost use Rattle.gj_coords.specs.WarningsStand.{StandsFor};
 ghost use Rattle.gj_rules.specs.Verdict.{Judgement, IsVerdict, Says};
-ghost use Rattle.geolint_c.specs.Report.{cause_number, warned_of, all_warned, is_warned, Reports, nothing_warned, valid_report, broken_report, refusal_report, report_of, no_report};
+ghost use Rattle.geolint_c.specs.Report.{cause_number, warned_of, all_warned, Reports, nothing_warned, valid_report, broken_report, refusal_report, report_of, no_report};
 
 use crate::status::DONE;
 use gj_coords::{Fault, KINDS, Kind, Warnings};
@@ -89,15 +89,9 @@ fn nothing_warned() -> [Warned; KINDS.len()]
     [Warned { count: 0, first: 0 }; KINDS.len()]
 }
 
-/// 1 where there is a warning, otherwise 0.
-fn is_warned(warnings: &Warnings) -> u64
-    ensures { (all : List Warning) → StandsFor warnings.now all → result ≡ is_warned all }
-{
-    if warnings.is_empty() { 0 } else { 1 }
-}
-
-pub fn report_of_valid(warnings: &Warnings) -> Report
-    ensures { (all : List Warning) → StandsFor warnings.now all → result ≡ valid_report all }
+/// That of a valid text without a warning.
+pub fn report_without_warning() -> Report
+    ensures { result ≡ valid_report [] }
 {
     Report {
         status: DONE,
@@ -105,8 +99,34 @@ pub fn report_of_valid(warnings: &Warnings) -> Report
         rule: 0,
         cause: 0,
         place: 0,
-        warned: is_warned(warnings),
+        warned: 0,
+        warnings: nothing_warned(),
+    }
+}
+
+/// That of a valid text with these warnings.
+#[inline(never)]
+pub fn report_of_warned(warnings: &Warnings) -> Report
+    ensures { (all : List Warning) → StandsFor warnings.now all → all ≢ [] → result ≡ valid_report all }
+{
+    Report {
+        status: DONE,
+        verdict: VALID,
+        rule: 0,
+        cause: 0,
+        place: 0,
+        warned: 1,
         warnings: all_warned(warnings),
+    }
+}
+
+pub fn report_of_valid(warnings: &Warnings) -> Report
+    ensures { (all : List Warning) → StandsFor warnings.now all → result ≡ valid_report all }
+{
+    if warnings.is_empty() {
+        report_without_warning()
+    } else {
+        report_of_warned(warnings)
     }
 }
 

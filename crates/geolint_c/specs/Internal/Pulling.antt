@@ -1,7 +1,7 @@
 -- What a linter of features keeps, as bytes come and features are pulled.
-use Rattle.std.specs.Prelude.{◌≡◌, ℕ, ◌+◌, ◌≤◌, true, false, if◌then◌else◌, List, [], ◌++◌, length, take, slice_get, Option, Some, None}
+use Rattle.std.specs.Prelude.{◌≡◌, ℕ, ◌+◌, ◌≤◌, min, true, false, if◌then◌else◌, List, [], ◌++◌, length, take, slice_get, Option, Some, None}
 use Rattle.gj_json.specs.Limits.{Allowed}
-use Rattle.gj_rules.specs.FeatureFindings.{FeatureFinding}
+use Rattle.gj_rules.specs.FeatureFindings.{FeatureFinding, commas}
 use Rattle.gj_rules.specs.FeatureLinter.{StandsFor as LinterStandsFor, limits_of, refusal_of, sink_of}
 use Rattle.gj_rules.specs.declared.linter.Progress.{Progress as Shown}
 use Rattle.geolint_c.specs.declared.finding.Finding.{Finding}
@@ -29,10 +29,14 @@ OfLinter (Some linter) Holds = Holds linter
 abbrev pub HasRoomFor : ℕ → ℕ → List FeatureFinding → Type 0
 HasRoomFor more pulled found = (pulled ≤ length found) × (length found + more ≤ pulled + ROOM)
 
--- it goes on behind bytes, where there is room for as many features
+-- how many features can end in these bytes: as many as there are bytes, and one more than commas
+abbrev pub most_in : List ℕ → ℕ
+most_in run = min (length run) (commas run + 1)
+
+-- it goes on after bytes, where there is room for the features that can end in them
 abbrev pub GoesOn : Judging → List ℕ → Judging → Type 0
 GoesOn old run new =
-    (pulled : ℕ) (limits : Allowed) (bytes : List ℕ) → Judges old pulled limits bytes → OfFeatures old limits bytes (HasRoomFor (length run) pulled)
+    (pulled : ℕ) (limits : Allowed) (bytes : List ℕ) → Judges old pulled limits bytes → OfFeatures old limits bytes (HasRoomFor (most_in run) pulled)
     → Judges new pulled limits (bytes ++ run)
 
 abbrev pub ShowsOn : Judging → List ℕ → Shown → Judging → Type 0

@@ -14,7 +14,7 @@ returns-clause-judges c = λ pulled limits bytes j more.
     record {
       stands = stands;
       under = c.feed-shown.ensures.limits ∙ j.under;
-      room = room_on c.features_in_time.ensures old new pulled limits bytes run c.feed-shown.ensures.on
+      room = room_on c.features_in_time.ensures c.features_by_commas.ensures old new pulled limits bytes run c.feed-shown.ensures.on
           (subst (λ n. n ≤ length bytes) c.offset-from.ensures.value (c.offset-from.ensures.within bytes j.stands))
           (subst (λ n. n ≤ length (bytes ++ run)) c.offset-to.ensures.value (c.offset-to.ensures.within (bytes ++ run) stands))
           (λ e. sym c.offset-from.ensures.value ∙ c.offset-from.ensures.taken bytes j.stands e)

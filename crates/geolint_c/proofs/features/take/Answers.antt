@@ -1,12 +1,14 @@
 -- What was taken up to the place.
-use Rattle.std.proofs.Common.{◌≡◌, ◌≤◌, ℕ, ◌+◌, ◌-◌, true, false, if◌then◌else◌, List, ◌++◌, length, take, drop, append_assoc, sym, ap, subst, ◌∙◌, arith}
+use Rattle.std.proofs.Common.{◌≡◌, ◌≤◌, ℕ, ◌+◌, ◌-◌, true, false, if◌then◌else◌, List, ◌++◌, length, length-drop, take, drop, append_assoc, sym, ap, subst, ◌∙◌, arith}
+use Rattle.std.proofs.lemmas.List.{take_all}
+use Rattle.gj_rules.specs.FeatureFindings.{commas}
 use Rattle.gj_rules.specs.FeatureLinter.{refusal_of}
 use Rattle.geolint_c.specs.declared.finding.Progress.{Progress}
 use Rattle.geolint_c.specs.declared.latest.TheConstants.{ROOM}
 use Rattle.geolint_c.specs.Features.{Judges, tells_more}
-use Rattle.geolint_c.specs.Internal.Pulling.{Takes}
+use Rattle.geolint_c.specs.Internal.Pulling.{Takes, most_in}
 use Rattle.geolint_c.specs.Handle.{AnswersBy, status_of}
-use Rattle.geolint_c.proofs.PulledFeatures.{length_take, take_more, room_for}
+use Rattle.geolint_c.proofs.PulledFeatures.{take_more, room_for}
 use Rattle.geolint_c.proofs.features.take.Goals as goal
 
 -- what stands from one place to a later one
@@ -28,18 +30,22 @@ loop-at-preserved c =
     let l = c.loop-at in
     let piece = c.args.piece.now in
     let pulled = c.args.pulled in
-    let run = take ((l.at + c.run_length.result) - l.at) (drop l.at piece) in
-    let short : length run ≤ ROOM = (let k = length_take ((l.at + c.run_length.result) - l.at) (drop l.at piece) in let r = c.run_length.ensures.room in omega (arith, k, r)) in
+    let run = take ((l.at + c.few_commas.result) - l.at) (drop l.at piece) in
+    let part : (l.at + c.few_commas.result) - l.at ≡ c.few_commas.result = omega arith in
+    let same = ap (λ n. commas (take n (drop l.at piece))) part in
+    let rest : take (length piece - l.at) (drop l.at piece) ≡ drop l.at piece = take_all (length piece - l.at) (drop l.at piece) (omega (arith, length-drop l.at piece)) in
+    let in_rest = ap (λ bs. commas (take c.few_commas.result bs)) rest in
+    let short : most_in run ≤ ROOM = (let few = c.few_commas.ensures.few in omega (arith, few, in_rest, same)) in
     let none : tells_more l.linter pulled ≡ false = sym c.tells_more.ensures.value ∙ c.if-tells_more.false in
     record {
-      within = omega (arith, c.run_length.ensures.within, c.loop-at-test.true, l.invariant.within);
+      within = omega (arith, c.few_commas.ensures.within, c.loop-at-test.true, l.invariant.within);
       judges = λ limits bytes j.
           let k = l.invariant.judges limits bytes j in
-          further (λ bs. Judges c.feed_run-shown-in-loop-at.new.linter pulled limits bs) bytes piece l.at c.run_length.result
+          further (λ bs. Judges c.feed_run-shown-in-loop-at.new.linter pulled limits bs) bytes piece l.at c.few_commas.result
           (c.feed_run-shown-in-loop-at.ensures.judges pulled limits (bytes ++ take l.at piece) k (room_for l.linter pulled limits (bytes ++ take l.at piece) run none c.tells_more.ensures.counted k short));
       answer = λ limits bytes j.
           let k = l.invariant.judges limits bytes j in
-          further (λ bs. AnswersBy limits bs (status_of c.feed_run-shown-in-loop-at.result) (refusal_of c.feed_run-shown-in-loop-at.new.linter)) bytes piece l.at c.run_length.result
+          further (λ bs. AnswersBy limits bs (status_of c.feed_run-shown-in-loop-at.result) (refusal_of c.feed_run-shown-in-loop-at.new.linter)) bytes piece l.at c.few_commas.result
           (c.feed_run-shown-in-loop-at.ensures.answer pulled limits (bytes ++ take l.at piece) k);
     }
 

@@ -1,0 +1,30 @@
+-- How many commas the first blocks of a piece have.
+use Rattle.std.proofs.Common.{◌≡◌, ℕ, zero, suc, ◌+◌, ◌*◌, ◌<◌, ◌/◌, ◌≤◌, cond, List, [], ◌∷◌, ◌++◌, length, take, drop, drop-drop, get_or, ap, sym, ◌∙◌, arith}
+use Rattle.std.proofs.lemmas.List.Sums.{sum_by-append, sum_by-take-le, sum_by-take-drop, count_by-le-length}
+use Rattle.std.specs.Simd.{first_chunks}
+use Rattle.gj_rules.specs.FeatureFindings.{is_comma, commas}
+use Rattle.geolint_c.proofs.PulledFeatures.{take_more}
+
+abbrev pub one_if : ℕ → ℕ
+one_if b = cond (is_comma b) 1 0
+
+block_at : (n k i : ℕ) (piece : List ℕ) → i < k → get_or (first_chunks n k piece) i [] ≡ take n (drop (i * n) piece)
+block_at n zero i piece h = absurd (omega arith)
+block_at n (suc k) zero piece h = let e : 0 * n ≡ 0 = omega arith in ap (λ m. take n (drop m piece)) (sym e)
+block_at n (suc k) (suc i) piece h =
+    let e : n + i * n ≡ suc i * n = omega arith in
+    block_at n k i (drop n piece) (omega arith) ∙ ap (take n) (drop-drop (i * n) n piece) ∙ ap (λ m. take n (drop m piece)) e
+
+pub one_block_more : (piece : List ℕ) (index k : ℕ) (blocks : List (List ℕ)) → blocks ≡ first_chunks 64 k piece → index < k
+    → commas (take ((index + 1) * 64) piece) ≡ commas (take (index * 64) piece) + commas (get_or blocks index [])
+one_block_more piece index k blocks same less =
+    let e : (index + 1) * 64 ≡ index * 64 + 64 = omega arith in
+    let it : get_or blocks index [] ≡ take 64 (drop (index * 64) piece) = ap (λ bs. get_or bs index []) same ∙ block_at 64 k index piece less in
+    ap (λ n. commas (take n piece)) e ∙ ap commas (take_more piece (index * 64) 64)
+    ∙ sum_by-append one_if (take (index * 64) piece) (take 64 (drop (index * 64) piece))
+    ∙ ap (λ bs. commas (take (index * 64) piece) + commas bs) (sym it)
+
+-- in all of it are no more than in its first bytes, and as many as bytes are left
+pub with_rest : (piece : List ℕ) (n : ℕ) → commas (take (length piece) piece) ≤ commas (take n piece) + length (drop n piece)
+with_rest piece n =
+    omega (arith, sum_by-take-le one_if piece (length piece), sum_by-take-drop one_if piece n, count_by-le-length is_comma (drop n piece))
