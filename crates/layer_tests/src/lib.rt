@@ -10,6 +10,8 @@ mod hints;
 #[cfg(test)]
 mod json;
 #[cfg(test)]
+mod names;
+#[cfg(test)]
 mod number;
 #[cfg(test)]
 mod places;

@@ -2,5 +2,7 @@
 mod events;
 mod features;
 mod linter;
+mod parts;
 mod records;
 mod sequence;
+mod text;

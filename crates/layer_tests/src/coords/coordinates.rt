@@ -1,4 +1,4 @@
-//! Rows of values and their least faults, told to the six watchers and to the one walk alike.
+//! Rows of values and their least faults, for the six watchers and for the one walk.
 mod both;
 mod flat;
 mod mixed;

@@ -6,7 +6,7 @@ pub fn tell<S: EventSink>(text: &[u8], to: &mut S) {
     tell_parts(&[(text, 1)], to);
 }
 
-/// Tells the events of the text that has these parts in turn, each so many times.
+/// Gives the events of the text that has these parts in turn, each repeated as its number says.
 pub fn tell_parts<S: EventSink>(parts: &[(&[u8], u32)], to: &mut S) {
     let mut reader = Reader::new(Limits::usual());
     for (part, times) in parts {

@@ -188,7 +188,7 @@ fn counts_and_places(rt: HostRuntime) {
     }
 }
 
-/// One warning, so many bytes further on.
+/// One warning, its place moved on by `by` bytes.
 fn one_shifted(kind: Kind, place: u32, by: u32) -> Warnings {
     at(kind, place as u64).shifted(by as u64)
 }

@@ -33,7 +33,7 @@ impl EventSink for Told {
     fn pass(&mut self, _left: u16) {}
 }
 
-/// How the ring runs that is told in so many pieces as the numbers say.
+/// The direction of the ring that has these pieces in turn, each repeated as its number says.
 fn told_turn(pieces: &[(&'static str, u32)]) -> Turn {
     let mut told = Told {
         coordinates: Coordinates::new(),

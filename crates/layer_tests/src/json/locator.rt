@@ -1,4 +1,4 @@
-//! Rows of fronts of texts and the paths that they lead to.
+//! Rows of prefixes of texts and the paths that they lead to.
 
 use gj_json::{Cause, JsonFault, Known, Limits, Locator, MOST_LEVELS, Path, PathStep};
 use std::process::Abort;
@@ -14,7 +14,7 @@ fn located(front: &[u8]) -> Result<Path, JsonFault> {
     Ok(locator.path())
 }
 
-/// The same, where the bytes come in two pieces.
+/// The path, where the bytes come in two pieces.
 fn located_in_pieces(first: &[u8], second: &[u8]) -> Result<Path, JsonFault> {
     let mut locator = Locator::new(Limits::usual());
     if let Err(fault) = locator.feed(first) {
@@ -152,6 +152,45 @@ fn places_in_geojson(rt: HostRuntime) {
 }
 
 #[test]
+fn members_whose_events_do_not_matter(rt: HostRuntime) {
+    let features = PathStep::Member(Known::Features);
+    let properties = PathStep::Member(Known::Properties);
+    let texts =
+        b"{\"crs\":{},\"features\":[{\"properties\":{\"a\":[[1,{\"b\":\"]}\\\"\"}]],\"c\":{}}},{\"id\":1,\"properties\":{\"d\":{\"e\":[2,3";
+    leads(
+        &rt,
+        &texts[..10],
+        &[],
+        "an object without members has closed",
+    );
+    leads(
+        &rt,
+        &texts[..53],
+        &[features, index(0), properties, other(), index(0), index(1)],
+        "a string in it is open",
+    );
+    leads(&rt, &texts[..67], &[features, index(0)], "it has closed");
+    leads(&rt, &texts[..68], &[features], "the feature has closed");
+    leads(
+        &rt,
+        texts,
+        &[features, index(1), properties, other(), other(), index(1)],
+        "the next feature's are open",
+    );
+    let mut locator = Locator::new(Limits::usual());
+    assert!(rt;
+        locator
+            .feed(b"{\"a\":1,\"b\":{\"c\":[2],\"d\":[3,x]}}")
+            .is_err(),
+        "a byte in it is refused"
+    );
+    assert!(rt;
+        is_path(locator.path(), &[other(), other()]),
+        "it is open there"
+    );
+}
+
+#[test]
 fn refused_bytes_change_nothing(rt: HostRuntime) {
     let mut locator = Locator::new(Limits::usual());
     let fault = JsonFault {
@@ -171,7 +210,8 @@ fn refused_bytes_change_nothing(rt: HostRuntime) {
 
 #[test]
 fn refused_pieces(rt: HostRuntime) {
-    let rows: [(&[u8], u64, Cause); 4] = [
+    let rows: [(&[u8], u64, Cause); 5] = [
+        (b"{\"a\":{\"b\":1,\"c\":x}}", 16, Cause::Syntax),
         (b"{\"a\":\"\xE2\x82\x28\"", 8, Cause::Syntax),
         (b"[1, 2 3]", 6, Cause::Syntax),
         (b"[\"long enough\", 1234567]", 20, Cause::Length),

@@ -14,7 +14,7 @@ use gj_number::{Decimal, Literal};
 use std::alloc::{AllocError, Global};
 use std::process::Abort;
 
-/// The first events that were told.
+/// The first events that a reader gave.
 #[derive(Drop)]
 struct FirstEvents {
     events: ArrayVec<Event, 16>,
@@ -85,7 +85,8 @@ fn in_two(limits: Limits, first: &[u8], second: &[u8]) -> Option<JsonFault> {
     end(reader)
 }
 
-/// The same where the sink ignores what it can, and whether it knows at the end how many levels are open.
+/// The fault of an input in two pieces, where the sink ignores what it can, and whether it knows at the end how many
+/// levels are open.
 fn ignored_in_two(limits: Limits, first: &[u8], second: &[u8]) -> (Option<JsonFault>, bool) {
     let mut reader = Reader::new(limits);
     let mut sink = Ignoring { levels: 0 };
@@ -394,7 +395,7 @@ fn decimal(number: &[u8]) -> Option<Decimal> {
     literal.value()
 }
 
-/// The first number that a sink was told.
+/// The first number that a sink was given.
 fn first_number(sink: &FirstEvents) -> Option<Decimal> {
     for event in &sink.events {
         if let What::Number(value) = event.what {
@@ -404,7 +405,7 @@ fn first_number(sink: &FirstEvents) -> Option<Decimal> {
     None
 }
 
-/// The first name that a sink was told.
+/// The first name that a sink was given.
 fn first_name(sink: &FirstEvents) -> Option<Known> {
     for event in &sink.events {
         if let What::Name(known) = event.what {
@@ -414,7 +415,7 @@ fn first_name(sink: &FirstEvents) -> Option<Known> {
     None
 }
 
-/// The first string that a sink was told.
+/// The first string that a sink was given.
 fn first_word(sink: &FirstEvents) -> Option<Word> {
     for event in &sink.events {
         if let What::Text(word) = event.what {
@@ -575,7 +576,7 @@ fn texts_that_may_end(rt: HostRuntime) {
     }
 }
 
-/// Whether the input in two pieces tells these events, and its end the last one.
+/// Whether the input in two pieces gives these events, and its end the last one.
 fn are_told(input: &[u8], cut: usize, told: &[Event], last: &Option<Event>) -> bool
     requires { cut ≤ length input.now }
 {

@@ -44,7 +44,7 @@ enum Way {
     ByPieces,
 }
 
-/// Gives a text so many times.
+/// Gives a text this many times.
 fn push_piece(literal: &mut Literal, way: Way, text: &str, times: u32)
     ensures { (bytes : List ℕ) → StandsFor literal.old bytes → (more : List ℕ) × StandsFor literal.new more }
 {
@@ -59,7 +59,7 @@ fn push_piece(literal: &mut Literal, way: Way, text: &str, times: u32)
     }
 }
 
-/// The literal behind these pieces.
+/// The literal after these pieces.
 fn read(way: Way, pieces: &[Piece]) -> Literal
     ensures { (bytes : List ℕ) × StandsFor result bytes }
 {
@@ -350,7 +350,7 @@ fn takes_runs_of_digits(rt: HostRuntime) {
     }
 }
 
-/// Gives a text to `push_piece` in two pieces, and answers how many bytes are taken.
+/// Gives a text to `push_piece` in two pieces, and returns how many bytes are taken.
 fn push_halves(literal: &mut Literal, text: &[u8], cut: usize) -> usize
     requires { cut ≤ length text.now }
 {
@@ -361,7 +361,7 @@ fn push_halves(literal: &mut Literal, text: &[u8], cut: usize) -> usize
     cut + literal.push_piece(&text[cut..])
 }
 
-/// Gives a text to `push_piece` byte by byte, and answers how many are taken.
+/// Gives a text to `push_piece` byte by byte, and returns how many are taken.
 fn push_singly(literal: &mut Literal, text: &[u8]) -> usize {
     for (at, byte) in text.iter().enumerate() {
         if literal.push_piece(&[*byte]) == 0 {

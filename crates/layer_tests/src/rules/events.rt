@@ -38,7 +38,7 @@ impl Reading {
     }
 }
 
-/// What was read behind a text.
+/// What was read after a text.
 fn read(text: &[u8]) -> Reading {
     let mut reading = Reading::new();
     reading.piece(text);
@@ -514,13 +514,12 @@ fn a_byte_order_mark(rt: HostRuntime) {
     assert!(rt; fault_of(&null) == Some(no_object), "a mark before null");
 }
 
-/// A collection that is open in its first part.
-/// So many collections are as deep as a text may be.
+/// A collection that is open in its first part. This many collections are as deep as a text may be.
 const HALF: u16 = MOST_LEVELS / 2;
 
 const OPEN: &str = "{\"type\":\"GeometryCollection\",\"geometries\":[";
 
-/// What was read behind a front, so many collections in one another, and an end.
+/// What was read after a prefix, `times` collections inside each other, and an end.
 fn nested(front: &str, times: u16, end: &str) -> Reading {
     let mut reading = Reading::new();
     reading.piece(front.as_bytes());

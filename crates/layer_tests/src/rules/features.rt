@@ -1,4 +1,4 @@
-//! What is told of the features of texts, and after which byte: byte by byte, and in pieces of two at every cut.
+//! What is reported of the features of texts, and after which byte: byte by byte, and in two pieces at every cut.
 
 use gj_coords::{Fault, Kind, Rule, Warnings};
 use gj_json::{Cause, JsonFault, Limits, Reader};
@@ -8,7 +8,7 @@ use std::process::Abort;
 /// More than any row has.
 const MOST: usize = 8;
 
-/// The first features that were told, and how many were.
+/// The first features that were reported, and how many were.
 #[derive(Drop)]
 struct FirstFeatures {
     features: [Option<Feature>; MOST],
@@ -90,7 +90,7 @@ fn linter() -> FeatureLinter<FirstFeatures> {
 }
 
 impl FirstFeatures {
-    /// Whether of these features the ones were told, in order, that so many bytes complete.
+    /// Whether exactly those of these features were reported, in order, that the first `bytes` bytes complete.
     fn are(&self, dues: &[Expected], bytes: usize) -> bool {
         let mut count = 0;
         for due in dues.iter().filter(|due| due.bytes <= bytes) {
@@ -249,7 +249,7 @@ fn features_before_a_refusal(rt: HostRuntime) {
     }
 }
 
-/// The rules behind a reader of one's own.
+/// The rules fed by a reader of one's own.
 #[test]
 fn rules_that_tell_features(rt: HostRuntime) {
     let mut reader = Reader::new(Limits::usual());

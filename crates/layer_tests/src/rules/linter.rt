@@ -8,13 +8,13 @@ use gj_json::{Cause, JsonFault, Limits, MOST_LEVELS};
 use gj_rules::{Linter, Progress, Verdict};
 use std::process::Abort;
 
-/// A text that begins with an object whose `geometries` have no end yet.
-/// So many collections are as deep as a text may be.
+/// A text that begins with an object whose `geometries` have no end yet. This many collections are as deep as a text
+/// may be.
 const HALF: u16 = MOST_LEVELS / 2;
 
 const COLLECTION: &[u8] = b"{\"type\":\"GeometryCollection\",\"geometries\":[";
 
-/// A linter that was fed this, then the start of so many collections inside each other, and then that.
+/// A linter that was fed `first`, then the start of this many collections inside each other, and then `last`.
 fn fed(first: &[u8], collections: usize, last: &[u8]) -> Linter {
     let mut linter = Linter::new(Limits::usual());
     linter.feed(first);

@@ -7,7 +7,7 @@ use std::process::Abort;
 
 const MOST: u64 = 1 << 60;
 
-/// Keeps what it is told.
+/// Keeps what it is given.
 #[derive(Drop)]
 struct Told {
     records: [Record; 4],
@@ -66,7 +66,7 @@ fn refused(number: u64, place: u64, end: u64, at: u64, cause: Cause) -> Record {
     found(number, place, end, Verdict::NotJson(fault))
 }
 
-/// Whether the sink was told these, and the input is this as a whole.
+/// Whether the sink was given these, and the input as a whole has this verdict.
 fn agree(told: &Told, verdict: SeqVerdict, expected: &[Record]) -> bool {
     if told.count != expected.len() {
         return false;

@@ -100,7 +100,7 @@ fn rows(rt: HostRuntime) {
         // a refusal comes before the lack of an LF, and before a broken rule
         (b"\x1E[]x", not_json(1, 3, Cause::Syntax)),
         (b"\x1E[]]\n", not_json(1, 3, Cause::Syntax)),
-        // white space behind the LF
+        // white space after the LF
         (
             b"\x1E{\"type\":\"Point\",\"coordinates\":[1,2]}\n ",
             not_json(1, 39, Cause::Truncated),
@@ -136,7 +136,7 @@ fn limits(rt: HostRuntime) {
             not_json(1, 4, Cause::Length),
         ),
         (MOST_LEVELS, 5, b"\x1E[]\n\x1E", broken(1, 1, Rule::G1)),
-        // inside a run of RS, at an RS, at the byte behind
+        // inside a run of RS, at an RS, at the byte after
         (
             MOST_LEVELS,
             1,

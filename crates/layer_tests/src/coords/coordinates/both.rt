@@ -1,4 +1,4 @@
-//! The one walk and the six watchers, told the same texts.
+//! The one walk and the six watchers over the same texts.
 use crate::coords::sample::tell_parts;
 use gj_coords::{
     Coordinates, Fault, LineStringWatcher, MultiLineStringWatcher, MultiPointWatcher,
@@ -38,7 +38,7 @@ pub fn warnings_of(walk: &Coordinates) -> WarnedRow {
     row
 }
 
-/// The walk, told each event by itself.
+/// The walk, given each event by itself.
 #[derive(Drop)]
 pub struct Walked {
     pub walk: Coordinates,
@@ -72,7 +72,7 @@ impl EventSink for Walked {
     fn pass(&mut self, _left: u16) {}
 }
 
-/// A watcher, told each event.
+/// A watcher, given each event.
 #[derive(Drop)]
 struct Watched<W> {
     watcher: W,
@@ -94,7 +94,7 @@ impl<W: Watcher> EventSink for Watched<W> {
     fn pass(&mut self, _left: u16) {}
 }
 
-/// What a watcher answers of a text.
+/// What a watcher finds in a text.
 #[derive(Clone, Copy)]
 struct Answer {
     fault: Option<Fault>,
@@ -125,7 +125,7 @@ pub struct Both {
 }
 
 impl Both {
-    /// The text has these parts in turn, each so many times.
+    /// The results for the text that has these parts in turn, each repeated as its number says.
     pub fn of(parts: &[(&[u8], u32)]) -> Both {
         Both {
             walked: Walked::of(parts),

@@ -1,11 +1,11 @@
-//! Positions told as one, beside the same told event by event.
+//! Positions given as one `Flat`, beside the same given event by event.
 use super::both::{Both, Row, WarnedRow, faults_of, warnings_of};
 use crate::coords::sample::tell;
 use gj_coords::{Coordinates, SimpleFaults, Warnings};
 use gj_json::{Event, EventSink, Flat};
 use std::process::Abort;
 
-/// Takes what the reader tells as one so, and counts it.
+/// Takes each `Flat` of the reader as one, and counts it.
 #[derive(Drop)]
 pub struct Grouped {
     walk: Coordinates,
@@ -20,7 +20,7 @@ impl Grouped {
         }
     }
 
-    /// Sees that it answers as the walk that was told event by event.
+    /// Tests that it finds what the walk finds that was given each event by itself.
     pub fn expect_as(&self, rt: &impl Abort, both: &Both) {
         assert!(rt; self.walk.done(), "done");
         assert!(rt; self.faults() == both.by_walk(), "the faults");
@@ -100,7 +100,8 @@ fn expect_same(rt: &impl Abort, text: &str, flats: u64) {
     grouped.expect_at_once(rt, text);
 }
 
-/// The value of the object's one member, which the reader tells as one, and the same value event by event at its place.
+/// Tests the value of the object's one member, which the reader gives as one `Flat`, beside the same value event by
+/// event at its place.
 fn expect_whole(rt: &impl Abort, object: &str, value: &str) {
     let both = Both::of_text(value);
     let mut only = OnlyFlats {
@@ -116,7 +117,7 @@ fn expect_whole(rt: &impl Abort, object: &str, value: &str) {
     only.grouped.expect_at_once(rt, object);
 }
 
-/// Takes only what the reader tells as one.
+/// Takes only what the reader gives as one `Flat`.
 #[derive(Drop)]
 struct OnlyFlats {
     grouped: Grouped,

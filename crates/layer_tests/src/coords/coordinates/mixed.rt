@@ -1,11 +1,11 @@
-//! Random small values, whose positions are told as one or by events as the pieces happen to be cut, beside the same told
-//! event by event to the walk and to the six watchers.
+//! Random small values. The pieces are cut at random, so a position comes as one `Flat` or by events. The walk and the
+//! six watchers get the same values event by event.
 use super::both::Both;
 use super::flat::Grouped;
 use gj_json::{Limits, Reader};
 use std::process::Abort;
 
-/// A text has at most so many bytes; white space makes it up to that.
+/// The length of a text: white space makes it up to that.
 const ROOM: usize = 1024;
 
 /// What stands in an array: of the positions some are the same however they are written, some are too precise or out of

@@ -1,4 +1,4 @@
-//! Rows of values and their warnings, told to the six watchers and to the one walk alike.
+//! Rows of values and their warnings, for the six watchers and for the one walk.
 use super::both::{Both, SIX, Walked};
 use gj_coords::{Kind, Simple, Warned, Warnings};
 use std::process::Abort;

@@ -1,4 +1,4 @@
-//! Arrays of numbers that are told at once, beside their bytes in turn, in texts of positions and in changed ones.
+//! Arrays of numbers that come as one `Flat`, beside their bytes in turn, in texts of positions and in changed ones.
 
 use super::{FirstEvents, no_events};
 use gj_json::{EventSink, JsonFault, Limits, Reader};

@@ -46,7 +46,7 @@ fn white_space_stops_at_each_index(rt: HostRuntime) {
     }
 }
 
-/// A string of characters of one to three bytes, with a quote at each place: behind whole characters it ends there.
+/// A string of characters of one to three bytes, with a quote at each place: after whole characters it ends there.
 #[test]
 fn strings_end_behind_whole_characters(rt: HostRuntime) {
     let row = b"\xC3\xA9\xE6\x9D\xB1x";

@@ -13,7 +13,7 @@ fn after(bytes: &[u8]) -> Reader {
     reader
 }
 
-/// `skip_run` behind these bytes takes so many of the piece.
+/// Tests that `skip_run` after these bytes takes this many bytes of the piece.
 fn takes(rt: &impl Abort, before: &[u8], piece: &[u8], count: usize, row: &str) {
     let mut reader = after(before);
     assert!(rt; reader.skip_run(piece) == count, "{row}");

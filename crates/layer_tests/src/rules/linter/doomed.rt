@@ -4,7 +4,7 @@ use gj_json::Limits;
 use gj_rules::Linter;
 use std::process::Abort;
 
-/// Fed byte by byte, a linter says no from the front of this length on, or never.
+/// Fed byte by byte, a linter says no from the prefix of this length on, or never.
 fn expect(rt: &impl Abort, input: &[u8], first: Option<usize>, row: &str) {
     let mut linter = Linter::new(Limits::usual());
     assert!(rt; !linter.doomed(), "{row}: before the first byte");

@@ -24,7 +24,7 @@ impl Linters {
         }
     }
 
-    /// Feeds a part so many times.
+    /// Feeds a part this many times.
     fn feed(&mut self, part: &[u8], times: u32) {
         for _ in 0..times {
             for byte in part {
@@ -59,7 +59,7 @@ fn refused(cause: Cause, place: u64) -> Verdict {
     Verdict::NotJson(JsonFault { place, cause })
 }
 
-/// How often the part stands in a long input.
+/// The number of times that the part stands in a long input.
 const MANY: u32 = 5_000;
 
 #[test]
