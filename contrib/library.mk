@@ -1,4 +1,4 @@
-# The library for C and other languages: builds it, and installs it with its headers, the Python module and the Rust crate.
+# The library for C and other languages: builds it, and installs it with its headers, the Python package and the Rust crate.
 #
 #     make library                               # needs rt, the Rattle toolchain
 #     make install-library PREFIX=/usr/local     # needs no rt once it is built; honours DESTDIR
@@ -14,7 +14,7 @@ LIBDIR ?= $(PREFIX)/lib
 INCLUDEDIR ?= $(PREFIX)/include
 # The Rust crate is a folder of sources, which a host names in its Cargo.toml.
 RUSTDIR ?= $(PREFIX)/share/geolint/rust
-# The folder of the Python module: where a Python looks that has such a folder under PREFIX, in this order the one in PREFIX/bin, python3
+# The folder of the Python package: where a Python looks that has such a folder under PREFIX, in this order the one in PREFIX/bin, python3
 # and the system's; where none has one, PREFIX/lib/python3/dist-packages, which PYTHONPATH has to name. PYTHON names another Python,
 # and then it is the folder of that one.
 PYTHONDIR ?= $(eval PYTHONDIR := $(shell '$(GEOLINT_ROOT)/contrib/library/python-folder' '$(PREFIX)' $(PYTHON)))$(PYTHONDIR)
@@ -38,6 +38,8 @@ $(LIBRARY_BUILD)/libgeolint.so: $(LIBRARY_BUILD)/libgeolint.a
 	$(CC) -shared -Wl,-soname,libgeolint.so.0 -Wl,--whole-archive $< -Wl,--no-whole-archive -o $@
 
 rust := Cargo.toml build.rs src/lib.rs src/findings.rs src/places.rs tests/linter.rs tests/findings.rs
+python := __init__.py __main__.py _findings.py _linter.py _native.py _places.py _sources.py _verdict.py django.py starlette.py py.typed \
+	_command/__init__.py _command/files.py _command/forms.py _command/run.py
 cmake := geolint-config.cmake geolint-config-version.cmake
 filled = sed -e 's|@PREFIX@|$(PREFIX)|; s|@LIBDIR@|$(LIBDIR)|; s|@INCLUDEDIR@|$(INCLUDEDIR)|; s|@VERSION@|$(VERSION)|'
 imports = (cd / && $(1) -B -c 'import geolint') 2>/dev/null
@@ -49,18 +51,23 @@ install-library: library
 	$(INSTALL) -m 644 $(GEOLINT_C)/include/geolint.h $(GEOLINT_C)/include/geolint.hpp "$(DESTDIR)$(INCLUDEDIR)"
 	$(INSTALL) -d "$(DESTDIR)$(RUSTDIR)/src" "$(DESTDIR)$(RUSTDIR)/tests"
 	cd $(GEOLINT_ROOT)/contrib/library/rust && for file in $(rust); do $(INSTALL) -m 644 $$file "$(DESTDIR)$(RUSTDIR)/$$file" || exit; done
-	sed -e 's|^_INSTALLED = ""|_INSTALLED = "$(LIBDIR)/libgeolint.so.0"|' $(GEOLINT_ROOT)/contrib/library/geolint.py > "$(DESTDIR)$(PYTHONDIR)/geolint.py"
-	chmod 644 "$(DESTDIR)$(PYTHONDIR)/geolint.py"
+	rm -f "$(DESTDIR)$(PYTHONDIR)/geolint.py"
+	$(INSTALL) -d "$(DESTDIR)$(PYTHONDIR)/geolint/_command"
+	cd $(GEOLINT_ROOT)/contrib/library/python/geolint && \
+		for file in $(python); do $(INSTALL) -m 644 $$file "$(DESTDIR)$(PYTHONDIR)/geolint/$$file" || exit; done
+	sed -e 's|^_INSTALLED = ""|_INSTALLED = "$(LIBDIR)/libgeolint.so.0"|' $(GEOLINT_ROOT)/contrib/library/python/geolint/_native.py > "$(DESTDIR)$(PYTHONDIR)/geolint/_native.py"
 	$(filled) $(GEOLINT_ROOT)/contrib/library/geolint.pc.in > "$(DESTDIR)$(LIBDIR)/pkgconfig/geolint.pc"
 	$(INSTALL) -d "$(DESTDIR)$(LIBDIR)/cmake/geolint"
 	for file in $(cmake); do $(filled) $(GEOLINT_ROOT)/contrib/library/cmake/$$file.in > "$(DESTDIR)$(LIBDIR)/cmake/geolint/$$file" || exit; done
-	@echo "geolint: the library is in $(DESTDIR)$(LIBDIR), the Python module in $(DESTDIR)$(PYTHONDIR), the Rust crate in $(DESTDIR)$(RUSTDIR)"
+	@echo "geolint: the library is in $(DESTDIR)$(LIBDIR), the Python package in $(DESTDIR)$(PYTHONDIR), the Rust crate in $(DESTDIR)$(RUSTDIR)"
 	@[ "$(DESTDIR)" ] || $(call imports,$(or $(PYTHON),"$(PREFIX)/bin/python3")) || $(call imports,python3) || \
 		echo "geolint: python3 does not look for modules there: PYTHONPATH=$(PYTHONDIR) names the folder, or PYTHON=python3 takes one of its own"
 
 uninstall-library:
 	rm -f "$(DESTDIR)$(LIBDIR)/libgeolint.a" "$(DESTDIR)$(LIBDIR)/libgeolint.so" "$(DESTDIR)$(LIBDIR)/libgeolint.so.0"
 	rm -f "$(DESTDIR)$(LIBDIR)/pkgconfig/geolint.pc" "$(DESTDIR)$(INCLUDEDIR)/geolint.h" "$(DESTDIR)$(INCLUDEDIR)/geolint.hpp"
-	rm -f "$(DESTDIR)$(PYTHONDIR)/geolint.py"
+	for file in $(python); do rm -f "$(DESTDIR)$(PYTHONDIR)/geolint/$$file"; done
+	rm -rf "$(DESTDIR)$(PYTHONDIR)/geolint/__pycache__" "$(DESTDIR)$(PYTHONDIR)/geolint/_command/__pycache__"
+	rmdir "$(DESTDIR)$(PYTHONDIR)/geolint/_command" "$(DESTDIR)$(PYTHONDIR)/geolint" 2>/dev/null || true
 	for file in $(cmake); do rm -f "$(DESTDIR)$(LIBDIR)/cmake/geolint/$$file"; done
 	for file in $(rust); do rm -f "$(DESTDIR)$(RUSTDIR)/$$file"; done

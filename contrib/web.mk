@@ -24,15 +24,26 @@ below := gj_places gj_rules gj_coords gj_json gj_number
 from_kit := itoa memchr core std
 rlib = $(top)/crates/$(1)/out/rlib
 kept = $(WEB_BUILD)/incremental-$(1)
+# The source works on vectors of 16 bytes. For WebAssembly the kit's clang compiles them to loops over bytes, unless it is told that the
+# engine has vectors: so it is called by a script that adds this one word. Each browser that docs/web.md names has them.
+WASM_TOOLS := $(WEB_BUILD)/toolchain
+toolchain_of = $(if $(filter wasm64%,$(1)),$(WASM_TOOLS),$(KIT)/toolchain)
 build_for = rm -rf $(kept) && { cp -r $(GEOLINT_C)/out/incremental $(kept) 2>/dev/null || mkdir -p $(kept); } && cd $(GEOLINT_C) && $(KIT)/bin/rattle build --crate-name geolint_c src/lib.rt \
     $(foreach it,$(filter-out gj_number,$(below)),--extern $(it)=$(call rlib,$(it))/$(it).rlib) $(foreach it,$(below),-L dependency=$(call rlib,$(it))) \
     $(foreach it,$(from_kit),--extern $(it)=$(KIT)/rlibs/$(it).rlib) -L dependency=$(KIT)/rlibs \
     --antt-project $(KIT)/rattle/logic/antt-project.json --logic-built $(KIT)/logic_built --incremental $(kept) \
-    --jobs 2 --crate-type staticlib --target $(1) --toolchain $(KIT)/toolchain -o $(2)
+    --jobs 2 --crate-type staticlib --target $(1) --toolchain $(call toolchain_of,$(1)) -o $(2)
 # needs COMMAND PACKAGES: says how to install what is missing.
 needs = command -v $(1) >/dev/null || { echo "geolint: there is no command $(firstword $(1)): apt-get install $(2)" >&2; exit 1; }
 
-$(WEB_BUILD)/libgeolint_c.a: $(GEOLINT_C)/out/libgeolint_c.a
+$(WASM_TOOLS)/bin/clang:
+	@mkdir -p $(@D)
+	@ln -sfn $(KIT)/toolchain/lib $(WASM_TOOLS)/lib
+	@for it in ld.lld llvm-ar; do ln -sfn $(KIT)/toolchain/bin/$$it $(@D)/$$it; done
+	@printf '#!/bin/sh\nexec %s "$$@" -msimd128\n' $(KIT)/toolchain/bin/clang >$@
+	@chmod +x $@
+
+$(WEB_BUILD)/libgeolint_c.a: $(GEOLINT_C)/out/libgeolint_c.a $(WASM_TOOLS)/bin/clang
 	@echo "geolint: building the module, which checks the crate once more for its machine ..." >&2
 	@mkdir -p $(WEB_BUILD)
 	@$(call build_for,wasm64-unknown-unknown,$@) >$(WEB_BUILD)/build.log 2>&1 || { cat $(WEB_BUILD)/build.log >&2; exit 1; }
@@ -41,16 +52,17 @@ $(WEB_BUILD)/geolint_64.wasm: $(WEB_BUILD)/libgeolint_c.a
 	$(KIT)/bin/rattle-link --target wasm64-unknown-unknown --toolchain $(KIT)/toolchain -o $@ $<
 
 # Not every browser has memories with 64-bit addresses, so they are lowered to 32 bits.
-$(WEB_BUILD)/geolint.wasm: $(WEB_BUILD)/geolint_64.wasm
+$(WEB_BUILD)/geolint.wasm: $(WEB_BUILD)/geolint_64.wasm $(WEB)/plain-loads
 	@$(call needs,wasm-opt,binaryen)
-	wasm-opt --all-features $< --memory64-lowering -o $@
+	wasm-dis --all-features $< | $(WEB)/plain-loads >$(WEB_BUILD)/plain.wat
+	wasm-opt --all-features $(WEB_BUILD)/plain.wat --memory64-lowering -O3 -o $@
 
 $(WEB_OUT)/index.html: $(WEB_BUILD)/geolint.wasm $(wildcard $(WEB)/*) $(top)/docs/rules.md
 	@mkdir -p $(WEB_OUT)
 	$(WEB_PYTHON) $(WEB)/build $< $@
 	@echo "geolint: the page is $@, $$(($$(gzip -9c $@ | wc -c) / 1000)) kB as a server sends it" >&2
 
-npm_sources := geolint.js geolint.d.ts check.js findings.js linter.js lines.js names.js paths.js report.js source.js split.js
+npm_sources := geolint.js geolint.d.ts check.js findings.js hints.js linter.js lines.js names.js paths.js report.js source.js split.js terminal.js width.js
 npm: $(WEB_BUILD)/geolint.wasm
 	@$(call needs,npm,npm)
 	rm -rf $(NPM_BUILD)

@@ -1,9 +1,10 @@
 // Judges inputs: reads each once, and finds line, column, path and feature of what it has to tell.
 
 import { Linter, FeatureLinter, RecordLinter, Locator } from "./linter.js";
-import { Lines, STRIDE, excerptAt } from "./lines.js";
+import { STRIDE, excerptAt } from "./lines.js";
 import { PathFinder, endOfValue } from "./paths.js";
 import { Search, Findings } from "./findings.js";
+import { hintFor } from "./hints.js";
 import { valueOf } from "./names.js";
 import { sourceOf } from "./source.js";
 import { Sequence } from "./split.js";
@@ -45,16 +46,13 @@ export class Geolint {
   async check(input, { maxBytes = 0, maxDepth = 0, signal, onProgress } = {}) {
     const source = sourceOf(input);
     return this.#with([Linter], async ([linter]) => {
-      const lines = new Lines();
       linter.begin(maxBytes, maxDepth);
       for await (const bytes of source.pieces()) {
         signal?.throwIfAborted();
-        const goesOn = linter.feed(bytes);
-        lines.feed(bytes);
-        if (!goesOn) break;
-        onProgress?.({ read: lines.offset, size: source.size, isDoomed: linter.isDoomed() });
+        if (!linter.feed(bytes)) break;
+        onProgress?.({ read: linter.taken, size: source.size, isDoomed: linter.isDoomed() });
       }
-      return located(linter.finish(), lines, source);
+      return located(linter.finish(), { linter, source });
     });
   }
 
@@ -107,7 +105,7 @@ export class Geolint {
       if (!isText) yield* search.rest();
       const whole = isText ? linter.finish() : search.whole;
       found.counts = search.counts;
-      found.verdict = await located(whole, search.lines, source, search.known, isText);
+      found.verdict = await located(whole, { linter, source, known: search.known, isText });
       giveBack([linter, locator]);
     });
   }
@@ -129,20 +127,24 @@ export class Geolint {
   }
 }
 
-/** Adds line, column, excerpt, path and feature to each place of a verdict; null for what cannot be told. `known` has the places
- *  whose path is known. */
-async function located(found, lines, source, known = new Map(), isText = true) {
+/** Adds the hint, and line, column, excerpt, path and feature of each place of a verdict; null for what cannot be told. `known` has the
+ *  places whose path is known. */
+async function located(found, { linter, source, known = new Map(), isText = true }) {
   const read = (from, to) => source.read(from, to);
+  const { lines, taken } = linter;
+  lines.pass(taken);
   const findings = found.verdict === "valid" ? found.warnings : [found];
   const paths = await pathsTo(found, findings, known, isText, read);
   const placed = [];
   for (const it of findings) {
     const { path = null, feature = null } = paths.get(it.offset) ?? {};
-    placed.push({ ...it, ...(await lines.find(it.offset, read)), path, feature, excerpt: await excerptAt(it.offset, read) });
+    const spot = await lines.find(it.offset, read, (mark, bytes) => linter.counted(mark, bytes));
+    placed.push({ ...it, ...spot, path, feature, excerpt: await excerptAt(it.offset, read) });
   }
+  const hint = await hintFor(found, read, isText ? (place) => linter.isWholeBefore(place, read) : undefined);
   const none = { line: null, column: null, path: null, feature: null, excerpt: null };
   const first = found.verdict === "valid" ? { ...found, ...none, warnings: placed } : placed[0];
-  return { record: null, records: null, ...first, read: lines.offset };
+  return { record: null, records: null, ...first, hint, read: taken };
 }
 
 /** The paths of the places, and the feature around each. What is not known is sought near the start of a text. */

@@ -1,6 +1,6 @@
 // What is found in each feature of a text, or in each text of an input of many, in one reading: with line, column, path, id and name.
 
-import { Lines, STRIDE } from "./lines.js";
+import { STRIDE } from "./lines.js";
 import { calledOf, valueOf, writtenId, ID_REACH } from "./names.js";
 
 /** So many bytes are judged before what they show is told: in a text as [1,1,1] each second byte ends an element. */
@@ -15,7 +15,7 @@ export class Search {
   #source;
   #isText;
   #isWanted;
-  #piece = { start: 0, bytes: new Uint8Array(0) };
+  #piece = new Uint8Array(0);
 
   /** `which` is what is told: "faults", "findings" (also the features that have warnings) or "all". Of faults and of features that
    *  have warnings no more than `most` are told; `counts` has them all. */
@@ -25,7 +25,6 @@ export class Search {
     this.#locator = locator;
     this.#source = source;
     this.#isText = isText;
-    this.lines = new Lines();
     this.counts = { all: 0, faults: 0, warned: 0, told: 0 };
     /** Of the first fault and the first warning of each kind: the place, with what the verdict needs of it. */
     this.known = new Map();
@@ -44,27 +43,19 @@ export class Search {
   }
 
   async *run({ signal, onProgress } = {}) {
+    const linter = this.#linter;
     for await (const bytes of this.#source.pieces()) {
       signal?.throwIfAborted();
-      const start = this.lines.offset;
-      this.#piece = { start, bytes };
-      let goesOn = true;
-      for (let at = 0; goesOn && at < bytes.length; at += STEP) {
-        const step = this.#judge(bytes.subarray(at, at + STEP));
-        yield* this.#placedOf(step.told);
-        goesOn = step.goesOn;
+      linter.put(bytes);
+      this.#piece = bytes;
+      for (let at = 0; at < bytes.length; at += STEP) {
+        const told = [];
+        const goesOn = linter.take(at, Math.min(at + STEP, bytes.length), () => this.#take(told));
+        yield* this.#placedOf(told);
+        if (!goesOn) return;
       }
-      // Once the piece is judged: until then a place in it may be asked for.
-      this.#passTo(start + bytes.length);
-      if (!goesOn) return;
-      onProgress?.({ read: this.lines.offset, size: this.#source.size, ...this.counts });
+      onProgress?.({ read: linter.taken, size: this.#source.size, ...this.counts });
     }
-  }
-
-  #judge(bytes) {
-    const told = [];
-    const goesOn = this.#linter.feed(bytes, () => this.#take(told));
-    return { told, goesOn };
   }
 
   /** Takes the finding that was pulled last, where it is told or the verdict needs it. */
@@ -94,23 +85,18 @@ export class Search {
     yield* this.#placedOf(told);
   }
 
-  #passTo(place) {
-    const { start, bytes } = this.#piece;
-    this.lines.feed(bytes.subarray(this.lines.offset - start, place - start));
-  }
-
   /** The line and the column of a place: those that ascend are found on the way. */
   async #spotOf(place) {
-    const { start, bytes } = this.#piece;
-    if (place < this.lines.offset || place > start + bytes.length) return this.lines.find(place, (from, to) => this.#read(from, to));
-    this.#passTo(place);
-    return { line: this.lines.line, column: this.lines.column };
+    const { lines, taken } = this.#linter;
+    if (place < lines.offset || place > taken) return lines.find(place, (from, to) => this.#read(from, to), (mark, bytes) => this.#locator.counted(mark, bytes));
+    lines.pass(place);
+    return { line: lines.line, column: lines.column };
   }
 
   /** Bytes of the input, as they lie in this piece or are read again. */
   async #read(from, to) {
-    const { start, bytes } = this.#piece;
-    if (from >= start && to <= start + bytes.length) return bytes.subarray(from - start, to - start);
+    const { start, taken } = this.#linter;
+    if (from >= start && to <= taken) return this.#piece.subarray(from - start, to - start);
     return this.#source.read(from, to);
   }
 

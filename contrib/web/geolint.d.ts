@@ -49,11 +49,23 @@ export interface Warning extends Kind, Finding {
   offset: number;
 }
 
+/** What a file looks like, by its first bytes and those around a place: a guess, on which no verdict depends. */
+export interface Hint {
+  /** A word for it, as `gzip`, `extraComma`, `swapped`. */
+  name: string;
+  /** What geolint-files says, with the command that makes the file right. */
+  text: string;
+  /** The place that shows it. */
+  offset: number;
+}
+
 /** What a text is, or an input of many. The members of `Finding` are null where it is valid. */
 export interface Verdict extends Finding {
   verdict: "valid" | "broken" | "not JSON";
   /** Of a valid text: each kind of which there is one, in the order of their numbers. */
   warnings: Warning[];
+  /** Of what is not valid, or has a position out of range; null where nothing comes to mind. */
+  hint: Hint | null;
   /** How many bytes were read. */
   read: number;
   /** Of an input of many texts: the number of the first that is not valid, or null where all are. */

@@ -10,6 +10,7 @@ import { Geolint, PATH_REACH } from "./check.js";
 
 export { Geolint, PATH_REACH };
 export * from "./report.js";
+export * from "./terminal.js";
 
 /** Compiles the module: its bytes, a WebAssembly.Module, or by itself the file `geolint.wasm` beside this one. */
 export async function load(module = undefined) {

@@ -1,5 +1,5 @@
-// Lines, columns and the text around a place. A line ends with LF alone, and a column counts characters from 1. Both are
-// counted in the first reading, with a mark every few megabytes, so that a place is found from the last mark before it.
+// Lines, columns and the text around a place. A line ends with LF alone, and a column counts characters from 1. The library counts
+// both in the one reading, with a mark every few megabytes, so that a place is found from the last mark before it.
 
 const LF = 10;
 const CR = 13;
@@ -14,97 +14,35 @@ const LINES_BEFORE = 2;
 const LINES_AFTER = 4;
 const WIDTH = 110;
 
-const HIGH = 0x80808080;
-const LOW = 0x7f7f7f7f;
-const LINE_ENDS = 0x0a0a0a0a;
-/** A byte of a word can count so many. */
-const MOST = 255;
-
-/** The bytes of a piece as words of four, and those before and after them. */
-function wordsOf(bytes) {
-  if (bytes.length < 8) return { words: new Int32Array(0), others: [bytes] };
-  const head = -bytes.byteOffset & 3;
-  const words = new Int32Array(bytes.buffer, bytes.byteOffset + head, (bytes.length - head) >>> 2);
-  return { words, others: [bytes.subarray(0, head), bytes.subarray(head + 4 * words.length)] };
-}
-
-/** The sum of the four bytes of a word. */
-const sum = (word) => (word & 255) + ((word >>> 8) & 255) + ((word >>> 16) & 255) + (word >>> 24);
-
-/** How many LF there are. In a word, a byte of `other` is zero exactly where neither it nor the sum has its high bit. */
-function countLineEnds(bytes) {
-  const { words, others } = wordsOf(bytes);
-  let total = 0;
-  for (const part of others) for (const byte of part) total += byte === LF ? 1 : 0;
-  for (let from = 0; from < words.length; from += MOST) {
-    const to = Math.min(from + MOST, words.length);
-    let counts = 0;
-    for (let i = from; i < to; i++) {
-      const other = words[i] ^ LINE_ENDS;
-      counts = (counts + ((~((((other & LOW) + LOW) | 0) | other) & HIGH) >>> 7)) | 0;
-    }
-    total += sum(counts);
-  }
-  return total;
-}
-
-/** How many characters begin: all bytes do but those that begin with the bits 10. */
-function countCharacters(bytes) {
-  const { words, others } = wordsOf(bytes);
-  let total = 0;
-  for (const part of others) for (const byte of part) total += (byte & 0xc0) === 0x80 ? 0 : 1;
-  for (let from = 0; from < words.length; from += MOST) {
-    const to = Math.min(from + MOST, words.length);
-    let counts = 0;
-    for (let i = from; i < to; i++) counts = (counts + (((~words[i] | (words[i] << 1)) & HIGH) >>> 7)) | 0;
-    total += sum(counts);
-  }
-  return total;
-}
-
-/** Where in the lines the bytes end that were fed, and marks on the way. */
+/** Where in the lines the bytes end that were counted, and marks on the way. The library counts, in the piece that lies in its memory. */
 export class Lines {
-  /** Begins at the start, or at a mark. */
-  constructor({ offset, line, column } = { offset: 0, line: 1, column: 1 }) {
-    Object.assign(this, { offset, line, column });
-    this.marks = [{ offset, line, column }];
+  #count;
+
+  /** `count(spot, from, to)` is the line and the column at `to`, of a place in that piece, from those at `from`. */
+  constructor(count) {
+    Object.assign(this, { offset: 0, line: 1, column: 1 });
+    this.marks = [{ offset: 0, line: 1, column: 1 }];
+    this.#count = count;
   }
 
-  feed(bytes) {
-    for (let at = 0; at < bytes.length; at += STRIDE) this.#take(bytes.subarray(at, at + STRIDE));
-  }
-
-  #take(bytes) {
+  /** Goes on to a place that is in the piece. */
+  pass(place) {
     const { offset, line, column } = this;
+    if (place <= offset) return;
     if (offset - this.marks.at(-1).offset >= STRIDE) this.marks.push({ offset, line, column });
-    const last = bytes.lastIndexOf(LF);
-    if (last >= 0) {
-      this.line += countLineEnds(bytes.subarray(0, last + 1));
-      this.column = 1;
-    }
-    this.column += countCharacters(bytes.subarray(last + 1));
-    this.offset += bytes.length;
+    Object.assign(this, this.#count(this, offset, place));
+    this.offset = place;
   }
 
-  /** The last mark that is not after `place`. */
-  markBefore(place) {
-    return this.marks.findLast((mark) => mark.offset <= place);
-  }
-
-  /** The line and the column of a place, from 1; `read(from, to)` gives the bytes there, or null. */
-  async find(place, read) {
-    const mark = this.markBefore(place);
+  /** The line and the column of a place, from 1. `read(from, to)` gives the bytes there, or null, and `counted(spot, bytes)` the line and
+   *  the column after bytes. At most the bytes since the last mark are read again. */
+  async find(place, read, counted) {
+    const mark = this.marks.findLast((it) => it.offset <= place);
     const bytes = await read(mark.offset, place);
     if (!bytes) return { line: null, column: null };
-    const { line, column } = bytes.length ? advanced(mark, bytes) : mark;
+    const { line, column } = counted(mark, bytes);
     return { line, column };
   }
-}
-
-function advanced(mark, bytes) {
-  const lines = new Lines(mark);
-  lines.feed(bytes);
-  return lines;
 }
 
 /** Controls, marks of the direction of writing, separators of lines and characters without width: what would not be seen, or turn

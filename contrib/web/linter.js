@@ -5,6 +5,8 @@
 // no more after it, so the views of it stay good. Addresses and lengths are BigInt at the boundary, in the 64-bit module and in
 // the one that is lowered to a 32-bit memory.
 
+import { Lines, STRIDE } from "./lines.js";
+
 const PAGE = 65536;
 /** How many kinds of warning there are: W1 to W9. */
 export const KINDS = 9;
@@ -32,36 +34,41 @@ function grow(memory, pages) {
   }
 }
 
-/** A handle of the library in an instance of its own. */
+/** A handle of the library in an instance of its own, with room for one piece of an input. */
 class Handle {
-  /** A handle over `module`, a WebAssembly.Module; `piece` is how many bytes one call of the module takes at most. */
-  static async make(module, piece = 1 << 20) {
+  /** A handle over `module`, a WebAssembly.Module; `piece` is how many bytes there is room for. */
+  static async make(module, piece = STRIDE) {
     return new this((await WebAssembly.instantiate(module, {})).exports, piece);
   }
 
   constructor(calls, size, piece) {
     this.calls = calls;
     this.piece = piece;
+    this.size = Number(size);
     // The module's data and its stack end at __heap_base; what follows is free.
-    const handle = roundUp(Number(calls.__heap_base.value), Number(calls.geolint_alignment()));
-    this.report = roundUp(handle + Number(size), 16);
+    this.handle = roundUp(Number(calls.__heap_base.value), Number(calls.geolint_alignment()));
+    this.report = roundUp(this.handle + this.size, 16);
     this.text = roundUp(this.report + FINDING_HEAD + REPORT_SIZE, 16);
-    this.room = roundUp(this.text + 16, 64);
+    this.copy = roundUp(this.text + 32, 64);
+    this.room = roundUp(this.copy + this.size, 64);
     const lacking = Math.ceil((this.room + piece - calls.memory.buffer.byteLength) / PAGE);
     if (lacking > 0) grow(calls.memory, lacking);
     this.bytes = new Uint8Array(calls.memory.buffer);
     this.view = new DataView(calls.memory.buffer);
-    this.address = BigInt(handle);
+    this.words = new Uint32Array(calls.memory.buffer, this.report, (FINDING_HEAD + REPORT_SIZE) / 4);
+    this.address = BigInt(this.handle);
     // A struct comes back through a pointer, which is the first argument.
     this.answer = BigInt(this.report);
+    this.spot = BigInt(this.text);
   }
 
+  /** Of what a call answered: a number of four bytes, and one of eight. */
   wordAt(at) {
-    return this.view.getUint32(this.report + at, true);
+    return this.words[at / 4];
   }
 
   longAt(at) {
-    return Number(this.view.getBigUint64(this.report + at, true));
+    return this.words[at / 4] + 2 ** 32 * this.words[at / 4 + 1];
   }
 
   /** The report that stands `at` so many bytes from the start of the answer. Places are byte offsets from 0. */
@@ -82,6 +89,58 @@ class Handle {
   /** What a handle begins with, which is allowed or not. */
   begun(status) {
     if (status === LIMITS) throw new RangeError("maxBytes is from 1 to 2^60, and maxDepth from 1 to 256");
+    /** How many bytes were put, where the piece begins that is in the room, and where the handle was kept. */
+    this.taken = 0;
+    this.start = 0;
+    this.kept = 0;
+    this.lines = new Lines((spot, from, to) => this.#counted(spot, this.room + from - this.start, to - from));
+  }
+
+  /** Puts the next piece into the room. The handle is kept from time to time, as it is before the piece. */
+  put(piece) {
+    this.lines.pass(this.taken);
+    if (this.taken - this.kept >= STRIDE) {
+      this.bytes.copyWithin(this.copy, this.handle, this.handle + this.size);
+      this.kept = this.taken;
+    }
+    this.bytes.set(piece, this.room);
+    this.start = this.taken;
+    this.taken += piece.length;
+  }
+
+  /** An input in pieces for which there is room. */
+  *parts(bytes) {
+    for (let at = 0; at < bytes.length; at += this.piece) yield bytes.subarray(at, at + this.piece);
+  }
+
+  /** The line and the column after bytes of the memory more. */
+  #counted({ line, column }, from, length) {
+    const { view, text, spot } = this;
+    view.setBigUint64(text, BigInt(line), true);
+    view.setBigUint64(text + 8, BigInt(column), true);
+    this.calls.geolint_lines_feed(this.answer, spot, BigInt(from), BigInt(length));
+    return { line: this.longAt(0), column: this.longAt(8) };
+  }
+
+  /** The line and the column after these bytes more. What is in the room is gone after it. */
+  counted(spot, bytes) {
+    let found = spot;
+    for (const part of this.parts(bytes)) {
+      this.bytes.set(part, this.room);
+      found = this.#counted(found, this.room, part.length);
+    }
+    return found;
+  }
+
+  /** Whether the bytes before a place are a whole text. It is asked once the linter has ended; `read(from, to)` gives the bytes there. */
+  async isWholeBefore(place, read) {
+    const { kept } = this;
+    const bytes = place < kept ? null : await read(kept, place);
+    if (!bytes) return false;
+    this.begin(...this.limits);
+    if (kept > 0) this.bytes.copyWithin(this.handle, this.copy, this.copy + this.size);
+    this.feed(bytes, () => {});
+    return this.finish().verdict !== "not JSON";
   }
 
   ruleText(rule) {
@@ -129,6 +188,7 @@ export class Linter extends Handle {
 
   /** Begins anew. `maxBytes` and `maxDepth` are the limits; 0 stands for the most of either. */
   begin(maxBytes = 0, maxDepth = 0) {
+    this.limits = [maxBytes, maxDepth];
     const begin = this.isBegun ? this.calls.geolint_begin_again : this.calls.geolint_begin;
     this.begun(begin(this.address, maxDepth, BigInt(maxBytes)));
     this.isBegun = true;
@@ -136,10 +196,9 @@ export class Linter extends Handle {
 
   /** Takes the next bytes. False once the input is refused: then no further byte changes the verdict. */
   feed(bytes) {
-    for (let at = 0; at < bytes.length; at += this.piece) {
-      const piece = bytes.subarray(at, at + this.piece);
-      this.bytes.set(piece, this.room);
-      const status = this.calls.geolint_feed(this.address, BigInt(this.room), BigInt(piece.length));
+    for (const part of this.parts(bytes)) {
+      this.put(part);
+      const status = this.calls.geolint_feed(this.address, BigInt(this.room), BigInt(part.length));
       if (status === REFUSED) return false;
       if (status !== DONE) throw wrongState(status);
     }
@@ -162,18 +221,22 @@ export class Linter extends Handle {
 class Puller extends Handle {
   /** Takes the next bytes, and calls `each` after each finding, which the getters below then tell. False once the input is refused. */
   feed(bytes, each) {
-    const { take } = this;
-    for (let from = 0; from < bytes.length; from += this.piece) {
-      const piece = bytes.subarray(from, from + this.piece);
-      this.bytes.set(piece, this.room);
-      for (let at = 0; at < piece.length; ) {
-        take(this.answer, this.address, BigInt(this.room + at), BigInt(piece.length - at));
-        const [taken, status, isReady] = [this.longAt(0), this.wordAt(8), this.wordAt(12)];
-        at += taken;
-        if (isReady) this.pull(each);
-        if (status === REFUSED) return false;
-        if (status !== DONE || taken === 0) throw wrongState(status);
-      }
+    for (const part of this.parts(bytes)) {
+      this.put(part);
+      if (!this.take(0, part.length, each)) return false;
+    }
+    return true;
+  }
+
+  /** The same, for a part of the piece that is in the room. */
+  take(from, to, each) {
+    for (let at = from; at < to; ) {
+      this.takes(this.answer, this.address, BigInt(this.room + at), BigInt(to - at));
+      const [taken, status, isReady] = [this.longAt(0), this.wordAt(8), this.wordAt(12)];
+      at += taken;
+      if (isReady) this.pull(each);
+      if (status === REFUSED) return false;
+      if (status !== DONE || taken === 0) throw wrongState(status);
     }
     return true;
   }
@@ -226,11 +289,12 @@ class Puller extends Handle {
 export class FeatureLinter extends Puller {
   constructor(calls, piece) {
     super(calls, calls.geolint_features_size(), piece);
-    this.take = calls.geolint_features_feed;
+    this.takes = calls.geolint_features_feed;
     this.next = calls.geolint_features_next;
   }
 
   begin(maxBytes = 0, maxDepth = 0) {
+    this.limits = [maxBytes, maxDepth];
     this.begun(this.calls.geolint_features_begin(this.address, maxDepth, BigInt(maxBytes)));
   }
 
@@ -245,7 +309,7 @@ export class FeatureLinter extends Puller {
 export class RecordLinter extends Puller {
   constructor(calls, piece) {
     super(calls, calls.geolint_records_size(), piece);
-    this.take = calls.geolint_records_feed;
+    this.takes = calls.geolint_records_feed;
     this.next = calls.geolint_records_next;
   }
 
@@ -279,10 +343,9 @@ export class Locator extends Handle {
 
   /** Takes the bytes before the place, and the one that stands there. */
   feed(bytes) {
-    for (let at = 0; at < bytes.length; at += this.piece) {
-      const piece = bytes.subarray(at, at + this.piece);
-      this.bytes.set(piece, this.room);
-      this.calls.geolint_locator_feed(this.address, BigInt(this.room), BigInt(piece.length));
+    for (const part of this.parts(bytes)) {
+      this.bytes.set(part, this.room);
+      this.calls.geolint_locator_feed(this.address, BigInt(this.room), BigInt(part.length));
     }
   }
 

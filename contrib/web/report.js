@@ -1,28 +1,17 @@
-// The forms of a report: the lines of the program geolint, and those of geolint-files. A report is a list of
-// { name, verdict }, where `verdict` is what `check` gives; `passes` says of a verdict whether the file passes.
+// The forms of a report as JSON and SARIF, in the words of geolint-files. A report is a list of { name, verdict }, where `verdict`
+// is what `check` gives; `passes` says of a verdict whether the file passes.
 
 const isTold = (it) => it !== null && it !== undefined;
 
 /** What is found in a feature or a record, each warning by itself. */
 export const eachOf = (items) => items.flatMap((it) => (it.verdict === "valid" ? it.warnings.map((one) => ({ ...it, ...one, warnings: [one] })) : [it]));
-const wordOf = (it) => (it.rule.startsWith("W") ? "warning" : it.verdict);
 const calledIn = (it) => (it.index === undefined ? `record ${it.number}` : `feature ${it.index}`);
 
 export const passesAlways = (verdict) => verdict.verdict === "valid";
 
-/** The lines of `geolint`, which tell byte offsets. */
-export function textOf(verdict) {
-  const { verdict: name, rule, text, offset, warnings, path, record, records } = verdict;
-  const inside = isTold(record) ? `record ${record}\n` : "";
-  if (name === "broken") return `${inside}broken ${rule} at ${offset}: ${text}\n${path ? `path ${path}\n` : ""}`;
-  if (name === "not JSON") return `${inside}not JSON at ${offset}: ${text}\n`;
-  const all = isTold(records) ? [`records ${records}`] : [];
-  return ["valid", ...all, ...warnings.map((it) => `warning ${it.rule} count ${it.count} first ${it.offset}: ${it.text}`)].join("\n") + "\n";
-}
-
 /** The form `json`: one object in one line. */
 export function jsonOf(name, verdict, passes = passesAlways) {
-  const { rule, text, offset, line, column, path, warnings, record = null, records = null } = verdict;
+  const { rule, text, offset, line, column, path, hint, warnings, record = null, records = null } = verdict;
   const of = (it) => ({ rule: it.rule, text: it.text, offset: it.offset, line: it.line, column: it.column, json_path: it.path });
   const told = { rule, text, offset, line, column, json_path: path };
   return JSON.stringify({
@@ -32,6 +21,7 @@ export function jsonOf(name, verdict, passes = passesAlways) {
     record,
     records,
     ...told,
+    hint: hint?.text ?? null,
     warnings: warnings.map((it) => ({ count: it.count, ...of(it) })),
   });
 }
@@ -39,7 +29,7 @@ export function jsonOf(name, verdict, passes = passesAlways) {
 /** The object of a file that could not be read; `text` is the reason. */
 export function jsonOfUnread(name, text) {
   const nothing = { record: null, records: null, rule: null };
-  return JSON.stringify({ path: name, verdict: "not read", passes: false, ...nothing, text, offset: null, line: null, column: null, json_path: null, warnings: [] });
+  return JSON.stringify({ path: name, verdict: "not read", passes: false, ...nothing, text, offset: null, line: null, column: null, json_path: null, hint: null, warnings: [] });
 }
 
 /** Of what is found in a feature or a record, as geolint-files has it under `--every`. `more`: how many are not told. */
@@ -50,41 +40,6 @@ export function jsonOfFindings(name, items, more = 0) {
   });
   if (more > 0) lines.push(JSON.stringify({ path: name, more }));
   return lines;
-}
-
-export function textOfFindings(items, more = 0) {
-  const lines = eachOf(items).map((it) => {
-    const id = isTold(it.id) ? ` id ${it.id}` : "";
-    const spot = [`at ${it.offset}`, it.line !== null && `line ${it.line}, column ${it.column}`, it.path].filter(Boolean).join(", ");
-    return `${calledIn(it)}${id} ${wordOf(it)} ${it.rule} ${spot}: ${it.text}\n`;
-  });
-  return lines.join("") + (more > 0 ? `and ${more} more\n` : "");
-}
-
-export function linesOfFindings(name, items, more = 0) {
-  const lines = eachOf(items).map((it) => {
-    const id = isTold(it.id) ? `id ${it.id}` : null;
-    const details = [calledIn(it), id, it.line === null && `at byte ${it.offset}`, it.path].filter(Boolean).join(", ");
-    return `${place(name, it)}: ${wordOf(it)} ${it.rule}: ${it.text} (${details})\n`;
-  });
-  return lines.join("") + (more > 0 ? `${name}: and ${more} more\n` : "");
-}
-
-const place = (name, it) => (it.line === null ? name : `${name}:${it.line}:${it.column}`);
-function detailsOf(it) {
-  const details = [isTold(it.record) && `record ${it.record}`, it.count > 1 && `${it.count} times`, it.line === null && `at byte ${it.offset}`, it.path].filter(Boolean);
-  return details.length ? ` (${details.join(", ")})` : "";
-}
-
-/** The form `lines`: a line for each finding, and under a fault the part of the line with a caret. */
-export function linesOf(name, verdict) {
-  const lineOf = (it, word) => `${place(name, it)}: ${word} ${it.rule}: ${it.text}${detailsOf(it)}\n`;
-  if (verdict.verdict === "valid") return verdict.warnings.map((it) => lineOf(it, "warning")).join("");
-  const head = lineOf(verdict, verdict.verdict);
-  if (!verdict.excerpt) return head;
-  const { before, after, isCutBefore, isCutAfter } = verdict.excerpt;
-  const left = (isCutBefore ? "..." : "") + before;
-  return `${head}    ${left}${after}${isCutAfter ? "..." : ""}\n    ${" ".repeat([...left].length)}^\n`;
 }
 
 const levelOf = (rule) => (rule.startsWith("W") ? "warning" : "error");

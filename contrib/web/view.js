@@ -2,7 +2,6 @@
 
 import { say, size, time, number, whatOf, mendOf } from "./language.js";
 import { pictureOf, drawingOf } from "./draw.js";
-import { isOtherKind } from "./hints.js";
 import { make } from "./dom.js";
 import { listingOf, tableOfAll } from "./listing.js";
 import { calledOf } from "./names.js";
@@ -29,11 +28,11 @@ export function sentenceOf(entry) {
   if (group === "valid") return records === null ? say("sentence.valid") : say("sentence.validMany", { count: records });
   if (group === "warned") return say("sentence.warned", { count: verdict.warnings.length });
   if (record !== null) return say("sentence.brokenMany", { number: record, what: whatOf(verdict.rule) });
-  if (isOtherKind(entry.hint)) return say("sentence.otherKind", { hint: hintText(entry) });
+  if (entry.hint?.isOtherKind) return say("sentence.otherKind", { hint: hintText(entry) });
   return say(verdict.verdict === "broken" ? "sentence.broken" : "sentence.notJson", { what: whatOf(verdict.rule) });
 }
 
-const hintText = ({ hint }) => `${say("hint")} ${say(`hints.${hint}`)}`;
+const hintText = ({ hint }) => `${say("hint")} ${say(`hints.${hint.name}`)}`;
 
 /** The card of a file. `save(entry, button)` saves its valid features; where there is no such call, the card is for paper. */
 export function cardOf(entry, save = null) {
@@ -65,7 +64,7 @@ function tableOf(entry) {
   const body = make("tbody");
   const head = ["rule", "what", "where", "inside"].map((it) => make("th", "", say(`table.${it}`)));
   head.forEach((it) => (it.scope = "col"));
-  if (findings.every((it) => insideOf(it) === "")) head.at(-1).textContent = "";
+  if (findings.every((it) => insideOf(it) === "")) head[3] = make("td");
   const table = make("table", "findings", make("thead", "", make("tr", "", ...head)), body);
   const more = make("button");
   more.type = "button";
@@ -124,10 +123,10 @@ export function insideOf({ feature, path, rule }) {
 /** The excerpt, how to mend it, the hint, the drawing and the chapter on the rule. */
 function detailsOf(entry, finding) {
   // Of a file of another kind there is no line worth showing, and nothing to mend at the place.
-  if (isOtherKind(entry.hint)) return [chapterOf(finding.rule)].filter(Boolean);
+  if (entry.hint?.isOtherKind) return [chapterOf(finding.rule)].filter(Boolean);
   const list = make("dl", "", make("dt", "", say("mend")), make("dd", "", mendOf(finding.rule)));
   if (finding.path) list.append(make("dt", "", say("path")), make("dd", "", make("code", "", finding.path)));
-  const hint = entry.hint ? make("p", "hint", hintText(entry)) : null;
+  const hint = entry.hint?.offset === finding.offset ? make("p", "hint", hintText(entry)) : null;
   return [excerptOf(finding), hint, list, figureOf(finding), chapterOf(finding.rule)].filter(Boolean);
 }
 

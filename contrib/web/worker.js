@@ -1,7 +1,7 @@
 // Judges files in a worker, so that the page answers meanwhile. A file is read in pieces and never held whole.
 
 import { Geolint } from "./check.js";
-import { hintFor } from "./hints.js";
+import { guessFor } from "./guesses.js";
 import { unpacked, checksumOf } from "./unpack.js";
 
 /** The page is told how far the reading is no more often than this, in milliseconds. */
@@ -49,15 +49,15 @@ const answers = {
   /** A file of one text is read once for its verdict, and where there is anything to list, once more. */
   async check({ file, framing }) {
     const begun = performance.now();
+    const read = async (from, to) => new Uint8Array(await file.slice(from, to).arrayBuffer());
     if (framing) {
       const { verdict, counts } = await list(geolint.records(file, { framing, most: MOST, onProgress: meter("progress") }));
-      postMessage({ kind: "verdict", verdict, hint: null, milliseconds: performance.now() - begun });
+      postMessage({ kind: "verdict", verdict, hint: await guessFor(verdict, read), milliseconds: performance.now() - begun });
       return { kind: "listed", counts };
     }
     const verdict = await geolint.check(file, { onProgress: meter("progress") });
     const milliseconds = performance.now() - begun;
-    const read = async (from, to) => new Uint8Array(await file.slice(from, to).arrayBuffer());
-    postMessage({ kind: "verdict", verdict, hint: await hintFor(verdict, read), milliseconds });
+    postMessage({ kind: "verdict", verdict, hint: await guessFor(verdict, read), milliseconds });
     if (verdict.verdict === "not JSON" || (verdict.verdict === "valid" && !verdict.warnings.length)) return { kind: "listed", counts: null };
     const found = await list(geolint.features(file, { most: MOST, onProgress: meter("progress", { isListing: true }) }));
     return { kind: "listed", counts: found.counts };

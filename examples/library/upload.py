@@ -1,4 +1,4 @@
-"""A web service that stores an upload and judges it on the way: Python with geolint.py, as a WSGI application.
+"""A web service that stores an upload and judges it on the way: Python with the package geolint, as a WSGI application.
 
     python3 examples/library/upload.py 8000
     curl --data-binary @examples/cafes.geojson http://127.0.0.1:8000/

@@ -310,7 +310,7 @@ fn verdict_of(report: &c::Report) -> Option<Verdict> {
     }
 }
 
-/// Judges a text in memory. As measured it needs 208 KiB of stack; on a smaller one, and for many small texts, take a [`Linter`].
+/// Judges a text in memory. As measured it needs 208 KiB of stack; on a smaller one, and for many deep texts, take a [`Linter`].
 ///
 /// # Errors
 ///

@@ -1,0 +1,233 @@
+"""What a file is, and where what is reported about it stands: a first reading, and a second one for the places."""
+
+from __future__ import annotations
+
+import os
+from dataclasses import dataclass, field, replace
+from typing import Any, Iterator, Optional
+
+from .._findings import features, records
+from .._linter import Linter, check
+from .._native import PIECE, address
+from .._places import Place, Seeker
+from .._verdict import Finding, Verdict
+
+# The most findings of features that are held at once.
+MOST_HELD = 65536
+# How many bytes of a line are shown before its place and from it on, and how many characters of an `id`.
+EXCERPT, ID = 256, 40
+
+
+@dataclass(frozen=True)
+class Asked:
+    """How files are read and what is reported."""
+
+    max_bytes: Optional[int] = None
+    quick: bool = False
+    framing: Optional[str] = None
+    strict: bool = False
+    allowed: frozenset[int] = frozenset()
+    every: Optional[str] = None
+    most: int = 1000
+
+    def fails(self, kind: int) -> bool:
+        """Whether a warning of this kind fails a file."""
+        return self.strict and kind not in self.allowed
+
+
+@dataclass(frozen=True)
+class Note:
+    """What is reported of a feature: its fault, or a kind of warning of one without a fault."""
+
+    feature: int
+    id_place: Optional[int]
+    code: str
+    text: str
+    place: int
+    kind: Optional[int] = None
+    id: bytes = b""
+
+
+@dataclass
+class Found:
+    """What a file is. `verdict` is None where it is only known not to be valid."""
+
+    name: bytes
+    verdict: Optional[Verdict]
+    record: Optional[int] = None
+    records: Optional[int] = None
+    # Where the record begins that a place is in: of a fault under 0, of a kind of warning under its number.
+    starts: dict[int, int] = field(default_factory=dict)
+    notes: list[Note] = field(default_factory=list)
+    note_count: int = 0
+    spots: dict[int, Place] = field(default_factory=dict)
+    excerpt: Optional[tuple[bytes, bytes]] = None
+
+    @property
+    def word(self) -> str:
+        return "not valid" if self.verdict is None else self.verdict.name
+
+    def passes(self, asked: Asked) -> bool:
+        """Whether it is valid, and has no warnings but those that are allowed."""
+        verdict = self.verdict
+        return verdict is not None and verdict.valid and not any(asked.fails(w.kind) for w in verdict.warnings)
+
+
+def _quickly(file: Any, asked: Asked) -> Optional[Verdict]:
+    """The verdict of a valid text. No read follows the piece that says no."""
+    linter = Linter(max_bytes=asked.max_bytes)
+    while piece := file.read(PIECE):
+        if not linter.feed(piece) or linter.doomed:
+            return None
+    return linter.finish() or None
+
+
+def _notes_of(finding: Finding, every: str) -> Iterator[Note]:
+    verdict = finding.verdict
+    if verdict.code:
+        yield Note(finding.number, finding.id, verdict.code, verdict.text or "", verdict.place or 0)
+    elif every == "warnings":
+        for w in verdict.warnings:
+            yield Note(finding.number, finding.id, f"W{w.kind}", w.text, w.first, w.kind)
+
+
+def _with_features(name: bytes, file: Any, asked: Asked) -> Found:
+    room, count = min(asked.most or MOST_HELD, MOST_HELD), 0
+    notes: list[Note] = []
+    found = features(file, max_bytes=asked.max_bytes)
+    for finding in found:
+        for note in _notes_of(finding, asked.every or ""):
+            count += 1
+            if len(notes) < room:
+                notes.append(note)
+    if found.verdict is not None and found.verdict.name == "not JSON":
+        count, notes = 0, []
+    return Found(name, found.verdict, notes=notes, note_count=count)
+
+
+def _of_records(name: bytes, file: Any, asked: Asked, framing: str) -> Found:
+    """What an input of records is. No read follows the record that decides it."""
+    starts: dict[int, int] = {}
+    found = records(file, framing, max_bytes=asked.max_bytes)
+    for finding in found:
+        if not finding:
+            return Found(name, finding.verdict, record=finding.number, starts={0: finding.place})
+        for w in finding.verdict.warnings:
+            starts.setdefault(w.kind, finding.place)
+    if found.verdict:
+        return Found(name, found.verdict, records=found.count, starts=starts)
+    return Found(name, found.verdict, record=found.count)
+
+
+def read(name: bytes, file: Any, asked: Asked, framing: Optional[str]) -> Found:
+    """The first reading."""
+    if framing:
+        return _of_records(name, file, asked, framing)
+    if asked.quick:
+        return Found(name, _quickly(file, asked))
+    if asked.every:
+        return _with_features(name, file, asked)
+    return Found(name, check(file, max_bytes=asked.max_bytes))
+
+
+def _places(found: Found) -> list[tuple[int, int]]:
+    """The places that are reported, each with the start of the text that it is in, in their order."""
+    verdict = found.verdict
+    places = {note.place: 0 for note in found.notes}
+    if verdict is not None and verdict.place is not None:
+        places[verdict.place] = found.starts.get(0, 0)
+    for w in verdict.warnings if verdict else ():
+        places[w.first] = found.starts.get(w.kind, 0)
+    return sorted(places.items())
+
+
+class _Forward:
+    """Goes forward in a file."""
+
+    def __init__(self, file: Any, seeker: Seeker) -> None:
+        self._file, self._seeker = file, seeker
+        self._held, self._at = b"", 0
+
+    def to(self, offset: int) -> bool:
+        """Whether the file reaches so far."""
+        while self._seeker.offset < offset:
+            if self._at == len(self._held):
+                self._held, self._at = self._file.read(PIECE), 0
+                if not self._held:
+                    return False
+            step = min(offset - self._seeker.offset, len(self._held) - self._at)
+            self._seeker.skip(address(self._held) + self._at, step)
+            self._at += step
+        return True
+
+    def place(self) -> Place:
+        if self._at == len(self._held):
+            self._held, self._at = self._file.read(PIECE), 0
+        return self._seeker.place(address(self._held) + self._at, len(self._held) - self._at)
+
+
+def _spots(file: Any, places: list[tuple[int, int]]) -> dict[int, Place]:
+    seeker = Seeker((0, 0))
+    forward, spots, begun = _Forward(file, seeker), {}, 0
+    for offset, start in places:
+        if start > begun and forward.to(start):
+            begun = start
+            seeker.begin_text()
+        if not forward.to(offset):
+            break
+        spots[offset] = forward.place()
+    return spots
+
+
+def _slice(file: Any, place: int, before: int, after: int) -> tuple[bytes, bytes]:
+    """So many bytes before a place and from it on."""
+    start = max(0, place - before)
+    file.seek(start)
+    held = file.read(place - start + after)
+    return held[: place - start], held[place - start :]
+
+
+def _id(file: Any, note: Note) -> bytes:
+    """The `id` of a feature as it is written, in its first characters."""
+    if note.id_place is None:
+        return b""
+    held = _slice(file, note.id_place, 0, 4 * ID)[1]
+    end = 0
+    if held.startswith(b'"'):
+        end = 1
+        while end < len(held) and held[end : end + 1] != b'"':
+            end += 2 if held[end : end + 1] == b"\\" else 1
+        end += 1
+    else:
+        while end < len(held) and held[end] not in b" \t\n\r,}]":
+            end += 1
+    return held[:end].decode("utf-8", "surrogateescape")[:ID].encode("utf-8", "surrogateescape")
+
+
+def _state(file: Any) -> tuple[int, int]:
+    found = os.fstat(file.fileno())
+    return found.st_size, found.st_mtime_ns
+
+
+def read_again(file: Any, found: Found, state: tuple[int, int]) -> None:
+    """The second reading, which gives lines, columns, paths and the `id`s: nothing where the file has changed."""
+    places = _places(found)
+    if not places:
+        return
+    file.seek(0)
+    spots = _spots(file, places)
+    notes = [replace(note, id=_id(file, note)) for note in found.notes]
+    excerpt = None
+    if found.verdict is not None and found.verdict.place is not None:
+        before, after = _slice(file, found.verdict.place, EXCERPT, EXCERPT)
+        excerpt = before.rpartition(b"\n")[2], after.partition(b"\n")[0]
+    if _state(file) == state:
+        found.spots, found.notes, found.excerpt = spots, notes, excerpt
+
+
+def read_file(name: bytes, file: Any, asked: Asked, framing: Optional[str]) -> Found:
+    """Both readings of a file that can be read twice."""
+    state = _state(file)
+    found = read(name, file, asked, framing)
+    read_again(file, found, state)
+    return found

@@ -1,0 +1,227 @@
+"""Checks what the words name, file by file, and reports each."""
+
+from __future__ import annotations
+
+import errno
+import os
+import stat
+import sys
+from dataclasses import dataclass, field
+from typing import Any, Iterator, Optional
+
+from . import forms
+from .files import Asked, Found, read, read_file
+
+CODES = [*(f"G{n}" for n in range(1, 22)), *(f"W{n}" for n in range(1, 10)), *(f"J{n}" for n in range(1, 5))]
+_NO_INPUT = "a list cannot name standard input; ./- is a file of that name"
+_NO_NUL = "a name in a list has no NUL; --null takes names that end with it"
+
+
+@dataclass
+class Order:
+    """What the words ask for."""
+
+    asked: Asked
+    paths: list[bytes]
+    form: str = "lines"
+    summary: bool = False
+    listed: Optional[bytes] = None
+    name_end: bytes = b"\n"
+    endings: tuple[bytes, ...] = ()
+    allows_empty: bool = False
+
+
+@dataclass
+class Summary:
+    """How many files are what, and how many files each code is reported of."""
+
+    files: dict[str, int] = field(default_factory=dict)
+    codes: dict[str, int] = field(default_factory=dict)
+    texts: dict[str, str] = field(default_factory=dict)
+
+    def add(self, found: Found) -> None:
+        self.add_file("valid with warnings" if found.verdict and found.verdict.warnings else found.word)
+        for it in forms.told(found):
+            self.codes[it.code] = self.codes.get(it.code, 0) + 1
+            self.texts[it.code] = it.text
+
+    def add_file(self, word: str) -> None:
+        self.files[word] = self.files.get(word, 0) + 1
+
+    def __str__(self) -> str:
+        words = ["valid", "valid with warnings", "broken", "not JSON", "not read"]
+        words += ["not valid"] if "not valid" in self.files else []
+        first = ", ".join(f"{self.files.get(word, 0)} {word}" for word in words)
+        counts = (f"{self.codes[code]:8} {code}: {self.texts[code]}\n" for code in CODES if code in self.codes)
+        return f"{first}\n{''.join(counts)}"
+
+
+def framing_of(name: bytes) -> Optional[str]:
+    """How the texts of a file of this name are set apart."""
+    name = name.lower()
+    if name.endswith(b".geojsons"):
+        return "sequence"
+    return "newlines" if name.endswith((b".ndjson", b".geojsonl")) else None
+
+
+def _reason(error: Exception) -> str:
+    return (error.strerror if isinstance(error, OSError) else None) or str(error)
+
+
+def _names(file: Any, end: bytes) -> Iterator[bytes]:
+    """The names of a list, in pieces; empty ones are passed over."""
+    held = b""
+    while piece := file.read(16384):
+        *names, held = (held + piece).split(end)
+        yield from (name for name in names if name)
+    if held:
+        yield held
+
+
+class Run:
+    """What is under way. `status` is the worst of all files."""
+
+    def __init__(self, order: Order, out: Any) -> None:
+        self.order, self.out = order, out
+        self.colour = out.isatty() and not os.environ.get("NO_COLOR")
+        self.is_terminal = out.isatty()
+        self.summary = Summary()
+        self.status = 0
+        self.others: list[bytes] = []
+        self.other_count = 0
+
+    def write(self, text: str) -> None:
+        self.out.write(text.encode("utf-8", "surrogateescape"))
+
+    def all(self) -> int:
+        """Checks all, and answers the status."""
+        for path in self.order.paths:
+            self.path(path)
+        if self.order.listed is not None:
+            self.names_in(self.order.listed)
+        if not self.summary.files and not self.order.allows_empty:
+            self.tell_summary()
+            return self.no_file()
+        self.tell_summary()
+        self.out.flush()
+        return self.status
+
+    def tell_summary(self) -> None:
+        if self.order.summary:
+            if self.order.form in ("text", "lines"):
+                self.write(str(self.summary))
+            else:
+                self.out.flush()
+                sys.stderr.write(str(self.summary))
+
+    def no_file(self) -> int:
+        said = ""
+        if self.other_count:
+            base = self.others[0].rpartition(b"/")[2]
+            ending = forms.shown(b"." + base.rpartition(b".")[2] if b"." in base else b"/" + base)
+            said = "1 file has another ending" if self.other_count == 1 else f"{self.other_count} files have other endings"
+            said = f"; {said}, as {ending}"
+        self.out.flush()
+        sys.stderr.write(f"geolint: no file was checked{said}\n")
+        return 2
+
+    def names_in(self, path: bytes) -> None:
+        """Checks each path of a list. One that cannot be opened, or read to its end, is reported as a file is."""
+        try:
+            with open(sys.stdin.fileno() if path == b"-" else path, "rb", closefd=path != b"-") as file:
+                for name in _names(file, self.order.name_end):
+                    self.named(name)
+        except OSError as error:
+            self.tell_unread(path, _reason(error))
+
+    def named(self, name: bytes) -> None:
+        """Checks what a list names, which are files and folders alone."""
+        if b"\0" in name:
+            self.tell_unread(name.partition(b"\0")[0], _NO_NUL)
+        elif name == b"-":
+            self.tell_unread(name, _NO_INPUT)
+        else:
+            self.path(name)
+
+    def path(self, path: bytes) -> None:
+        """Checks a file, or the files of a folder."""
+        if path == b"-":
+            self.stream(path, sys.stdin.buffer)
+            return
+        pending, entered = [(path, True)], set()
+        while pending:
+            name, is_given = pending.pop()
+            is_wanted = is_given or self.takes(name)
+            try:
+                found = os.stat(name)
+            except OSError as error:
+                if is_wanted or not _is_lost_link(name, error):
+                    self.tell_unread(name, _reason(error))
+                continue
+            if stat.S_ISDIR(found.st_mode):
+                if (found.st_dev, found.st_ino) not in entered:
+                    entered.add((found.st_dev, found.st_ino))
+                    pending.extend((entry, False) for entry in reversed(self.entries(name)))
+            elif is_given or (is_wanted and stat.S_ISREG(found.st_mode)):
+                self.file(name, stat.S_ISREG(found.st_mode))
+            elif stat.S_ISREG(found.st_mode):
+                self.others, self.other_count = self.others or [name], self.other_count + 1
+
+    def takes(self, name: bytes) -> bool:
+        """Whether a file of this name in a folder is checked."""
+        return framing_of(name) is not None or name.lower().endswith((b".geojson", *self.order.endings))
+
+    def entries(self, folder: bytes) -> list[bytes]:
+        try:
+            return [folder + (b"" if folder.endswith(b"/") else b"/") + name for name in sorted(os.listdir(folder))]
+        except OSError as error:
+            self.tell_unread(folder, _reason(error))
+            return []
+
+    def file(self, name: bytes, is_regular: bool) -> None:
+        try:
+            with open(name, "rb") as file:
+                if not is_regular:
+                    self.stream(name, file)
+                    return
+                found = read_file(name, file, self.order.asked, self.framing(name))
+        except OSError as error:
+            self.tell_unread(name, _reason(error))
+            return
+        self.tell(found)
+
+    def stream(self, name: bytes, file: Any) -> None:
+        """Checks what can be read once only."""
+        try:
+            found = read(name, file, self.order.asked, self.framing(name))
+        except OSError as error:
+            self.tell_unread(name, _reason(error))
+            return
+        self.tell(found)
+
+    def framing(self, name: bytes) -> Optional[str]:
+        return self.order.asked.framing or framing_of(name)
+
+    def tell(self, found: Found) -> None:
+        order = self.order
+        self.summary.add(found)
+        self.status = max(self.status, 0 if found.passes(order.asked) else 1)
+        self.write(forms.FORMS[order.form](found, order.asked, self.colour))
+        for note in found.notes:
+            self.write(forms.NOTES[order.form](found, note, order.asked, self.colour))
+        if found.note_count > len(found.notes):
+            self.write(forms.more(order.form, found.name, found.note_count - len(found.notes), self.colour))
+        if self.is_terminal:
+            self.out.flush()
+
+    def tell_unread(self, name: bytes, reason: str) -> None:
+        self.status = 2
+        self.summary.add_file("not read")
+        self.out.flush()
+        sys.stderr.write(f"geolint: {forms.shown(name)}: {reason}\n")
+        self.write(forms.unread(self.order.form, name, reason))
+
+
+def _is_lost_link(name: bytes, error: OSError) -> bool:
+    """Whether a name was not found since it is a link that leads nowhere."""
+    return error.errno in (errno.ENOENT, errno.ELOOP) and os.path.islink(name)

@@ -1,0 +1,58 @@
+// The forms of a report for a terminal: the lines of the program geolint, and the form `lines` of geolint-files.
+
+import { eachOf } from "./report.js";
+import { widthOf } from "./width.js";
+
+const isTold = (it) => it !== null && it !== undefined;
+const wordOf = (it) => (it.rule.startsWith("W") ? "warning" : it.verdict);
+const calledIn = (it) => (it.index === undefined ? `record ${it.number}` : `feature ${it.index}`);
+
+/** The lines of `geolint`, which tell byte offsets. */
+export function textOf(verdict) {
+  const { verdict: name, rule, text, offset, warnings, path, record, records } = verdict;
+  const inside = isTold(record) ? `record ${record}\n` : "";
+  if (name === "broken") return `${inside}broken ${rule} at ${offset}: ${text}\n${path ? `path ${path}\n` : ""}`;
+  if (name === "not JSON") return `${inside}not JSON at ${offset}: ${text}\n`;
+  const all = isTold(records) ? [`records ${records}`] : [];
+  return ["valid", ...all, ...warnings.map((it) => `warning ${it.rule} count ${it.count} first ${it.offset}: ${it.text}`)].join("\n") + "\n";
+}
+
+export function textOfFindings(items, more = 0) {
+  const lines = eachOf(items).map((it) => {
+    const id = isTold(it.id) ? ` id ${it.id}` : "";
+    const spot = [`at ${it.offset}`, it.line !== null && `line ${it.line}, column ${it.column}`, it.path].filter(Boolean).join(", ");
+    return `${calledIn(it)}${id} ${wordOf(it)} ${it.rule} ${spot}: ${it.text}\n`;
+  });
+  return lines.join("") + (more > 0 ? `and ${more} more\n` : "");
+}
+
+const place = (name, it) => (it.line === null ? name : `${name}:${it.line}:${it.column}`);
+function detailsOf(it) {
+  const details = [isTold(it.record) && `record ${it.record}`, it.count > 1 && `${it.count} times`, it.line === null && `at byte ${it.offset}`, it.path].filter(Boolean);
+  return details.length ? ` (${details.join(", ")})` : "";
+}
+
+/** The form `lines`: a line for each finding, and under a fault the part of the line with a caret. */
+export function linesOf(name, verdict) {
+  const lineOf = (it, word) => `${place(name, it)}: ${word} ${it.rule}: ${it.text}${detailsOf(it)}\n`;
+  const hint = verdict.hint ? `    hint: ${verdict.hint.text}\n` : "";
+  if (verdict.verdict === "valid") return verdict.warnings.map((it) => lineOf(it, "warning")).join("") + hint;
+  return lineOf(verdict, verdict.verdict) + excerptOf(verdict.excerpt) + hint;
+}
+
+/** The part of the line, and a caret under the place, by the width of the characters before it. */
+function excerptOf(excerpt) {
+  if (!excerpt) return "";
+  const { before, after, isCutBefore, isCutAfter } = excerpt;
+  const left = (isCutBefore ? "..." : "") + before;
+  return `    ${left}${after}${isCutAfter ? "..." : ""}\n    ${" ".repeat(widthOf(left))}^\n`;
+}
+
+export function linesOfFindings(name, items, more = 0) {
+  const lines = eachOf(items).map((it) => {
+    const id = isTold(it.id) ? `id ${it.id}` : null;
+    const details = [calledIn(it), id, it.line === null && `at byte ${it.offset}`, it.path].filter(Boolean).join(", ");
+    return `${place(name, it)}: ${wordOf(it)} ${it.rule}: ${it.text} (${details})\n`;
+  });
+  return lines.join("") + (more > 0 ? `${name}: and ${more} more\n` : "");
+}
