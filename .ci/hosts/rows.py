@@ -2,12 +2,14 @@
 at some), and compares with the verdict in the row, and its lines with those of the program that is named. Then what the
 module says of itself.
 
-    rows.py PROGRAM
+    rows.py PROGRAM [--short]      with --short each text in one call alone, and without the program
 """
 
 import array
+import asyncio
 import builtins
 import copy
+import ctypes
 import io
 import json
 import mmap
@@ -24,6 +26,7 @@ import geolint
 from table import text_of
 
 failed = 0
+is_short = "--short" in sys.argv
 
 
 def wants(name, got, wanted):
@@ -69,6 +72,8 @@ for number, row in enumerate(rows, 1):
     verdict = geolint.check(text, **limits)
     said |= {verdict.text, *(warning.text for warning in verdict.warnings)}
     wants(name, plain(verdict), wanted)
+    if is_short:
+        continue
     wants(name + ", by the program", reported(text, limits), (f"{verdict}\n", 0 if verdict else 1))
     wants(name + ", as a file", plain(geolint.check(io.BytesIO(text), **limits)), wanted)
     if len(text) < 4096:
@@ -112,7 +117,7 @@ for name, buffer in {
     "bytes": bytearray(ring),
     "every other byte": memoryview(gaps)[::2],
     "numbers": array.array("H", ring),
-    "C": (geolint.ctypes.c_char * len(ring)).from_buffer_copy(ring),
+    "C": (ctypes.c_char * len(ring)).from_buffer_copy(ring),
 }.items():
     wants(f"a buffer of {name}", geolint.check(buffer), verdict)
 wants("an empty buffer", geolint.check(bytearray()), geolint.check(b""))
@@ -155,8 +160,83 @@ class Empty:
         return None
 
 
+
+
+async def awaited(pieces):
+    """Pieces that are awaited."""
+    for piece in pieces:
+        await asyncio.sleep(0)
+        yield piece
+
+
+class File:
+    """A file whose read is awaited, and which is iterated by lines."""
+
+    def __init__(self, text):
+        self.file = io.BytesIO(text)
+
+    async def read(self, size=-1):
+        await asyncio.sleep(0)
+        return self.file.read(size)
+
+    async def __aiter__(self):
+        raise AssertionError("a line may be of any length")
+        yield b""
+
+
+async def listed(findings):
+    return [finding async for finding in findings]
+
+
+# What a `str` and a path stand for, and the same texts by awaiting them.
+with tempfile.TemporaryDirectory() as folder:
+    path = pathlib.Path(folder, "ring.geojson")
+    path.write_bytes(ring)
+    for name, given in {"a text": ring.decode(), "a path": path, "pieces": [ring[:9], ring[9:]], "a file": open(path, "rb")}.items():
+        wants(name, geolint.check(given), verdict)
+    umlauts = '{"type":"Point","coordinates":[1,2],"name":"' + "\u00e4" * 70_000 + '","x":}'
+    wants("a place in a text is a byte offset", geolint.check(umlauts).place, len(umlauts.encode()) - 1)
+    wants("the report of a text", geolint.report(umlauts).column, len(umlauts))
+    placed = geolint.report(ring)
+    wants("where it is", (placed.line, placed.column, placed.path), (1, 34, "$.coordinates[0]"))
+    for name, given in {"a text": ring.decode(), "a path": path, "a buffer": bytearray(ring), "a file": open(path, "rb")}.items():
+        wants(f"the report of {name}", geolint.report(given), placed)
+    wants("the report of pieces", geolint.report(iter([ring])), geolint.Report(verdict))
+    wants("places", [it.path for it in geolint.locate(path, [33, 0, 8, 33, len(ring), 999])], ["$", "$.type", "$.coordinates[0]", "$"])
+    for name, given in {
+        "bytes": ring,
+        "a text": ring.decode(),
+        "pieces": awaited([ring[:9], b"", bytearray(ring[9:])]),
+        "a file": File(ring),
+    }.items():
+        wants(f"{name}, awaited", asyncio.run(geolint.acheck(given)), verdict)
+    for name, given in {"a path": path, "pieces that are not awaited": [ring], "a file that is not awaited": io.BytesIO(ring)}.items():
+        try:
+            wants(f"{name} where something is awaited", asyncio.run(geolint.acheck(given)), "an error")
+        except TypeError:
+            pass
+collection = b'{"type":"FeatureCollection","features":[{"type":"Feature","geometry":null,"properties":{}},7]}'
+both = list(geolint.features(collection))
+wants("features", [(it.number, it.verdict.code) for it in both], [(0, None), (1, "G1")])
+wants("features, awaited", asyncio.run(listed(geolint.afeatures(awaited([collection[:50], collection[50:]])))), both)
+texts = collection + b"\n" + ring + b"\n"
+both = list(geolint.records(texts, "newlines"))
+wants("records", [(it.number, it.verdict.code) for it in both], [(1, "G1"), (2, "G15")])
+wants("records, awaited", asyncio.run(listed(geolint.arecords(awaited([texts[:50], texts[50:]]), "newlines"))), both)
+
+
+async def watched():
+    with geolint.Linter() as linter:
+        return [piece async for piece in linter.awatch(awaited([ring[:9], ring[9:]]))], linter.finish()
+
+
+wants("pieces that are watched, awaited", asyncio.run(watched()), ([ring[:9], ring[9:]], verdict))
+
 for name, error, call in [
-    ("a path", TypeError, lambda: geolint.check("map.geojson")),
+    ("a path to no file", FileNotFoundError, lambda: geolint.check(pathlib.Path("no such file"))),
+    ("a folder", IsADirectoryError, lambda: geolint.check(pathlib.Path("/"))),
+    ("a lone surrogate", ValueError, lambda: geolint.check('"\ud800"')),
+    ("a mapping", TypeError, lambda: geolint.check({"type": "Point"})),
     ("a file of characters", TypeError, lambda: geolint.check(io.StringIO("{}"))),
     ("pieces of characters", TypeError, lambda: geolint.check(["{}"])),
     ("a number", TypeError, lambda: geolint.check(7)),
@@ -175,14 +255,16 @@ for name, error, call in [
     except error:
         pass
 for name, told, call in [
-    ("a path as str", "open(path, \"rb\")", lambda: geolint.check("map.geojson")),
-    ("a text as str", ".encode()", lambda: geolint.check(ring.decode())),
     ("a text that is fed", ".encode()", lambda: geolint.Linter().feed(ring.decode())),
-    ("a path", "open(path, \"rb\")", lambda: geolint.check(pathlib.Path("map.geojson"))),
+    ("a file that is open as text", 'open it as "rb"', lambda: geolint.check(io.StringIO("{}"))),
+    ("a mapping", "json.dumps", lambda: geolint.check({"type": "Point"})),
+    ("a lone surrogate", "the character 70000 ", lambda: geolint.check(" " * 70000 + "\ud800")),
+    ("what is awaited", "acheck", lambda: geolint.check(awaited([]))),
 ]:
     try:
         call()
-    except TypeError as error:
+        wants(name, "nothing", "an error")
+    except (TypeError, ValueError) as error:
         wants(f"what is told of {name}", told in str(error), True)
 wants("names that hide Python's own", set(geolint.__all__) & set(dir(builtins)), set())
 try:

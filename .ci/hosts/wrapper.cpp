@@ -7,6 +7,7 @@
 #include <utility>
 #include <vector>
 #if __cplusplus >= 202002L
+#include <ranges>
 #include <span>
 #include <string_view>
 #endif
@@ -27,6 +28,11 @@ static_assert(!std::is_copy_constructible<geolint::Linter>::value, "a linter is 
 static_assert(std::is_nothrow_move_constructible<geolint::Linter>::value, "a linter is moved");
 static_assert(std::is_nothrow_move_assignable<geolint::Linter>::value, "a linter is moved");
 static_assert(std::is_copy_assignable<geolint::Verdict>::value, "a verdict is a value");
+
+#if defined(__cpp_lib_ranges)
+static_assert(std::ranges::input_range<geolint::Features::Range> && std::ranges::input_range<geolint::Records::Range>, "findings are a range");
+static_assert(!std::ranges::borrowed_range<geolint::Features::Range>, "which is not borrowed");
+#endif
 
 static bool is_open_ring(const geolint::Verdict &verdict) {
     return verdict.judged() && verdict.broken() && verdict.rule() == 15 && verdict.place() == 33 &&
@@ -175,6 +181,43 @@ static void features() {
     wants(refused.finish().not_json() && !geolint::Features(geolint::Limits(257)), "a refusal, and no memory");
 }
 
+/* The same handle for another text. */
+static void begun_again() {
+    geolint::Features features;
+    geolint::Records records(GEOLINT_SEQUENCE);
+    std::string all;
+    for (int round = 0; round < 2; round++) {
+        wants(features.begin() && features.offset() == 0, "features begun again");
+        for (geolint::Finding finding : features.feed(COLLECTION))
+            all += told(finding);
+    }
+    wants(all == "0 40 0 0 broken;1 42 101 65 valid;0 40 0 0 broken;1 42 101 65 valid;", "and told again");
+    wants(!features.begin(geolint::Limits(257)) && !features.finish().judged() && features.begin(), "beyond the limits, and then within them");
+    wants(records.begin(GEOLINT_NEWLINES) && records.offset() == 0, "records begun again");
+    all.clear();
+    for (geolint::Finding finding : records.feed("[1]\n", 4))
+        all += told(finding);
+    wants(all == "1 0 3 0 broken;" && records.finish().rule() == 1, "as lines");
+}
+
+#if defined(__cpp_lib_ranges)
+static void ranges() {
+    geolint::Features found;
+    std::uint64_t places = 0;
+    auto all = found.feed(COLLECTION);
+    for (std::uint64_t place : all | std::views::filter([](const geolint::Finding &it) { return !it.valid(); }) | std::views::transform([](const geolint::Finding &it) { return it.place(); }))
+        places += place;
+    wants(places == 40, "the places of those that are broken");
+}
+#endif
+
+#if defined(__cpp_lib_expected)
+static void expected() {
+    wants(geolint::expect_valid(geolint::check(POINT)).has_value(), "a point is as expected");
+    wants(is_open_ring(geolint::expect_valid(geolint::check(RING)).error()), "an open ring is not");
+}
+#endif
+
 static void records() {
     geolint::Records records(GEOLINT_NEWLINES);
     const std::string lines = "[1]\n\n" + POINT + "\n[";
@@ -198,6 +241,13 @@ static void places() {
 
 int main() {
     features();
+    begun_again();
+#if defined(__cpp_lib_ranges)
+    ranges();
+#endif
+#if defined(__cpp_lib_expected)
+    expected();
+#endif
     records();
     places();
     one_call();

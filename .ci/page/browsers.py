@@ -79,7 +79,7 @@ class Browser:
 
 
 class Chromium(Browser):
-    def __init__(self, has_wasm=True):
+    def __init__(self, has_wasm=True, scheme="light"):
         super().__init__("chromium")
         words = ["chromium", "--headless=new", "--no-sandbox", "--disable-gpu", "--no-first-run", "--disable-dev-shm-usage", "--remote-allow-origins=*",
                  "--remote-debugging-port=0", f"--user-data-dir={self.folder}", "--lang=en-US", "--window-size=1000,1200"]
@@ -99,6 +99,8 @@ class Chromium(Browser):
             self.call(f"{name}.enable")
         self.call("Browser.setDownloadBehavior", behavior="allow", downloadPath=self.downloads)
         self.call("Emulation.setFocusEmulationEnabled", enabled=True)
+        self.scheme = scheme
+        self.look()
 
     def navigate(self, url):
         self.call("Page.navigate", url=url)
@@ -130,9 +132,28 @@ class Chromium(Browser):
     def write(self, text):
         self.call("Input.insertText", text=text)
 
-    def look(self, width=1000, height=1200, scheme="light"):
+    def look(self, width=1000, height=1200, motion="no-preference"):
         self.call("Emulation.setDeviceMetricsOverride", width=width, height=height, deviceScaleFactor=1, mobile=width < 600)
-        self.call("Emulation.setEmulatedMedia", features=[{"name": "prefers-color-scheme", "value": scheme}])
+        features = {"prefers-color-scheme": self.scheme, "prefers-reduced-motion": motion}
+        self.call("Emulation.setEmulatedMedia", features=[{"name": name, "value": value} for name, value in features.items()])
+
+    def unnamed(self):
+        """What a screen reader would meet without a name, as the browser itself computes it."""
+        wanted = ("button", "link", "combobox", "listbox", "option", "textbox", "image", "progressbar", "heading", "region", "DisclosureTriangle")
+        nodes = self.call("Accessibility.getFullAXTree")["nodes"]
+        return [it["role"]["value"] for it in nodes if not it["ignored"] and it["role"]["value"] in wanted and not it.get("name", {}).get("value")]
+
+    def asked_for_files(self, key):
+        """Whether the key opens the choice of files, which is then left alone."""
+        self.call("Page.setInterceptFileChooserDialog", enabled=True)
+        self.press(key)
+        for _ in range(100):
+            self.value("1")
+            if any(it.get("method") == "Page.fileChooserOpened" for it in self.events):
+                break
+            time.sleep(0.05)
+        self.call("Page.setInterceptFileChooserDialog", enabled=False)
+        return any(it.get("method") == "Page.fileChooserOpened" for it in self.events)
 
     def shot(self, path):
         with open(path, "wb") as file:
@@ -150,7 +171,7 @@ class Chromium(Browser):
 
 
 class Firefox(Browser):
-    def __init__(self, has_wasm=True):
+    def __init__(self, has_wasm=True, scheme="light"):
         super().__init__("firefox")
         with socket.socket() as it:
             it.bind(("127.0.0.1", 0))
@@ -162,6 +183,7 @@ class Firefox(Browser):
                 file.write(f'user_pref("{name}", false);\n')
             file.write(f'user_pref("browser.download.folderList", 2);\nuser_pref("browser.download.dir", "{self.downloads}");\n')
             file.write('user_pref("browser.download.useDownloadDir", true);\nuser_pref("browser.download.always_ask_before_handling_new_types", false);\n')
+            file.write(f'user_pref("layout.css.prefers-color-scheme.content-override", {["dark", "light"].index(scheme)});\n')
             file.write('user_pref("intl.accept_languages", "en-US");\nuser_pref("accessibility.tabfocus", 7);\n')
         self.start(["firefox-esr", "--headless", "--no-remote", "--remote-debugging-port", str(port), "--profile", self.folder,
                     "--width", "1000", "--height", "1200", "about:blank"], MOZ_HEADLESS="1", HOME=self.folder)
@@ -210,7 +232,7 @@ class Firefox(Browser):
         actions = [{"type": kind, "value": it} for it in text for kind in ("keyDown", "keyUp")]
         self.call("input.performActions", context=self.context, actions=[{"type": "key", "id": "keys", "actions": actions}])
 
-    def look(self, width=1000, height=1200, scheme="light"):
+    def look(self, width=1000, height=1200):
         self.call("browsingContext.setViewport", context=self.context, viewport={"width": width, "height": height})
 
     def shot(self, path):

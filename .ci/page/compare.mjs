@@ -15,9 +15,9 @@ const { Linter } = await from("linter.js");
 const bytes = readFileSync(modulePath);
 const geolint = await load(bytes);
 const linter = await Linter.make(await WebAssembly.compile(bytes), 4096);
-// But for the hint: the module gives none, and the page has its own.
-const withoutHint = (line) => line.replace(/,"hint":(?:null|"(?:[^"\\]|\\.)*")(?=,"warnings":)/, "");
-const wanted = readFileSync(reportPath, "utf8").trim().split("\n").slice(0, Number(most)).map(withoutHint);
+// But for what was found at the place: the module does not say it.
+const withoutFound = (line) => line.replace(/,"found":(?:null|"(?:[^"\\]|\\.)*")(?=,"hint":)/, "");
+const wanted = readFileSync(reportPath, "utf8").trim().split("\n").slice(0, Number(most)).map(withoutFound);
 
 let seed = 7;
 const random = (below) => ((seed = (Math.imul(seed, 1103515245) + 12345) >>> 0), seed % below);

@@ -12,21 +12,12 @@ import sys
 from pathlib import Path
 
 ROOT = Path(__file__).resolve().parents[2]
+sys.path.insert(0, str(ROOT / ".ci/hosts"))
+from table import text_of  # noqa: E402
+
 PARTS = ("[", "]", "{", "}", ",", ":", '"', "0", "-", "1e999", "\\", "\n", "\0", "\t", "null", "180.5", "0.123456789", "é", "東", "🚲", '"type":',
          '"bbox":[1,2,3]', '"crs":{},', '"Point"', '"Polygon"', '"coordinates":[]', '"features":[', '"\\u0074ype":"Feature"')
 TOKENS = [part.encode() for part in PARTS] + [b"\xff", b"\xc3", b"\xef\xbb\xbf"]
-
-
-def text_of(parts):
-    text = b""
-    for part in parts:
-        if isinstance(part, str):
-            text += part.encode()
-        elif "hex" in part:
-            text += bytes.fromhex(part["hex"])
-        else:
-            text += text_of(part["of"]) * part["times"]
-    return text
 
 
 def mutant(rng, text):

@@ -1,17 +1,19 @@
-// What the page says a file seems to be, or seems to have wrong: node hints.mjs SOURCES MODULE.
+// What a file looks like: node hints.mjs SOURCES MODULE FOLDER PROGRAM. Each hint of geolint-files is given where PROGRAM gives it, with its
+// text, and the page gives it too; the page has further ones.
 
-import { readFileSync } from "node:fs";
+import { mkdirSync, readFileSync, writeFileSync } from "node:fs";
+import { spawnSync } from "node:child_process";
 import { pathToFileURL } from "node:url";
 
-const [sources, module] = process.argv.slice(2);
+const [sources, module, folder, program] = process.argv.slice(2);
 const from = (name) => import(pathToFileURL(`${sources}/${name}`));
 const { load } = await from("geolint.js");
-const { hintFor } = await from("hints.js");
+const { guessFor } = await from("guesses.js");
+const { ENGLISH } = await from("texts.en.js");
+const { GERMAN } = await from("texts.de.js");
 
-const bytesOf = (text) => Uint8Array.from(text, (it) => it.charCodeAt(0));
-// Each character is a byte.
+// Each character is a byte. The name, or null; then what the page says where that is another one.
 const rows = [
-  ["", "empty"],
   ["\x1f\x8b\x08\x00", "gzip"],
   ["PK\x03\x04rest", "zip"],
   ["SQLite format 3\0rest", "sqlite"],
@@ -19,52 +21,88 @@ const rows = [
   ["fgb\x03fgb", "flatgeobuf"],
   ["PAR1rest", "parquet"],
   ["%PDF-1.7", "pdf"],
-  ["\x89PNG\r\n", "image"],
   ["\xff\xfe{\0", "utf16"],
   ["{\0\"\0", "utf16"],
   ["<!doctype html><p>Log in", "html"],
   ["\n<html>", "html"],
+  ["\xef\xbb\xbf <p>not found</p>", "xml"],
   ["<?xml version='1.0'?>\n<kml xmlns='x'>", "kml"],
-  ["<gpx version='1.1'>", "gpx"],
-  ["<?xml version='1.0'?><gml:FeatureCollection>", "xml"],
-  ["id;name;lat;lon\n1;a;2;3\n", "csv"],
+  ["<?xml version='1.0'?><a xmlns:gml='http://www.opengis.net/gml'>", "gml"],
+  ["<?xml version='1.0'?><osm>", "xml"],
+  ["<gpx version='1.1'>", "xml", "gpx"],
   ['\x1e{"type":"Point","coordinates":[0,0]}\n', "sequence"],
-  ['{"type":"Point","coordinates":[0,0]}\n{"type":"Point","coordinates":[0,0]}\n', "lines"],
-  ['{"a":1,}', "trailingComma"],
-  ["[1,2,\n]", "trailingComma"],
-  ['{"a":1 "b":2}', "missingComma"],
-  ["[[0,0] [1,1]]", "missingComma"],
-  ['{"depth":41,5}', "decimalComma"],
+  ['{"type":"Point","coordinates":[0,0]}\n{"type":"Point","coordinates":[0,0]}\n', "secondText"],
+  ["[1][2]", "secondText"],
+  [`[1${" ".repeat(9_000_000)}] [2]`, "secondText"],
+  ["[[1] [2]]", null, "missingComma"],
+  ['{"a":1,}', "extraComma"],
+  ["[1,2,\n]", "extraComma"],
+  ["[1,,2]", "extraComma"],
+  ["[,2]", "extraComma"],
   ["{'a':1}", "singleQuotes"],
-  ["{a:1}", "unquoted"],
-  ['{"a":True}', "python"],
-  ['{"a":None}', "python"],
   ['{"a":NaN}', "notANumber"],
-  ['{"a":-Infinity}', "notANumber"],
-  ['{"a":undefined}', "notANumber"],
-  ['{"a":.5}', "number"],
-  ['{"a":+5}', "number"],
-  ['{"a":05}', "number"],
+  ['{"a":nan}', "notANumber"],
+  ['{"a":-Infinity}', "infinity"],
   ['{"a":1} // a note', "comment"],
   ['/* a note */ {"a":1}', "comment"],
-  ['{"a":"two\nlines"}', "control"],
+  ["[1] # a note", "comment"],
   ['{"a":"Stra\xdfe"}', "latin1"],
   ['{"a":"caf\xe9"}', "latin1"],
-  ['{"file":"C:\\maps"}', null],
+  ['{"a":"\xe2\x82"}', "latin1"],
+  ['{"a":"\xf8"}', "latin1"],
   ['{"type":"Topology","objects":{}}', "topojson"],
   ['{"displayFieldName":"","geometryType":"esriGeometryPoint"}', "esri"],
+  ['{"spatialReference":{}}', "esri"],
+  ['"{\\"type\\":\\"Point\\"}"', "textInString"],
+  ['{"type":"Point","coordinates":[52.5,113.4]}', "swapped"],
+  ['{"type":"Point","coordinates":[ -52.5 , -113.4 , 7 ]}', "swapped"],
+  ['{"type":"Point","coordinates":[192.5,13.4]}', null],
+  ['{"type":"Point","coordinates":[5e1,113.4]}', null],
+  ['{"type":"Point","coordinates":[0.1234567890123456789012345678901,0]}', "manyDigits"],
+  ['{"type":"Point","coordinates":[1e999,0]}', "largeNumber"],
+  ['{"type":"Point","coordinates":[-1E-999,0]}', "smallNumber"],
   ['{"type":"Point"}', null],
   ['{"type":"Point","coordinates":[0,0]}', null],
   ['{"type":"Point","coordinates":[0,0]', null],
+  ['{"file":"C:\\maps"}', null],
+  // What the page alone says.
+  ["", null, "empty"],
+  ["\x89PNG\r\n", "latin1", "image"],
+  ["id;name;lat;lon\n1;a;2;3\n", null, "csv"],
+  ['{"a":1 "b":2}', null, "missingComma"],
+  ['{"depth":41,5}', null, "decimalComma"],
+  ["{a:1}", null, "unquoted"],
+  ['{"a":True}', null, "python"],
+  ['{"a":None}', null, "python"],
+  ['{"a":undefined}', null, "undefined"],
+  ['{"a":.5}', null, "number"],
+  ['{"a":+5}', null, "number"],
+  ['{"a":05}', null, "number"],
+  ['{"a":"two\nlines"}', null, "control"],
 ];
+const bytesOf = (text) => Uint8Array.from(text, (it) => it.charCodeAt(0));
+mkdirSync(folder, { recursive: true });
+rows.forEach(([text], i) => writeFileSync(`${folder}/${i}.geojson`, bytesOf(text)));
+const said = spawnSync(program, ["--format", "json", ...rows.map((_, i) => `${folder}/${i}.geojson`)], { encoding: "utf8" });
+const native = said.stdout.trim().split("\n").map((line) => JSON.parse(line).hint);
+
 const geolint = await load(readFileSync(module));
 let failed = 0;
-for (const [text, wanted] of rows) {
+const wants = (what, got, wanted) => got === wanted || (failed++, console.log(`${JSON.stringify(what.slice(0, 60))}: ${got}, wanted ${wanted}`));
+const told = new Set();
+for (const [i, [text, name, onPage = name]] of rows.entries()) {
   const bytes = bytesOf(text);
-  const got = await hintFor(await geolint.check(bytes), async (start, end) => bytes.subarray(start, end));
-  if (got !== wanted) {
-    failed++;
-    console.log(`${JSON.stringify(text)}: ${got}, wanted ${wanted}`);
+  const read = async (start, end) => bytes.subarray(start, end);
+  for (const input of [bytes, new Blob([bytes]).stream()]) {
+    const { hint } = await geolint.check(input);
+    wants(text, hint?.name ?? null, name);
+    wants(text, hint?.text ?? null, native[i]);
   }
+  const features = geolint.features(bytes);
+  for await (const it of features) void it;
+  wants(text, features.verdict.hint?.name ?? null, name);
+  wants(text, (await guessFor(features.verdict, read))?.name ?? null, onPage);
+  if (onPage) told.add(onPage);
 }
+for (const table of [ENGLISH, GERMAN]) wants(`what ${table.language} has`, Object.keys(table.hints).sort().join(), [...told].sort().join());
 process.exit(failed ? 1 : 0);

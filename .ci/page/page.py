@@ -42,6 +42,10 @@ CONTRAST = """(() => {
 })()"""
 
 
+ACCESS = (ROOT / ".ci/page/access.js").read_text()
+# What can have the focus.
+REACHED = "'button:not(:disabled), select, textarea, summary, a[href], [tabindex=\"0\"]'"
+
 # The element that reaches furthest to the right.
 WIDEST = """[...document.querySelectorAll('body *')].map((it) => [it.getBoundingClientRect().right, it.outerHTML.slice(0, 90)])
     .sort((a, b) => b[0] - a[0]).slice(0, 3).join(' | ') + ' of ' + innerWidth"""
@@ -62,11 +66,44 @@ def opened(browser, path=None):
 
 
 def sorts(text):
-    """The lines of a report as objects, without what a browser cannot know: the folder of a file."""
+    """The lines of a report as objects, without what the page does not tell: the folder of a file, and what stands at a place."""
     found = [json.loads(line) for line in text.splitlines()]
     for it in found:
         it["path"] = os.path.basename(it["path"])
+        for place in (it, *it.get("warnings", [])):
+            place.pop("found", None)
     return found
+
+
+PHONE = {"width": 360, "height": 740}
+# The narrowest page that WCAG asks for (1.4.10).
+NARROW = {"width": 320, "height": 640}
+
+
+def is_open_to_all(browser, what):
+    """What access.js finds, the contrast of texts, and that no width needs scrolling to the side, in the scheme of this browser."""
+    for look, words in {"desk": {}, "phone": PHONE, "narrow": NARROW}.items():
+        browser.look(**words)
+        ratio, where = json.loads(browser.value(CONTRAST))
+        wants(f"{what}, {look}: the contrast of texts", ratio >= 4.5, f"{ratio:.2f} {where}")
+        problems = json.loads(browser.value(ACCESS))
+        wants(f"{what}, {look}: nothing stands in the way", not problems, problems[:5])
+        wants(f"{what}, {look}: no scrolling to the side", browser.value("document.documentElement.scrollWidth <= innerWidth"), browser.value(WIDEST))
+    browser.look()
+    if name == "chromium":
+        wants(f"{what}: all has a name", not browser.unnamed(), browser.unnamed())
+
+
+def by_tab(browser):
+    """All that can be pressed is reached by the key Tab alone, and nothing holds the focus."""
+    wanted = browser.value(f"[...document.querySelectorAll({REACHED})].filter((it) => it.checkVisibility({{ visibilityProperty: true }})).length")
+    # From the first on: after the last, the focus may go to the browser itself.
+    browser.value("(() => { const it = document.getElementById('language'); it.focus(); it.dataset.reached = 'yes'; })()")
+    for _ in range(wanted + 3):
+        browser.press("Tab")
+        browser.value("document.activeElement.dataset.reached = 'yes'")
+    got = browser.value(f"[...document.querySelectorAll({REACHED})].filter((it) => it.checkVisibility({{ visibilityProperty: true }}) && !it.dataset.reached).map((it) => it.outerHTML.slice(0, 80)).join()")
+    wants(f"all {wanted} are reached by Tab", wanted > 5 and got == "", got)
 
 
 def reports(browser):
@@ -100,18 +137,10 @@ def reports(browser):
         "[...document.querySelectorAll('.card')].find((it) => it.textContent.includes('open-ring')).querySelector('details').textContent"))
     hints = browser.value("JSON.stringify([...document.querySelectorAll('.hint')].map((it) => it.textContent))")
     wants("hints", all(it in hints for it in ("decimal point", "single quotes", "comma too many")), hints)
-    for scheme in ("light", "dark") if name == "chromium" else ("light",):
-        browser.look(scheme=scheme)
-        ratio, where = json.loads(browser.value(CONTRAST))
-        wants(f"the contrast of texts, {scheme}", ratio >= 4.5, f"{ratio:.2f} {where}")
-        wants(f"no scrolling to the side, {scheme}", browser.value("document.documentElement.scrollWidth <= innerWidth"), browser.value(WIDEST))
-    browser.look(width=360, height=740)
-    wants("no scrolling to the side on a phone", browser.value("document.documentElement.scrollWidth <= innerWidth"),
-          browser.value("document.documentElement.scrollWidth"))
+    is_open_to_all(browser, "reports")
     browser.value("(() => { const it = document.getElementById('language'); it.value = 'de'; it.dispatchEvent(new Event('change')); })()")
     wants("German", browser.value("document.documentElement.lang") == "de" and "Ein Ring endet nicht dort, wo er beginnt." in browser.value("document.body.textContent"))
-    wants("German fits a phone", browser.value("document.documentElement.scrollWidth <= innerWidth"), browser.value("document.documentElement.scrollWidth"))
-    browser.look()
+    is_open_to_all(browser, "reports in German")
 
 
 def dropped(browser):
@@ -156,8 +185,12 @@ def stopped(browser):
     browser.wait(DONE.format(3))
     told = browser.value("document.querySelector('.card:last-child').textContent")
     wants("it stays", "Valid GeoJSON" in told and "being listed" not in told and "have a warning" not in told, told[:300])
+    browser.value("""(() => { window.aloud = []; const it = document.getElementById('status');
+        new MutationObserver(() => aloud.push(it.textContent)).observe(it, { childList: true }); })()""")
     browser.choose("#files", [str(room / "large.geojson")])
     browser.wait(DONE.format(4), 400)
+    aloud = browser.value("aloud")
+    wants("how far it is is read aloud, and what was found", "large.geojson: 50 %" in aloud and aloud[-1].startswith("large.geojson: Valid GeoJSON, with"), aloud)
     told = browser.value("document.querySelector('.card:last-child').textContent")
     wants("the large file to its end", "Valid GeoJSON" in told and "have a warning and no fault." in told, told[:300])
     print(f"{name}: the large file: {told[:80]}")
@@ -173,6 +206,21 @@ def by_keyboard(browser):
         if order[-1] == "show-paste":
             break
     wants("the order of the keys", order == ["language", "choose", "choose-folder", "show-paste"], order)
+    is_open_to_all(browser, "start")
+    # What these checks are worth: a faint edge, a list without a label and a text of little contrast are found.
+    for change, wanted in (("--edge", "the contrast of its edge"), ("label", "no label"), ("--soft", "")):
+        browser.value("document.querySelector('.language span').textContent = ''" if change == "label" else f"document.documentElement.style.setProperty('{change}', '#c8c8c8')")
+        found = browser.value(ACCESS) if wanted else json.loads(browser.value(CONTRAST))[0] < 4.5
+        wants(f"the checks find a wrong {change}", found if not wanted else wanted in found, found)
+        browser.value(f"document.documentElement.style.removeProperty('{change}')")
+    browser.value("document.querySelector('.language span').textContent = 'Language'")
+    browser.look(**({"motion": "reduce"} if name == "chromium" else {}))
+    wants("nothing moves", browser.value("document.getAnimations().length === 0"))
+    browser.look()
+    browser.value("document.getElementById('choose').focus()")
+    if name == "chromium":
+        wants("files are chosen by keys", browser.asked_for_files("Enter"))
+    browser.value("document.getElementById('show-paste').focus()")
     browser.press("Enter")
     wants("the box has the focus", browser.value("document.activeElement.id") == "text")
     browser.write('{"type":"Point","coordinates":[35.68,139.69]}')
@@ -191,6 +239,10 @@ def by_keyboard(browser):
     wants("and opens", not browser.value("document.querySelector('.details').hidden"))
     ring = "getComputedStyle(document.activeElement).outlineStyle"
     wants("the focus is seen", browser.value(ring) == "solid", browser.value(ring))
+    browser.value("document.getElementById('save-lines').focus()")
+    browser.press("Enter")
+    wants("a report is saved by keys", json.loads(browser.downloaded("geolint-report.jsonl"))["verdict"] == "valid")
+    by_tab(browser)
 
 
 RING = '{"type":"Feature","id":%d,"geometry":{"type":"Polygon","coordinates":[[[0,0],[4,0],[4,3],[1,%d.5]]]},"properties":{"name":"Meadow %d"}}'
@@ -239,12 +291,9 @@ def listed(browser):
     browser.value("(() => { const it = document.querySelector('.which select'); it.value = [...it.options].find((o) => o.text.startsWith('G18')).value; it.dispatchEvent(new Event('change')); })()")
     browser.wait(f"{DETAIL}.includes('Feature 8 ')")
     wants("one rule alone", browser.value(ROWS) == 1)
-    for look, words in {"light": {}, "phone": {"width": 360, "height": 740}, **({"dark": {"scheme": "dark"}} if name == "chromium" else {})}.items():
-        browser.look(**words)
-        ratio, where = json.loads(browser.value(CONTRAST))
-        wants(f"the contrast of the list, {look}", ratio >= 4.5, f"{ratio:.2f} {where}")
-        wants(f"no scrolling to the side, {look}", browser.value("document.documentElement.scrollWidth <= innerWidth"), browser.value(WIDEST))
-        browser.shot(shots / f"{name}-list-{look}.png")
+    is_open_to_all(browser, "list")
+    browser.look(**PHONE)
+    browser.shot(shots / f"{name}-list-phone.png")
     browser.look()
     # The valid features, which are then judged.
     browser.value("document.querySelector('.save-valid').click()")
@@ -319,13 +368,27 @@ def pictures(browser):
     chosen = [f"{ROOT}/examples/{it}.geojson" for it in ("cafes", "wells", "faulty/open-ring", "faulty/decimal-comma")]
     browser.choose("#files", chosen)
     browser.wait(DONE.format(4))
-    looks = {"desk": {}, "phone": {"width": 360, "height": 740}}
-    if name == "chromium":
-        looks["dark"] = {"scheme": "dark"}
-    for look, words in looks.items():
+    for look, words in {"desk": {}, "phone": PHONE}.items():
         browser.look(**words)
         browser.shot(shots / f"{name}-{look}.png")
     browser.look()
+
+
+def in_the_dark():
+    """The dark scheme: the start, cards, a list and its details."""
+    browser = Kind(scheme="dark")
+    opened(browser)
+    wants("the dark scheme", browser.value("matchMedia('(prefers-color-scheme: dark)').matches"))
+    is_open_to_all(browser, "start in the dark")
+    browser.choose("#files", [f"{ROOT}/examples/{it}.geojson" for it in ("cafes", "wells", "faulty/open-ring", "faulty/decimal-comma")])
+    browser.wait(DONE.format(4))
+    browser.choose("#files", [str(room / "many.geojson")])
+    browser.wait(DONE.format(5), 120)
+    browser.wait(f"{DETAIL}.includes('How to mend it')")
+    is_open_to_all(browser, "list in the dark")
+    browser.shot(shots / f"{name}-dark.png")
+    wants("an empty console in the dark", not browser.console(), browser.console()[:3])
+    browser.close()
 
 
 browser = Kind()
@@ -338,6 +401,7 @@ try:
     wants("an empty console", not browser.console(), browser.console()[:3])
 finally:
     browser.close()
+in_the_dark()
 refused()
 print(f"{passed} passed, {failed} failed")
 sys.exit(failed > 0)

@@ -45,12 +45,13 @@ def expected(work):
 
 
 def told(program, words, folder):
-    """What the program says of each file in a folder, by name, but for its hint: the oracle gives no advice."""
+    """What the program says of each file in a folder, by name, but for its advice: the oracle gives none."""
     got = subprocess.run([program, "--format", "json", *words, folder], stdout=subprocess.PIPE, stderr=subprocess.PIPE, check=False)
     lines = [json.loads(line) for line in got.stdout.splitlines()]
     if got.returncode not in (0, 1) or len(lines) != len(list(folder.iterdir())):
         sys.exit(f"the program ended with status {got.returncode} and {len(lines)} lines: {got.stderr[-400:].decode(errors='replace')}")
     for line in lines:
+        line.pop("found")
         line.pop("hint")
     return {pathlib.Path(line.pop("path")).name: line for line in lines}
 

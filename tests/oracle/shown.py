@@ -4,31 +4,22 @@ import json
 import pathlib
 import re
 import subprocess
+import sys
 
 from json_text import LENGTH
 
 ROOT = pathlib.Path(__file__).resolve().parents[2]
+sys.path.insert(0, str(ROOT / ".ci/hosts"))
+from table import text_of  # noqa: E402
+
 EXAMPLE = re.compile(r"^ *\$ (printf '[^']*') \| geolint\n((?: *(?:valid|broken|not JSON|warning) ?.*\n)+)", re.MULTILINE)
 RUN = re.compile(r"^[01] \| (.*) \| (printf '[^']*') \| geolint(?: stdin)?( --seq)?( --quick)?(?: --max-bytes (\d+))?$", re.MULTILINE)
-
-
-def bytes_of(parts):
-    """The bytes of a row: texts, bytes in hexadecimal, and parts that are repeated."""
-    data = b""
-    for part in parts:
-        if isinstance(part, str):
-            data += part.encode()
-        elif "hex" in part:
-            data += bytes.fromhex(part["hex"])
-        else:
-            data += bytes_of(part["of"]) * part["times"]
-    return data
 
 
 def rows():
     """The rows of .ci/hosts/rows.json up to 100 kB: bytes, the greatest length or None, and the verdict as a rule, a place and warnings."""
     for row in json.loads((ROOT / ".ci/hosts/rows.json").read_text()):
-        data = bytes_of(row["text"])
+        data = text_of(row["text"])
         if len(data) > 100_000:
             continue
         rule = f"G{row['rule']}" if "rule" in row else f"J{row['cause']}" if "cause" in row else None
