@@ -1,5 +1,5 @@
 #!/usr/bin/env node
-// Judges GeoJSON files and folders in Node, in the words of the program geolint-files as far as they serve.
+// Checks GeoJSON files and folders in Node, with the options of the program geolint-files as far as they serve.
 
 import { open, readdir, stat } from "node:fs/promises";
 import { readFileSync } from "node:fs";
@@ -7,28 +7,28 @@ import { join } from "node:path";
 import { parseArgs } from "node:util";
 import { load, textOf, jsonOf, jsonOfUnread, linesOf, sarifOf, eachOf, textOfFindings, jsonOfFindings, linesOfFindings } from "./geolint.js";
 
-const USAGE = `Judges GeoJSON files, and says of each that is not valid where and why not
+const USAGE = `Checks GeoJSON files, and says for each that is not valid where and why
 
 Usage: geolint-files [--strict] [--allow W4,W9] [--max-bytes N] [--format lines|json|sarif|text] [--summary]
                      [--seq | --ndjson] [--every[=warnings]] [--most N] [--ending ENDING] [--allow-empty] [PATH ..]
 
   --strict         A valid file with a warning does not pass
-  --allow KINDS    Under --strict, kinds of warnings that do not fail a file, as W4,W9
+  --allow KINDS    Under --strict, kinds of warnings that do not fail a file, such as W4,W9
   --max-bytes N    Refuse longer files
   --format FORMAT  The form of the report: lines (the default), json, sarif or text
-  --summary        Say at the end how many files are what
+  --summary        Count the files at the end
   --seq            Each file is a text sequence (RFC 8142), as each *.geojsons is by itself
   --ndjson         Each line of a file is a text, as in each *.ndjson and *.geojsonl by itself
-  --every          After a file's report, a line for each of its features with a fault; =warnings: also the others' warnings
-  --most N         Under --every, no more than so many lines for a file (1000; 0: all)
-  --ending ENDING  In a folder, judge also the files whose names end so, as json; may be given several times
-  --allow-empty    A call in which no file is judged ends with status 0 and says nothing
+  --every          After a file's report, list each feature that breaks a rule; =warnings: also the warnings of the others
+  --most N         Under --every, list at most N findings of a file (1000 unless given; 0: all)
+  --ending ENDING  In a folder, also check files with this ending, such as json; may be given several times
+  --allow-empty    A call that checks no file ends with status 0 and prints nothing
   --help, --version
 
-A PATH is a file, a folder, in which each *.geojson, *.geojsons, *.ndjson and *.geojsonl is judged, or -, standard input, as
-where there is none.
+A PATH is a file, a folder, in which each *.geojson, *.geojsons, *.ndjson and *.geojsonl is checked, or - for standard input. With
+no PATH, standard input is checked.
 
-Status: 0 where each file passes, 1 where one does not, 2 where one could not be read, none was judged, or the words are wrong.
+Exit status: 0 if every file passes, 1 if one does not, 2 if one could not be read, none was checked, or the arguments are wrong.
 `;
 
 const OPTIONS = {

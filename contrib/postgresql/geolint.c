@@ -41,7 +41,7 @@ Datum is_geojson_bytea(PG_FUNCTION_ARGS) {
     return is_argument_valid(fcinfo, BYTES);
 }
 
-/* A jsonb keeps no text: the one that it prints is judged. */
+/* A jsonb keeps no text: the one that it prints is checked. */
 PG_FUNCTION_INFO_V1(is_geojson_jsonb);
 Datum is_geojson_jsonb(PG_FUNCTION_ARGS) {
     Allowed allowed = allowed_by(fcinfo);

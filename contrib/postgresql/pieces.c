@@ -10,7 +10,7 @@
 /* Some 256 KB, in whole chunks of a value that is stored out of line. */
 #define PIECE (128 * TOAST_MAX_CHUNK_SIZE)
 
-/* The bytes of a database in SQL_ASCII have no encoding, and are judged as they are. */
+/* The bytes of a database in SQL_ASCII have no encoding, and are checked as they are. */
 static bool is_converted(const Pieces *pieces) {
     return pieces->coding == CHARACTERS && GetDatabaseEncoding() != PG_UTF8 && GetDatabaseEncoding() != PG_SQL_ASCII;
 }

@@ -8,7 +8,7 @@
 /* What the bytes of a value are. */
 typedef enum Coding {
     BYTES,     /* the text itself */
-    CHARACTERS /* characters in the encoding of the database: they are judged, and places counted, in UTF-8 */
+    CHARACTERS /* characters in the encoding of the database: they are checked, and places counted, in UTF-8 */
 } Coding;
 
 typedef struct Pieces {

@@ -4,7 +4,7 @@
 
 #include "judge.h"
 
-/* A text under way, of which the features that have ended are told. */
+/* A text under way, of which the features that have ended are reported. */
 typedef struct Walk {
     Pieces pieces;
     geolint_features *features;

@@ -6,11 +6,11 @@ import java.nio.file.Files;
 import java.nio.file.Path;
 
 /**
- * Judges a file and prints the report of {@code geolint stdin}.
+ * Checks a file and prints the report of {@code geolint stdin}.
  *
  * <pre>java -cp geolint.jar Report.java [PATH]</pre>
  *
- * <p>Without a path it judges standard input. The status is the program's: 0 valid, 1 not valid, 2 no verdict.
+ * <p>Without a path it checks standard input. The status is the program's: 0 valid, 1 not valid, 2 no verdict.
  */
 final class Report {
     private Report() {}

@@ -1,4 +1,4 @@
-/* Judges a file, read in pieces, and prints the report of `geolint stdin`: C with geolint.h.
+/* Checks a file, read in pieces, and prints the report of `geolint stdin`: C with geolint.h.
  *
  *     cc report.c -o report $(pkg-config --cflags --libs geolint)
  *     ./report [PATH]     standard input where there is no path

@@ -1,4 +1,4 @@
-// Judges a file, read in pieces, and prints the report of `geolint stdin`: C++ with geolint.hpp.
+// Checks a file, read in pieces, and prints the report of `geolint stdin`: C++ with geolint.hpp.
 //
 //     c++ -std=c++11 report.cpp -o report $(pkg-config --cflags --libs geolint)
 //     ./report [PATH]     standard input where there is no path

@@ -1,4 +1,4 @@
-//! Copies standard input to a file while it is judged, and prints the report of `geolint stdin`: Rust with the crate `geolint`.
+//! Copies standard input to a file while it is checked, and prints the report of `geolint stdin`: Rust with the crate `geolint`.
 //!
 //!     cargo new report && cd report && cargo add geolint --path $HOME/.local/share/geolint/rust
 //!     cp ../report.rs src/main.rs && cargo run --release < map.geojson

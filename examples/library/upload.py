@@ -1,4 +1,4 @@
-"""A web service that stores an upload and judges it on the way: Python with the package geolint, as a WSGI application.
+"""A web service that stores an upload and checks it on the way: Python with the package geolint, as a WSGI application.
 
     python3 examples/library/upload.py 8000
     curl --data-binary @examples/cafes.geojson http://127.0.0.1:8000/
@@ -28,7 +28,7 @@ LINGER = 5
 FORM = b"""<!DOCTYPE html>
 <html lang="en"><meta charset="utf-8"><title>Is it GeoJSON?</title>
 <form method="post" enctype="multipart/form-data">
-<label>A GeoJSON file: <input type="file" name="file" required></label> <button>Judge and store it</button>
+<label>A GeoJSON file: <input type="file" name="file" required></label> <button>Check and store it</button>
 </form></html>
 """
 
@@ -155,7 +155,7 @@ def uploaded(environ):
 
 
 def judge_and_store(pieces, folder):
-    """The verdict of the pieces. They are stored while they are judged, and stay where the verdict is valid."""
+    """The verdict of the pieces. They are stored while they are checked, and stay if the verdict is valid."""
     store = tempfile.NamedTemporaryFile(dir=folder, suffix=".geojson", delete=False)
     verdict = None
     try:

@@ -4,7 +4,7 @@
 #include <jni.h>
 
 /* The bytes of an array are copied in such pieces, so that no collector waits for a call, and so that a thread that writes to the array
- * meanwhile does not change what is judged. The JVM leaves 80 KB of stack to a call. */
+ * meanwhile does not change what is checked. The JVM leaves 80 KB of stack to a call. */
 enum { PIECE = 16384 };
 
 /* Where a report's numbers stand: as in Native.java. */
@@ -77,7 +77,7 @@ JNIEXPORT void JNICALL Java_geolint_Native_finish(JNIEnv *env, jclass native, jl
     (*env)->SetLongArrayRegion(env, numbers, 0, REPORT, all);
 }
 
-/* A text whose features are told, with the bytes that were taken over of it. */
+/* A text whose features are reported, with the bytes that were taken over of it. */
 typedef struct walk {
     geolint_features *features;
     jint from, to;

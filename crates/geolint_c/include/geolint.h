@@ -1,12 +1,12 @@
-/* geolint: is a text GeoJSON (RFC 7946), and otherwise where and why not.
+/* geolint: is a text GeoJSON (RFC 7946), and if it is not, where and why.
  *
- * Two ways in: geolint_check judges a text in memory; a linter (geolint_begin, geolint_feed, geolint_finish) judges a text
- * that comes in pieces, in the memory that the host gives it. In the same way geolint_features_.. tells each feature of a text and
- * geolint_records_.. each record of an input, geolint_locator_.. the path to a place, and geolint_lines_.. its line and column. The
+ * Two ways in: geolint_check checks a text in memory; a linter (geolint_begin, geolint_feed, geolint_finish) checks a text
+ * that comes in pieces, in the memory that the host gives it. In the same way geolint_features_.. reports each feature of a text and
+ * geolint_records_.. each record of an input; geolint_locator_.. finds the path to a place, and geolint_lines_.. its line and column. The
  * library takes no memory, keeps no state of its own, opens nothing and prints nothing. Any number of linters may be in use at once,
  * each on one thread at a time. What is said of a linter holds of the other handles too, each by its own calls.
  *
- * What is proved of the library. Each call below that judges states its result by the definitions of the two standards (as
+ * What is proved of the library. Each call below that gives a verdict states its result by the definitions of the two standards (as
  * the profile in docs/DECISIONS.md reads them) on the whole text, and a prover checks it on each build:
  *   - geolint_check gives the verdict of these bytes: whether they are a JSON text (RFC 8259), then the broken rule of the
  *     least place in the whole text, otherwise of each kind of warning how many there are and the least place;
@@ -15,14 +15,14 @@
  *     the limits, and GEOLINT_DONE only where these bytes begin a JSON text within the depth and are no more than allowed (not
  *     that such a text ends within the bytes allowed);
  *   - geolint_doomed answers 1 only where no input that begins with the bytes fed so far is valid, and otherwise 0;
- *   - geolint_offset tells how many bytes were taken: all that were fed, or once they are refused the place of the refusal;
- *   - geolint_features_next tells, of each text that goes on from the bytes taken, the features that have ended in them, in turn
+ *   - geolint_offset says how many bytes were taken: all that were fed, or once they are refused the place of the refusal;
+ *   - geolint_features_next gives, for each text that goes on from the bytes taken, the features that have ended in them, in turn
  *     and each once: its number, its place, the place after its closing bracket where it is an object or an array, the place of its
  *     `id`, and the report of the least of its faults, or where it has none of its warnings;
- *   - geolint_records_next tells the records that have ended in the bytes taken, in turn and each once: number, place, end and report;
+ *   - geolint_records_next gives the records that have ended in the bytes taken, in turn and each once: number, place, end and report;
  *     geolint_records_finish what the input is by them;
- *   - geolint_locator_step tells the steps of the path that the bytes taken lead to, in each text that goes on from them;
- *   - geolint_lines_feed tells the line and the column after the bytes fed;
+ *   - geolint_locator_step gives the steps of the path that the bytes taken lead to, in each text that goes on from them;
+ *   - geolint_lines_feed gives the line and the column after the bytes fed;
  *   - each text is the one that the definitions have for its number, with a byte 0 at its end;
  *   - each call returns, reads and writes no memory but what it is passed, and leaves a linter that can be used again; what it
  *     does at null and after the end is as each says below. Between two calls a linter may go from thread to thread.
@@ -34,7 +34,7 @@
  *     makes such an address of a pointer that may be null;
  *   - a linter lies in memory of geolint_size() bytes at a multiple of geolint_alignment(), and is passed to no call before
  *     geolint_begin has got this memory. It is not copied, not moved and not written by the host. The other handles lie in as many
- *     bytes as their own functions tell, at a multiple of geolint_alignment() too, and are passed to their own calls alone;
+ *     bytes as their own functions say, at a multiple of geolint_alignment() too, and are passed to their own calls alone;
  *   - one call at a time for each linter. Where the next call comes from another thread, a lock, a thread's start or join or the
  *     like orders the two.
  *
@@ -55,7 +55,7 @@ enum geolint_status {
     GEOLINT_DONE = 0,    /* of a piece: the bytes so far begin a JSON text within the depth, and are no more than allowed */
     GEOLINT_REFUSED = 1, /* of a piece: the input is refused, and so is every input that begins so */
     GEOLINT_ENDED = 2,   /* the linter has ended: nothing was changed */
-    GEOLINT_LIMITS = 3,  /* the limits are not allowed: nothing can be judged under them */
+    GEOLINT_LIMITS = 3,  /* the limits are not allowed: nothing can be checked under them */
     GEOLINT_NULL = 4,    /* the pointer is null: nothing was changed */
     GEOLINT_READY = 5,   /* a finding is ready, and is to be taken first: nothing was changed */
     GEOLINT_NONE = 6     /* no finding is ready */
@@ -63,13 +63,13 @@ enum geolint_status {
 
 /* What a text is. */
 enum geolint_verdict {
-    GEOLINT_NO_VERDICT = 0, /* it was not judged: the report's status says why */
+    GEOLINT_NO_VERDICT = 0, /* there is none: the report's status says why */
     GEOLINT_VALID = 1,      /* a GeoJSON text, perhaps with warnings */
     GEOLINT_BROKEN = 2,     /* a JSON text that breaks the rule G<rule> at this place */
     GEOLINT_NOT_JSON = 3    /* no JSON text within the limits, by the cause J<cause> at this place */
 };
 
-/* Why an input is no JSON text. */
+/* Why an input is not JSON. */
 enum geolint_cause {
     GEOLINT_SYNTAX = 1,    /* J1: the byte at the place cannot stand there */
     GEOLINT_TRUNCATED = 2, /* J2: the input ends before a text does */
@@ -108,10 +108,10 @@ static inline const void *geolint_bytes(const void *bytes) {
 
 /* ---- a text in memory */
 
-/* Judges `length` bytes. `max_depth` is how many arrays and objects may be open inside each other, from 1 to 256, and
+/* Checks `length` bytes. `max_depth` is how many arrays and objects may be open inside each other, from 1 to 256, and
  * `max_bytes` how many bytes a text may have, from 1 to 2^60; 0 stands for the most of either. Other limits give
  * GEOLINT_NO_VERDICT with GEOLINT_LIMITS. As measured, it needs 208 KiB of stack, all of
- * which it writes for a text of more than 8 KiB or of more than 8 levels; on a smaller stack judge with a linter in other memory. */
+ * which it writes for a text of more than 8 KiB or of more than 8 levels; on a smaller stack use a linter in other memory. */
 geolint_report geolint_check(const void *bytes, size_t length, uint32_t max_depth, uint64_t max_bytes);
 
 /* ---- a text in pieces */
@@ -126,7 +126,7 @@ size_t geolint_alignment(void);
  * memory, once, when it likes. */
 uint32_t geolint_begin(geolint_linter *linter, uint32_t max_depth, uint64_t max_bytes);
 
-/* As geolint_begin, for memory that geolint_begin has got before: a host that judges many texts pays little for each, since
+/* As geolint_begin, for memory that geolint_begin has got before: a host that checks many texts pays little for each, since
  * what the linter there has written once need not be written again. */
 uint32_t geolint_begin_again(geolint_linter *linter, uint32_t max_depth, uint64_t max_bytes);
 
@@ -169,7 +169,7 @@ typedef struct geolint_finding {
 /* ---- the features of a text
  *
  * A feature is an element of the array that the first member `features` of the text's object holds, whatever the object's `type`
- * says. Each is told in its turn, once its last byte has come: the least of its faults, or where it has none its warnings. A call takes
+ * says. Each is reported in its turn, once its last byte has come: the least of its faults, or where it has none its warnings. A call takes
  * bytes up to where features have ended, and up to 256 of them wait then to be pulled.
  *
  *     while (length) {
@@ -235,7 +235,7 @@ uint32_t geolint_records_begin(geolint_records *records, uint32_t framing, uint3
 uint32_t geolint_records_begin_again(geolint_records *records, uint32_t framing, uint32_t max_depth, uint64_t max_bytes);
 
 /* Takes the next bytes, up to and with the separator after the next record. A record that is not valid ends there as well, and the
- * next is judged. GEOLINT_REFUSED: more bytes came than are allowed, and no further one matters. Where a finding is ready before:
+ * next is checked. GEOLINT_REFUSED: more bytes came than are allowed, and no further one matters. Where a finding is ready before:
  * GEOLINT_READY, and nothing is taken. After the end: GEOLINT_ENDED. Null: GEOLINT_NULL. */
 geolint_progress geolint_records_feed(geolint_records *records, const void *bytes, size_t length);
 
@@ -251,7 +251,7 @@ typedef struct geolint_whole {
     uint64_t number;       /* how many records there are, or the number of the first that is not valid */
 } geolint_whole;
 
-/* What the input is as a whole, and its end. The last record is ready after it, where there is one: geolint_records_next tells it.
+/* What the input is as a whole, and its end. The last record is ready after it, if there is one: geolint_records_next gives it.
  * Where a finding is ready before, there is GEOLINT_NO_VERDICT with GEOLINT_READY, and nothing ends. After the end there is
  * GEOLINT_NO_VERDICT with GEOLINT_ENDED, and for null with GEOLINT_NULL. */
 geolint_whole geolint_records_finish(geolint_records *records);

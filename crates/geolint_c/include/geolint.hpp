@@ -40,7 +40,7 @@ class Verdict {
 public:
     explicit Verdict(const geolint_report &report) noexcept : report_(report) {}
 
-    /* It was judged; otherwise the limits were not allowed, or the linter had ended. */
+    /* There is a verdict; otherwise the limits were not allowed, or the linter had ended. */
     bool judged() const noexcept { return report_.status == GEOLINT_DONE; }
     bool valid() const noexcept { return report_.verdict == GEOLINT_VALID; }
     bool broken() const noexcept { return report_.verdict == GEOLINT_BROKEN; }
@@ -68,21 +68,21 @@ private:
     geolint_report report_;
 };
 
-/* Judges a text in memory. */
+/* Checks a text in memory. */
 inline Verdict check(const void *bytes, std::size_t length, Limits limits = Limits()) noexcept {
     return Verdict(geolint_check(geolint_bytes(bytes), length, limits.max_depth, limits.max_bytes));
 }
 
-/* Judges any container of bytes that has data() and size(), as std::string, std::vector<char>, std::string_view or std::span. */
+/* Checks any container of bytes that has data() and size(), as std::string, std::vector<char>, std::string_view or std::span. */
 template <class Bytes, class = decltype(std::declval<const Bytes &>().data())>
 Verdict check(const Bytes &bytes, Limits limits = Limits()) noexcept {
     return check(bytes.data(), bytes.size() * sizeof(*bytes.data()), limits);
 }
 
-/* Judges a text that comes in pieces. It can be moved, and frees its memory once. */
+/* Checks a text that comes in pieces. It can be moved, and frees its memory once. */
 class Linter {
 public:
-    /* Test it before use: it is empty where there is no memory or the limits are not allowed, and then judges nothing. */
+    /* Test it before use: it is empty if there is no memory or the limits are not allowed, and then checks nothing. */
     explicit Linter(Limits limits = Limits()) noexcept : linter_(geolint_new(limits.max_depth, limits.max_bytes)) {}
     Linter(Linter &&other) noexcept : linter_(other.linter_) { other.linter_ = nullptr; }
     Linter &operator=(Linter &&other) noexcept {
@@ -164,7 +164,7 @@ struct RecordCalls {
     static geolint_finding next(Handle *at) noexcept { return geolint_records_next(at); }
 };
 
-/* Tells findings of bytes that come in pieces. */
+/* Reports findings in bytes that come in pieces. */
 template <class Calls> class Puller {
 public:
     /* The findings that end in a piece, as they are asked for: a range for one pass, over bytes that the host keeps until it has ended.
@@ -256,7 +256,7 @@ protected:
 
 } // namespace detail
 
-/* Tells what is found in each feature of a text that comes in pieces:
+/* Reports what is found in each feature of a text that comes in pieces:
  *
  *     geolint::Features features;
  *     while (read(piece))
@@ -265,7 +265,7 @@ protected:
  *     geolint::Verdict verdict = features.finish(); */
 class Features : public detail::Puller<detail::FeatureCalls> {
 public:
-    /* Test it before use, as a linter: where it is empty, it tells nothing. */
+    /* Test it before use, as a linter: if it is empty, it reports nothing. */
     explicit Features(Limits limits = Limits()) noexcept {
         if (geolint_features_begin(at(), limits.max_depth, limits.max_bytes) != GEOLINT_DONE)
             memory_.reset();
@@ -279,7 +279,7 @@ public:
     Verdict finish() noexcept { return Verdict(geolint_features_finish(at())); }
 };
 
-/* Tells what is found in each record of an input. */
+/* Reports what is found in each record of an input. */
 class Records : public detail::Puller<detail::RecordCalls> {
 public:
     explicit Records(geolint_framing framing, Limits limits = Limits()) noexcept {

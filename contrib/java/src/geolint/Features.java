@@ -22,7 +22,7 @@ import java.util.OptionalLong;
  * }
  * }</pre>
  *
- * <p>Of a text that is no JSON the features before the refused byte are told, and {@link #verdict} says the rest. Any thread may call it;
+ * <p>Of a text that is not JSON, the features before the refused byte are reported, and {@link #verdict} says the rest. Any thread may call it;
  * calls on one wait for each other.
  */
 public final class Features implements Iterator<Feature>, AutoCloseable {

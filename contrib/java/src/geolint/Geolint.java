@@ -16,8 +16,8 @@ import java.util.concurrent.ArrayBlockingQueue;
  *     System.out.println(broken.code() + " at byte " + broken.place() + ": " + broken.message());
  * }</pre>
  *
- * <p>Any thread may call it. A text that comes in pieces is judged by a {@link Linter}, and one that something else reads by a
- * {@link JudgingInputStream}. {@link #features} tells what is found in each feature.
+ * <p>Any thread may call it. A text that comes in pieces is checked by a {@link Linter}, and one that something else reads by a
+ * {@link JudgingInputStream}. {@link #features} reports what is found in each feature.
  */
 public final class Geolint {
     private static final int PIECE = 65536;
@@ -27,7 +27,7 @@ public final class Geolint {
     private Geolint() {}
 
     /**
-     * Judges a text in memory, under the widest limits.
+     * Checks a text in memory, under the widest limits.
      *
      * @param text its bytes
      * @return what it is
@@ -37,7 +37,7 @@ public final class Geolint {
     }
 
     /**
-     * Judges a text in memory.
+     * Checks a text in memory.
      *
      * @param text its bytes
      * @param limits how deep and how long it may be
@@ -48,7 +48,7 @@ public final class Geolint {
     }
 
     /**
-     * Judges a text in a buffer, under the widest limits.
+     * Checks a text in a buffer, under the widest limits.
      *
      * @param text its bytes, from the position to the limit, on the heap or not; the buffer stays as it is
      * @return what it is
@@ -58,7 +58,7 @@ public final class Geolint {
     }
 
     /**
-     * Judges a text in a buffer.
+     * Checks a text in a buffer.
      *
      * @param text its bytes, from the position to the limit, on the heap or not; the buffer stays as it is
      * @param limits how deep and how long it may be
@@ -76,7 +76,7 @@ public final class Geolint {
     }
 
     /**
-     * Judges what a stream gives, under the widest limits, and reads no further than the piece that is refused. It stays open.
+     * Checks what a stream gives, under the widest limits, and reads no further than the piece that is refused. It stays open.
      *
      * @param text a stream of its bytes
      * @return what it is
@@ -87,7 +87,7 @@ public final class Geolint {
     }
 
     /**
-     * Judges what a stream gives, and reads no further than the piece that is refused. It stays open.
+     * Checks what a stream gives, and reads no further than the piece that is refused. It stays open.
      *
      * @param text a stream of its bytes
      * @param limits how deep and how long it may be

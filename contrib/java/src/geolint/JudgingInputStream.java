@@ -6,7 +6,7 @@ import java.io.InputStream;
 import java.util.Objects;
 
 /**
- * Judges what is read through it, so that a text is parsed or stored and judged in one pass.
+ * Checks what is read through it, so that a text is parsed or stored and checked in one pass.
  *
  * <pre>{@code
  * try (JudgingInputStream body = new JudgingInputStream(request.getInputStream())) {
@@ -16,7 +16,7 @@ import java.util.Objects;
  * }
  * }</pre>
  *
- * <p>What it gives is what the stream beneath gives, also of a text that is refused. What is skipped is read and judged, and there is no
+ * <p>What it gives is what the stream beneath gives, also of a text that is refused. What is skipped is read and checked, and there is no
  * going back to a mark. To read single bytes put a {@link java.io.BufferedInputStream} over it.
  */
 public final class JudgingInputStream extends FilterInputStream {
@@ -24,7 +24,7 @@ public final class JudgingInputStream extends FilterInputStream {
     private Verdict verdict;
 
     /**
-     * Judges under the widest limits.
+     * Checks under the widest limits.
      *
      * @param in the stream that gives the text
      */
@@ -33,7 +33,7 @@ public final class JudgingInputStream extends FilterInputStream {
     }
 
     /**
-     * Judges under limits; what lies beyond them is read all the same.
+     * Checks under limits; what lies beyond them is read all the same.
      *
      * @param in the stream that gives the text
      * @param limits how deep and how long the text may be

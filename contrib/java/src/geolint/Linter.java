@@ -5,8 +5,8 @@ import java.nio.ByteBuffer;
 import java.util.Objects;
 
 /**
- * Judges a text that comes in pieces of any size. It has some 208 KB of memory outside the heap until it is closed; one that is begun
- * again judges the next text in the same memory, which costs less than another linter.
+ * Checks a text that comes in pieces of any size. It has some 208 KB of memory outside the heap until it is closed; one that is begun
+ * again checks the next text in the same memory, which costs less than another linter.
  *
  * <pre>{@code
  * try (Linter linter = new Linter()) {

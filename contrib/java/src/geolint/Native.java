@@ -60,7 +60,7 @@ final class Native {
     /** Ends the linter and writes its report, of {@link #REPORT} numbers. */
     static native void finish(long linter, long[] report);
 
-    /** The memory of a text whose features are told, which has begun, or 0 where there is none. */
+    /** The memory of a text whose features are reported, which has begun, or 0 where there is none. */
     static native long newFeatures(int maxDepth, long maxBytes);
 
     static native void freeFeatures(long features);

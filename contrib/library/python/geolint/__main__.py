@@ -102,8 +102,11 @@ def _parser() -> argparse.ArgumentParser:
 
 def _order(words: Sequence[str]) -> Order:
     parser = _parser()
+    # After -- each word is a path, which argparse does not see to among other paths.
+    end = words.index("--") if "--" in words else len(words)
     # What --every takes stands after =, so that a path may follow it.
-    given = parser.parse_intermixed_args(["--every=faults" if word == "--every" else word for word in words])
+    given = parser.parse_intermixed_args(["--every=faults" if word == "--every" else word for word in words[:end]])
+    given.path += words[end + 1 :]
     for first, second in (("seq", "ndjson"), ("every", "quick")):
         if getattr(given, first) and getattr(given, second):
             parser.error(f"--{first} cannot be used with --{second}")

@@ -28,7 +28,7 @@ fn finding_of(told: &c::Finding) -> Option<Finding> {
     Some(Finding { number: told.number, place: told.place, end: some(told.end), id: some(told.id), verdict })
 }
 
-/// The calls on a handle that tells findings.
+/// The calls on a handle that reports findings.
 struct Calls {
     feed: unsafe fn(*mut c_void, *const u8, usize) -> c::Progress,
     next: unsafe fn(*mut c_void) -> c::Finding,

@@ -1,8 +1,8 @@
 //! Is a text GeoJSON (RFC 7946), and otherwise where and why not: geolint for Rust, over the library for C.
 //!
-//! [`check`] judges a text in memory. A [`Linter`] judges one that comes in pieces, also as an [`io::Write`], so that a download
-//! can be judged while it is stored ([`Judging`]). [`features`] and [`records`] tell what is found in each of them, and [`report`] tells the
-//! line, the column and the path.
+//! [`check`] checks a text in memory. A [`Linter`] checks one that comes in pieces, also as an [`io::Write`], so that a download
+//! can be checked while it is stored ([`Judging`]). [`features`] and [`records`] report what is found in each of them, and [`report`]
+//! gives the line, the column and the path.
 //!
 //! ```
 //! use geolint::{check, Limits, Verdict};
@@ -310,7 +310,7 @@ fn verdict_of(report: &c::Report) -> Option<Verdict> {
     }
 }
 
-/// Judges a text in memory. As measured it needs 208 KiB of stack; on a smaller one, and for many deep texts, take a [`Linter`].
+/// Checks a text in memory. As measured it needs 208 KiB of stack; on a smaller one, and for many deep texts, take a [`Linter`].
 ///
 /// # Errors
 ///
@@ -321,7 +321,7 @@ pub fn check(text: &[u8], limits: Limits) -> Result<Verdict, Refusal> {
     verdict_of(&report).ok_or(Refusal::Limits)
 }
 
-/// Judges a text that comes in pieces.
+/// Checks a text that comes in pieces.
 ///
 /// ```
 /// use geolint::{Limits, Linter, Progress};
@@ -447,7 +447,7 @@ impl io::Write for Linter {
     }
 }
 
-/// Stores what is written, and judges what was stored.
+/// Stores what is written, and checks what was stored.
 ///
 /// ```
 /// use geolint::{Judging, Limits, Linter};
@@ -461,7 +461,7 @@ impl io::Write for Linter {
 /// # }
 /// ```
 pub struct Judging<W> {
-    /// Judges what was stored.
+    /// Checks what was stored.
     pub linter: Linter,
     /// Where it is stored.
     pub store: W,

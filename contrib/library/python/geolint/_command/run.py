@@ -98,7 +98,8 @@ class Run:
         for path in self.order.paths:
             self.path(path)
         if self.order.listed is not None:
-            self.names_in(self.order.listed)
+            for name in self.names_in(self.order.listed):
+                self.named(name)
         if not self.summary.files and not self.order.allows_empty:
             self.tell_summary()
             return self.no_file()
@@ -125,12 +126,11 @@ class Run:
         sys.stderr.write(f"geolint: no file was checked{said}\n")
         return 2
 
-    def names_in(self, path: bytes) -> None:
-        """Checks each path of a list. One that cannot be opened, or read to its end, is reported as a file is."""
+    def names_in(self, path: bytes) -> Iterator[bytes]:
+        """The paths of a list. One that cannot be opened, or read to its end, is reported as a file is."""
         try:
             with open(sys.stdin.fileno() if path == b"-" else path, "rb", closefd=path != b"-") as file:
-                for name in _names(file, self.order.name_end):
-                    self.named(name)
+                yield from _names(file, self.order.name_end)
         except OSError as error:
             self.tell_unread(path, _reason(error))
 
