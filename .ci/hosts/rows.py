@@ -274,6 +274,7 @@ try:
 except KeyError:
     wants("a block that was left", unfinished.verdict, None)
 wants("a version", geolint.version().count("."), 2)
+wants("what no package says", geolint.build(), (geolint.__version__, None, None))
 
 # Whether a text that begins so may still be valid, as far as that is seen early.
 for text, doomed in {

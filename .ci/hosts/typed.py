@@ -29,7 +29,9 @@ def told() -> str:
     places: List[geolint.Place] = geolint.locate("{}", broken)
     kinds: List[int] = [warning.kind for warning in report.verdict.warnings]
     first: Optional[geolint.Warning] = report.verdict.warnings[0] if kinds else None
-    return f"{report.line}:{report.column}: {places}, {first}"
+    built: geolint.Build = geolint.build()
+    commit: Optional[str] = built.commit
+    return f"{report.line}:{report.column}: {places}, {first}, {geolint.__version__}, {commit}"
 
 
 geolint.check(7)  # type: ignore[arg-type]

@@ -196,6 +196,12 @@ async function run(words) {
   return status;
 }
 
+/** The version, and the commit and the proof kit of a package that `make dist` made. */
+function versionLines() {
+  const { version, geolint: build } = JSON.parse(readFileSync(new URL("package.json", import.meta.url)));
+  return `geolint-files ${version}\n${build ? `commit: ${build.commit}\nproved and compiled by: ${build.kit}\n` : ""}`;
+}
+
 const write = (text) => new Promise((done, failed) => process.stdout.write(text, (error) => (error ? failed(error) : done())));
 
 // Where nobody reads the report any more, the run ends without a word.
@@ -203,7 +209,7 @@ process.stdout.on("error", (error) => process.exit(error.code === "EPIPE" ? 141 
 try {
   const words = givenWords();
   if (words.help) process.stdout.write(USAGE);
-  else if (words.version) process.stdout.write(`geolint-files ${JSON.parse(readFileSync(new URL("package.json", import.meta.url))).version}\n`);
+  else if (words.version) process.stdout.write(versionLines());
   else process.exitCode = await run(words);
 } catch (error) {
   process.stderr.write(error instanceof WrongWords ? `geolint-files: ${error.message}\n\n${USAGE}` : `geolint-files: ${error.message}\n`);

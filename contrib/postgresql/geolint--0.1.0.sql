@@ -57,3 +57,7 @@ RETURNS SETOF geojson_finding AS 'MODULE_PATHNAME', 'geojson_features_bytea' LAN
 CREATE FUNCTION geolint_version()
 RETURNS text AS 'MODULE_PATHNAME', 'version_of_geolint' LANGUAGE C IMMUTABLE STRICT PARALLEL SAFE;
 COMMENT ON FUNCTION geolint_version() IS 'the version of the library in this module';
+
+CREATE FUNCTION geolint_build(OUT version text, OUT commit text, OUT kit text)
+AS 'MODULE_PATHNAME', 'build_of_geolint' LANGUAGE C STABLE STRICT PARALLEL SAFE;
+COMMENT ON FUNCTION geolint_build() IS 'what this module was built from: the version of the library, and of a package the commit and the proof kit';

@@ -63,14 +63,19 @@ typedef struct Kept {
     Datum no_warnings;
 } Kept;
 
-/* In the memory context of the call. */
-static Kept keep(FunctionCallInfo fcinfo, int attributes) {
-    Kept kept;
+/* The row type of the call, in its memory context. */
+static TupleDesc row_type(FunctionCallInfo fcinfo, int attributes) {
     TupleDesc type;
     if (get_call_result_type(fcinfo, NULL, &type) != TYPEFUNC_COMPOSITE || type->natts != attributes)
         ereport(ERROR, errcode(ERRCODE_DATATYPE_MISMATCH), errmsg("the result is not of the type that this version of geolint has"),
                 errhint("Run ALTER EXTENSION geolint UPDATE, or create the extension again."));
-    kept.type = BlessTupleDesc(CreateTupleDescCopy(type));
+    return BlessTupleDesc(CreateTupleDescCopy(type));
+}
+
+/* In the memory context of the call. */
+static Kept keep(FunctionCallInfo fcinfo, int attributes) {
+    Kept kept;
+    kept.type = row_type(fcinfo, attributes);
     kept.no_warnings = DirectFunctionCall1(jsonb_in, CStringGetDatum("[]"));
     return kept;
 }
@@ -206,4 +211,29 @@ Datum geojson_features_bytea(PG_FUNCTION_ARGS) {
 PG_FUNCTION_INFO_V1(version_of_geolint);
 Datum version_of_geolint(PG_FUNCTION_ARGS) {
     PG_RETURN_TEXT_P(cstring_to_text(geolint_version()));
+}
+
+/* What the package says that the module is of: the commit and the proof kit. */
+#ifndef GEOLINT_COMMIT
+#define GEOLINT_COMMIT ""
+#endif
+#ifndef GEOLINT_KIT
+#define GEOLINT_KIT ""
+#endif
+
+/* The attributes of what geolint_build answers, in their order. */
+enum { VERSION, COMMIT, KIT, BUILD_ATTRIBUTES };
+
+PG_FUNCTION_INFO_V1(build_of_geolint);
+Datum build_of_geolint(PG_FUNCTION_ARGS) {
+    const char *texts[BUILD_ATTRIBUTES] = {geolint_version(), GEOLINT_COMMIT, GEOLINT_KIT};
+    Datum values[BUILD_ATTRIBUTES] = {0};
+    bool nulls[BUILD_ATTRIBUTES] = {false};
+    TupleDesc type = row_type(fcinfo, BUILD_ATTRIBUTES);
+    for (int i = 0; i < BUILD_ATTRIBUTES; i++) {
+        nulls[i] = *texts[i] == '\0';
+        if (!nulls[i])
+            values[i] = CStringGetTextDatum(texts[i]);
+    }
+    PG_RETURN_DATUM(HeapTupleGetDatum(heap_form_tuple(type, values, nulls)));
 }

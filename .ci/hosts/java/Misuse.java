@@ -1,3 +1,4 @@
+import geolint.Build;
 import geolint.Geolint;
 import geolint.JudgingInputStream;
 import geolint.Limits;
@@ -16,6 +17,7 @@ import java.nio.file.Files;
 import java.nio.file.Path;
 import java.nio.file.StandardOpenOption;
 import java.util.List;
+import java.util.Optional;
 
 /** What each call says of null, of lengths that are not there, after the end and after the close. */
 final class Misuse {
@@ -179,6 +181,7 @@ final class Misuse {
         ofBuffers();
         ofStreams();
         Tally.wants("the version", Geolint.version().split("\\.").length, 3);
+        Tally.wants("what no package says", Geolint.build(), new Build(Geolint.version(), Optional.empty(), Optional.empty()));
         Tally.end();
     }
 }

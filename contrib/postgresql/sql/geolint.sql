@@ -1,5 +1,6 @@
 CREATE EXTENSION geolint;
 SELECT geolint_version() = extversion AS "the library's version is the extension's" FROM pg_extension WHERE extname = 'geolint';
+SELECT version = geolint_version() AS "and so says the build", (commit IS NULL) = (kit IS NULL) AS "commit and kit are said together" FROM geolint_build();
 
 -- A yes or a no, of each type. A literal without a type is a text.
 SELECT is_geojson('{"type":"Point","coordinates":[17.1,48.1]}');

@@ -148,6 +148,15 @@ public final class Geolint {
         return Native.version();
     }
 
+    /**
+     * What this jar was built from.
+     *
+     * @return the version, and of a jar that {@code make dist} made the commit and the proof kit
+     */
+    public static Build build() {
+        return Build.read();
+    }
+
     private static Linter take(Limits limits) {
         Linter linter = SPARE.poll();
         if (linter == null)

@@ -19,6 +19,7 @@ It needs Python 3.8 and nothing but the shared object `libgeolint.so`: the one t
 one that lies beside this file, otherwise where `make install-library` put it, otherwise the system's.
 """
 
+from ._build import Build, build
 from ._findings import AsyncFeatures, AsyncRecords, Features, Records, afeatures, arecords, features, records
 from ._linter import Linter, acheck, check
 from ._places import Place, Report, locate, report
@@ -46,4 +47,8 @@ __all__ = [
     "AsyncRecords",
     "Ended",
     "version",
+    "Build",
+    "build",
 ]
+
+__version__ = version()

@@ -11,7 +11,7 @@ import os
 import sys
 from typing import NoReturn, Optional, Sequence
 
-from . import version
+from . import build
 from ._command.files import Asked
 from ._command.run import Order, Run
 
@@ -93,7 +93,7 @@ def _parser() -> argparse.ArgumentParser:
     add("-0", "--null", action=flag, help="the paths of --files-from end with NUL")
     add("--ending", metavar="ENDING", type=_ending, action="append", default=[], help="in a folder, check also files with this ending")
     add("--allow-empty", action=flag, help="a call that checks no file ends with status 0")
-    add("--version", action="version", version=f"geolint {version()}")
+    add("--version", action="version", version=str(build()))
     for word in ("--explain", "--split", "--force"):
         add(word, nargs="?", action=_NotServed, help=argparse.SUPPRESS)
     add("path", metavar="PATH", nargs="*", help="what to check")
