@@ -3,6 +3,7 @@
 It needs Debian's python3-websocket, and is run by /usr/bin/python3. Both have the same methods."""
 
 import base64
+import glob
 import json
 import os
 import shutil
@@ -64,6 +65,21 @@ class Browser:
 
     def start(self, words, **env):
         self.process = subprocess.Popen(words, stdout=subprocess.DEVNULL, stderr=subprocess.DEVNULL, env={**os.environ, **env})
+
+    def processes(self):
+        """The numbers of its processes, by /proc."""
+        children = {}
+        for path in glob.glob("/proc/[0-9]*/stat"):
+            try:
+                with open(path) as file:
+                    pid, rest = file.read().split(" ", 1)
+                children.setdefault(int(rest.rsplit(")", 1)[1].split()[1]), []).append(int(pid))
+            except OSError:
+                pass
+        found = [self.process.pid]
+        for pid in found:
+            found += children.get(pid, [])
+        return found
 
     def end(self, method):
         try:

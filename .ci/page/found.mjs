@@ -32,11 +32,18 @@ for (const line of readFileSync(`${folder}/expected.jsonl`, "utf8").trim().split
   const bytes = readFileSync(`${folder}/${name}`);
   const framing = framings[name.split(".")[1]];
   inputs++;
-  for (const way of ways) {
-    const findings = framing ? geolint.records(way(bytes), { framing }) : geolint.features(way(bytes));
+  const find = async (input, options = {}) => {
+    const findings = framing ? geolint.records(input, { framing, ...options }) : geolint.features(input, options);
     const got = [];
     for await (const it of findings) got.push(it);
-    const { verdict } = findings;
+    return { got, verdict: findings.verdict };
+  };
+  for (const way of ways) {
+    const { got, verdict } = await find(way(bytes));
+    const brief = await find(way(bytes), { isBrief: true });
+    const told = JSON.stringify(await geolint.completed(new Blob([bytes]), brief.got));
+    if (told !== JSON.stringify(got) || JSON.stringify(brief.verdict) !== JSON.stringify(verdict)) differs(name, "in brief and then in full", told, brief.verdict);
+    if (brief.got.some((it) => it.idAt === undefined || "path" in it || "name" in it)) differs(name, "in brief", brief.got);
     if (wanted === null) {
       if (verdict.verdict !== "not JSON") differs(name, "is no JSON text", verdict.verdict);
       continue;

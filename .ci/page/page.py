@@ -176,19 +176,11 @@ def stopped(browser):
     browser.wait(DONE.format(2))
     wants("Stop", browser.value("document.querySelector('.card .verdict').textContent") == "Stopped: there is no verdict.")
     wants("the next file after it", browser.value(SENTENCE) == "Valid GeoJSON.", browser.value(SENTENCE))
-    # Each feature of it has a warning. The verdict is told before these are listed, and stays where the listing is stopped.
-    browser.choose("#files", [str(room / "large.geojson")])
-    browser.wait("document.querySelectorAll('.card').length === 3", 120)
-    browser.wait("document.getElementById('run-name').textContent.startsWith('Listing')", 60)
-    wants("the verdict before the list", browser.value(SENTENCE).startswith("Valid GeoJSON, with") and "being listed" in browser.value("document.querySelector('.card:last-child').textContent"))
-    browser.value("document.getElementById('stop').click()")
-    browser.wait(DONE.format(3))
-    told = browser.value("document.querySelector('.card:last-child').textContent")
-    wants("it stays", "Valid GeoJSON" in told and "being listed" not in told and "have a warning" not in told, told[:300])
+    # Each feature of it has a warning.
     browser.value("""(() => { window.aloud = []; const it = document.getElementById('status');
         new MutationObserver(() => aloud.push(it.textContent)).observe(it, { childList: true }); })()""")
     browser.choose("#files", [str(room / "large.geojson")])
-    browser.wait(DONE.format(4), 400)
+    browser.wait(DONE.format(3), 400)
     aloud = browser.value("aloud")
     wants("how far it is is read aloud, and what was found", "large.geojson: 50 %" in aloud and aloud[-1].startswith("large.geojson: Valid GeoJSON, with"), aloud)
     told = browser.value("document.querySelector('.card:last-child').textContent")
@@ -277,6 +269,7 @@ def listed(browser):
     browser.value("document.querySelector('.rows').focus()")
     for key, wanted in (("Home", "1Meadow"), ("ArrowDown", "2Meadow 1"), ("ArrowDown", "3Meadow 2"), ("ArrowUp", "2Meadow 1"), ("End", "11999Meadow 11998"), ("ArrowUp", "11998Meadow 11997")):
         browser.press(key)
+        browser.wait(f"({CHOSEN}).startsWith('{wanted}')", 10)
         wants(f"the key {key}", browser.value(CHOSEN).startswith(wanted), browser.value(CHOSEN))
     wants("the chosen row is seen", browser.value("""(() => { const [it, box] = [document.querySelector('.item[aria-selected=true]'), document.querySelector('.rows')].map((it) => it.getBoundingClientRect());
         return it.top >= box.top && it.bottom <= box.bottom + 1; })()"""))

@@ -10,6 +10,10 @@ const features = geolint.features(new Blob([]), { which: "faults", most: 10 });
 const items: FoundFeature[] = [];
 for await (const it of features) items.push(it);
 console.log(features.verdict?.rule, features.counts?.faults, jsonOfFindings("a", items), items[0]?.index);
+const brief = geolint.features(new Blob([]), { isBrief: true });
+for await (const it of brief) items.push(...(await geolint.completed(new Blob([]), [it])));
+// @ts-expect-error: a finding in brief has no path
+for await (const it of brief) console.log(it.path);
 for await (const it of geolint.records(new Uint8Array(1), { framing: "lines" })) console.log(it.number + 1, it.end);
 console.log((await geolint.split(new Blob([]), { framing: "sequence" })).blob.size);
 // @ts-expect-error: a string is no input

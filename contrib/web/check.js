@@ -4,6 +4,7 @@ import { Linter, FeatureLinter, RecordLinter, Locator } from "./linter.js";
 import { STRIDE, excerptAt } from "./lines.js";
 import { PathFinder, endOfValue } from "./paths.js";
 import { Search, Findings } from "./findings.js";
+import { Details, nearbyReads } from "./details.js";
 import { hintFor } from "./hints.js";
 import { valueOf } from "./names.js";
 import { sourceOf } from "./source.js";
@@ -64,6 +65,17 @@ export class Geolint {
   /** What is found in the texts of an input of many: `framing` is "sequence" (RFC 8142) or "lines". */
   records(input, options = {}) {
     return this.#findings(RecordLinter, input, options);
+  }
+
+  /** What was told in brief, in full: the input, which can be read from any place, is read again where the findings lie. */
+  async completed(input, findings) {
+    const source = sourceOf(input);
+    return this.#with([Locator], async ([locator]) => {
+      const details = new Details(locator, nearbyReads(source));
+      const all = [];
+      for (const it of findings) all.push(it.idAt === undefined ? it : await details.of(it));
+      return all;
+    });
   }
 
   /**

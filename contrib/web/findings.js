@@ -1,12 +1,9 @@
 // What is found in each feature of a text, or in each text of an input of many, in one reading: with line, column, path, id and name.
 
-import { STRIDE } from "./lines.js";
-import { calledOf, valueOf, writtenId, ID_REACH } from "./names.js";
+import { Details, placesOf } from "./details.js";
 
 /** So many bytes are judged before what they show is told: in a text as [1,1,1] each second byte ends an element. */
 const STEP = 64 << 10;
-/** A name is sought in features that are no longer than this. */
-const NAME_REACH = 256 << 10;
 
 /** One reading of an input. `isText`: the findings are of the features of one text, and otherwise of many texts. */
 export class Search {
@@ -14,17 +11,21 @@ export class Search {
   #locator;
   #source;
   #isText;
+  #isBrief;
   #isWanted;
+  #details;
   #piece = new Uint8Array(0);
 
   /** `which` is what is told: "faults", "findings" (also the features that have warnings) or "all". Of faults and of features that
-   *  have warnings no more than `most` are told; `counts` has them all. */
-  constructor({ linter, locator }, source, isText, { which = "findings", most = Infinity } = {}) {
+   *  have warnings no more than `most` are told; `counts` has them all. What is told in brief lacks name, id and path. */
+  constructor({ linter, locator }, source, isText, { which = "findings", most = Infinity, isBrief = false } = {}) {
     if (!["faults", "findings", "all"].includes(which)) throw new RangeError("which is faults, findings or all");
     this.#linter = linter;
     this.#locator = locator;
     this.#source = source;
     this.#isText = isText;
+    this.#isBrief = isBrief;
+    this.#details = new Details(locator, (from, to) => this.#read(from, to));
     this.counts = { all: 0, faults: 0, warned: 0, told: 0 };
     /** Of the first fault and the first warning of each kind: the place, with what the verdict needs of it. */
     this.known = new Map();
@@ -100,61 +101,36 @@ export class Search {
     return this.#source.read(from, to);
   }
 
-  async #placed({ number, place, end, id, verdict, rule, text, offset, warnings }) {
-    const root = this.#isText ? `$.features[${number}]` : "$";
-    const placed = new Map();
-    for (const it of [offset, ...warnings.map((it) => it.offset)].filter((it) => it !== null).sort((a, b) => a - b)) {
-      if (placed.has(it)) continue;
-      const path = verdict === "not JSON" ? null : await this.#pathTo(it, place, root);
-      placed.set(it, { ...(await this.#spotOf(it)), path });
-      this.#keep(it, path, number, place, verdict, rule, warnings);
-    }
-    const called = this.#isText ? { index: number, id: await this.#idAt(id) } : { number };
-    const none = { line: null, column: null, path: null };
-    return {
-      ...called,
-      name: await this.#nameOf(place, end),
-      place,
-      end,
-      verdict,
-      rule,
-      text,
-      offset,
-      ...(placed.get(offset) ?? none),
-      warnings: warnings.map((it) => ({ ...it, ...placed.get(it.offset) })),
+  /** What was pulled, with its lines and columns, and in full where it is not told in brief or the verdict needs its path. */
+  async #placed({ number, id, ...finding }) {
+    const spots = new Map([[null, { line: null, column: null }]]);
+    for (const it of placesOf(finding)) spots.set(it, await this.#spotOf(it));
+    const brief = {
+      ...(this.#isText ? { index: number } : { number }),
+      idAt: id,
+      ...finding,
+      ...spots.get(finding.offset),
+      warnings: finding.warnings.map((it) => ({ ...it, ...spots.get(it.offset) })),
     };
+    const keys = keysOf(brief).filter((it) => !this.#kept.has(it));
+    if (this.#isBrief && !keys.length) return brief;
+    const full = await this.#details.of(brief);
+    this.#keep(full, keys);
+    return this.#isBrief ? brief : full;
   }
 
   #kept = new Set();
 
-  #keep(at, path, number, place, verdict, rule, warnings) {
-    const kinds = verdict === "valid" ? warnings.filter((it) => it.offset === at).map((it) => it.rule) : ["fault"];
-    if (kinds.every((it) => this.#kept.has(it))) return;
-    for (const it of kinds) this.#kept.add(it);
-    this.known.set(at, { path, index: this.#isText ? number : null, start: place });
-  }
-
-  async #pathTo(place, start, root) {
-    this.#locator.begin();
-    for (let at = start; at <= place; at += STRIDE) {
-      const bytes = await this.#read(at, Math.min(place + 1, at + STRIDE));
-      if (!bytes) return null;
-      this.#locator.feed(bytes);
-    }
-    return root + this.#locator.steps();
-  }
-
-  async #idAt(place) {
-    const bytes = place === null ? null : await this.#read(place, place + ID_REACH);
-    return bytes && writtenId(bytes);
-  }
-
-  async #nameOf(place, end) {
-    if (end === null || end - place > NAME_REACH) return null;
-    const bytes = await this.#read(place, end);
-    return bytes && calledOf(valueOf(bytes));
+  /** Keeps the paths of the places that `keys` are found at for the first time. */
+  #keep(item, keys) {
+    for (const it of keys) this.#kept.add(it);
+    const firsts = item.verdict === "valid" ? item.warnings.filter((it) => keys.includes(it.rule)) : keys.length ? [item] : [];
+    for (const { offset, path } of firsts) this.known.set(offset, { path, index: item.index ?? null, start: item.place });
   }
 }
+
+/** What a finding may be the first of: a fault, or each kind of its warnings. */
+const keysOf = ({ verdict, warnings }) => (verdict === "valid" ? warnings.map((it) => it.rule) : ["fault"]);
 
 /** Findings as they come, and when they have ended `verdict` and `counts`. */
 export class Findings {

@@ -97,6 +97,9 @@ export interface FoundRecord extends Found {
   number: number;
 }
 
+/** A finding in brief: without name, id and paths. `idAt` is the place of the value of its id. */
+export type Brief<T extends Found> = Omit<T, "name" | "id" | "path" | "warnings"> & { warnings: Omit<Kind, "path">[]; idAt: number | null };
+
 export interface Counts {
   /** How many features or texts there are. */
   all: number;
@@ -108,7 +111,7 @@ export interface Counts {
 }
 
 /** Findings, as they come in one reading. When they have ended, `verdict` and `counts` are there. */
-export interface Findings<T extends Found> extends AsyncIterable<T> {
+export interface Findings<T> extends AsyncIterable<T> {
   next(): Promise<IteratorResult<T, void>>;
   return(): Promise<IteratorResult<T, void>>;
   verdict: Verdict | null;
@@ -144,6 +147,8 @@ export interface SearchOptions extends Limits {
   which?: "faults" | "findings" | "all";
   /** No more than so many faults are told, and of what has warnings alone no more than so many. `counts` has them all. */
   most?: number;
+  /** Findings are told in brief, which is faster where there are many of them: `completed` adds the rest. */
+  isBrief?: boolean;
   /** Called after each piece. */
   onProgress?(progress: Counts & { read: number; size: number | null }): void;
 }
@@ -152,9 +157,14 @@ export class Geolint {
   /** Judges a text, which is read once. Any number of calls may be under way at once. */
   check(input: Input, options?: Options): Promise<Verdict>;
   /** What is found in each feature of a text: in each element of the array that the first member `features` of its object holds. */
+  features(input: Input, options: SearchOptions & { isBrief: true }): Findings<Brief<FoundFeature>>;
   features(input: Input, options?: SearchOptions): Findings<FoundFeature>;
   /** What is found in each text of an input of many. */
+  records(input: Input, options: SearchOptions & { framing: Framing; isBrief: true }): Findings<Brief<FoundRecord>>;
   records(input: Input, options: SearchOptions & { framing: Framing }): Findings<FoundRecord>;
+  /** Findings that were told in brief, in full. Where they lie, the input is read again: bytes, a Blob, or what can be read from any place. */
+  completed(input: Input, findings: Brief<FoundFeature>[]): Promise<FoundFeature[]>;
+  completed(input: Input, findings: Brief<FoundRecord>[]): Promise<FoundRecord[]>;
   /** The valid features of a file, or its valid texts where there is a framing, as a text sequence: each by its own bytes. `count` is
    *  how many these are, and `others` how many are left out. */
   split(

@@ -1,10 +1,10 @@
 // Lines, columns and the text around a place. A line ends with LF alone, and a column counts characters from 1. The library counts
-// both in the one reading, with a mark every few megabytes, so that a place is found from the last mark before it.
+// both in the one reading, with a mark every megabyte or two, so that a place is found from the last mark before it.
 
 const LF = 10;
 const CR = 13;
-/** How many bytes lie between two marks, at least. */
-export const STRIDE = 4 << 20;
+/** An input is read by so many bytes at once, and so many lie between two marks, at least. */
+export const STRIDE = 1 << 20;
 /** How many bytes of a line are looked at on each side of a place, and how many characters are shown. */
 const AROUND = 256;
 const SHOWN = 50;

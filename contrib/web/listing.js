@@ -13,7 +13,7 @@ const FEATURE_REACH = 1 << 20;
 const isWarning = (it) => it.rule.startsWith("W");
 
 /** Feature 3: its name. */
-export function titleOf({ index, number, name }) {
+export function titleOf({ index, number, name = null }) {
   const values = { number: index === undefined ? number : index + 1, name };
   const kind = index === undefined ? "record" : "feature";
   return name === null ? say(kind, values) : say(`${kind}Called`, values);
@@ -31,6 +31,13 @@ export function summaryOf({ counts, items, verdict }) {
   if (left > 0) parts.push(say("listCut", { count: items.length }));
   return parts.join(" ");
 }
+
+/** Whether the name, the id and the paths of an item are still to be read. */
+export const isBrief = (item) => item.idAt !== undefined;
+
+/** The rows of a list: each warning by itself. `at` is the number of the finding in its item. */
+const rowsOf = (items) => items.flatMap((item) => eachOf([item]).map(({ rule }, at) => ({ item, at, rule })));
+const findingOf = ({ item, at }) => eachOf([item])[at];
 
 /** The choices of what is listed: all faults, each rule, all warnings, each kind; as [text, those]. */
 function choicesOf(all) {
@@ -57,20 +64,22 @@ function groupedByRule(all) {
   return [...groups].sort((a, b) => (orderOf(a) < orderOf(b) ? -1 : 1));
 }
 
-/** The list of an entry. `detailsOf(entry, finding)` makes the details of one, and `save(entry, button)` saves the valid features. */
-export function listingOf(entry, detailsOf, save) {
-  const choices = choicesOf(eachOf(entry.items));
+/** The list of an entry. `detailsOf(entry, finding)` makes the details of one; `calls` are those of its card. */
+export function listingOf(entry, detailsOf, calls) {
+  const choices = choicesOf(rowsOf(entry.items));
   const detail = make("div", "detail chosen");
   detail.tabIndex = -1;
   detail.setAttribute("role", "region");
-  const choose = async (item) => {
-    const unread = (error) => [make("p", "", say("unreadable", { reason: error.message }))];
-    const details = await loaded(entry, item).then((it) => detailsOf(entry, it), unread);
-    if (rows.current !== item) return;
-    detail.setAttribute("aria-label", titleOf(item));
-    detail.replaceChildren(make("h4", "", `${titleOf(item)} · ${item.rule}`), make("p", "", `${whatOf(item.rule)} ${spotOf(item)}.`), ...details);
+  const choose = async (row) => {
+    const unread = ({ told, message }) => [make("p", "", told ?? say("unreadable", { reason: message }))];
+    const details = await loaded(entry, row, calls).then((it) => detailsOf(entry, it), unread);
+    if (rows.current !== row) return;
+    rows.redraw();
+    const it = findingOf(row);
+    detail.setAttribute("aria-label", titleOf(it));
+    detail.replaceChildren(make("h4", "", `${titleOf(it)} · ${it.rule}`), make("p", "", `${whatOf(it.rule)} ${spotOf(it)}.`), ...details);
   };
-  const rows = new Rows(say("listLabel", { name: entry.name }), cellsOf, choose, () => detail.focus());
+  const rows = new Rows(say("listLabel", { name: entry.name }), { cells: cellsOf, choose, enter: () => detail.focus(), see: reader(entry, calls, () => rows.redraw()) });
   detail.onkeydown = (event) => event.key === "Escape" && rows.box.focus();
   const select = make("select", "", ...choices.map(([text], i) => new Option(text, i)));
   select.onchange = () => {
@@ -78,7 +87,7 @@ export function listingOf(entry, detailsOf, save) {
     rows.choose(0);
   };
   const label = make("label", "which", make("span", "", say("listWhich")), select);
-  const tools = make("div", "row list-tools", choices.length > 2 ? label : null, saveButton(entry, save));
+  const tools = make("div", "row list-tools", choices.length > 2 ? label : null, saveButton(entry, calls));
   const head = make("div", "item titles", ...["number", "name", "what", "where"].map((it) => make("span", "", say(`list.${it}`))));
   head.setAttribute("aria-hidden", "true");
   const box = make("section", "listing", make("p", "summary", summaryOf(entry)), tools, head, rows.box, detail);
@@ -88,32 +97,55 @@ export function listingOf(entry, detailsOf, save) {
   return box;
 }
 
+/** Reads the rest of the rows that are seen, and has them drawn again. Only those that were seen last are asked for. */
+function reader(entry, { complete }, redraw) {
+  let [wanted, isAtWork, isGone] = [[], false, false];
+  return async (seen) => {
+    wanted = [...new Set(seen.map(({ item }) => item).filter(isBrief))];
+    if (isAtWork || isGone) return;
+    isAtWork = true;
+    try {
+      while (wanted.length) {
+        await complete(entry, wanted);
+        redraw();
+      }
+    } catch {
+      // Of a file that is gone the places alone are told.
+      isGone = true;
+    }
+    isAtWork = false;
+  };
+}
+
 /** Where there is anything to save, and anything to leave out. */
-function saveButton(entry, save) {
+function saveButton(entry, { saveValid }) {
   const { faults, all } = entry.counts;
   if (faults === 0 || faults === all) return null;
   const isText = entry.verdict.record === null;
   const text = say(isText ? "saveValid" : "saveValidRecords");
-  return button(text, (event) => save(entry, event.currentTarget), "save-valid");
+  return button(text, (event) => saveValid(entry, event.currentTarget), "save-valid");
 }
 
-function cellsOf(item) {
-  const { index, number, name, rule, line, column, offset } = item;
+function cellsOf(row) {
+  const { index, number, name, rule, line, column, offset } = findingOf(row);
   const cell = (kind, text) => make("span", kind, text);
   const spot = line === null ? say("byte", { offset }) : `${line}:${column}`;
-  const code = make("span", isWarning(item) ? "code warns" : "code", rule);
+  const code = make("span", isWarning(row) ? "code warns" : "code", rule);
   return [cell("nr", `${index === undefined ? number : index + 1}`), cell("called", name ?? ""), make("span", "what", code, ` ${whatOf(rule)}`), cell("spot", spot)];
 }
 
-/** An item as a finding of a text: with its excerpt, and with the feature that it lies in. */
-async function loaded({ file }, item) {
+/** What a row shows as a finding of a text: with its excerpt, and with the feature that it lies in. */
+async function loaded(entry, row, { complete }) {
+  const { file } = entry;
   const read = async (from, to) => new Uint8Array(await file.slice(from, Math.min(to, file.size)).arrayBuffer());
-  const { place, end, offset, index = null, path } = item;
+  await complete(entry, [row.item]);
+  const finding = findingOf(row);
+  const { place, end, offset, index = null, path } = finding;
   const whole = end !== null && end - place <= FEATURE_REACH ? valueOf(await read(place, end)) : null;
   // In a record that is a collection, the path leads to the feature.
   const inner = index === null ? path?.match(/^\$\.features\[(\d+)\]/) : null;
   const feature = inner ? { index: Number(inner[1]), value: whole?.features?.[inner[1]] ?? null } : { index, value: whole };
-  return { ...item, feature, excerpt: await excerptAt(offset, read) };
+  return { ...finding, feature, excerpt: await excerptAt(offset, read) };
 }
 
 /** The list as a table that is whole, for paper. */

@@ -5,7 +5,7 @@ import { say, speak, preferred, languages, size, time } from "./language.js";
 import { droppedFiles, chosenFiles, framingOf, ENDINGS } from "./files.js";
 import { make } from "./dom.js";
 import { cardOf, groupOf, sentenceOf, STEP } from "./view.js";
-import { summaryOf } from "./listing.js";
+import { summaryOf, isBrief } from "./listing.js";
 import { saveLines, saveSarif, savePage, saveSequence } from "./save.js";
 
 const $ = (id) => document.getElementById(id);
@@ -17,6 +17,8 @@ let worker = null;
 let isReady = false;
 let current = null;
 let about = null;
+/** So many items are completed at once. */
+const BATCH = 1000;
 /** So many cards are drawn. */
 let shown = STEP;
 
@@ -46,72 +48,103 @@ const heard = {
     for (const id of ["choose", "choose-folder", "show-paste"]) $(id).disabled = false;
     $("version").textContent = say("version", { version: data.version });
     // What a worker was making that is gone is asked for again.
-    for (const key of saves.keys()) askToSave(key);
+    for (const { message } of asked.values()) worker.postMessage(message);
     if (current) askToCheck();
     else next();
   },
   progress(told) {
     showProgress(told);
   },
-  verdict({ verdict, hint, milliseconds }) {
-    Object.assign(current, { verdict, hint, milliseconds, isListing: true });
-    announce(`${current.name}: ${sentenceOf(current)}`);
-    draw();
-  },
   items({ items }) {
-    (current.items ??= []).push(...items);
+    current.items.push(...items);
   },
-  listed({ counts }) {
-    settle({ counts });
+  verdict({ kind, ...found }) {
+    settle(found.counts ? found : { ...found, items: [] });
   },
-  saving({ key, read, size: all }) {
-    saves.get(key).button.textContent = say("saving", { percent: Math.floor((read / all) * 100) });
+  step({ key, read, size: all }) {
+    asked.get(key).step(read / all);
   },
-  saved({ key, blob, count }) {
-    const { entry, button, text } = saves.get(key);
-    saves.delete(key);
-    saveSequence(blob, entry.name);
-    endSave(button, text, say("savedValid", { count, name: entry.name }));
+  answer({ key, answer }) {
+    const { done } = asked.get(key);
+    asked.delete(key);
+    done(answer);
   },
   failed({ step, key, isTrap, reason }) {
     if (step === "start") return warn(() => (reason === "damaged" ? say("damaged") : say("noStart", { reason })));
     const told = isTrap ? say("trapped") : say("unreadable", { reason });
+    const { failed } = asked.get(key) ?? {};
+    asked.delete(key);
     // After a trap the module answers no more, so the next file gets a new worker.
     restart();
-    if (step !== "split") {
-      // A verdict that is there stays.
-      if (current?.verdict) notice(told);
-      return settle({ items: [], counts: null, ...(current?.verdict ? {} : { reason: told }) });
-    }
-    const { button, text } = saves.get(key);
-    saves.delete(key);
-    endSave(button, text, told);
-    notice(told);
+    if (failed) failed(Object.assign(new Error(reason), { told }));
+    else settle({ items: [], reason: told });
   },
 };
 
-/** The sequences that are being made, by a number: { entry, button, text }. */
-const saves = new Map();
-let lastSave = 0;
+/** What the worker is asked for beside the files, by a number: { message, done, failed, step }. */
+const asked = new Map();
+let lastKey = 0;
+
+/** Asks the worker, and again where it had to be started anew. `step` is called with the part that is done. */
+function ask(message, step = () => {}) {
+  const key = ++lastKey;
+  return new Promise((done, failed) => {
+    asked.set(key, { message: { ...message, key }, done, failed, step });
+    if (isReady) worker.postMessage(asked.get(key).message);
+  });
+}
+
+/** Adds to items of an entry's list what the reading left out: name, id and paths. */
+async function complete({ file }, items) {
+  const brief = items.filter(isBrief);
+  if (!brief.length) return;
+  const full = await ask({ kind: "complete", file, items: brief });
+  brief.forEach((it, i) => Object.assign(it, { idAt: undefined }, full[i]));
+}
+
+/** Does what a button is for, which takes its time: `work(step)` may answer what is said at its end, or fails with it. */
+async function atWork(button, work) {
+  const text = button.textContent;
+  const hasFocus = document.activeElement === button;
+  button.disabled = true;
+  try {
+    const told = await work((part) => (button.textContent = say("saving", { percent: Math.floor(part * 100) })));
+    if (told) announce(told);
+  } catch ({ told, message }) {
+    announce(told ?? message);
+    notice(told ?? message);
+  }
+  button.disabled = false;
+  button.textContent = text;
+  // A button that is disabled loses the focus.
+  if (hasFocus && document.activeElement === document.body) button.focus();
+}
 
 /** Saves the valid features of a file, which the worker reads once more. */
 function saveValid(entry, button) {
-  const text = button.textContent;
-  saves.set(++lastSave, { entry, button, text });
-  button.disabled = true;
-  askToSave(lastSave);
+  return atWork(button, async (step) => {
+    const { name, file } = entry;
+    const { blob, count } = await ask({ kind: "split", file, framing: framingOf(name) }, step);
+    saveSequence(blob, name);
+    return say("savedValid", { count, name });
+  });
 }
 
-function askToSave(key) {
-  const { entry } = saves.get(key);
-  if (isReady) worker.postMessage({ kind: "split", key, file: entry.file, framing: framingOf(entry.name) });
+/** Saves a report by `save(entries)`, once each list is complete. */
+function saveReport(button, save) {
+  return atWork(button, async (step) => {
+    const entries = entriesDone();
+    const parts = entries.flatMap((entry) => partsOf(entry.items ?? []).map((items) => ({ entry, items })));
+    for (const [i, { entry, items }] of parts.entries()) {
+      step(i / parts.length);
+      await complete(entry, items);
+    }
+    save(entries);
+  });
 }
 
-function endSave(button, text, told) {
-  button.disabled = false;
-  button.textContent = text;
-  announce(told);
-}
+/** Items in the parts that are asked for at once. */
+const partsOf = (items) => Array.from({ length: Math.ceil(items.length / BATCH) }, (_, i) => items.slice(i * BATCH, (i + 1) * BATCH));
 
 function restart() {
   worker?.terminate();
@@ -142,6 +175,7 @@ function notice(text) {
 }
 
 const isOpen = (entry) => !entry.verdict && !entry.reason;
+const entriesDone = () => entries.filter((it) => !isOpen(it));
 
 function next() {
   if (current || !isReady) return;
@@ -155,13 +189,12 @@ function next() {
 }
 
 function askToCheck() {
-  Object.assign(current, { verdict: null, items: [], counts: null });
+  Object.assign(current, { items: [], counts: null });
   showProgress({ read: 0 });
   worker.postMessage({ kind: "check", file: current.file, framing: framingOf(current.name) });
 }
 
-/** `isListing`: the verdict is there, and the features are listed. */
-function showProgress({ read, isDoomed = false, isListing = false, faults = 0, milliseconds = 0 }) {
+function showProgress({ read, faults = 0, milliseconds = 0 }) {
   const all = current.file.size;
   const waiting = entries.filter((it) => it !== current && isOpen(it)).length;
   const speed = milliseconds > 0 ? (read / milliseconds) * 1000 : 0;
@@ -171,33 +204,24 @@ function showProgress({ read, isDoomed = false, isListing = false, faults = 0, m
   if (milliseconds > 500) parts.push(say("speed", { speed: size(speed) }));
   if (milliseconds > 500 && left >= 1) parts.push(say("left", { time: time(Math.ceil(left)) }));
   if (waiting > 0) parts.push(say("waiting", { count: waiting }));
-  if (isDoomed) parts.push(say("doomed"));
-  if (isListing) $("run-name").textContent = say("listing", { name: current.name });
   if (faults > 0) parts.push(say("foundSoFar", { count: faults }));
   $("run-note").textContent = parts.join(" · ");
   const percent = Math.floor((all ? read / all : 0) * 100);
   if (milliseconds > 500) document.title = `${percent} % · geolint`;
   // Told aloud at each quarter, and not each time.
   const quarter = Math.floor(percent / 25);
-  if (quarter > (current.quarter ?? 0) && !isListing) announce(`${current.name}: ${quarter * 25} %`);
+  if (quarter > (current.quarter ?? 0)) announce(`${current.name}: ${quarter * 25} %`);
   current.quarter = quarter;
 }
 
-/** What is known of a file is whole: of a verdict that was told already the card is drawn anew, with all that was found. */
+/** What is known of a file is whole. */
 function settle(found) {
   if (!current) return;
   const entry = current;
   current = null;
-  const wasTold = entry.isListing;
-  Object.assign(entry, found, { isListing: false });
-  const card = wasTold ? $("list").children[entries.filter((it) => !isOpen(it)).indexOf(entry)] : null;
-  if (!wasTold) announce(`${entry.name}: ${sentenceOf(entry)}`);
-  if (entry.counts && entry.items.length) {
-    card?.replaceWith(cardOf(entry, saveValid));
-    announce(`${entry.name}: ${sentenceOf(entry)} ${summaryOf(entry)}`);
-  } else {
-    card?.querySelector(".listing-note")?.replaceWith("");
-  }
+  Object.assign(entry, found);
+  const isListed = entry.counts && entry.items.length;
+  announce([`${entry.name}: ${sentenceOf(entry)}`, ...(isListed ? [summaryOf(entry)] : [])].join(" "));
   draw();
   next();
 }
@@ -209,8 +233,7 @@ function announce(text) {
 function stop() {
   if (!current) return;
   restart();
-  // A verdict that is there stays, without a list that is not whole.
-  settle({ items: [], counts: null, ...(current.verdict ? {} : { reason: say("stopped") }) });
+  settle({ items: [], reason: say("stopped") });
 }
 
 function stopAll() {
@@ -229,7 +252,7 @@ function clear() {
 // ---- what is shown
 
 function countsText() {
-  const done = entries.filter((it) => !isOpen(it));
+  const done = entriesDone();
   const parts = ["valid", "warned", "bad", "none"]
     .map((group) => [group, done.filter((it) => groupOf(it) === group).length])
     .filter(([, count]) => count > 0)
@@ -240,11 +263,11 @@ function countsText() {
 /** Draws the cards that are not drawn yet, or all of them anew. */
 function draw(isAnew = false) {
   const list = $("list");
-  const done = entries.filter((it) => !isOpen(it));
+  const done = entriesDone();
   $("results").hidden = done.length === 0;
   if (isAnew || list.childElementCount > done.length) list.replaceChildren();
   if (done.length) $("counts").textContent = countsText();
-  for (const it of done.slice(list.childElementCount, shown)) list.append(cardOf(it, saveValid));
+  for (const it of done.slice(list.childElementCount, shown)) list.append(cardOf(it, { saveValid, complete }));
   $("more").hidden = done.length <= shown;
   $("more").textContent = done.length > shown ? say("more", { count: done.length - shown }) : "";
 }
@@ -299,10 +322,8 @@ function listen() {
     shown += STEP;
     draw();
   };
-  const done = () => entries.filter((it) => !isOpen(it));
-  $("save-lines").onclick = () => saveLines(done());
-  $("save-sarif").onclick = () => saveSarif(done(), about);
-  $("save-page").onclick = () => savePage(done(), countsText());
+  const saving = { "save-lines": saveLines, "save-sarif": (it) => saveSarif(it, about), "save-page": (it) => savePage(it, countsText()) };
+  for (const [id, save] of Object.entries(saving)) $(id).onclick = () => saveReport($(id), save);
   $("language").onchange = () => speakIn($("language").value);
   // A link to a rule leads into the list, which may be closed.
   addEventListener("hashchange", openTarget);

@@ -10,16 +10,15 @@ const STEPS = { ArrowDown: () => 1, ArrowUp: () => -1, PageDown: (page) => page,
 let lists = 0;
 
 export class Rows {
-  #cells;
-  #choose;
+  #calls;
   #items = [];
   #made = { from: 0, to: 0 };
   #id = `rows-${lists++}`;
 
-  /** `cells(item)` are the elements of a row, `choose(item)` is called for the chosen one, and `enter()` when it is entered. */
-  constructor(label, cells, choose, enter) {
-    this.#cells = cells;
-    this.#choose = choose;
+  /** `cells(item)` are the elements of a row, `choose(item)` is called for the chosen one, `enter()` when it is entered, and `see(items)`
+   *  for those whose rows are made. */
+  constructor(label, calls) {
+    this.#calls = calls;
     this.chosen = -1;
     this.inner = make("div", "inner");
     this.inner.setAttribute("role", "presentation");
@@ -28,7 +27,7 @@ export class Rows {
     this.box.setAttribute("role", "listbox");
     this.box.setAttribute("aria-label", label);
     this.box.onscroll = () => requestAnimationFrame(() => this.#draw());
-    this.box.onkeydown = (event) => this.#press(event, enter);
+    this.box.onkeydown = (event) => this.#press(event);
     this.inner.onclick = (event) => {
       const row = event.target.closest("[data-index]");
       if (row) this.choose(Number(row.dataset.index));
@@ -41,6 +40,11 @@ export class Rows {
     this.#items = items;
     this.chosen = -1;
     this.box.scrollTop = 0;
+    this.#draw(true);
+  }
+
+  /** Makes the rows anew, as where more is known of their items. */
+  redraw() {
     this.#draw(true);
   }
 
@@ -61,11 +65,11 @@ export class Rows {
     if (top < box.scrollTop) box.scrollTop = top;
     else if (top + height > box.scrollTop + box.clientHeight) box.scrollTop = top + height - box.clientHeight;
     this.#draw(true);
-    this.#choose(this.#items[this.chosen]);
+    this.#calls.choose(this.#items[this.chosen]);
   }
 
-  #press(event, enter) {
-    if (event.key === "Enter" && this.chosen >= 0) enter();
+  #press(event) {
+    if (event.key === "Enter" && this.chosen >= 0) this.#calls.enter();
     const step = STEPS[event.key]?.(Math.max(1, Math.floor(this.box.clientHeight / this.height) - 1));
     if (step === undefined && event.key !== "Enter") return;
     event.preventDefault();
@@ -90,10 +94,11 @@ export class Rows {
     const isThere = this.chosen >= from && this.chosen < to;
     if (isThere) box.setAttribute("aria-activedescendant", `${this.#id}-${this.chosen}`);
     else box.removeAttribute("aria-activedescendant");
+    this.#calls.see(this.#items.slice(from, to));
   }
 
   #row(index) {
-    const row = make("div", "item", ...this.#cells(this.#items[index]));
+    const row = make("div", "item", ...this.#calls.cells(this.#items[index]));
     row.id = `${this.#id}-${index}`;
     row.dataset.index = index;
     row.setAttribute("role", "option");

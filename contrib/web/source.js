@@ -4,9 +4,7 @@ import { HEAD } from "./hints.js";
 import { STRIDE } from "./lines.js";
 
 /** So many bytes of a stream are kept, for what is near the end of what was read. */
-const KEPT = 4 * STRIDE;
-/** A stream of bytes is read by so many. */
-const PIECE = 1 << 20;
+const KEPT = 16 << 20;
 /** A Blob is read by streams of so many. */
 const STREAM = 1 << 30;
 
@@ -34,6 +32,8 @@ const byBlob = (blob) => ({
 /** An input that can be read from any place. The next piece is read while this one is judged. */
 class SlicedSource {
   #input;
+  /** The last two pieces, as { start, bytes }. */
+  #last = [];
 
   constructor(input) {
     this.#input = input;
@@ -41,13 +41,22 @@ class SlicedSource {
   }
 
   async *pieces() {
-    if (this.#input.stream) return void (yield* this.#streamed());
-    let next = this.read(0, STRIDE);
+    this.#last = [];
+    let start = 0;
+    for await (const bytes of this.#input.stream ? this.#streamed() : this.#sliced()) {
+      this.#last = [...this.#last.slice(-1), { start, bytes }];
+      yield bytes;
+      start += bytes.length;
+    }
+  }
+
+  async *#sliced() {
+    let next = this.#input.read(0, Math.min(STRIDE, this.size));
     for (let at = 0; ; ) {
       const bytes = await next;
       if (bytes.length === 0) return;
       at += bytes.length;
-      next = this.read(at, at + STRIDE);
+      next = at < this.size ? this.#input.read(at, Math.min(at + STRIDE, this.size)) : Promise.resolve(new Uint8Array(0));
       // A piece that nobody asks for any more may fail.
       next.catch(() => {});
       yield bytes;
@@ -56,12 +65,24 @@ class SlicedSource {
 
   /** A browser reads a Blob by streams several times as fast as by slices. Chromium's stream of 4.4 GB stands still after 4.2 GB. */
   async *#streamed() {
-    for (let at = 0; at < this.size; at += STREAM) yield* piecesOfBytes(this.#input.stream(at, at + STREAM), Math.min(PIECE, this.size + 1));
+    for (let at = 0; at < this.size; at += STREAM) yield* piecesOfBytes(this.#input.stream(at, at + STREAM), Math.min(STRIDE, this.size + 1));
   }
 
   async read(from, to) {
-    if (this.size !== null && from >= this.size) return new Uint8Array(0);
-    return this.#input.read(from, this.size === null ? to : Math.min(to, this.size));
+    const end = Math.min(to, this.size);
+    return from >= end ? new Uint8Array(0) : (this.#near(from, end) ?? this.#input.read(from, end));
+  }
+
+  /** Bytes that lie in the last two pieces; null for others. */
+  #near(from, to) {
+    const inside = this.#last.find(({ start, bytes }) => from >= start && to <= start + bytes.length);
+    if (inside) return inside.bytes.subarray(from - inside.start, to - inside.start);
+    const [first, second] = this.#last;
+    if (!second || from < first.start || to > second.start + second.bytes.length) return null;
+    const joined = new Uint8Array(to - from);
+    joined.set(first.bytes.subarray(from - first.start));
+    joined.set(second.bytes.subarray(0, to - second.start), second.start - from);
+    return joined;
   }
 }
 

@@ -34,12 +34,13 @@ export function sentenceOf(entry) {
 
 const hintText = ({ hint }) => `${say("hint")} ${say(`hints.${hint.name}`)}`;
 
-/** The card of a file. `save(entry, button)` saves its valid features; where there is no such call, the card is for paper. */
-export function cardOf(entry, save = null) {
+/** The card of a file. `calls` has `saveValid(entry, button)`, which saves its valid features, and `complete(entry, items)`, which adds what
+ *  the reading left out; where there are no such calls, the card is for paper. */
+export function cardOf(entry, calls = null) {
   const { name, verdict, milliseconds } = entry;
   const took = verdict ? make("span", "note", tookText(verdict.read, milliseconds / 1000)) : null;
   const card = make("article", `card ${groupOf(entry)}`, make("div", "head", make("h3", "", name), took), make("p", "verdict", sentenceOf(entry)));
-  if (verdict && groupOf(entry) !== "valid") card.append(...foundIn(entry, save));
+  if (verdict && groupOf(entry) !== "valid") card.append(...foundIn(entry, calls));
   card.dataset.milliseconds = milliseconds ?? "";
   return card;
 }
@@ -48,10 +49,10 @@ export function cardOf(entry, save = null) {
 const tookText = (read, seconds) => (seconds < 0.1 ? size(read) : say("took", { size: size(read), time: time(seconds) }));
 
 /** All that was found: of the file as a whole, and in its features. */
-function foundIn(entry, save) {
+function foundIn(entry, calls) {
   const { verdict, items = [], counts } = entry;
   if (!items.length || !counts) return tableOf(entry);
-  const listing = save ? [listingOf(entry, detailsOf, save)] : tableOfAll(entry);
+  const listing = calls ? [listingOf(entry, detailsOf, calls)] : tableOfAll(entry);
   // The first fault is in the list already, unless it is one of the text's object itself.
   const isListed = verdict.verdict !== "valid" && items.some((it) => it.verdict !== "valid" && it.offset === verdict.offset);
   return isListed ? listing : [...tableOf(entry), ...listing];
@@ -79,8 +80,7 @@ function tableOf(entry) {
   more.onclick = draw;
   draw();
   const below = [];
-  if (entry.isListing && verdict.verdict !== "not JSON") below.push(make("p", "note listing-note", say("listingNow")));
-  else if (verdict.verdict === "broken" && !items.length) below.push(make("p", "note", say("firstOnly")));
+  if (verdict.verdict === "broken" && !items.length) below.push(make("p", "note", say("firstOnly")));
   return [table, more, ...below];
 }
 

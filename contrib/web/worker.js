@@ -46,26 +46,25 @@ const answers = {
     return { kind: "ready", bytes, version: await geolint.version(), texts: await geolint.texts() };
   },
 
-  /** A file of one text is read once for its verdict, and where there is anything to list, once more. */
+  /** A file is read once, for its verdict and for all that is listed. */
   async check({ file, framing }) {
     const begun = performance.now();
-    const read = async (from, to) => new Uint8Array(await file.slice(from, to).arrayBuffer());
-    if (framing) {
-      const { verdict, counts } = await list(geolint.records(file, { framing, most: MOST, onProgress: meter("progress") }));
-      postMessage({ kind: "verdict", verdict, hint: await guessFor(verdict, read), milliseconds: performance.now() - begun });
-      return { kind: "listed", counts };
-    }
-    const verdict = await geolint.check(file, { onProgress: meter("progress") });
+    const options = { framing, most: MOST, isBrief: true, onProgress: meter("progress") };
+    const { verdict, counts } = await list(framing ? geolint.records(file, options) : geolint.features(file, options));
     const milliseconds = performance.now() - begun;
-    postMessage({ kind: "verdict", verdict, hint: await guessFor(verdict, read), milliseconds });
-    if (verdict.verdict === "not JSON" || (verdict.verdict === "valid" && !verdict.warnings.length)) return { kind: "listed", counts: null };
-    const found = await list(geolint.features(file, { most: MOST, onProgress: meter("progress", { isListing: true }) }));
-    return { kind: "listed", counts: found.counts };
+    const read = async (from, to) => new Uint8Array(await file.slice(from, to).arrayBuffer());
+    const isListed = framing || verdict.verdict !== "not JSON";
+    return { kind: "verdict", verdict, counts: isListed ? counts : null, hint: await guessFor(verdict, read), milliseconds };
+  },
+
+  /** What is shown or saved of the items of a list, in full. */
+  async complete({ key, file, items }) {
+    return { kind: "answer", key, answer: await geolint.completed(file, items) };
   },
 
   async split({ key, file, framing }) {
-    const { blob, count } = await geolint.split(file, { framing, onProgress: meter("saving", { key }) });
-    return { kind: "saved", key, blob, count };
+    const { blob, count } = await geolint.split(file, { framing, onProgress: meter("step", { key }) });
+    return { kind: "answer", key, answer: { blob, count } };
   },
 };
 
