@@ -210,7 +210,11 @@ async function run(words) {
 const write = (text) => new Promise((done, failed) => process.stdout.write(text, (error) => (error ? failed(error) : done())));
 
 // Where nobody reads the report any more, the run ends without a word.
-process.stdout.on("error", (error) => process.exit(error.code === "EPIPE" ? 141 : 2));
+process.stdout.on("error", (error) => {
+  if (error.code === "EPIPE") process.exit(141);
+  process.stderr.write(`geolint-files: the report cannot be written: ${reasonOf(error)}\n`);
+  process.exit(2);
+});
 try {
   const words = givenWords();
   if (words.help) process.stdout.write(USAGE);
