@@ -1,7 +1,7 @@
 #!/usr/bin/env node
 // Checks GeoJSON files and folders in Node, with the options of the program geolint-files as far as they serve.
 
-import { open, readdir, stat } from "node:fs/promises";
+import { lstat, open, readdir, stat } from "node:fs/promises";
 import { readFileSync } from "node:fs";
 import { join } from "node:path";
 import { parseArgs } from "node:util";
@@ -68,7 +68,7 @@ function givenWords() {
   if (most !== undefined && (!/^[0-9]+$/.test(most) || BigInt(most) < 1n || BigInt(most) > 1n << 60n)) {
     throw new WrongWords(`invalid value '${most}' for '--max-bytes': it is a number from 1 to 2^60`);
   }
-  const allowed = values.allow.flatMap((it) => it.toUpperCase().split(","));
+  const allowed = values.allow.flatMap((it) => it.toUpperCase().split(",")).map((it) => it.trim());
   const unknown = allowed.find((it) => !/^W[1-9]$/.test(it));
   if (unknown !== undefined) throw new WrongWords(`invalid value '${unknown}' for '--allow': it is W1 to W9`);
   const which = values["every-warnings"] ? "findings" : values.every ? "faults" : null;
@@ -90,12 +90,14 @@ async function* filesAt(path, endings, others, seen, isInFolder = false) {
   try {
     is = await stat(path);
   } catch (error) {
-    // Of a link that leads nowhere only one with an ending is told.
-    if (!isInFolder || error.code !== "ENOENT" || endsSo(path, endings)) yield { name: path, reason: reasonOf(error) };
+    // Of a link that leads nowhere only one with an ending is reported. A name that is not Unicode text is not found either, and is no link.
+    if (!isInFolder || endsSo(path, endings) || !(await isLostLink(path, error))) yield { name: path, reason: reasonOf(error) };
     return;
   }
   if (!is.isDirectory()) {
-    if (!isInFolder || endsSo(path, endings)) yield { name: path };
+    if (!isInFolder) yield { name: path };
+    else if (!is.isFile()) return;
+    else if (endsSo(path, endings)) yield { name: path };
     else others.count++;
     return;
   }
@@ -110,6 +112,15 @@ async function* filesAt(path, endings, others, seen, isInFolder = false) {
   }
   for (const name of names.sort()) yield* filesAt(join(path, name), endings, others, seen, true);
 }
+
+/** Whether a name was not found since it is a link that leads nowhere. */
+async function isLostLink(path, error) {
+  if (error.code !== "ENOENT" && error.code !== "ELOOP") return false;
+  return lstat(path).then((is) => is.isSymbolicLink(), () => false);
+}
+
+/** A text without what a terminal would obey: in its place are the numbers of its bytes. */
+const shown = (text) => text.replace(/[\u0000-\u001f\u007f-\u009f]/g, (it) => [...Buffer.from(it)].map((byte) => `\\x${byte.toString(16).padStart(2, "0")}`).join(""));
 
 const endsSo = (path, endings) => endings.some((it) => path.toLowerCase().endsWith(it));
 const reasonOf = (error) => error.message.replace(/^\w+: /, "").replace(/, \w+( '.*')?$/s, "");
@@ -161,9 +172,9 @@ async function run(words) {
   const geolint = await load();
   const passes = (it) => it.verdict === "valid" && (!words.strict || it.warnings.every(({ rule }) => words.allowed.includes(rule)));
   const forms = {
-    lines: (name, { verdict, items, more }) => linesOf(name, verdict) + linesOfFindings(name, items, more),
+    lines: (name, { verdict, items, more }) => linesOf(shown(name), verdict) + linesOfFindings(shown(name), items, more),
     json: (name, { verdict, items, more }) => [jsonOf(name, verdict, passes), ...jsonOfFindings(name, items, more), ""].join("\n"),
-    text: (name, { verdict, items, more }) => `==> ${name} <==\n${textOf(verdict)}${textOfFindings(items, more)}`,
+    text: (name, { verdict, items, more }) => `==> ${shown(name)} <==\n${textOf(verdict)}${textOfFindings(items, more)}`,
     sarif: () => "",
   };
   const counts = { valid: 0, "valid with warnings": 0, broken: 0, "not JSON": 0, "not read": 0 };
@@ -182,7 +193,7 @@ async function run(words) {
       status = 2;
       counts["not read"]++;
       unread.push({ name, reason: reasonOf(error) });
-      process.stderr.write(`geolint-files: ${name}: ${reasonOf(error)}\n`);
+      process.stderr.write(`geolint-files: ${shown(name)}: ${reasonOf(error)}\n`);
       if (words.format === "json") await write(`${jsonOfUnread(name, reasonOf(error))}\n`);
     }
   }
@@ -205,13 +216,17 @@ function versionLines() {
 const write = (text) => new Promise((done, failed) => process.stdout.write(text, (error) => (error ? failed(error) : done())));
 
 // Where nobody reads the report any more, the run ends without a word.
-process.stdout.on("error", (error) => process.exit(error.code === "EPIPE" ? 141 : 2));
+process.stdout.on("error", (error) => {
+  if (error.code === "EPIPE") process.exit(141);
+  process.stderr.write(`geolint-files: the report cannot be written: ${reasonOf(error)}\n`);
+  process.exit(2);
+});
 try {
   const words = givenWords();
   if (words.help) process.stdout.write(USAGE);
   else if (words.version) process.stdout.write(versionLines());
   else process.exitCode = await run(words);
 } catch (error) {
-  process.stderr.write(error instanceof WrongWords ? `geolint-files: ${error.message}\n\n${USAGE}` : `geolint-files: ${error.message}\n`);
+  process.stderr.write(error instanceof WrongWords ? `geolint-files: ${shown(error.message)}\n\n${USAGE}` : `geolint-files: ${error.message}\n`);
   process.exitCode = 2;
 }
