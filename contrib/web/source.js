@@ -147,7 +147,7 @@ async function* piecesOfBytes(stream, rooms) {
     reader = stream.getReader({ mode: "byob" });
   } catch (error) {
     if (!(error instanceof TypeError)) throw error;
-    return void (yield* piecesOfStream(stream, rooms));
+    return void (yield* inStrides(piecesOfStream(stream, rooms)));
   }
   try {
     for (;;) {
@@ -165,6 +165,12 @@ async function* piecesOfBytes(stream, rooms) {
   }
 }
 
+async function* inStrides(pieces) {
+  for await (const it of pieces) {
+    for (let at = 0; at < it.length; at += STRIDE) yield it.length <= STRIDE ? it : it.slice(at, at + STRIDE);
+  }
+}
+
 /** The pieces of any stream, as they come. A buffer that is taken and not given back is but a sign that a piece is wanted. */
 async function* piecesOfStream(stream, rooms = null) {
   const reader = stream.getReader();
@@ -174,7 +180,7 @@ async function* piecesOfStream(stream, rooms = null) {
       if (room === null) return;
       const { done, value } = await reader.read();
       if (done) return;
-      for (let at = 0; at < value.length; at += STRIDE) yield value.length <= STRIDE ? value : value.slice(at, at + STRIDE);
+      yield value;
       if (room) rooms.give(room);
     }
   } finally {
