@@ -85,6 +85,14 @@ for (const way of ways.slice(0, 2)) {
 }
 const { blob, count } = await geolint.split(new Blob([whole]));
 if (count !== 30 || (await blob.text()) !== long.filter((_, i) => i % 3 === 0).map((it) => `\x1e${it}\n`).join("")) differs("long features are saved", count, blob.size);
+// Places near the ends of the pieces that a Blob is read by: the text around them lies in two pieces.
+for (const place of [-2000, -30, 0, 30, 2000].flatMap((it) => [(1 << 20) + it, (2 << 20) + it])) {
+  const head = '{"type":"Point",';
+  const text = Buffer.from(`${head}${`${" ".repeat(40)}\n`.repeat(1 << 16).slice(0, place - head.length - 14)}"coordinates":[1]}${"\n ".repeat(1500)}`);
+  const [asBlob, asBytes] = [await geolint.check(new Blob([text])), await geolint.check(text)];
+  inputs++;
+  if (asBlob.offset !== place || JSON.stringify(asBlob) !== JSON.stringify(asBytes)) differs("near the end of a piece", place, asBlob, asBytes);
+}
 
 console.log(`${inputs} inputs, ${found} findings, ${failed} differ`);
 process.exit(failed ? 1 : 0);

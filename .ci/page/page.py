@@ -150,6 +150,12 @@ def dropped(browser):
     wants("a dropped file", browser.value("document.querySelector('.card .verdict').textContent") == "Not valid GeoJSON. A ring does not end where it begins.",
           browser.value("document.querySelector('.card').textContent"))
     wants("its line and column", "Line 6, column 7" in browser.value("document.querySelector('.card').textContent"))
+    # The place lies after the start of the third piece that is read, and the name before it in two pieces.
+    (room / "pieces.geojson").write_text('{"type":"Point",'.ljust((2 << 20) - 8) + '"coordinates":[1]}' + "\n" * 2000)
+    browser.choose("#files", [str(room / "pieces.geojson")])
+    browser.wait(DONE.format(3))
+    excerpt = browser.value("document.querySelector('.card:last-child .excerpt').textContent")
+    wants("the text around a place in two pieces", ' "coordinates":[1]}' in excerpt, excerpt)
     for path, wanted in (("docs/page.png", "Not GeoJSON. It looks as if the file is an image."),
                          ("examples/moorings.geojsons", "Valid: each of its 3 texts is GeoJSON.")):
         count = browser.value("document.querySelectorAll('.card').length")

@@ -36,7 +36,7 @@ export function summaryOf({ counts, items, verdict }) {
 export const isBrief = (item) => item.idAt !== undefined;
 
 /** The rows of a list: each warning by itself. `at` is the number of the finding in its item. */
-const rowsOf = (items) => items.flatMap((item) => eachOf([item]).map(({ rule }, at) => ({ item, at, rule })));
+const rowsOf = (items) => items.flatMap((item) => (item.verdict === "valid" ? item.warnings : [item]).map(({ rule }, at) => ({ item, at, rule })));
 const findingOf = ({ item, at }) => eachOf([item])[at];
 
 /** The choices of what is listed: all faults, each rule, all warnings, each kind; as [text, those]. */

@@ -26,10 +26,11 @@ const byBytes = (bytes) => ({ size: bytes.length, read: async (from, to) => byte
 const byBlob = (blob) => ({
   size: blob.size,
   read: async (from, to) => new Uint8Array(await blob.slice(from, to).arrayBuffer()),
-  stream: (from, to) => blob.slice(from, to).stream(),
+  pieces: () => piecesOfBlob(blob, inTurns(roomsFor(blob.size, 2))),
 });
 
-/** An input that can be read from any place. The next piece is read while this one is judged. */
+/** An input that can be read from any place: it has its `size`, `read(from, to)`, and may have `pieces()`, of which each is good until the
+ *  next but one is asked for. */
 class SlicedSource {
   #input;
   /** The last two pieces, as { start, bytes }. */
@@ -43,13 +44,14 @@ class SlicedSource {
   async *pieces() {
     this.#last = [];
     let start = 0;
-    for await (const bytes of this.#input.stream ? this.#streamed() : this.#sliced()) {
+    for await (const bytes of this.#input.pieces?.() ?? this.#sliced()) {
       this.#last = [...this.#last.slice(-1), { start, bytes }];
       yield bytes;
       start += bytes.length;
     }
   }
 
+  /** The next piece is read while this one is judged. */
   async *#sliced() {
     let next = this.#input.read(0, Math.min(STRIDE, this.size));
     for (let at = 0; ; ) {
@@ -63,11 +65,6 @@ class SlicedSource {
     }
   }
 
-  /** A browser reads a Blob by streams several times as fast as by slices. Chromium's stream of 4.4 GB stands still after 4.2 GB. */
-  async *#streamed() {
-    for (let at = 0; at < this.size; at += STREAM) yield* piecesOfBytes(this.#input.stream(at, at + STREAM), Math.min(STRIDE, this.size + 1));
-  }
-
   async read(from, to) {
     const end = Math.min(to, this.size);
     return from >= end ? new Uint8Array(0) : (this.#near(from, end) ?? this.#input.read(from, end));
@@ -78,7 +75,9 @@ class SlicedSource {
     const inside = this.#last.find(({ start, bytes }) => from >= start && to <= start + bytes.length);
     if (inside) return inside.bytes.subarray(from - inside.start, to - inside.start);
     const [first, second] = this.#last;
-    if (!second || from < first.start || to > second.start + second.bytes.length) return null;
+    // The buffer of a piece may have gone.
+    if (!second || first.start + first.bytes.length !== second.start) return null;
+    if (from < first.start || to > second.start + second.bytes.length) return null;
     const joined = new Uint8Array(to - from);
     joined.set(first.bytes.subarray(from - first.start));
     joined.set(second.bytes.subarray(0, to - second.start), second.start - from);
@@ -130,23 +129,35 @@ class FlowingSource {
   }
 }
 
-/** The pieces of a stream of bytes, in two buffers by turns: a piece is good until the next but one is asked for. */
-async function* piecesOfBytes(stream, size) {
+/** So many buffers for the pieces of an input of `size` bytes. */
+export const roomsFor = (size, count) => Array.from({ length: count }, () => new ArrayBuffer(Math.min(STRIDE, size + 1)));
+
+/** Buffers that are used by turns. */
+const inTurns = (rooms) => ({ take: async () => rooms.shift(), give: (buffer) => rooms.push(buffer) });
+
+/** The pieces of a Blob. `rooms.take()` is a buffer for the next one, or null where no more is wanted, and `rooms.give(buffer)` takes it back. A
+ *  browser reads a Blob by streams several times as fast as by slices. Chromium's stream of 4.4 GB stands still after 4.2 GB. */
+export async function* piecesOfBlob(blob, rooms) {
+  for (let at = 0; at < blob.size; at += STREAM) yield* piecesOfBytes(blob.slice(at, at + STREAM).stream(), rooms);
+}
+
+async function* piecesOfBytes(stream, rooms) {
   let reader;
   try {
     reader = stream.getReader({ mode: "byob" });
   } catch (error) {
     if (!(error instanceof TypeError)) throw error;
-    return void (yield* piecesOfStream(stream));
+    return void (yield* inStrides(piecesOfStream(stream, rooms)));
   }
-  const rooms = [new ArrayBuffer(size), new ArrayBuffer(size)];
   try {
-    for (let turn = 0; ; turn = 1 - turn) {
-      const { done, value } = await reader.read(new Uint8Array(rooms[turn]), { min: size });
+    for (;;) {
+      const room = await rooms.take();
+      if (!room) return;
+      const { done, value } = await reader.read(new Uint8Array(room), { min: room.byteLength });
       // At the end there may be fewer.
       if (value?.length) yield value;
+      if (value) rooms.give(value.buffer);
       if (done) return;
-      rooms[turn] = value.buffer;
     }
   } finally {
     // Where the reading ends early, the stream is told so.
@@ -154,13 +165,23 @@ async function* piecesOfBytes(stream, size) {
   }
 }
 
-async function* piecesOfStream(stream) {
+async function* inStrides(pieces) {
+  for await (const it of pieces) {
+    for (let at = 0; at < it.length; at += STRIDE) yield it.length <= STRIDE ? it : it.slice(at, at + STRIDE);
+  }
+}
+
+/** The pieces of any stream, as they come. A buffer that is taken and not given back is but a sign that a piece is wanted. */
+async function* piecesOfStream(stream, rooms = null) {
   const reader = stream.getReader();
   try {
     for (;;) {
+      const room = await rooms?.take();
+      if (room === null) return;
       const { done, value } = await reader.read();
       if (done) return;
       yield value;
+      if (room) rooms.give(room);
     }
   } finally {
     // Where the reading ends early, the stream is told so.

@@ -2,6 +2,7 @@
 
 import { Geolint } from "./check.js";
 import { guessFor } from "./guesses.js";
+import { Reader, ReadAhead } from "./ahead.js";
 import { unpacked, checksumOf } from "./unpack.js";
 
 /** The page is told how far the reading is no more often than this, in milliseconds. */
@@ -12,6 +13,8 @@ const MOST = 65_536;
 const BATCH = 1000;
 
 let geolint;
+const files = new ReadAhead();
+const reader = new Reader();
 
 /** Tells how far a reading is, with what else is told of it. */
 function meter(kind, more = {}) {
@@ -50,7 +53,8 @@ const answers = {
   async check({ file, framing }) {
     const begun = performance.now();
     const options = { framing, most: MOST, isBrief: true, onProgress: meter("progress") };
-    const { verdict, counts } = await list(framing ? geolint.records(file, options) : geolint.features(file, options));
+    const input = files.of(file);
+    const { verdict, counts } = await list(framing ? geolint.records(input, options) : geolint.features(input, options));
     const milliseconds = performance.now() - begun;
     const read = async (from, to) => new Uint8Array(await file.slice(from, to).arrayBuffer());
     const isListed = framing || verdict.verdict !== "not JSON";
@@ -69,6 +73,8 @@ const answers = {
 };
 
 onmessage = async ({ data }) => {
+  // What the worker is asked for that reads for another one.
+  if (data.kind === "read" || data.kind === "room") return reader[data.kind](data);
   try {
     postMessage(await answers[data.kind](data));
   } catch (error) {
