@@ -32,7 +32,7 @@
  *
  * What the caller owes, as no library can test it:
  *   - a pointer that is not null points to what its parameter says, for the whole call;
- *   - `bytes` is not null, whatever the length is: for a length of 0 any address will do, as that of "". geolint_bytes below
+ *   - `bytes` is not null, nor `head`, `before` and `after`, whatever the length is: for a length of 0 any address will do, as that of "". geolint_bytes below
  *     makes such an address of a pointer that may be null;
  *   - a linter lies in memory of geolint_size() bytes at a multiple of geolint_alignment(), and is passed to no call before
  *     geolint_begin has got this memory. It is not copied, not moved and not written by the host. The other handles lie in as many
