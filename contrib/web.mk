@@ -20,7 +20,7 @@ web: $(WEB_OUT)/index.html
 
 # rt's crates.txt has a crate once, for one machine. So rattle is called here as rt calls it, over the libraries that rt has proved;
 # what it kept of the crate's own proof for this machine is used again.
-below := gj_places gj_rules gj_coords gj_json gj_number
+below := gj_hints gj_places gj_rules gj_coords gj_json gj_number
 from_kit := itoa memchr core std
 rlib = $(top)/crates/$(1)/out/rlib
 kept = $(WEB_BUILD)/incremental-$(1)

@@ -2,7 +2,7 @@
 
     command.py PROGRAM FOLDER FILE..
 
-What the command does not have is left out of what the program prints: hints, and what was found at a place. Under `--every` it
+What the command does not have is left out of what the program prints: what was found at a place. Under `--every` it
 lists the features of texts, so files of records are left out there. Objects of JSON are compared as values, since both may spell a
 character in different ways."""
 
@@ -31,8 +31,8 @@ def ran(program, words, given=b""):
 def without_advice(words, out):
     if "--format json" in " ".join(words):
         values = [json.loads(line) for line in out.splitlines()]
-        return [{name: value for name, value in it.items() if name not in ("hint", "found")} for it in values]
-    return [line for line in out.splitlines() if not line.startswith((b"    hint: ", b"    found: "))]
+        return [{name: value for name, value in it.items() if name != "found"} for it in values]
+    return [line for line in out.splitlines() if not line.startswith(b"    found: ")]
 
 
 def compare(words, given=b""):
@@ -63,6 +63,13 @@ def texts(folder):
     put("a/lines.ndjson", ring[:-9] + b"[9,9]]]}\n\n" + b'{"type":"Point","coordinates":[500,1]}\n' + ring + b"\n7\n")
     put("a/warned.geojsonl", b'{"type":"Point","coordinates":[1,2]}\n{"type":"Point","coordinates":[500,1]}\n{"type":"Point","coordinates":[1,500,1]}\n')
     put("a/sequence.geojsons", b'\x1e{"type":"Point","coordinates":[500,1]}\n\x1e' + ring + b"\n")
+    put("a/two.geojson", ring + b"\n" + ring)
+    put("a/page.geojson", b"<!doctype html><title>404</title>" + b" " * 600)
+    put("a/comma.geojson", b"[" + b"1, " * 300 + b"]")
+    put("a/record.geojsonl", b"[1]\n")
+    put("a/slip.geojsonl", b'{"type":"Point","coordinates":[1,2]}\n{\'a\':1}\n')
+    put("a/second.ndjson", b'{"type":"Point","coordinates":[1,2]} {}\n')
+    put("a/degrees.ndjson", b'{"type":"Point","coordinates":[52.5,113.4]}\n')
     put("a/b/empty.geojson", b"")
     put("a/b/other.json", ring)
     put("a/b/other.TXT", b"x")

@@ -71,13 +71,26 @@ static void print_feature(const geolint_finding *it) {
         }
 }
 
-static geolint_report checked(void) {
+static geolint_report checked(uint32_t *levels) {
     uint32_t at = 0;
     size_t from = 0, length;
     geolint_begin_again(handles[0], 0, 0);
     while (next_piece(&at, &from, &length))
         geolint_feed(handles[0], text + from, length);
+    *levels = geolint_levels(handles[0]);
     return geolint_finish(handles[0]);
+}
+
+/* The hint: by the bytes around the place, and of a text also by all of them. */
+static void print_hint(const geolint_report *report, uint32_t levels, int is_text) {
+    const uint64_t place = report->verdict == GEOLINT_VALID ? report->warnings[4].first : report->place;
+    const size_t before = place < 256 ? (size_t)place : 256, after = size - place < 256 ? (size_t)(size - place) : 256;
+    geolint_text hint = {"", 1};
+    geolint_hint_around(report, levels, text, size < 512 ? size : 512, text + place - before, before, text + place, after, &hint);
+    if (*hint.bytes)
+        printf("hint %s\n", hint.bytes);
+    if (hint.size != strlen(hint.bytes) + 1 || (is_text && strcmp(hint.bytes, geolint_hint(report, text, size))))
+        puts("another hint");
 }
 
 static void tell_features(void) {
@@ -94,8 +107,10 @@ static void tell_features(void) {
                 told++;
         }
     }
-    geolint_report report = geolint_features_finish(handles[1]), other = checked(), whole = geolint_check(text, size, 0, 0);
+    uint32_t levels;
+    geolint_report report = geolint_features_finish(handles[1]), other = checked(&levels), whole = geolint_check(text, size, 0, 0);
     print_report("text", &report, NULL, starts);
+    print_hint(&report, levels, 1);
     if (memcmp(&report, &other, sizeof report) || memcmp(&report, &whole, sizeof report))
         puts("another verdict");
     for (size_t i = 0; i < told && report.verdict != GEOLINT_NOT_JSON; i++)
@@ -135,6 +150,8 @@ static void tell_records(const char *word, uint32_t framing) {
     if (it.report.status == GEOLINT_DONE)
         keep(&it, starts, kept);
     print_report(word, &whole.report, &whole.number, starts);
+    if (whole.report.verdict != GEOLINT_VALID)
+        print_hint(&whole.report, 1, 0);
 }
 
 int main(int words_count, char **words) {

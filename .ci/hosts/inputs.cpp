@@ -53,6 +53,16 @@ static std::string shown(const geolint::Verdict &it) {
     return found;
 }
 
+// The hint: by the bytes around the place, and of a text also by all of them.
+static void tell_hint(const geolint::Verdict &verdict, std::uint32_t levels, bool is_text) {
+    const std::size_t place = static_cast<std::size_t>(verdict.valid() ? verdict.warnings(5).first : verdict.place());
+    const std::string hint = geolint::hint_around(verdict, levels, text.substr(0, 600), text.substr(0, place), std::vector<char>(text.begin() + static_cast<std::ptrdiff_t>(place), text.end()));
+    if (!hint.empty())
+        std::cout << "hint " << hint << "\n";
+    if (is_text && hint != geolint::hint(verdict, text))
+        std::cout << "another hint\n";
+}
+
 static void tell_features() {
     geolint::Features features;
     geolint::Linter linter;
@@ -64,6 +74,7 @@ static void tell_features() {
     }
     const geolint::Verdict verdict = features.finish();
     tell("text", verdict, "", Starts(GEOLINT_KINDS + 1));
+    tell_hint(verdict, linter.levels(), true);
     if (shown(verdict) != shown(linter.finish()) || shown(verdict) != shown(geolint::check(text)))
         std::cout << "another verdict\n";
     for (const geolint::Finding &finding : found)
@@ -91,6 +102,8 @@ static void tell_records(const char *word, geolint_framing framing) {
     for (geolint::Finding finding : records.last())
         keep(finding, starts, kept);
     tell(word, verdict, " " + std::to_string(number), starts);
+    if (!verdict.valid())
+        tell_hint(verdict, 1, false);
 }
 
 static std::uint32_t number_in(std::istream &file) {

@@ -1,7 +1,7 @@
 //! Says of each input of a file that inputs.py has written what the crate finds in it, piece by piece.
 //!
 //!     inputs FILE
-use geolint::{Finding, Framing, Limits, Lines, Linter, Locator, Verdict, check, features, records, report};
+use geolint::{Finding, Framing, Limits, Lines, Linter, Locator, Verdict, check, features, hint, hint_around, records, report};
 use std::collections::BTreeMap;
 use std::error::Error;
 use std::io::{self, BufReader, BufWriter, Read, Write};
@@ -81,6 +81,20 @@ impl Input {
         Ok(())
     }
 
+    /// The hint, by the bytes around the place.
+    fn tell_hint(&self, out: &mut dyn Write, verdict: &Verdict, levels: u32) -> Result<Option<&'static str>, Box<dyn Error>> {
+        let place = match verdict {
+            Verdict::Broken { place, .. } | Verdict::NotJson { place, .. } => *place as usize,
+            Verdict::Valid(warnings) => warnings.iter().find(|w| w.kind == 5).map_or(0, |w| w.first as usize),
+        };
+        let (before, after) = self.text.split_at(place);
+        let found = hint_around(verdict, levels, &self.text[..self.text.len().min(512)], before, after);
+        if let Some(text) = found {
+            writeln!(out, "hint {}", text)?;
+        }
+        Ok(found)
+    }
+
     fn tell_features(&self, out: &mut dyn Write) -> Done {
         let mut found = features(self.pieces(), Limits::default())?;
         let all: Vec<Finding> = found.by_ref().collect::<io::Result<_>>()?;
@@ -91,6 +105,10 @@ impl Input {
         for cut in &self.cuts {
             linter.feed(&rest[..*cut]);
             rest = &rest[*cut..];
+        }
+        let found_hint = self.tell_hint(out, verdict, linter.levels())?;
+        if found_hint != hint(verdict, &self.text) || found_hint != report(&self.text, Limits::default())?.hint {
+            writeln!(out, "another hint")?;
         }
         let limits = Limits::default();
         if linter.finish() != *verdict || check(&self.text, limits)? != *verdict || report(&self.text, limits)?.verdict != *verdict {
@@ -119,7 +137,11 @@ impl Input {
             }
         }
         let (verdict, number) = found.whole().ok_or("no verdict")?;
-        self.tell(out, word, verdict, &format!(" {}", number), &starts)
+        self.tell(out, word, verdict, &format!(" {}", number), &starts)?;
+        if !verdict.is_valid() {
+            self.tell_hint(out, verdict, 1)?;
+        }
+        Ok(())
     }
 }
 

@@ -272,6 +272,61 @@ static void a_line(void) {
     wants(lines.line == 4 && lines.column == 1, "after two lines");
 }
 
+/* A report as a host may make one, also one of another text. */
+static geolint_report report_of(uint32_t verdict, uint32_t number, uint64_t place) {
+    geolint_report report;
+    memset(&report, 0, sizeof report);
+    report.verdict = verdict;
+    report.rule = verdict == GEOLINT_BROKEN ? number : 0;
+    report.cause = verdict == GEOLINT_NOT_JSON ? number : 0;
+    report.place = place;
+    return report;
+}
+
+static void a_hint(void) {
+    static const char second[] = "[1] [2]", swapped[] = "{\"type\":\"Point\",\"coordinates\":[52.5,113.4]}";
+    geolint_linter *linter = geolint_new(0, 0);
+    geolint_report report = geolint_check("\x1f\x8b\x08", 3, 0, 0);
+    geolint_text text = {"", 1};
+    wants(strncmp(geolint_hint(&report, "\x1f\x8b\x08", 3), "the file is compressed by gzip: ", 32) == 0, "gzip");
+    geolint_hint_text(&report, "\x1f\x8b\x08", 3, &text);
+    wants(text.size == strlen(text.bytes) + 1 && text.size > 32, "the size of a hint");
+    report = geolint_check(POINT, POINT_SIZE, 0, 0);
+    wants(*geolint_hint(&report, POINT, POINT_SIZE) == 0, "no hint for a point");
+    report = geolint_check(swapped, sizeof swapped - 1, 0, 0);
+    wants(strncmp(geolint_hint(&report, swapped, sizeof swapped - 1), "latitude and longitude look swapped", 35) == 0, "swapped");
+    report = geolint_check(second, sizeof second - 1, 0, 0);
+    wants(strncmp(geolint_hint(&report, second, sizeof second - 1), "a second text follows", 21) == 0, "a second text");
+    geolint_hint_around(&report, 0, second, 7, second, 4, second + 4, 3, &text);
+    wants(strcmp(text.bytes, geolint_hint(&report, second, sizeof second - 1)) == 0, "and by the bytes around it");
+    geolint_hint_around(&report, 1, second, 7, second, 4, second + 4, 3, &text);
+    wants(text.size == 1 && *text.bytes == 0, "none where something is open");
+    report = geolint_check("[[1] [2]]", 9, 0, 0);
+    wants(*geolint_hint(&report, "[[1] [2]]", 9) == 0, "nor in an array");
+    report = report_of(GEOLINT_NOT_JSON, GEOLINT_SYNTAX, 8);
+    wants(*geolint_hint(&report, "[1,]", 4) == 0, "a place beyond the text");
+    report = report_of(GEOLINT_NOT_JSON, GEOLINT_SYNTAX, UINT64_MAX);
+    wants(*geolint_hint(&report, "[1,]", 4) == 0, "far beyond");
+    report = report_of(GEOLINT_NOT_JSON, GEOLINT_TRUNCATED, 0);
+    wants(*geolint_hint(&report, NULL, 0) == 0, "no bytes");
+    report = report_of(GEOLINT_NOT_JSON, GEOLINT_SYNTAX, 4);
+    wants(*geolint_hint(&report, "[1,]{", 5) == 0, "a report of another text");
+    report = report_of(7, 1, 1);
+    wants(*geolint_hint(&report, "[,]", 3) == 0, "no verdict that there is");
+    wants(geolint_levels(NULL) == 0, "levels at null");
+    if (!linter) {
+        wants(0, "memory");
+        return;
+    }
+    wants(geolint_levels(linter) == 0, "no level before the first byte");
+    wants(geolint_feed(linter, "[{\"a\":[", 7) == GEOLINT_DONE && geolint_levels(linter) == 3, "three levels");
+    wants(geolint_feed(linter, "1]", 2) == GEOLINT_DONE && geolint_levels(linter) == 2, "two levels");
+    wants(geolint_feed(linter, "}]]", 3) == GEOLINT_REFUSED && geolint_levels(linter) == 0, "none before a refusal");
+    geolint_finish(linter);
+    wants(geolint_levels(linter) == 0, "levels after the end");
+    geolint_free(linter);
+}
+
 static void sizes(void) {
     wants(GEOLINT_SIZE == geolint_size() && GEOLINT_ALIGNMENT == geolint_alignment(), "the size of a linter");
     wants(GEOLINT_FEATURES_SIZE == geolint_features_size() && GEOLINT_RECORDS_SIZE == geolint_records_size(), "the sizes of features and records");
@@ -284,6 +339,7 @@ int main(void) {
     records_pulled();
     a_path();
     a_line();
+    a_hint();
     sizes();
     at_null();
     pieces_of_length_0();

@@ -1,7 +1,9 @@
 """The example of a service, behind a real server, by real requests: curl, a browser, and a thousand clients at once.
 
     service.py [--browser] [--gunicorn] FILE..
-    service.py --at-once N [--features N]      so many uploads, each of ten times so many features
+    service.py --at-once N [--features N] [--feature-bytes N] [--broken]
+                                  so many uploads, each of ten times so many features of so many bytes, all of them broken where that is
+                                  asked, for ten minutes at most
 
 It is run by the Python that has Debian's packages uvicorn and python3-multipart, and for a browser python3-websocket and chromium."""
 
@@ -188,7 +190,7 @@ def memory():
 class Upload:
     """An upload that is sent a feature collection piece by piece."""
 
-    feature = b'{"type":"Feature","geometry":{"type":"Point","coordinates":[1,2]},"properties":{"x":"' + b"y" * 400 + b'"}},'
+    feature = b""
 
     async def begin(self, size):
         self.left = size
@@ -202,7 +204,10 @@ class Upload:
         await self.writer.drain()
 
     async def round(self, count):
-        await self.send(self.feature * count)
+        """So many features more, in pieces that the client need not hold all at once."""
+        step = max(1, 60_000 // len(self.feature))
+        for at in range(0, count, step):
+            await self.send(self.feature * min(step, count - at))
 
     async def end(self):
         await self.send((self.feature[:-1] + b"]}").ljust(self.left))
@@ -227,9 +232,11 @@ async def one_more():
     return round((time.monotonic() - start) * 1000)
 
 
-async def at_once(count, features, rounds=10):
+async def at_once(count, features, feature_bytes, is_broken, rounds=10):
     """So many uploads, all of them open at once: the memory once each round of their bytes is checked and stored, and how long another
     upload takes while they wait and while they send."""
+    empty = b'{"type":"Feature","geometry":{"type":"Point","coordinates":[%s]},"properties":{"x":""}},' % (b"1" if is_broken else b"1,2")
+    Upload.feature = empty.replace(b'""', b'"' + b"y" * (feature_bytes - len(empty)) + b'"')
     idle, start, seen = memory()[0], time.monotonic(), []
     size = 100 + len(Upload.feature) * (rounds * features + 2)
     uploads = [Upload() for _ in range(count)]
@@ -242,7 +249,7 @@ async def at_once(count, features, rounds=10):
     beside_open = await one_more()
     wants("all are open", sum(entry.name.endswith(".part") for entry in os.scandir(folder)), count)
     statuses, beside_sending = await asyncio.gather(asyncio.gather(*(it.end() for it in uploads)), one_more())
-    wants("all uploads", (statuses.count(200), len(statuses)), (count, count))
+    wants("all uploads", (statuses.count(422 if is_broken else 200), len(statuses)), (count, count))
     # The buffers of the server grow to their bounds in the first rounds.
     wants("the memory is flat", (seen, max(seen[5:]) <= seen[4] * 1.1 + 10), (seen, True))
     print(
@@ -281,6 +288,8 @@ def by_browser():
 words = argparse.ArgumentParser()
 words.add_argument("--at-once", type=int, default=0)
 words.add_argument("--features", type=int, default=40)
+words.add_argument("--feature-bytes", type=int, default=489)
+words.add_argument("--broken", action="store_true")
 words.add_argument("--browser", action="store_true")
 words.add_argument("--gunicorn", action="store_true")
 words.add_argument("paths", nargs="*")
@@ -294,7 +303,7 @@ with tempfile.TemporaryDirectory() as room:
     url = f"http://127.0.0.1:{port}/"
     most = resource.getrlimit(resource.RLIMIT_NOFILE)[1]
     resource.setrlimit(resource.RLIMIT_NOFILE, (most, most))
-    start = "import app; app.MOST_BYTES, app.WAIT, app.LINGER = %d, %d, 1; " % (10_000_000 if words.at_once else MOST, 60 if words.at_once else WAIT)
+    start = "import app; app.MOST_BYTES, app.WAIT, app.LINGER = %d, %d, 1; " % (100_000_000 if words.at_once else MOST, 60 if words.at_once else WAIT)
     command = [sys.executable, "-c", start + "app.main()", str(port)]
     if words.gunicorn:
         command = [sys.executable, "-m", "gunicorn", "--chdir", SERVICE, "-b", f"127.0.0.1:{port}", "-w", "2", "-k", "uvicorn.workers.UvicornWorker", "app:app"]
@@ -308,7 +317,7 @@ with tempfile.TemporaryDirectory() as room:
             except OSError:
                 time.sleep(0.05)
         if words.at_once:
-            asyncio.run(at_once(words.at_once, words.features))
+            asyncio.run(asyncio.wait_for(at_once(words.at_once, words.features, words.feature_bytes, words.broken), 600))
         else:
             by_curl(words.paths)
             pages()

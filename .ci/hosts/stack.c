@@ -42,8 +42,22 @@ static void *by_pieces(void *at) {
         geolint_feed(work->linter, work->text + from, 1);
         geolint_doomed(work->linter);
         geolint_offset(work->linter);
+        geolint_levels(work->linter);
     }
     work->report = geolint_finish(work->linter);
+    return NULL;
+}
+
+static void *by_hint(void *at) {
+    struct work *work = at;
+    const size_t half = work->size / 2;
+    geolint_text text = {"", 1};
+    memset(&work->report, 0, sizeof work->report);
+    work->report.verdict = GEOLINT_NOT_JSON;
+    work->report.cause = GEOLINT_SYNTAX;
+    work->report.place = half;
+    geolint_hint_text(&work->report, work->text, work->size, &text);
+    geolint_hint_around(&work->report, 0, work->text, half, work->text, half, work->text + half, work->size - half, &text);
     return NULL;
 }
 
@@ -99,7 +113,7 @@ int main(int count, char **words) {
     static char text[MOST];
     void *stack = mmap(NULL, STACK, PROT_READ | PROT_WRITE, MAP_PRIVATE | MAP_ANONYMOUS | MAP_STACK, -1, 0);
     struct work work = {nothing, text, 0, geolint_new(0, 0), {0}, malloc(geolint_features_size()), malloc(geolint_records_size()), malloc(geolint_locator_size())};
-    size_t bare, call = 0, pieces = 0, findings = 0, place = 0, depth;
+    size_t bare, call = 0, pieces = 0, findings = 0, place = 0, hint = 0, depth;
     if (stack == MAP_FAILED || !work.linter || !work.features || !work.records || !work.locator || count < 2)
         return 2;
     /* What the first calls need for being linked is the system's. */
@@ -107,6 +121,7 @@ int main(int count, char **words) {
     by_pieces(&work);
     by_findings(&work);
     by_place(&work);
+    by_hint(&work);
     written(&work, stack);
     bare = written(&work, stack);
     for (int file = 1; file < count; file++) {
@@ -126,11 +141,14 @@ int main(int count, char **words) {
         work.judge = by_place;
         depth = written(&work, stack) - bare;
         place = depth > place ? depth : place;
+        work.judge = by_hint;
+        depth = written(&work, stack) - bare;
+        hint = depth > hint ? depth : hint;
     }
     geolint_free(work.linter);
     free(work.features);
     free(work.records);
     free(work.locator);
-    printf("%zu bytes for a text in memory, %zu for a linter, %zu for findings, %zu for a place\n", call, pieces, findings, place);
-    return !bare || call > CHECK || pieces > STREAM || findings > STREAM || place > 2 * STREAM;
+    printf("%zu bytes for a text in memory, %zu for a linter, %zu for findings, %zu for a place, %zu for a hint\n", call, pieces, findings, place, hint);
+    return !bare || call > CHECK || pieces > STREAM || findings > STREAM || place > 2 * STREAM || hint > STREAM;
 }

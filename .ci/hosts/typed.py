@@ -28,13 +28,15 @@ def told() -> str:
     broken = [finding.number for finding in geolint.features("{}") if not finding]
     places: List[geolint.Place] = geolint.locate("{}", broken)
     kinds: List[int] = [warning.kind for warning in report.verdict.warnings]
+    hint: Optional[str] = report.hint or geolint.hint(report.verdict, b"{}") or geolint.hint_around(report.verdict, 1, b"{}", b"", bytearray(b"{}"))
     first: Optional[geolint.Warning] = report.verdict.warnings[0] if kinds else None
     built: geolint.Build = geolint.build()
     commit: Optional[str] = built.commit
-    return f"{report.line}:{report.column}: {places}, {first}, {geolint.__version__}, {commit}"
+    return f"{report.line}:{report.column}: {places}, {first}, {geolint.__version__}, {commit}, {hint}"
 
 
 geolint.check(7)  # type: ignore[arg-type]
 geolint.check("{}", max_depth="7")  # type: ignore[arg-type]
 geolint.report("{}").line + 1  # type: ignore[operator]
+geolint.hint(geolint.check("{}"), "{}")  # type: ignore[arg-type]
 geolint.records("{}")  # type: ignore[call-arg]

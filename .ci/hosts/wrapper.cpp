@@ -93,6 +93,23 @@ static void views() {
 #endif
 }
 
+static void hints() {
+    const std::string nan = R"({"type":"Point","coordinates":[NaN,1]})";
+    const geolint::Verdict verdict = geolint::check(nan);
+    wants(std::string(geolint::hint(verdict, nan)).find("JSON has no NaN") == 0, "a hint");
+    wants(*geolint::hint(geolint::check(POINT), POINT) == 0 && *geolint::hint(geolint::check(RING), RING) == 0, "no hint");
+    wants(*geolint::hint(geolint::check(nullptr, 0), nullptr, 0) == 0, "no hint for no bytes");
+    geolint::Linter linter;
+    wants(linter.feed("[[1", 3) && linter.levels() == 2 && linter.feed("]]", 2) && linter.levels() == 0 && !linter.feed("{", 1), "levels");
+    const std::uint32_t levels = linter.levels();
+    const std::string head = "[[1]]", after = "{";
+    wants(std::string(geolint::hint_around(linter.finish(), levels, head, head, after)).find("a second text") == 0, "a hint of pieces");
+#if defined(__cpp_lib_optional) && defined(__cpp_lib_string_view)
+    static_assert(std::is_same<decltype(geolint::find_hint(verdict, nan)), std::optional<std::string_view>>::value, "a view, or nothing");
+    wants(geolint::find_hint(verdict, nan).value_or("").substr(0, 15) == "JSON has no NaN" && !geolint::find_hint(geolint::check(POINT), POINT), "a view of a hint");
+#endif
+}
+
 static void pieces() {
     geolint::Linter linter;
     wants(bool(linter) && linter.feed(POINT) && linter.offset() == POINT.size(), "a piece");
@@ -253,6 +270,7 @@ int main() {
     one_call();
     kept_references();
     views();
+    hints();
     pieces();
     moves();
     threads();

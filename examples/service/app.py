@@ -14,6 +14,7 @@ import resource
 import sys
 import tempfile
 import time
+from concurrent.futures import ThreadPoolExecutor
 from dataclasses import dataclass, field
 from typing import Any, AsyncIterator, Callable, Dict, List, Optional
 
@@ -23,7 +24,7 @@ from forms import Form, FormError
 
 MOST_BYTES = 100_000_000
 # How many uploads are taken at once. Each holds the memory of its findings, 255 KB, and what of it has come and is not checked yet,
-# which the server bounds: whatever its size, less than a megabyte.
+# which the server bounds: whatever its size, less than a megabyte, and half a megabyte more for the broken features that are listed.
 MOST_AT_ONCE = 2000
 # How many broken features are listed; the others are counted.
 MOST_TOLD = 1000
@@ -32,6 +33,8 @@ MOST_TOLD = 1000
 WAIT = 30
 TOTAL = 600
 LINGER = 5
+# How many broken texts are read a second time at once: more threads would leave the event loop less of the interpreter.
+READERS = ThreadPoolExecutor(2)
 VALUE = re.compile(rb'"(?:[^"\\]|\\.)*"?|[^\s,}\]]+')
 FOLDER = os.environ.get("UPLOADS")
 
@@ -124,7 +127,7 @@ async def check_and_store(pieces: AsyncIterator[bytes], folder: str) -> Outcome:
             os.replace(store.name, os.path.join(folder, outcome.stored))
         else:
             # A long text is read again for a while: on another thread, so that the others go on.
-            await asyncio.get_running_loop().run_in_executor(None, find_places, outcome, store.name)
+            await asyncio.get_running_loop().run_in_executor(READERS, find_places, outcome, store.name)
     finally:
         if outcome is None or not outcome.verdict:
             os.unlink(store.name)

@@ -2,8 +2,9 @@
  *
  * Two ways in: geolint_check checks a text in memory; a linter (geolint_begin, geolint_feed, geolint_finish) checks a text
  * that comes in pieces, in the memory that the host gives it. In the same way geolint_features_.. reports each feature of a text and
- * geolint_records_.. each record of an input; geolint_locator_.. finds the path to a place, and geolint_lines_.. its line and column. The
- * library takes no memory, keeps no state of its own, opens nothing and prints nothing. Any number of linters may be in use at once,
+ * geolint_records_.. each record of an input; geolint_locator_.. finds the path to a place, geolint_lines_.. its line and column, and
+ * geolint_hint.. says what an input that is not valid looks like. The library takes no memory, keeps no state of its own, opens
+ * nothing and prints nothing. Any number of linters may be in use at once,
  * each on one thread at a time. What is said of a linter holds of the other handles too, each by its own calls.
  *
  * What is proved of the library. Each call below that gives a verdict states its result by the definitions of the two standards (as
@@ -23,6 +24,8 @@
  *     geolint_records_finish what the input is by them;
  *   - geolint_locator_step gives the steps of the path that the bytes taken lead to, in each text that goes on from them;
  *   - geolint_lines_feed gives the line and the column after the bytes fed;
+ *   - geolint_levels says how many arrays and objects are open after the bytes taken, in each text that goes on from them;
+ *   - geolint_hint_text and geolint_hint_around give the text of the hint that the definitions have for the report and these bytes;
  *   - each text is the one that the definitions have for its number, with a byte 0 at its end;
  *   - each call returns, reads and writes no memory but what it is passed, and leaves a linter that can be used again; what it
  *     does at null and after the end is as each says below. Between two calls a linter may go from thread to thread.
@@ -30,7 +33,7 @@
  *
  * What the caller owes, as no library can test it:
  *   - a pointer that is not null points to what its parameter says, for the whole call;
- *   - `bytes` is not null, whatever the length is: for a length of 0 any address will do, as that of "". geolint_bytes below
+ *   - `bytes` is not null, nor `head`, `before` and `after`, whatever the length is: for a length of 0 any address will do, as that of "". geolint_bytes below
  *     makes such an address of a pointer that may be null;
  *   - a linter lies in memory of geolint_size() bytes at a multiple of geolint_alignment(), and is passed to no call before
  *     geolint_begin has got this memory. It is not copied, not moved and not written by the host. The other handles lie in as many
@@ -143,6 +146,10 @@ uint64_t geolint_offset(geolint_linter *linter);
  * and a word show it when they have ended), or in the outermost object a known name twice, a first `type` that is none of the
  * nine, or a name that this type forbids. After the end, and for null: 0. */
 uint32_t geolint_doomed(geolint_linter *linter);
+
+/* How many arrays and objects are open after the bytes taken: once they are refused, before the place of the refusal. After the
+ * end, and for null: 0. */
+uint32_t geolint_levels(geolint_linter *linter);
 
 /* The verdict of all that was fed, and the end of the linter. After the end there is GEOLINT_NO_VERDICT with
  * GEOLINT_ENDED, and for null with GEOLINT_NULL. As measured, no call on a linter needs more than 8 KiB of stack. */
@@ -361,6 +368,31 @@ static inline const char *geolint_warning(uint32_t kind) {
 static inline const char *geolint_version(void) {
     geolint_text text = {"", 1};
     geolint_version_text(&text);
+    return text.bytes;
+}
+
+/* ---- hints
+ *
+ * A hint is one line of advice on an input that is not valid, as geolint-files gives it: what the input looks like, and a command that
+ * makes it right. It tells files of another kind (compressed, a database, HTML), other encodings, slips in JSON, numbers that are not
+ * read, and of a valid text latitude and longitude that look swapped. It is a guess by the report and by some bytes: the first 512 of
+ * the input, and the 256 before a place and from it on. The place is that of the report, and of a valid text the `first` of W5. */
+
+/* Each writes the hint to `text`, which is not null and holds a text already; an empty text where there is no hint. `report` is not
+ * null.
+ *
+ * geolint_hint_text goes by all bytes of the text that the report is of. Where a later byte is refused by its syntax, it reads the text
+ * up to there once more. */
+void geolint_hint_text(const geolint_report *report, const void *bytes, size_t length, geolint_text *text);
+
+/* For an input that came in pieces: its first bytes, those before the place and those from it on, of each as many as the host has (more
+ * than the above are passed over). `levels` is what geolint_levels answered before geolint_finish; of a record pass 1. */
+void geolint_hint_around(const geolint_report *report, uint32_t levels, const void *head, size_t head_size, const void *before, size_t before_size, const void *after, size_t after_size, geolint_text *text);
+
+/* The hint for a text in memory, by its report; never null, and empty where there is none. */
+static inline const char *geolint_hint(const geolint_report *report, const void *bytes, size_t length) {
+    geolint_text text = {"", 1};
+    geolint_hint_text(report, geolint_bytes(bytes), length, &text);
     return text.bytes;
 }
 

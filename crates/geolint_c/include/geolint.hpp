@@ -25,6 +25,10 @@
 #if defined(__cpp_lib_expected)
 #include <expected>
 #endif
+#if defined(__cpp_lib_optional) && defined(__cpp_lib_string_view)
+#include <optional>
+#include <string_view>
+#endif
 
 namespace geolint {
 
@@ -106,6 +110,8 @@ public:
     /* No text that begins with the bytes fed is valid, as far as that is seen early. */
     bool doomed() noexcept { return geolint_doomed(linter_) != 0; }
     std::uint64_t offset() noexcept { return geolint_offset(linter_); }
+    /* How many arrays and objects are open after the bytes taken. */
+    std::uint32_t levels() noexcept { return geolint_levels(linter_); }
 
     /* The verdict of all that was fed, and the end of the linter. */
     Verdict finish() noexcept { return Verdict(geolint_finish(linter_)); }
@@ -346,6 +352,36 @@ public:
 private:
     geolint_lines lines_;
 };
+
+/* The hint for a text in memory, by its verdict: what it looks like that is not valid, and a command that makes it right. Never null;
+ * empty where there is none. The text lies in the library for good. */
+inline const char *hint(const Verdict &verdict, const void *bytes, std::size_t length) noexcept {
+    return geolint_hint(&verdict.report(), bytes, length);
+}
+template <class Bytes, class = decltype(std::declval<const Bytes &>().data())> const char *hint(const Verdict &verdict, const Bytes &bytes) noexcept {
+    return hint(verdict, bytes.data(), bytes.size() * sizeof(*bytes.data()));
+}
+
+/* The hint for an input that came in pieces, by its first 512 bytes, the last 256 before the place and 256 from it on, or as many as
+ * there are. `levels` is that of the linter before its end; of a record pass 1. */
+template <class Head, class Before, class After>
+const char *hint_around(const Verdict &verdict, std::uint32_t levels, const Head &head, const Before &before, const After &after) noexcept {
+    geolint_text text = {"", 1};
+    geolint_hint_around(&verdict.report(), levels, geolint_bytes(head.data()), head.size() * sizeof(*head.data()), geolint_bytes(before.data()),
+                        before.size() * sizeof(*before.data()), geolint_bytes(after.data()), after.size() * sizeof(*after.data()), &text);
+    return text.bytes;
+}
+
+#if defined(__cpp_lib_optional) && defined(__cpp_lib_string_view)
+/* As `hint`, and nothing where there is none: from C++17 on. */
+template <class Bytes, class = decltype(std::declval<const Bytes &>().data())>
+std::optional<std::string_view> find_hint(const Verdict &verdict, const Bytes &bytes) noexcept {
+    const std::string_view text = hint(verdict, bytes);
+    if (text.empty())
+        return std::nullopt;
+    return text;
+}
+#endif
 
 #if defined(__cpp_lib_expected)
 /* The verdict of a valid text, or as the error that of another, as a value: from C++23 on. */

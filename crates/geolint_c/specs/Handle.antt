@@ -1,11 +1,14 @@
 -- What a handle stands for, and what each of its calls gives.
-use Rattle.std.specs.Prelude.{◌≡◌, ◌⊎◌, ℕ, true, false, List, [], ◌++◌, length, Option, Some, None}
+use Rattle.std.specs.Prelude.{◌≡◌, ◌⊎◌, ℕ, true, false, List, [], ◌++◌, length, take, Option, Some, None}
 use Rattle.gj_json.specs.Limits.{Allowed}
+use Rattle.gj_json.specs.Open.{open_at}
+use Rattle.gj_json.specs.Text.{IsText}
+use Rattle.gj_json.specs.Tree.{Text}
 use Rattle.gj_json.specs.declared.fault.JsonFault.{JsonFault}
 use Rattle.gj_rules.specs.declared.linter.Linter.{Linter}
 use Rattle.gj_rules.specs.declared.linter.Progress.{Progress}
 use Rattle.gj_rules.specs.declared.linter.Progress.TheVariants.{Open, Refused}
-use Rattle.gj_rules.specs.Linter.{StandsFor as LinterStandsFor, limits_of, refusal_of, refusal_in, Answers}
+use Rattle.gj_rules.specs.Linter.{StandsFor as LinterStandsFor, limits_of, refusal_of, refusal_in, offset_of, Answers}
 use Rattle.gj_rules.specs.Verdict.{NeverValid}
 use Rattle.gj_rules.specs.Doomed.{BeginNoGeoJson}
 use Rattle.geolint_c.specs.declared.handle.Handle.{Handle}
@@ -106,6 +109,20 @@ DoomedEarly handle doomed =
 
 abbrev pub DoomedEnded : Handle → ℕ → Type 0
 DoomedEnded handle doomed = HasEnded handle → doomed ≡ 0
+
+-- ---- levels
+-- as many arrays and objects as are open there in each text that goes on from the bytes that were taken
+abbrev pub IsOpenIn : Option Linter → List ℕ → ℕ → Type 0
+IsOpenIn None bytes levels = ⊥
+IsOpenIn (Some linter) bytes levels =
+    (text : Text) (rest : List ℕ) → IsText text (take (offset_of linter) bytes ++ rest) → levels ≡ open_at (offset_of linter) text
+
+abbrev pub LevelsOpen : Handle → ℕ → Type 0
+LevelsOpen handle levels =
+    (limits : Allowed) (bytes : List ℕ) → StandsFor handle limits bytes → IsOpenIn handle.linter bytes levels
+
+abbrev pub LevelsEnded : Handle → ℕ → Type 0
+LevelsEnded handle levels = HasEnded handle → levels ≡ 0
 
 -- ---- finish
 abbrev pub FinishedVerdict : Handle → Report → Type 0

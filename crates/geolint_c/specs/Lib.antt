@@ -8,6 +8,7 @@ pub mod Records
 pub mod Lines
 pub mod Locator
 pub mod Texts
+pub mod Hints
 pub mod Stream
 pub mod FeatureStream
 pub mod RecordStream

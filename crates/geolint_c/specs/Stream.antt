@@ -4,7 +4,7 @@ use Rattle.std.specs.Ptr.{Ptr, block_ptr, null_ptr}
 use Rattle.geolint_c.specs.declared.handle.Handle.{Handle}
 use Rattle.geolint_c.specs.declared.report.Report.{Report}
 use Rattle.geolint_c.specs.Report.{no_report}
-use Rattle.geolint_c.specs.Handle.{HasEnded, BegunLive, BegunEnded, BegunStatus, FedStands, FedAnswer, FedEnded, FedAgain, OffsetTaken, OffsetRefused, OffsetEnded, DoomedSound, DoomedRefused, DoomedEarly, DoomedEnded, FinishedVerdict, FinishedEnded}
+use Rattle.geolint_c.specs.Handle.{HasEnded, BegunLive, BegunEnded, BegunStatus, FedStands, FedAnswer, FedEnded, FedAgain, OffsetTaken, OffsetRefused, OffsetEnded, DoomedSound, DoomedRefused, DoomedEarly, DoomedEnded, LevelsOpen, LevelsEnded, FinishedVerdict, FinishedEnded}
 
 -- the first at null, the second elsewhere
 abbrev pub AtHandle : Ptr → Type 0 → Type 0 → Type 0
@@ -26,6 +26,9 @@ OffsetAt handle old offset new =
 abbrev pub DoomedAt : Ptr → Handle → ℕ → Handle → Type 0
 DoomedAt handle old doomed new =
     AtHandle handle (doomed ≡ 0) (DoomedSound old doomed × DoomedRefused old doomed × DoomedEarly old doomed × DoomedEnded old doomed × (new ≡ old))
+
+abbrev pub LevelsAt : Ptr → Handle → ℕ → Handle → Type 0
+LevelsAt handle old levels new = AtHandle handle (levels ≡ 0) (LevelsOpen old levels × LevelsEnded old levels × (new ≡ old))
 
 abbrev pub FinishedAt : Ptr → Handle → Report → Handle → Type 0
 FinishedAt handle old report new =

@@ -1,6 +1,6 @@
 //! A text that comes in pieces, judged by a handle. Here are the calls over values; `stream` takes them to C.
 ghost use Rattle.std.specs.Prelude.{◌≡◌};
-ghost use Rattle.geolint_c.specs.Handle.{HasEnded, Begins, BegunLive, BegunEnded, FedStands, FedAnswer, FedEnded, FedAgain, BegunStatus, FinishedVerdict, FinishedEnded, OffsetTaken, OffsetRefused, OffsetEnded, DoomedSound, DoomedRefused, DoomedEarly, DoomedEnded};
+ghost use Rattle.geolint_c.specs.Handle.{HasEnded, Begins, BegunLive, BegunEnded, FedStands, FedAnswer, FedEnded, FedAgain, BegunStatus, FinishedVerdict, FinishedEnded, OffsetTaken, OffsetRefused, OffsetEnded, DoomedSound, DoomedRefused, DoomedEarly, DoomedEnded, LevelsOpen, LevelsEnded};
 
 use crate::options::limits_of;
 use crate::report::{Report, no_report, report_of};
@@ -113,6 +113,18 @@ impl Handle {
     {
         match &self.linter {
             Some(linter) if !self.ended && linter.doomed() => 1,
+            _ => 0,
+        }
+    }
+
+    /// How many arrays and objects are open after the bytes that were taken.
+    pub fn levels(&mut self) -> u32
+        ensures open { LevelsOpen self.old result }
+        ensures ended { LevelsEnded self.old result }
+        ensures unchanged { self.new ≡ self.old }
+    {
+        match &self.linter {
+            Some(linter) if !self.ended => linter.levels() as u32,
             _ => 0,
         }
     }

@@ -11,6 +11,8 @@ mod feature_stream;
 mod features;
 mod finding;
 mod handle;
+mod hint;
+mod hint_texts;
 mod last;
 mod latest;
 mod lines;

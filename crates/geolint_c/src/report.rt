@@ -12,11 +12,11 @@ use gj_json::{Cause, JsonFault};
 use gj_rules::Verdict;
 
 /// What a text is; 0 says that it was not judged.
-const VALID: u32 = 1;
+pub const VALID: u32 = 1;
 
-const BROKEN: u32 = 2;
+pub const BROKEN: u32 = 2;
 
-const NOT_JSON: u32 = 3;
+pub const NOT_JSON: u32 = 3;
 
 /// The warnings of one kind: how many, and the place of the first, which is 0 where there is none.
 #[repr(C)]

@@ -8,7 +8,7 @@ ghost use denote.RawPtr.{Testable};
 ghost use denote.Memory.{lone};
 ghost use prog.Memory.{size, align};
 ghost use Rattle.geolint_c.specs.contracts.handle.Handle.{the_row};
-ghost use Rattle.geolint_c.specs.Stream.{BegunAt, FedAt, OffsetAt, DoomedAt, FinishedAt};
+ghost use Rattle.geolint_c.specs.Stream.{BegunAt, FedAt, OffsetAt, DoomedAt, LevelsAt, FinishedAt};
 
 use crate::features::FeatureHandle;
 use crate::handle::{Handle, begun_status};
@@ -124,6 +124,21 @@ pub unsafe extern "C" fn geolint_doomed(memory: *mut Memory) -> u32
         return 0;
     }
     (*handle).doomed()
+}
+
+/// How many arrays and objects are open after the bytes that were taken.
+#[unsafe(no_mangle)]
+pub unsafe extern "C" fn geolint_levels(memory: *mut Memory) -> u32
+    ghost held: { Handle }
+    requires testable { Testable memory }
+    requires* handle { sem 𝓛 (if_non_null memory (lies_at the_row full_share memory held)) }
+    ensures* told { ∃ₛ (λ (new : Handle). sem 𝓛 (if_non_null memory (lies_at the_row full_share memory new)) ∗ ⌜ LevelsAt memory held result new ⌝) }
+{
+    let handle = memory as *mut Handle;
+    if handle.is_null() {
+        return 0;
+    }
+    (*handle).levels()
 }
 
 /// The verdict of what was fed, and the end of the handle.

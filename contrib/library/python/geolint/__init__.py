@@ -21,6 +21,7 @@ one that lies beside this file, otherwise where `make install-library` put it, o
 
 from ._build import Build, build
 from ._findings import AsyncFeatures, AsyncRecords, Features, Records, afeatures, arecords, features, records
+from ._hints import hint, hint_around
 from ._linter import Linter, acheck, check
 from ._places import Place, Report, locate, report
 from ._verdict import Ended, Finding, Verdict, version
@@ -32,6 +33,8 @@ __all__ = [
     "acheck",
     "report",
     "locate",
+    "hint",
+    "hint_around",
     "features",
     "afeatures",
     "records",

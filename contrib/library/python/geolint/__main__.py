@@ -1,7 +1,7 @@
 """`python -m geolint`: checks files and folders, by the words of geolint-files.
 
-Not served are --explain (this package has no manual), --split, --force and --format sarif: geolint-files has them. There is no
-hint and no line of progress.
+Not served are --explain (this package has no manual), --split, --force and --format sarif: geolint-files has them. What was found at
+a place (`found`) is left out, and there is no line of progress.
 """
 
 from __future__ import annotations

@@ -81,6 +81,11 @@ class Linter:
         """How many bytes were taken: the place of the refusal, once there was one."""
         return int(library.geolint_offset(self._at))
 
+    @property
+    def levels(self) -> int:
+        """How many arrays and objects are open after the bytes taken: what `hint_around` asks for, before the end."""
+        return int(library.geolint_levels(self._at))
+
     def finish(self) -> Verdict:
         """The verdict of all that was fed, and the end of the linter. A second call gives the same."""
         if self.verdict is None:
@@ -110,12 +115,18 @@ def check(source: Source, max_depth: Optional[int] = None, max_bytes: Optional[i
     limits = limits_of(max_depth, max_bytes)
     if isinstance(source, bytes):
         return verdict_of(library.geolint_check(address(source), len(source), *limits))
+    return check_open(source, max_depth, max_bytes)[0]
+
+
+def check_open(source: Source, max_depth: Optional[int] = None, max_bytes: Optional[int] = None) -> tuple[Verdict, int]:
+    """The verdict of a text, and how many arrays and objects are open where it ends or is refused."""
     pieces = pieces_of(source)
     linter = Linter(max_depth, max_bytes)
     for piece in pieces:
         if not linter.feed(piece):
             break
-    return linter.finish()
+    levels = linter.levels
+    return linter.finish(), levels
 
 
 async def acheck(source: AsyncSource, max_depth: Optional[int] = None, max_bytes: Optional[int] = None) -> Verdict:

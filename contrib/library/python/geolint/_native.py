@@ -29,6 +29,7 @@ class Report(ctypes.Structure):
     cause: int
     place: int
     warned: int
+    warnings: Any
     _fields_ = [
         ("status", ctypes.c_uint32),
         ("verdict", ctypes.c_uint32),
@@ -100,7 +101,7 @@ def find() -> str:
 def load() -> Any:
     native = ctypes.CDLL(find())
     address, size, u32, u64 = ctypes.c_void_p, ctypes.c_size_t, ctypes.c_uint32, ctypes.c_uint64
-    text = ctypes.POINTER(Text)
+    text, report = ctypes.POINTER(Text), ctypes.POINTER(Report)
     calls: list[tuple[str, Any, list[Any]]] = [
         ("check", Report, [address, size, u32, u64]),
         ("size", size, []),
@@ -110,6 +111,7 @@ def load() -> Any:
         ("feed", u32, [address, address, size]),
         ("doomed", u32, [address]),
         ("offset", u64, [address]),
+        ("levels", u32, [address]),
         ("finish", Report, [address]),
         ("features_size", size, []),
         ("features_begin", u32, [address, u32, u64]),
@@ -133,6 +135,8 @@ def load() -> Any:
         ("cause_text", None, [u32, text]),
         ("warning_text", None, [u32, text]),
         ("version_text", None, [text]),
+        ("hint_text", None, [report, address, size, text]),
+        ("hint_around", None, [report, u32, address, size, address, size, address, size, text]),
     ]
     for name, result, words in calls:
         call = getattr(native, "geolint_" + name)

@@ -5,7 +5,8 @@ from __future__ import annotations
 from dataclasses import dataclass
 from typing import TYPE_CHECKING, Any, Iterable, Iterator, Optional
 
-from ._linter import check
+from ._hints import Watched, place_of
+from ._linter import check_open
 from ._native import address, library, room, steps
 from ._sources import Again, pieces_of, runs
 from ._verdict import Verdict, limits_of
@@ -32,13 +33,15 @@ class Report:
     """A verdict, and where its place stands: the line and the column, from 1, and the path of the value, as $.features[3].
 
     They are None of a valid text, of what can be read only once, and of a file that has changed between its two readings; the path
-    also of what is no JSON text. A report is true where the text is valid.
+    also of what is no JSON text. `hint` says what the text looks like that is not valid, with a command that makes it right; None
+    where nothing shows it, and of what can be read only once. A report is true where the text is valid.
     """
 
     verdict: Verdict
     line: Optional[int] = None
     column: Optional[int] = None
     path: Optional[str] = None
+    hint: Optional[str] = None
 
     def __bool__(self) -> bool:
         return self.verdict.valid
@@ -119,15 +122,24 @@ def locate(
 
 
 def report(source: Source, max_depth: Optional[int] = None, max_bytes: Optional[int] = None) -> Report:
-    """A verdict with the line, the column and the path of its place. The source is what `check` takes.
+    """A verdict with the line, the column and the path of its place, and a hint. The source is what `check` takes.
 
     Bytes, texts, paths and files that can be read again are, up to the place; of others the byte offset alone is known.
     """
     again = Again(source)
-    verdict = check(source, max_depth, max_bytes)
-    if verdict.place is None or not again.can:
+    verdict, levels = check_open(source, max_depth, max_bytes)
+    shown = place_of(verdict)
+    if shown is None or not again.can:
         return Report(verdict)
-    found = list(_locate(again.pieces(), [verdict.place], limits_of(max_depth, max_bytes)))
-    if not found or not again.is_same():
+    watched = Watched(shown)
+    pieces = watched.watch(again.pieces())
+    places = [] if verdict.place is None else [verdict.place]
+    found = list(_locate(pieces, places, limits_of(max_depth, max_bytes)))
+    while not watched.is_whole and next(pieces, None) is not None:
+        pass
+    if len(found) < len(places) or not again.is_same():
         return Report(verdict)
-    return Report(verdict, found[0].line, found[0].column, found[0].path if verdict.rule else None)
+    hint = watched.hint(verdict, levels)
+    if not found:
+        return Report(verdict, hint=hint)
+    return Report(verdict, found[0].line, found[0].column, found[0].path if verdict.rule else None, hint)

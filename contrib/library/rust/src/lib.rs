@@ -1,8 +1,8 @@
 //! Is a text GeoJSON (RFC 7946), and otherwise where and why not: geolint for Rust, over the library for C.
 //!
 //! [`check`] checks a text in memory. A [`Linter`] checks one that comes in pieces, also as an [`io::Write`], so that a download
-//! can be checked while it is stored ([`Judging`]). [`features`] and [`records`] report what is found in each of them, and [`report`]
-//! gives the line, the column and the path.
+//! can be checked while it is stored ([`Judging`]). [`features`] and [`records`] report what is found in each of them, [`report`]
+//! gives the line, the column and the path, and [`hint`] says what a text that is not valid looks like.
 //!
 //! ```
 //! use geolint::{check, Limits, Verdict};
@@ -27,9 +27,11 @@ use std::os::raw::c_char;
 use std::ptr::NonNull;
 
 mod findings;
+mod hints;
 mod places;
 
 pub use findings::{Features, Finding, Framing, Records, features, records};
+pub use hints::{hint, hint_around};
 pub use places::{Lines, Locator, Report, report};
 
 /// The header `geolint.h` in Rust's words.
@@ -114,6 +116,7 @@ mod c {
                 pub fn geolint_feed(linter: *mut c_void, bytes: *const u8, length: usize) -> u32;
                 pub fn geolint_doomed(linter: *mut c_void) -> u32;
                 pub fn geolint_offset(linter: *mut c_void) -> u64;
+                pub fn geolint_levels(linter: *mut c_void) -> u32;
                 pub fn geolint_finish(linter: *mut c_void) -> Report;
                 pub fn geolint_features_size() -> usize;
                 pub fn geolint_features_begin(features: *mut c_void, max_depth: u32, max_bytes: u64) -> u32;
@@ -135,6 +138,18 @@ mod c {
                 pub fn geolint_cause_text(cause: u32, text: *mut Text);
                 pub fn geolint_warning_text(kind: u32, text: *mut Text);
                 pub fn geolint_version_text(text: *mut Text);
+                pub fn geolint_hint_text(report: *const Report, bytes: *const u8, length: usize, text: *mut Text);
+                pub fn geolint_hint_around(
+                    report: *const Report,
+                    levels: u32,
+                    head: *const u8,
+                    head_size: usize,
+                    before: *const u8,
+                    before_size: usize,
+                    after: *const u8,
+                    after_size: usize,
+                    text: *mut Text,
+                );
             }
         };
     }
@@ -426,6 +441,11 @@ impl Linter {
     /// How many bytes were taken: the place of the refusal, once there was one.
     pub fn offset(&mut self) -> u64 {
         unsafe { c::geolint_offset(self.at()) }
+    }
+
+    /// How many arrays and objects are open after the bytes taken: what [`hint_around`] asks for, before the end.
+    pub fn levels(&mut self) -> u32 {
+        unsafe { c::geolint_levels(self.at()) }
     }
 
     /// The verdict of all that was fed.

@@ -85,6 +85,8 @@ pub struct Report {
     pub spot: Option<(u64, u64)>,
     /// The path of the value that breaks a rule.
     pub path: Option<String>,
+    /// What the text looks like that is not valid, and of a valid text whose latitude and longitude look swapped.
+    pub hint: Option<&'static str>,
 }
 
 /// As geolint-files has it in its lines.
@@ -105,7 +107,7 @@ impl fmt::Display for Report {
     }
 }
 
-/// The verdict of a text in memory, with the line, the column and the path of its place.
+/// The verdict of a text in memory, with the line, the column and the path of its place, and the hint.
 ///
 /// ```
 /// let ring = b"{\"type\":\"Polygon\",\n\"coordinates\":[[[0,0],[1,0],[1,1],[0,0,0]]]}";
@@ -121,15 +123,16 @@ pub fn report(text: &[u8], limits: Limits) -> Result<Report, Refusal> {
     let mut linter = Linter::new(limits)?;
     linter.feed(text);
     let verdict = linter.finish();
+    let hint = crate::hint(&verdict, text);
     let (place, is_broken) = match verdict {
         Verdict::Broken { place, .. } => (place as usize, true),
         Verdict::NotJson { place, .. } => (place as usize, false),
-        Verdict::Valid(_) => return Ok(Report { verdict, spot: None, path: None }),
+        Verdict::Valid(_) => return Ok(Report { verdict, spot: None, path: None, hint }),
     };
     let mut lines = Lines::new();
     lines.feed(&text[..place]);
     let mut locator = Locator::new(limits)?;
     locator.feed(&text[..(place + 1).min(text.len())]);
     let path = if is_broken { Some(locator.path()) } else { None };
-    Ok(Report { verdict, spot: Some((lines.line(), lines.column())), path })
+    Ok(Report { verdict, spot: Some((lines.line(), lines.column())), path, hint })
 }

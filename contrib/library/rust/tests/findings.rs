@@ -1,5 +1,5 @@
 //! Findings of features and records, and where a place stands, however a source is read.
-use geolint::{Finding, Framing, Limits, Lines, Locator, Progress, Refusal, Verdict, features, records, report};
+use geolint::{Finding, Framing, Limits, Lines, Linter, Locator, Progress, Refusal, Verdict, features, hint, hint_around, records, report};
 use std::error::Error;
 use std::io::{self, Read};
 
@@ -79,5 +79,26 @@ fn places() -> Result<(), Box<dyn Error>> {
     assert_eq!((told.spot, told.path.as_deref()), (Some((2, 8)), Some("$.type")));
     assert_eq!(report(b"[1,\n]", Limits::default())?.to_string(), "2:1: not JSON: syntax");
     assert_eq!(report(POINT.as_bytes(), Limits::default())?.to_string(), "valid");
+    Ok(())
+}
+
+#[test]
+fn hints() -> Result<(), Box<dyn Error>> {
+    let nan = br#"{"type":"Point","coordinates":[NaN,1]}"#;
+    let told = report(nan, Limits::default())?;
+    assert!(told.hint.map_or(false, |it| it.starts_with("JSON has no NaN")));
+    assert_eq!(told.hint, hint(&told.verdict, nan));
+    assert_eq!((report(POINT.as_bytes(), Limits::default())?.hint, report(b"", Limits::default())?.hint), (None, None));
+    let swapped = br#"{"type":"Point","coordinates":[52.5,113.4]}"#;
+    let told = report(swapped, Limits::default())?;
+    assert!(told.verdict.is_valid() && told.hint.map_or(false, |it| it.starts_with("latitude and longitude")));
+    let mut linter = Linter::new(Limits::default())?;
+    assert_eq!((linter.feed(b"[[1"), linter.levels()), (Progress::Open, 2));
+    assert_eq!((linter.feed(b"]] {"), linter.levels()), (Progress::Refused, 0));
+    let verdict = linter.finish();
+    assert!(hint_around(&verdict, 0, b"[[1]] {", b"[[1]] ", b"{").map_or(false, |it| it.starts_with("a second text")));
+    assert_eq!(hint_around(&verdict, 1, b"[[1]] {", b"[[1]] ", b"{"), None);
+    let beyond = Verdict::NotJson { cause: 1, place: u64::MAX };
+    assert_eq!(hint(&beyond, b"[1,]"), None);
     Ok(())
 }

@@ -7,7 +7,8 @@ from dataclasses import dataclass, field, replace
 from typing import Any, Iterator, Optional
 
 from .._findings import features, records
-from .._linter import Linter, check
+from .._hints import AROUND, HEAD, hint_around, place_of
+from .._linter import Linter, check_open
 from .._native import PIECE, address
 from .._places import Place, Seeker
 from .._verdict import Finding, Verdict
@@ -62,6 +63,9 @@ class Found:
     note_count: int = 0
     spots: dict[int, Place] = field(default_factory=dict)
     excerpt: Optional[tuple[bytes, bytes]] = None
+    # How many arrays and objects are open before the place, of a text that is not JSON; of others any number but 0.
+    levels: int = 1
+    hint: Optional[str] = None
 
     @property
     def word(self) -> str:
@@ -127,7 +131,8 @@ def read(name: bytes, file: Any, asked: Asked, framing: Optional[str]) -> Found:
         return Found(name, _quickly(file, asked))
     if asked.every:
         return _with_features(name, file, asked)
-    return Found(name, check(file, max_bytes=asked.max_bytes))
+    verdict, levels = check_open(file, max_bytes=asked.max_bytes)
+    return Found(name, verdict, levels=levels)
 
 
 def _places(found: Found) -> list[tuple[int, int]]:
@@ -209,6 +214,14 @@ def _state(file: Any) -> tuple[int, int]:
     return found.st_size, found.st_mtime_ns
 
 
+def _hint(file: Any, found: Found) -> Optional[str]:
+    """What the file looks like, where it is one text or has a record that is not valid."""
+    place = None if found.verdict is None or found.records is not None else place_of(found.verdict)
+    if found.verdict is None or place is None:
+        return None
+    return hint_around(found.verdict, found.levels, _slice(file, 0, 0, HEAD)[1], *_slice(file, place, AROUND, AROUND))
+
+
 def read_again(file: Any, found: Found, state: tuple[int, int]) -> None:
     """The second reading, which gives lines, columns, paths and the `id`s: nothing where the file has changed."""
     places = _places(found)
@@ -221,8 +234,9 @@ def read_again(file: Any, found: Found, state: tuple[int, int]) -> None:
     if found.verdict is not None and found.verdict.place is not None:
         before, after = _slice(file, found.verdict.place, EXCERPT, EXCERPT)
         excerpt = before.rpartition(b"\n")[2], after.partition(b"\n")[0]
+    hint = _hint(file, found)
     if _state(file) == state:
-        found.spots, found.notes, found.excerpt = spots, notes, excerpt
+        found.spots, found.notes, found.excerpt, found.hint = spots, notes, excerpt, hint
 
 
 def read_file(name: bytes, file: Any, asked: Asked, framing: Optional[str]) -> Found:

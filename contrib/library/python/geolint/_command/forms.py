@@ -104,6 +104,8 @@ def lines(found: Found, asked: Asked, colour: bool) -> str:
         text.append(f"{_where(found.name, spot, colour)}: {word}: {it.text}{f' ({said})' if said else ''}\n")
         if not it.kind and spot:
             text.append(_excerpt(found, colour))
+    if found.hint:
+        text.append(f"    hint: {found.hint}\n")
     return "".join(text)
 
 
@@ -151,7 +153,7 @@ def as_json(found: Found, asked: Asked, colour: bool) -> str:
             warnings.append(dict(members, count=it.count))
         else:
             fault = members
-    return _dumped({**head, **fault, "hint": None, "warnings": warnings})
+    return _dumped({**head, **fault, "hint": found.hint, "warnings": warnings})
 
 
 def _in_message(text: str) -> str:

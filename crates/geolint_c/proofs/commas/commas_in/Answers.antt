@@ -1,5 +1,5 @@
 -- A bit for each comma, and how many bits there are.
-use Rattle.std.proofs.Common.{◌≡◌, ◌≤◌, eqb, w8, length, ap, ◌∙◌, arith}
+use Rattle.std.proofs.Common.{◌≡◌, eqb, w8, length, ap, ◌∙◌, arith}
 use Rattle.std.proofs.lemmas.List.Sums.{count_by-le-length}
 use Rattle.std.proofs.lemmas.Simd.{bitmask_splat, ones-mask_l}
 use Rattle.std.specs.Int.RustNames.{count_ones}

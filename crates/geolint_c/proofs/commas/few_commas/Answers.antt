@@ -1,6 +1,5 @@
 -- Block by block, and then the bytes that fill none.
-use Rattle.std.proofs.Common.{◌≡◌, ◌+◌, ◌*◌, ◌<◌, ◌/◌, ◌≤◌, length, take, drop, ap, ◌∙◌, sym, arith}
-use Rattle.gj_rules.specs.FeatureFindings.{commas}
+use Rattle.std.proofs.Common.{◌≡◌, ◌*◌, ◌<◌, ◌/◌, length, drop, ap, arith}
 use Rattle.geolint_c.proofs.CommasOfBlocks.{one_block_more, with_rest}
 use Rattle.geolint_c.proofs.commas.few_commas.Goals as goal
 
