@@ -4,6 +4,7 @@ pub mod ByFeature
 pub mod FeatureEvents
 pub mod FeaturesSoFar
 pub mod EventsPassed
+pub mod CleanFeatures
 pub mod FeaturesSaid
 pub mod FeaturesInTime
 pub mod FeaturesByCommas

@@ -4,6 +4,7 @@ pub mod Faults
 pub mod TextWarnings
 pub mod FeatureFindings
 pub mod FeaturesTold
+pub mod CleanFeature
 pub mod Judged
 pub mod Levels
 pub mod Verdict

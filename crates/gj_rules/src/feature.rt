@@ -21,15 +21,44 @@ pub struct Feature {
     pub warnings: Warnings,
 }
 
+/// An element of that array that is an object in which nothing is found, as most are.
+#[derive(Clone, Copy, Debug, PartialEq, Eq)]
+pub struct CleanFeature {
+    /// How many elements stand before it.
+    pub index: u64,
+    /// Where its first byte stands.
+    pub place: u64,
+    /// Where its closing bracket stands.
+    pub close: u64,
+    /// Where the value of its first member `id` begins.
+    pub id: Option<u64>,
+}
+
 /// What features are told to, in order.
 pub trait FeatureSink {
     /// The features that it was told so far may be these.
     ghost told: { Self → List Feature → Type 0 };
 
     ghost use Rattle.gj_rules.specs.declared.feature.Feature.{Feature};
+    ghost use Rattle.gj_rules.specs.CleanFeature.{feature_of};
 
     fn tell_feature(&mut self, feature: &Feature)
         ensures { (features : List Feature) → told self.old features → told self.new (features ++ feature.now ∷ []) };
+
+    /// Told of a feature in which nothing is found, it was told the same as by `tell_feature`.
+    #[inline(always)]
+    fn tell_clean(&mut self, clean: &CleanFeature)
+        ensures { (features : List Feature) → told self.old features → told self.new (features ++ feature_of clean.now ∷ []) }
+    {
+        self.tell_feature(&Feature {
+            index: clean.index,
+            place: clean.place,
+            close: Some(clean.close),
+            id: clean.id,
+            fault: None,
+            warnings: Warnings::none(),
+        });
+    }
 }
 
 /// A sink that can forget what it was told.

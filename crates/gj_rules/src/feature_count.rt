@@ -1,6 +1,8 @@
 //! Where in the features of a text the next event stands.
-ghost use Rattle.std.specs.Prelude.{◌≡◌, ℕ, suc, ◌<◌, ◌^◌, ◌+◌, ◌-◌};
+ghost use Rattle.std.specs.Prelude.{◌≡◌, ℕ, suc, ◌<◌, ◌^◌, ◌+◌, ◌-◌, IsTrue, Bool, true};
 ghost use Rattle.gj_json.specs.Ignored.{levels_behind};
+ghost use Rattle.gj_json.specs.declared.event.What.{What};
+ghost use Rattle.gj_json.specs.declared.names.Known.{Known};
 
 use gj_json::{Event, Known, What};
 
@@ -164,6 +166,89 @@ impl FeatureCount {
         }
     }
 
+    /// Whether the next event is one of the array of the features, and of no element.
+    #[inline(always)]
+    pub fn is_in_list(&self) -> bool
+        ensures inner { IsTrue result → self.now.inner ≡ 0 }
+        ensures stage { IsTrue result → self.now.stage ≡ Stage.List }
+    {
+        if self.inner > 0 {
+            return false;
+        }
+        match self.stage {
+            Stage::List => true,
+            _ => false,
+        }
+    }
+
+    /// Whether the next event is one of an element, and of no value in it.
+    #[inline(always)]
+    pub fn is_in_element(&self) -> bool
+        ensures inner { IsTrue result → self.now.inner ≡ 0 }
+        ensures stage { IsTrue result → self.now.stage ≡ Stage.Element }
+    {
+        if self.inner > 0 {
+            return false;
+        }
+        match self.stage {
+            Stage::Element => true,
+            _ => false,
+        }
+    }
+
+    /// After the start of an element, where one is due.
+    #[inline(always)]
+    pub fn begin(&mut self, place: u64)
+        ensures { self.new ≡ list_step What.OpenObject place self.old }
+    {
+        self.stage = Stage::Element;
+        self.place = place;
+        self.id = None;
+        self.id_due = false;
+    }
+
+    /// After the end of an element that is open.
+    #[inline(always)]
+    pub fn end(&mut self)
+        ensures { self.old.index < 2 ^ 63 → self.new ≡ element_step What.CloseObject 0 self.old }
+    {
+        self.stage = Stage::List;
+        self.index = self.index.saturating_add(1);
+    }
+
+    /// After a name `id`: in an element it may be that of the first.
+    pub fn name_id(&mut self)
+        ensures { (place : ℕ) (starts : Bool) → self.new ≡ count_at self.old.inner (What.Name Known.Id) place starts self.old }
+    {
+        if self.inner > 0 {
+            return;
+        }
+        match self.stage {
+            Stage::Element => self.id_due = self.id.is_none(),
+            _ => {}
+        }
+    }
+
+    /// Whether the value of the first `id` of an element begins next.
+    #[inline(always)]
+    pub fn is_at_id(&self) -> bool
+        ensures inner { IsTrue result → self.now.inner ≡ 0 }
+        ensures stage { IsTrue result → self.now.stage ≡ Stage.Element }
+        ensures due { IsTrue result → self.now.id_due ≡ true }
+    {
+        self.id_due && self.is_in_element()
+    }
+
+    /// After this value, where it is no object and no array.
+    #[inline(always)]
+    pub fn begin_id(&mut self, place: u64)
+        requires { self.old.id_due ≡ true }
+        ensures { self.new ≡ began place self.old }
+    {
+        self.id = Some(place);
+        self.id_due = false;
+    }
+
     /// Whether an event of this kind asks for more than [`FeatureCount::pass_by`].
     #[inline(always)]
     pub fn concerns(&self, what: &What) -> bool
@@ -191,7 +276,7 @@ impl FeatureCount {
 
     /// Whether a value that is no object and no array is an element, or that of the first `id` of one.
     #[inline(always)]
-    fn is_at_value(&self) -> bool
+    pub fn is_at_value(&self) -> bool
         ensures { result ≡ concerns_list self.now.stage self.now.id_due }
     {
         match self.stage {

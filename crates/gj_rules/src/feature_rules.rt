@@ -1,5 +1,7 @@
 //! Rules that tell each feature as it ends.
-ghost use Rattle.std.specs.Prelude.{◌≡◌, ℕ, ◌<◌, ◌≤◌, ◌^◌, [], ◌∷◌, ◌++◌, List, length};
+ghost use Rattle.std.specs.Prelude.{◌≡◌, ℕ, ◌<◌, ◌≤◌, ◌^◌, [], ◌∷◌, ◌++◌, List, length, false};
+
+mod kinds;
 
 use crate::feature::{FeatureSink, ForgetfulSink};
 use crate::feature_count::FeatureCount;
@@ -25,7 +27,7 @@ impl<S: FeatureSink> FeatureRules<S> {
     ghost use Rattle.gj_json.specs.Tree.{Text, depth};
     ghost use Rattle.gj_rules.specs.Levels.{most_levels};
     ghost use Rattle.gj_rules.specs.Rules.{StandsFor as RulesStandFor};
-    ghost use Rattle.gj_rules.specs.Internal.FeatureSteps.{Stand, features_by};
+    ghost use Rattle.gj_rules.specs.Internal.FeatureSteps.{Stand, features_by, concerned};
 
     /// Before the first event of a text.
     pub fn new(sink: S) -> Self
@@ -60,6 +62,30 @@ impl<S: FeatureSink> FeatureRules<S> {
         ensures { result ≡ self.sink }
     {
         self.sink
+    }
+
+    /// An event of any kind.
+    #[inline(always)]
+    fn tell_any(&mut self, event: Event)
+        ensures { (events : List Event) → Stand (S.told self.old.sink) self.old.rules self.old.count events
+            → Stand (S.told self.new.sink) self.new.rules self.new.count (events ++ event ∷ []) }
+    {
+        if self.count.concerns(&event.what) {
+            self.tell_concerned(event);
+        } else {
+            self.tell_quiet(event);
+        }
+    }
+
+    /// An event that matters to no feature.
+    #[inline(always)]
+    fn tell_quiet(&mut self, event: Event)
+        requires quiet { concerned event.what self.old.count.inner self.old.count.stage self.old.count.id_due ≡ false }
+        ensures { (events : List Event) → Stand (S.told self.old.sink) self.old.rules self.old.count events
+            → Stand (S.told self.new.sink) self.new.rules self.new.count (events ++ event ∷ []) }
+    {
+        self.count.pass_by(&event.what);
+        self.rules.tell(event);
     }
 
     /// An event that begins or ends a feature, or that is of its `id`, or about the array of the features.
@@ -127,13 +153,17 @@ impl<S: FeatureSink> EventSink for FeatureRules<S> {
 
     ghost ignores = { λ all. ignored_of all.rules.skipped all.count.inner };
 
+    // Whoever tells an event mostly knows of which kind it is: then this is one call.
     #[inline(always)]
     fn tell(&mut self, event: Event) {
-        if self.count.concerns(&event.what) {
-            self.tell_concerned(event);
-        } else {
-            self.count.pass_by(&event.what);
-            self.rules.tell(event);
+        match event.what {
+            What::Name(name) => self.tell_name(name, event.place),
+            What::Text(word) => self.tell_text(word, event.place),
+            What::OpenObject => self.tell_open_object(event.place),
+            What::CloseObject => self.tell_close_object(event.place),
+            What::OpenArray => self.tell_open_array(event.place),
+            What::CloseArray => self.tell_close_array(event.place),
+            _ => self.tell_other(event),
         }
     }
 

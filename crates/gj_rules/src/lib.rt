@@ -34,7 +34,7 @@ mod shapes;
 mod text;
 mod verdict;
 
-pub use feature::{Feature, FeatureSink, ForgetfulSink};
+pub use feature::{CleanFeature, Feature, FeatureSink, ForgetfulSink};
 pub use feature_linter::FeatureLinter;
 pub use feature_rules::FeatureRules;
 pub use linter::{Linter, Progress};

@@ -151,6 +151,12 @@ concerned What.CloseObject inner stage due = no_level inner true
 concerned What.CloseArray inner stage due = no_level inner true
 concerned what inner stage due = concerns_list stage due
 
+-- a string or a number
+abbrev pub is_scalar : What → Bool
+is_scalar (What.Text word) = true
+is_scalar (What.Number value) = true
+is_scalar _ = false
+
 -- ---- what an event tells
 
 -- an object has ended, in which this is found

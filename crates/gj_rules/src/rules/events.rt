@@ -45,7 +45,7 @@ impl<const FRAMES: usize> FramedRules<FRAMES> {
 
     /// Whether a few looks show that nothing is found in it.
     #[inline]
-    fn is_top_clean(&self) -> bool
+    pub(super) fn is_top_clean(&self) -> bool
         ensures { IsTrue result → settled (core_of self.now).top ≡ none_found }
     {
         self.frames[self.around as usize].is_clean()
@@ -54,7 +54,7 @@ impl<const FRAMES: usize> FramedRules<FRAMES> {
     /// It closes, and nothing is found in it: then nothing changes in the object around it.
     #[tactic(auto, using(crate::proofs::Objects::WarningsInTurn::with_none))]
     #[inline]
-    fn pop_clean(&mut self)
+    pub(super) fn pop_clean(&mut self)
         ensures rests { is_feeding 0 self.new.mode ≡ false }
         ensures core { core_of self.new ≡ popped (core_of self.old).outer (core_of self.old).top.slots.role none_found (core_of self.old) }
     {

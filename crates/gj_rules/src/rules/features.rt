@@ -1,5 +1,7 @@
 //! What is found in a feature that ends.
-ghost use Rattle.std.specs.Prelude.{◌≡◌};
+ghost use Rattle.std.specs.Prelude.{◌≡◌, ◌++◌, ◌∷◌, [], ℕ, List, IsTrue};
+ghost use Rattle.gj_json.specs.declared.event.Event.{Event};
+ghost use Rattle.gj_json.specs.declared.event.What.TheVariants as W;
 ghost use Rattle.std.specs.Option.{option_to_list};
 ghost use Rattle.gj_rules.specs.Internal.FeatureSteps.{no_feature};
 
@@ -32,6 +34,8 @@ impl<const FRAMES: usize> FramedRules<FRAMES> {
     ghost use Rattle.gj_rules.specs.Internal.FeatureSteps.{starts_at, list_tells, element_tells, tells_at, feature_found};
     ghost use Rattle.gj_rules.specs.Internal.FrameCalls.{settled};
     ghost use Rattle.gj_rules.specs.Internal.RulesState.{core_of};
+    ghost use Rattle.gj_rules.specs.Internal.Summaries.{none_found};
+    ghost use Rattle.gj_rules.specs.Rules.{StandsFor};
 
     /// Whether an array that opens next is that of the first `features` of the text's object, where one opens directly in it.
     pub(crate) fn starts_features(&self) -> bool
@@ -44,6 +48,29 @@ impl<const FRAMES: usize> FramedRules<FRAMES> {
             Mode::Due(Known::Features) => true,
             _ => false,
         }
+    }
+
+    /// Whether an end of an object here is that of the innermost one with a role, in which a few looks show that nothing is found.
+    #[inline]
+    pub(crate) fn is_clean_at_names(&self) -> bool
+        ensures skipped { IsTrue result → self.now.skipped ≡ 0 }
+        ensures mode { IsTrue result → self.now.mode ≡ Mode.Names }
+        ensures clean { IsTrue result → settled (core_of self.now).top ≡ none_found }
+    {
+        if !self.is_at_names() {
+            return false;
+        }
+        self.is_top_clean()
+    }
+
+    /// The end of such an object.
+    pub(crate) fn close_clean(&mut self)
+        requires skipped { self.old.skipped ≡ 0 }
+        requires mode { self.old.mode ≡ Mode.Names }
+        requires clean { settled (core_of self.old).top ≡ none_found }
+        ensures { (place : ℕ) (events : List Event) → StandsFor self.old events → StandsFor self.new (events ++ record { place = place; what = W.CloseObject } ∷ []) }
+    {
+        self.pop_clean();
     }
 
     /// The feature whose object closes here.

@@ -24,7 +24,7 @@ impl<const FRAMES: usize> FramedRules<FRAMES> {
 
     /// Whether a name or the end of an object with a role is due.
     #[inline(always)]
-    fn is_at_names(&self) -> bool
+    pub(super) fn is_at_names(&self) -> bool
         ensures skipped { IsTrue result → self.now.skipped ≡ 0 }
         ensures mode { IsTrue result → self.now.mode ≡ Mode.Names }
     {

@@ -1,19 +1,41 @@
--- An event that concerns no feature changes the levels alone, and tells none.
-use Rattle.std.proofs.Common.{None, sym, subst, ◌∙◌, append-nil}
-use Rattle.gj_rules.specs.Internal.FeatureSteps.{starts_at}
-use Rattle.gj_rules.specs.Internal.RulesState.{core_of}
-use Rattle.gj_rules.proofs.Features.EventsPassed.{counts_quiet, tells_quiet}
-use Rattle.gj_rules.proofs.Features.FeaturesSoFar.{told_more}
+-- An event by its kind.
+use Rattle.std.proofs.Common.{◌∷◌, ◌++◌, [], sym, subst}
+use Rattle.gj_json.specs.declared.event.What.{What}
+use Rattle.gj_rules.specs.Internal.FeatureSteps.{Stand}
 use Rattle.gj_rules.proofs.feature_rules.FeatureRulesEventSink.tell.Goals as goal
 
-pub returns-else-concerns : goal.returns-else-concerns
-returns-else-concerns g c = λ events h.
-    let old = c.args.self.now in
-    let event = c.args.event in
-    let none = sym c.concerns.ensures ∙ c.if-concerns.false in (
-      c.tell.ensures events h.0,
-      told_more (g.S.FeatureSink.told old.sink) (g.S.FeatureSink.told old.sink) old.rules old.count c.pass_by.new.self event events None
-          (sym (tells_quiet event.what event.place (core_of old.rules).top old.count none))
-          (λ i j. c.pass_by.ensures i ∙ sym (counts_quiet event.what event.place (starts_at old.rules.skipped old.rules.mode) old.count none))
-          (λ fs k. subst (g.S.FeatureSink.told old.sink) (sym (append-nil fs)) k) h,
-    )
+pub returns-in-Name : goal.returns-in-Name
+returns-in-Name g c = λ events h.
+    let new = c.tell_name.new.self in
+    subst (λ (what : What). Stand (g.S.FeatureSink.told new.sink) new.rules new.count (events ++ record { place = c.args.event.place; what = what } ∷ [])) (sym c.in-Name.is)
+    (c.tell_name.ensures events h)
+
+pub returns-in-Text : goal.returns-in-Text
+returns-in-Text g c = λ events h.
+    let new = c.tell_text.new.self in
+    subst (λ (what : What). Stand (g.S.FeatureSink.told new.sink) new.rules new.count (events ++ record { place = c.args.event.place; what = what } ∷ [])) (sym c.in-Text.is)
+    (c.tell_text.ensures events h)
+
+pub returns-in-OpenObject : goal.returns-in-OpenObject
+returns-in-OpenObject g c = λ events h.
+    let new = c.tell_open_object.new.self in
+    subst (λ (what : What). Stand (g.S.FeatureSink.told new.sink) new.rules new.count (events ++ record { place = c.args.event.place; what = what } ∷ [])) (sym c.in-OpenObject.is)
+    (c.tell_open_object.ensures events h)
+
+pub returns-in-CloseObject : goal.returns-in-CloseObject
+returns-in-CloseObject g c = λ events h.
+    let new = c.tell_close_object.new.self in
+    subst (λ (what : What). Stand (g.S.FeatureSink.told new.sink) new.rules new.count (events ++ record { place = c.args.event.place; what = what } ∷ [])) (sym c.in-CloseObject.is)
+    (c.tell_close_object.ensures events h)
+
+pub returns-in-OpenArray : goal.returns-in-OpenArray
+returns-in-OpenArray g c = λ events h.
+    let new = c.tell_open_array.new.self in
+    subst (λ (what : What). Stand (g.S.FeatureSink.told new.sink) new.rules new.count (events ++ record { place = c.args.event.place; what = what } ∷ [])) (sym c.in-OpenArray.is)
+    (c.tell_open_array.ensures events h)
+
+pub returns-in-CloseArray : goal.returns-in-CloseArray
+returns-in-CloseArray g c = λ events h.
+    let new = c.tell_close_array.new.self in
+    subst (λ (what : What). Stand (g.S.FeatureSink.told new.sink) new.rules new.count (events ++ record { place = c.args.event.place; what = what } ∷ [])) (sym c.in-CloseArray.is)
+    (c.tell_close_array.ensures events h)

@@ -1,0 +1,19 @@
+-- An event that concerns no feature changes the levels alone, and tells none.
+use Rattle.std.proofs.Common.{None, sym, subst, ◌∙◌, append-nil}
+use Rattle.gj_rules.specs.Internal.FeatureSteps.{starts_at}
+use Rattle.gj_rules.specs.Internal.RulesState.{core_of}
+use Rattle.gj_rules.proofs.Features.EventsPassed.{counts_quiet, tells_quiet}
+use Rattle.gj_rules.proofs.Features.FeaturesSoFar.{told_more}
+use Rattle.gj_rules.proofs.feature_rules.FeatureRules.tell_quiet.Goals as goal
+
+pub returns : goal.returns
+returns g c = λ events h.
+    let old = c.args.self.now in
+    let event = c.args.event in
+    let none = c.requires.quiet in (
+      c.tell.ensures events h.0,
+      told_more (g.S.FeatureSink.told old.sink) (g.S.FeatureSink.told old.sink) old.rules old.count c.pass_by.new.self event events None
+          (sym (tells_quiet event.what event.place (core_of old.rules).top old.count none))
+          (λ i j. c.pass_by.ensures i ∙ sym (counts_quiet event.what event.place (starts_at old.rules.skipped old.rules.mode) old.count none))
+          (λ fs k. subst (g.S.FeatureSink.told old.sink) (sym (append-nil fs)) k) h,
+    )
