@@ -12,15 +12,7 @@ import subprocess
 import sys
 import tempfile
 
-failed = compared = 0
-
-
-def wants(name, got, wanted):
-    global failed, compared
-    compared += 1
-    if got != wanted:
-        failed += 1
-        print(f"FAILED: {name}:\n  {got!r}\n  wanted\n  {wanted!r}")
+from checks import ended, wants
 
 
 def ran(program, words, given=b""):
@@ -168,5 +160,4 @@ with tempfile.TemporaryDirectory() as room:
         compare(words)
     lists(room)
     alone()
-print(f"{compared} compared, {failed} wrong")
-sys.exit(failed != 0)
+sys.exit(ended())

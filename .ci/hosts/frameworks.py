@@ -17,6 +17,7 @@ from wsgiref.simple_server import make_server
 import django
 import fastapi
 import uvicorn
+from checks import ended, wants
 from django import forms
 from django.conf import settings
 from django.core.handlers.wsgi import WSGIHandler
@@ -34,14 +35,6 @@ from geolint.django import GeoJSONUploadHandler, GeoJSONValidator
 from geolint.starlette import GeoJSON, GeoJSONBody, NotGeoJSON, answer
 
 MOST = 300_000
-failed = 0
-
-
-def wants(name, got, wanted):
-    global failed
-    if got != wanted:
-        failed += 1
-        print(f"FAILED: {name}: {got!r}, wanted {wanted!r}")
 
 
 def curl(url, *words, given=b""):
@@ -211,4 +204,4 @@ if __name__ == "__main__":
         by_django(sys.argv[1:])
         of_fields()
         by_asgi(sys.argv[1:])
-    sys.exit(failed != 0 or len(sys.argv) < 3)
+    sys.exit(ended() or len(sys.argv) < 3)

@@ -23,17 +23,10 @@ import sys
 import tempfile
 
 import geolint
+from checks import ended, wants
 from table import text_of
 
-failed = 0
 is_short = "--short" in sys.argv
-
-
-def wants(name, got, wanted):
-    global failed
-    if got != wanted:
-        failed += 1
-        print(f"FAILED: {name}: {got}, wanted {wanted}")
 
 
 def plain(verdict):
@@ -300,4 +293,4 @@ for i in range(len(ring)):
     for linter in many:
         linter.feed(ring[i : i + 1])
 wants("many at once", {linter.finish() for linter in many}, {verdict})
-sys.exit(failed != 0)
+sys.exit(ended())

@@ -22,18 +22,11 @@ import tempfile
 import time
 
 import geolint
+from checks import ended, wants
 
 SERVICE = os.path.join(os.path.dirname(os.path.abspath(__file__)), "../../examples/service")
 MOST, WAIT = 300_000, 2
 POINT = b'{"type":"Point","coordinates":[1,2]}'
-failed = 0
-
-
-def wants(name, got, wanted):
-    global failed
-    if got != wanted:
-        failed += 1
-        print(f"FAILED: {name}: {got!r}, wanted {wanted!r}")
 
 
 def curl(*words, given=b"", accept="application/json"):
@@ -334,4 +327,4 @@ with tempfile.TemporaryDirectory() as room:
             server.wait(10)
         except subprocess.TimeoutExpired:
             server.kill()
-sys.exit(failed != 0)
+sys.exit(ended())

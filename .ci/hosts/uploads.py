@@ -10,15 +10,7 @@ import threading
 
 import geolint
 import upload
-
-failed = 0
-
-
-def wants(name, got, wanted):
-    global failed
-    if got != wanted:
-        failed += 1
-        print(f"FAILED: {name}: {got!r}, wanted {wanted!r}")
+from checks import ended, wants
 
 
 def curl(*words, given=b""):
@@ -155,4 +147,4 @@ with tempfile.TemporaryDirectory() as folder:
     the_limit()
     server.shutdown()
     server.server_close()
-sys.exit(failed != 0 or len(sys.argv) < 3)
+sys.exit(ended() or len(sys.argv) < 3)
