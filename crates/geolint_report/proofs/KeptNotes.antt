@@ -1,5 +1,5 @@
 -- Lemmas on the notes that are kept.
-use Rattle.std.proofs.Common.{arith, refl, ◌≡◌, ◌<◌, ◌≤◌, ℕ, ◌+◌, ◌++◌, ◌∷◌, [], List, Bool, ap, sym, ◌∙◌, subst, length, take, append-nil, length-append, get_or}
+use Rattle.std.proofs.Common.{arith, refl, true, false, ◌≡◌, ◌<◌, ◌≤◌, ℕ, ◌+◌, ◌++◌, ◌∷◌, [], List, Bool, ap, sym, ◌∙◌, subst, length, take, append-nil, length-append, get_or}
 use Rattle.std.proofs.lemmas.List.{length-take, take-append-le, take_all, take_more}
 use Rattle.std.proofs.lemmas.List.Concat.{flat_map-append}
 use Rattle.std.specs.Io.Iter.{u64_saturate}
@@ -10,6 +10,9 @@ use Rattle.gj_json.specs.Limits.{Allowed}
 use Rattle.gj_json.specs.declared.fault.JsonFault.{JsonFault}
 use Rattle.gj_rules.specs.declared.verdict.Verdict.{Verdict}
 use Rattle.gj_rules.specs.declared.verdict.Verdict.TheVariants.{Valid, Broken, NotJson}
+use Rattle.gj_coords.specs.Internal.KeptWarnings.{no_warnings}
+use Rattle.gj_rules.specs.CleanFeature.{feature_of}
+use Rattle.gj_rules.specs.declared.feature.CleanFeature.{CleanFeature}
 use Rattle.gj_rules.specs.declared.feature.Feature.{Feature}
 use Rattle.gj_rules.specs.declared.records.framing.Framing.{Framing}
 use Rattle.geolint_report.specs.declared.judge.Finding.{Finding}
@@ -52,6 +55,18 @@ KeepsNotes-more old new features feature asked adds keeps =
     let all = notes_of old.asked.with_warnings features in
     subst (λ (a : Asked). Keeps new (notes_of a.with_warnings (features ++ feature ∷ []))) (sym asked)
     (subst (λ (ys : List Note). Keeps new ys) (sym (notes_of-more old.asked.with_warnings features feature)) (adds all keeps))
+
+-- ---- a feature in which nothing is found
+
+no_notes : (with_warnings : Bool) (clean : CleanFeature) → feature_notes with_warnings (feature_of clean) ≡ []
+unfolding no_warnings
+no_notes true clean = refl
+no_notes false clean = refl
+
+pub KeepsNotes-clean : (listing : Listing) (features : List Feature) (clean : CleanFeature) → KeepsNotes listing features → KeepsNotes listing (features ++ feature_of clean ∷ [])
+KeepsNotes-clean listing features clean keeps =
+    KeepsNotes-more listing listing features (feature_of clean) refl
+    (λ all kept. subst (λ (ys : List Note). Keeps listing (all ++ ys)) (sym (no_notes listing.asked.with_warnings clean)) (subst (λ (ys : List Note). Keeps listing ys) (sym (append-nil all)) kept)) keeps
 
 -- ---- when the input has ended
 

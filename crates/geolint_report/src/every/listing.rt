@@ -9,7 +9,7 @@ use crate::report::{Told, warning};
 use crate::texts::Code;
 use gj_coords::{Fault, KINDS, Kind, Warnings};
 use gj_json::JsonFault;
-use gj_rules::{Feature, FeatureSink, Record, RecordSink, Verdict};
+use gj_rules::{CleanFeature, Feature, FeatureSink, Record, RecordSink, Verdict};
 use std::alloc::{AllocError, Global};
 
 /// A part of a file that is validated by itself.
@@ -261,6 +261,10 @@ impl FeatureSink for Listing {
             None => self.add_warnings(item, &feature.warnings),
         }
     }
+
+    // Nothing is noted of it, as of most.
+    #[inline(always)]
+    fn tell_clean(&mut self, _clean: &CleanFeature) {}
 }
 
 impl RecordSink for Listing {
