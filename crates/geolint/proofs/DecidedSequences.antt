@@ -1,7 +1,6 @@
 -- Lemmas on a sequence that a byte has decided.
 use Rattle.std.proofs.Common.{◌≡◌, ℕ, Bool, true, false, List, [], ◌++◌, ap, sym, ◌∙◌, subst, append-nil}
 use Rattle.std.specs.Prelude.{Option, ◌↔◌}
-use Rattle.std.specs.Io.KnownBytes.{Consumes}
 use Rattle.gj_json.specs.Limits.{Allowed}
 use Rattle.gj_json.specs.declared.fault.Cause.TheVariants.{Syntax}
 use Rattle.gj_coords.specs.Warnings.{Warning}
@@ -14,8 +13,12 @@ use Rattle.gj_rules.specs.Sequence.{SequenceRecord, records_of, is_stray, not_js
 use Rattle.gj_rules.specs.SequenceJudgement.{IsSequenceJudgement}
 use Rattle.gj_rules.specs.SequenceStands.{is_valid_sequence, IsSettled}
 use Rattle.gj_rules.specs.Verdict.{Judgement, valid, broken, refused, Says}
+use Rattle.geolint_report.specs.Fed.{IsDecidedSequence}
+use Rattle.geolint_report.specs.ReadingLoop.{Ends}
+use Rattle.geolint_report.specs.declared.reading_loop.Stage.{Stage}
+use Rattle.geolint_report.specs.declared.reading_loop.Stage.TheVariants.{Open, Decided}
 use Rattle.geolint.specs.Sequence.{JudgesSequence}
-use Rattle.geolint.proofs.ReadVerdicts.{Judges-lasting}
+use Rattle.geolint.proofs.ReadVerdicts.{Judges-end, Judges-lasting}
 
 -- each sequence has one verdict, which says what it is
 abbrev pub HasOneVerdict : Type 0
@@ -68,17 +71,24 @@ failing_alike limits bytes (SeqVerdict.Record number verdict) (failing one judge
 abbrev pub SaysSequence : Allowed → Option (List ℕ) → Option (List ℕ) → SeqVerdict → Type 0
 SaysSequence limits old new verdict = (judgement : SequenceJudgement) × SequenceSays verdict judgement × JudgesSequence limits old new judgement
 
-pub Judges-settled : HasOneVerdict → IsSaid → (here limits : Allowed) (old new : Option (List ℕ)) (read : List ℕ) (verdict : SeqVerdict)
-    → Consumes old new read → here ≡ limits → (place : ℕ) × (settled : SeqVerdict) × IsSettled here read place settled
-    → IsSequenceVerdict here read verdict → SaysSequence limits old new verdict
-Judges-settled one said here limits old new read verdict took same (place, settled, h) is =
-    let (alike, lasts) = settled_lasts one here read place settled verdict h is in
+sequence-here : HasOneVerdict → IsSaid → (Stands : List ℕ → Type 0) (limits : Allowed) (old new : Option (List ℕ)) (stage : Stage) (verdict : SeqVerdict)
+    → Ends Stands (IsDecidedSequence limits) old new stage → ((read : List ℕ) → Stands read → IsSequenceVerdict limits read verdict) → SaysSequence limits old new verdict
+sequence-here one said Stands limits old new Open verdict (read, took, stands, ended) is =
+    let (judgement, is_it, says) = (said limits read verdict).0 (is read stands) in
+    (judgement, says, Judges-end IsSequenceJudgement limits old new read judgement took ended is_it)
+sequence-here one said Stands limits old new Decided verdict (read, took, stands, (place, settled, h)) is =
+    let (alike, lasts) = settled_lasts one limits read place settled verdict h (is read stands) in
     let fails = ap is_valid_sequence (sym alike) ∙ h.fails in
-    let (judgement, is_it, says) = (said here read verdict).0 is in
-    let all : (more : List ℕ) → IsSequenceJudgement here (read ++ more) judgement = (λ more.
-    let (other, is_other, says_other) = (said here (read ++ more) verdict).0 (lasts more) in
-    subst (IsSequenceJudgement here (read ++ more)) (failing_alike here (read ++ more) verdict other judgement (lasts more) fails says_other says) is_other) in
-    subst (λ (l : Allowed). SaysSequence l old new verdict) same (judgement, says, Judges-lasting IsSequenceJudgement here old new read judgement took all)
+    let (judgement, is_it, says) = (said limits read verdict).0 (is read stands) in
+    let all : (more : List ℕ) → IsSequenceJudgement limits (read ++ more) judgement = (λ more.
+    let (other, is_other, says_other) = (said limits (read ++ more) verdict).0 (lasts more) in
+    subst (IsSequenceJudgement limits (read ++ more)) (failing_alike limits (read ++ more) verdict other judgement (lasts more) fails says_other says) is_other) in
+    (judgement, says, Judges-lasting IsSequenceJudgement limits old new read judgement took all)
+
+pub sequence-read : HasOneVerdict → IsSaid → (Stands : List ℕ → Type 0) (here limits : Allowed) → here ≡ limits → (old new : Option (List ℕ)) (stage : Stage) (verdict : SeqVerdict)
+    → Ends Stands (IsDecidedSequence here) old new stage → ((read : List ℕ) → Stands read → IsSequenceVerdict here read verdict) → SaysSequence limits old new verdict
+sequence-read one said Stands here limits same old new stage verdict ends is =
+    subst (λ (l : Allowed). SaysSequence l old new verdict) same (sequence-here one said Stands here old new stage verdict ends is)
 
 -- what is right for each list that the warnings of a valid sequence stand for
 pub for_all_valid : (P : SequenceJudgement → Type 0) (verdict : SeqVerdict) (count : ℕ) (told : Warnings) → verdict ≡ SeqVerdict.Valid count told

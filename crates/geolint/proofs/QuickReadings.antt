@@ -2,8 +2,6 @@
 use Rattle.std.proofs.Common.{◌≡◌, ℕ, List, ◌++◌, Option, Some, None, refl, ap, sym, ◌∙◌, subst, append-nil}
 use Rattle.std.specs.Io.KnownBytes.{Consumes, IsAtEnd}
 use Rattle.gj_json.specs.Limits.{Allowed}
-use Rattle.gj_json.specs.Refusal.{IsRefusal}
-use Rattle.gj_json.specs.declared.fault.JsonFault.{JsonFault}
 use Rattle.gj_coords.specs.Internal.KeptWarnings.{warnings_of}
 use Rattle.gj_coords.specs.Warnings.{Warning}
 use Rattle.gj_coords.specs.WarningsStand.{StandsFor as WarningsStandFor}
@@ -12,11 +10,11 @@ use Rattle.gj_rules.specs.declared.verdict.Verdict.{Verdict}
 use Rattle.gj_rules.specs.declared.verdict.Verdict.TheVariants.{Valid, Broken, NotJson}
 use Rattle.gj_rules.specs.TextWarnings.{text_warnings}
 use Rattle.gj_rules.specs.Verdict.{valid, IsJudgement, IsValidWith, IsVerdict, NeverValid}
-use Rattle.geolint.specs.Quick.{JudgesQuickly, SaysValid, valid_in}
-
--- each input has one verdict
-abbrev pub HasOne : Type 0
-HasOne = (limits : Allowed) (bytes : List ℕ) (first second : Verdict) → IsVerdict limits bytes first → IsVerdict limits bytes second → first ≡ second
+use Rattle.geolint_report.specs.Judged.{valid_in}
+use Rattle.geolint_report.specs.ReadingLoop.{Ends}
+use Rattle.geolint_report.specs.declared.reading_loop.Stage.TheVariants.{Open, Decided}
+use Rattle.geolint.specs.Quick.{JudgesQuickly, SaysValid}
+use Rattle.geolint.proofs.ReadVerdicts.{HasOne}
 
 -- what a `Warnings` tells of the list is told by the verdict
 told_valid : (limits : Allowed) (bytes : List ℕ) (warnings : List Warning) → IsJudgement limits bytes (valid warnings) → IsVerdict limits bytes (Valid (warnings_of warnings))
@@ -41,7 +39,7 @@ abbrev pub QuicklySays : Allowed → Option (List ℕ) → Option (List ℕ) →
 QuicklySays limits old new told = (warnings : Option (List Warning)) × SaysValid told warnings × JudgesQuickly limits old new warnings
 
 -- the reader has come to its end
-pub quick-end : HasOne → (limits : Allowed) (old new : Option (List ℕ)) (read : List ℕ) (verdict : Verdict)
+quick-end : HasOne → (limits : Allowed) (old new : Option (List ℕ)) (read : List ℕ) (verdict : Verdict)
     → Consumes old new read → IsAtEnd new → IsVerdict limits read verdict → QuicklySays limits old new (valid_in verdict)
 quick-end one limits old new read (Valid told) took ended is = (Some (text_warnings is.0), is.3, go old new took ended)
   where
@@ -64,15 +62,16 @@ never_quick limits (Some all) (Some rest) read took never =
     in_any : (warnings : List Warning) → IsJudgement limits (read ++ rest) (valid warnings) → IsValidWith limits (read ++ rest) (λ all. Unit {0})
     in_any warnings is = (is.0, is.1, is.2, tt)
 
-pub quick-lasting : (limits : Allowed) (old new : Option (List ℕ)) (read : List ℕ) → Consumes old new read → NeverValid limits read → QuicklySays limits old new None
+quick-lasting : (limits : Allowed) (old new : Option (List ℕ)) (read : List ℕ) → Consumes old new read → NeverValid limits read → QuicklySays limits old new None
 quick-lasting limits old new read took never = (None, tt, never_quick limits old new read took never)
 
--- what is refused
-pub refused_never : HasOne → (here limits : Allowed) (bytes : List ℕ) (fault : JsonFault) → here ≡ limits → ((more : List ℕ) → IsRefusal here (bytes ++ more) fault) → NeverValid limits bytes
-refused_never one here limits bytes fault same refused more is =
-    let told : Warnings = warnings_of (text_warnings is.0) in
-    let e : NotJson fault ≡ Valid told = one limits (bytes ++ more) (NotJson fault) (Valid told) (subst (λ (l : Allowed). IsRefusal l (bytes ++ more) fault) same (refused more)) (is.0, is.1, is.2, refl) in
-    cc
+pub quick-open : HasOne → (Stands : List ℕ → Type 0) (here limits : Allowed) → here ≡ limits → (old new : Option (List ℕ)) (verdict : Verdict) → Ends Stands (NeverValid here) old new Open
+    → ((read : List ℕ) → Stands read → IsVerdict here read verdict) → QuicklySays limits old new (valid_in verdict)
+quick-open one Stands here limits same old new verdict (read, took, stands, ended) is =
+    subst (λ (l : Allowed). QuicklySays l old new (valid_in verdict)) same (quick-end one here old new read verdict took ended (is read stands))
+
+pub quick-decided : (Stands : List ℕ → Type 0) (here limits : Allowed) → here ≡ limits → (old new : Option (List ℕ)) → Ends Stands (NeverValid here) old new Decided → QuicklySays limits old new None
+quick-decided Stands here limits same old new (read, took, stands, never) = quick-lasting limits old new read took (subst (λ (l : Allowed). NeverValid l read) same never)
 
 -- what is right for each list that the warnings of a valid text stand for
 pub for_some : (P : Option (List Warning) → Type 0) (answer : Option Warnings) (told : Warnings) → answer ≡ Some told

@@ -1,16 +1,21 @@
 -- Lemmas on the verdict of what was read.
-use Rattle.std.proofs.Common.{inl, inr, arith, ◌+◌, ◌-◌, ◌<◌, ◌≤◌, ◌^◌, ◌≡◌, ℕ, List, [], ◌++◌, Some, None, take, length, ap, sym, ◌∙◌, subst, append-nil}
-use Rattle.std.specs.Prelude.{Option, ◌⊎◌}
+use Rattle.std.proofs.Common.{inl, inr, arith, refl, ◌+◌, ◌-◌, ◌<◌, ◌^◌, ◌≡◌, ℕ, List, [], ◌++◌, Some, None, ap, sym, ◌∙◌, subst, append-nil}
+use Rattle.std.specs.Prelude.{Option}
 use Rattle.std.specs.Io.Iter.{u64_saturate}
 use Rattle.std.proofs.Math.Nat.{min-eq_left, min-eq_right}
 use Rattle.std.proofs.lemmas.Bool.{cases_lt}
 use Rattle.std.specs.Io.KnownBytes.{Consumes, IsAtEnd}
-use Rattle.std.proofs.KnownBytes.{Consumes-trans}
 use Rattle.gj_json.specs.Limits.{Allowed}
 use Rattle.gj_json.specs.Refusal.{IsRefusal}
-use Rattle.gj_json.specs.declared.fault.JsonFault.{JsonFault}
-use Rattle.gj_rules.specs.Verdict.{refused, IsJudgement}
-use Rattle.geolint.specs.Judged.{JudgesBy, StopsBy}
+use Rattle.gj_rules.specs.declared.verdict.Verdict.{Verdict}
+use Rattle.gj_rules.specs.declared.verdict.Verdict.TheVariants.{NotJson}
+use Rattle.gj_rules.specs.Internal.JudgementLaws.{said}
+use Rattle.gj_rules.specs.Verdict.{Judgement, refused, IsJudgement, IsVerdict, Says}
+use Rattle.geolint_report.specs.Fed.{IsRefused}
+use Rattle.geolint_report.specs.ReadingLoop.{Ends}
+use Rattle.geolint_report.specs.declared.reading_loop.Stage.{Stage}
+use Rattle.geolint_report.specs.declared.reading_loop.Stage.TheVariants.{Open, Decided}
+use Rattle.geolint.specs.Judged.{JudgesBy, JudgesRead}
 
 -- the reader has come to its end
 pub Judges-end : {V : Type 0} (Is : Allowed → List ℕ → V → Type 0) (limits : Allowed) (old new : Option (List ℕ)) (read : List ℕ) (verdict : V)
@@ -30,15 +35,31 @@ Judges-lasting Is limits (Some all) (Some rest) read verdict took lasts =
     let here : Is limits read verdict = subst (λ (bytes : List ℕ). Is limits bytes verdict) (append-nil read) (lasts []) in
     (read, took, here, (subst (λ (bytes : List ℕ). Is limits bytes verdict) (sym took) (lasts rest), λ more_is_left. lasts))
 
--- a read of 0 bytes
-pub Consumes-none : (a b c : Option (List ℕ)) (read piece : List ℕ) (n : ℕ) → n ≡ 0 → Consumes a b read → Consumes b c (take n piece) → Consumes a c read
-Consumes-none a b c read piece n none first second =
-    let same = subst (λ (k : ℕ). Consumes b c (take k piece)) none second in
-    subst (Consumes a c) (append-nil read) (Consumes-trans a b c read [] first same)
+-- ---- a text
 
-pub IsJudgement-of_refusal : (here limits : Allowed) (bytes : List ℕ) (fault : JsonFault) → here ≡ limits
-    → ((more : List ℕ) → IsRefusal here (bytes ++ more) fault) → (more : List ℕ) → IsJudgement limits (bytes ++ more) (refused fault)
-IsJudgement-of_refusal here limits bytes fault same is more = subst (λ (l : Allowed). IsRefusal l (bytes ++ more) fault) same (is more)
+-- each input has one verdict
+abbrev pub HasOne : Type 0
+HasOne = (limits : Allowed) (bytes : List ℕ) (first second : Verdict) → IsVerdict limits bytes first → IsVerdict limits bytes second → first ≡ second
+
+abbrev pub SaysRead : Allowed → Option (List ℕ) → Option (List ℕ) → Verdict → Type 0
+SaysRead limits old new verdict = (judgement : Judgement) × Says verdict judgement × JudgesRead limits old new judgement
+
+text-here : HasOne → (Stands : List ℕ → Type 0) (limits : Allowed) (old new : Option (List ℕ)) (stage : Stage) (verdict : Verdict) → Ends Stands (IsRefused limits) old new stage
+    → ((read : List ℕ) → Stands read → IsVerdict limits read verdict) → SaysRead limits old new verdict
+text-here one Stands limits old new Open verdict (read, took, stands, ended) is =
+    let (judgement, is_it, says) = said limits read verdict (is read stands) in
+    (judgement, says, Judges-end IsJudgement limits old new read judgement took ended is_it)
+text-here one Stands limits old new Decided verdict (read, took, stands, (fault, lasts)) is =
+    let here : IsVerdict limits read (NotJson fault) = subst (λ (bytes : List ℕ). IsRefusal limits bytes fault) (append-nil read) (lasts []) in
+    let same : NotJson fault ≡ verdict = one limits read (NotJson fault) verdict here (is read stands) in
+    (refused fault, subst (λ (v : Verdict). Says v (refused fault)) same refl, Judges-lasting IsJudgement limits old new read (refused fault) took lasts)
+
+pub text-read : HasOne → (Stands : List ℕ → Type 0) (here limits : Allowed) → here ≡ limits → (old new : Option (List ℕ)) (stage : Stage) (verdict : Verdict)
+    → Ends Stands (IsRefused here) old new stage → ((read : List ℕ) → Stands read → IsVerdict here read verdict) → SaysRead limits old new verdict
+text-read one Stands here limits same old new stage verdict ends is =
+    subst (λ (l : Allowed). SaysRead l old new verdict) same (text-here one Stands here old new stage verdict ends is)
+
+-- ---- counts
 
 -- a count of bytes that stops at the greatest `u64`, one read later
 pub given_more : (begin here there offset count : ℕ) → there ≡ u64_saturate (here + count) → (here < 2 ^ 64 - 1 → here ≡ begin + offset)
@@ -53,22 +74,3 @@ given_more begin here there offset count grown before below =
           let stopped : there ≡ 2 ^ 64 - 1 = grown ∙ min-eq_right over in
           absurd (omega (arith, stopped, below))
     ]
-
--- a count of reads, one read later
-pub one_read : (begin here there offset : ℕ) (read : List ℕ) → length read ≡ offset → there ≡ u64_saturate (here + 1) → here ≤ begin + offset → there ≤ begin + (length read + 1)
-one_read begin here there offset read count grown before =
-    elim (cases_lt (here + 1) (2 ^ 64 - 1)) [
-      | inl within ↦
-          let grown_to : there ≡ here + 1 = grown ∙ min-eq_left (omega (arith, within)) in
-          omega (arith, grown_to, before, count)
-      | inr over ↦
-          let stopped : there ≡ 2 ^ 64 - 1 = grown ∙ min-eq_right over in
-          omega (arith, stopped, over, before, count)
-    ]
-
--- the last read gave these bytes, or none
-pub stops : (ShowNone : Allowed → List ℕ → Type 0) (limits : Allowed) (old new : Option (List ℕ)) (before last : List ℕ) (reads now_read : ℕ) → Consumes old new (before ++ last)
-    → (before ≡ []) ⊎ ShowNone limits before → now_read ≤ reads + (length before + 1) → length last ≤ 8192 → StopsBy ShowNone limits old new reads now_read
-stops ShowNone limits None new before last reads now_read took clean few short = (before, last, took, tt)
-stops ShowNone limits (Some all) None before last reads now_read took clean few short = absurd took
-stops ShowNone limits (Some all) (Some rest) before last reads now_read took clean few short = (before, last, took, (clean, few, short))

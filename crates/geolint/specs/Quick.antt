@@ -1,15 +1,12 @@
 -- What a run does that asks only whether an input is valid: nothing is said of an input that is not but that it is not.
-use Rattle.std.specs.Prelude.{◌≡◌, ℕ, ◌≤◌, Bool, List, length, Option, Some, None, IfSome, ⊤, Result, Ok, Err}
+use Rattle.std.specs.Prelude.{◌≡◌, ℕ, Bool, List, length, Option, Some, None, IfSome, ⊤, Result, Ok, Err}
 use Rattle.std.specs.Io.KnownBytes.{Appends, Consumes, IsAtEnd, Keeps}
 use Rattle.gj_json.specs.Limits.{Allowed}
-use Rattle.gj_json.specs.Text.{IsViableWithin}
 use Rattle.gj_coords.specs.Warnings.{Warning}
 use Rattle.gj_coords.specs.WarningsStand.{StandsFor as WarningsStandFor}
 use Rattle.gj_coords.specs.declared.warnings.Warnings.{Warnings}
-use Rattle.gj_rules.specs.declared.verdict.Verdict.{Verdict}
-use Rattle.gj_rules.specs.declared.verdict.Verdict.TheVariants.{Valid}
 use Rattle.gj_rules.specs.Verdict.{valid, IsJudgement, NeverValid}
-use Rattle.gj_rules.specs.Doomed.{BeginNoGeoJson}
+use Rattle.geolint_report.specs.Fed.{ShowNoFault}
 use Rattle.geolint.specs.declared.fault.RunFault.{RunFault}
 use Rattle.geolint.specs.declared.fault.RunFault.TheVariants.{Read, Write}
 use Rattle.geolint.specs.declared.options.Options.{Options}
@@ -21,11 +18,6 @@ use Rattle.geolint.specs.Run.{outcome_of}
 use Rattle.geolint.specs.Written.{IsFrontOut}
 
 -- ---- the reading
-
--- what is kept of a verdict: of a valid text its warnings
-abbrev pub valid_in : Verdict → Option Warnings
-valid_in (Valid warnings) = Some warnings
-valid_in _ = None
 
 -- they are those of this list, or there are none on either side
 abbrev pub SaysValid : Option Warnings → Option (List Warning) → Type 0
@@ -43,11 +35,7 @@ JudgesQuickly limits had left None =
 
 -- ---- its end
 
--- nothing in these bytes shows that the input is not valid: neither a refusal nor what the members of the text's object are
-abbrev pub ShowNoFault : Allowed → List ℕ → Type 0
-ShowNoFault limits bytes = IsViableWithin limits.depth bytes × (length bytes ≤ limits.bytes) × (BeginNoGeoJson limits.depth bytes → ⊥)
-
--- no read follows one whose bytes show it
+-- no read follows one whose bytes show that the input is not valid
 abbrev pub StopsAtOnce : Allowed → (had left : Option (List ℕ)) → (reads now_read : ℕ) → Type 0
 StopsAtOnce = StopsBy ShowNoFault
 

@@ -10,7 +10,7 @@ use Rattle.geolint.specs.declared.options.Options.{Options}
 use Rattle.geolint.specs.declared.options.Outcome.{Outcome}
 use Rattle.geolint.specs.declared.options.Outcome.TheVariants.{Pass, Fail}
 use Rattle.gj_rules.specs.Verdict.{Judgement, valid, broken, refused}
-use Rattle.geolint.specs.Counts.{one_more}
+use Rattle.geolint_report.specs.ReadingLoop.{one_more}
 use Rattle.geolint.specs.Judged.{JudgesRead}
 use Rattle.geolint.specs.Located.{Locates}
 use Rattle.geolint.specs.Report.{report}

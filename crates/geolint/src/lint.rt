@@ -1,13 +1,14 @@
 ghost use Rattle.std.specs.Prelude.{◌≡◌, ℕ, List, ◌+◌, ◌<◌, ◌≤◌, length, IfOk, IfErr};
 ghost use Rattle.std.specs.Io.KnownBytes.{Consumes};
 ghost use Rattle.gj_rules.specs.Verdict.{Judgement, Says};
-ghost use Rattle.geolint.specs.Counts.{CountsFailure};
+ghost use Rattle.geolint_report.specs.Judged.{CountsFailure};
 ghost use Rattle.geolint.specs.Judged.{JudgesRead, StopsAtRefusal};
 
 use crate::fault::ReadFault;
-use crate::source::{PIECE, Source};
+use crate::source::{Source, read};
+use geolint_report::feeds::Texts;
 use gj_json::Limits;
-use gj_rules::{Linter, Progress, Verdict};
+use gj_rules::{Linter, Verdict, one_verdict};
 
 /// Reads an input until it ends or is refused, and returns its verdict.
 ///
@@ -24,22 +25,11 @@ pub fn lint_reader<S: Source>(reader: &mut S, limits: Limits) -> Result<Verdict,
     ensures verdict { IfOk result (λ verdict. (judgement : Judgement) × Says verdict judgement
         × JudgesRead limits (S.remaining reader.old) (S.remaining reader.new) judgement) }
 {
-    let _most = limits.bytes();
+    one_verdict();
     let mut linter = Linter::new(limits);
-    let mut piece = [0; PIECE];
-    let mut offset = 0;
-    loop {
-        match reader.read_piece(&mut piece) {
-            Err(_) => return Err(ReadFault { offset }),
-            // A linter is large: it stays where it lies.
-            Ok(0) => return Ok(linter.finish_and_begin(limits)),
-            Ok(count) => {
-                offset += count as u64;
-                match linter.feed(&piece[..count]) {
-                    Progress::Open => {}
-                    Progress::Refused(fault) => return Ok(Verdict::NotJson(fault)),
-                }
-            }
-        }
+    match read::<S, Linter, Texts>(reader, &mut linter, limits) {
+        // A linter is large: it stays where it lies.
+        Ok(_) => Ok(linter.finish_and_begin(limits)),
+        Err(fault) => Err(fault),
     }
 }

@@ -1,6 +1,6 @@
 ghost use Rattle.std.specs.Prelude.{◌≡◌, List, ℕ, ◌+◌, ◌<◌, ◌≤◌, length, IfOk, IfErr};
 ghost use Rattle.std.specs.Io.KnownBytes.{Consumes};
-ghost use Rattle.geolint.specs.Counts.{CountsFailure};
+ghost use Rattle.geolint_report.specs.Judged.{CountsFailure};
 ghost use Rattle.geolint.specs.Located.{Locates};
 
 use crate::fault::ReadFault;

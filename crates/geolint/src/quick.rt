@@ -2,8 +2,9 @@
 ghost use Rattle.std.specs.Prelude.{◌≡◌, ℕ, List, ◌+◌, ◌<◌, ◌≤◌, length, Option, MatchResult, IfOk, OnOk, IfErr};
 ghost use Rattle.std.specs.Io.KnownBytes.{Consumes, Appends};
 ghost use Rattle.gj_coords.specs.Warnings.{Warning};
-ghost use Rattle.geolint.specs.Counts.{CountsFailure, one_more};
-ghost use Rattle.geolint.specs.Quick.{SaysValid, JudgesQuickly, StopsAtOnce, QuickRuns, valid_in, quick_report, quick_outcome};
+ghost use Rattle.geolint_report.specs.Judged.{CountsFailure, valid_in};
+ghost use Rattle.geolint_report.specs.ReadingLoop.{one_more};
+ghost use Rattle.geolint.specs.Quick.{SaysValid, JudgesQuickly, StopsAtOnce, QuickRuns, quick_report, quick_outcome};
 ghost use Rattle.geolint.specs.Run.{CountsReadFault, CountsWriteFault, CountsOffset, WriteFaultOf};
 ghost use Rattle.geolint.specs.Written.{IsFrontOut};
 
@@ -12,10 +13,12 @@ use crate::options::{Options, Outcome};
 use crate::report::{write_not_valid, write_report};
 use crate::run::outcome_of;
 use crate::sink::Sink;
-use crate::source::{PIECE, Source};
+use crate::source::{Source, read};
+use geolint_report::feeds::QuickTexts;
+use geolint_report::reading_loop::Stage;
 use gj_coords::Warnings;
 use gj_json::Limits;
-use gj_rules::{Linter, Progress, Verdict, one_verdict};
+use gj_rules::{Linter, Verdict, one_verdict};
 
 /// Reads an input until it ends or cannot be valid any more, and returns its warnings where it is valid.
 ///
@@ -34,27 +37,12 @@ pub fn lint_quickly<S: Source>(
     ensures valid { IfOk result (λ valid. (warnings : Option (List Warning)) × SaysValid valid warnings
         × JudgesQuickly limits (S.remaining reader.old) (S.remaining reader.new) warnings) }
 {
-    let _most = limits.bytes();
     one_verdict();
     let mut linter = Linter::new(limits);
-    let mut piece = [0; PIECE];
-    let mut offset = 0;
-    loop {
-        match reader.read_piece(&mut piece) {
-            Err(_) => return Err(ReadFault { offset }),
-            Ok(0) => return Ok(valid_in(linter.finish_and_begin(limits))),
-            Ok(count) => {
-                offset += count as u64;
-                match linter.feed(&piece[..count]) {
-                    Progress::Refused(_) => return Ok(None),
-                    Progress::Open => {
-                        if linter.doomed() {
-                            return Ok(None);
-                        }
-                    }
-                }
-            }
-        }
+    match read::<S, Linter, QuickTexts>(reader, &mut linter, limits) {
+        Ok(Stage::Open) => Ok(valid_in(linter.finish_and_begin(limits))),
+        Ok(Stage::Decided) => Ok(None),
+        Err(fault) => Err(fault),
     }
 }
 

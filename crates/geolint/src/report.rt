@@ -3,7 +3,7 @@ ghost use Rattle.std.specs.Prelude.{◌≡◌, ◌+◌, ◌≤◌, length, OnOk,
 ghost use Rattle.std.specs.Io.KnownBytes.{Appends};
 ghost use Rattle.gj_rules.specs.Sequence.{SequenceJudgement, SequenceSays};
 ghost use Rattle.gj_rules.specs.Verdict.{Judgement, Says};
-ghost use Rattle.geolint.specs.Counts.{CountsFailure};
+ghost use Rattle.geolint_report.specs.Judged.{CountsFailure};
 ghost use Rattle.geolint.specs.Report.{refusal_line, broken_line, not_valid_line, report, version_line};
 ghost use Rattle.geolint.specs.Room.{written_in, Adds};
 ghost use Rattle.geolint.specs.Sequence.{sequence_report};

@@ -1,10 +1,10 @@
 ghost use Rattle.std.specs.Prelude.{◌≡◌, ℕ, ◌+◌, ◌≤◌, true, false, MatchResult, IfOk, OnOk, IfErr};
 ghost use Rattle.std.specs.Io.KnownBytes.{Appends};
 ghost use Rattle.gj_rules.specs.Verdict.{Judgement, Says};
-ghost use Rattle.geolint.specs.Counts.{one_more};
 ghost use Rattle.geolint.specs.Judged.{JudgesRead, StopsAtRefusal};
 ghost use Rattle.geolint.specs.Quick.{QuickRuns, StopsAtOnce};
 ghost use Rattle.geolint.specs.Report.{report as report_of};
+ghost use Rattle.geolint_report.specs.ReadingLoop.{one_more};
 ghost use Rattle.geolint.specs.Run.{CountsReadFault, CountsWriteFault, CountsOffset, Runs, RunsBy, Seeks, SeeksFor, SparesAtReadFault, ReadFaultOf, WriteFaultOf, outcome_of};
 
 use crate::fault::RunFault;

@@ -2,7 +2,8 @@
 ghost use Rattle.std.specs.Prelude.{◌≡◌, ℕ, List, ◌+◌, ◌<◌, ◌≤◌, length, MatchResult, IfOk, OnOk, IfErr};
 ghost use Rattle.std.specs.Io.KnownBytes.{Consumes, Appends};
 ghost use Rattle.gj_rules.specs.Sequence.{SequenceJudgement, SequenceSays};
-ghost use Rattle.geolint.specs.Counts.{CountsFailure, one_more};
+ghost use Rattle.geolint_report.specs.Judged.{CountsFailure};
+ghost use Rattle.geolint_report.specs.ReadingLoop.{one_more};
 ghost use Rattle.geolint.specs.Run.{CountsReadFault, CountsWriteFault, CountsOffset, WriteFaultOf};
 ghost use Rattle.geolint.specs.Sequence.{JudgesSequence, StopsAtDecision, SequenceRuns, sequence_report, sequence_outcome};
 
@@ -11,9 +12,10 @@ use crate::options::{Options, Outcome};
 use crate::report::write_seq_report;
 use crate::run::outcome_of;
 use crate::sink::Sink;
-use crate::source::{PIECE, Source};
+use crate::source::{Source, read};
+use geolint_report::feeds::Sequences;
 use gj_json::Limits;
-use gj_rules::{SeqProgress, SeqVerdict, Sequence, Verdict, one_sequence_verdict};
+use gj_rules::{SeqVerdict, Sequence, Verdict, one_sequence_verdict};
 
 /// Reads a sequence until it ends or a byte decides that a record is not valid, and returns its verdict.
 ///
@@ -29,23 +31,11 @@ pub fn lint_sequence<S: Source>(reader: &mut S, limits: Limits) -> Result<SeqVer
     ensures verdict { IfOk result (λ verdict. (judgement : SequenceJudgement) × SequenceSays verdict judgement
         × JudgesSequence limits (S.remaining reader.old) (S.remaining reader.new) judgement) }
 {
-    let _most = limits.bytes();
     one_sequence_verdict();
     let mut sequence = Sequence::new(limits);
-    let mut piece = [0; PIECE];
-    let mut offset = 0;
-    loop {
-        match reader.read_piece(&mut piece) {
-            Err(_) => return Err(ReadFault { offset }),
-            Ok(0) => return Ok(sequence.finish()),
-            Ok(count) => {
-                offset += count as u64;
-                match sequence.feed(&piece[..count]) {
-                    SeqProgress::Open => {}
-                    SeqProgress::Decided => return Ok(sequence.finish()),
-                }
-            }
-        }
+    match read::<S, Sequence, Sequences>(reader, &mut sequence, limits) {
+        Ok(_) => Ok(sequence.finish()),
+        Err(fault) => Err(fault),
     }
 }
 

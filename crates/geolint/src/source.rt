@@ -1,9 +1,14 @@
-ghost use Rattle.std.specs.Prelude.{◌≡◌, ℕ, List, Option};
+ghost use Rattle.std.specs.Prelude.{◌≡◌, ◌+◌, ◌<◌, ◌≤◌, [], ℕ, List, Option, None, length, IfOk, IfErr};
 ghost use Rattle.std.specs.Io.{ReadsAtMost};
-ghost use Rattle.std.specs.Io.KnownBytes.{ReadConsumes};
-ghost use Rattle.geolint.specs.Counts.{one_more, CountsFailure, CountsBytes};
+ghost use Rattle.std.specs.Io.KnownBytes.{Consumes, ReadConsumes};
+ghost use Rattle.geolint.specs.Judged.{StopsBy};
+ghost use Rattle.geolint_report.specs.Judged.{CountsFailure};
+ghost use Rattle.geolint_report.specs.ReadingLoop.{one_more, CountsBytes, Ends};
 
 use crate::failed::Failed;
+use crate::fault::ReadFault;
+use geolint_report::reading_loop::{Feeds, Pieces, Stage, Uncounted, read_all};
+use gj_json::Limits;
 use std::io::Read;
 
 /// The most bytes of a read.
@@ -36,6 +41,63 @@ pub trait Source {
         ensures reads { reads self.new ≡ one_more (reads self.old) }
         ensures failed { CountsFailure (failed_reads self.old) (failed_reads self.new) result }
         ensures given { CountsBytes (bytes_given self.old) (bytes_given self.new) result };
+}
+
+/// How a `Source` is read.
+pub struct FromSource;
+
+impl<S: Source> Pieces<S> for FromSource {
+    type Error = Failed;
+
+    ghost remaining = { S.remaining };
+
+    ghost text = { λ _. None };
+
+    ghost reads = { S.reads };
+
+    ghost failed_reads = { S.failed_reads };
+
+    ghost bytes_given = { S.bytes_given };
+
+    fn read_piece(source: &mut S, piece: &mut [u8]) -> Result<usize, Failed> {
+        source.read_piece(piece)
+    }
+}
+
+/// Reads a source until it ends or what is fed is decided.
+///
+/// No read follows the one whose bytes decide. There is at most one read more than the input may have bytes. Where a read
+/// failed, the error has the number of bytes that had come before.
+pub fn read<S: Source, L, F: Feeds<L>>(
+    reader: &mut S,
+    fed: &mut L,
+    limits: Limits,
+) -> Result<Stage, ReadFault>
+    ensures few { S.reads reader.new ≤ S.reads reader.old + (limits.bytes + 1) }
+    ensures stops { F.stands fed.old [] → F.limits fed.old ≡ limits → StopsBy F.undecided limits
+        (S.remaining reader.old) (S.remaining reader.new) (S.reads reader.old) (S.reads reader.new) }
+    ensures failed { CountsFailure (S.failed_reads reader.old) (S.failed_reads reader.new) result }
+    ensures given { IfErr result (λ fault. S.bytes_given reader.new < u64.MAX
+        → S.bytes_given reader.new ≡ S.bytes_given reader.old + fault.offset) }
+    ensures offset { IfErr result (λ fault.
+        (read : List ℕ) × Consumes (S.remaining reader.old) (S.remaining reader.new) read × (length read ≡ fault.offset)) }
+    ensures limits { F.limits fed.new ≡ F.limits fed.old }
+    ensures ends { IfOk result (λ stage. F.stands fed.old [] → F.limits fed.old ≡ limits → Ends (F.stands fed.new) (F.decided fed.new)
+        (S.remaining reader.old) (S.remaining reader.new) stage) }
+{
+    let mut piece = [0; PIECE];
+    match read_all::<S, FromSource, L, F, Uncounted>(
+        reader,
+        fed,
+        limits,
+        &mut piece,
+        &mut Uncounted,
+    ) {
+        Ok(stage) => Ok(stage),
+        Err(halt) => Err(ReadFault {
+            offset: halt.offset,
+        }),
+    }
 }
 
 /// A `Source` over a reader of std. It tells the bytes where the reader does, and any error is a failed read.

@@ -9,6 +9,9 @@ use Rattle.gj_json.specs.declared.fault.JsonFault.{JsonFault}
 use Rattle.gj_rules.specs.declared.verdict.Verdict.TheVariants.{NotJson}
 use Rattle.gj_rules.specs.Verdict.{IsVerdict}
 use Rattle.geolint_report.specs.Judged.{JudgesBy}
+use Rattle.geolint_report.specs.ReadingLoop.{Ends}
+use Rattle.geolint_report.specs.declared.reading_loop.Stage.{Stage}
+use Rattle.geolint_report.specs.declared.reading_loop.Stage.TheVariants.{Open, Decided}
 
 -- the reader has come to its end
 pub Judges-end : {V : Type 0} (Is : Allowed → List ℕ → V → Type 0) (limits : Allowed) (old new : Option (List ℕ)) (read : List ℕ) (verdict : V)
@@ -39,6 +42,30 @@ Judges-lasting Is limits (Some all) (Some rest) read verdict took lasts =
       lasting = λ more_is_left. lasts;
       of_all = subst (λ (bytes : List ℕ). Is limits bytes verdict) (sym took) (lasts rest);
     }
+
+-- the verdict of what was read is that of all that begins so
+stays : {V : Type 0} (Is : Allowed → List ℕ → V → Type 0) → ((limits : Allowed) (bytes : List ℕ) (first second : V) → Is limits bytes first → Is limits bytes second → first ≡ second)
+    → (limits : Allowed) (read : List ℕ) (settled verdict : V) → ((more : List ℕ) → Is limits (read ++ more) settled) → Is limits read verdict
+    → (more : List ℕ) → Is limits (read ++ more) verdict
+stays Is one limits read settled verdict lasting is more =
+    let here : Is limits read settled = subst (λ (bytes : List ℕ). Is limits bytes settled) (append-nil read) (lasting []) in
+    subst (Is limits (read ++ more)) (one limits read settled verdict here is) (lasting more)
+
+-- what was fed is right, and what decides it lasts
+judges-here : {V : Type 0} (Is : Allowed → List ℕ → V → Type 0) → ((limits : Allowed) (bytes : List ℕ) (first second : V) → Is limits bytes first → Is limits bytes second → first ≡ second)
+    → (Stands Decides : List ℕ → Type 0) (limits : Allowed) (old new : Option (List ℕ)) (stage : Stage) (verdict : V) → Ends Stands Decides old new stage
+    → ((read : List ℕ) → Stands read → Is limits read verdict) → ((read : List ℕ) → Decides read → (settled : V) × ((more : List ℕ) → Is limits (read ++ more) settled))
+    → JudgesBy Is limits old new verdict
+judges-here Is one Stands Decides limits old new Open verdict (read, took, stands, ended) is lasts = Judges-end Is limits old new read verdict took ended (is read stands)
+judges-here Is one Stands Decides limits old new Decided verdict (read, took, stands, decided) is lasts =
+    Judges-lasting Is limits old new read verdict took (stays Is one limits read (lasts read decided).0 verdict (lasts read decided).1 (is read stands))
+
+pub Judges-fed : {V : Type 0} (Is : Allowed → List ℕ → V → Type 0) → ((limits : Allowed) (bytes : List ℕ) (first second : V) → Is limits bytes first → Is limits bytes second → first ≡ second)
+    → (Stands Decides : List ℕ → Type 0) (here limits : Allowed) → here ≡ limits → (old new : Option (List ℕ)) (stage : Stage) (verdict : V) → Ends Stands Decides old new stage
+    → ((read : List ℕ) → Stands read → Is here read verdict) → ((read : List ℕ) → Decides read → (settled : V) × ((more : List ℕ) → Is here (read ++ more) settled))
+    → JudgesBy Is limits old new verdict
+Judges-fed Is one Stands Decides here limits same old new stage verdict ends is lasts =
+    subst (λ (l : Allowed). JudgesBy Is l old new verdict) same (judges-here Is one Stands Decides here old new stage verdict ends is lasts)
 
 -- a read of 0 bytes
 pub Consumes-none : (a b c : Option (List ℕ)) (read piece : List ℕ) (n : ℕ) → n ≡ 0 → Consumes a b read → Consumes b c (take n piece) → Consumes a c read

@@ -1,6 +1,7 @@
+mod PieceReads
 mod FileVerdicts
 mod QuickFiles
-mod DecidedFiles
+mod LineVerdicts
 mod FoundSites
 mod SoughtPlaces
 mod FollowedPaths

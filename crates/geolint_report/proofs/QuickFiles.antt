@@ -2,15 +2,13 @@
 use Rattle.std.proofs.Common.{◌≡◌, ℕ, List, [], ◌++◌, Option, Some, None, refl, ap, sym, ◌∙◌, subst, append-nil}
 use Rattle.std.specs.Io.KnownBytes.{Consumes, IsAtEnd}
 use Rattle.gj_json.specs.Limits.{Allowed}
-use Rattle.gj_json.specs.Refusal.{IsRefusal}
-use Rattle.gj_json.specs.declared.fault.JsonFault.{JsonFault}
-use Rattle.gj_coords.specs.Internal.KeptWarnings.{warnings_of}
 use Rattle.gj_coords.specs.declared.warnings.Warnings.{Warnings}
 use Rattle.gj_rules.specs.declared.verdict.Verdict.{Verdict}
 use Rattle.gj_rules.specs.declared.verdict.Verdict.TheVariants.{Valid, Broken, NotJson}
-use Rattle.gj_rules.specs.TextWarnings.{text_warnings}
 use Rattle.gj_rules.specs.Verdict.{IsValidWith, IsVerdict, NeverValid}
 use Rattle.geolint_report.specs.Judged.{IsQuick, JudgesQuickly, valid_in}
+use Rattle.geolint_report.specs.ReadingLoop.{Ends}
+use Rattle.geolint_report.specs.declared.reading_loop.Stage.TheVariants.{Open, Decided}
 
 -- each input has one verdict
 abbrev pub HasOne : Type 0
@@ -34,14 +32,14 @@ read_to_end one limits all read rest verdict split ended is = go verdict (subst 
     go (NotJson fault) v = record { read = read; split = split; lasting = λ more_is_left. absurd (more_is_left ended); of_all = other one limits all (NotJson fault) v refl }
 
 -- the reader has come to its end
-pub quick-end : HasOne → (limits : Allowed) (old new : Option (List ℕ)) (read : List ℕ) (verdict : Verdict)
+quick-end : HasOne → (limits : Allowed) (old new : Option (List ℕ)) (read : List ℕ) (verdict : Verdict)
     → Consumes old new read → IsAtEnd new → IsVerdict limits read verdict → JudgesQuickly limits old new (valid_in verdict)
 quick-end one limits None new read verdict took ended is = tt
 quick-end one limits (Some all) None read verdict took ended is = took
 quick-end one limits (Some all) (Some rest) read verdict took ended is = read_to_end one limits all read rest verdict took ended is
 
 -- no bytes make it valid
-pub quick-lasting : (limits : Allowed) (old new : Option (List ℕ)) (read : List ℕ) → Consumes old new read → NeverValid limits read → JudgesQuickly limits old new None
+quick-lasting : (limits : Allowed) (old new : Option (List ℕ)) (read : List ℕ) → Consumes old new read → NeverValid limits read → JudgesQuickly limits old new None
 quick-lasting limits None new read took never = tt
 quick-lasting limits (Some all) None read took never = took
 quick-lasting limits (Some all) (Some rest) read took never = record {
@@ -54,8 +52,14 @@ quick-lasting limits (Some all) (Some rest) read took never = record {
     in_any : (warnings : Warnings) → IsVerdict limits (read ++ rest) (Valid warnings) → IsValidWith limits (read ++ rest) (λ all. Unit {0})
     in_any warnings is = (is.0, is.1, is.2, tt)
 
--- what is refused
-pub refused_never : HasOne → (here limits : Allowed) (bytes : List ℕ) (fault : JsonFault) → here ≡ limits → ((more : List ℕ) → IsRefusal here (bytes ++ more) fault) → NeverValid limits bytes
-refused_never one here limits bytes fault same refused more is =
-    other one limits (bytes ++ more) (NotJson fault) (subst (λ (l : Allowed). IsRefusal l (bytes ++ more) fault) same (refused more)) refl
-    (warnings_of (text_warnings is.0)) (is.0, is.1, is.2, refl)
+-- the reader was read to its end, or what it gave makes it invalid
+quick-here : HasOne → (Stands : List ℕ → Type 0) (limits : Allowed) (old new : Option (List ℕ)) (verdict : Verdict) → Ends Stands (NeverValid limits) old new Open
+    → ((read : List ℕ) → Stands read → IsVerdict limits read verdict) → JudgesQuickly limits old new (valid_in verdict)
+quick-here one Stands limits old new verdict (read, took, stands, ended) is = quick-end one limits old new read verdict took ended (is read stands)
+
+pub quick-open : HasOne → (Stands : List ℕ → Type 0) (here limits : Allowed) → here ≡ limits → (old new : Option (List ℕ)) (verdict : Verdict) → Ends Stands (NeverValid here) old new Open
+    → ((read : List ℕ) → Stands read → IsVerdict here read verdict) → JudgesQuickly limits old new (valid_in verdict)
+quick-open one Stands here limits same old new verdict ends is = subst (λ (l : Allowed). JudgesQuickly l old new (valid_in verdict)) same (quick-here one Stands here old new verdict ends is)
+
+pub quick-decided : (Stands : List ℕ → Type 0) (here limits : Allowed) → here ≡ limits → (old new : Option (List ℕ)) → Ends Stands (NeverValid here) old new Decided → JudgesQuickly limits old new None
+quick-decided Stands here limits same old new (read, took, stands, never) = quick-lasting limits old new read took (subst (λ (l : Allowed). NeverValid l read) same never)

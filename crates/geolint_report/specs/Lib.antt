@@ -1,6 +1,8 @@
 pub mod Line
 pub mod Texts
 pub mod Judged
+pub mod ReadingLoop
+pub mod Fed
 pub mod Finding
 pub mod Sites
 pub mod Found

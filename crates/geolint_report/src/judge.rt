@@ -1,15 +1,17 @@
 //! The first reading: what a file is.
-ghost use Rattle.std.specs.Prelude.{◌≡◌, IfOk};
+ghost use Rattle.std.specs.Prelude.{◌≡◌, [], IfOk};
 ghost use Rattle.geolint_report.specs.Judged.{CountsFailure, JudgesRead, JudgesQuickly, JudgesSequence, JudgesLines, Finds, valid_in};
+ghost use Rattle.geolint_report.specs.ReadingLoop.{Ends};
 
+use crate::feeds::{Lines, QuickTexts, Sequences, Texts, Unheard};
 use crate::progress::Meter;
-use crate::source::Source;
+use crate::reading_loop::{Feeds, Halt, Stage, read_all};
+use crate::source::{FromSource, Source};
 use gj_coords::Warnings;
 use gj_json::Limits;
 use gj_rules::record_laws::one_finding;
 use gj_rules::{
-    Framing, Linter, Progress, Record, RecordSink, Records, SeqProgress, SeqVerdict, Sequence,
-    Verdict, one_sequence_verdict, one_verdict,
+    Framing, Linter, Records, SeqVerdict, Sequence, Verdict, one_sequence_verdict, one_verdict,
 };
 use std::io;
 
@@ -92,6 +94,26 @@ pub fn judge<S: Source>(
     }
 }
 
+/// Reads as [`read_all`] does, in pieces of `PIECE` bytes.
+pub fn read<S: Source, L, F: Feeds<L>>(
+    reader: &mut S,
+    fed: &mut L,
+    limits: Limits,
+    meter: &mut Meter,
+) -> io::Result<Stage>
+    ensures ends { IfOk result (λ stage. F.stands fed.old [] → F.limits fed.old ≡ limits → Ends (F.stands fed.new) (F.decided fed.new)
+        (S.remaining reader.old) (S.remaining reader.new) stage) }
+    ensures limits { F.limits fed.new ≡ F.limits fed.old }
+    ensures text { S.text reader.new ≡ S.text reader.old }
+    ensures failed { CountsFailure (S.failed_reads reader.old) (S.failed_reads reader.new) result }
+{
+    let mut piece = [0; PIECE];
+    match read_all::<S, FromSource, L, F, Meter>(reader, fed, limits, &mut piece, meter) {
+        Ok(stage) => Ok(stage),
+        Err(Halt { error, .. }) => Err(error),
+    }
+}
+
 /// The verdict of one text. No read follows a refusal.
 fn judge_text<S: Source>(
     reader: &mut S,
@@ -103,23 +125,11 @@ fn judge_text<S: Source>(
     ensures text { S.text reader.new ≡ S.text reader.old }
     ensures failed { CountsFailure (S.failed_reads reader.old) (S.failed_reads reader.new) result }
 {
-    let _most = limits.bytes();
+    one_verdict();
     let _left = linter.finish_and_begin(limits);
-    let mut piece = [0; PIECE];
-    let mut offset = 0u64;
-    loop {
-        match reader.read_piece(&mut piece) {
-            Err(error) => return Err(error),
-            Ok(0) => return Ok(linter.finish_and_begin(limits)),
-            Ok(count) => {
-                offset += count as u64;
-                meter.add_bytes(count);
-                match linter.feed(&piece[..count]) {
-                    Progress::Open => {}
-                    Progress::Refused(fault) => return Ok(Verdict::NotJson(fault)),
-                }
-            }
-        }
+    match read::<S, Linter, Texts>(reader, linter, limits, meter) {
+        Ok(_) => Ok(linter.finish_and_begin(limits)),
+        Err(error) => Err(error),
     }
 }
 
@@ -134,28 +144,12 @@ fn judge_quickly<S: Source>(
     ensures text { S.text reader.new ≡ S.text reader.old }
     ensures failed { CountsFailure (S.failed_reads reader.old) (S.failed_reads reader.new) result }
 {
-    let _most = limits.bytes();
     one_verdict();
     let _left = linter.finish_and_begin(limits);
-    let mut piece = [0; PIECE];
-    let mut offset = 0u64;
-    loop {
-        match reader.read_piece(&mut piece) {
-            Err(error) => return Err(error),
-            Ok(0) => return Ok(valid_in(linter.finish_and_begin(limits))),
-            Ok(count) => {
-                offset += count as u64;
-                meter.add_bytes(count);
-                match linter.feed(&piece[..count]) {
-                    Progress::Refused(_) => return Ok(None),
-                    Progress::Open => {
-                        if linter.doomed() {
-                            return Ok(None);
-                        }
-                    }
-                }
-            }
-        }
+    match read::<S, Linter, QuickTexts>(reader, linter, limits, meter) {
+        Ok(Stage::Open) => Ok(valid_in(linter.finish_and_begin(limits))),
+        Ok(Stage::Decided) => Ok(None),
+        Err(error) => Err(error),
     }
 }
 
@@ -179,35 +173,12 @@ fn judge_sequence<S: Source>(
     ensures text { S.text reader.new ≡ S.text reader.old }
     ensures failed { CountsFailure (S.failed_reads reader.old) (S.failed_reads reader.new) result }
 {
-    let _most = limits.bytes();
     one_sequence_verdict();
     let mut sequence = Sequence::new(limits);
-    let mut piece = [0; PIECE];
-    let mut offset = 0u64;
-    loop {
-        match reader.read_piece(&mut piece) {
-            Err(error) => return Err(error),
-            Ok(0) => return Ok(sequence.finish()),
-            Ok(count) => {
-                offset += count as u64;
-                meter.add_bytes(count);
-                match sequence.feed(&piece[..count]) {
-                    SeqProgress::Open => {}
-                    SeqProgress::Decided => return Ok(sequence.finish()),
-                }
-            }
-        }
+    match read::<S, Sequence, Sequences>(reader, &mut sequence, limits, meter) {
+        Ok(_) => Ok(sequence.finish()),
+        Err(error) => Err(error),
     }
-}
-
-/// What each line is goes to no one: the verdict of all is asked.
-#[derive(Drop)]
-struct Unheard;
-
-impl RecordSink for Unheard {
-    ghost told = { λ self records. Unit {0} };
-
-    fn tell_record(&mut self, _found: &Record) {}
 }
 
 /// The verdict of newline-delimited texts. No read follows the line that decides it.
@@ -220,23 +191,10 @@ fn judge_lines<S: Source>(
     ensures text { S.text reader.new ≡ S.text reader.old }
     ensures failed { CountsFailure (S.failed_reads reader.old) (S.failed_reads reader.new) result }
 {
-    let _most = limits.bytes();
     one_finding();
     let mut lines = Records::new(Framing::Lines, limits);
-    let mut piece = [0; PIECE];
-    let mut offset = 0u64;
-    loop {
-        match reader.read_piece(&mut piece) {
-            Err(error) => return Err(error),
-            Ok(0) => return Ok(lines.finish(&mut Unheard)),
-            Ok(count) => {
-                offset += count as u64;
-                meter.add_bytes(count);
-                lines.feed(&piece[..count], &mut Unheard);
-                if lines.is_decided() {
-                    return Ok(lines.finish(&mut Unheard));
-                }
-            }
-        }
+    match read::<S, Records, Lines>(reader, &mut lines, limits, meter) {
+        Ok(_) => Ok(lines.finish(&mut Unheard)),
+        Err(error) => Err(error),
     }
 }

@@ -7,11 +7,13 @@
 #![tactic(auto)]
 
 pub mod every;
+pub mod feeds;
 pub mod found;
 pub mod hints;
 pub mod judge;
 pub mod line;
 pub mod progress;
+pub mod reading_loop;
 pub mod report;
 pub mod rereading;
 pub mod sites;

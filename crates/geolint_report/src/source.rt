@@ -3,9 +3,11 @@
 ghost use Rattle.std.specs.Prelude.{◌≡◌, ◌≤◌, ℕ, List, Option, None, OnOk, length};
 ghost use Rattle.std.specs.Io.{ReadsAtMost};
 ghost use Rattle.std.specs.Io.KnownBytes.{ReadConsumes};
+ghost use Rattle.std.below.core.specs.declared.int.u64.TheConstants.{MAX};
 ghost use Rattle.geolint_report.specs.Judged.{CountsFailure};
 ghost use Rattle.geolint_report.specs.Every.{GivesFrom};
 
+use crate::reading_loop::Pieces;
 use std::fs::{File, Metadata};
 use std::io::{self, ErrorKind, Read, Seek, SeekFrom};
 use std::os::unix::fs::{FileExt, MetadataExt};
@@ -60,6 +62,27 @@ pub trait Rewind: Source {
     fn expect_unchanged(&mut self) -> io::Result<()>
         ensures text { Self.text self.new ≡ Self.text self.old }
         ensures failed { CountsFailure (Self.failed_reads self.old) (Self.failed_reads self.new) result };
+}
+
+/// How a `Source` is read. Its reads and bytes are not counted: each count stays at the greatest.
+pub struct FromSource;
+
+impl<S: Source> Pieces<S> for FromSource {
+    type Error = io::Error;
+
+    ghost remaining = { S.remaining };
+
+    ghost text = { S.text };
+
+    ghost reads = { λ _. MAX };
+
+    ghost failed_reads = { S.failed_reads };
+
+    ghost bytes_given = { λ _. MAX };
+
+    fn read_piece(source: &mut S, piece: &mut [u8]) -> io::Result<usize> {
+        source.read_piece(piece)
+    }
 }
 
 /// A `Source` over a reader of std. It tells the bytes that are left where the reader does.

@@ -1,63 +1,14 @@
-use Rattle.std.proofs.Common.{rules, refl, arith, [], ℕ, ◌++◌, ◌+◌, ◌≡◌, ◌∙◌, ap, take, length, ◌<◌, ◌≤◌, subst, length-append}
-use Rattle.std.proofs.lemmas.List.{length-take-le}
-use Rattle.std.proofs.KnownBytes.{Consumes-nil, Consumes-trans}
-use Rattle.gj_json.specs.Limits.{Allowed}
+use Rattle.std.proofs.Common.{◌∙◌}
+use Rattle.gj_rules.specs.declared.verdict.Verdict.TheVariants.{NotJson}
+use Rattle.gj_rules.specs.Linter.{StandsFor, limits_of}
 use Rattle.gj_rules.specs.Verdict.{IsVerdict}
-use Rattle.gj_rules.specs.Linter.{limits_of}
-use Rattle.geolint_report.proofs.FileVerdicts.{Judges-end, Judges-lasting, Consumes-none, IsVerdict-of_refusal}
+use Rattle.geolint_report.specs.Fed.{IsRefused}
+use Rattle.geolint_report.proofs.FileVerdicts.{Judges-fed}
 use Rattle.geolint_report.proofs.judge.judge_text.Goals as goal
 
-pub returns-in-Ok-eq0-clause-verdict : goal.returns-in-Ok-eq0-clause-verdict
-returns-in-Ok-eq0-clause-verdict g c =
-    let (read, took, count, stands) = c.loop-error.invariant.read in
-    let none = c.in-Ok-eq0.field-0-test in
-    let bytes = c.in-Ok-eq0.ensures.bytes in
-    let room : 0 < length c.read_piece.new.piece = search rules in
-    let verdict = subst (λ (limits : Allowed). IsVerdict limits read c.finish_and_begin.result) c.loop-error.invariant.limits (c.finish_and_begin.ensures.verdict read stands) in
-    Judges-end IsVerdict _ _ _ read _ (Consumes-none _ _ _ read c.read_piece.new.piece c.in-Ok-eq0.field-0 none took bytes.0) (bytes.1 none room) verdict
-
-pub returns-in-Refused-clause-verdict : goal.returns-in-Refused-clause-verdict
-returns-in-Refused-clause-verdict g c =
-    let (read, took, count, stands) = c.loop-error.invariant.read in
-    let piece = take c.in-Ok.count c.read_piece.new.piece in
-    let fed = Consumes-trans _ _ _ read piece took c.in-Ok.ensures.bytes.0 in
-    let refused = rw (c.in-Refused.is) at (c.feed.ensures.answer read stands) in
-    Judges-lasting IsVerdict _ _ _ (read ++ piece) _ fed
-    (IsVerdict-of_refusal (limits_of c.loop-error.linter) c.args.limits (read ++ piece) c.in-Refused.fault c.loop-error.invariant.limits refused)
-
--- the input is no longer than allowed with the bytes of this read
-within : (g : _) (c : goal.In-Open g) → c.loop-error.offset + c.in-Ok.count ≤ c.args.limits.bytes
-within g c =
-    let (read, took, count, stands) = c.loop-error.invariant.read in
-    let piece = take c.in-Ok.count c.read_piece.new.piece in
-    let piece_length : length piece ≡ c.in-Ok.count = length-take-le c.in-Ok.count c.read_piece.new.piece c.in-Ok.ensures.bound.0 in
-    let length_is : length (read ++ piece) ≡ c.loop-error.offset + c.in-Ok.count = length-append read piece ∙ ap (λ (n : ℕ). n + length piece) count ∙ ap (λ (n : ℕ). c.loop-error.offset + n) piece_length in
-    let bound : length (read ++ piece) ≤ (limits_of c.loop-error.linter).bytes = (let answer = rw (c.in-Open.is) at (c.feed.ensures.answer read stands) in answer.1) in
-    subst (λ (limits : Allowed). c.loop-error.offset + c.in-Ok.count ≤ limits.bytes) c.loop-error.invariant.limits (subst (λ (n : ℕ). n ≤ (limits_of c.loop-error.linter).bytes) length_is bound)
-
-pub loop-error-init : goal.loop-error-init
-loop-error-init g c = record {
-  read = ([], Consumes-nil _, refl, c.finish_and_begin-left.ensures.stands);
-  limits = c.finish_and_begin-left.ensures.limits;
-  unfailed = refl;
-  text = refl;
-  within = omega arith;
-}
-
-pub loop-error-smaller : goal.loop-error-smaller
-loop-error-smaller g c = let w = within g c in omega (arith, w, c.in-Ok.count-test)
-
-pub loop-error-preserved : goal.loop-error-preserved
-loop-error-preserved g c =
-    let (read, took, count, stands) = c.loop-error.invariant.read in
-    let piece = take c.in-Ok.count c.read_piece.new.piece in
-    let fed = Consumes-trans _ _ _ read piece took c.in-Ok.ensures.bytes.0 in
-    let piece_length : length piece ≡ c.in-Ok.count = length-take-le c.in-Ok.count c.read_piece.new.piece c.in-Ok.ensures.bound.0 in
-    let length_is : length (read ++ piece) ≡ c.loop-error.offset + c.in-Ok.count = length-append read piece ∙ ap (λ (n : ℕ). n + length piece) count ∙ ap (λ (n : ℕ). c.loop-error.offset + n) piece_length in
-    record {
-      read = (read ++ piece, fed, length_is, c.feed.ensures.stands read stands);
-      limits = c.feed.ensures.limits ∙ c.loop-error.invariant.limits;
-      unfailed = c.in-Ok.ensures.failed ∙ c.loop-error.invariant.unfailed;
-      text = c.read_piece.ensures.text ∙ c.loop-error.invariant.text;
-      within = within g c;
-    }
+pub returns-in-Ok-clause-verdict : goal.returns-in-Ok-clause-verdict
+returns-in-Ok-clause-verdict g c =
+    let linter = c.read.new.fed in
+    let limits = c.finish_and_begin-left.ensures.limits in
+    Judges-fed IsVerdict c.one_verdict.ensures.one (StandsFor linter) (IsRefused (limits_of linter)) (limits_of linter) c.args.limits (c.read.ensures.limits ∙ limits) _ _ c.in-Ok.field-0 _
+    (c.in-Ok.ensures.ends c.finish_and_begin-left.ensures.stands limits) c.finish_and_begin.ensures.verdict (λ read decided. (NotJson decided.0, decided.1))
