@@ -9,7 +9,8 @@ use Rattle.gj_coords.specs.declared.warnings.Warnings.{Warnings}
 use Rattle.gj_rules.specs.declared.sequence.verdict.SeqVerdict.{SeqVerdict}
 use Rattle.gj_rules.specs.declared.verdict.Verdict.{Verdict}
 use Rattle.gj_rules.specs.declared.verdict.Verdict.TheVariants.{Valid, Broken, NotJson}
-use Rattle.gj_rules.specs.Sequence.{SequenceRecord, records_of, is_stray, not_json, is_valid, IsJudgedBy, IsSequenceVerdict, SequenceJudgement, all_valid, failing, SequenceSays}
+use Rattle.gj_rules.specs.Sequence.{SequenceRecord, records_of, is_stray, not_json, is_valid, IsJudgedBy, IsSequenceVerdict, SequenceJudgement, all_valid}
+use Rattle.gj_rules.specs.Sequence.{failing, SequenceSays}
 use Rattle.gj_rules.specs.SequenceJudgement.{IsSequenceJudgement}
 use Rattle.gj_rules.specs.SequenceStands.{is_valid_sequence, IsSettled}
 use Rattle.gj_rules.specs.Verdict.{Judgement, valid, broken, refused, Says}
@@ -22,7 +23,8 @@ use Rattle.geolint.proofs.ReadVerdicts.{Judges-end, Judges-lasting}
 
 -- each sequence has one verdict, which says what it is
 abbrev pub HasOneVerdict : Type 0
-HasOneVerdict = (limits : Allowed) (bytes : List ℕ) (first second : SeqVerdict) → IsSequenceVerdict limits bytes first → IsSequenceVerdict limits bytes second → first ≡ second
+HasOneVerdict = (limits : Allowed) (bytes : List ℕ) (first second : SeqVerdict) → IsSequenceVerdict limits bytes first → IsSequenceVerdict limits bytes second
+    → first ≡ second
 
 abbrev pub Saying : Allowed → List ℕ → SeqVerdict → Type 0
 Saying limits bytes verdict = (judgement : SequenceJudgement) × IsSequenceJudgement limits bytes judgement × SequenceSays verdict judgement
@@ -32,7 +34,8 @@ IsSaid = (limits : Allowed) (bytes : List ℕ) (verdict : SeqVerdict) → IsSequ
 
 -- the verdict of what was read is that of every sequence that begins so
 settled_lasts : HasOneVerdict → (limits : Allowed) (read : List ℕ) (place : ℕ) (settled verdict : SeqVerdict)
-    → IsSettled limits read place settled → IsSequenceVerdict limits read verdict → (settled ≡ verdict) × ((more : List ℕ) → IsSequenceVerdict limits (read ++ more) verdict)
+    → IsSettled limits read place settled → IsSequenceVerdict limits read verdict → (settled ≡ verdict)
+    × ((more : List ℕ) → IsSequenceVerdict limits (read ++ more) verdict)
 settled_lasts one limits read place settled verdict h is =
     let here : IsSequenceVerdict limits read settled = subst (λ (bytes : List ℕ). IsSequenceVerdict limits bytes settled) (append-nil read) (h.lasting []) in
     let same = one limits read settled verdict here is in
@@ -53,11 +56,13 @@ broken_alike (NotJson told) (broken one) second fails h k = elim h [ ]
 broken_alike (NotJson told) (refused one) (valid warnings) fails h k = elim k [ ]
 broken_alike (NotJson told) (refused one) (broken other) fails h k = elim k [ ]
 
-record_fails : (stray : Bool) (levels : ℕ) (records : List SequenceRecord) (number : ℕ) (verdict : Verdict) → IsJudgedBy stray levels records (SeqVerdict.Record number verdict) → is_valid verdict ≡ false
+record_fails : (stray : Bool) (levels : ℕ) (records : List SequenceRecord) (number : ℕ) (verdict : Verdict)
+    → IsJudgedBy stray levels records (SeqVerdict.Record number verdict) → is_valid verdict ≡ false
 record_fails true levels records number verdict h = let same : verdict ≡ not_json 0 Syntax = cc in ap is_valid same
 record_fails false levels records number verdict h = h.fails
 
-failing_alike : (limits : Allowed) (bytes : List ℕ) (verdict : SeqVerdict) (first second : SequenceJudgement) → IsSequenceVerdict limits bytes verdict → is_valid_sequence verdict ≡ false
+failing_alike : (limits : Allowed) (bytes : List ℕ) (verdict : SeqVerdict) (first second : SequenceJudgement) → IsSequenceVerdict limits bytes verdict
+    → is_valid_sequence verdict ≡ false
     → SequenceSays verdict first → SequenceSays verdict second → first ≡ second
 failing_alike limits bytes (SeqVerdict.Valid count told) first second is fails h k = cc
 failing_alike limits bytes (SeqVerdict.Record number verdict) (failing one judgement) (failing other too) is fails h k =
@@ -72,7 +77,8 @@ abbrev pub SaysSequence : Allowed → Option (List ℕ) → Option (List ℕ) �
 SaysSequence limits old new verdict = (judgement : SequenceJudgement) × SequenceSays verdict judgement × JudgesSequence limits old new judgement
 
 sequence-here : HasOneVerdict → IsSaid → (Stands : List ℕ → Type 0) (limits : Allowed) (old new : Option (List ℕ)) (stage : Stage) (verdict : SeqVerdict)
-    → Ends Stands (IsDecidedSequence limits) old new stage → ((read : List ℕ) → Stands read → IsSequenceVerdict limits read verdict) → SaysSequence limits old new verdict
+    → Ends Stands (IsDecidedSequence limits) old new stage → ((read : List ℕ) → Stands read → IsSequenceVerdict limits read verdict)
+    → SaysSequence limits old new verdict
 sequence-here one said Stands limits old new Open verdict (read, took, stands, ended) is =
     let (judgement, is_it, says) = (said limits read verdict).0 (is read stands) in
     (judgement, says, Judges-end IsSequenceJudgement limits old new read judgement took ended is_it)
@@ -82,11 +88,14 @@ sequence-here one said Stands limits old new Decided verdict (read, took, stands
     let (judgement, is_it, says) = (said limits read verdict).0 (is read stands) in
     let all : (more : List ℕ) → IsSequenceJudgement limits (read ++ more) judgement = (λ more.
     let (other, is_other, says_other) = (said limits (read ++ more) verdict).0 (lasts more) in
-    subst (IsSequenceJudgement limits (read ++ more)) (failing_alike limits (read ++ more) verdict other judgement (lasts more) fails says_other says) is_other) in
+    subst (IsSequenceJudgement limits (read ++ more))
+    (failing_alike limits (read ++ more) verdict other judgement (lasts more) fails says_other says) is_other) in
     (judgement, says, Judges-lasting IsSequenceJudgement limits old new read judgement took all)
 
-pub sequence-read : HasOneVerdict → IsSaid → (Stands : List ℕ → Type 0) (here limits : Allowed) → here ≡ limits → (old new : Option (List ℕ)) (stage : Stage) (verdict : SeqVerdict)
-    → Ends Stands (IsDecidedSequence here) old new stage → ((read : List ℕ) → Stands read → IsSequenceVerdict here read verdict) → SaysSequence limits old new verdict
+pub sequence-read : HasOneVerdict → IsSaid → (Stands : List ℕ → Type 0) (here limits : Allowed) → here ≡ limits
+    → (old new : Option (List ℕ)) (stage : Stage) (verdict : SeqVerdict)
+    → Ends Stands (IsDecidedSequence here) old new stage → ((read : List ℕ) → Stands read → IsSequenceVerdict here read verdict)
+    → SaysSequence limits old new verdict
 sequence-read one said Stands here limits same old new stage verdict ends is =
     subst (λ (l : Allowed). SaysSequence l old new verdict) same (sequence-here one said Stands here old new stage verdict ends is)
 

@@ -1,5 +1,6 @@
 -- Lemmas on a search that takes a part of each piece.
-use Rattle.std.proofs.Common.{◌≡◌, ◌<◌, ◌≤◌, ◌+◌, ◌-◌, ℕ, List, [], ◌∷◌, ◌++◌, inl, inr, Some, None, length, take, drop, refl, sym, ap, ◌∙◌, subst, arith, append_assoc, append-nil, length-append, take-append-drop}
+use Rattle.std.proofs.Common.{◌≡◌, ◌<◌, ◌≤◌, ◌+◌, ◌-◌, ℕ, List, [], ◌∷◌, ◌++◌, inl, inr, Some, None, length, take, drop, refl, sym, ap, ◌∙◌, subst, arith}
+use Rattle.std.proofs.Common.{append_assoc, append-nil, length-append, take-append-drop}
 use Rattle.std.specs.Prelude.{Option, zero, suc}
 use Rattle.std.specs.Io.KnownBytes.{Consumes, IsAtEnd}
 use Rattle.std.proofs.Math.Seq.{take-append-add}
@@ -66,7 +67,9 @@ path_refused limits place (Some all) (Some rest) read piece wanted fault took lo
     let split : all ≡ front ++ behind =
     took ∙ (ap (λ (xs : List ℕ). (read ++ xs) ++ rest) (sym (take-append-drop wanted piece))
     ∙ (ap (λ (xs : List ℕ). xs ++ rest) (sym (append_assoc read (take wanted piece) (drop wanted piece))) ∙ append_assoc front (drop wanted piece) rest)) in
-    let few : length front ≤ place + 1 = (let l : length front ≡ length read + length (take wanted piece) = length-append read (take wanted piece) in let k = length-take-le wanted piece within in omega arith) in
+    let few : length front ≤ place + 1 =
+    (let l : length front ≡ length read + length (take wanted piece) = length-append read (take wanted piece) in let k =
+    length-take-le wanted piece within in omega arith) in
     let begins : up_to place all ≡ front ++ take (place + 1 - length front) behind = ap (up_to place) split ∙ longer_front place front behind few in (
       (read ++ piece, took),
       inr (

@@ -17,12 +17,15 @@ use Rattle.geolint.specs.Quick.{JudgesQuickly, SaysValid}
 use Rattle.geolint.proofs.ReadVerdicts.{HasOne}
 
 -- what a `Warnings` tells of the list is told by the verdict
-told_valid : (limits : Allowed) (bytes : List ℕ) (warnings : List Warning) → IsJudgement limits bytes (valid warnings) → IsVerdict limits bytes (Valid (warnings_of warnings))
+told_valid : (limits : Allowed) (bytes : List ℕ) (warnings : List Warning) → IsJudgement limits bytes (valid warnings)
+    → IsVerdict limits bytes (Valid (warnings_of warnings))
 told_valid limits bytes warnings is = (is.0, is.1, is.2, ap warnings_of is.3)
 
-other : HasOne → (limits : Allowed) (bytes : List ℕ) (verdict : Verdict) → IsVerdict limits bytes verdict → valid_in verdict ≡ None → (warnings : List Warning) → IsJudgement limits bytes (valid warnings) → ⊥
+other : HasOne → (limits : Allowed) (bytes : List ℕ) (verdict : Verdict) → IsVerdict limits bytes verdict → valid_in verdict ≡ None → (warnings : List Warning)
+    → IsJudgement limits bytes (valid warnings) → ⊥
 other one limits bytes verdict is none warnings is_valid =
-    let same : verdict ≡ Valid (warnings_of warnings) = one limits bytes verdict (Valid (warnings_of warnings)) is (told_valid limits bytes warnings is_valid) in
+    let same : verdict ≡ Valid (warnings_of warnings) =
+    one limits bytes verdict (Valid (warnings_of warnings)) is (told_valid limits bytes warnings is_valid) in
     let some : valid_in verdict ≡ Some (warnings_of warnings) = ap valid_in same in
     cc
 
@@ -32,8 +35,15 @@ at_end : HasOne → (limits : Allowed) (old new : Option (List ℕ)) (read : Lis
 at_end one limits None new read verdict took ended is none = (read, took, tt)
 at_end one limits (Some all) None read verdict took ended is none = absurd took
 at_end one limits (Some all) (Some rest) read verdict took ended is none =
-    let same : all ≡ read = took ∙ ap (λ (ys : List ℕ). read ++ ys) ended ∙ append-nil read in
-    (read, took, (other one limits all verdict (subst (λ (bytes : List ℕ). IsVerdict limits bytes verdict) (sym same) is) none, λ more_is_left. absurd (more_is_left ended)))
+    let same : all ≡ read = took ∙ ap (λ (ys : List ℕ). read ++ ys) ended ∙ append-nil read in (
+      read,
+      took,
+      (
+        other one limits all verdict (subst (λ (bytes : List ℕ). IsVerdict limits bytes verdict) (sym same) is) none,
+        λ more_is_left. absurd
+            (more_is_left ended),
+      ),
+    )
 
 abbrev pub QuicklySays : Allowed → Option (List ℕ) → Option (List ℕ) → Option Warnings → Type 0
 QuicklySays limits old new told = (warnings : Option (List Warning)) × SaysValid told warnings × JudgesQuickly limits old new warnings
@@ -47,35 +57,51 @@ quick-end one limits old new read (Valid told) took ended is = (Some (text_warni
     go None to took ended = tt
     go (Some all) None took ended = absurd took
     go (Some all) (Some rest) took ended =
-        let same : all ≡ read = took ∙ ap (λ (ys : List ℕ). read ++ ys) ended ∙ append-nil read in
-        (subst (λ (bytes : List ℕ). all ≡ bytes ++ rest) (sym same) took, subst (λ (bytes : List ℕ). IsJudgement limits bytes (valid (text_warnings is.0))) (sym same) (is.0, is.1, is.2, refl))
+        let same : all ≡ read = took ∙ ap (λ (ys : List ℕ). read ++ ys) ended ∙ append-nil read in (
+          subst (λ (bytes : List ℕ). all ≡ bytes ++ rest) (sym same) took,
+          subst (λ (bytes : List ℕ). IsJudgement limits bytes (valid (text_warnings is.0)))
+              (sym same) (is.0, is.1, is.2, refl),
+        )
 quick-end one limits old new read (Broken fault) took ended is = (None, tt, at_end one limits old new read (Broken fault) took ended is refl)
 quick-end one limits old new read (NotJson fault) took ended is = (None, tt, at_end one limits old new read (NotJson fault) took ended is refl)
 
 -- no bytes make it valid
-never_quick : (limits : Allowed) (old new : Option (List ℕ)) (read : List ℕ) → Consumes old new read → NeverValid limits read → JudgesQuickly limits old new None
+never_quick : (limits : Allowed) (old new : Option (List ℕ)) (read : List ℕ) → Consumes old new read → NeverValid limits read
+    → JudgesQuickly limits old new None
 never_quick limits None new read took never = (read, took, tt)
 never_quick limits (Some all) None read took never = absurd took
-never_quick limits (Some all) (Some rest) read took never =
-    (read, took, (λ warnings is. never rest (in_any warnings (subst (λ (bytes : List ℕ). IsJudgement limits bytes (valid warnings)) took is)), λ more_is_left. never))
+never_quick limits (Some all) (Some rest) read took never = (
+  read,
+  took,
+  (
+    λ warnings is. never rest
+        (in_any warnings (subst (λ (bytes : List ℕ). IsJudgement limits bytes (valid warnings)) took is)),
+    λ more_is_left. never,
+  ),
+)
   where
     in_any : (warnings : List Warning) → IsJudgement limits (read ++ rest) (valid warnings) → IsValidWith limits (read ++ rest) (λ all. Unit {0})
     in_any warnings is = (is.0, is.1, is.2, tt)
 
-quick-lasting : (limits : Allowed) (old new : Option (List ℕ)) (read : List ℕ) → Consumes old new read → NeverValid limits read → QuicklySays limits old new None
+quick-lasting : (limits : Allowed) (old new : Option (List ℕ)) (read : List ℕ) → Consumes old new read → NeverValid limits read
+    → QuicklySays limits old new None
 quick-lasting limits old new read took never = (None, tt, never_quick limits old new read took never)
 
-pub quick-open : HasOne → (Stands : List ℕ → Type 0) (here limits : Allowed) → here ≡ limits → (old new : Option (List ℕ)) (verdict : Verdict) → Ends Stands (NeverValid here) old new Open
+pub quick-open : HasOne → (Stands : List ℕ → Type 0) (here limits : Allowed) → here ≡ limits → (old new : Option (List ℕ)) (verdict : Verdict)
+    → Ends Stands (NeverValid here) old new Open
     → ((read : List ℕ) → Stands read → IsVerdict here read verdict) → QuicklySays limits old new (valid_in verdict)
 quick-open one Stands here limits same old new verdict (read, took, stands, ended) is =
     subst (λ (l : Allowed). QuicklySays l old new (valid_in verdict)) same (quick-end one here old new read verdict took ended (is read stands))
 
-pub quick-decided : (Stands : List ℕ → Type 0) (here limits : Allowed) → here ≡ limits → (old new : Option (List ℕ)) → Ends Stands (NeverValid here) old new Decided → QuicklySays limits old new None
-quick-decided Stands here limits same old new (read, took, stands, never) = quick-lasting limits old new read took (subst (λ (l : Allowed). NeverValid l read) same never)
+pub quick-decided : (Stands : List ℕ → Type 0) (here limits : Allowed) → here ≡ limits → (old new : Option (List ℕ))
+    → Ends Stands (NeverValid here) old new Decided → QuicklySays limits old new None
+quick-decided Stands here limits same old new (read, took, stands, never) =
+    quick-lasting limits old new read took (subst (λ (l : Allowed). NeverValid l read) same never)
 
 -- what is right for each list that the warnings of a valid text stand for
 pub for_some : (P : Option (List Warning) → Type 0) (answer : Option Warnings) (told : Warnings) → answer ≡ Some told
-    → ((warnings : List Warning) → WarningsStandFor told warnings → P (Some warnings)) → (warnings : Option (List Warning)) → SaysValid answer warnings → P warnings
+    → ((warnings : List Warning) → WarningsStandFor told warnings → P (Some warnings)) → (warnings : Option (List Warning)) → SaysValid answer warnings
+    → P warnings
 for_some P answer told same right warnings says = go warnings (subst (λ (v : Option Warnings). SaysValid v warnings) same says)
   where
     go : (o : Option (List Warning)) → SaysValid (Some told) o → P o

@@ -44,7 +44,8 @@ HasOne = (limits : Allowed) (bytes : List ℕ) (first second : Verdict) → IsVe
 abbrev pub SaysRead : Allowed → Option (List ℕ) → Option (List ℕ) → Verdict → Type 0
 SaysRead limits old new verdict = (judgement : Judgement) × Says verdict judgement × JudgesRead limits old new judgement
 
-text-here : HasOne → (Stands : List ℕ → Type 0) (limits : Allowed) (old new : Option (List ℕ)) (stage : Stage) (verdict : Verdict) → Ends Stands (IsRefused limits) old new stage
+text-here : HasOne → (Stands : List ℕ → Type 0) (limits : Allowed) (old new : Option (List ℕ)) (stage : Stage) (verdict : Verdict)
+    → Ends Stands (IsRefused limits) old new stage
     → ((read : List ℕ) → Stands read → IsVerdict limits read verdict) → SaysRead limits old new verdict
 text-here one Stands limits old new Open verdict (read, took, stands, ended) is =
     let (judgement, is_it, says) = said limits read verdict (is read stands) in

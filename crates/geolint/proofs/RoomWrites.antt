@@ -1,5 +1,6 @@
 -- Lemmas on what is appended to a room and what goes out into a writer.
-use Rattle.std.proofs.Common.{◌≡◌, ℕ, ◌+◌, ◌-◌, ◌<◌, ◌≤◌, List, ◌∷◌, ◌++◌, length, get_or, take, drop, arith, refl, sym, ap, ◌∙◌, subst, add-one, drop-cons, length-take, take-append-drop, append-nil, []}
+use Rattle.std.proofs.Common.{◌≡◌, ℕ, ◌+◌, ◌-◌, ◌<◌, ◌≤◌, List, ◌∷◌, ◌++◌, length, get_or, take, drop, arith, refl, sym, ap, ◌∙◌, subst, add-one, drop-cons}
+use Rattle.std.proofs.Common.{length-take, take-append-drop, append-nil, []}
 use Rattle.std.specs.Prelude.{Option}
 use Rattle.std.specs.Borrow.{Bor}
 use Rattle.std.proofs.Math.Seq.{take-append-add}
@@ -31,7 +32,8 @@ pub joined-split : (pieces : List (Bor (List ℕ))) (i : ℕ) (d : Bor (List ℕ
     → joined pieces ≡ joined (take i pieces) ++ ((get_or pieces i d).now ++ joined (drop (i + 1) pieces))
 joined-split pieces i d within =
     let tail : drop i pieces ≡ get_or pieces i d ∷ drop (i + 1) pieces = rw (add-one, drop-cons pieces i d) refl in
-    let parts : joined (take i pieces ++ drop i pieces) ≡ joined (take i pieces) ++ joined (drop i pieces) = flat_map-append (λ (p : Bor (List ℕ)). p.now) (take i pieces) (drop i pieces) in
+    let parts : joined (take i pieces ++ drop i pieces) ≡ joined (take i pieces) ++ joined (drop i pieces) =
+    flat_map-append (λ (p : Bor (List ℕ)). p.now) (take i pieces) (drop i pieces) in
     let whole : joined (take i pieces ++ drop i pieces) ≡ joined pieces = ap joined (take-append-drop i pieces) in
     sym whole ∙ parts ∙ ap (λ (ps : List (Bor (List ℕ))). joined (take i pieces) ++ joined ps) tail
 
@@ -40,4 +42,5 @@ joined-split pieces i d within =
 pub lines-more : {A : Type 0} (line : A → List ℕ) (xs : List A) (i : ℕ) (d : A) → i < length xs
     → flat_map line (take (i + 1) xs) ≡ flat_map line (take i xs) ++ line (get_or xs i d)
 lines-more {A = A} line xs i d within =
-    ap (λ (ys : List A). flat_map line ys) (take_more xs i d within) ∙ (flat_map-append line (take i xs) (get_or xs i d ∷ []) ∙ ap (λ (ys : List ℕ). flat_map line (take i xs) ++ ys) (append-nil (line (get_or xs i d))))
+    ap (λ (ys : List A). flat_map line ys) (take_more xs i d within)
+    ∙ (flat_map-append line (take i xs) (get_or xs i d ∷ []) ∙ ap (λ (ys : List ℕ). flat_map line (take i xs) ++ ys) (append-nil (line (get_or xs i d))))

@@ -38,7 +38,8 @@ some_count : (limit n : ℕ) → 0 < limit → (min (suc n) limit == 0) ≡ fals
 some_count limit n h = grind (arith, nat_tests)
 
 line_of_places : (kind : Kind) (places : List ℕ)
-    → line_of (noted_as (min (length places) greatest_count) (unwrap_or (least_place places) 0)) kind ≡ line_if (least_place places) kind (min (length places) greatest_count)
+    → line_of (noted_as (min (length places) greatest_count) (unwrap_or (least_place places) 0)) kind ≡ line_if (least_place places) kind
+    (min (length places) greatest_count)
 line_of_places kind [] = refl
 line_of_places kind (x ∷ xs) =
     let found : (place : ℕ) × (least_place (x ∷ xs) ≡ Some place) = some_least x xs in
@@ -53,7 +54,8 @@ lines_are told all stands = λ i. flat_map (λ (kind : Kind). told_is told all k
 
 -- ---- the report
 
-pub verdict_said : (verdict : Verdict) (judgement : Judgement) (path : Option Path) → Says verdict judgement → verdict_report verdict path ≡ report judgement path
+pub verdict_said : (verdict : Verdict) (judgement : Judgement) (path : Option Path) → Says verdict judgement
+    → verdict_report verdict path ≡ report judgement path
 verdict_said (Valid told) (valid all) path h = ap (λ (lines : List ℕ). codes "valid\n" ++ lines) (lines_are told all h)
 verdict_said (Valid told) (broken fault) path h = elim h [ ]
 verdict_said (Valid told) (refused fault) path h = elim h [ ]
@@ -64,11 +66,13 @@ verdict_said (NotJson told) (valid all) path h = elim h [ ]
 verdict_said (NotJson told) (broken fault) path h = elim h [ ]
 verdict_said (NotJson told) (refused fault) path h = ap refusal_line h
 
-pub sequence_said : (verdict : SeqVerdict) (judgement : SequenceJudgement) → SequenceSays verdict judgement → sequence_verdict_report verdict ≡ sequence_report judgement
+pub sequence_said : (verdict : SeqVerdict) (judgement : SequenceJudgement) → SequenceSays verdict judgement
+    → sequence_verdict_report verdict ≡ sequence_report judgement
 sequence_said (SeqVerdict.Valid count told) (all_valid records all) h =
     ap (λ (n : ℕ). codes "valid\n" ++ (count_line n ++ told_lines told)) h.0
     ∙ ap (λ (lines : List ℕ). codes "valid\n" ++ (count_line records ++ lines)) (lines_are told all h.1)
 sequence_said (SeqVerdict.Valid count told) (failing number judgement) h = elim h [ ]
 sequence_said (SeqVerdict.Record number verdict) (all_valid records all) h = elim h [ ]
 sequence_said (SeqVerdict.Record told verdict) (failing number judgement) h =
-    ap (λ (n : ℕ). record_line n ++ verdict_report verdict None) h.0 ∙ ap (λ (bytes : List ℕ). record_line number ++ bytes) (verdict_said verdict judgement None h.1)
+    ap (λ (n : ℕ). record_line n ++ verdict_report verdict None) h.0
+    ∙ ap (λ (bytes : List ℕ). record_line number ++ bytes) (verdict_said verdict judgement None h.1)

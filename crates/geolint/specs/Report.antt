@@ -28,7 +28,8 @@ broken_line fault =
 abbrev pub warning_line : Kind → ℕ → ℕ → List ℕ
 warning_line kind count place =
     codes "warning W"
-    ++ (decimal (kind_number kind) ++ (codes " count " ++ (decimal count ++ (codes " first " ++ (decimal place ++ (codes ": " ++ (kind_text kind ++ codes "\n")))))))
+    ++ (decimal (kind_number kind)
+    ++ (codes " count " ++ (decimal count ++ (codes " first " ++ (decimal place ++ (codes ": " ++ (kind_text kind ++ codes "\n")))))))
 
 -- nothing where there is none
 abbrev pub line_if : Option ℕ → Kind → ℕ → List ℕ

@@ -5,7 +5,8 @@ ghost use Rattle.geolint.specs.Judged.{JudgesRead, StopsAtRefusal};
 ghost use Rattle.geolint.specs.Quick.{QuickRuns, StopsAtOnce};
 ghost use Rattle.geolint.specs.Report.{report as report_of};
 ghost use Rattle.geolint_report.specs.ReadingLoop.{one_more};
-ghost use Rattle.geolint.specs.Run.{CountsReadFault, CountsWriteFault, CountsOffset, Runs, RunsBy, Seeks, SeeksFor, SparesAtReadFault, ReadFaultOf, WriteFaultOf, outcome_of};
+ghost use Rattle.geolint.specs.Run.{CountsReadFault, CountsWriteFault, CountsOffset, Runs, RunsBy, Seeks, SeeksFor, SparesAtReadFault, ReadFaultOf};
+ghost use Rattle.geolint.specs.Run.{WriteFaultOf, outcome_of};
 
 use crate::fault::RunFault;
 use crate::lint::lint_reader;

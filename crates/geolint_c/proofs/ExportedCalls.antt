@@ -1,5 +1,6 @@
 -- What the walks of the exported functions cite.
-pub use Rattle.std.proofs.Common.{None, true, false, ◌≡◌, ℕ, ◌≤◌, ◌^◌, ◌<◌, List, [], ◌∷◌, ◌++◌, length, refl, sym, ap, subst, ◌∙◌, lit<, w8, w32, w64, Bor, MutBor, arith}
+pub use Rattle.std.proofs.Common.{None, true, false, ◌≡◌, ℕ, ◌≤◌, ◌^◌, ◌<◌, List, [], ◌∷◌, ◌++◌, length, refl, sym, ap, subst, ◌∙◌, lit<, w8, w32, w64, Bor}
+pub use Rattle.std.proofs.Common.{MutBor, arith}
 pub use Rattle.std.proofs.raw_atomic.Walks.{proved}
 pub use seplogic.Ra.Ura.{Ura}
 pub use base.Fraction.{full_share}
@@ -13,9 +14,11 @@ pub use prog.Wired.{Wired}
 pub use contract.Monad.{fact, fact_i}
 pub use contract.Running.{Running, tables}
 pub use types.Logic.{Logic, sem}
-pub use types.Kit.{Item, Goal, Seq, show, ‵, raw, ◌⊛◌, some, later, prop, at_ret, given, learn, ◌$◌, ◌∵◌, !, qed, by, done, move, keep, drop, use0, use1, use2, use3, split, join, fsplit, fsplit3, fjoin, feq_i, feq_l, pick, await, rewrite, regoal, suffices, frame, group}
+pub use types.Kit.{Item, Goal, Seq, show, ‵, raw, ◌⊛◌, some, later, prop, at_ret, given, learn, ◌$◌, ◌∵◌, !, qed, by, done, move, keep, drop, use0, use1, use2}
+pub use types.Kit.{use3, split, join, fsplit, fsplit3, fjoin, feq_i, feq_l, pick, await, rewrite, regoal, suffices, frame, group}
 pub use borrow.Table.OneValue.{part_in}
-pub use types.Run.{init, enter, of_opd, lit, unit_lit, bin, addr, load, look, store, stop, no_more, and_then, assigns, first, blocks, branches, skips, exec, returns, returns_within}
+pub use types.Run.{init, enter, of_opd, lit, unit_lit, bin, addr, load, look, store, stop, no_more, and_then, assigns, first, blocks, branches, skips, exec}
+pub use types.Run.{returns, returns_within}
 pub use types.ByLocal.{alloc_all, pass_all, free_all, look_at, get, through, sets, lands_as, env}
 pub use types.Tokens.{lft_new, lft_end, lent_back}
 pub use denote.Builtin.{SliceRefOf, u8, u32, u64, bool, unit}

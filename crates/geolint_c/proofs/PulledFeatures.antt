@@ -1,5 +1,6 @@
 -- Which features are ready, as more bytes come.
-use Rattle.std.proofs.Common.{◌≡◌, ℕ, zero, suc, ◌+◌, ◌-◌, ◌%◌, ◌<◌, ◌≤◌, ◌^◌, nat_le, Bool, true, false, cond, if◌then◌else◌, List, [], ◌∷◌, ◌++◌, length, length-append, take, drop, slice_get, append_assoc, Option, Some, None, refl, ap, sym, subst, ◌∙◌, arith}
+use Rattle.std.proofs.Common.{◌≡◌, ℕ, zero, suc, ◌+◌, ◌-◌, ◌%◌, ◌<◌, ◌≤◌, ◌^◌, nat_le, Bool, true, false, cond, if◌then◌else◌, List, [], ◌∷◌, ◌++◌, length}
+use Rattle.std.proofs.Common.{length-append, take, drop, slice_get, append_assoc, Option, Some, None, refl, ap, sym, subst, ◌∙◌, arith}
 use Rattle.std.proofs.lemmas.Bool.Decides.{nat_tests}
 use Rattle.std.proofs.lemmas.List.{take_all, take-append-le, length-take-le}
 use Rattle.std.proofs.lemmas.List.Sums.{sum_by-take-le}
@@ -66,7 +67,8 @@ none_at (f ∷ fs) zero l = absurd (omega (arith, l))
 none_at (f ∷ fs) (suc i) l = none_at fs i (omega (arith, l))
 
 -- the feature that is kept at a place is the next of those that were found
-pub next_found : (latest : LatestFeatures) (found : List FeatureFinding) (pulled : ℕ) (feature : Feature) (told : Finding) → length found < 2 ^ 64 → TellFindings (Keeps latest) found
+pub next_found : (latest : LatestFeatures) (found : List FeatureFinding) (pulled : ℕ) (feature : Feature) (told : Finding) → length found < 2 ^ 64
+    → TellFindings (Keeps latest) found
     → pulled < length found → length found ≤ pulled + ROOM → slice_get latest.features (pulled % ROOM) ≡ Some feature
     → ((finding : FeatureFinding) → SaysFinding feature finding → IsFeature finding told) → IsNextOf (slice_get found pulled) true told
 next_found latest found pulled feature told few h more room at says_so =
@@ -80,7 +82,8 @@ next_found latest found pulled feature told few h more room at says_so =
     subst (λ (o : Option FeatureFinding). IsNextOf o true told) (sym is) (refl, says_so finding (subst (λ (f : Feature). SaysFinding f finding) same said))
 
 -- where no more were told than were pulled, there is none
-pub none_next : (o : Option Judging) (pulled : ℕ) (ready : Bool) (told : Finding) (limits : Allowed) (bytes : List ℕ) → ready ≡ false → ready_by o pulled ≡ false
+pub none_next : (o : Option Judging) (pulled : ℕ) (ready : Bool) (told : Finding) (limits : Allowed) (bytes : List ℕ) → ready ≡ false
+    → ready_by o pulled ≡ false
     → OfLinter o Counted → IsJudging o pulled limits bytes → OfNext o pulled ready limits bytes told
 none_next None pulled ready told limits bytes e r counts j = absurd j
 none_next (Some linter) pulled ready told limits bytes e r counts j = λ text rest t few.
@@ -89,7 +92,8 @@ none_next (Some linter) pulled ready told limits bytes e r counts j = λ text re
     subst (λ (o : Option FeatureFinding). IsNextOf o ready told) (sym (none_at (findings_by (offset_of linter) text) pulled (omega (arith, n, l)))) e
 
 -- one more was pulled
-pub pulled_on : (linter : Judging) (pulled : ℕ) (limits : Allowed) (bytes : List ℕ) → tells_more linter pulled ≡ true → Counted linter → Judges linter pulled limits bytes → Judges linter (pulled + 1) limits bytes
+pub pulled_on : (linter : Judging) (pulled : ℕ) (limits : Allowed) (bytes : List ℕ) → tells_more linter pulled ≡ true → Counted linter
+    → Judges linter pulled limits bytes → Judges linter (pulled + 1) limits bytes
 pulled_on linter pulled limits bytes more counts j = record {
   stands = j.stands;
   under = j.under;
@@ -101,7 +105,8 @@ pulled_on linter pulled limits bytes more counts j = record {
 }
 
 -- where no more were told than were pulled, there is room for as many as are kept
-pub room_for : (linter : Judging) (pulled : ℕ) (limits : Allowed) (bytes run : List ℕ) → tells_more linter pulled ≡ false → Counted linter → Judges linter pulled limits bytes → most_in run ≤ ROOM
+pub room_for : (linter : Judging) (pulled : ℕ) (limits : Allowed) (bytes run : List ℕ) → tells_more linter pulled ≡ false → Counted linter
+    → Judges linter pulled limits bytes → most_in run ≤ ROOM
     → OfFeatures linter limits bytes (HasRoomFor (most_in run) pulled)
 room_for linter pulled limits bytes run none counts j short = λ text rest t few.
     let n = counts limits bytes j.stands j.under text rest t few in
@@ -151,8 +156,10 @@ abbrev pub ByCommas : Type 0
 ByCommas = (text : Text) (before run after : List ℕ) → IsText text (before ++ run ++ after)
     → length (findings_by (length before + length run) text) ≤ length (findings_by (length before) text) + commas run + 1
 
-pub room_on : InTime → ByCommas → (old new : Judging) (pulled : ℕ) (limits : Allowed) (bytes chunk : List ℕ) → offset_of old ≤ offset_of new → offset_of old ≤ length bytes
-    → offset_of new ≤ length (bytes ++ chunk) → (refusal_of old ≡ None → offset_of old ≡ length bytes) → ((fault : JsonFault) → refusal_of old ≡ Some fault → new ≡ old)
+pub room_on : InTime → ByCommas → (old new : Judging) (pulled : ℕ) (limits : Allowed) (bytes chunk : List ℕ) → offset_of old ≤ offset_of new
+    → offset_of old ≤ length bytes
+    → offset_of new ≤ length (bytes ++ chunk) → (refusal_of old ≡ None → offset_of old ≡ length bytes)
+    → ((fault : JsonFault) → refusal_of old ≡ Some fault → new ≡ old)
     → OfFeatures old limits bytes (HasRoom pulled) → OfFeatures old limits bytes (HasRoomFor (most_in chunk) pulled)
     → OfFeatures new limits (bytes ++ chunk) (HasRoom pulled)
 room_on in_time by_commas old new pulled limits bytes chunk on within taken all same room more = by_refusal (refusal_of old) refl
@@ -160,7 +167,8 @@ room_on in_time by_commas old new pulled limits bytes chunk on within taken all 
     by_refusal : (o : Option JsonFault) → refusal_of old ≡ o → OfFeatures new limits (bytes ++ chunk) (HasRoom pulled)
     by_refusal (Some fault) e =
         subst (λ (j : Judging). OfFeatures j limits (bytes ++ chunk) (HasRoom pulled)) (sym (same fault e))
-        (λ text rest t few. room text rest (subst (λ bs. IsTextWithin limits.depth text (bs ++ rest)) (take-append-le (offset_of old) bytes chunk within) t) few)
+        (λ text rest t few. room text rest
+        (subst (λ bs. IsTextWithin limits.depth text (bs ++ rest)) (take-append-le (offset_of old) bytes chunk within) t) few)
     by_refusal None e = λ text rest t few.
         let n = offset_of old in
         let m = offset_of new in

@@ -4,7 +4,8 @@ use Rattle.std.specs.Ptr.{Ptr, block_ptr, null_ptr}
 use Rattle.geolint_c.specs.declared.handle.Handle.{Handle}
 use Rattle.geolint_c.specs.declared.report.Report.{Report}
 use Rattle.geolint_c.specs.Report.{no_report}
-use Rattle.geolint_c.specs.Handle.{HasEnded, BegunLive, BegunEnded, BegunStatus, FedStands, FedAnswer, FedEnded, FedAgain, OffsetTaken, OffsetRefused, OffsetEnded, DoomedSound, DoomedRefused, DoomedEarly, DoomedEnded, LevelsOpen, LevelsEnded, FinishedVerdict, FinishedEnded}
+use Rattle.geolint_c.specs.Handle.{HasEnded, BegunLive, BegunEnded, BegunStatus, FedStands, FedAnswer, FedEnded, FedAgain, OffsetTaken, OffsetRefused}
+use Rattle.geolint_c.specs.Handle.{OffsetEnded, DoomedSound, DoomedRefused, DoomedEarly, DoomedEnded, LevelsOpen, LevelsEnded, FinishedVerdict, FinishedEnded}
 
 -- the first at null, the second elsewhere
 abbrev pub AtHandle : Ptr → Type 0 → Type 0 → Type 0

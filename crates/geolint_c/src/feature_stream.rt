@@ -36,7 +36,8 @@ pub unsafe extern "C" fn geolint_features_begin(
 ) -> u32
     requires testable { Testable memory }
     requires* room { sem 𝓛 (if_non_null memory (room_at the_row memory)) }
-    ensures* begun { ∃ₛ (λ (new : FeatureHandle). sem 𝓛 (if_non_null memory (lies_at the_row full_share memory new)) ∗ ⌜ BegunAt memory max_depth max_bytes result new ⌝) }
+    ensures* begun { ∃ₛ (λ (new : FeatureHandle). sem 𝓛
+        (if_non_null memory (lies_at the_row full_share memory new)) ∗ ⌜ BegunAt memory max_depth max_bytes result new ⌝) }
 {
     let handle = memory as *mut FeatureHandle;
     if handle.is_null() {
@@ -56,7 +57,8 @@ pub unsafe extern "C" fn geolint_features_begin_again(
     ghost held: { FeatureHandle }
     requires testable { Testable memory }
     requires* handle { sem 𝓛 (if_non_null memory (lies_at the_row full_share memory held)) }
-    ensures* begun { ∃ₛ (λ (new : FeatureHandle). sem 𝓛 (if_non_null memory (lies_at the_row full_share memory new)) ∗ ⌜ BegunAt memory max_depth max_bytes result new ⌝) }
+    ensures* begun { ∃ₛ (λ (new : FeatureHandle). sem 𝓛
+        (if_non_null memory (lies_at the_row full_share memory new)) ∗ ⌜ BegunAt memory max_depth max_bytes result new ⌝) }
 {
     let handle = memory as *mut FeatureHandle;
     if handle.is_null() {
@@ -71,7 +73,8 @@ pub unsafe extern "C" fn geolint_features_feed(memory: *mut Memory, piece: &[u8]
     ghost held: { FeatureHandle }
     requires testable { Testable memory }
     requires* handle { sem 𝓛 (if_non_null memory (lies_at the_row full_share memory held)) }
-    ensures* fed { ∃ₛ (λ (new : FeatureHandle). sem 𝓛 (if_non_null memory (lies_at the_row full_share memory new)) ∗ ⌜ FedAt memory held piece.now result new ⌝) }
+    ensures* fed { ∃ₛ (λ (new : FeatureHandle). sem 𝓛
+        (if_non_null memory (lies_at the_row full_share memory new)) ∗ ⌜ FedAt memory held piece.now result new ⌝) }
 {
     let handle = memory as *mut FeatureHandle;
     if handle.is_null() {
@@ -116,7 +119,8 @@ pub unsafe extern "C" fn geolint_features_finish(memory: *mut Memory) -> Report
     ghost held: { FeatureHandle }
     requires testable { Testable memory }
     requires* handle { sem 𝓛 (if_non_null memory (lies_at the_row full_share memory held)) }
-    ensures* finished { ∃ₛ (λ (new : FeatureHandle). sem 𝓛 (if_non_null memory (lies_at the_row full_share memory new)) ∗ ⌜ FinishedAt memory held result new ⌝) }
+    ensures* finished { ∃ₛ
+        (λ (new : FeatureHandle). sem 𝓛 (if_non_null memory (lies_at the_row full_share memory new)) ∗ ⌜ FinishedAt memory held result new ⌝) }
 {
     let handle = memory as *mut FeatureHandle;
     if handle.is_null() {

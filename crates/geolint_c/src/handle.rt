@@ -1,6 +1,8 @@
 //! A text that comes in pieces, judged by a handle. Here are the calls over values; `stream` takes them to C.
 ghost use Rattle.std.specs.Prelude.{◌≡◌};
-ghost use Rattle.geolint_c.specs.Handle.{HasEnded, Begins, BegunLive, BegunEnded, FedStands, FedAnswer, FedEnded, FedAgain, BegunStatus, FinishedVerdict, FinishedEnded, OffsetTaken, OffsetRefused, OffsetEnded, DoomedSound, DoomedRefused, DoomedEarly, DoomedEnded, LevelsOpen, LevelsEnded};
+ghost use Rattle.geolint_c.specs.Handle.{HasEnded, Begins, BegunLive, BegunEnded, FedStands, FedAnswer, FedEnded, FedAgain, BegunStatus, FinishedVerdict};
+ghost use Rattle.geolint_c.specs.Handle.{FinishedEnded, OffsetTaken, OffsetRefused, OffsetEnded, DoomedSound, DoomedRefused, DoomedEarly, DoomedEnded};
+ghost use Rattle.geolint_c.specs.Handle.{LevelsOpen, LevelsEnded};
 
 use crate::options::limits_of;
 use crate::report::{Report, no_report, report_of};

@@ -1,6 +1,7 @@
 //! What an input looks like that is not valid: the hint of geolint-files, for a report in plain numbers.
 ghost use Rattle.std.specs.Prelude.{◌≡◌, ◌≤◌, ◌<◌, ◌-◌, [], length, take, drop, IsTrue};
-ghost use Rattle.geolint_c.specs.Hints.{is_later_syntax, out_of_range, wrong_if_refused, wrong_by_rule, wrong_if_valid, wrong_of, place_of, AreClues, IsHint, IsHintText, AreOpen, IsHintIn, hint_text};
+ghost use Rattle.geolint_c.specs.Hints.{is_later_syntax, out_of_range, wrong_if_refused, wrong_by_rule, wrong_if_valid, wrong_of, place_of, AreClues, IsHint};
+ghost use Rattle.geolint_c.specs.Hints.{IsHintText, AreOpen, IsHintIn, hint_text};
 ghost use Rattle.geolint_c.specs.Texts.{with_zero};
 
 use crate::hint_texts::hint_text;

@@ -34,7 +34,8 @@ pub unsafe extern "C" fn geolint_locator_begin(
 ) -> u32
     requires testable { Testable memory }
     requires* room { sem 𝓛 (if_non_null memory (room_at the_row memory)) }
-    ensures* begun { ∃ₛ (λ (new : LocatorHandle). sem 𝓛 (if_non_null memory (lies_at the_row full_share memory new)) ∗ ⌜ BegunAt memory max_depth max_bytes result new ⌝) }
+    ensures* begun { ∃ₛ (λ (new : LocatorHandle). sem 𝓛
+        (if_non_null memory (lies_at the_row full_share memory new)) ∗ ⌜ BegunAt memory max_depth max_bytes result new ⌝) }
 {
     let handle = memory as *mut LocatorHandle;
     if handle.is_null() {
@@ -50,7 +51,8 @@ pub unsafe extern "C" fn geolint_locator_feed(memory: *mut Memory, piece: &[u8])
     ghost held: { LocatorHandle }
     requires testable { Testable memory }
     requires* handle { sem 𝓛 (if_non_null memory (lies_at the_row full_share memory held)) }
-    ensures* fed { ∃ₛ (λ (new : LocatorHandle). sem 𝓛 (if_non_null memory (lies_at the_row full_share memory new)) ∗ ⌜ FedAt memory held piece.now result new ⌝) }
+    ensures* fed { ∃ₛ (λ (new : LocatorHandle). sem 𝓛
+        (if_non_null memory (lies_at the_row full_share memory new)) ∗ ⌜ FedAt memory held piece.now result new ⌝) }
 {
     let handle = memory as *mut LocatorHandle;
     if handle.is_null() {

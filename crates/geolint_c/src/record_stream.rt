@@ -36,7 +36,8 @@ pub unsafe extern "C" fn geolint_records_begin(
 ) -> u32
     requires testable { Testable memory }
     requires* room { sem 𝓛 (if_non_null memory (room_at the_row memory)) }
-    ensures* begun { ∃ₛ (λ (new : RecordHandle). sem 𝓛 (if_non_null memory (lies_at the_row full_share memory new)) ∗ ⌜ BegunAt memory framing max_depth max_bytes result new ⌝) }
+    ensures* begun { ∃ₛ (λ (new : RecordHandle). sem 𝓛
+        (if_non_null memory (lies_at the_row full_share memory new)) ∗ ⌜ BegunAt memory framing max_depth max_bytes result new ⌝) }
 {
     let handle = memory as *mut RecordHandle;
     if handle.is_null() {
@@ -57,7 +58,8 @@ pub unsafe extern "C" fn geolint_records_begin_again(
     ghost held: { RecordHandle }
     requires testable { Testable memory }
     requires* handle { sem 𝓛 (if_non_null memory (lies_at the_row full_share memory held)) }
-    ensures* begun { ∃ₛ (λ (new : RecordHandle). sem 𝓛 (if_non_null memory (lies_at the_row full_share memory new)) ∗ ⌜ BegunAt memory framing max_depth max_bytes result new ⌝) }
+    ensures* begun { ∃ₛ (λ (new : RecordHandle). sem 𝓛
+        (if_non_null memory (lies_at the_row full_share memory new)) ∗ ⌜ BegunAt memory framing max_depth max_bytes result new ⌝) }
 {
     let handle = memory as *mut RecordHandle;
     if handle.is_null() {
@@ -72,7 +74,8 @@ pub unsafe extern "C" fn geolint_records_feed(memory: *mut Memory, piece: &[u8])
     ghost held: { RecordHandle }
     requires testable { Testable memory }
     requires* handle { sem 𝓛 (if_non_null memory (lies_at the_row full_share memory held)) }
-    ensures* fed { ∃ₛ (λ (new : RecordHandle). sem 𝓛 (if_non_null memory (lies_at the_row full_share memory new)) ∗ ⌜ FedAt memory held piece.now result new ⌝) }
+    ensures* fed { ∃ₛ (λ (new : RecordHandle). sem 𝓛
+        (if_non_null memory (lies_at the_row full_share memory new)) ∗ ⌜ FedAt memory held piece.now result new ⌝) }
 {
     let handle = memory as *mut RecordHandle;
     if handle.is_null() {
@@ -117,7 +120,8 @@ pub unsafe extern "C" fn geolint_records_finish(memory: *mut Memory) -> Whole
     ghost held: { RecordHandle }
     requires testable { Testable memory }
     requires* handle { sem 𝓛 (if_non_null memory (lies_at the_row full_share memory held)) }
-    ensures* finished { ∃ₛ (λ (new : RecordHandle). sem 𝓛 (if_non_null memory (lies_at the_row full_share memory new)) ∗ ⌜ FinishedAt memory held result new ⌝) }
+    ensures* finished { ∃ₛ
+        (λ (new : RecordHandle). sem 𝓛 (if_non_null memory (lies_at the_row full_share memory new)) ∗ ⌜ FinishedAt memory held result new ⌝) }
 {
     let handle = memory as *mut RecordHandle;
     if handle.is_null() {

@@ -4,7 +4,8 @@ ghost use Rattle.gj_json.specs.Limits.{Allowed};
 ghost use Rattle.gj_coords.specs.Warnings.{Warning};
 ghost use Rattle.gj_coords.specs.WarningsStand.{StandsFor};
 ghost use Rattle.gj_rules.specs.Verdict.{Judgement, IsVerdict, Says};
-ghost use Rattle.geolint_c.specs.Report.{cause_number, warned_of, all_warned, Reports, nothing_warned, valid_report, broken_report, refusal_report, report_of, no_report};
+ghost use Rattle.geolint_c.specs.Report.{cause_number, warned_of, all_warned, Reports, nothing_warned, valid_report, broken_report, refusal_report, report_of};
+ghost use Rattle.geolint_c.specs.Report.{no_report};
 
 use crate::status::DONE;
 use gj_coords::{Fault, KINDS, Kind, Warnings};

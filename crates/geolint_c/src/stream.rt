@@ -52,7 +52,8 @@ const _: () = prove!(align_of::<LocatorHandle>() <= align_of::<Handle>());
 pub unsafe extern "C" fn geolint_begin(memory: *mut Memory, max_depth: u32, max_bytes: u64) -> u32
     requires testable { Testable memory }
     requires* room { sem 𝓛 (if_non_null memory (room_at the_row memory)) }
-    ensures* begun { ∃ₛ (λ (new : Handle). sem 𝓛 (if_non_null memory (lies_at the_row full_share memory new)) ∗ ⌜ BegunAt memory max_depth max_bytes result new ⌝) }
+    ensures* begun { ∃ₛ (λ (new : Handle). sem 𝓛
+        (if_non_null memory (lies_at the_row full_share memory new)) ∗ ⌜ BegunAt memory max_depth max_bytes result new ⌝) }
 {
     let handle = memory as *mut Handle;
     if handle.is_null() {
@@ -72,7 +73,8 @@ pub unsafe extern "C" fn geolint_begin_again(
     ghost held: { Handle }
     requires testable { Testable memory }
     requires* handle { sem 𝓛 (if_non_null memory (lies_at the_row full_share memory held)) }
-    ensures* begun { ∃ₛ (λ (new : Handle). sem 𝓛 (if_non_null memory (lies_at the_row full_share memory new)) ∗ ⌜ BegunAt memory max_depth max_bytes result new ⌝) }
+    ensures* begun { ∃ₛ (λ (new : Handle). sem 𝓛
+        (if_non_null memory (lies_at the_row full_share memory new)) ∗ ⌜ BegunAt memory max_depth max_bytes result new ⌝) }
 {
     let handle = memory as *mut Handle;
     if handle.is_null() {

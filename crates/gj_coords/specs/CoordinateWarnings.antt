@@ -53,7 +53,8 @@ position_warnings value = if is_sound position value then sound_position_warning
 
 -- of a ring that is wrong where it runs so
 abbrev pub ring_warnings : Turn → Concern
-ring_warnings wrong value = warned_if (is_sound ring value && same_turn (ring_turn (elements_of value)) wrong) (place_of value) W2 ++ each position_warnings value
+ring_warnings wrong value =
+    warned_if (is_sound ring value && same_turn (ring_turn (elements_of value)) wrong) (place_of value) W2 ++ each position_warnings value
 
 -- the first ring is the exterior one, which must not run clockwise, and those behind it are holes, which must not run the other way
 abbrev pub rings_warnings : List Tree → List Warning

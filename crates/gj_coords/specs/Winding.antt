@@ -1,6 +1,7 @@
 -- The winding of a linear ring: an exterior ring runs counterclockwise and a hole clockwise (RFC 7946, section 3.1.6).
 use denote.Enum.Bare.{sameb}
-use Rattle.std.specs.Prelude.{zero, suc, ◌*◌, ◌^◌, List, [], ◌∷◌, Option, Some, None, Bool, ◌&&◌, if◌then◌else◌, filter_map, is_some, option_and_then, ℤ, pos, negsuc, ◌+ℤ◌, ◌-ℤ◌, ◌*ℤ◌, neg_ℤ, int_le}
+use Rattle.std.specs.Prelude.{zero, suc, ◌*◌, ◌^◌, List, [], ◌∷◌, Option, Some, None, Bool, ◌&&◌, if◌then◌else◌, filter_map, is_some, option_and_then, ℤ, pos}
+use Rattle.std.specs.Prelude.{negsuc, ◌+ℤ◌, ◌-ℤ◌, ◌*ℤ◌, neg_ℤ, int_le}
 use Rattle.std.specs.List.{list_all}
 use Rattle.gj_number.specs.Exact.{Exact, cut_places, cut_of}
 use Rattle.gj_json.specs.Tree.{Tree}

@@ -193,7 +193,8 @@ impl Numbers {
     ghost use Rattle.gj_json.specs.declared.event.What.TheVariants.{OpenArray};
     ghost use Rattle.gj_coords.specs.Internal.SentEvents.{event_at};
     ghost use Rattle.gj_coords.specs.declared.kind.Kind.TheVariants.{W3, W4, W5};
-    ghost use Rattle.gj_coords.specs.Internal.PositionGather.{number_added, first_judged, array_counted, numbers_start, position_least, position_noted, judged_noted};
+    ghost use Rattle.gj_coords.specs.Internal.PositionGather.{number_added, first_judged, array_counted, numbers_start, position_least, position_noted};
+    ghost use Rattle.gj_coords.specs.Internal.PositionGather.{judged_noted};
     ghost use Rattle.gj_coords.specs.Internal.SteadyWalk.{IsCounted};
 
     pub fn none() -> Numbers

@@ -17,7 +17,8 @@ const _: () = prove!(size_of::<Warnings>() == 112);
 impl Warnings {
     ghost use Rattle.std.specs.Prelude.{◌≡◌, ◌↔◌, ◌++◌, ◌∷◌, [], ℕ, ◌+◌, ◌≤◌, ◌^◌, List, map, IsTrue};
     ghost use Rattle.gj_coords.specs.Warnings.{Warning, warning_at, shifted_by, count_of, first_of};
-    ghost use Rattle.gj_coords.specs.Internal.KeptWarnings.{warnings_of, no_warnings, joined, shifted, added, replaced, kept, joined_noted, shifted_noted, with_noted, count_in, first_in, none_in};
+    ghost use Rattle.gj_coords.specs.Internal.KeptWarnings.{warnings_of, no_warnings, joined, shifted, added, replaced, kept, joined_noted, shifted_noted};
+    ghost use Rattle.gj_coords.specs.Internal.KeptWarnings.{with_noted, count_in, first_in, none_in};
     ghost use Rattle.gj_coords.specs.WarningsStand.{StandsFor};
 
     /// No warning.

@@ -26,7 +26,8 @@ text_of Hint.TextSequence = codes "the file is a text sequence (RFC 8142): geoli
 text_of Hint.TopoJson = codes "the file is TopoJSON: npx -p topojson-client topo2geo LAYER=OUT.geojson < IN"
 text_of Hint.EsriJson = codes "the file is Esri JSON: ogr2ogr -f GeoJSON OUT.geojson IN.json, or ask the server with f=geojson"
 text_of Hint.TextInString = codes "a text stands inside a string: jq fromjson IN > OUT.geojson, where it is the whole file"
-text_of Hint.SwappedAxes = codes "latitude and longitude look swapped; the longitude comes first: jq '(.. | objects | .coordinates? // empty | .. | arrays | select(.[0] | numbers)) |= [.[1], .[0]] + .[2:]' IN > OUT.geojson"
+text_of Hint.SwappedAxes =
+    codes "latitude and longitude look swapped; the longitude comes first: jq '(.. | objects | .coordinates? // empty | .. | arrays | select(.[0] | numbers)) |= [.[1], .[0]] + .[2:]' IN > OUT.geojson"
 text_of Hint.ManyDigits = codes "the number has more than 30 digits; 17 give every number of a computer back, and 7 decimal places are a centimetre"
 text_of Hint.LargeNumber = codes "the number is too large, above 10 to the power of 400"
 text_of Hint.SmallNumber = codes "the number is nearly zero, below 10 to the power of -400: write 0"

@@ -1,6 +1,7 @@
 //! Files of another kind, by their first bytes.
 ghost use Rattle.std.specs.Prelude.{◌≡◌};
-ghost use Rattle.gj_hints.specs.Formats.{begins, holds, without_mark, without_white, binary_kind, map_kind, markup_kind, text_kind, is_utf_16, is_html, kind_of};
+ghost use Rattle.gj_hints.specs.Formats.{begins, holds, without_mark, without_white, binary_kind, map_kind, markup_kind, text_kind, is_utf_16, is_html};
+ghost use Rattle.gj_hints.specs.Formats.{kind_of};
 
 use crate::kind::Hint;
 use memchr::memmem;

@@ -1,7 +1,8 @@
 //! A number that is longer, greater or nearer to zero than is read.
 ghost use Rattle.std.specs.Prelude.{◌≡◌, take, drop};
 ghost use Rattle.std.specs.List.{prefix_len};
-ghost use Rattle.gj_hints.specs.Numbers.{number_hint, has_many_digits, behind_thirty, is_small, mantissa, exponent, significant, is_in_mantissa, is_idle, has_value, is_value, has_point};
+ghost use Rattle.gj_hints.specs.Numbers.{number_hint, has_many_digits, behind_thirty, is_small, mantissa, exponent, significant, is_in_mantissa, is_idle};
+ghost use Rattle.gj_hints.specs.Numbers.{has_value, is_value, has_point};
 
 use crate::formats::begins;
 use crate::kind::Hint;

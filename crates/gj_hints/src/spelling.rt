@@ -1,6 +1,7 @@
 //! Bytes that only look like JSON, by those around the first byte that is refused.
 ghost use Rattle.std.specs.Prelude.{◌≡◌};
-ghost use Rattle.gj_hints.specs.Spellings.{first_byte, last_byte, last_solid, without_white_behind, is_number_word, is_infinity, is_comment, is_extra_comma, opens_character, begins_no_character, is_other_encoding, word_at, sign_at, spelling};
+ghost use Rattle.gj_hints.specs.Spellings.{first_byte, last_byte, last_solid, without_white_behind, is_number_word, is_infinity, is_comment, is_extra_comma};
+ghost use Rattle.gj_hints.specs.Spellings.{opens_character, begins_no_character, is_other_encoding, word_at, sign_at, spelling};
 
 use crate::formats::begins;
 use crate::kind::Hint;

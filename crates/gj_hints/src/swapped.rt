@@ -2,7 +2,8 @@
 ghost use Rattle.std.specs.Prelude.{◌≡◌, ◌≤◌, ◌-◌, length};
 ghost use Rattle.std.specs.Char.{is_ascii_digit};
 ghost use Rattle.std.specs.List.{prefix_len};
-ghost use Rattle.gj_hints.specs.Swapped.{is_inside, field, behind_field, is_plain, is_plain_byte, without_sign, digits_of, whole, degrees, are_swapped, is_swapped};
+ghost use Rattle.gj_hints.specs.Swapped.{is_inside, field, behind_field, is_plain, is_plain_byte, without_sign, digits_of, whole, degrees, are_swapped};
+ghost use Rattle.gj_hints.specs.Swapped.{is_swapped};
 
 use crate::formats::without_white;
 

@@ -16,10 +16,12 @@ grouped end more (failing number judgement) two three = refl
 grouped end more (all_valid a ws) (failing number judgement) three = refl
 grouped end more (all_valid a ws) (all_valid b vs) (all_valid c us) =
     let count : a + b + c ≡ a + (b + c) = omega arith in
-    let last : map (shifted_by (end + more)) us ≡ map (shifted_by end) (map (shifted_by more) us) = ap (λ (n : ℕ). map (shifted_by n) us) (order more end) ∙ warnings-twice more end us in
+    let last : map (shifted_by (end + more)) us ≡ map (shifted_by end) (map (shifted_by more) us) =
+    ap (λ (n : ℕ). map (shifted_by n) us) (order more end) ∙ warnings-twice more end us in
     let all : (ws ++ map (shifted_by end) vs) ++ map (shifted_by (end + more)) us ≡ ws ++ map (shifted_by end) (vs ++ map (shifted_by more) us) =
     append_assoc ws (map (shifted_by end) vs) (map (shifted_by (end + more)) us)
-    ∙ ap (λ (l : List Warning). ws ++ l) (ap (λ (l : List Warning). map (shifted_by end) vs ++ l) last ∙ sym (map-append (shifted_by end) vs (map (shifted_by more) us))) in
+    ∙ ap (λ (l : List Warning). ws ++ l)
+    (ap (λ (l : List Warning). map (shifted_by end) vs ++ l) last ∙ sym (map-append (shifted_by end) vs (map (shifted_by more) us))) in
     ap (λ (n : ℕ). all_valid n ((ws ++ map (shifted_by end) vs) ++ map (shifted_by (end + more)) us)) count ∙ ap (all_valid (a + (b + c))) all
 grouped end more (all_valid a ws) (all_valid b vs) (failing number judgement) =
     let count : a + b + number ≡ a + (b + number) = omega arith in

@@ -1,5 +1,6 @@
 -- The records of two parts, one after the other.
-use Rattle.std.proofs.Common.{arith, ◌≡◌, ◌+◌, ◌-◌, ◌<◌, ◌≤◌, ℕ, suc, zero, refl, ap, sym, subst, ◌∙◌, List, [], ◌∷◌, ◌++◌, length, map, take, true, false, Bool, length-append, inl, inr}
+use Rattle.std.proofs.Common.{arith, ◌≡◌, ◌+◌, ◌-◌, ◌<◌, ◌≤◌, ℕ, suc, zero, refl, ap, sym, subst, ◌∙◌, List, [], ◌∷◌, ◌++◌, length, map, take, true, false}
+use Rattle.std.proofs.Common.{Bool, length-append, inl, inr}
 use Rattle.std.specs.Prelude.{◌&&◌, not, nat_lt}
 use Rattle.std.proofs.lemmas.Bool.{cases_Bool, cases_lt, false≢true, lt-ltb, le-ltb}
 use Rattle.std.proofs.Math.Seq.{take-append-add}
@@ -58,7 +59,8 @@ records-append is_cut place (byte ∷ following ∷ more) next whole begins =
 abbrev pub moved_record : ℕ → SequenceRecord → SequenceRecord
 moved_record by r = record { start = r.start + by; bytes = r.bytes; is_cut = r.is_cut }
 
-records-moved : (is_cut : Bool) (by place other : ℕ) (bytes : List ℕ) → other ≡ place + by → records_from is_cut other bytes ≡ map (moved_record by) (records_from is_cut place bytes)
+records-moved : (is_cut : Bool) (by place other : ℕ) (bytes : List ℕ) → other ≡ place + by
+    → records_from is_cut other bytes ≡ map (moved_record by) (records_from is_cut place bytes)
 records-moved is_cut by place other [] same = refl
 records-moved is_cut by place other (byte ∷ more) same =
     let rest = records-moved is_cut by (place + 1) (other + 1) more (omega (arith, same)) in
@@ -87,18 +89,21 @@ less-both n a b within = elim (cases_lt n (a + b)) [
 ]
 
 pub records_of-parts : (limits : Allowed) (first second : List ℕ) → ArePartsOf limits first second
-    → records_of limits (first ++ second) ≡ records_of limits first ++ map (moved_record (length first)) (records_of (limits_after limits (length first)) second)
+    → records_of limits (first ++ second) ≡ records_of limits first ++ map (moved_record (length first))
+    (records_of (limits_after limits (length first)) second)
 records_of-parts limits first second parts =
     let n = limits.bytes in
     let a = length first in
     let within : a ≤ n = omega (arith, parts.within) in
     let rest = take (n - a) second in
-    let cut : nat_lt n (length (first ++ second)) ≡ nat_lt (n - a) (length second) = ap (λ (m : ℕ). nat_lt n m) (length-append first second) ∙ less-both n a (length second) within in
+    let cut : nat_lt n (length (first ++ second)) ≡ nat_lt (n - a) (length second) =
+    ap (λ (m : ℕ). nat_lt n m) (length-append first second) ∙ less-both n a (length second) within in
     let uncut : nat_lt n a ≡ false = le-ltb n a within in
     let alone : records_of limits first ≡ records_from false 0 first =
     ap (λ (c : Bool). records_from c 0 (take n first)) uncut ∙ ap (λ (l : List ℕ). records_from false 0 l) (take_all n first within) in
     let begins : begins_with_separator rest ≡ true = begins-taken (n - a) second (omega (arith, parts.within)) parts.begins in
-    let both : records_from (nat_lt (n - a) (length second)) 0 (first ++ rest) ≡ records_from false 0 first ++ records_from (nat_lt (n - a) (length second)) (0 + a) rest =
+    let both : records_from (nat_lt (n - a) (length second)) 0 (first ++ rest) ≡ records_from false 0 first ++ records_from (nat_lt (n - a) (length second))
+    (0 + a) rest =
     records-append (nat_lt (n - a) (length second)) 0 first rest parts.whole begins in
     ap (λ (c : Bool). records_from c 0 (take n (first ++ second))) cut
     ∙ (ap (λ (l : List ℕ). records_from (nat_lt (n - a) (length second)) 0 l) (take-second n first second within)

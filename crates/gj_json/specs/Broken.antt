@@ -65,12 +65,14 @@ BeginsCharacter Escape bytes = bytes ≡ backslash ∷ []
 BeginsCharacter HexDue bytes = bytes ≡ backslash ∷ letter_u ∷ []
 BeginsCharacter (HexOne value) bytes = (b0 : ℕ) × (bytes ≡ backslash ∷ letter_u ∷ b0 ∷ []) × (hex_of b0 ≡ Some value)
 BeginsCharacter (HexTwo value) bytes =
-    (b0 : ℕ) × (b1 : ℕ) × (d0 : ℕ) × (d1 : ℕ) × (bytes ≡ backslash ∷ letter_u ∷ b0 ∷ b1 ∷ []) × (hex_of b0 ≡ Some d0) × (hex_of b1 ≡ Some d1) × (value ≡ d0 * 16 + d1)
+    (b0 : ℕ) × (b1 : ℕ) × (d0 : ℕ) × (d1 : ℕ) × (bytes ≡ backslash ∷ letter_u ∷ b0 ∷ b1 ∷ []) × (hex_of b0 ≡ Some d0) × (hex_of b1 ≡ Some d1)
+    × (value ≡ d0 * 16 + d1)
 BeginsCharacter (HexThree value) bytes =
     (b0 : ℕ) × (b1 : ℕ) × (b2 : ℕ) × (d0 : ℕ) × (d1 : ℕ) × (d2 : ℕ) × (bytes ≡ backslash ∷ letter_u ∷ b0 ∷ b1 ∷ b2 ∷ [])
     × (hex_of b0 ≡ Some d0) × (hex_of b1 ≡ Some d1) × (hex_of b2 ≡ Some d2) × (value ≡ (d0 * 16 + d1) * 16 + d2)
 BeginsCharacter (InCharacter more bounds value) bytes =
-    (b : ℕ) × (rest : List ℕ) × (first : Lead) × (bytes ≡ b ∷ rest) × (lead_of b ≡ Some first) × BeginsTail first.more first.bounds first.value (InCharacter more bounds value) rest
+    (b : ℕ) × (rest : List ℕ) × (first : Lead) × (bytes ≡ b ∷ rest) × (lead_of b ≡ Some first)
+    × BeginsTail first.more first.bounds first.value (InCharacter more bounds value) rest
 
 -- some bytes, which some bytes more make a number
 abbrev pub BeginsNumber : List ℕ → Type 0
@@ -94,7 +96,8 @@ Named place name end K start bytes = Then White (Then (Quoted place name end) (T
 
 abbrev pub MembersSoFar : List Member → (ℕ → List ℕ → Type 0) → ℕ → List ℕ → Type 0
 MembersSoFar [] K start bytes = K start bytes
-MembersSoFar (m ∷ done) K start bytes = MembersSoFar done (Named m.place m.name m.end (Then White (Then (Spells m.value) (Then White (Then (Exactly (comma ∷ [])) K))))) start bytes
+MembersSoFar (m ∷ done) K start bytes =
+    MembersSoFar done (Named m.place m.name m.end (Then White (Then (Spells m.value) (Then White (Then (Exactly (comma ∷ [])) K))))) start bytes
 
 abbrev pub ArrayOpened : ℕ → List Tree → (ℕ → List ℕ → Type 0) → ℕ → List ℕ → Type 0
 ArrayOpened place done K start bytes = (place ≡ start) × Then (Exactly (open_bracket ∷ [])) (ElementsSoFar done K) start bytes
@@ -187,7 +190,8 @@ back_members (m ∷ done) more = back_members done (member_of m more)
 abbrev pub Has : List Frame → Tree → Tree → Type 0
 Has [] t T = T ≡ t
 Has (in_array place done ∷ stack) t T = (more : Elements) × (close : ℕ) × Has stack (array place (back_elements done (element t more)) close) T
-Has (in_object place done np name ne ∷ stack) t T = (more : Members) × (close : ℕ) × Has stack (object place (back_members done (member np name ne t more)) close) T
+Has (in_object place done np name ne ∷ stack) t T =
+    (more : Members) × (close : ℕ) × Has stack (object place (back_members done (member np name ne t more)) close) T
 
 abbrev pub ExtendsLeaf : List Frame → Leaf → Tree → Type 0
 ExtendsLeaf stack value_due T = (t : Tree) × Has stack t T
@@ -198,7 +202,8 @@ ExtendsLeaf stack (constant_on which place left) T = Has stack (constant which p
 ExtendsLeaf stack (number_on place so_far) T = (more : List ℕ) × (end : ℕ) × Has stack (number place (so_far ++ more) end) T
 ExtendsLeaf stack (string_on place so_far state) T = (content : List ℕ) × (end : ℕ) × Has stack (string place (so_far ++ content) end) T
 ExtendsLeaf stack (name_due place done) T = (np : ℕ) × (name : List ℕ) × (ne : ℕ) × (t : Tree) × Has (in_object place done np name ne ∷ stack) t T
-ExtendsLeaf stack (name_on place done np so_far state) T = (content : List ℕ) × (ne : ℕ) × (t : Tree) × Has (in_object place done np (so_far ++ content) ne ∷ stack) t T
+ExtendsLeaf stack (name_on place done np so_far state) T =
+    (content : List ℕ) × (ne : ℕ) × (t : Tree) × Has (in_object place done np (so_far ++ content) ne ∷ stack) t T
 ExtendsLeaf stack (colon_due place done np name ne) T = (t : Tree) × Has (in_object place done np name ne ∷ stack) t T
 
 -- The text is the broken-off one, with what is under way ended and what is open closed.

@@ -14,7 +14,8 @@ abbrev pub number_event : Numbered → Event
 number_event numbered = record { place = numbered.place; what = What.Number (Some (exact_of numbered.value)) }
 
 abbrev pub numbers_events : ℕ → List Numbered → ℕ → List Event
-numbers_events place numbers close = record { place = place; what = What.OpenArray } ∷ (map number_event numbers ++ record { place = close; what = What.CloseArray } ∷ [])
+numbers_events place numbers close =
+    record { place = place; what = What.OpenArray } ∷ (map number_event numbers ++ record { place = close; what = What.CloseArray } ∷ [])
 
 -- the bracket, the numbers and the closing bracket, each told by itself
 abbrev pub flat_events : Flat → List Event

@@ -47,7 +47,8 @@ abbrev mutual
   Spells (constant which place) start bytes = (place ≡ start) × Exactly (letters_of which) start bytes
   Spells (number place literal end) start bytes = (place ≡ start) × IsNumber literal × Then (Exactly literal) (Ends end) start bytes
   Spells (string place content end) start bytes = Quoted place content end start bytes
-  Spells (array place elements close) start bytes = (place ≡ start) × Then (Exactly (open_bracket ∷ [])) (Then White (SpellsElements elements close)) start bytes
+  Spells (array place elements close) start bytes =
+      (place ≡ start) × Then (Exactly (open_bracket ∷ [])) (Then White (SpellsElements elements close)) start bytes
   Spells (object place members close) start bytes = (place ≡ start) × Then (Exactly (open_brace ∷ [])) (Then White (SpellsMembers members close)) start bytes
 
   -- from the first element on, and with the bracket
@@ -64,9 +65,12 @@ abbrev mutual
   pub SpellsMembers : Members → ℕ → ℕ → List ℕ → Type 0
   SpellsMembers end_of_object close start bytes = Closes close_brace close start bytes
   SpellsMembers (member place name end value more) close start bytes =
-      Then (Quoted place name end) (Then White (Then (Exactly (colon ∷ [])) (Then White (Then (Spells value) (Then White (SpellsMoreMembers more close)))))) start bytes
+      Then (Quoted place name end)
+      (Then White (Then (Exactly (colon ∷ [])) (Then White (Then (Spells value) (Then White (SpellsMoreMembers more close)))))) start bytes
 
   pub SpellsMoreMembers : Members → ℕ → ℕ → List ℕ → Type 0
   SpellsMoreMembers end_of_object close start bytes = Closes close_brace close start bytes
   SpellsMoreMembers (member place name end value more) close start bytes =
-      Then (Exactly (comma ∷ [])) (Then White (Then (Quoted place name end) (Then White (Then (Exactly (colon ∷ [])) (Then White (Then (Spells value) (Then White (SpellsMoreMembers more close)))))))) start bytes
+      Then (Exactly (comma ∷ []))
+      (Then White (Then (Quoted place name end)
+      (Then White (Then (Exactly (colon ∷ [])) (Then White (Then (Spells value) (Then White (SpellsMoreMembers more close)))))))) start bytes

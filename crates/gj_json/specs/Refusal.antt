@@ -22,7 +22,8 @@ abbrev pub RefusedFor : Cause → Allowed → List ℕ → ℕ → Type 0
 RefusedFor Syntax limits bytes place = (stop : Stops limits bytes place) × (place < limits.bytes) × (IsViable (stop.good ++ stop.byte ∷ []) → ⊥)
 -- only texts that nest too deep begin with the bytes up to that one
 RefusedFor Depth limits bytes place =
-    (stop : Stops limits bytes place) × (place < limits.bytes) × IsViable (stop.good ++ stop.byte ∷ []) × (IsViableWithin limits.depth (stop.good ++ stop.byte ∷ []) → ⊥)
+    (stop : Stops limits bytes place) × (place < limits.bytes) × IsViable (stop.good ++ stop.byte ∷ [])
+    × (IsViableWithin limits.depth (stop.good ++ stop.byte ∷ []) → ⊥)
 -- the byte is one too many, whatever it is
 RefusedFor Length limits bytes place = Stops limits bytes place × (place ≡ limits.bytes)
 -- no byte is refused, and the input is no text yet

@@ -36,7 +36,8 @@ pub fn same_path()
 /// A reader took all bytes that it was given, or those before the one that it refused.
 pub fn bytes_taken()
     ensures open { (reader : Reader) (bytes : List ℕ) → StandsFor reader bytes → refusal_of reader ≡ None → offset_of reader ≡ length bytes }
-    ensures refused { (reader : Reader) (bytes : List ℕ) (fault : JsonFault) → StandsFor reader bytes → refusal_of reader ≡ Some fault → offset_of reader ≡ fault.place }
+    ensures refused { (reader : Reader) (bytes : List ℕ) (fault : JsonFault) → StandsFor reader bytes → refusal_of reader ≡ Some fault
+        → offset_of reader ≡ fault.place }
     ensures within { (reader : Reader) (bytes : List ℕ) → StandsFor reader bytes → offset_of reader ≤ length bytes }
 {}
 
@@ -49,9 +50,12 @@ pub fn viable_fronts()
 
 /// Under any limits an input has one refusal, or it is an admitted text, and never both.
 pub fn one_refusal()
-    ensures at_most_one { (limits : Allowed) (bytes : List ℕ) (first second : JsonFault) → IsRefusal limits bytes first → IsRefusal limits bytes second → first ≡ second }
-    ensures either { (limits : Allowed) (bytes : List ℕ) → ((fault : JsonFault) × IsRefusal limits bytes fault) ⊎ ((text : Text) × IsAdmitted limits text bytes) }
-    ensures never_both { (limits : Allowed) (bytes : List ℕ) (fault : JsonFault) (text : Text) → IsRefusal limits bytes fault → IsAdmitted limits text bytes → ⊥ }
+    ensures at_most_one { (limits : Allowed) (bytes : List ℕ) (first second : JsonFault) → IsRefusal limits bytes first → IsRefusal limits bytes second
+        → first ≡ second }
+    ensures either { (limits : Allowed) (bytes : List ℕ) → ((fault : JsonFault) × IsRefusal limits bytes fault)
+        ⊎ ((text : Text) × IsAdmitted limits text bytes) }
+    ensures never_both { (limits : Allowed) (bytes : List ℕ) (fault : JsonFault) (text : Text) → IsRefusal limits bytes fault → IsAdmitted limits text bytes
+        → ⊥ }
 {}
 
 /// The longest front, of no more bytes than are allowed, that can still become a text within the depth tells the refusal:
@@ -64,7 +68,8 @@ pub fn longest_front()
 
 /// What can still become a text, within a depth too, is exactly what spells a text broken off that nests no deeper.
 pub fn broken_off()
-    ensures within { (levels : ℕ) (bytes : List ℕ) → IsViableWithin levels bytes ↔ ((broken : Broken) × SpellsBroken broken bytes × (broken_depth broken ≤ levels)) }
+    ensures within { (levels : ℕ) (bytes : List ℕ)
+        → IsViableWithin levels bytes ↔ ((broken : Broken) × SpellsBroken broken bytes × (broken_depth broken ≤ levels)) }
     ensures any { (bytes : List ℕ) → IsViable bytes ↔ ((broken : Broken) × SpellsBroken broken bytes) }
 {}
 

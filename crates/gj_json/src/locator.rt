@@ -72,7 +72,8 @@ impl Locator {
             → steps_of result ≡ path_at (offset_of self.now) text }
         ensures taken { (bytes rest : List ℕ) (text : Text) → StandsFor self.now bytes → refusal_of self.now ≡ None → IsText text (bytes ++ rest)
             → steps_of result ≡ path_at (length bytes) text }
-        ensures refused { (bytes rest : List ℕ) (text : Text) (fault : JsonFault) → StandsFor self.now bytes → refusal_of self.now ≡ Some fault → IsText text (take fault.place bytes ++ rest)
+        ensures refused { (bytes rest : List ℕ) (text : Text) (fault : JsonFault) → StandsFor self.now bytes → refusal_of self.now ≡ Some fault
+            → IsText text (take fault.place bytes ++ rest)
             → steps_of result ≡ path_at fault.place text }
     {
         let mut path = self.trail;

@@ -4,7 +4,8 @@ ghost use Rattle.std.specs.Prelude.{◌≡◌, ◌==◌, ◌<◌, if◌then◌el
 ghost use Rattle.gj_json.specs.Internal.NamedBytes.{mark_first};
 ghost use Rattle.gj_json.specs.Internal.ByteClasses.{class_of};
 ghost use Rattle.gj_json.specs.Grammar.{letters_of};
-ghost use Rattle.gj_json.specs.Internal.Transitions.{begin_move, due_move, array_move, name_move, object_move, name_due_move, colon_move, after_move, constant_move, value_string_move, name_string_move, string_move, move_of, IsMode, IsMove, IsStringState};
+ghost use Rattle.gj_json.specs.Internal.Transitions.{begin_move, due_move, array_move, name_move, object_move, name_due_move, colon_move, after_move};
+ghost use Rattle.gj_json.specs.Internal.Transitions.{constant_move, value_string_move, name_string_move, string_move, move_of, IsMode, IsMove, IsStringState};
 ghost use Rattle.gj_json.specs.Internal.TextMachine.{string_next};
 ghost use Rattle.gj_json.specs.Internal.KeptContent.{words_in};
 ghost use Rattle.gj_json.specs.Internal.ReaderStep.{opened};

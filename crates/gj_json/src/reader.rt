@@ -100,7 +100,8 @@ impl Reader {
     pub fn push(&mut self, byte: u8) -> Result<ArrayVec<Event, 2>, JsonFault>
         ensures stands { (bytes : List ℕ) → StandsFor self.old bytes → StandsFor self.new (bytes ++ byte ∷ []) }
         ensures answer { (bytes : List ℕ) → StandsFor self.old bytes → Answers (limits_of self.old) (bytes ++ byte ∷ []) result }
-        ensures events { (bytes : List ℕ) → StandsFor self.old bytes → IfOk result (λ found. Completed (length bytes) (length bytes + 1) (bytes ++ byte ∷ []) found.items) }
+        ensures events { (bytes : List ℕ) → StandsFor self.old bytes
+            → IfOk result (λ found. Completed (length bytes) (length bytes + 1) (bytes ++ byte ∷ []) found.items) }
         ensures limits { limits_of self.new ≡ limits_of self.old }
         ensures refusal { MatchResult result (λ found. refusal_of self.new ≡ None) (λ fault. refusal_of self.new ≡ Some fault) }
         ensures again { (fault : JsonFault) → refusal_of self.old ≡ Some fault → (self.new ≡ self.old) × (result ≡ Err fault) }
@@ -116,7 +117,8 @@ impl Reader {
     fn take_next<S: EventSink>(&mut self, byte: u8, sink: &mut S) -> Result<Move, JsonFault>
         ensures stands { (bytes : List ℕ) → StandsFor self.old bytes → StandsFor self.new (bytes ++ byte ∷ []) }
         ensures answer { (bytes : List ℕ) → StandsFor self.old bytes → Answers (limits_of self.old) (bytes ++ byte ∷ []) result }
-        ensures told { (bytes : List ℕ) (events : List Event) → StandsFor self.old bytes → S.heard sink.old events → IfOk result (λ done. HearsTwo (S.heard sink.new) events bytes byte) }
+        ensures told { (bytes : List ℕ) (events : List Event) → StandsFor self.old bytes → S.heard sink.old events
+            → IfOk result (λ done. HearsTwo (S.heard sink.new) events bytes byte) }
         ensures limits { limits_of self.new ≡ limits_of self.old }
         ensures on { offset_of self.old ≤ offset_of self.new }
         ensures refusal { MatchResult result (λ done. refusal_of self.new ≡ None) (λ fault. refusal_of self.new ≡ Some fault) }
@@ -163,7 +165,8 @@ impl Reader {
     /// The refusal, once there was one: that of every input that begins with the bytes that were given.
     pub fn refusal(&self) -> Option<JsonFault>
         ensures value { result ≡ refusal_of self.now }
-        ensures lasting { (bytes more : List ℕ) (fault : JsonFault) → StandsFor self.now bytes → refusal_of self.now ≡ Some fault → IsRefusal (limits_of self.now) (bytes ++ more) fault }
+        ensures lasting { (bytes more : List ℕ) (fault : JsonFault) → StandsFor self.now bytes → refusal_of self.now ≡ Some fault
+            → IsRefusal (limits_of self.now) (bytes ++ more) fault }
     {
         self.fault
     }
@@ -180,7 +183,8 @@ impl Reader {
     /// How many arrays and objects are open after the bytes that were taken.
     pub fn levels(&self) -> u16
         ensures value { result ≡ levels_of self.now }
-        ensures open { (bytes rest : List ℕ) (text : Text) → StandsFor self.now bytes → IsText text (take (offset_of self.now) bytes ++ rest) → result ≡ open_at (offset_of self.now) text }
+        ensures open { (bytes rest : List ℕ) (text : Text) → StandsFor self.now bytes → IsText text (take (offset_of self.now) bytes ++ rest)
+            → result ≡ open_at (offset_of self.now) text }
         ensures small { result ≤ MOST_LEVELS }
     {
         self.levels.len()

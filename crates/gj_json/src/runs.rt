@@ -78,7 +78,8 @@ pub fn whole_characters(piece: &[u8]) -> usize
 /// kept of them.
 fn text_front(content: &Content, state: StringState, piece: &[u8]) -> usize
     ensures within { result ≤ length piece.now }
-    ensures reads { (characters : List ℕ) × Reads state (take result piece.now) characters state × ((so_far : List ℕ) → Holds content.now so_far → Holds content.now (so_far ++ characters)) }
+    ensures reads { (characters : List ℕ) × Reads state (take result piece.now) characters state
+        × ((so_far : List ℕ) → Holds content.now so_far → Holds content.now (so_far ++ characters)) }
 {
     if !content.is_other() {
         return 0;
@@ -95,7 +96,8 @@ pub fn string_run(content: &mut Content, state: StringState, piece: &[u8]) -> St
     ensures within { result.count ≤ length piece.now }
     ensures state { IsStringState result.state }
     ensures longest { result.count < length piece.now → StopsString result.state (get_or piece.now result.count 0) }
-    ensures reads { (characters : List ℕ) × Reads state (take result.count piece.now) characters result.state × ((so_far : List ℕ) → Holds content.old so_far → Holds content.new (so_far ++ characters)) }
+    ensures reads { (characters : List ℕ) × Reads state (take result.count piece.now) characters result.state
+        × ((so_far : List ℕ) → Holds content.old so_far → Holds content.new (so_far ++ characters)) }
 {
     let mut count = 0;
     let mut here = state;

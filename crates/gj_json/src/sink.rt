@@ -54,7 +54,8 @@ pub trait EventSink {
 
     /// Events came within the levels that it ignores, whichever they are, and so many of these levels are left to close.
     fn pass(&mut self, left: u16)
-        ensures { (events inner : List Event) → 0 < ignores self.old → heard self.old events → Leaves (ignores self.old) inner left → heard self.new (events ++ inner) };
+        ensures { (events inner : List Event) → 0 < ignores self.old → heard self.old events → Leaves (ignores self.old) inner left
+            → heard self.new (events ++ inner) };
 
     /// Whether it can do without the events in the array or object that was just opened, where that closes in the same piece.
     /// The reader then tries to close it at once.

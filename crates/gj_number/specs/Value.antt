@@ -1,5 +1,6 @@
 -- Which decimal a number denotes, where it is held, as a function of its bytes.
-use Rattle.std.specs.Prelude.{zero, suc, ◌-◌, ◌+◌, ◌*◌, ◌/◌, ◌%◌, ℕ, Bool, false, ◌&&◌, ◌||◌, ◌==◌, nat_lt, nat_le, if◌then◌else◌, ℤ, pos, ◌+ℤ◌, ◌-ℤ◌, unsigned_abs, Option, Some, None, List, [], ◌∷◌, ◌++◌, length}
+use Rattle.std.specs.Prelude.{zero, suc, ◌-◌, ◌+◌, ◌*◌, ◌/◌, ◌%◌, ℕ, Bool, false, ◌&&◌, ◌||◌, ◌==◌, nat_lt, nat_le, if◌then◌else◌, ℤ, pos, ◌+ℤ◌, ◌-ℤ◌}
+use Rattle.std.specs.Prelude.{unsigned_abs, Option, Some, None, List, [], ◌∷◌, ◌++◌, length}
 use Rattle.std.specs.List.{fold, before_first, after_first}
 use Rattle.gj_number.specs.Bytes.{minus_sign, plus_sign, decimal_point, zero_digit, is_exponent_letter}
 use Rattle.gj_number.specs.Exact.{Exact, zero_exact, signed, digits_limit, power_limit}

@@ -13,7 +13,8 @@ module _ {S : Type 0} where
   -- is internal: a caller needs that `new` stands for no bytes, and that each call keeps it.
   unfoldable pub StandsFor : (S → List Feature → Type 0) → FeatureLinter S → List ℕ → Type 0
   StandsFor Told linter bytes = ReaderStandsFor linter.reader bytes
-      × AreToldOf (Stand (Told linter.rules.sink) linter.rules.rules linter.rules.count) (take (reader_offset linter.reader) bytes) (reader_offset linter.reader)
+      × AreToldOf (Stand (Told linter.rules.sink) linter.rules.rules linter.rules.count) (take (reader_offset linter.reader) bytes)
+      (reader_offset linter.reader)
 
   -- what it judges under
   abbrev pub limits_of : FeatureLinter S → Allowed

@@ -6,7 +6,8 @@ use Rattle.gj_rules.specs.FeatureFindings.{FeatureFinding}
 
 -- the end is told by the place of the closing bracket, before it
 abbrev pub SaysFinding : Feature → FeatureFinding → Type 0
-SaysFinding told finding = (told.index ≡ finding.index) × (told.place ≡ finding.place) × (told.close ≡ finding.close) × (told.id ≡ finding.id) × (told.fault ≡ finding.fault) × WarningsStandFor told.warnings finding.warnings
+SaysFinding told finding = (told.index ≡ finding.index) × (told.place ≡ finding.place) × (told.close ≡ finding.close) × (told.id ≡ finding.id)
+    × (told.fault ≡ finding.fault) × WarningsStandFor told.warnings finding.warnings
 
 -- as many, each in its turn
 abbrev pub SayFindings : List Feature → List FeatureFinding → Type 0

@@ -4,7 +4,8 @@ use Rattle.gj_json.specs.declared.event.Event.{Event}
 use Rattle.gj_json.specs.declared.fault.JsonFault.{JsonFault}
 use Rattle.gj_json.specs.Events.{events_by}
 use Rattle.gj_json.specs.Limits.{Allowed}
-use Rattle.gj_json.specs.Reader.{StandsFor as ReaderStandsFor, limits_of as reader_limits, refusal_of as reader_refusal, offset_of as reader_offset, levels_of as reader_levels}
+use Rattle.gj_json.specs.Reader.{StandsFor as ReaderStandsFor, limits_of as reader_limits, refusal_of as reader_refusal, offset_of as reader_offset}
+use Rattle.gj_json.specs.Reader.{levels_of as reader_levels}
 use Rattle.gj_json.specs.Refusal.{IsRefusal}
 use Rattle.gj_json.specs.Text.{IsText, IsViableWithin}
 use Rattle.gj_json.specs.Tree.{Text}
@@ -22,7 +23,8 @@ pub record AreToldOf (Told : List Event → Type 0) (taken : List ℕ) (n : ℕ)
 -- The linter may have been fed these bytes, refused ones among them. What it says is internal: a caller needs that `new`
 -- stands for no bytes, and that each call keeps it.
 unfoldable pub StandsFor : Linter → List ℕ → Type 0
-StandsFor linter bytes = ReaderStandsFor linter.reader bytes × AreToldOf (RulesStandFor linter.rules) (take (reader_offset linter.reader) bytes) (reader_offset linter.reader)
+StandsFor linter bytes =
+    ReaderStandsFor linter.reader bytes × AreToldOf (RulesStandFor linter.rules) (take (reader_offset linter.reader) bytes) (reader_offset linter.reader)
 
 -- what it judges under
 abbrev pub limits_of : Linter → Allowed

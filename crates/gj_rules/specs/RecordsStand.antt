@@ -38,13 +38,15 @@ pub record HaveToldIf (one : Bool) (told : List Record → Type 0) (s : Records)
   pub one_or_none : length have.more ≡ (if one then 1 else 0)
 
 -- At the end of the input they have told what is found in all its records, and the verdict is what it is by them.
-pub record HaveToldAll (told : List Record → Type 0) (framing : Framing) (limits : Allowed) (bytes : List ℕ) (before found : List Record) (verdict : SeqVerdict) : Type 0 where
+pub record HaveToldAll (told : List Record → Type 0) (framing : Framing) (limits : Allowed) (bytes : List ℕ) (before found : List Record)
+    (verdict : SeqVerdict) : Type 0 where
   pub more : List Record
   pub findings : AreAllFindings framing limits bytes (found ++ more)
   pub whole : verdict ≡ whole_of (found ++ more)
   pub heard : told (before ++ (found ++ more))
 
 -- The same, and whether one more record was told.
-pub record HaveToldAllIf (one : Bool) (told : List Record → Type 0) (framing : Framing) (limits : Allowed) (bytes : List ℕ) (before found : List Record) (verdict : SeqVerdict) : Type 0 where
+pub record HaveToldAllIf (one : Bool) (told : List Record → Type 0) (framing : Framing) (limits : Allowed) (bytes : List ℕ) (before found : List Record)
+    (verdict : SeqVerdict) : Type 0 where
   pub have : HaveToldAll told framing limits bytes before found verdict
   pub one_or_none : length have.more ≡ (if one then 1 else 0)

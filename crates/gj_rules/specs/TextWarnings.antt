@@ -85,7 +85,8 @@ abbrev mutual
   pub first_warnings : Known → Members → List Warning
   first_warnings name end_of_object = []
   first_warnings name (member place found end value more) =
-      if same name (known_of found) then selected_warnings name value (warnings Role.Geometry value) (list_warnings Role.Part value) (list_warnings Role.Feature value)
+      if same name (known_of found) then selected_warnings name value (warnings Role.Geometry value) (list_warnings Role.Part value)
+      (list_warnings Role.Feature value)
       else first_warnings name more
 
 -- all warnings of a text, with that of a byte order mark

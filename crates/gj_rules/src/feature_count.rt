@@ -36,7 +36,8 @@ pub struct FeatureCount {
 }
 
 impl FeatureCount {
-    ghost use Rattle.gj_rules.specs.Internal.FeatureSteps.{no_count, inner_step, outside_step, root_step, list_step, element_step, began, count_at, concerned, opens_inner, concerns_list};
+    ghost use Rattle.gj_rules.specs.Internal.FeatureSteps.{no_count, inner_step, outside_step, root_step, list_step, element_step, began, count_at, concerned};
+    ghost use Rattle.gj_rules.specs.Internal.FeatureSteps.{opens_inner, concerns_list};
 
     /// Before the first event of a text.
     pub fn new() -> Self

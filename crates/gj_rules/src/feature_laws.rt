@@ -8,7 +8,8 @@ ghost use Rattle.gj_json.specs.Tree.{Text};
 ghost use Rattle.gj_coords.specs.Fault.{least, lesser};
 ghost use Rattle.gj_rules.specs.Faults.{text_faults};
 ghost use Rattle.gj_rules.specs.TextWarnings.{text_warnings};
-ghost use Rattle.gj_rules.specs.FeatureFindings.{FeatureFinding, feature_findings, findings_by, commas, own_faults, own_warnings, IsCollection, least_found, warnings_found};
+ghost use Rattle.gj_rules.specs.FeatureFindings.{FeatureFinding, feature_findings, findings_by, commas, own_faults, own_warnings, IsCollection, least_found};
+ghost use Rattle.gj_rules.specs.FeatureFindings.{warnings_found};
 ghost use Rattle.gj_rules.specs.FeaturesTold.{SayFindings};
 ghost use Rattle.gj_rules.specs.Internal.FeatureSteps.{features_by};
 
@@ -17,10 +18,12 @@ use gj_coords::laws::kept_warnings;
 /// A FeatureCollection is judged by itself and by its features (RFC 7946, section 3.3): its least fault is the least of its own
 /// and of theirs, it is valid where neither it nor a feature has a fault, and then its warnings are its own and theirs.
 pub fn by_feature()
-    ensures least { (text : Text) → IsCollection text.value → least (text_faults text) ≡ lesser (least (own_faults text)) (least_found (feature_findings text)) }
+    ensures least { (text : Text) → IsCollection text.value
+        → least (text_faults text) ≡ lesser (least (own_faults text)) (least_found (feature_findings text)) }
     ensures valid { (text : Text) → IsCollection text.value →
         (text_faults text ≡ []) ↔ ((own_faults text ≡ []) × AllByRecursion (λ finding. finding.fault ≡ None) (feature_findings text)) }
-    ensures warnings { (text : Text) → IsCollection text.value → text_faults text ≡ [] → text_warnings text ≡ own_warnings text ++ warnings_found (feature_findings text) }
+    ensures warnings { (text : Text) → IsCollection text.value → text_faults text ≡ []
+        → text_warnings text ≡ own_warnings text ++ warnings_found (feature_findings text) }
 {}
 
 /// The findings of the features that are complete in the first bytes of a text are the first of all.

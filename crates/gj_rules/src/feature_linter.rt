@@ -72,7 +72,8 @@ impl<S: FeatureSink> FeatureLinter<S> {
     /// where the input is a JSON text.
     pub fn finish(mut self) -> (Verdict, S)
         ensures verdict { (bytes : List ℕ) → StandsFor S.told self bytes → IsVerdict (limits_of self) bytes result.0 }
-        ensures told { (bytes : List ℕ) (text : Text) → StandsFor S.told self bytes → IsAdmitted (limits_of self) text bytes → TellFindings (S.told result.1) (feature_findings text) }
+        ensures told { (bytes : List ℕ) (text : Text) → StandsFor S.told self bytes → IsAdmitted (limits_of self) text bytes
+            → TellFindings (S.told result.1) (feature_findings text) }
         ensures refused { (fault : JsonFault) → result.0 ≡ Verdict.NotJson fault → result.1 ≡ sink_of self }
         ensures again { (fault : JsonFault) → refusal_of self ≡ Some fault → result.0 ≡ Verdict.NotJson fault }
     {
@@ -84,7 +85,8 @@ impl<S: FeatureSink> FeatureLinter<S> {
     /// the linter then stands for is not said.
     pub fn end(&mut self) -> Verdict
         ensures verdict { (bytes : List ℕ) → StandsFor S.told self.old bytes → IsVerdict (limits_of self.old) bytes result }
-        ensures told { (bytes : List ℕ) (text : Text) → StandsFor S.told self.old bytes → IsAdmitted (limits_of self.old) text bytes → TellFindings (S.told (sink_of self.new)) (feature_findings text) }
+        ensures told { (bytes : List ℕ) (text : Text) → StandsFor S.told self.old bytes → IsAdmitted (limits_of self.old) text bytes
+            → TellFindings (S.told (sink_of self.new)) (feature_findings text) }
         ensures refused { (fault : JsonFault) → result ≡ Verdict.NotJson fault → sink_of self.new ≡ sink_of self.old }
         ensures again { (fault : JsonFault) → refusal_of self.old ≡ Some fault → result ≡ Verdict.NotJson fault }
     {
@@ -107,7 +109,8 @@ impl<S: FeatureSink> FeatureLinter<S> {
     /// has fewer than 2^63 events.
     pub fn sink(&self) -> &S
         ensures value { result.now ≡ sink_of self.now }
-        ensures told { (bytes rest : List ℕ) (text : Text) → StandsFor S.told self.now bytes → IsTextWithin (limits_of self.now).depth text (take (offset_of self.now) bytes ++ rest)
+        ensures told { (bytes rest : List ℕ) (text : Text) → StandsFor S.told self.now bytes
+            → IsTextWithin (limits_of self.now).depth text (take (offset_of self.now) bytes ++ rest)
             → length (all_events text) < 2 ^ 63 → TellFindings (S.told result.now) (findings_by (offset_of self.now) text) }
     {
         features_say();

@@ -111,7 +111,8 @@ impl Frame {
 
     /// Sets what is found in the value of the first `coordinates`.
     pub fn set_shapes(&mut self, summary: &Coordinates)
-        ensures { (value : Tree) → depth value ≤ most_levels → StandsForCoordinates summary.now (value_events value) → frame_in self.new ≡ shapes_set (asked (frame_in self.old).slots.type_value (shapes_of value)) (frame_in self.old) }
+        ensures { (value : Tree) → depth value ≤ most_levels → StandsForCoordinates summary.now (value_events value)
+            → frame_in self.new ≡ shapes_set (asked (frame_in self.old).slots.type_value (shapes_of value)) (frame_in self.old) }
     {
         self.slots.set_shapes(summary);
     }

@@ -193,7 +193,8 @@ impl Linter {
     pub fn doomed(&self) -> bool
         ensures sound { (bytes : List ℕ) → StandsFor self.now bytes → IsTrue result → NeverValid (limits_of self.now) bytes }
         ensures refused { (fault : JsonFault) → refusal_of self.now ≡ Some fault → IsTrue result }
-        ensures early { (bytes : List ℕ) → StandsFor self.now bytes → refusal_of self.now ≡ None → BeginNoGeoJson (limits_of self.now).depth bytes → IsTrue result }
+        ensures early { (bytes : List ℕ) → StandsFor self.now bytes → refusal_of self.now ≡ None → BeginNoGeoJson (limits_of self.now).depth bytes
+            → IsTrue result }
     {
         bytes_taken();
         one_refusal();
@@ -215,7 +216,8 @@ impl Linter {
     /// How many arrays and objects are open after the bytes that were taken.
     pub fn levels(&self) -> u16
         ensures value { result ≡ levels_of self.now }
-        ensures open { (bytes rest : List ℕ) (text : Text) → StandsFor self.now bytes → IsText text (take (offset_of self.now) bytes ++ rest) → result ≡ open_at (offset_of self.now) text }
+        ensures open { (bytes rest : List ℕ) (text : Text) → StandsFor self.now bytes → IsText text (take (offset_of self.now) bytes ++ rest)
+            → result ≡ open_at (offset_of self.now) text }
         ensures small { result ≤ MOST_LEVELS }
     {
         self.reader.levels()
@@ -223,7 +225,8 @@ impl Linter {
 
     /// How many of the open objects have a role by their position: the number of frames in use.
     pub fn judged(&self) -> u16
-        ensures open { (bytes rest : List ℕ) (text : Text) → StandsFor self.now bytes → IsTextWithin (limits_of self.now).depth text (take (offset_of self.now) bytes ++ rest)
+        ensures open { (bytes rest : List ℕ) (text : Text) → StandsFor self.now bytes
+            → IsTextWithin (limits_of self.now).depth text (take (offset_of self.now) bytes ++ rest)
             → result ≡ judged_at (offset_of self.now) text }
     {
         self.rules.judged()

@@ -112,7 +112,8 @@ impl MemberSlots {
     ghost use Rattle.gj_rules.specs.Levels.{most_levels};
     ghost use Rattle.gj_rules.specs.Internal.FrameReading.{slots_in};
     ghost use Rattle.gj_rules.specs.Internal.Summaries.{StandsForCoordinates, shapes_of, asked, asked_as};
-    ghost use Rattle.gj_rules.specs.Internal.OpenMembers.{blank, slot_of, with_slot, joined, named, named_known, due_after, due_known, repeated_at, used, type_set, shapes_set};
+    ghost use Rattle.gj_rules.specs.Internal.OpenMembers.{blank, slot_of, with_slot, joined, named, named_known, due_after, due_known, repeated_at, used};
+    ghost use Rattle.gj_rules.specs.Internal.OpenMembers.{type_set, shapes_set};
 
     /// Of an object that opens at this place.
     pub fn new(role: Role, place: u64) -> Self
@@ -245,7 +246,8 @@ impl MemberSlots {
 
     /// Sets what is found in the value of the first `coordinates`: for the object's type, or for each where it has not come.
     pub fn set_shapes(&mut self, summary: &Coordinates)
-        ensures { (value : Tree) → depth value ≤ most_levels → StandsForCoordinates summary.now (value_events value) → slots_in self.new ≡ shapes_set (asked (slots_in self.old).type_value (shapes_of value)) (slots_in self.old) }
+        ensures { (value : Tree) → depth value ≤ most_levels → StandsForCoordinates summary.now (value_events value)
+            → slots_in self.new ≡ shapes_set (asked (slots_in self.old).type_value (shapes_of value)) (slots_in self.old) }
     {
         match self.type_value {
             Some(value) => self.set_shape(simple_of(value.word), summary),
@@ -259,7 +261,8 @@ impl MemberSlots {
     /// Sets it for one type.
     #[inline]
     fn set_shape(&mut self, simple: Option<Simple>, summary: &Coordinates)
-        ensures { (value : Tree) → depth value ≤ most_levels → StandsForCoordinates summary.now (value_events value) → slots_in self.new ≡ shapes_set (asked_as simple (shapes_of value)) (slots_in self.old) }
+        ensures { (value : Tree) → depth value ≤ most_levels → StandsForCoordinates summary.now (value_events value)
+            → slots_in self.new ≡ shapes_set (asked_as simple (shapes_of value)) (slots_in self.old) }
     {
         match simple {
             Some(simple) => {

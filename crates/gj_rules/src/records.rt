@@ -350,7 +350,8 @@ impl Records {
     /// Whether a byte came that is beyond the limit: no further one matters.
     pub fn is_over(&self) -> bool
         ensures beyond { (bytes : List ℕ) (found : List Record) → StandsFor self.now bytes found → IsTrue result ↔ ((limits_of self.now).bytes < length bytes) }
-        ensures lasting { (bytes more : List ℕ) (found : List Record) → StandsFor self.now bytes found → IsTrue result → StandsFor self.now (bytes ++ more) found }
+        ensures lasting { (bytes more : List ℕ) (found : List Record) → StandsFor self.now bytes found → IsTrue result
+            → StandsFor self.now (bytes ++ more) found }
     {
         self.is_over
     }

@@ -158,7 +158,8 @@ impl<const FRAMES: usize> FramedRules<FRAMES> {
 
     /// In a front of a text the number of open objects with a role, which is that of the frames in use.
     pub fn judged(&self) -> u16
-        ensures { (text : Text) (bytes : List ℕ) (n : ℕ) → IsText text bytes → depth text.value ≤ levels_within FRAMES → StandsFor self.now (events_by n text) → result ≡ judged_at n text }
+        ensures { (text : Text) (bytes : List ℕ) (n : ℕ) → IsText text bytes → depth text.value ≤ levels_within FRAMES → StandsFor self.now (events_by n text)
+            → result ≡ judged_at n text }
     {
         self.frames()
     }
@@ -190,7 +191,8 @@ impl<const FRAMES: usize> FramedRules<FRAMES> {
     // Where its kind is known, it is one step of these.
     #[inline(always)]
     fn take(&mut self, what: What, place: u64)
-        ensures core { self.old.skipped < most_skipped → (self.old.skipped ≡ 0 → HasRoom FRAMES what (core_of self.old).outer) → core_of self.new ≡ core_step (record { place = place; what = what }) (core_of self.old) }
+        ensures core { self.old.skipped < most_skipped → (self.old.skipped ≡ 0 → HasRoom FRAMES what (core_of self.old).outer)
+            → core_of self.new ≡ core_step (record { place = place; what = what }) (core_of self.old) }
         ensures holds { is_feeding self.old.skipped self.old.mode ≡ false → Holds self.new [] }
     {
         if self.skipped > 0 {
@@ -259,7 +261,8 @@ impl<const FRAMES: usize> FramedRules<FRAMES> {
     /// The value of `coordinates` has ended.
     #[inline(never)]
     fn end_coordinates(&mut self)
-        ensures { (value : Tree) → depth value ≤ most_levels → StandsForCoordinates self.old.coordinates (value_events value) → core_of self.new ≡ ended_as Known.Coordinates value (core_of self.old) }
+        ensures { (value : Tree) → depth value ≤ most_levels → StandsForCoordinates self.old.coordinates (value_events value)
+            → core_of self.new ≡ ended_as Known.Coordinates value (core_of self.old) }
     {
         self.frames[self.around as usize].set_shapes(&self.coordinates);
         self.mode = Mode::Names;
@@ -280,7 +283,8 @@ impl<const FRAMES: usize> FramedRules<FRAMES> {
     /// The value of `bbox` has ended.
     #[inline(never)]
     fn end_bbox(&mut self)
-        ensures { (value : Tree) → depth value ≤ most_levels → StandsForBbox self.old.bbox (value_events value) → core_of self.new ≡ ended_as Known.Bbox value (core_of self.old) }
+        ensures { (value : Tree) → depth value ≤ most_levels → StandsForBbox self.old.bbox (value_events value)
+            → core_of self.new ≡ ended_as Known.Bbox value (core_of self.old) }
     {
         let found = Findings {
             fault: self.bbox.fault(),

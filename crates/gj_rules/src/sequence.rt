@@ -262,7 +262,8 @@ impl Sequence {
     /// How many arrays and objects are open in the open record; none before the first record.
     pub fn levels(&self) -> u16
         ensures none { (bytes : List ℕ) → StandsFor self.now bytes → is_decided self.now ≡ false → records_of (limits_of self.now) bytes ≡ [] → result ≡ 0 }
-        ensures open { (bytes rest : List ℕ) (before : List SequenceRecord) (last : SequenceRecord) (text : Text) → StandsFor self.now bytes → is_decided self.now ≡ false
+        ensures open { (bytes rest : List ℕ) (before : List SequenceRecord) (last : SequenceRecord) (text : Text) → StandsFor self.now bytes
+            → is_decided self.now ≡ false
             → records_of (limits_of self.now) bytes ≡ before ++ last ∷ [] → IsText text (last.bytes ++ rest) → result ≡ open_at (length last.bytes) text }
     {
         if self.records == 0 {
@@ -274,7 +275,8 @@ impl Sequence {
     /// How many of the open objects have a role by their position.
     pub fn judged(&self) -> u16
         ensures none { (bytes : List ℕ) → StandsFor self.now bytes → is_decided self.now ≡ false → records_of (limits_of self.now) bytes ≡ [] → result ≡ 0 }
-        ensures open { (bytes rest : List ℕ) (before : List SequenceRecord) (last : SequenceRecord) (text : Text) → StandsFor self.now bytes → is_decided self.now ≡ false
+        ensures open { (bytes rest : List ℕ) (before : List SequenceRecord) (last : SequenceRecord) (text : Text) → StandsFor self.now bytes
+            → is_decided self.now ≡ false
             → records_of (limits_of self.now) bytes ≡ before ++ last ∷ [] → IsTextWithin (limits_of self.now).depth text (last.bytes ++ rest)
             → result ≡ judged_at (length last.bytes) text }
     {

@@ -44,7 +44,8 @@ pub fn simple_of(word: Word) -> Option<Simple>
 /// Sets the warnings of the value whose events the summary took, as the coordinates of this type.
 #[tactic(auto, using(crate::proofs::Objects::WarningsInTurn::to_none))]
 fn set_warned(warned: &mut Warned, summary: &Coordinates, simple: Simple)
-    ensures { (value : Tree) → depth value ≤ most_levels → StandsForCoordinates summary.now (value_events value) → all_in warned.new ≡ coordinates_kept simple value }
+    ensures { (value : Tree) → depth value ≤ most_levels → StandsForCoordinates summary.now (value_events value)
+        → all_in warned.new ≡ coordinates_kept simple value }
 {
     warned.clear();
     summary.warn(simple, warned);
@@ -102,7 +103,8 @@ impl Shapes {
     /// Sets all its warnings.
     #[inline(never)]
     fn set_all_warned(&mut self, summary: &Coordinates)
-        ensures { (value : Tree) → depth value ≤ most_levels → StandsForCoordinates summary.now (value_events value) → shapes_in self.new ≡ shapes_by self.old.faults (λ simple. coordinates_kept simple value) }
+        ensures { (value : Tree) → depth value ≤ most_levels → StandsForCoordinates summary.now (value_events value)
+            → shapes_in self.new ≡ shapes_by self.old.faults (λ simple. coordinates_kept simple value) }
     {
         set_warned(&mut self.point, summary, Simple::Point);
         set_warned(&mut self.multi_point, summary, Simple::MultiPoint);

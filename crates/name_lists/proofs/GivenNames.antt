@@ -1,5 +1,6 @@
 -- What is given of a name when one byte more comes, and which names are left then.
-use Rattle.std.proofs.Common.{arith, ◌≡◌, ◌≤◌, ◌<◌, ◌+◌, ℕ, min, refl, ap, sym, subst, ◌∙◌, List, [], ◌∷◌, ◌++◌, length, take, true, false, Bool, nat_eq, length-append, inl, inr}
+use Rattle.std.proofs.Common.{arith, ◌≡◌, ◌≤◌, ◌<◌, ◌+◌, ℕ, min, refl, ap, sym, subst, ◌∙◌, List, [], ◌∷◌, ◌++◌, length, take, true, false, Bool, nat_eq}
+use Rattle.std.proofs.Common.{length-append, inl, inr}
 use Rattle.std.proofs.lemmas.Bool.{cases_Bool, true≢false, false≢true}
 use Rattle.std.proofs.lemmas.List.{take-append-le, take_all, length-take}
 use Rattle.name_lists.specs.declared.names.TheConstants.{LONGEST_NAME}
@@ -74,24 +75,29 @@ after-nul name begun has byte set is same =
 before-nul : (begun : List ℕ) (has : Bool) (byte : ℕ) → has ≡ false → nat_eq byte 0 ≡ false → has ≡ has_nul begun → has ≡ has_nul (begun ++ byte ∷ [])
 before-nul begun has byte unset other same = unset ∙ sym (has_nul-last begun byte (sym same ∙ unset) ∙ other)
 
-pub no-room : (name begun : List ℕ) (has : Bool) (byte : ℕ) → has ≡ false → nat_eq byte 0 ≡ false → LONGEST_NAME ≤ length name → name ≡ given begun → has ≡ has_nul begun
+pub no-room : (name begun : List ℕ) (has : Bool) (byte : ℕ) → has ≡ false → nat_eq byte 0 ≡ false → LONGEST_NAME ≤ length name → name ≡ given begun
+    → has ≡ has_nul begun
     → (name ≡ given (begun ++ byte ∷ [])) × (has ≡ has_nul (begun ++ byte ∷ []))
 no-room name begun has byte unset other full is same =
     let long : length name ≡ min LONGEST_NAME (length (before_nul begun)) = ap (λ (l : List ℕ). length l) is ∙ length-take LONGEST_NAME (before_nul begun) in
     let enough : LONGEST_NAME ≤ length (before_nul begun) = omega (arith, long, full) in (
-      is ∙ sym (ap (λ (l : List ℕ). take LONGEST_NAME l) (before_nul-last begun byte (sym same ∙ unset) other) ∙ take-append-le LONGEST_NAME (before_nul begun) (byte ∷ []) enough),
+      is ∙ sym (ap (λ (l : List ℕ). take LONGEST_NAME l) (before_nul-last begun byte (sym same ∙ unset) other)
+          ∙ take-append-le LONGEST_NAME (before_nul begun) (byte ∷ []) enough),
       before-nul begun has byte unset other same,
     )
 
-pub with-room : (name begun : List ℕ) (has : Bool) (byte : ℕ) → has ≡ false → nat_eq byte 0 ≡ false → length name < LONGEST_NAME → name ≡ given begun → has ≡ has_nul begun
+pub with-room : (name begun : List ℕ) (has : Bool) (byte : ℕ) → has ≡ false → nat_eq byte 0 ≡ false → length name < LONGEST_NAME → name ≡ given begun
+    → has ≡ has_nul begun
     → (name ++ byte ∷ [] ≡ given (begun ++ byte ∷ [])) × (has ≡ has_nul (begun ++ byte ∷ []))
 with-room name begun has byte unset other room is same =
     let long : length name ≡ min LONGEST_NAME (length (before_nul begun)) = ap (λ (l : List ℕ). length l) is ∙ length-take LONGEST_NAME (before_nul begun) in
     let short : length (before_nul begun) < LONGEST_NAME = omega (arith, long, room) in
     let all : take LONGEST_NAME (before_nul begun) ≡ before_nul begun = take_all LONGEST_NAME (before_nul begun) (omega (arith, short)) in
     let more : length (before_nul begun ++ byte ∷ []) ≡ length (before_nul begun) + 1 = length-append (before_nul begun) (byte ∷ []) in
-    let whole : take LONGEST_NAME (before_nul begun ++ byte ∷ []) ≡ before_nul begun ++ byte ∷ [] = take_all LONGEST_NAME (before_nul begun ++ byte ∷ []) (omega (arith, short, more)) in (
-      ap (λ (l : List ℕ). l ++ byte ∷ []) (is ∙ all) ∙ sym (ap (λ (l : List ℕ). take LONGEST_NAME l) (before_nul-last begun byte (sym same ∙ unset) other) ∙ whole),
+    let whole : take LONGEST_NAME (before_nul begun ++ byte ∷ []) ≡ before_nul begun ++ byte ∷ [] =
+    take_all LONGEST_NAME (before_nul begun ++ byte ∷ []) (omega (arith, short, more)) in (
+      ap (λ (l : List ℕ). l ++ byte ∷ []) (is ∙ all)
+          ∙ sym (ap (λ (l : List ℕ). take LONGEST_NAME l) (before_nul-last begun byte (sym same ∙ unset) other) ∙ whole),
       before-nul begun has byte unset other same,
     )
 

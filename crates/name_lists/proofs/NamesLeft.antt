@@ -1,5 +1,6 @@
 -- Which names are left when a byte of a list comes, or none.
-use Rattle.std.proofs.Common.{arith, ◌≡◌, ◌-◌, ◌+◌, ◌^◌, ◌≤◌, ℕ, suc, refl, ap, sym, ◌∙◌, List, [], ◌∷◌, ◌++◌, length, true, false, Bool, nat_eq, append-nil, append_assoc, Option, Some, None}
+use Rattle.std.proofs.Common.{arith, ◌≡◌, ◌-◌, ◌+◌, ◌^◌, ◌≤◌, ℕ, suc, refl, ap, sym, ◌∙◌, List, [], ◌∷◌, ◌++◌, length, true, false, Bool, nat_eq, append-nil}
+use Rattle.std.proofs.Common.{append_assoc, Option, Some, None}
 use Rattle.std.specs.Prelude.{◌==◌, Ok}
 use Rattle.std.proofs.lemmas.Bool.{true≢false, false≢true, eqb-true}
 use Rattle.name_lists.specs.declared.listed.NameEnd.{NameEnd}
@@ -27,11 +28,13 @@ longer-prefix : (begun : List ℕ) (byte : ℕ) (parts : List (List ℕ)) → wi
 longer-prefix begun byte [] = refl
 longer-prefix begun byte (part ∷ more) = ap (λ (l : List ℕ). l ∷ more) (sym (append_assoc begun (byte ∷ []) part))
 
-names-byte : (end : ℕ) (begun : List ℕ) (byte : ℕ) (rest : List ℕ) → nat_eq byte end ≡ false → names_from end begun (byte ∷ rest) ≡ names_from end (begun ++ byte ∷ []) rest
+names-byte : (end : ℕ) (begun : List ℕ) (byte : ℕ) (rest : List ℕ) → nat_eq byte end ≡ false
+    → names_from end begun (byte ∷ rest) ≡ names_from end (begun ++ byte ∷ []) rest
 unfolding names_from parts_of
 names-byte end begun byte rest other = rw other (ap some_of (longer-prefix begun byte (parts_of end rest)))
 
-names-end : (end : ℕ) (begun : List ℕ) (byte : ℕ) (rest : List ℕ) → nat_eq byte end ≡ true → names_from end begun (byte ∷ rest) ≡ with_begun begun (names_from end [] rest)
+names-end : (end : ℕ) (begun : List ℕ) (byte : ℕ) (rest : List ℕ) → nat_eq byte end ≡ true
+    → names_from end begun (byte ∷ rest) ≡ with_begun begun (names_from end [] rest)
 unfolding names_from parts_of
 names-end end begun byte rest ends = rw ends (begun-first begun (parts_of end rest) ∙ ap (with_begun begun) (sym (no-prefix (parts_of end rest))))
 
@@ -54,7 +57,8 @@ HasBegun-byte E end begun count byte None before after has took other = tt
 HasBegun-byte E end begun count byte (Some all) None after has took other = absurd has
 HasBegun-byte E end begun count byte (Some all) (Some rest) None has took other = absurd took
 HasBegun-byte E end begun count byte (Some all) (Some rest) (Some left) (names, long) took other =
-    let here : names_from (end_byte end) begun rest ≡ names_from (end_byte end) (begun ++ byte ∷ []) left = rw took (names-byte (end_byte end) begun byte left other) in
+    let here : names_from (end_byte end) begun rest ≡ names_from (end_byte end) (begun ++ byte ∷ []) left =
+    rw took (names-byte (end_byte end) begun byte left other) in
     let shorter : length rest ≡ suc (length left) = ap (λ (l : List ℕ). length l) took in
     (names ∙ here, omega (arith, long, shorter))
 
@@ -69,7 +73,8 @@ HasBegun-end E end begun count byte (Some all) (Some rest) (Some left) (names, l
     let shorter : length rest ≡ suc (length left) = ap (λ (l : List ℕ). length l) took in
     (names ∙ here, omega (arith, long, shorter))
 
-NextIn-end : (end : NameEnd) (all rest name : List ℕ) (has is_empty : Bool) → has ≡ false → is_empty ≡ true → names_in end all ≡ [] → names_in end rest ≡ [] → name ≡ []
+NextIn-end : (end : NameEnd) (all rest name : List ℕ) (has is_empty : Bool) → has ≡ false → is_empty ≡ true → names_in end all ≡ [] → names_in end rest ≡ []
+    → name ≡ []
     → NextIn end all rest (listed_by has is_empty) name
 NextIn-end end all rest name true is_empty unset empty over after is = absurd (true≢false unset)
 NextIn-end end all rest name false false unset empty over after is = absurd (false≢true empty)
@@ -88,7 +93,8 @@ named end all rest begun name byte false true names is nul empty =
     absurd (some-cons byte begun (given-nothing (byte ∷ begun) (sym nul) short))
 
 -- the list is over
-pub NextOf-over : (E : Type 0) (end : NameEnd) (begun name : List ℕ) (count : ℕ) (has is_empty : Bool) (old before after : Option (List ℕ)) → HasBegun end begun count old before
+pub NextOf-over : (E : Type 0) (end : NameEnd) (begun name : List ℕ) (count : ℕ) (has is_empty : Bool) (old before after : Option (List ℕ))
+    → HasBegun end begun count old before
     → Takes {E = E} before after (Ok None) → name ≡ given begun → has ≡ has_nul begun → is_empty ≡ (length name == 0)
     → NextOf {E = E} old after end (Ok (listed_by has is_empty)) name
 NextOf-over E end begun name count has is_empty None before after begins took is nul empty = tt
@@ -105,7 +111,8 @@ NextOf-over E end (byte ∷ begun) name count has is_empty (Some all) (Some rest
     named end all left begun name byte has is_empty (names ∙ (here ∙ ap (λ (l : List (List ℕ)). (byte ∷ begun) ∷ l) (sym after))) is nul empty
 
 -- a byte ends the name
-pub NextOf-ended : (E : Type 0) (end : NameEnd) (begun name : List ℕ) (count byte : ℕ) (has is_empty : Bool) (old before after : Option (List ℕ)) → HasBegun end begun count old before
+pub NextOf-ended : (E : Type 0) (end : NameEnd) (begun name : List ℕ) (count byte : ℕ) (has is_empty : Bool) (old before after : Option (List ℕ))
+    → HasBegun end begun count old before
     → Takes {E = E} before after (Ok (Some byte)) → nat_eq byte (end_byte end) ≡ true → (begun ≡ [] → ⊥) → name ≡ given begun → has ≡ has_nul begun
     → is_empty ≡ (length name == 0) → NextOf {E = E} old after end (Ok (listed_by has is_empty)) name
 NextOf-ended E end begun name count byte has is_empty None before after begins took ends some is nul empty = tt
@@ -113,11 +120,14 @@ NextOf-ended E end begun name count byte has is_empty (Some all) None after begi
 NextOf-ended E end begun name count byte has is_empty (Some all) (Some rest) None begins took ends some is nul empty = absurd took
 NextOf-ended E end [] name count byte has is_empty (Some all) (Some rest) (Some left) begins took ends some is nul empty = absurd (some refl)
 NextOf-ended E end (first ∷ begun) name count byte has is_empty (Some all) (Some rest) (Some left) (names, long) took ends some is nul empty = λ few.
-    let here : names_from (end_byte end) (first ∷ begun) rest ≡ (first ∷ begun) ∷ names_from (end_byte end) [] left = rw took (names-end (end_byte end) (first ∷ begun) byte left ends) in
-    named end all left begun name first has is_empty (names ∙ (here ∙ ap (λ (l : List (List ℕ)). (first ∷ begun) ∷ l) (sym (names_in-from end left)))) is nul empty
+    let here : names_from (end_byte end) (first ∷ begun) rest ≡ (first ∷ begun) ∷ names_from (end_byte end) [] left =
+    rw took (names-end (end_byte end) (first ∷ begun) byte left ends) in
+    named end all left begun name first has is_empty
+    (names ∙ (here ∙ ap (λ (l : List (List ℕ)). (first ∷ begun) ∷ l) (sym (names_in-from end left)))) is nul empty
 
 -- more bytes came than a list may have
-pub NextOf-endless : (E : Type 0) (end : NameEnd) (begun name : List ℕ) (count : ℕ) (listed : _) (old before : Option (List ℕ)) → HasBegun end begun count old before
+pub NextOf-endless : (E : Type 0) (end : NameEnd) (begun name : List ℕ) (count : ℕ) (listed : _) (old before : Option (List ℕ))
+    → HasBegun end begun count old before
     → 2 ^ 64 - 1 ≤ count → NextOf {E = E} old before end (Ok listed) name
 NextOf-endless E end begun name count listed None before begins many = tt
 NextOf-endless E end begun name count listed (Some all) None begins many = absurd begins

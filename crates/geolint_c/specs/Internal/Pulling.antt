@@ -47,7 +47,8 @@ ShowsOn old run shown new =
 pub record Takes (old : Judging) (pulled : ℕ) (piece : List ℕ) (told : Progress) (new : Judging) : Type 0 where
   pub within : told.taken ≤ length piece
   pub judges : (limits : Allowed) (bytes : List ℕ) → Judges old pulled limits bytes → Judges new pulled limits (bytes ++ take told.taken piece)
-  pub answer : (limits : Allowed) (bytes : List ℕ) → Judges old pulled limits bytes → AnswersBy limits (bytes ++ take told.taken piece) told.status (refusal_of new)
+  pub answer : (limits : Allowed) (bytes : List ℕ) → Judges old pulled limits bytes
+      → AnswersBy limits (bytes ++ take told.taken piece) told.status (refusal_of new)
   pub ready : told.ready ≡ (if tells_more new pulled then 1 else 0)
   pub all : tells_more new pulled ≡ false → told.taken ≡ length piece
 

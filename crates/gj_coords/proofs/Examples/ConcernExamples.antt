@@ -59,6 +59,7 @@ unfolding value_of held_value within_limits
 out_of_range = refl
 
 -- [0.12345678,1,1.50000000]: zeros at the end are no places
-precise : coordinates_warnings Point (array 0 (many (number 1 (codes "0.12345678") 11 ∷ digit 12 1 ∷ number 14 (codes "1.50000000") 24 ∷ [])) 24) ≡ warning_at 1 W4 ∷ []
+precise : coordinates_warnings Point
+    (array 0 (many (number 1 (codes "0.12345678") 11 ∷ digit 12 1 ∷ number 14 (codes "1.50000000") 24 ∷ [])) 24) ≡ warning_at 1 W4 ∷ []
 unfolding value_of held_value within_limits
 precise = refl

@@ -40,7 +40,8 @@ unfolding value_of held_value within_limits
 empty_array = (refl, refl, refl, refl, refl, refl)
 
 -- 7
-no_array : AsSix (digit 0 7) (Some (fault_at 0 G11)) (Some (fault_at 0 G11)) (Some (fault_at 0 G11)) (Some (fault_at 0 G11)) (Some (fault_at 0 G11)) (Some (fault_at 0 G11))
+no_array : AsSix (digit 0 7) (Some (fault_at 0 G11)) (Some (fault_at 0 G11)) (Some (fault_at 0 G11)) (Some (fault_at 0 G11)) (Some (fault_at 0 G11))
+    (Some (fault_at 0 G11))
 unfolding value_of held_value within_limits
 no_array = (refl, refl, refl, refl, refl, refl)
 
@@ -50,77 +51,109 @@ unfolding value_of held_value within_limits
 one_position = (refl, refl, refl, refl, refl, refl)
 
 -- [[1,2]]
-list_of_one : AsSix (array 0 (many (pair 1 1 2 ∷ [])) 6) (Some (fault_at 0 G12)) None (Some (fault_at 0 G13)) (Some (fault_at 2 G11)) (Some (fault_at 1 G14)) (Some (fault_at 2 G11))
+list_of_one : AsSix (array 0 (many (pair 1 1 2 ∷ [])) 6) (Some (fault_at 0 G12)) None (Some (fault_at 0 G13)) (Some (fault_at 2 G11)) (Some (fault_at 1 G14))
+    (Some (fault_at 2 G11))
 unfolding value_of held_value within_limits
 list_of_one = (refl, refl, refl, refl, refl, refl)
 
 -- [[1,2],[3,4]]
-list_of_two : AsSix (array 0 (many (pair 1 1 2 ∷ pair 7 3 4 ∷ [])) 12) (Some (fault_at 1 G11)) None None (Some (fault_at 2 G11)) (Some (fault_at 1 G14)) (Some (fault_at 2 G11))
+list_of_two : AsSix (array 0 (many (pair 1 1 2 ∷ pair 7 3 4 ∷ [])) 12) (Some (fault_at 1 G11)) None None (Some (fault_at 2 G11)) (Some (fault_at 1 G14))
+    (Some (fault_at 2 G11))
 unfolding value_of held_value within_limits
 list_of_two = (refl, refl, refl, refl, refl, refl)
 
 -- [[]]
-empty_inside : AsSix (array 0 (many (array 1 end_of_array 2 ∷ [])) 3) (Some (fault_at 0 G12)) (Some (fault_at 1 G12)) (Some (fault_at 0 G13)) (Some (fault_at 1 G13)) (Some (fault_at 1 G14)) None
+empty_inside : AsSix (array 0 (many (array 1 end_of_array 2 ∷ [])) 3) (Some (fault_at 0 G12)) (Some (fault_at 1 G12)) (Some (fault_at 0 G13))
+    (Some (fault_at 1 G13)) (Some (fault_at 1 G14)) None
 unfolding value_of held_value within_limits
 empty_inside = (refl, refl, refl, refl, refl, refl)
 
 -- [[1,2],[3]]
-short_position : AsFour (array 0 (many (pair 1 1 2 ∷ array 7 (many (digit 8 3 ∷ [])) 9 ∷ [])) 10) (Some (fault_at 1 G11)) (Some (fault_at 7 G12)) (Some (fault_at 7 G12)) (Some (fault_at 2 G11))
+short_position : AsFour (array 0 (many (pair 1 1 2 ∷ array 7 (many (digit 8 3 ∷ [])) 9 ∷ [])) 10) (Some (fault_at 1 G11)) (Some (fault_at 7 G12))
+    (Some (fault_at 7 G12)) (Some (fault_at 2 G11))
 unfolding value_of held_value within_limits
 short_position = (refl, refl, refl, refl)
 
 -- [1,2,3,{"a":[1]}]
-object_past_the_third : AsFour (array 0 (many (digit 1 1 ∷ digit 3 2 ∷ digit 5 3 ∷ object 7 (member 8 (codes "a") 11 (array 12 (many (digit 13 1 ∷ [])) 14) end_of_object) 15 ∷ [])) 16) (Some (fault_at 7 G11)) (Some (fault_at 1 G11)) (Some (fault_at 1 G11)) (Some (fault_at 1 G11))
+object_past_the_third : AsFour
+    (array 0 (many (digit 1 1 ∷ digit 3 2 ∷ digit 5 3 ∷ object 7 (member 8 (codes "a") 11 (array 12 (many (digit 13 1 ∷ [])) 14) end_of_object) 15 ∷ [])) 16)
+    (Some (fault_at 7 G11)) (Some (fault_at 1 G11)) (Some (fault_at 1 G11)) (Some (fault_at 1 G11))
 unfolding value_of held_value within_limits
 object_past_the_third = (refl, refl, refl, refl)
 
 -- [1,1e401]
-number_not_held : AsFour (array 0 (many (digit 1 1 ∷ number 3 (codes "1e401") 8 ∷ [])) 8) (Some (fault_at 3 G16)) (Some (fault_at 1 G11)) (Some (fault_at 1 G11)) (Some (fault_at 1 G11))
+number_not_held : AsFour (array 0 (many (digit 1 1 ∷ number 3 (codes "1e401") 8 ∷ [])) 8) (Some (fault_at 3 G16)) (Some (fault_at 1 G11))
+    (Some (fault_at 1 G11)) (Some (fault_at 1 G11))
 unfolding value_of held_value within_limits
 number_not_held = (refl, refl, refl, refl)
 
 -- [1,2,3,1e401]
-not_held_past_the_third : AsFour (array 0 (many (digit 1 1 ∷ digit 3 2 ∷ digit 5 3 ∷ number 7 (codes "1e401") 12 ∷ [])) 12) None (Some (fault_at 1 G11)) (Some (fault_at 1 G11)) (Some (fault_at 1 G11))
+not_held_past_the_third : AsFour (array 0 (many (digit 1 1 ∷ digit 3 2 ∷ digit 5 3 ∷ number 7 (codes "1e401") 12 ∷ [])) 12) None (Some (fault_at 1 G11))
+    (Some (fault_at 1 G11)) (Some (fault_at 1 G11))
 unfolding value_of held_value within_limits
 not_held_past_the_third = (refl, refl, refl, refl)
 
 -- [[[1,2]]]
-one_deeper : AsFour (array 0 (many (array 1 (many (pair 2 1 2 ∷ [])) 7 ∷ [])) 8) (Some (fault_at 0 G12)) (Some (fault_at 1 G12)) (Some (fault_at 0 G13)) (Some (fault_at 1 G13))
+one_deeper : AsFour (array 0 (many (array 1 (many (pair 2 1 2 ∷ [])) 7 ∷ [])) 8) (Some (fault_at 0 G12)) (Some (fault_at 1 G12)) (Some (fault_at 0 G13))
+    (Some (fault_at 1 G13))
 unfolding value_of held_value within_limits
 one_deeper = (refl, refl, refl, refl)
 
 -- [[[0,0],[1,0],[1,1],[0,0,0]]]
-third_number_more : least (coordinates_faults Polygon (array 0 (many (array 1 (many (pair 2 0 0 ∷ pair 8 1 0 ∷ pair 14 1 1 ∷ array 20 (many (digit 21 0 ∷ digit 23 0 ∷ digit 25 0 ∷ [])) 26 ∷ [])) 27 ∷ [])) 28)) ≡ Some (fault_at 1 G15)
+third_number_more : least
+    (coordinates_faults Polygon
+    (array 0 (many (array 1 (many (pair 2 0 0 ∷ pair 8 1 0 ∷ pair 14 1 1 ∷ array 20 (many (digit 21 0 ∷ digit 23 0 ∷ digit 25 0 ∷ [])) 26 ∷ [])) 27 ∷ []))
+    28)) ≡ Some (fault_at 1 G15)
 unfolding value_of held_value within_limits
 third_number_more = refl
 
 -- [[[0,0,1,5],[1,0],[1,1],[0,0,1,6]]]
-fourth_number_differs : least (coordinates_faults Polygon (array 0 (many (array 1 (many (array 2 (many (digit 3 0 ∷ digit 5 0 ∷ digit 7 1 ∷ digit 9 5 ∷ [])) 10 ∷ pair 12 1 0 ∷ pair 18 1 1 ∷ array 24 (many (digit 25 0 ∷ digit 27 0 ∷ digit 29 1 ∷ digit 31 6 ∷ [])) 32 ∷ [])) 33 ∷ [])) 34)) ≡ None
+fourth_number_differs : least
+    (coordinates_faults Polygon
+    (array 0 (many (array 1
+    (many (array 2 (many (digit 3 0 ∷ digit 5 0 ∷ digit 7 1 ∷ digit 9 5 ∷ [])) 10 ∷ pair 12 1 0 ∷ pair 18 1 1 ∷ array 24
+    (many (digit 25 0 ∷ digit 27 0 ∷ digit 29 1 ∷ digit 31 6 ∷ [])) 32 ∷ [])) 33 ∷ [])) 34)) ≡ None
 unfolding value_of held_value within_limits
 fourth_number_differs = refl
 
 -- [[[0,0],[1,0],[1,1],[1e-8,0]]]
-equal_when_cut : least (coordinates_faults Polygon (array 0 (many (array 1 (many (pair 2 0 0 ∷ pair 8 1 0 ∷ pair 14 1 1 ∷ array 20 (many (number 21 (codes "1e-8") 25 ∷ digit 26 0 ∷ [])) 27 ∷ [])) 28 ∷ [])) 29)) ≡ Some (fault_at 1 G15)
+equal_when_cut : least
+    (coordinates_faults Polygon
+    (array 0 (many (array 1 (many (pair 2 0 0 ∷ pair 8 1 0 ∷ pair 14 1 1 ∷ array 20 (many (number 21 (codes "1e-8") 25 ∷ digit 26 0 ∷ [])) 27 ∷ [])) 28 ∷ []))
+    29)) ≡ Some (fault_at 1 G15)
 unfolding value_of held_value within_limits
 equal_when_cut = refl
 
 -- [[[1.50,0],[2,0],[2,1],[15e-1,-0.0]]]
-other_spellings : least (coordinates_faults Polygon (array 0 (many (array 1 (many (array 2 (many (number 3 (codes "1.50") 7 ∷ digit 8 0 ∷ [])) 9 ∷ pair 11 2 0 ∷ pair 17 2 1 ∷ array 23 (many (number 24 (codes "15e-1") 29 ∷ number 30 (codes "-0.0") 34 ∷ [])) 34 ∷ [])) 35 ∷ [])) 36)) ≡ None
+other_spellings : least
+    (coordinates_faults Polygon
+    (array 0 (many (array 1
+    (many (array 2 (many (number 3 (codes "1.50") 7 ∷ digit 8 0 ∷ [])) 9 ∷ pair 11 2 0 ∷ pair 17 2 1 ∷ array 23
+    (many (number 24 (codes "15e-1") 29 ∷ number 30 (codes "-0.0") 34 ∷ [])) 34 ∷ [])) 35 ∷ [])) 36)) ≡ None
 unfolding value_of held_value within_limits
 other_spellings = refl
 
 -- [[[0,0],[1,"a"],[1,1],[2,2]]]
-unsound_kind : least (coordinates_faults Polygon (array 0 (many (array 1 (many (pair 2 0 0 ∷ array 8 (many (digit 9 1 ∷ string 11 (codes "a") 14 ∷ [])) 14 ∷ pair 16 1 1 ∷ pair 22 2 2 ∷ [])) 27 ∷ [])) 28)) ≡ Some (fault_at 11 G11)
+unsound_kind : least
+    (coordinates_faults Polygon
+    (array 0 (many (array 1 (many (pair 2 0 0 ∷ array 8 (many (digit 9 1 ∷ string 11 (codes "a") 14 ∷ [])) 14 ∷ pair 16 1 1 ∷ pair 22 2 2 ∷ [])) 27 ∷ []))
+    28)) ≡ Some (fault_at 11 G11)
 unfolding value_of held_value within_limits
 unsound_kind = refl
 
 -- [[[0,0],[1,0],[1,1],[0,1e401]]]
-unsound_number : least (coordinates_faults Polygon (array 0 (many (array 1 (many (pair 2 0 0 ∷ pair 8 1 0 ∷ pair 14 1 1 ∷ array 20 (many (digit 21 0 ∷ number 23 (codes "1e401") 28 ∷ [])) 28 ∷ [])) 29 ∷ [])) 30)) ≡ Some (fault_at 23 G16)
+unsound_number : least
+    (coordinates_faults Polygon
+    (array 0 (many (array 1 (many (pair 2 0 0 ∷ pair 8 1 0 ∷ pair 14 1 1 ∷ array 20 (many (digit 21 0 ∷ number 23 (codes "1e401") 28 ∷ [])) 28 ∷ [])) 29 ∷ []))
+    30)) ≡ Some (fault_at 23 G16)
 unfolding value_of held_value within_limits
 unsound_number = refl
 
 -- [[],[[[0,0],[1,0],[1,1],[0,1]]]]
-second_polygon_open : least (coordinates_faults MultiPolygon (array 0 (many (array 1 end_of_array 2 ∷ array 4 (many (array 5 (many (pair 6 0 0 ∷ pair 12 1 0 ∷ pair 18 1 1 ∷ pair 24 0 1 ∷ [])) 29 ∷ [])) 30 ∷ [])) 31)) ≡ Some (fault_at 5 G15)
+second_polygon_open : least
+    (coordinates_faults MultiPolygon
+    (array 0 (many (array 1 end_of_array 2 ∷ array 4 (many (array 5 (many (pair 6 0 0 ∷ pair 12 1 0 ∷ pair 18 1 1 ∷ pair 24 0 1 ∷ [])) 29 ∷ [])) 30 ∷ []))
+    31)) ≡ Some (fault_at 5 G15)
 unfolding value_of held_value within_limits
 second_polygon_open = refl
 
@@ -134,12 +167,17 @@ unfolding value_of held_value within_limits
 short_ring-MultiPolygon = refl
 
 -- [[[0,0],[1,0],[0,0]]]
-ring_of_three : least (coordinates_faults Polygon (array 0 (many (array 1 (many (pair 2 0 0 ∷ pair 8 1 0 ∷ pair 14 0 0 ∷ [])) 19 ∷ [])) 20)) ≡ Some (fault_at 1 G14)
+ring_of_three : least (coordinates_faults Polygon (array 0 (many (array 1 (many (pair 2 0 0 ∷ pair 8 1 0 ∷ pair 14 0 0 ∷ [])) 19 ∷ [])) 20)) ≡ Some
+    (fault_at 1 G14)
 unfolding value_of held_value within_limits
 ring_of_three = refl
 
 -- [[[[0,0],[4,0],[4,4],[0,0]],[[1,1],[2,1],[2,2],[1,1]]]]
-polygon_with_a_hole : least (coordinates_faults MultiPolygon (array 0 (many (array 1 (many (array 2 (many (pair 3 0 0 ∷ pair 9 4 0 ∷ pair 15 4 4 ∷ pair 21 0 0 ∷ [])) 26 ∷ array 28 (many (pair 29 1 1 ∷ pair 35 2 1 ∷ pair 41 2 2 ∷ pair 47 1 1 ∷ [])) 52 ∷ [])) 53 ∷ [])) 54)) ≡ None
+polygon_with_a_hole : least
+    (coordinates_faults MultiPolygon
+    (array 0 (many (array 1
+    (many (array 2 (many (pair 3 0 0 ∷ pair 9 4 0 ∷ pair 15 4 4 ∷ pair 21 0 0 ∷ [])) 26 ∷ array 28
+    (many (pair 29 1 1 ∷ pair 35 2 1 ∷ pair 41 2 2 ∷ pair 47 1 1 ∷ [])) 52 ∷ [])) 53 ∷ [])) 54)) ≡ None
 unfolding value_of held_value within_limits
 polygon_with_a_hole = refl
 

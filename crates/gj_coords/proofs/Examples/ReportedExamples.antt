@@ -48,6 +48,7 @@ one_by_one : added (added no_warnings W3 50) W3 36 ≡ warnings_of (warning_at 5
 unfolding added no_warnings warnings_of
 one_by_one = refl
 
-both_lists : joined (warnings_of (warning_at 50 W3 ∷ [])) (warnings_of (warning_at 36 W3 ∷ warning_at 1 W9 ∷ [])) ≡ warnings_of (warning_at 50 W3 ∷ warning_at 36 W3 ∷ warning_at 1 W9 ∷ [])
+both_lists : joined (warnings_of (warning_at 50 W3 ∷ [])) (warnings_of (warning_at 36 W3 ∷ warning_at 1 W9 ∷ [])) ≡ warnings_of
+    (warning_at 50 W3 ∷ warning_at 36 W3 ∷ warning_at 1 W9 ∷ [])
 unfolding joined warnings_of
 both_lists = refl

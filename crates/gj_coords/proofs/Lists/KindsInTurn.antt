@@ -16,7 +16,8 @@ turned i value a = by_kind (λ kind. if nat_lt (index_of kind) i then value kind
 
 pub none_turned : (value : Kind → KindWarnings) (a : Warnings) → a ≡ turned 0 value a
 none_turned value a =
-    by_kind_alike (kept a) (λ kind. if nat_lt (index_of kind) 0 then value kind else kept a kind) (λ kind. by_test kind (nat_lt (index_of kind) 0) (none (index_of kind)))
+    by_kind_alike (kept a) (λ kind. if nat_lt (index_of kind) 0 then value kind else kept a kind)
+    (λ kind. by_test kind (nat_lt (index_of kind) 0) (none (index_of kind)))
   where
     none : (n : ℕ) → nat_lt n 0 ≡ false
     none n = grind (arith, nat_tests)
@@ -38,7 +39,8 @@ all_turned i value a all =
 -- a kind that is not reached has what it had
 pub not_turned : (i : ℕ) (value : Kind → KindWarnings) (a : Warnings) (kind : Kind) → index_of kind ≡ i → kept (turned i value a) kind ≡ kept a kind
 not_turned i value a kind at =
-    kept_by_kind (λ other. if nat_lt (index_of other) i then value other else kept a other) kind ∙ by_test (nat_lt (index_of kind) i) (not_yet (index_of kind) at)
+    kept_by_kind (λ other. if nat_lt (index_of other) i then value other else kept a other) kind
+    ∙ by_test (nat_lt (index_of kind) i) (not_yet (index_of kind) at)
   where
     not_yet : (n : ℕ) → n ≡ i → nat_lt n i ≡ false
     not_yet n h = grind (arith, nat_tests)
@@ -51,7 +53,8 @@ pub one_turned : (i : ℕ) (value : Kind → KindWarnings) (a : Warnings) (kind 
     replaced (turned i value a) kind noted ≡ turned (i + 1) value a
 unfolding replaced
 one_turned i value a kind noted at is =
-    by_kind_alike (λ other. if same_kind kind other then noted else kept (turned i value a) other) (λ other. if nat_lt (index_of other) (i + 1) then value other else kept a other)
+    by_kind_alike (λ other. if same_kind kind other then noted else kept (turned i value a) other)
+    (λ other. if nat_lt (index_of other) (i + 1) then value other else kept a other)
     (λ other. by_test other (same_kind kind other) refl)
   where
     reached : (m n : ℕ) → nat_eq m n ≡ true → m - 1 ≡ i → nat_lt (n - 1) (i + 1) ≡ true

@@ -1,5 +1,6 @@
 -- The lists that warnings stand for, and what is read off them.
-use Rattle.std.specs.Prelude.{refl, ◌≡◌, ℕ, min, ◌<◌, ◌==◌, Bool, true, false, if◌then◌else◌, List, [], ◌∷◌, ◌++◌, length, Some, None, unwrap_or, suc, IsTrue, ◌↔◌}
+use Rattle.std.specs.Prelude.{refl, ◌≡◌, ℕ, min, ◌<◌, ◌==◌, Bool, true, false, if◌then◌else◌, List, [], ◌∷◌, ◌++◌, length, Some, None, unwrap_or, suc, IsTrue}
+use Rattle.std.specs.Prelude.{◌↔◌}
 use Rattle.std.proofs.Common.{arith, sym, ◌∙◌, ap}
 use Rattle.std.proofs.lemmas.Bool.Decides.{nat_tests}
 use Rattle.std.proofs.lemmas.List.Folds.{list_all_at}
@@ -18,10 +19,12 @@ pub added_by_replacing : (a : Warnings) (kind : Kind) (place : ℕ) → replaced
 unfolding added replaced
 added_by_replacing a kind place =
     by_kind_alike (λ other. if same_kind kind other then joined_noted (kept a kind) (noted_as 1 place) else kept a other)
-    (λ other. if same_kind kind other then joined_noted (kept a other) (noted_as 1 place) else kept a other) (λ other. by_test other (same_kind kind other) refl)
+    (λ other. if same_kind kind other then joined_noted (kept a other) (noted_as 1 place) else kept a other)
+    (λ other. by_test other (same_kind kind other) refl)
   where
     by_test : (other : Kind) (t : Bool) → same_kind kind other ≡ t →
-        (if t then joined_noted (kept a kind) (noted_as 1 place) else kept a other) ≡ (if t then joined_noted (kept a other) (noted_as 1 place) else kept a other)
+        (if t then joined_noted (kept a kind) (noted_as 1 place) else kept a other) ≡ (if t then joined_noted (kept a other)
+        (noted_as 1 place) else kept a other)
     by_test other true t = ap (λ k. joined_noted (kept a k) (noted_as 1 place)) (one_kind kind other t)
     by_test other false t = refl
 
@@ -53,11 +56,13 @@ none_there (x ∷ xs) count h zero = absurd (counted greatest_count (length xs) 
     counted : (limit n : ℕ) → 0 < limit → min (suc n) limit ≡ 0 → ⊥
     counted limit n h k = grind (arith, nat_tests)
 
-pub first_is : (noted : KindWarnings) (kind : Kind) (warnings : List Warning) → noted ≡ noted_of kind warnings → 0 < noted.count → Some noted.first ≡ first_of kind warnings
+pub first_is : (noted : KindWarnings) (kind : Kind) (warnings : List Warning) → noted ≡ noted_of kind warnings → 0 < noted.count
+    → Some noted.first ≡ first_of kind warnings
 first_is noted kind warnings h some =
     first_there (places_of kind warnings) noted.count noted.first (ap (λ x. x.count) h) (ap (λ x. x.first) h) some
 
-pub first_is_none : (noted : KindWarnings) (kind : Kind) (warnings : List Warning) → noted ≡ noted_of kind warnings → noted.count ≡ 0 → None ≡ first_of kind warnings
+pub first_is_none : (noted : KindWarnings) (kind : Kind) (warnings : List Warning) → noted ≡ noted_of kind warnings → noted.count ≡ 0
+    → None ≡ first_of kind warnings
 first_is_none noted kind warnings h zero = none_there (places_of kind warnings) noted.count (ap (λ x. x.count) h) zero
 
 -- no count, no warning
@@ -68,7 +73,8 @@ count_zero a kind none = by_test (of_kind a.counts kind == 0) refl
     by_test true t = grind (arith, nat_tests)
     by_test false t =
         let e : none_in a ≡ false =
-        list_all_at (λ k. of_kind a.counts k == 0) kinds (index_of kind) Kind.W1 (index_small kind) (ap (λ k. of_kind a.counts k == 0) (kind_at_index kind) ∙ t) in cc
+        list_all_at (λ k. of_kind a.counts k == 0) kinds (index_of kind) Kind.W1 (index_small kind)
+        (ap (λ k. of_kind a.counts k == 0) (kind_at_index kind) ∙ t) in cc
 
 counted_itself : (warning : Warning) (more : List Warning) → places_of warning.kind (warning ∷ more) ≡ warning.place ∷ places_of warning.kind more
 counted_itself warning more = simp (same_itself warning.kind)
@@ -79,8 +85,10 @@ empty_is a [] h = (λ _. refl, λ _. rw h refl)
 empty_is a (warning ∷ more) h = (
   λ t.
       let zero : (kept a warning.kind).count ≡ 0 = count_zero a warning.kind t in
-      let e : None ≡ first_of warning.kind (warning ∷ more) = first_is_none (kept a warning.kind) warning.kind (warning ∷ more) (kept_of a warning.kind (warning ∷ more) h) zero in
-      let found : (place : ℕ) × (least_place (warning.place ∷ places_of warning.kind more) ≡ Some place) = some_least warning.place (places_of warning.kind more) in
+      let e : None ≡ first_of warning.kind (warning ∷ more) =
+      first_is_none (kept a warning.kind) warning.kind (warning ∷ more) (kept_of a warning.kind (warning ∷ more) h) zero in
+      let found : (place : ℕ) × (least_place (warning.place ∷ places_of warning.kind more) ≡ Some place) =
+      some_least warning.place (places_of warning.kind more) in
       let e2 : None ≡ Some found.0 = e ∙ (ap least_place (counted_itself warning more) ∙ found.1) in cc,
   λ e. cc,
 )

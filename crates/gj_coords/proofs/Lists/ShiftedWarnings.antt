@@ -1,5 +1,6 @@
 -- Warnings so many bytes further on: what is kept of them is what was kept, shifted.
-use Rattle.std.specs.Prelude.{refl, ◌≡◌, ℕ, ◌+◌, ◌==◌, min, ◌<◌, ◌≤◌, ◌^◌, if◌then◌else◌, Bool, true, false, List, [], ◌∷◌, map, length, Option, Some, None, unwrap_or, suc}
+use Rattle.std.specs.Prelude.{refl, ◌≡◌, ℕ, ◌+◌, ◌==◌, min, ◌<◌, ◌≤◌, ◌^◌, if◌then◌else◌, Bool, true, false, List, [], ◌∷◌, map, length, Option, Some, None}
+use Rattle.std.specs.Prelude.{unwrap_or, suc}
 use Rattle.std.proofs.Common.{arith, sym, ◌∙◌, ap}
 use Rattle.std.proofs.lemmas.List.{length-map}
 use Rattle.std.proofs.lemmas.Bool.Decides.{nat_tests}
@@ -35,7 +36,8 @@ places_of_one : (by : ℕ) (kind : Kind) (warning : Warning) (more : List Warnin
 places_of_one by kind warning more true h rest = simp h (ap (λ xs. (warning.place + by) ∷ xs) rest)
 places_of_one by kind warning more false h rest = simp h rest
 
-places_on : (by : ℕ) (kind : Kind) (warnings : List Warning) → places_of kind (map (shifted_by by) warnings) ≡ map (λ place. place + by) (places_of kind warnings)
+places_on : (by : ℕ) (kind : Kind) (warnings : List Warning)
+    → places_of kind (map (shifted_by by) warnings) ≡ map (λ place. place + by) (places_of kind warnings)
 places_on by kind [] = refl
 places_on by kind (warning ∷ more) = places_of_one by kind warning more (same_kind warning.kind kind) refl (places_on by kind more)
 

@@ -1,5 +1,6 @@
 -- A list of which a `Warnings` tells the counts and the least places: as many warnings of each kind, all at one place.
-use Rattle.std.specs.Prelude.{refl, ◌≡◌, ℕ, min, ◌<◌, ◌≤◌, ◌==◌, Bool, true, false, if◌then◌else◌, List, [], ◌∷◌, ◌++◌, length, map, filter, Some, None, suc, zero}
+use Rattle.std.specs.Prelude.{refl, ◌≡◌, ℕ, min, ◌<◌, ◌≤◌, ◌==◌, Bool, true, false, if◌then◌else◌, List, [], ◌∷◌, ◌++◌, length, map, filter, Some, None, suc}
+use Rattle.std.specs.Prelude.{zero}
 use Rattle.std.proofs.Common.{arith, sym, ◌∙◌, ap, append-nil}
 use Rattle.std.specs.List.{flat_map}
 use Rattle.std.proofs.Math.ListN.{replicate}
@@ -66,7 +67,8 @@ told_list told = flat_map (λ (kind : Kind). alike (kept told kind) kind) kinds
 abbrev of_each : Warnings → Kind → Kind → List ℕ
 of_each told other kind = if same_kind kind other then places_alike (kept told kind) else []
 
-places_in : (told : Warnings) (other : Kind) (ks : List Kind) → places_of other (flat_map (λ (kind : Kind). alike (kept told kind) kind) ks) ≡ flat_map (of_each told other) ks
+places_in : (told : Warnings) (other : Kind) (ks : List Kind)
+    → places_of other (flat_map (λ (kind : Kind). alike (kept told kind) kind) ks) ≡ flat_map (of_each told other) ks
 places_in told other [] = refl
 places_in told other (kind ∷ ks) =
     places_of-both other (alike (kept told kind) kind) (flat_map (λ (k : Kind). alike (kept told k) k) ks)
@@ -100,7 +102,8 @@ some_told told small = (
 
 -- ---- the list that it stands for
 
-first_told : (noted : KindWarnings) (kind : Kind) (warnings : List Warning) (t : Bool) → (noted.count == 0) ≡ t → (noted.count ≡ 0 → None ≡ first_of kind warnings)
+first_told : (noted : KindWarnings) (kind : Kind) (warnings : List Warning) (t : Bool) → (noted.count == 0) ≡ t
+    → (noted.count ≡ 0 → None ≡ first_of kind warnings)
     → (0 < noted.count → Some noted.first ≡ first_of kind warnings) → (if noted.count == 0 then None else Some noted.first) ≡ first_of kind warnings
 first_told noted kind warnings true h none some = rw h (none (zero_of noted.count h))
   where
@@ -115,5 +118,6 @@ pub stood_for_told : (told : Warnings) (warnings : List Warning) → StandsFor t
 stood_for_told told warnings stands = λ kind.
     let is = kept_of told kind warnings stands in (
       ap (λ (noted : KindWarnings). noted.count) is,
-      first_told (kept told kind) kind warnings ((kept told kind).count == 0) refl (first_is_none (kept told kind) kind warnings is) (first_is (kept told kind) kind warnings is),
+      first_told (kept told kind) kind warnings ((kept told kind).count == 0) refl (first_is_none (kept told kind) kind warnings is)
+          (first_is (kept told kind) kind warnings is),
     )

@@ -1,5 +1,6 @@
 -- What the reader of a bounding box answers.
-use Rattle.std.proofs.Common.{◌≡◌, ◌↔◌, ℕ, ◌+◌, ◌%◌, ◌==◌, ◌||◌, ◌++◌, List, [], ◌∷◌, Some, None, not, IsTrue, refl, ap, ◌∙◌, arith, add-one, length, nat_lt, if◌then◌else◌, Bool, true, false, sym}
+use Rattle.std.proofs.Common.{◌≡◌, ◌↔◌, ℕ, ◌+◌, ◌%◌, ◌==◌, ◌||◌, ◌++◌, List, [], ◌∷◌, Some, None, not, IsTrue, refl, ap, ◌∙◌, arith, add-one, length, nat_lt}
+use Rattle.std.proofs.Common.{if◌then◌else◌, Bool, true, false, sym}
 use Rattle.std.proofs.lemmas.Bool.Decides.{nat_tests}
 use Rattle.std.specs.List.{flat_map}
 use Rattle.gj_json.specs.declared.constant.Constant.TheVariants.{Null, True, False}
@@ -63,7 +64,8 @@ box_least (object place ms close) = refl
 box_least (array place es close) =
     let g : BoxGather = gathered box_gathering head (box_gathering.opened place) (items es) in
     let few : nat_lt g.tally.count 4 ≡ nat_lt (length (items es)) 4 =
-    gathered_count box_gathering head (λ g. g.tally) (λ g a. refl) 4 (omega arith) (items es) (box_gathering.opened place) ∙ ap (λ n. nat_lt n 4) (omega arith) in
+    gathered_count box_gathering head (λ g. g.tally) (λ g a. refl) 4 (omega arith) (items es) (box_gathering.opened place)
+    ∙ ap (λ n. nat_lt n 4) (omega arith) in
     let odd : g.odd ≡ (length (items es) % 2 == 1) = gathered_odd (items es) (box_gathering.opened place) 0 refl ∙ ap (λ k. k % 2 == 1) (omega arith) in
     let at : g.tally.place ≡ place = gathered_place box_gathering head (λ g. g.tally) (λ g a. refl) (items es) (box_gathering.opened place) in
     both_least _ _ (if is_wrong_length (length (items es)) then fault_at place G21 ∷ [] else []) (flat_map (number_or G20) (items es))
@@ -71,7 +73,8 @@ box_least (array place es close) =
     (ap (λ b. if nat_lt (length (items es)) 4 || b then Some (fault_at g.tally.place G21) else None) odd ∙
     (ap (λ p. if is_wrong_length (length (items es)) then Some (fault_at p G21) else None) at ∙
     least_if (is_wrong_length (length (items es))) (fault_at place G21))))
-    (gathered_fault box_gathering head (λ g. g.fault) (λ e. unlike_number e.place e.what) (number_or G20) (λ g a. refl) number_least (items es) (box_gathering.opened place))
+    (gathered_fault box_gathering head (λ g. g.fault) (λ e. unlike_number e.place e.what) (number_or G20) (λ g a. refl) number_least (items es)
+    (box_gathering.opened place))
 
 box_answers : Answers box_machine box_answer
 box_answers = array_answers element_machine box_gathering head element_answers
@@ -123,7 +126,8 @@ pub box_warned : (b : Bbox) (v : Tree) → StandsFor b (value_events v) → IsCo
     (box_machine.answered b.reader).upside_down ≡ (if south_above_north (elements_of v) then Some (place_of v) else None)
 box_warned b v k room = ap (λ (a : BoxFindings). a.upside_down) (answer_at_end box_machine box_answer box_answers b.reader v k room) ∙ box_upside_down v
 
-pub some_warned : (t : Bool) (p place : ℕ) → Some place ≡ (if t then Some p else None) → added no_warnings W8 place ≡ warnings_of (if t then warning_at p W8 ∷ [] else [])
+pub some_warned : (t : Bool) (p place : ℕ) → Some place ≡ (if t then Some p else None)
+    → added no_warnings W8 place ≡ warnings_of (if t then warning_at p W8 ∷ [] else [])
 some_warned true p place e =
     let f : place ≡ p = cc in
     ap (added no_warnings W8) f ∙ (added_is no_warnings W8 p ∙ joined_none_first (warnings_of (warning_at p W8 ∷ [])))

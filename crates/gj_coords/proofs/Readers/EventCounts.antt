@@ -2,7 +2,8 @@
 use Rattle.std.proofs.Common.{◌≡◌, ℕ, ◌+◌, ◌<◌, ◌≤◌, List, [], ◌∷◌, ◌++◌, length, refl, ap, ◌∙◌, arith, length-append}
 use Rattle.gj_json.specs.declared.event.Event.{Event}
 use Rattle.gj_json.specs.declared.event.What.{What}
-use Rattle.gj_json.specs.Tree.{Tree, constant, number, string, array, object, Elements, end_of_array, element, Members, end_of_object, member, depth, elements_depth, members_depth}
+use Rattle.gj_json.specs.Tree.{Tree, constant, number, string, array, object, Elements, end_of_array, element, Members, end_of_object, member, depth}
+use Rattle.gj_json.specs.Tree.{elements_depth, members_depth}
 use Rattle.gj_coords.specs.Items.{items}
 use Rattle.gj_coords.specs.Internal.SentEvents.{event_at, sent, elements_sent, members_sent}
 

@@ -1,5 +1,6 @@
 -- The least of some faults is one of them, and none of them comes before it.
-use Rattle.std.proofs.Common.{◌≡◌, ◌↔◌, ℕ, List, [], ◌∷◌, ◌++◌, Some, None, Bool, true, false, refl, ap, sym, ◌∙◌, IsTrue, nat_lt, nat_eq, nat_le, ◌&&◌, ◌||◌, if◌then◌else◌, arith, subst}
+use Rattle.std.proofs.Common.{◌≡◌, ◌↔◌, ℕ, List, [], ◌∷◌, ◌++◌, Some, None, Bool, true, false, refl, ap, sym, ◌∙◌, IsTrue, nat_lt, nat_eq, nat_le, ◌&&◌, ◌||◌}
+use Rattle.std.proofs.Common.{if◌then◌else◌, arith, subst}
 use Rattle.std.proofs.lemmas.Bool.Decides.{nat_tests}
 use Rattle.std.specs.List.{AllByRecursion}
 use Rattle.gj_coords.specs.declared.fault.Fault.{Fault}
@@ -49,8 +50,12 @@ two false x y more h k = record {
 some_least : (x : Fault) (more : List Fault) → (fault : Fault) × (least (x ∷ more) ≡ Some fault) × IsLeast fault (x ∷ more)
 some_least x [] = (x, refl, record { before = []; after = []; joined = refl; first = (itself x.place (number_of x.rule), tt) })
 some_least x (y ∷ more) =
-    let rest : (fault : Fault) × (least (y ∷ more) ≡ Some fault) × IsLeast fault (y ∷ more) = some_least y more in
-    (if comes_first x rest.0 then x else rest.0, ap (lesser (Some x)) rest.1 ∙ chosen (comes_first x rest.0) x rest.0, two (comes_first x rest.0) x rest.0 (y ∷ more) refl rest.2)
+    let rest : (fault : Fault) × (least (y ∷ more) ≡ Some fault) × IsLeast fault (y ∷ more) = some_least y more in (
+      if comes_first x rest.0 then x else rest.0,
+      ap (lesser (Some x)) rest.1
+          ∙ chosen (comes_first x rest.0) x rest.0,
+      two (comes_first x rest.0) x rest.0 (y ∷ more) refl rest.2,
+    )
   where
     chosen : (b : Bool) (u v : Fault) → (if b then Some u else Some v) ≡ Some (if b then u else v)
     chosen true u v = refl
@@ -68,7 +73,8 @@ is_least (x ∷ more) fault h =
     let same : found.0 ≡ fault = cc in
     let P : Fault → Type 0 = λ f. IsLeast f (x ∷ more) in subst P same found.2
 
-pub least_is_one : (faults : List Fault) (fault : Fault) → least faults ≡ Some fault → (before : List Fault) × (after : List Fault) × (faults ≡ before ++ fault ∷ after)
+pub least_is_one : (faults : List Fault) (fault : Fault) → least faults ≡ Some fault → (before : List Fault) × (after : List Fault)
+    × (faults ≡ before ++ fault ∷ after)
 least_is_one faults fault h = let l : IsLeast fault faults = is_least faults fault h in (l.before, l.after, l.joined)
 
 pub least_is_first : (faults : List Fault) (fault : Fault) → least faults ≡ Some fault → AllByRecursion (λ other. IsTrue (comes_first fault other)) faults

@@ -30,14 +30,16 @@ use Rattle.gj_coords.specs.Internal.RingWarnings.{added_warned, ring_turns}
 use Rattle.gj_coords.specs.Internal.ElementCountLaws.{gathered_place}
 use Rattle.gj_coords.specs.Internal.GatheredWarningLaws.{taken_is}
 use Rattle.gj_coords.proofs.Readers.EventCounts.{length_below}
-use Rattle.gj_coords.proofs.Readers.WarningsOfElements.{IsShort, elements_short, none_of, always, gathered_warned, from_none, ring_warnings, ring_warned, sound_positions, gathered_rings}
+use Rattle.gj_coords.proofs.Readers.WarningsOfElements.{IsShort, elements_short, none_of, always, gathered_warned, from_none, ring_warnings, ring_warned}
+use Rattle.gj_coords.proofs.Readers.WarningsOfElements.{sound_positions, gathered_rings}
 use Rattle.gj_coords.proofs.Readers.OrEmptyLaws.{whole_warned}
 
 -- ---- what an answer adds to warnings
 
 -- those of a concern, as an element behind any others
 abbrev Adds : {A : Type 0} → Judgement A → (Tree → A) → Concern → Type 0
-Adds j meaning concern = (others : ℕ) (w : Warned) (v : Tree) → IsShort v → all_in (j.warned_behind others w (meaning v)) ≡ joined (all_in w) (warnings_of (concern v))
+Adds j meaning concern =
+    (others : ℕ) (w : Warned) (v : Tree) → IsShort v → all_in (j.warned_behind others w (meaning v)) ≡ joined (all_in w) (warnings_of (concern v))
 
 position_adds : Adds position_judged position_answer position_warnings
 position_adds others w v short = position_warned w v
@@ -134,7 +136,8 @@ type_warned Point =
     whole_warned numbers_gathering position_judged head position_warnings (alone position_judged position_answer position_warnings position_adds)
 type_warned MultiPoint =
     whole_warned (several_gathering position_judged 0) findings_judged position_answer (each position_warnings)
-    (whole_several_warned position_judged 0 position_answer (each position_warnings) (several_warned position_judged 0 position_answer position_warnings position_adds))
+    (whole_several_warned position_judged 0 position_answer (each position_warnings)
+    (several_warned position_judged 0 position_answer position_warnings position_adds))
 type_warned LineString =
     whole_warned (several_gathering position_judged 2) findings_judged position_answer (each position_warnings)
     (whole_several_warned position_judged 2 position_answer (each position_warnings) line_warned)

@@ -1,7 +1,8 @@
 -- What a gathering of warnings tells of its elements, and of the linear rings of a polygon.
 use Rattle.std.specs.Prelude.{is_none, ⊤}
 use Rattle.std.specs.List.{flat_map}
-use Rattle.std.proofs.Common.{◌≡◌, ℕ, zero, suc, ◌<◌, ◌^◌, List, [], ◌∷◌, ◌++◌, length, Option, Bool, true, false, ◌&&◌, refl, sym, ap, ◌∙◌, arith, nat_lt, if◌then◌else◌}
+use Rattle.std.proofs.Common.{◌≡◌, ℕ, zero, suc, ◌<◌, ◌^◌, List, [], ◌∷◌, ◌++◌, length, Option, Bool, true, false, ◌&&◌, refl, sym, ap, ◌∙◌, arith, nat_lt}
+use Rattle.std.proofs.Common.{if◌then◌else◌}
 use Rattle.gj_json.specs.Tree.{Tree, array, Elements}
 use Rattle.gj_coords.specs.declared.fault.Fault.{Fault}
 use Rattle.gj_coords.specs.declared.fault.Rule.TheVariants.{G14}
@@ -65,7 +66,8 @@ from_none a b warnings h k = h ∙ (ap (λ x. joined x (warnings_of warnings)) k
 pub sound_positions : (place : ℕ) (vs : List Tree) → is_empty (few 4 G14 place vs ++ (flat_map position vs ++ unclosed place vs)) ≡ true →
     is_empty (flat_map position vs) ≡ true
 sound_positions place vs h =
-    let behind : is_empty (flat_map position vs ++ unclosed place vs) ≡ true = (empty_front (few 4 G14 place vs) (flat_map position vs ++ unclosed place vs) h).1 in
+    let behind : is_empty (flat_map position vs ++ unclosed place vs) ≡ true =
+    (empty_front (few 4 G14 place vs) (flat_map position vs ++ unclosed place vs) h).1 in
     ap is_empty (empty_front (flat_map position vs) (unclosed place vs) behind).0
 
 abbrev pub ring_warnings : RingRole → Concern

@@ -1,7 +1,8 @@
 -- When a decimal is not the one that a number's digits and places write.
 use Rattle.std.specs.Bool.{beq}
 use Rattle.std.specs.Ordering.{int_eq}
-use Rattle.std.proofs.Common.{◌≡◌, ◌≢◌, ℕ, suc, ◌%◌, ◌/◌, ◌==◌, Bool, true, false, if◌then◌else◌, IsTrue, ℤ, pos, ◌-ℤ◌, ◌≤◌, FitsSigned, to_z, of_z, w16, refl, ap, arith}
+use Rattle.std.proofs.Common.{◌≡◌, ◌≢◌, ℕ, suc, ◌%◌, ◌/◌, ◌==◌, Bool, true, false, if◌then◌else◌, IsTrue, ℤ, pos, ◌-ℤ◌, ◌≤◌, FitsSigned, to_z, of_z, w16, refl}
+use Rattle.std.proofs.Common.{ap, arith}
 use Rattle.std.proofs.Math.Bool.{and-false}
 use Rattle.std.proofs.lemmas.Int.{ints}
 use Rattle.std.proofs.lemmas.Bool.Decides.{nat_tests, Decides-int_eq}
@@ -26,7 +27,8 @@ by_power a b h = rw (other_power a.power b.power h) (rw (and-false (a.digits == 
 
 as_many : (none ten : Bool) (a : Exact) (negative : Bool) (digits places fewer tens : ℕ) → (none ≡ true → digits ≡ 0) →
     a.power ≡ pos 0 -ℤ pos places → (a.digits == digits) ≡ false →
-    same_parts a (if none then zero_exact else record { negative = negative; digits = if ten then fewer else digits; power = pos (if ten then suc tens else 0) -ℤ pos places }) ≡ false
+    same_parts a (if none then zero_exact else record
+    { negative = negative; digits = if ten then fewer else digits; power = pos (if ten then suc tens else 0) -ℤ pos places }) ≡ false
 as_many true ten a negative digits places fewer tens none power other = by_digits a zero_exact (let e : digits ≡ 0 = none refl in grind (arith, nat_tests))
 as_many false true a negative digits places fewer tens some power other = by_power a _ (λ same. absurd (omega (arith, ints)))
 as_many false false a negative digits places fewer tens some power other = by_digits a _ other
@@ -35,7 +37,8 @@ pub other_digits : (a : Exact) (negative : Bool) (digits places : ℕ) → a.pow
     same_parts a (short_value negative digits places) ≡ false
 unfolding short_value
 other_digits a negative digits places power other =
-    as_many (digits == 0) (digits % 10 == 0) a negative digits places (stripped 17 (digits / 10)) (tens_in 17 (digits / 10)) (λ t. grind (arith, nat_tests)) power other
+    as_many (digits == 0) (digits % 10 == 0) a negative digits places (stripped 17 (digits / 10)) (tens_in 17 (digits / 10))
+    (λ t. grind (arith, nat_tests)) power other
 
 -- ---- the last digit that is written is no zero, and they have another number of places
 

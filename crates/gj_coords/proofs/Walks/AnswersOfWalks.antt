@@ -19,7 +19,8 @@ use Rattle.gj_coords.specs.Internal.ValueMachine.{Answers, IsCountable}
 use Rattle.gj_coords.specs.Internal.PositionGather.{numbers_gathering, position_answer}
 use Rattle.gj_coords.specs.Internal.ElementReader.{element_machine}
 use Rattle.gj_coords.specs.Internal.SentEvents.{head}
-use Rattle.gj_coords.specs.Internal.LevelGather.{position_machine, third_machine, second_machine, walk_machine, third_gathering, second_gathering, first_gathering, fault_as, warned_as, quiet_as}
+use Rattle.gj_coords.specs.Internal.LevelGather.{position_machine, third_machine, second_machine, walk_machine, third_gathering, second_gathering}
+use Rattle.gj_coords.specs.Internal.LevelGather.{first_gathering, fault_as, warned_as, quiet_as}
 use Rattle.gj_coords.specs.Internal.ArrayReader.{ended_at}
 use Rattle.gj_coords.specs.Internal.KeptWarnings.{no_warnings}
 use Rattle.gj_coords.specs.Internal.GatheredWarnings.{no_warned, all_in}
@@ -150,7 +151,8 @@ second_open floor walk k = rw k.at_first refl
 third_open : (floor : ℕ) (walk : Walk) → IsThird floor walk → walk_machine.ended walk ≡ false
 third_open floor walk k = rw k.at_first refl
 
-pub steady_open : (depth : Depth) (floor : ℕ) (es : List Event) (walk : Walk) → is_steady depth ≡ true → Holds depth floor es walk → walk_machine.ended walk ≡ false
+pub steady_open : (depth : Depth) (floor : ℕ) (es : List Event) (walk : Walk) → is_steady depth ≡ true → Holds depth floor es walk
+    → walk_machine.ended walk ≡ false
 steady_open Unknown floor es walk e k = cc
 steady_open First floor es walk e k = first_open floor walk k.1
 steady_open Second floor es walk e k = second_open floor walk k.1
@@ -227,7 +229,8 @@ held_none MultiLineString = refl
 held_none Polygon = refl
 held_none MultiPolygon = refl
 
-pub whole_quiet : (simple : Simple) (walk : Walk) (v : Tree) → is_none walk.gather.positions_warned.warnings ≡ true → IsWhole (value_events v) walk → IsCountable v →
+pub whole_quiet : (simple : Simple) (walk : Walk) (v : Tree) → is_none walk.gather.positions_warned.warnings ≡ true → IsWhole (value_events v) walk
+    → IsCountable v →
     coordinates_kept simple v ≡ no_warnings
 whole_quiet simple walk v e k room =
     sym (whole_kept simple walk v k room) ∙

@@ -1,5 +1,6 @@
 -- Each role of each level of a value has the faults of its shape.
-use Rattle.std.proofs.Common.{◌≡◌, ℕ, suc, ◌+◌, List, [], ◌∷◌, Option, Some, None, false, ◌==◌, refl, sym, ◌∙◌, ap, arith, add-one, length, nat_lt, if◌then◌else◌}
+use Rattle.std.proofs.Common.{◌≡◌, ℕ, suc, ◌+◌, List, [], ◌∷◌, Option, Some, None, false, ◌==◌, refl, sym, ◌∙◌, ap, arith, add-one, length, nat_lt}
+use Rattle.std.proofs.Common.{if◌then◌else◌}
 use Rattle.std.proofs.lemmas.Bool.Decides.{nat_tests}
 use Rattle.gj_json.specs.declared.event.Event.{Event}
 use Rattle.gj_json.specs.Tree.{Tree, constant, number, string, array, object, end_of_array, element}
@@ -78,7 +79,8 @@ third_position = role third_gathering numbers_gathering (λ g. g.numbers) (λ a.
 
 pub third_ring : (v : Tree) → (third_answer v).ring ≡ least (ring v)
 third_ring v =
-    role third_gathering ring_gathering (λ g. record { positions = g.positions; tally = g.numbers.tally }) (λ a. a) position_answer position_answer (λ b. b.ring) (λ d. d.fault)
+    role third_gathering ring_gathering (λ g. record { positions = g.positions; tally = g.numbers.tally }) (λ a. a) position_answer position_answer
+    (λ b. b.ring) (λ d. d.fault)
     (λ g a. refl) (λ v. refl) (λ p. refl) (λ g. refl) (λ e. refl) v ∙ ring_least v
 
 -- ---- the second level
@@ -103,7 +105,8 @@ second_line v =
 
 pub second_ring : (v : Tree) → (second_answer v).ring ≡ least (ring v)
 second_ring v =
-    role second_gathering ring_gathering (λ g. record { positions = g.positions; tally = g.numbers.tally }) (λ a. a.position) third_answer position_answer (λ b. b.ring) (λ d. d.fault)
+    role second_gathering ring_gathering (λ g. record { positions = g.positions; tally = g.numbers.tally }) (λ a. a.position) third_answer position_answer
+    (λ b. b.ring) (λ d. d.fault)
     (λ g a. refl) third_position (λ p. refl) (λ g. refl) (λ e. refl) v ∙ ring_least v
 
 -- a list of what some role of the elements is
@@ -114,7 +117,8 @@ list_role : {G A B : Type 0} (r : Gathering G A B) (p : G → Several 0) (x : Tr
     ((v : Tree) → fault_of (x v) ≡ least (shape v)) →
     (v : Tree) → out (given r x v) ≡ least (list shape v)
 list_role r p x out fault_of shape step opened closed otherwise h v =
-    role r (several_gathering (by_fault fault_of) 0) p (λ a. a) x x out (λ d. d.fault) step (λ v. refl) opened (λ g. closed g ∙ no_few (p g).tally (p g).fault) otherwise v ∙
+    role r (several_gathering (by_fault fault_of) 0) p (λ a. a) x x out (λ d. d.fault) step (λ v. refl) opened
+    (λ g. closed g ∙ no_few (p g).tally (p g).fault) otherwise v ∙
     several_least (by_fault fault_of) 0 (omega arith) x shape h v
 
 second_polygon : (v : Tree) → (second_answer v).polygon ≡ least (list ring v)

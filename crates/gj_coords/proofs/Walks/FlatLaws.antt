@@ -1,5 +1,6 @@
 -- An array of numbers that is told as one leads where its events lead.
-use Rattle.std.proofs.Common.{◌≡◌, ◌≤◌, ℕ, min, List, ◌++◌, Option, Some, None, Bool, true, false, ◌&&◌, ◌||◌, not, is_none, nat_lt, nat_eq, if◌then◌else◌, refl, sym, ◌∙◌, ap, subst, arith}
+use Rattle.std.proofs.Common.{◌≡◌, ◌≤◌, ℕ, min, List, ◌++◌, Option, Some, None, Bool, true, false, ◌&&◌, ◌||◌, not, is_none, nat_lt, nat_eq, if◌then◌else◌}
+use Rattle.std.proofs.Common.{refl, sym, ◌∙◌, ap, subst, arith}
 use Rattle.std.specs.Option.{option_map_or}
 use Rattle.std.proofs.lemmas.Bool.Decides.{nat_tests}
 use Rattle.gj_json.specs.declared.event.Event.{Event}
@@ -26,8 +27,10 @@ use Rattle.gj_coords.specs.Internal.ValueMachine.{Reads}
 use Rattle.gj_coords.specs.Internal.GatheredWarnings.{no_warned}
 use Rattle.gj_coords.specs.Internal.ElementReader.{element_machine}
 use Rattle.gj_coords.specs.Internal.PositionGather.{misshapen_at, numbers_gathering, position_closed, no_position}
-use Rattle.gj_coords.specs.Internal.LevelGather.{position_machine, third_machine, second_machine, walk_machine, third_gathering, second_gathering, first_gathering}
-use Rattle.gj_coords.specs.Internal.FlatPosition.{least_place, flat_position, flat_third, flat_second, flat_first, PositionReader, InnerReader, MiddleReader, Walk, singly, at_value, in_fourth, in_third, third_due, in_second, second_due, in_first, flat_taken}
+use Rattle.gj_coords.specs.Internal.LevelGather.{position_machine, third_machine, second_machine, walk_machine, third_gathering, second_gathering}
+use Rattle.gj_coords.specs.Internal.LevelGather.{first_gathering}
+use Rattle.gj_coords.specs.Internal.FlatPosition.{least_place, flat_position, flat_third, flat_second, flat_first, PositionReader, InnerReader, MiddleReader}
+use Rattle.gj_coords.specs.Internal.FlatPosition.{Walk, singly, at_value, in_fourth, in_third, third_due, in_second, second_due, in_first, flat_taken}
 use Rattle.gj_coords.proofs.Readers.RestsOfValues.{left}
 use Rattle.gj_coords.proofs.Walks.StatesAlike.{Simulates, reads_alike, SameElement, element_simulates, Alike, array_simulates}
 
@@ -39,7 +42,17 @@ record IsOn (first second : Numbered) (third : Option Numbered) (place : ℕ) : 
 
 abbrev flat_of : (first second : Numbered) (third : Option Numbered) (place close : ℕ) → IsOn first second third place → Flat
 flat_of first second third place close on =
-    record { first = first; second = second; third = third; place = place; close = close; first_on = on.first_on; second_on = on.second_on; third_on = on.third_on }
+    record {
+      first = first;
+      second = second;
+      third = third;
+      place = place;
+      close = close;
+      first_on = on.first_on;
+      second_on = on.second_on;
+      third_on =
+          on.third_on;
+    }
 
 on_of : (f : Flat) → IsOn f.first f.second f.third f.place
 on_of f = record { first_on = f.first_on; second_on = f.second_on; third_on = f.third_on }
@@ -196,7 +209,8 @@ second_due_alike a b third place close on g o Within g2 w2 o2 = walk_simulates.s
 second_due_alike a b third place close on g o Broken g2 w2 o2 = walk_simulates.same _
 second_due_alike a b third place close on g o Done g2 w2 o2 = walk_simulates.same _
 
-third_due_alike : (a b : Numbered) (third : Option Numbered) (place close : ℕ) (on : IsOn a b third place) (g : OuterArray) (o : Element) (g2 : MiddleArray) (o2 : Element) →
+third_due_alike : (a b : Numbered) (third : Option Numbered) (place close : ℕ) (on : IsOn a b third place) (g : OuterArray) (o : Element) (g2 : MiddleArray)
+    (o2 : Element) →
     (stage : Stage) (g3 : InnerArray) (w3 : PositionReader) (o3 : Element) →
     let f : Flat = flat_of a b third place close on in
     let s : Walk = state Within g (state Between g2 (state stage g3 w3 o3) o2) o in
@@ -228,7 +242,8 @@ third_due_alike a b third place close on g o g2 o2 Within g3 w3 o3 = walk_simula
 third_due_alike a b third place close on g o g2 o2 Broken g3 w3 o3 = walk_simulates.same _
 third_due_alike a b third place close on g o g2 o2 Done g3 w3 o3 = walk_simulates.same _
 
-fourth_due_alike : (a b : Numbered) (third : Option Numbered) (place close : ℕ) (on : IsOn a b third place) (g : OuterArray) (o : Element) (g2 : MiddleArray) (o2 : Element) (g3 : InnerArray) (o3 : Element) →
+fourth_due_alike : (a b : Numbered) (third : Option Numbered) (place close : ℕ) (on : IsOn a b third place) (g : OuterArray) (o : Element) (g2 : MiddleArray)
+    (o2 : Element) (g3 : InnerArray) (o3 : Element) →
     (stage : Stage) (g4 : Numbers) (w4 : Element) (o4 : Element) →
     let f : Flat = flat_of a b third place close on in
     let s : Walk = state Within g (state Within g2 (state Between g3 (state stage g4 w4 o4) o3) o2) o in
@@ -272,7 +287,8 @@ fourth_due_alike a b third place close on g o g2 o2 g3 o3 Done g4 w4 o4 = walk_s
 
 -- ---- by the stages of the levels
 
-in_third_alike : (a b : Numbered) (third : Option Numbered) (place close : ℕ) (on : IsOn a b third place) (g : OuterArray) (o : Element) (g2 : MiddleArray) (o2 : Element) →
+in_third_alike : (a b : Numbered) (third : Option Numbered) (place close : ℕ) (on : IsOn a b third place) (g : OuterArray) (o : Element) (g2 : MiddleArray)
+    (o2 : Element) →
     (stage : Stage) (g3 : InnerArray) (w3 : PositionReader) (o3 : Element) →
     let f : Flat = flat_of a b third place close on in
     let s : Walk = state Within g (state Within g2 (state stage g3 w3 o3) o2) o in

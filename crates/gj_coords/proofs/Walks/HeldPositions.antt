@@ -136,7 +136,8 @@ some_quiet simple s e =
     (first_of rings polygons d)
     (second_of rings polygons d)
 
-where_some : (empty quiet : Bool) (w v : Warned) → (if empty then false else quiet) ≡ true → (quiet ≡ true → v ≡ no_warned) → (if empty then w else v) ≡ no_warned
+where_some : (empty quiet : Bool) (w v : Warned) → (if empty then false else quiet) ≡ true → (quiet ≡ true → v ≡ no_warned)
+    → (if empty then w else v) ≡ no_warned
 where_some true quiet w v e k = cc
 where_some false quiet w v e k = k e
 

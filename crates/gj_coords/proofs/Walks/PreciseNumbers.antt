@@ -1,6 +1,7 @@
 -- What is known of a number's places by how it is written, and of a position's.
 use Rattle.std.specs.Prelude.{is_none}
-use Rattle.std.proofs.Common.{◌≡◌, ◌≢◌, ℕ, ◌<◌, ◌≤◌, ◌%◌, ◌==◌, zero, suc, Bool, if◌then◌else◌, true, false, nat_lt, Option, Some, None, IfSome, ℤ, pos, negsuc, ◌-ℤ◌, refl, sym, arith}
+use Rattle.std.proofs.Common.{◌≡◌, ◌≢◌, ℕ, ◌<◌, ◌≤◌, ◌%◌, ◌==◌, zero, suc, Bool, if◌then◌else◌, true, false, nat_lt, Option, Some, None, IfSome, ℤ, pos, negsuc}
+use Rattle.std.proofs.Common.{◌-ℤ◌, refl, sym, arith}
 use Rattle.std.proofs.lemmas.Int.{ints}
 use Rattle.std.proofs.lemmas.Bool.Decides.{nat_tests}
 use Rattle.gj_number.specs.Exact.{below_zero, zero_exact}
@@ -45,12 +46,14 @@ written_short negative digits places k = short_if (digits == 0) negative _ _ pla
 
 -- ---- a position in range without such a number is plain
 
-quiet_by : (w : Warned) (place : ℕ) (third : Option Numbered) (corner : Option Corner) (c : Corner) (precise : KindWarnings) → precise ≡ nothing_noted → corner ≡ Some c →
+quiet_by : (w : Warned) (place : ℕ) (third : Option Numbered) (corner : Option Corner) (c : Corner) (precise : KindWarnings) → precise ≡ nothing_noted
+    → corner ≡ Some c →
     position_noted w place (flat_count third) corner precise ≡ w
 quiet_by w place None corner c precise e k = rw e (rw k refl)
 quiet_by w place (Some number) corner c precise e k = rw e (rw k refl)
 
-pub plain_if : (f : Flat) (result : Option Corner) → flat_precise f ≡ nothing_noted → result ≡ corner_in (flat_values f) → IfSome result (λ corner. IsPlain f corner)
+pub plain_if : (f : Flat) (result : Option Corner) → flat_precise f ≡ nothing_noted → result ≡ corner_in (flat_values f)
+    → IfSome result (λ corner. IsPlain f corner)
 plain_if f None e k = tt
 plain_if f (Some c) e k = record { in_range = sym k; quiet = λ w. quiet_by w f.place f.third (corner_in (flat_values f)) c (flat_precise f) e (sym k) }
 
@@ -63,7 +66,8 @@ pair_precise f none first second = by_third f.third none
     two : number_precise f.second (number_precise f.first nothing_noted) ≡ pair_noted f
     two = rw (first, second) refl
 
-    by_third : (third : Option Numbered) → is_none third ≡ true → third_precise third (number_precise f.second (number_precise f.first nothing_noted)) ≡ pair_noted f
+    by_third : (third : Option Numbered) → is_none third ≡ true
+        → third_precise third (number_precise f.second (number_precise f.first nothing_noted)) ≡ pair_noted f
     by_third None e = two
     by_third (Some number) e = cc
 

@@ -1,5 +1,6 @@
 -- Where a walk is steady, a position that is told as one changes only what is gathered of positions, and their count.
-use Rattle.std.proofs.Common.{◌≡◌, ℕ, zero, suc, ◌<◌, ◌≤◌, min, Option, Some, None, Bool, true, false, ◌&&◌, nat_lt, if◌then◌else◌, refl, sym, ◌∙◌, ap, subst, arith}
+use Rattle.std.proofs.Common.{◌≡◌, ℕ, zero, suc, ◌<◌, ◌≤◌, min, Option, Some, None, Bool, true, false, ◌&&◌, nat_lt, if◌then◌else◌, refl, sym, ◌∙◌, ap, subst}
+use Rattle.std.proofs.Common.{arith}
 use Rattle.std.proofs.lemmas.Bool.Decides.{nat_tests}
 use Rattle.gj_json.specs.declared.event.What.{What}
 use Rattle.gj_json.specs.declared.flat.Flat.{Flat}
@@ -24,8 +25,10 @@ use Rattle.gj_coords.specs.Internal.ElementCount.{one_counted}
 use Rattle.gj_coords.specs.Internal.PositionGather.{pushed, precise_with, number_added, array_counted, sound_noted}
 use Rattle.gj_coords.specs.Internal.PositionsGather.{position_added}
 use Rattle.gj_coords.specs.Internal.LevelGather.{position_machine, third_machine, second_machine, third_gathering, second_gathering, first_gathering}
-use Rattle.gj_coords.specs.Internal.FlatPosition.{least_with, least_place, flat_misshapen, flat_ring, flat_position, flat_third, flat_second, PositionReader, InnerReader, MiddleReader, Walk, in_first, in_second, in_third, in_fourth, second_due, third_due, flat_taken}
-use Rattle.gj_coords.specs.Internal.SteadyWalk.{IsFaultBy, IsCounted, IsSettled, IsIdle, IsFirst, IsSecond, IsThird, IsPast, IsThirdPast, third_steady, second_steady, first_steady}
+use Rattle.gj_coords.specs.Internal.FlatPosition.{least_with, least_place, flat_misshapen, flat_ring, flat_position, flat_third, flat_second, PositionReader}
+use Rattle.gj_coords.specs.Internal.FlatPosition.{InnerReader, MiddleReader, Walk, in_first, in_second, in_third, in_fourth, second_due, third_due, flat_taken}
+use Rattle.gj_coords.specs.Internal.SteadyWalk.{IsFaultBy, IsCounted, IsSettled, IsIdle, IsFirst, IsSecond, IsThird, IsPast, IsThirdPast, third_steady}
+use Rattle.gj_coords.specs.Internal.SteadyWalk.{second_steady, first_steady}
 
 -- ---- a fault by this place stays the least of it and one after it
 
@@ -100,7 +103,8 @@ pub counted_whole : (n : Numbers) → IsCounted n → nat_lt n.tally.count 4 ≡
 counted_whole n k e =
     let full : n.values.count ≡ 3 = k ∙ least_three n.tally.count e in
     let build : Values → ℕ → Numbers = λ values count. record n { values = values; tally = record { place = n.tally.place; count = count } } in
-    sym (ap (λ x. build x (one_counted n.tally.count)) (pushed_full n.values.count n.values full) ∙ ap (λ x. build n.values x) (ap (λ b. if b then suc n.tally.count else n.tally.count) e))
+    sym (ap (λ x. build x (one_counted n.tally.count)) (pushed_full n.values.count n.values full)
+    ∙ ap (λ x. build n.values x) (ap (λ b. if b then suc n.tally.count else n.tally.count) e))
 
 -- ---- a reader that is due and idle is ready
 
@@ -202,7 +206,8 @@ first_still floor f s k = record {
   by_polygons = k.by_polygons;
 }
 
-pub second_still : (floor : ℕ) (f : Flat) (s : Walk) → IsSecond floor s → IsSecond floor (record s { item = record s.item { gather = second_steady f s.item.gather } })
+pub second_still : (floor : ℕ) (f : Flat) (s : Walk) → IsSecond floor s
+    → IsSecond floor (record s { item = record s.item { gather = second_steady f s.item.gather } })
 second_still floor f s k = record {
   at_first = k.at_first;
   at_second = k.at_second;

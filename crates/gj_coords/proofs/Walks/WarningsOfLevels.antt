@@ -15,7 +15,8 @@ use Rattle.gj_coords.specs.Items.{items, elements_of, place_of}
 use Rattle.gj_coords.specs.Shape.{position, ring}
 use Rattle.gj_coords.specs.Winding.{ring_turn}
 use Rattle.gj_coords.specs.Internal.WindingGather.{turn_in}
-use Rattle.gj_coords.specs.CoordinateWarnings.{is_sound, each, sound_position_warnings, position_warnings, rings_warnings, polygon_warnings, concern_of, coordinates_warnings}
+use Rattle.gj_coords.specs.CoordinateWarnings.{is_sound, each, sound_position_warnings, position_warnings, rings_warnings, polygon_warnings, concern_of}
+use Rattle.gj_coords.specs.CoordinateWarnings.{coordinates_warnings}
 use Rattle.gj_coords.specs.Internal.SentEvents.{head}
 use Rattle.gj_coords.specs.Internal.Gathering.{gathered}
 use Rattle.gj_coords.specs.Internal.KeptWarnings.{warnings_of, no_warnings, joined}
@@ -30,7 +31,8 @@ use Rattle.gj_coords.specs.Internal.RingWarnings.{added_warned, ring_turns}
 use Rattle.gj_coords.specs.Internal.WarningLaws.{joined_none_first, added_is}
 use Rattle.gj_coords.specs.Internal.GatheredWarningLaws.{taken_is}
 use Rattle.gj_coords.proofs.Readers.EventCounts.{length_below}
-use Rattle.gj_coords.proofs.Readers.WarningsOfElements.{IsShort, elements_short, none_of, always, sound_positions, gathered_warned, from_none, ring_warnings, ring_warned, gathered_rings}
+use Rattle.gj_coords.proofs.Readers.WarningsOfElements.{IsShort, elements_short, none_of, always, sound_positions, gathered_warned, from_none, ring_warnings}
+use Rattle.gj_coords.proofs.Readers.WarningsOfElements.{ring_warned, gathered_rings}
 use Rattle.gj_coords.proofs.Walks.FaultsOfLevels.{project, third_position, third_ring, second_position, second_ring, not_empty}
 
 -- where the answer as a position says it is
@@ -100,7 +102,8 @@ second_turn (array place es close) short sound =
     ring_turns place (items es) (sound_positions place (items es) sound) (omega arith)
 
 second_ring_step : (g : MiddleArray) (v : Tree) → IsShort v →
-    all_in (second_gathering.added g (third_answer v)).rings_warned ≡ joined (all_in g.rings_warned) (warnings_of (ring_warnings (role_behind g.numbers.tally.count) v))
+    all_in (second_gathering.added g (third_answer v)).rings_warned ≡ joined (all_in g.rings_warned)
+    (warnings_of (ring_warnings (role_behind g.numbers.tally.count) v))
 second_ring_step g v short =
     let a = third_answer v in
     ring_warned (role_behind g.numbers.tally.count) g.rings_warned a.position.head.place a.ring a.turn a.warned v
@@ -127,7 +130,8 @@ lines_step : (g : OuterArray) (v : Tree) → ⊤ → IsShort v →
 lines_step g v t short = taken_is g.lines_warned (second_answer v).warned ∙ ap (joined (all_in g.lines_warned)) (second_warned v short)
 
 rings_step : (g : OuterArray) (v : Tree) → IsShort v →
-    all_in (first_gathering.added g (second_answer v)).rings_warned ≡ joined (all_in g.rings_warned) (warnings_of (ring_warnings (role_behind g.numbers.tally.count) v))
+    all_in (first_gathering.added g (second_answer v)).rings_warned ≡ joined (all_in g.rings_warned)
+    (warnings_of (ring_warnings (role_behind g.numbers.tally.count) v))
 rings_step g v short =
     let a = second_answer v in
     ring_warned (role_behind g.numbers.tally.count) g.rings_warned a.position.head.place a.ring a.turn a.warned v
@@ -138,7 +142,8 @@ polygons_step : (g : OuterArray) (v : Tree) → ⊤ → IsShort v →
 polygons_step g v t short = taken_is g.polygons_warned (second_answer v).rings_warned ∙ ap (joined (all_in g.polygons_warned)) (second_rings_warned v short)
 
 positions_warned : (place : ℕ) (es : Elements) (close : ℕ) → IsShort (array place es close) →
-    all_in (gathered first_gathering second_answer (first_gathering.opened place) (items es)).positions_warned ≡ warnings_of (flat_map position_warnings (items es))
+    all_in (gathered first_gathering second_answer (first_gathering.opened place) (items es)).positions_warned ≡ warnings_of
+    (flat_map position_warnings (items es))
 positions_warned place es close short =
     from_none _ no_warnings (flat_map position_warnings (items es))
     (gathered_warned first_gathering second_answer (λ g. g.positions_warned) position_warnings (λ g. ⊤) always positions_step

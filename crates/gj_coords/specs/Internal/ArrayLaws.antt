@@ -74,12 +74,21 @@ from_due m r meaning law g w o i j (constant True place) room =
     (refl, broken_reads m r g w i [] (element_machine.after o (head (constant True place))) _ (element_answers.reads o j (constant True place) room).1)
 from_due m r meaning law g w o i j (constant False place) room =
     (refl, broken_reads m r g w i [] (element_machine.after o (head (constant False place))) _ (element_answers.reads o j (constant False place) room).1)
-from_due m r meaning law g w o i j (number place literal end) room =
-    (refl, broken_reads m r g w i [] (element_machine.after o (head (number place literal end))) _ (element_answers.reads o j (number place literal end) room).1)
-from_due m r meaning law g w o i j (string place content end) room =
-    (refl, broken_reads m r g w i [] (element_machine.after o (head (string place content end))) _ (element_answers.reads o j (string place content end) room).1)
-from_due m r meaning law g w o i j (array place es close) room =
-    (refl, elements_reads m r meaning law es (omega arith) (r.opened place) o w i (event_at close What.CloseArray ∷ []) _ (λ item k. (refl, (refl, refl, (refl, k, refl)))))
+from_due m r meaning law g w o i j (number place literal end) room = (
+  refl,
+  broken_reads m r g w i [] (element_machine.after o (head (number place literal end))) _
+      (element_answers.reads o j (number place literal end) room).1,
+)
+from_due m r meaning law g w o i j (string place content end) room = (
+  refl,
+  broken_reads m r g w i [] (element_machine.after o (head (string place content end))) _
+      (element_answers.reads o j (string place content end) room).1,
+)
+from_due m r meaning law g w o i j (array place es close) room = (
+  refl,
+  elements_reads m r meaning law es (omega arith) (r.opened place) o w i (event_at close What.CloseArray ∷ []) _
+      (λ item k. (refl, (refl, refl, (refl, k, refl)))),
+)
 from_due m r meaning law g w o i j (object place ms close) room =
     (refl, broken_reads m r g w i (members_sent ms ++ event_at close What.CloseObject ∷ []) _ _ (element_answers.reads o j (object place ms close) room).1)
 
@@ -87,7 +96,8 @@ array_reads : {W G A B : Type 0} (m : Machine W A) (r : Gathering G A B) (meanin
     (s : Array W G) → (array_machine m r).Ready s → (v : Tree) → IsCountable v → Reads (array_machine m r) s (sent v) (given r meaning v)
 array_reads m r meaning law s h v room = rw h.0 (from_due m r meaning law s.gather s.item s.other h.1 h.2 v room)
 
-pub array_answers : {W G A B : Type 0} (m : Machine W A) (r : Gathering G A B) (meaning : Tree → A) → Answers m meaning → Answers (array_machine m r) (given r meaning)
+pub array_answers : {W G A B : Type 0} (m : Machine W A) (r : Gathering G A B) (meaning : Tree → A) → Answers m meaning
+    → Answers (array_machine m r) (given r meaning)
 array_answers m r meaning law = record {
   ready = (refl, law.ready, element_answers.ready);
   reads = array_reads m r meaning law;

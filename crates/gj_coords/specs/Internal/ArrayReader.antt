@@ -18,7 +18,8 @@ when_due r _ s e = record s { stage = Broken; other = element_machine.after s.ot
 -- behind an event of an element
 abbrev pub behind : {W G A B : Type 0} → Machine W A → Gathering G A B → Array W G → W → Array W G
 behind m r s item =
-    if m.ended item then record s { stage = Between; gather = r.added s.gather (m.answered item); item = m.again item } else record s { stage = Within; item = item }
+    if m.ended item then record s { stage = Between; gather = r.added s.gather (m.answered item); item = m.again item } else record s
+    { stage = Within; item = item }
 
 -- an event of an array or object among the elements
 abbrev pub within : {W G A B : Type 0} → Machine W A → Gathering G A B → Array W G → Event → Array W G

@@ -53,7 +53,13 @@ upside_down s = if is_upside_down s.latitudes.count s.latitudes then Some s.tall
 abbrev pub box_gathering : Gathering BoxGather Event BoxFindings
 box_gathering = record {
   opened = λ place. record { tally = tally_at place; fault = None; odd = false; latitudes = no_latitudes };
-  added = λ s e. record { tally = counted s.tally; fault = lesser s.fault (unlike_number e.place e.what); odd = not s.odd; latitudes = latitude_added s.latitudes.count (value_in e.what) s.latitudes };
+  added = λ s e. record {
+    tally = counted s.tally;
+    fault = lesser s.fault (unlike_number e.place e.what);
+    odd = not s.odd;
+    latitudes =
+        latitude_added s.latitudes.count (value_in e.what) s.latitudes;
+  };
   closed = λ s. record { fault = lesser (wrong_length s) s.fault; upside_down = upside_down s };
   otherwise = λ e. record { fault = Some (fault_at e.place G20); upside_down = None };
 }

@@ -17,7 +17,8 @@ use Rattle.gj_coords.specs.Internal.LeastLaws.{lesser-none, lesser_step, least-a
 counted_test : (c n needed : ℕ) → needed ≤ 4 → nat_lt (one_counted c + n) needed ≡ nat_lt (c + suc n) needed
 counted_test c n needed h = grind (arith, nat_tests, add-one n, add-one c)
 
-module _ {G A B : Type 0} (r : Gathering G A B) (meaning : Tree → A) (tally : G → Tally) (step : (g : G) (a : A) → tally (r.added g a) ≡ counted (tally g)) where
+module _ {G A B : Type 0} (r : Gathering G A B) (meaning : Tree → A) (tally : G → Tally)
+    (step : (g : G) (a : A) → tally (r.added g a) ≡ counted (tally g)) where
   pub gathered_count : (needed : ℕ) → needed ≤ 4 → (vs : List Tree) (g : G) →
       nat_lt (tally (gathered r meaning g vs)).count needed ≡ nat_lt ((tally g).count + length vs) needed
   gathered_count needed h [] g = ap (λ n. nat_lt n needed) (omega arith)

@@ -6,7 +6,8 @@ use Rattle.std.proofs.Math.Nat.{le-max_left, le-max_right}
 use Rattle.gj_json.specs.declared.constant.Constant.TheVariants.{Null, True, False}
 use Rattle.gj_json.specs.declared.event.Event.{Event}
 use Rattle.gj_json.specs.declared.event.What.{What}
-use Rattle.gj_json.specs.Tree.{Tree, constant, number, string, array, object, Elements, end_of_array, element, Members, end_of_object, member, depth, elements_depth, members_depth}
+use Rattle.gj_json.specs.Tree.{Tree, constant, number, string, array, object, Elements, end_of_array, element, Members, end_of_object, member, depth}
+use Rattle.gj_json.specs.Tree.{elements_depth, members_depth}
 use Rattle.gj_coords.specs.declared.element.Element.{Element}
 use Rattle.gj_coords.specs.Internal.SentEvents.{event_at, sent, elements_sent, members_sent, head}
 use Rattle.gj_coords.specs.Internal.ValueMachine.{Reads, Answers, IsCountable}
@@ -22,7 +23,8 @@ HasRoom levels n = levels + n < 2 ^ 64
 one_deeper : (n : ℕ) → n + 1 < 2 ^ 64 → one_more n ≡ suc n
 one_deeper n h = grind (arith, nat_tests)
 
-opened : (first : Event) (n : ℕ) (rest : List Event) (a : Event) → n + 1 < 2 ^ 64 → ElementReads (inside first (suc n)) rest a → ElementReads (inside first (one_more n)) rest a
+opened : (first : Event) (n : ℕ) (rest : List Event) (a : Event) → n + 1 < 2 ^ 64 → ElementReads (inside first (suc n)) rest a
+    → ElementReads (inside first (one_more n)) rest a
 opened first n rest a h r = let P : ℕ → Type 0 = λ k. ElementReads (inside first k) rest a in subst P (sym (one_deeper n h)) r
 
 mutual

@@ -35,7 +35,8 @@ use Rattle.gj_coords.specs.declared.simple.Simple.TheVariants.{Point}
 use Rattle.gj_coords.specs.declared.warned.Warned.{Warned}
 use Rattle.gj_coords.specs.Internal.GatheredWarnings.{no_warned, some_noted}
 use Rattle.gj_coords.specs.Internal.PositionGather.{precise_with, corner_in, misshapen_at, sound_noted}
-use Rattle.gj_coords.specs.Internal.LevelGather.{position_machine, third_machine, second_machine, walk_machine, third_gathering, second_gathering, first_gathering}
+use Rattle.gj_coords.specs.Internal.LevelGather.{position_machine, third_machine, second_machine, walk_machine, third_gathering, second_gathering}
+use Rattle.gj_coords.specs.Internal.LevelGather.{first_gathering}
 
 -- ---- as a position, which breaks no rule
 
@@ -48,7 +49,8 @@ flat_count None = 2
 flat_count (Some number) = 3
 
 abbrev pub flat_values : Flat → Values
-flat_values f = record { count = flat_count f.third; first = Some (exact_of f.first.value); second = Some (exact_of f.second.value); third = third_value f.third }
+flat_values f = record
+    { count = flat_count f.third; first = Some (exact_of f.first.value); second = Some (exact_of f.second.value); third = third_value f.third }
 
 abbrev pub number_precise : Numbered → KindWarnings → KindWarnings
 number_precise number noted = precise_with (is_precise (Some (exact_of number.value))) number.place noted

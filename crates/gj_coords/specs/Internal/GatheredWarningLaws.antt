@@ -49,7 +49,8 @@ with_both : (a : Warnings) (noted one : KindWarnings) → with_noted a W4 (joine
 unfolding replaced with_noted
 with_both a noted one =
     by_kind_alike (λ kind. if same_kind W4 kind then joined_noted (kept a W4) (joined_noted noted one) else kept a kind)
-    (λ kind. if same_kind W4 kind then joined_noted (kept (with_noted a W4 noted) W4) one else kept (with_noted a W4 noted) kind) (λ kind. one_more_of kind (same_kind W4 kind) refl)
+    (λ kind. if same_kind W4 kind then joined_noted (kept (with_noted a W4 noted) W4) one else kept (with_noted a W4 noted) kind)
+    (λ kind. one_more_of kind (same_kind W4 kind) refl)
   where
     first : Kind → KindWarnings
     first kind = if same_kind W4 kind then joined_noted (kept a W4) noted else kept a kind
@@ -72,9 +73,11 @@ with_one a place =
     by_test kind false t = refl
 
 -- one of the kind more
-pub with_one_more : (a : Warnings) (noted : KindWarnings) (place : ℕ) → with_noted a W4 (joined_noted noted (noted_as 1 place)) ≡ added (with_noted a W4 noted) W4 place
+pub with_one_more : (a : Warnings) (noted : KindWarnings) (place : ℕ)
+    → with_noted a W4 (joined_noted noted (noted_as 1 place)) ≡ added (with_noted a W4 noted) W4 place
 with_one_more a noted place = with_both a noted (noted_as 1 place) ∙ with_one (with_noted a W4 noted) place
 
-pub some_noted_is : (none : Bool) (w : Warned) (noted : KindWarnings) → is_nothing noted ≡ none → all_in (some_noted none w W4 noted) ≡ with_noted (all_in w) W4 noted
+pub some_noted_is : (none : Bool) (w : Warned) (noted : KindWarnings) → is_nothing noted ≡ none
+    → all_in (some_noted none w W4 noted) ≡ with_noted (all_in w) W4 noted
 some_noted_is true w noted h = sym (ap (with_noted (all_in w) W4) (sym (nothing_at_zero noted h)) ∙ with_nothing (all_in w))
 some_noted_is false w noted h = refl

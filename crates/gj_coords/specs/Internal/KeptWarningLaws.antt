@@ -1,5 +1,6 @@
 -- Laws of what is kept of the warnings of one kind.
-use Rattle.std.specs.Prelude.{◌≡◌, ℕ, ◌+◌, min, ◌==◌, ◌<◌, Bool, true, false, ◌&&◌, List, [], ◌∷◌, ◌++◌, map, filter, length, Option, Some, None, unwrap_or, refl, suc}
+use Rattle.std.specs.Prelude.{◌≡◌, ℕ, ◌+◌, min, ◌==◌, ◌<◌, Bool, true, false, ◌&&◌, List, [], ◌∷◌, ◌++◌, map, filter, length, Option, Some, None, unwrap_or}
+use Rattle.std.specs.Prelude.{refl, suc}
 use Rattle.std.proofs.Common.{arith, sym, ◌∙◌, ap, length-append}
 use Rattle.std.proofs.lemmas.Bool.Decides.{nat_tests}
 use Rattle.std.proofs.lemmas.List.{map-append, append-nil}
@@ -94,7 +95,8 @@ lesser_place_assoc (Some a) (Some b) (Some c) = ap Some (firsts_group a b c)
 
 pub least_place-append : (xs ys : List ℕ) → least_place (xs ++ ys) ≡ lesser_place (least_place xs) (least_place ys)
 least_place-append [] ys = refl
-least_place-append (x ∷ xs) ys = ap (λ z. lesser_place (Some x) z) (least_place-append xs ys) ∙ sym (lesser_place_assoc (Some x) (least_place xs) (least_place ys))
+least_place-append (x ∷ xs) ys =
+    ap (λ z. lesser_place (Some x) z) (least_place-append xs ys) ∙ sym (lesser_place_assoc (Some x) (least_place xs) (least_place ys))
 
 -- the least of some places is there
 pub some_least : (x : ℕ) (xs : List ℕ) → (place : ℕ) × (least_place (x ∷ xs) ≡ Some place)

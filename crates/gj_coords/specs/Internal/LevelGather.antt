@@ -25,7 +25,8 @@ use Rattle.gj_coords.specs.Internal.ArrayReader.{array_machine}
 use Rattle.gj_coords.specs.Internal.ListGather.{line_closed}
 use Rattle.gj_coords.specs.Internal.GatheredWarnings.{no_warned, noted_in, taken}
 use Rattle.gj_coords.specs.Internal.WindingGather.{turn_in}
-use Rattle.gj_coords.specs.Internal.PositionGather.{numbers_start, number_added, position_least, position_closed, no_position, numbers_gathering, misshapen_at, judged_noted}
+use Rattle.gj_coords.specs.Internal.PositionGather.{numbers_start, number_added, position_least, position_closed, no_position, numbers_gathering, misshapen_at}
+use Rattle.gj_coords.specs.Internal.PositionGather.{judged_noted}
 use Rattle.gj_coords.specs.Internal.PositionsGather.{no_positions, position_added, ring_closed, role_behind, ring_noted}
 
 abbrev pub third_gathering : Gathering InnerArray Position InnerSummary
@@ -141,7 +142,8 @@ warned_as simple (Level s) = warned_in simple s
 
 abbrev pub some_quiet_in : OuterArray → Bool
 some_quiet_in s =
-    is_some s.numbers.fault && (is_none s.positions_warned.warnings && (is_none s.lines_warned.warnings && (is_none s.rings_warned.warnings && is_none s.polygons_warned.warnings)))
+    is_some s.numbers.fault &&
+    (is_none s.positions_warned.warnings && (is_none s.lines_warned.warnings && (is_none s.rings_warned.warnings && is_none s.polygons_warned.warnings)))
 
 abbrev pub quiet_in : OuterArray → Bool
 quiet_in s = if s.numbers.tally.count == 0 then false else some_quiet_in s

@@ -1,5 +1,6 @@
 -- The reader of a position tells its least fault and its first values.
-use Rattle.std.specs.Prelude.{◌≡◌, ℕ, zero, suc, ◌+◌, List, [], ◌∷◌, ◌++◌, Option, Some, None, Bool, true, false, ◌&&◌, if◌then◌else◌, is_some, refl, map, take, drop, nat_lt}
+use Rattle.std.specs.Prelude.{◌≡◌, ℕ, zero, suc, ◌+◌, List, [], ◌∷◌, ◌++◌, Option, Some, None, Bool, true, false, ◌&&◌, if◌then◌else◌, is_some, refl, map, take}
+use Rattle.std.specs.Prelude.{drop, nat_lt}
 use Rattle.std.specs.List.{flat_map}
 use Rattle.std.specs.Option.{option_eq}
 use Rattle.std.specs.Cmp.Lexicographic.{pointwise}
@@ -22,7 +23,8 @@ use Rattle.gj_coords.specs.Ring.{exact_value, first_values, agree}
 use Rattle.gj_coords.specs.Shape.{few, held_number, number_or, position}
 use Rattle.gj_coords.specs.Internal.SentEvents.{event_at, head}
 use Rattle.gj_coords.specs.Internal.Gathering.{gathered}
-use Rattle.gj_coords.specs.Internal.PositionGather.{no_values, pushed, same_values, number_fault, value_in, numbers_start, number_added, numbers_gathering, position_answer}
+use Rattle.gj_coords.specs.Internal.PositionGather.{no_values, pushed, same_values, number_fault, value_in, numbers_start, number_added, numbers_gathering}
+use Rattle.gj_coords.specs.Internal.PositionGather.{position_answer}
 use Rattle.gj_coords.specs.Internal.LeastLaws.{lesser-none, lesser_step}
 use Rattle.gj_coords.specs.Internal.ElementCountLaws.{gathered_place, few_gathered, both_least}
 
@@ -88,7 +90,8 @@ numbers_fault (v ∷ more) (suc left) s h =
     lesser_step s.fault (number_fault (nat_lt s.values.count 3) (head v).place (head v).what) (held_number v) (numbers_faults left more) _
     (numbers_fault more left (number_added s (head v)) (pushed_count s.values.count left (value_in (head v).what) s.values h))
     (ap (λ b. number_fault b (head v).place (head v).what) (among_first s.values.count left h) ∙ held_number_least v) ∙
-    ap (λ xs. lesser s.fault (least xs)) (sym (append_assoc (held_number v) (flat_map held_number (take left more)) (flat_map (number_or G11) (drop left more))))
+    ap (λ xs. lesser s.fault (least xs))
+    (sym (append_assoc (held_number v) (flat_map held_number (take left more)) (flat_map (number_or G11) (drop left more))))
 
 pub position_fault : (v : Tree) → (position_answer v).fault ≡ least (position v)
 position_fault (constant which place) = refl

@@ -1,5 +1,6 @@
 -- The reader of a position tells what is worth a warning in it.
-use Rattle.std.specs.Prelude.{◌≡◌, ℕ, zero, suc, ◌+◌, List, [], ◌∷◌, ◌++◌, Option, Some, None, is_none, is_some, Bool, true, false, ◌&&◌, not, refl, take, length, nat_lt, if◌then◌else◌}
+use Rattle.std.specs.Prelude.{◌≡◌, ℕ, zero, suc, ◌+◌, List, [], ◌∷◌, ◌++◌, Option, Some, None, is_none, is_some, Bool, true, false, ◌&&◌, not, refl, take}
+use Rattle.std.specs.Prelude.{length, nat_lt, if◌then◌else◌}
 use Rattle.std.specs.List.{flat_map}
 use Rattle.std.proofs.Common.{arith, ◌∙◌, ap}
 use Rattle.std.proofs.lemmas.Bool.Decides.{nat_tests}
@@ -23,7 +24,8 @@ use Rattle.gj_coords.specs.Internal.SentEvents.{head}
 use Rattle.gj_coords.specs.Internal.Gathering.{gathered}
 use Rattle.gj_coords.specs.Internal.KeptWarnings.{is_nothing, warnings_of, joined, with_noted}
 use Rattle.gj_coords.specs.Internal.GatheredWarnings.{all_in, noted_when}
-use Rattle.gj_coords.specs.Internal.PositionGather.{value_in, precise_with, numbers_start, number_added, numbers_gathering, position_answer, corner_in, position_noted, sound_noted, judged_noted}
+use Rattle.gj_coords.specs.Internal.PositionGather.{value_in, precise_with, numbers_start, number_added, numbers_gathering, position_answer, corner_in}
+use Rattle.gj_coords.specs.Internal.PositionGather.{position_noted, sound_noted, judged_noted}
 use Rattle.gj_coords.specs.Internal.ElementCountLaws.{gathered_count}
 use Rattle.gj_coords.specs.Internal.PositionLaws.{among_first, not_among_first, pushed_count, pushed_full, value_head, position_fault, position_head}
 use Rattle.gj_coords.specs.Internal.WarningLaws.{joined_step, added_is}
@@ -54,7 +56,8 @@ numbers_precise [] zero s a h = none_more (with_noted a W4 s.precise)
 numbers_precise [] (suc left) s a h = none_more (with_noted a W4 s.precise)
 numbers_precise (v ∷ more) zero s a h =
     numbers_precise more 0 (number_added s (head v)) a (ap (λ x. x.count + 0) (pushed_full s.values.count (value_in (head v).what) s.values h) ∙ h) ∙
-    (ap (λ b. joined (with_noted a W4 (precise_with (b && is_precise (value_in (head v).what)) (head v).place s.precise)) (warnings_of (flat_map number_warnings (take 0 more))))
+    (ap (λ b. joined (with_noted a W4 (precise_with (b && is_precise (value_in (head v).what)) (head v).place s.precise))
+    (warnings_of (flat_map number_warnings (take 0 more))))
     (not_among_first s.values.count h))
 numbers_precise (v ∷ more) (suc left) s a h =
     joined_step (with_noted a W4 s.precise) (warnings_of (number_warnings v)) (number_warnings v) (flat_map number_warnings (take left more)) _
@@ -106,7 +109,8 @@ sound_position_noted w place es close =
     three_noted w place p.count (corner_in p.values) p.precise (nat_lt 3 (length (items es))) (not (in_range v)) (flat_map number_warnings (take 3 (items es)))
     (long_position place (items es))
     (ap (λ c. is_none c) (answered_corner v) ∙ none_or_some (cut_position v))
-    (λ a. numbers_precise (items es) 3 (numbers_start place) a refl ∙ ap (λ x. joined x (warnings_of (flat_map number_warnings (take 3 (items es))))) (with_nothing a))
+    (λ a. numbers_precise (items es) 3 (numbers_start place) a refl
+    ∙ ap (λ x. joined x (warnings_of (flat_map number_warnings (take 3 (items es))))) (with_nothing a))
 
 -- ---- a position, with or without a fault
 
@@ -134,4 +138,5 @@ position_warned w (string place content end) = none_more (all_in w)
 position_warned w (object place ms close) = none_more (all_in w)
 position_warned w (array place es close) =
     let v : Tree = array place es close in
-    judged_position (position v) (position_answer v).fault w (position_answer v) (sound_position_warnings v) (position_fault v) (sound_position_noted w place es close)
+    judged_position (position v) (position_answer v).fault w (position_answer v) (sound_position_warnings v) (position_fault v)
+    (sound_position_noted w place es close)

@@ -15,7 +15,8 @@ use Rattle.gj_coords.specs.Ring.{agree, last_of}
 use Rattle.gj_coords.specs.Shape.{few, position, ring, is_empty, unclosed}
 use Rattle.gj_coords.specs.Internal.Gathering.{gathered, given}
 use Rattle.gj_coords.specs.Internal.PositionGather.{same_values, corner_in, sound_noted, position_answer}
-use Rattle.gj_coords.specs.Internal.PositionsGather.{no_positions, first_or, sound_joined, sound_added, judged_added, position_added, unclosed_or, ring_gathering}
+use Rattle.gj_coords.specs.Internal.PositionsGather.{no_positions, first_or, sound_joined, sound_added, judged_added, position_added, unclosed_or}
+use Rattle.gj_coords.specs.Internal.PositionsGather.{ring_gathering}
 use Rattle.gj_coords.specs.Internal.LeastLaws.{lesser-none}
 use Rattle.gj_coords.specs.Internal.ElementCountLaws.{gathered_place, few_gathered, gathered_fault, both_least}
 use Rattle.gj_coords.specs.Internal.PositionLaws.{position_fault, same_agree}

@@ -81,5 +81,6 @@ pub polygon_answers : Answers (whole_machine (array_machine position_machine rin
 polygon_answers = array_answers _ (or_empty_gathering (several_gathering ring_judged 0) findings_judged) ring_answer ring_answers
 
 pub multi_polygon_answers :
-    Answers (whole_machine (array_machine (array_machine position_machine ring_gathering) (several_gathering ring_judged 0)) findings_judged 0) (type_answer MultiPolygon)
+    Answers (whole_machine (array_machine (array_machine position_machine ring_gathering) (several_gathering ring_judged 0)) findings_judged 0)
+    (type_answer MultiPolygon)
 multi_polygon_answers = array_answers _ (or_empty_gathering (several_gathering findings_judged 0) findings_judged) polygon_answer rings_answers

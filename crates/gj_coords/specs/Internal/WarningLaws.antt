@@ -5,7 +5,8 @@ use Rattle.gj_coords.specs.declared.kind.Kind.{Kind}
 use Rattle.gj_coords.specs.declared.kind_warnings.KindWarnings.{KindWarnings}
 use Rattle.gj_coords.specs.declared.warnings.Warnings.{Warnings}
 use Rattle.gj_coords.specs.Warnings.{Warning, warning_at, same_kind}
-use Rattle.gj_coords.specs.Internal.KeptWarnings.{noted_as, noted_of, nothing_noted, joined_noted, by_kind, kept, warnings_of, no_warnings, joined, added, replaced}
+use Rattle.gj_coords.specs.Internal.KeptWarnings.{noted_as, noted_of, nothing_noted, joined_noted, by_kind, kept, warnings_of, no_warnings, joined, added}
+use Rattle.gj_coords.specs.Internal.KeptWarnings.{replaced}
 use Rattle.gj_coords.specs.Internal.ByKind.{each, of_kind, with_value, of_each}
 use Rattle.gj_coords.specs.Internal.KeptWarningLaws.{joined_noted_none, joined_noted_assoc, joined_noted_comm, noted_of-append}
 
@@ -40,7 +41,8 @@ joined_assoc a b c =
 pub joined_comm : (a b : Warnings) → joined a b ≡ joined b a
 unfolding joined
 joined_comm a b =
-    by_kind_alike (λ kind. joined_noted (kept a kind) (kept b kind)) (λ kind. joined_noted (kept b kind) (kept a kind)) (λ kind. joined_noted_comm (kept a kind) (kept b kind))
+    by_kind_alike (λ kind. joined_noted (kept a kind) (kept b kind)) (λ kind. joined_noted (kept b kind) (kept a kind))
+    (λ kind. joined_noted_comm (kept a kind) (kept b kind))
 
 pub warnings_of_none : warnings_of [] ≡ no_warnings
 unfolding no_warnings warnings_of
@@ -48,7 +50,8 @@ warnings_of_none = refl
 
 pub warnings_of-append : (xs ys : List Warning) → warnings_of (xs ++ ys) ≡ joined (warnings_of xs) (warnings_of ys)
 unfolding joined warnings_of
-warnings_of-append xs ys = by_kind_alike (λ kind. noted_of kind (xs ++ ys)) (λ kind. joined_noted (noted_of kind xs) (noted_of kind ys)) (λ kind. noted_of-append kind xs ys)
+warnings_of-append xs ys =
+    by_kind_alike (λ kind. noted_of kind (xs ++ ys)) (λ kind. joined_noted (noted_of kind xs) (noted_of kind ys)) (λ kind. noted_of-append kind xs ys)
 
 -- what is written for one kind
 pub replaced_is : (a new : Warnings) (kind : Kind) (noted : KindWarnings) → new.firsts ≡ with_value a.firsts kind noted.first →

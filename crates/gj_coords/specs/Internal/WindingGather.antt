@@ -1,5 +1,6 @@
 -- What a `Winding` holds, and what it stands for: the corners that it was given.
-use Rattle.std.specs.Prelude.{◌≡◌, ◌*◌, ◌^◌, ◌≤◌, List, [], ◌∷◌, Option, Some, None, IfSome, true, false, if◌then◌else◌, length, ℤ, pos, ◌+ℤ◌, unsigned_abs, FitsSigned}
+use Rattle.std.specs.Prelude.{◌≡◌, ◌*◌, ◌^◌, ◌≤◌, List, [], ◌∷◌, Option, Some, None, IfSome, true, false, if◌then◌else◌, length, ℤ, pos, ◌+ℤ◌, unsigned_abs}
+use Rattle.std.specs.Prelude.{FitsSigned}
 use Rattle.std.specs.Int.{int_wrap, w32, w128}
 use Rattle.gj_coords.specs.declared.winding.Corner.{Corner}
 use Rattle.gj_coords.specs.declared.winding.Turn.{Turn}

@@ -2,7 +2,8 @@
 use Rattle.std.specs.Prelude.{IfSome, is_some, filter_map, ⊤, Bool, ◌&&◌, if◌then◌else◌, map, take, int_le, ◌-ℤ◌, ◌*ℤ◌, neg_ℤ}
 use Rattle.std.specs.List.{list_all, cons_option}
 use Rattle.std.specs.Int.{int_wrap, w32, w128}
-use Rattle.std.proofs.Common.{◌≡◌, ℕ, ◌+◌, ◌*◌, ◌^◌, ◌<◌, ◌≤◌, List, [], ◌∷◌, ◌++◌, Option, Some, None, true, false, length, ℤ, pos, ◌+ℤ◌, unsigned_abs, FitsSigned, refl, sym, subst, ◌∙◌, ap, append-nil, arith}
+use Rattle.std.proofs.Common.{◌≡◌, ℕ, ◌+◌, ◌*◌, ◌^◌, ◌<◌, ◌≤◌, List, [], ◌∷◌, ◌++◌, Option, Some, None, true, false, length, ℤ, pos, ◌+ℤ◌, unsigned_abs}
+use Rattle.std.proofs.Common.{FitsSigned, refl, sym, subst, ◌∙◌, ap, append-nil, arith}
 use Rattle.std.proofs.lemmas.Nat.{mul-le}
 use Rattle.std.proofs.lemmas.Int.{ints, int_wrap_fits, int_wrap-add_left, fits_signed_from_abs, unsigned_abs-mul}
 use Rattle.std.proofs.lemmas.List.{append_assoc, length-map}
@@ -15,9 +16,11 @@ use Rattle.gj_coords.specs.Internal.PositionGather.{position_answer}
 use Rattle.gj_coords.specs.Items.{elements_of}
 use Rattle.gj_coords.specs.Ring.{exact_value}
 use Rattle.gj_coords.specs.Internal.PositionLaws.{position_values, values_from}
-use Rattle.gj_coords.specs.Winding.{most_longitude, most_latitude, bounded_cut, cut_value, both, corner_of, first_corner, cut_position, in_range, cross, area_from, area_of, sign_of, ring_turn}
+use Rattle.gj_coords.specs.Winding.{most_longitude, most_latitude, bounded_cut, cut_value, both, corner_of, first_corner, cut_position, in_range, cross}
+use Rattle.gj_coords.specs.Winding.{area_from, area_of, sign_of, ring_turn}
 use Rattle.gj_coords.specs.Internal.AllCorners.{with_corner, all_corners, turn_of}
-use Rattle.gj_coords.specs.Internal.WindingGather.{no_winding, term_of, corner_added, winding_added, all_added, turn_in, last_from, last_corner, IsSmall, Runs, HasRun, StandsFor}
+use Rattle.gj_coords.specs.Internal.WindingGather.{no_winding, term_of, corner_added, winding_added, all_added, turn_in, last_from, last_corner, IsSmall, Runs}
+use Rattle.gj_coords.specs.Internal.WindingGather.{HasRun, StandsFor}
 
 -- ---- one corner behind the others
 
@@ -223,9 +226,11 @@ corners_in_range (Some first) false corners = refl
 corners_in_range None true corners = refl
 corners_in_range None false corners = refl
 
-all_of_positions : (positions : List Tree) → all_corners (map cut_position positions) ≡ (if list_all in_range positions then Some (filter_map cut_position positions) else None)
+all_of_positions : (positions : List Tree)
+    → all_corners (map cut_position positions) ≡ (if list_all in_range positions then Some (filter_map cut_position positions) else None)
 all_of_positions [] = refl
-all_of_positions (v ∷ more) = ap (with_corner (cut_position v)) (all_of_positions more) ∙ corners_in_range (cut_position v) (list_all in_range more) (filter_map cut_position more)
+all_of_positions (v ∷ more) =
+    ap (with_corner (cut_position v)) (all_of_positions more) ∙ corners_in_range (cut_position v) (list_all in_range more) (filter_map cut_position more)
 
 turn_if : (t : Bool) (corners : List Corner) → turn_of (if t then Some corners else None) ≡ (if t then sign_of (area_of corners) else Unjudged)
 turn_if true corners = refl

@@ -42,7 +42,8 @@ impl OuterArray {
     ghost use Rattle.gj_coords.specs.Internal.SteadyWalk.{IsCounted, first_steady};
     ghost use Rattle.gj_coords.specs.Internal.FlatPosition.{flat_second, flat_held, held_fault, held_warned};
     ghost use Rattle.gj_coords.specs.SimpleFaults.{by_simple};
-    ghost use Rattle.gj_coords.specs.Internal.LevelGather.{second_gathering, first_gathering, fault_in, some_fault_in, warned_in, some_warned_in, point_warned_in, some_quiet_in, quiet_in};
+    ghost use Rattle.gj_coords.specs.Internal.LevelGather.{second_gathering, first_gathering, fault_in, some_fault_in, warned_in, some_warned_in};
+    ghost use Rattle.gj_coords.specs.Internal.LevelGather.{point_warned_in, some_quiet_in, quiet_in};
     ghost use Rattle.gj_coords.specs.Internal.GatheredWarnings.{taken};
 
     /// Adds an element that is an array, by what it gathered.

@@ -15,7 +15,8 @@ rest_fits : {First Rest : ℕ → List ℕ → Type 0} {start : ℕ} {bytes : Li
 rest_fits h = rw (h.joined, length-append h.first h.rest) (omega arith)
 
 -- and one byte shorter behind a byte
-behind_byte : {Rest : ℕ → List ℕ → Type 0} {start : ℕ} {bytes : List ℕ} (b : ℕ) (h : Then (λ n xs. xs ≡ b ∷ []) Rest start bytes) → length h.rest + 1 ≤ length bytes
+behind_byte : {Rest : ℕ → List ℕ → Type 0} {start : ℕ} {bytes : List ℕ} (b : ℕ) (h : Then (λ n xs. xs ≡ b ∷ []) Rest start bytes)
+    → length h.rest + 1 ≤ length bytes
 behind_byte b h = let e : length h.first ≡ 1 = ap length h.before in let f = rest_fits h in omega arith
 
 constant_few : (which : Constant) → 1 ≤ length (letters_of which)
@@ -65,14 +66,17 @@ mutual
       let k = opened_few (members_events members) (timed (close + 1) close What.CloseObject) (length h.1.after.rest) (length bytes) g (omega arith) in
       omega arith
 
-  few_elements : (elements : Elements) (close n : ℕ) (bytes : List ℕ) → SpellsElements elements close n bytes → length (elements_events elements) + 1 ≤ length bytes
+  few_elements : (elements : Elements) (close n : ℕ) (bytes : List ℕ) → SpellsElements elements close n bytes
+      → length (elements_events elements) + 1 ≤ length bytes
   few_elements end_of_array close n bytes h = rw h.0 (omega arith)
   few_elements (element v more) close n bytes h =
       let e = rest_fits h in
       let f = rest_fits h.after in
-      both_few (events v) (elements_events more) (length h.first) (length h.after.rest) (length bytes) (few v _ _ h.before) (few_more_elements more close _ _ h.after.after) (omega arith)
+      both_few (events v) (elements_events more) (length h.first) (length h.after.rest) (length bytes) (few v _ _ h.before)
+      (few_more_elements more close _ _ h.after.after) (omega arith)
 
-  few_more_elements : (elements : Elements) (close n : ℕ) (bytes : List ℕ) → SpellsMoreElements elements close n bytes → length (elements_events elements) + 1 ≤ length bytes
+  few_more_elements : (elements : Elements) (close n : ℕ) (bytes : List ℕ) → SpellsMoreElements elements close n bytes
+      → length (elements_events elements) + 1 ≤ length bytes
   few_more_elements end_of_array close n bytes h = rw h.0 (omega arith)
   few_more_elements (element v more) close n bytes h =
       let e = rest_fits h in
@@ -92,11 +96,13 @@ mutual
       let k = rest_fits h.after.after.after in
       let l = rest_fits h.after.after.after.after in
       let m = rest_fits h.after.after.after.after.after in
-      let s = both_few (events v) (members_events more) (length h.after.after.after.after.first) (length h.after.after.after.after.after.rest) (length h.after.after.after.rest)
+      let s = both_few (events v) (members_events more) (length h.after.after.after.after.first) (length h.after.after.after.after.after.rest)
+      (length h.after.after.after.rest)
       (few v _ _ h.after.after.after.after.before) (few_more_members more close _ _ h.after.after.after.after.after.after) (omega arith) in
       omega arith
 
-  few_more_members : (members : Members) (close n : ℕ) (bytes : List ℕ) → SpellsMoreMembers members close n bytes → length (members_events members) + 1 ≤ length bytes
+  few_more_members : (members : Members) (close n : ℕ) (bytes : List ℕ) → SpellsMoreMembers members close n bytes
+      → length (members_events members) + 1 ≤ length bytes
   few_more_members end_of_object close n bytes h = rw h.0 (omega arith)
   few_more_members (member place name end v more) close n bytes h =
       let a = behind_byte _ h.after.after.before.1 in
@@ -108,7 +114,8 @@ mutual
       let m = rest_fits h.after.after.after.after.after in
       let p = rest_fits h.after.after.after.after.after.after in
       let q = rest_fits h.after.after.after.after.after.after.after in
-      let s = both_few (events v) (members_events more) (length h.after.after.after.after.after.after.first) (length h.after.after.after.after.after.after.after.rest)
+      let s = both_few (events v) (members_events more) (length h.after.after.after.after.after.after.first)
+      (length h.after.after.after.after.after.after.after.rest)
       (length h.after.after.after.after.after.rest) (few v _ _ h.after.after.after.after.after.after.before)
       (few_more_members more close _ _ h.after.after.after.after.after.after.after.after) (omega arith) in
       omega arith

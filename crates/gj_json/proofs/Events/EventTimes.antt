@@ -21,13 +21,15 @@ pub by-append : (n : ℕ) (xs ys : List Timed) → by n (xs ++ ys) ≡ by n xs +
 by-append n [] ys = refl
 by-append n (x ∷ xs) ys = go (by-append n xs ys) (nat_le x.at n)
   where
-    go : by n (xs ++ ys) ≡ by n xs ++ by n ys → (t : Bool) → (if t then x.event ∷ by n (xs ++ ys) else by n (xs ++ ys)) ≡ (if t then x.event ∷ by n xs else by n xs) ++ by n ys
+    go : by n (xs ++ ys) ≡ by n xs ++ by n ys → (t : Bool)
+        → (if t then x.event ∷ by n (xs ++ ys) else by n (xs ++ ys)) ≡ (if t then x.event ∷ by n xs else by n xs) ++ by n ys
     go ih true = ap (λ zs. x.event ∷ zs) ih
     go ih false = ih
 
 pub by-in_time : (n : ℕ) (xs : List Timed) → InTime n xs → by n xs ≡ told xs
 by-in_time n [] h = refl
-by-in_time n (x ∷ xs) h = let e : nat_le x.at n ≡ true = (let l : x.at ≤ n = h.0 in grind (arith, nat_tests)) in rw e (ap (λ ys. x.event ∷ ys) (by-in_time n xs h.1))
+by-in_time n (x ∷ xs) h = let e : nat_le x.at n ≡ true =
+    (let l : x.at ≤ n = h.0 in grind (arith, nat_tests)) in rw e (ap (λ ys. x.event ∷ ys) (by-in_time n xs h.1))
 
 pub by-late : (n : ℕ) (xs : List Timed) → Late n xs → by n xs ≡ []
 by-late n [] h = refl
@@ -73,31 +75,51 @@ mutual
   late (constant which place) n bytes h = (omega (arith, h.0, constant_long which), tt)
   late (number place literal end) n bytes h = (omega (arith, ends_after h.2), tt)
   late (string place content end) n bytes h = (quoted_after place content end h, tt)
-  late (array place elements close) n bytes h =
-      (omega (arith, h.0), later n _ (elements_events elements ++ timed (close + 1) close What.CloseArray ∷ []) (omega arith) (late_elements elements close _ _ h.1.after.after))
-  late (object place members close) n bytes h =
-      (omega (arith, h.0), later n _ (members_events members ++ timed (close + 1) close What.CloseObject ∷ []) (omega arith) (late_members members close _ _ h.1.after.after))
+  late (array place elements close) n bytes h = (
+    omega (arith, h.0),
+    later n _ (elements_events elements ++ timed (close + 1) close What.CloseArray ∷ []) (omega arith)
+        (late_elements elements close _ _ h.1.after.after),
+  )
+  late (object place members close) n bytes h = (
+    omega (arith, h.0),
+    later n _ (members_events members ++ timed (close + 1) close What.CloseObject ∷ []) (omega arith)
+        (late_members members close _ _ h.1.after.after),
+  )
 
-  pub late_elements : (elements : Elements) (close n : ℕ) (bytes : List ℕ) → SpellsElements elements close n bytes → Late n (elements_events elements ++ timed (close + 1) close What.CloseArray ∷ [])
+  pub late_elements : (elements : Elements) (close n : ℕ) (bytes : List ℕ) → SpellsElements elements close n bytes
+      → Late n (elements_events elements ++ timed (close + 1) close What.CloseArray ∷ [])
   late_elements end_of_array close n bytes h = (omega (arith, h.1), tt)
   late_elements (element v more) close n bytes h =
-      late-parts n (events v) (elements_events more) (timed (close + 1) close What.CloseArray ∷ []) (late v n _ h.before) (later n _ (elements_events more ++ timed (close + 1) close What.CloseArray ∷ []) (omega arith) (late_more_elements more close _ _ h.after.after))
+      late-parts n (events v) (elements_events more) (timed (close + 1) close What.CloseArray ∷ []) (late v n _ h.before)
+      (later n _ (elements_events more ++ timed (close + 1) close What.CloseArray ∷ []) (omega arith) (late_more_elements more close _ _ h.after.after))
 
-  pub late_more_elements : (elements : Elements) (close n : ℕ) (bytes : List ℕ) → SpellsMoreElements elements close n bytes → Late n (elements_events elements ++ timed (close + 1) close What.CloseArray ∷ [])
+  pub late_more_elements : (elements : Elements) (close n : ℕ) (bytes : List ℕ) → SpellsMoreElements elements close n bytes
+      → Late n (elements_events elements ++ timed (close + 1) close What.CloseArray ∷ [])
   late_more_elements end_of_array close n bytes h = (omega (arith, h.1), tt)
   late_more_elements (element v more) close n bytes h =
-      late-parts n (events v) (elements_events more) (timed (close + 1) close What.CloseArray ∷ []) (later n _ (events v) (omega arith) (late v _ _ h.after.after.before)) (later n _ (elements_events more ++ timed (close + 1) close What.CloseArray ∷ []) (omega arith) (late_more_elements more close _ _ h.after.after.after.after))
+      late-parts n (events v) (elements_events more) (timed (close + 1) close What.CloseArray ∷ [])
+      (later n _ (events v) (omega arith) (late v _ _ h.after.after.before))
+      (later n _ (elements_events more ++ timed (close + 1) close What.CloseArray ∷ []) (omega arith)
+      (late_more_elements more close _ _ h.after.after.after.after))
 
-  pub late_members : (members : Members) (close n : ℕ) (bytes : List ℕ) → SpellsMembers members close n bytes → Late n (members_events members ++ timed (close + 1) close What.CloseObject ∷ [])
+  pub late_members : (members : Members) (close n : ℕ) (bytes : List ℕ) → SpellsMembers members close n bytes
+      → Late n (members_events members ++ timed (close + 1) close What.CloseObject ∷ [])
   late_members end_of_object close n bytes h = (omega (arith, h.1), tt)
   late_members (member place name end v more) close n bytes h = (
     quoted_after place name end h.before,
-    late-parts n (events v) (members_events more) (timed (close + 1) close What.CloseObject ∷ []) (later n _ (events v) (omega arith) (late v _ _ h.after.after.after.after.before)) (later n _ (members_events more ++ timed (close + 1) close What.CloseObject ∷ []) (omega arith) (late_more_members more close _ _ h.after.after.after.after.after.after)),
+    late-parts n (events v) (members_events more) (timed (close + 1) close What.CloseObject ∷ [])
+        (later n _ (events v) (omega arith) (late v _ _ h.after.after.after.after.before))
+        (later n _ (members_events more ++ timed (close + 1) close What.CloseObject ∷ []) (omega arith)
+        (late_more_members more close _ _ h.after.after.after.after.after.after)),
   )
 
-  pub late_more_members : (members : Members) (close n : ℕ) (bytes : List ℕ) → SpellsMoreMembers members close n bytes → Late n (members_events members ++ timed (close + 1) close What.CloseObject ∷ [])
+  pub late_more_members : (members : Members) (close n : ℕ) (bytes : List ℕ) → SpellsMoreMembers members close n bytes
+      → Late n (members_events members ++ timed (close + 1) close What.CloseObject ∷ [])
   late_more_members end_of_object close n bytes h = (omega (arith, h.1), tt)
   late_more_members (member place name end v more) close n bytes h = (
     let q = quoted_after place name end h.after.after.before in omega (arith, q),
-    late-parts n (events v) (members_events more) (timed (close + 1) close What.CloseObject ∷ []) (later n _ (events v) (omega arith) (late v _ _ h.after.after.after.after.after.after.before)) (later n _ (members_events more ++ timed (close + 1) close What.CloseObject ∷ []) (omega arith) (late_more_members more close _ _ h.after.after.after.after.after.after.after.after)),
+    late-parts n (events v) (members_events more) (timed (close + 1) close What.CloseObject ∷ [])
+        (later n _ (events v) (omega arith) (late v _ _ h.after.after.after.after.after.after.before))
+        (later n _ (members_events more ++ timed (close + 1) close What.CloseObject ∷ []) (omega arith)
+        (late_more_members more close _ _ h.after.after.after.after.after.after.after.after)),
   )

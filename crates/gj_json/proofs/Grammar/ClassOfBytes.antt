@@ -1,7 +1,8 @@
 -- Which class of bytes a byte is of.
 use Rattle.std.proofs.Common.{◌≡◌, ℕ, ◌==◌, ◌⊎◌, inl, inr, Bool, true, false, if◌then◌else◌, ◌&&◌, [], ◌∷◌, refl, arith, nat_le}
 use Rattle.std.proofs.lemmas.Bool.Decides.{nat_tests, eqb_tells}
-use Rattle.gj_json.specs.Bytes.{carriage_return, close_brace, close_bracket, colon as colon_byte, comma as comma_byte, line_feed, minus_sign, nine_digit, open_brace, open_bracket, quote as quote_byte, space, tab, zero_digit as zero_byte}
+use Rattle.gj_json.specs.Bytes.{carriage_return, close_brace, close_bracket, colon as colon_byte, comma as comma_byte, line_feed, minus_sign, nine_digit}
+use Rattle.gj_json.specs.Bytes.{open_brace, open_bracket, quote as quote_byte, space, tab, zero_digit as zero_byte}
 use Rattle.gj_json.specs.Internal.NamedBytes.{letter_f, letter_n, letter_t}
 use Rattle.gj_json.specs.Bytes.{IsDigit}
 use Rattle.gj_number.specs.Bytes.{IsNumberByte, plus_sign, decimal_point, lower_e, upper_e}
@@ -9,7 +10,9 @@ use Rattle.gj_number.specs.Grammar.{BeginsNumber}
 use Rattle.gj_number.proofs.Grammar.DecidedNumbers.{first}
 use Rattle.gj_json.specs.declared.constant.Constant.TheVariants.{Null, True, False}
 use Rattle.gj_json.specs.declared.class.Class.{Class}
-use Rattle.gj_json.specs.declared.class.Class.TheVariants.{White as white, OpenArray as open_array, CloseArray as close_array, OpenObject as open_object, CloseObject as close_object, Comma as comma, Colon as colon, Quote as quote, NumberStart as number_start, Letter as letter, Other as other}
+use Rattle.gj_json.specs.declared.class.Class.TheVariants.{White as white, OpenArray as open_array, CloseArray as close_array, OpenObject as open_object}
+use Rattle.gj_json.specs.declared.class.Class.TheVariants.{CloseObject as close_object, Comma as comma, Colon as colon, Quote as quote}
+use Rattle.gj_json.specs.declared.class.Class.TheVariants.{NumberStart as number_start, Letter as letter, Other as other}
 use Rattle.gj_json.specs.Internal.ByteClasses.{class_of, Means}
 
 pick : (b k : ℕ) (c d : Class) → (b ≡ k → Means c b) → Means d b → Means (if b == k then c else d) b
@@ -25,8 +28,10 @@ range b d unmet = go (nat_le zero_byte b && nat_le b nine_digit) refl
 pub means : (b : ℕ) → Means (class_of b) b
 unfolding class_of
 means b =
-    range b _ (pick b space white _ (λ e. inl e) (pick b tab white _ (λ e. inr (inl e)) (pick b line_feed white _ (λ e. inr (inr (inl e))) (pick b carriage_return white _ (λ e. inr (inr (inr e)))
-    (pick b open_bracket open_array _ (λ e. e) (pick b close_bracket close_array _ (λ e. e) (pick b open_brace open_object _ (λ e. e) (pick b close_brace close_object _ (λ e. e)
+    range b _ (pick b space white _ (λ e. inl e)
+    (pick b tab white _ (λ e. inr (inl e)) (pick b line_feed white _ (λ e. inr (inr (inl e))) (pick b carriage_return white _ (λ e. inr (inr (inr e)))
+    (pick b open_bracket open_array _ (λ e. e)
+    (pick b close_bracket close_array _ (λ e. e) (pick b open_brace open_object _ (λ e. e) (pick b close_brace close_object _ (λ e. e)
     (pick b comma_byte comma _ (λ e. e) (pick b colon_byte colon _ (λ e. e) (pick b quote_byte quote _ (λ e. e) (pick b minus_sign number_start _ (λ e. inl e)
     (pick b letter_n (letter Null) _ (λ e. e) (pick b letter_t (letter True) _ (λ e. e) (pick b letter_f (letter False) other (λ e. e) tt)))))))))))))))
 
@@ -40,7 +45,12 @@ class-digit b h = let e : (nat_le zero_byte b && nat_le b nine_digit) ≡ true =
 -- a class that is named is the class of each byte that it means
 pub class_is : (c : Class) (b : ℕ) → Means c b → (c ≡ other → ⊥) → class_of b ≡ c
 unfolding class_of
-class_is white b h n = elim h [ inl e ↦ at b space white refl e | inr g ↦ elim g [ inl e ↦ at b tab white refl e | inr f ↦ elim f [ inl e ↦ at b line_feed white refl e | inr e ↦ at b carriage_return white refl e ] ] ]
+class_is white b h n =
+    elim h [
+      | inl e ↦ at b space white refl e
+      | inr g ↦ elim g
+          [ inl e ↦ at b tab white refl e | inr f ↦ elim f [ inl e ↦ at b line_feed white refl e | inr e ↦ at b carriage_return white refl e ] ]
+    ]
 class_is open_array b h n = at b open_bracket open_array refl h
 class_is close_array b h n = at b close_bracket close_array refl h
 class_is open_object b h n = at b open_brace open_object refl h

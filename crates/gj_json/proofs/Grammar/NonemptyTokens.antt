@@ -42,7 +42,8 @@ quoted_long place content end {n = n} h =
 mutual
   whole : (t : Tree) (n : ℕ) (bytes : List ℕ) → Spells t n bytes → Whole t
   whole (constant which place) n bytes h = tt
-  whole (number place literal end) n bytes h = let l : length h.2.first ≡ length literal = ap length h.2.before in omega (arith, h.0, l, some_digits literal h.1, h.2.after.1)
+  whole (number place literal end) n bytes h = let l : length h.2.first ≡ length literal =
+      ap length h.2.before in omega (arith, h.0, l, some_digits literal h.1, h.2.after.1)
   whole (string place content end) n bytes h = quoted_long place content end h
   whole (array place elements close) n bytes h = whole_elements elements close _ _ h.1.after.after
   whole (object place members close) n bytes h = whole_members members close _ _ h.1.after.after
@@ -57,11 +58,13 @@ mutual
 
   whole_members : (members : Members) (close n : ℕ) (bytes : List ℕ) → SpellsMembers members close n bytes → WholeMembers members
   whole_members end_of_object close n bytes h = tt
-  whole_members (member place name end v more) close n bytes h = (whole v _ _ h.after.after.after.after.before, whole_more_members more close _ _ h.after.after.after.after.after.after)
+  whole_members (member place name end v more) close n bytes h =
+      (whole v _ _ h.after.after.after.after.before, whole_more_members more close _ _ h.after.after.after.after.after.after)
 
   whole_more_members : (members : Members) (close n : ℕ) (bytes : List ℕ) → SpellsMoreMembers members close n bytes → WholeMembers members
   whole_more_members end_of_object close n bytes h = tt
-  whole_more_members (member place name end v more) close n bytes h = (whole v _ _ h.after.after.after.after.after.after.before, whole_more_members more close _ _ h.after.after.after.after.after.after.after.after)
+  whole_more_members (member place name end v more) close n bytes h =
+      (whole v _ _ h.after.after.after.after.after.after.before, whole_more_members more close _ _ h.after.after.after.after.after.after.after.after)
 
 pub whole_text : (text : Text) (bytes : List ℕ) → IsText text bytes → Whole text.value
 whole_text text bytes h = whole text.value _ _ h.after.after.before

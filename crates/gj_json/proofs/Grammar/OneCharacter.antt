@@ -6,7 +6,8 @@ use Rattle.gj_json.specs.Utf8Bytes.{Lead, lead_of}
 use Rattle.gj_json.specs.declared.mode.StringState.{StringState}
 use Rattle.gj_json.specs.declared.mode.StringState.TheVariants.{Plain, Escape, HexDue, HexOne, HexTwo, HexThree, InCharacter}
 use Rattle.gj_json.specs.declared.mode.StringMove.TheVariants.{Goes, Reads}
-use Rattle.gj_json.specs.Internal.TextMachine.{StringStep, string_ends, string_goes, string_refuses, string_next, plain_step, escape_step, hex_step, hex_end, lead_step, tail_step, within}
+use Rattle.gj_json.specs.Internal.TextMachine.{StringStep, string_ends, string_goes, string_refuses, string_next, plain_step, escape_step, hex_step, hex_end}
+use Rattle.gj_json.specs.Internal.TextMachine.{lead_step, tail_step, within}
 use Rattle.gj_json.specs.Internal.Transitions.{string_move}
 
 -- where a character ends, none is under way
@@ -40,11 +41,14 @@ plain_one b = go (b == quote)
     third true = refl
     third false = lead_one (lead_of b)
 
-    second : (t : Bool) → OneCharacter (if t then string_goes [] Escape else (if nat_le space b && nat_le b 0x7F then string_goes (b ∷ []) Plain else lead_step (lead_of b)))
+    second : (t : Bool) → OneCharacter
+        (if t then string_goes [] Escape else (if nat_le space b && nat_le b 0x7F then string_goes (b ∷ []) Plain else lead_step (lead_of b)))
     second true = tt
     second false = third (nat_le space b && nat_le b 0x7F)
 
-    go : (t : Bool) → OneCharacter (if t then string_ends else (if b == backslash then string_goes [] Escape else (if nat_le space b && nat_le b 0x7F then string_goes (b ∷ []) Plain else lead_step (lead_of b))))
+    go : (t : Bool) → OneCharacter
+        (if t then string_ends else
+        (if b == backslash then string_goes [] Escape else (if nat_le space b && nat_le b 0x7F then string_goes (b ∷ []) Plain else lead_step (lead_of b))))
     go true = tt
     go false = second (b == backslash)
 

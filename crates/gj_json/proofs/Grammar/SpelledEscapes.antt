@@ -1,5 +1,6 @@
 -- Escapes one after another, by what is seen at each byte.
-use Rattle.std.proofs.Common.{◌≡◌, ◌≢◌, ℕ, zero, suc, ◌+◌, ◌-◌, ◌≤◌, ◌<◌, ◌&&◌, ◌||◌, cond, eqb, not, Bool, inl, inr, ◌⊎◌, true, false, List, ◌++◌, length, take, drop, get_or, is_some, refl, sym, ap, subst, ◌∙◌, arith, eqb-true, eq-eqb}
+use Rattle.std.proofs.Common.{◌≡◌, ◌≢◌, ℕ, zero, suc, ◌+◌, ◌-◌, ◌≤◌, ◌<◌, ◌&&◌, ◌||◌, cond, eqb, not, Bool, inl, inr, ◌⊎◌, true, false, List, ◌++◌, length}
+use Rattle.std.proofs.Common.{take, drop, get_or, is_some, refl, sym, ap, subst, ◌∙◌, arith, eqb-true, eq-eqb}
 use Rattle.std.proofs.lemmas.Bool.{cases_lt, cases_eq, eqb-false, ne_eqb}
 use Rattle.std.proofs.lemmas.List.{get_or-drop, length-drop}
 use Rattle.gj_json.specs.Bytes.{backslash, letter_u}
@@ -20,14 +21,16 @@ was_true false h = cc
 after : (p q r a : ℕ) → wrong_at p q r a ≡ false → r ≡ backslash → may_follow a ≡ true
 after p q r a h e = go (eqb r 92) (eq-eqb _ _ e) (was_true _ h)
   where
-    go : (t : Bool) → t ≡ true → cond t (may_follow a) (cond (eqb p 117 || (eqb q 92 && not (eqb r 117))) (eqb a 92) (is_some (hex_of a))) ≡ true → may_follow a ≡ true
+    go : (t : Bool) → t ≡ true → cond t (may_follow a) (cond (eqb p 117 || (eqb q 92 && not (eqb r 117))) (eqb a 92) (is_some (hex_of a))) ≡ true
+        → may_follow a ≡ true
     go true e h = h
     go false e h = cc
 
 not_after : (p q r a : ℕ) → wrong_at p q r a ≡ false → r ≢ backslash → cond (eqb p 117 || (eqb q 92 && not (eqb r 117))) (eqb a 92) (is_some (hex_of a)) ≡ true
 not_after p q r a h n = go (eqb r 92) (ne_eqb _ _ n) (was_true _ h)
   where
-    go : (t : Bool) → t ≡ false → cond t (may_follow a) (cond (eqb p 117 || (eqb q 92 && not (eqb r 117))) (eqb a 92) (is_some (hex_of a))) ≡ true → cond (eqb p 117 || (eqb q 92 && not (eqb r 117))) (eqb a 92) (is_some (hex_of a)) ≡ true
+    go : (t : Bool) → t ≡ false → cond t (may_follow a) (cond (eqb p 117 || (eqb q 92 && not (eqb r 117))) (eqb a 92) (is_some (hex_of a))) ≡ true
+        → cond (eqb p 117 || (eqb q 92 && not (eqb r 117))) (eqb a 92) (is_some (hex_of a)) ≡ true
     go true e h = cc
     go false e h = h
 
@@ -106,8 +109,10 @@ extend piece s n k e before character =
     let Q : ℕ → Type 0 = λ m. AreCharacters (take m piece) in
     subst Q (sym e) (before.0 ++ more.0, reads_more Plain Plain Plain piece before.0 more.0 s n before.1 more.1)
 
-module _ (piece : List ℕ) (start end t : ℕ) (none : NoneWrong piece start end) (within : t ≤ end) (room : t < length piece) (ends : get_or piece t 0 ≡ backslash) where
-  lane : (j q r a : ℕ) → q ≡ j + 3 → r ≡ j + 4 → a ≡ j + 5 → start < a → a ≤ t → wrong_at (get_or piece j 0) (get_or piece q 0) (get_or piece r 0) (get_or piece a 0) ≡ false
+module _ (piece : List ℕ) (start end t : ℕ) (none : NoneWrong piece start end) (within : t ≤ end) (room : t < length piece)
+    (ends : get_or piece t 0 ≡ backslash) where
+  lane : (j q r a : ℕ) → q ≡ j + 3 → r ≡ j + 4 → a ≡ j + 5 → start < a → a ≤ t
+      → wrong_at (get_or piece j 0) (get_or piece q 0) (get_or piece r 0) (get_or piece a 0) ≡ false
   lane j q r a e f g h k = rw (e, f, g) (none j (omega arith) (omega arith))
 
   -- where no backslash is, the last one lies beyond
@@ -118,15 +123,19 @@ module _ (piece : List ℕ) (start end t : ℕ) (none : NoneWrong piece start en
   byte : (s k i : ℕ) → i ≡ s + k → get_or (drop s piece) k 0 ≡ get_or piece i 0
   byte s k i e = get_or-drop s piece k 0 ∙ ap (λ n. get_or piece n 0) (sym e)
 
-  short : (m : ℕ) → start ≤ m + 4 → m + 6 ≤ t → AreCharacters (take (m + 4) piece) → IsFresh piece (m + 4) → get_or piece (m + 4) 0 ≡ backslash → get_or piece (m + 5) 0 ≢ letter_u → get_or piece (m + 5) 0 ≢ backslash
-      → is_some (escape_of (get_or piece (m + 5) 0)) ≡ true → AreCharacters (take (m + 2 + 4) piece) × IsFresh piece (m + 2 + 4) × (get_or piece (m + 2 + 4) 0 ≡ backslash)
+  short : (m : ℕ) → start ≤ m + 4 → m + 6 ≤ t → AreCharacters (take (m + 4) piece) → IsFresh piece (m + 4) → get_or piece (m + 4) 0 ≡ backslash
+      → get_or piece (m + 5) 0 ≢ letter_u → get_or piece (m + 5) 0 ≢ backslash
+      → is_some (escape_of (get_or piece (m + 5) 0)) ≡ true → AreCharacters (take (m + 2 + 4) piece) × IsFresh piece (m + 2 + 4)
+      × (get_or piece (m + 2 + 4) 0 ≡ backslash)
   short m on far before fresh here n nb some =
       let b0 = byte (m + 4) 0 (m + 4) (omega arith) in
       let b1 = byte (m + 4) 1 (m + 5) (omega arith) in
       let w = lane (m + 1) (m + 4) (m + 5) (m + 6) (omega arith) (omega arith) (omega arith) (omega arith) far in
       let there : m + 2 + 4 ≡ m + 6 = omega arith in
-      let next : get_or piece (m + 2 + 4) 0 ≡ backslash = ap (λ k. get_or piece k 0) there ∙ after_short (get_or piece (m + 1) 0) (get_or piece (m + 4) 0) (get_or piece (m + 5) 0) (get_or piece (m + 6) 0) w nb here n in
-      let taken = short_taken (drop (m + 4) piece) (omega (arith, length-drop (m + 4) piece)) (b0 ∙ here) (λ e. n (sym b1 ∙ e)) (ap (λ k. is_some (escape_of k)) b1 ∙ some) in (
+      let next : get_or piece (m + 2 + 4) 0 ≡ backslash = ap (λ k. get_or piece k 0) there
+      ∙ after_short (get_or piece (m + 1) 0) (get_or piece (m + 4) 0) (get_or piece (m + 5) 0) (get_or piece (m + 6) 0) w nb here n in
+      let taken = short_taken (drop (m + 4) piece) (omega (arith, length-drop (m + 4) piece)) (b0 ∙ here) (λ e. n (sym b1 ∙ e))
+      (ap (λ k. is_some (escape_of k)) b1 ∙ some) in (
         extend piece (m + 4) 2 (m + 2 + 4) (omega arith) before taken,
         record {
           letters = λ i h k. elim (cases_eq i (m + 5)) [
@@ -141,7 +150,8 @@ module _ (piece : List ℕ) (start end t : ℕ) (none : NoneWrong piece start en
         next,
       )
 
-  long : (m : ℕ) → start ≤ m + 4 → m + 6 ≤ t → AreCharacters (take (m + 4) piece) → IsFresh piece (m + 4) → get_or piece (m + 4) 0 ≡ backslash → get_or piece (m + 5) 0 ≡ letter_u
+  long : (m : ℕ) → start ≤ m + 4 → m + 6 ≤ t → AreCharacters (take (m + 4) piece) → IsFresh piece (m + 4) → get_or piece (m + 4) 0 ≡ backslash
+      → get_or piece (m + 5) 0 ≡ letter_u
       → AreCharacters (take (m + 6 + 4) piece) × IsFresh piece (m + 6 + 4) × (get_or piece (m + 6 + 4) 0 ≡ backslash) × (m + 10 ≤ t)
   long m on t2 before fresh here u =
       let b0 = byte (m + 4) 0 (m + 4) (omega arith) in
@@ -172,7 +182,8 @@ module _ (piece : List ℕ) (start end t : ℕ) (none : NoneWrong piece start en
       let there : m + 6 + 4 ≡ m + 10 = omega arith in
       let next : get_or piece (m + 6 + 4) 0 ≡ backslash = ap (λ k. get_or piece k 0) there ∙ after_long _ _ _ _ w6 n5.0 u in
       let hex = λ (x y : ℕ) (e : x ≡ y) (h : is_some (hex_of y) ≡ true). ap (λ k. is_some (hex_of k)) e ∙ h in
-      let taken = unicode_taken (drop (m + 4) piece) (omega (arith, length-drop (m + 4) piece)) (b0 ∙ here) (b1 ∙ u) (hex _ _ b2 h2) (hex _ _ b3 h3) (hex _ _ b4 h4) (hex _ _ b5 h5) in (
+      let taken = unicode_taken (drop (m + 4) piece) (omega (arith, length-drop (m + 4) piece)) (b0 ∙ here) (b1 ∙ u) (hex _ _ b2 h2) (hex _ _ b3 h3)
+      (hex _ _ b4 h4) (hex _ _ b5 h5) in (
         extend piece (m + 4) 6 (m + 6 + 4) (omega arith) before taken,
         record {
           letters = λ i h k. elim (cases_eq i (m + 6)) [
@@ -191,7 +202,8 @@ module _ (piece : List ℕ) (start end t : ℕ) (none : NoneWrong piece start en
         t6,
       )
 
-  walk : (fuel m : ℕ) → t ≤ m + 4 + fuel → m + 4 ≤ t → start ≤ m + 4 → AreCharacters (take (m + 4) piece) → IsFresh piece (m + 4) → get_or piece (m + 4) 0 ≡ backslash → AreCharacters (take t piece)
+  walk : (fuel m : ℕ) → t ≤ m + 4 + fuel → m + 4 ≤ t → start ≤ m + 4 → AreCharacters (take (m + 4) piece) → IsFresh piece (m + 4)
+      → get_or piece (m + 4) 0 ≡ backslash → AreCharacters (take t piece)
   walk zero m all far on before fresh here =
       let e : m + 4 ≡ t = omega arith in
       let P : ℕ → Type 0 = λ k. AreCharacters (take k piece) in
@@ -216,7 +228,8 @@ module _ (piece : List ℕ) (start end t : ℕ) (none : NoneWrong piece start en
         )
   ]
 
-  pub escapes_read : 4 ≤ start → start ≤ t → IsFresh piece start → get_or piece start 0 ≡ backslash → AreCharacters (take start piece) → AreCharacters (take t piece)
+  pub escapes_read : 4 ≤ start → start ≤ t → IsFresh piece start → get_or piece start 0 ≡ backslash → AreCharacters (take start piece)
+      → AreCharacters (take t piece)
   escapes_read some far fresh here before =
       let e : start ≡ start - 4 + 4 = omega arith in
       let P : ℕ → Type 0 = λ k. AreCharacters (take k piece) in

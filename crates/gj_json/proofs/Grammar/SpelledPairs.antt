@@ -31,7 +31,8 @@ valued_cut piece a n value read =
     let P : ℕ → Type 0 = λ k. IsValued value (take k (drop a piece)) in
     subst P e (record { number = read.number; valued = sym read.value })
 
-module _ (piece : List ℕ) (start : ℕ) (first second : Numbered) (comma_at at end : ℕ) (bracket : get_or piece 0 0 ≡ open_bracket) (one : first.place ≡ start + 1) (other : second.place ≡ start + 1 + at)
+module _ (piece : List ℕ) (start : ℕ) (first second : Numbered) (comma_at at end : ℕ) (bracket : get_or piece 0 0 ≡ open_bracket)
+    (one : first.place ≡ start + 1) (other : second.place ≡ start + 1 + at)
     (p : StartsWithPair (drop 1 piece) (exact_of first.value) (exact_of second.value) comma_at at end) where
   pub pair_within : end + 2 ≤ length piece
   pair_within = let w = p.other.within in let o = p.ordered in let v = p.one.within in omega (arith, length-drop 1 piece, length-drop at (drop 1 piece))
@@ -39,7 +40,8 @@ module _ (piece : List ℕ) (start : ℕ) (first second : Numbered) (comma_at at
   after_comma : (1 + at ≡ 1 + comma_at + 1) ⊎ ((1 + at ≡ 1 + comma_at + 1 + 1) × (get_or piece (1 + comma_at + 1) 0 ≡ space))
   after_comma = elim p.between [
     | inl e ↦ inl (omega arith)
-    | inr h ↦ (let e = h.0 in let k : 1 + (comma_at + 1) ≡ 1 + comma_at + 1 = omega arith in inr (omega arith, ap (λ n. get_or piece n 0) (sym k) ∙ sym (get_or-drop 1 piece (comma_at + 1) 0) ∙ h.1))
+    | inr h ↦ (let e = h.0 in let k : 1 + (comma_at + 1) ≡ 1 + comma_at + 1 =
+        omega arith in inr (omega arith, ap (λ n. get_or piece n 0) (sym k) ∙ sym (get_or-drop 1 piece (comma_at + 1) 0) ∙ h.1))
   ]
 
   comma_less : comma_at < at
@@ -51,16 +53,23 @@ module _ (piece : List ℕ) (start : ℕ) (first second : Numbered) (comma_at at
       let o = p.ordered in
       let l = comma_less in
       let length_other = end - at in
-      let read : StartsWithNumber (drop (1 + at) piece) (exact_of second.value) length_other = subst (λ (xs : List ℕ). StartsWithNumber xs (exact_of second.value) length_other) (drop-drop at 1 piece) p.other in
+      let read : StartsWithNumber (drop (1 + at) piece) (exact_of second.value) length_other =
+      subst (λ (xs : List ℕ). StartsWithNumber xs (exact_of second.value) length_other) (drop-drop at 1 piece) p.other in
       let there : 1 + at + length_other ≡ 1 + end = omega arith in
-      let value : IsValued second.value (cut piece (1 + at) (1 + end)) = subst (λ (n : ℕ). IsValued second.value (cut piece (1 + at) n)) there (valued_cut piece (1 + at) length_other second.value read) in
-      let a : IsItem first (start + 1) (cut piece 1 (1 + comma_at)) = item_cut piece start first 1 1 (1 + comma_at) (1 + comma_at) (omega arith) (omega arith) (omega arith) (omega arith) (none_cut piece 1) one (valued_cut piece 1 comma_at first.value p.one) (none_cut piece (1 + comma_at)) in
+      let value : IsValued second.value (cut piece (1 + at) (1 + end)) =
+      subst (λ (n : ℕ). IsValued second.value (cut piece (1 + at) n)) there (valued_cut piece (1 + at) length_other second.value read) in
+      let a : IsItem first (start + 1) (cut piece 1 (1 + comma_at)) =
+      item_cut piece start first 1 1 (1 + comma_at) (1 + comma_at) (omega arith) (omega arith) (omega arith) (omega arith) (none_cut piece 1) one
+      (valued_cut piece 1 comma_at first.value p.one) (none_cut piece (1 + comma_at)) in
       let b : IsItem second (start + (1 + comma_at + 1)) (cut piece (1 + comma_at + 1) (1 + end)) =
-      item_cut piece start second (1 + comma_at + 1) (1 + at) (1 + end) (1 + end) (omega arith) (omega arith) (omega arith) (omega arith) (space_cut piece (1 + comma_at + 1) (1 + at) (omega arith) after_comma) (omega arith) value (none_cut piece (1 + end)) in
+      item_cut piece start second (1 + comma_at + 1) (1 + at) (1 + end) (1 + end) (omega arith) (omega arith) (omega arith) (omega arith)
+      (space_cut piece (1 + comma_at + 1) (1 + at) (omega arith) after_comma) (omega arith) value (none_cut piece (1 + end)) in
       let closing = end_cut piece start (1 + end) (omega arith) (sym (get_or-drop 1 piece end 0) ∙ p.closing) in
       let is_comma : get_or piece (1 + comma_at) 0 ≡ comma = sym (get_or-drop 1 piece comma_at 0) ∙ p.comma in
-      let more = more_cut piece start second [] (start + (1 + end)) (1 + comma_at) (1 + end) (1 + end + 1) is_comma (omega arith) (omega arith) (omega arith) b closing in
-      let flat = flat_cut piece start first (second ∷ []) (start + (1 + end)) (1 + comma_at) (1 + end + 1) bracket (omega arith) (omega arith) (omega arith) a more in
+      let more = more_cut piece start second [] (start + (1 + end)) (1 + comma_at) (1 + end) (1 + end + 1) is_comma (omega arith) (omega arith)
+      (omega arith) b closing in
+      let flat = flat_cut piece start first (second ∷ []) (start + (1 + end)) (1 + comma_at) (1 + end + 1) bracket (omega arith) (omega arith)
+      (omega arith) a more in
       let P : ℕ → Type 0 = λ n. SpellsNumbers start (first ∷ second ∷ []) n start (take (1 + end + 1) piece) in
       let Q : ℕ → Type 0 = λ n. SpellsNumbers start (first ∷ second ∷ []) (start + 1 + end) start (take n piece) in
       subst Q {x = 1 + end + 1} {y = end + 2} (omega arith) (subst P {x = start + (1 + end)} {y = start + 1 + end} (omega arith) flat)

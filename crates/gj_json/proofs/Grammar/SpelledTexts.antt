@@ -1,5 +1,6 @@
 -- Texts, a byte at a time.
-use Rattle.std.proofs.Common.{zero, suc, ◌-◌, ◌%◌, ◌<◌, ◌≡◌, ℕ, ◌+◌, ◌*◌, ◌==◌, ◌≤◌, ◌⊎◌, ◌≢◌, ◌&&◌, inl, inr, Bool, true, false, if◌then◌else◌, List, [], ◌∷◌, ◌++◌, length, Option, Some, None, refl, sym, ap, subst, arith, append_assoc, nat_le}
+use Rattle.std.proofs.Common.{zero, suc, ◌-◌, ◌%◌, ◌<◌, ◌≡◌, ℕ, ◌+◌, ◌*◌, ◌==◌, ◌≤◌, ◌⊎◌, ◌≢◌, ◌&&◌, inl, inr, Bool, true, false, if◌then◌else◌, List, [], ◌∷◌}
+use Rattle.std.proofs.Common.{◌++◌, length, Option, Some, None, refl, sym, ap, subst, arith, append_assoc, nat_le}
 use Rattle.std.proofs.lemmas.Bool.Decides.{nat_tests}
 use Rattle.gj_json.specs.Bytes.{backslash, letter_u, quote as quote_byte, space}
 use Rattle.gj_json.specs.declared.mode.Bounds.{Bounds}
@@ -10,8 +11,10 @@ use Rattle.gj_json.specs.Utf8Bytes.{Lead, lead, lead_of, low_of, high_of}
 use Rattle.gj_json.proofs.Grammar.Utf8Tables.{IsTail, IsWide, of_bytes, by_bytes}
 use Rattle.gj_json.proofs.Grammar.SpelledForms
 use Rattle.gj_json.specs.declared.mode.StringState.{StringState}
-use Rattle.gj_json.specs.declared.mode.StringState.TheVariants.{Plain as plain, Escape as escape, HexDue as hex_due, HexOne as hex_one, HexTwo as hex_two, HexThree as hex_three, InCharacter as in_character}
-use Rattle.gj_json.specs.Internal.TextMachine.{StringStep, string_ends, string_goes, string_refuses, string_next, plain_step, escape_step, hex_step, hex_end, lead_step, tail_step, within}
+use Rattle.gj_json.specs.declared.mode.StringState.TheVariants.{Plain as plain, Escape as escape, HexDue as hex_due, HexOne as hex_one, HexTwo as hex_two}
+use Rattle.gj_json.specs.declared.mode.StringState.TheVariants.{HexThree as hex_three, InCharacter as in_character}
+use Rattle.gj_json.specs.Internal.TextMachine.{StringStep, string_ends, string_goes, string_refuses, string_next, plain_step, escape_step, hex_step, hex_end}
+use Rattle.gj_json.specs.Internal.TextMachine.{lead_step, tail_step, within}
 use Rattle.gj_json.proofs.Machine.Completions.{StringRest, StringOn}
 
 pub quote_on : (b : ℕ) → b ≡ quote_byte → string_next plain b ≡ string_ends
@@ -29,7 +32,8 @@ plain_on b h =
 -- what a step from a character's end says of its byte
 abbrev pub SaidPlain : ℕ → StringStep → Type 0
 SaidPlain b string_ends = b ≡ quote_byte
-SaidPlain b (string_goes more next) = (IsPlain b × (more ≡ b ∷ []) × (next ≡ plain)) ⊎ ((b ≡ backslash) × (more ≡ []) × (next ≡ escape)) ⊎ ((first : Lead) × (lead_of b ≡ Some first) × (more ≡ []) × (next ≡ in_character first.more first.bounds first.value))
+SaidPlain b (string_goes more next) = (IsPlain b × (more ≡ b ∷ []) × (next ≡ plain)) ⊎ ((b ≡ backslash) × (more ≡ []) × (next ≡ escape))
+    ⊎ ((first : Lead) × (lead_of b ≡ Some first) × (more ≡ []) × (next ≡ in_character first.more first.bounds first.value))
 SaidPlain b string_refuses = Unit {0}
 
 pub said_plain : (b : ℕ) → SaidPlain b (plain_step b)
@@ -40,15 +44,19 @@ said_plain b = first (b == quote_byte) refl
     fourth (Some first) e = inr (inr (first, e, refl, refl))
     fourth None e = tt
 
-    third : (b ≢ quote_byte) → (b ≢ backslash) → (t : Bool) → (nat_le space b && nat_le b 127) ≡ t → SaidPlain b (if t then string_goes (b ∷ []) plain else lead_step (lead_of b))
+    third : (b ≢ quote_byte) → (b ≢ backslash) → (t : Bool) → (nat_le space b && nat_le b 127) ≡ t
+        → SaidPlain b (if t then string_goes (b ∷ []) plain else lead_step (lead_of b))
     third d r true e = inl (((grind (arith, nat_tests)), (grind (arith, nat_tests)), d, r), refl, refl)
     third d r false e = fourth (lead_of b) refl
 
-    second : (b ≢ quote_byte) → (t : Bool) → (b == backslash) ≡ t → SaidPlain b (if t then string_goes [] escape else (if nat_le space b && nat_le b 127 then string_goes (b ∷ []) plain else lead_step (lead_of b)))
+    second : (b ≢ quote_byte) → (t : Bool) → (b == backslash) ≡ t
+        → SaidPlain b (if t then string_goes [] escape else (if nat_le space b && nat_le b 127 then string_goes (b ∷ []) plain else lead_step (lead_of b)))
     second d true e = inr (inl ((grind (arith, nat_tests)), refl, refl))
     second d false e = third d (grind (arith, nat_tests)) (nat_le space b && nat_le b 127) refl
 
-    first : (t : Bool) → (b == quote_byte) ≡ t → SaidPlain b (if t then string_ends else (if b == backslash then string_goes [] escape else (if nat_le space b && nat_le b 127 then string_goes (b ∷ []) plain else lead_step (lead_of b))))
+    first : (t : Bool) → (b == quote_byte) ≡ t
+        → SaidPlain b (if t then string_ends else
+        (if b == backslash then string_goes [] escape else (if nat_le space b && nat_le b 127 then string_goes (b ∷ []) plain else lead_step (lead_of b))))
     first true e = grind (arith, nat_tests)
     first false e = second (grind (arith, nat_tests)) (b == backslash) refl
 
@@ -58,7 +66,8 @@ Leads bytes plain = bytes ≡ []
 Leads bytes escape = bytes ≡ backslash ∷ []
 Leads bytes hex_due = bytes ≡ backslash ∷ letter_u ∷ []
 Leads bytes (hex_one v) = (b0 : ℕ) × (bytes ≡ backslash ∷ letter_u ∷ b0 ∷ []) × (hex_of b0 ≡ Some v)
-Leads bytes (hex_two v) = (b0 : ℕ) × (b1 : ℕ) × (d0 : ℕ) × (d1 : ℕ) × (bytes ≡ backslash ∷ letter_u ∷ b0 ∷ b1 ∷ []) × (hex_of b0 ≡ Some d0) × (hex_of b1 ≡ Some d1) × (v ≡ d0 * 16 + d1)
+Leads bytes (hex_two v) = (b0 : ℕ) × (b1 : ℕ) × (d0 : ℕ) × (d1 : ℕ) × (bytes ≡ backslash ∷ letter_u ∷ b0 ∷ b1 ∷ []) × (hex_of b0 ≡ Some d0)
+    × (hex_of b1 ≡ Some d1) × (v ≡ d0 * 16 + d1)
 -- whatever ends the character
 Leads bytes (in_character more bounds value) = (c : ℕ) (tail : List ℕ) → IsTail more bounds value c tail → SpellsCharacter c (bytes ++ tail)
 Leads bytes (hex_three v) =
@@ -126,7 +135,8 @@ led bytes (in_character more bounds value) b h = go (within bounds b) refl
     go false e = tt
 
 -- what begins by the bytes of a character under way
-pub content_from : (bytes before content : List ℕ) (state : StringState) → Leads before state → StringRest state content bytes → SpellsContent content (before ++ bytes)
+pub content_from : (bytes before content : List ℕ) (state : StringState) → Leads before state → StringRest state content bytes
+    → SpellsContent content (before ++ bytes)
 content_from [] before content state l h =
     let e : before ≡ [] = (let P : StringState → Type 0 = λ s. Leads before s in let k : Leads before plain = subst P h.1 l in k) in
     rw (h.0, e) refl
@@ -134,7 +144,8 @@ content_from (b ∷ bytes) before content state l h =
     let P : StringStep → Type 0 = λ s. Led before b s in
     go (λ first rest s k r. content_from bytes first rest s k r) h.0 h.1 h.2 h.4 (subst P h.3 (led before state b l)) h.5
   where
-    go : ((first rest : List ℕ) (s : StringState) → Leads first s → StringRest s rest bytes → SpellsContent rest (first ++ bytes)) → (more : List ℕ) (next : StringState) (later : List ℕ)
+    go : ((first rest : List ℕ) (s : StringState) → Leads first s → StringRest s rest bytes → SpellsContent rest (first ++ bytes))
+        → (more : List ℕ) (next : StringState) (later : List ℕ)
         → content ≡ more ++ later → Led before b (string_goes more next) → StringRest next later bytes → SpellsContent content (before ++ b ∷ bytes)
     go ih [] next later f d r = rw f (rw (← append_assoc before (b ∷ []) bytes) (ih (before ++ b ∷ []) later next d r))
     go ih (c ∷ []) next later f d r =
@@ -200,7 +211,12 @@ lead_large : (b : ℕ) (first : Lead) → lead_of b ≡ Some first → 0xC1 < b
 unfolding lead_of
 lead_large b first e = go (nat_le b 0xC1) refl e
   where
-    go : (t : Bool) → nat_le b 0xC1 ≡ t → (if t then None else (if nat_le b 0xDF then lead 0 Any (b - 0xC0) else if b == 0xE0 then lead 1 AfterE0 0 else if nat_le b 0xEC then lead 1 Any (b - 0xE0) else if b == 0xED then lead 1 AfterED 13 else if nat_le b 0xEF then lead 1 Any (b - 0xE0) else if b == 0xF0 then lead 2 AfterF0 0 else if nat_le b 0xF3 then lead 2 Any (b - 0xF0) else if b == 0xF4 then lead 2 AfterF4 4 else None)) ≡ Some first → 0xC1 < b
+    go : (t : Bool) → nat_le b 0xC1 ≡ t
+        → (if t then None else
+        (if nat_le b 0xDF then lead 0 Any (b - 0xC0) else if b == 0xE0 then lead 1 AfterE0 0 else if nat_le b 0xEC then lead 1 Any
+        (b - 0xE0) else if b == 0xED then lead 1 AfterED 13 else if nat_le b 0xEF then lead 1 Any
+        (b - 0xE0) else if b == 0xF0 then lead 2 AfterF0 0 else if nat_le b 0xF3 then lead 2 Any
+        (b - 0xF0) else if b == 0xF4 then lead 2 AfterF4 4 else None)) ≡ Some first → 0xC1 < b
     go true f e = cc
     go false f e = grind (arith, nat_tests)
 
@@ -213,17 +229,34 @@ lead_on b first e =
     let h : (nat_le space b && nat_le b 127) ≡ false = grind (arith, nat_tests) in
     rw (f, g, h, e) refl
 
-tail_on : (more : ℕ) (bounds : Bounds) (value c : ℕ) (bytes rest content : List ℕ) → IsTail more bounds value c bytes → StringRest plain content rest → StringRest (in_character more bounds value) (c ∷ content) (bytes ++ rest)
+tail_on : (more : ℕ) (bounds : Bounds) (value c : ℕ) (bytes rest content : List ℕ) → IsTail more bounds value c bytes → StringRest plain content rest
+    → StringRest (in_character more bounds value) (c ∷ content) (bytes ++ rest)
 tail_on zero bounds value c bytes rest content h r =
     let e : within bounds h.0 ≡ true = (let p : low_of bounds ≤ h.0 = h.2 in let q : h.0 ≤ high_of bounds = h.3 in grind (arith, nat_tests)) in
     rw (h.1) (c ∷ [], plain, content, rw (e, h.4) refl, refl, r)
 tail_on (suc more) bounds value c bytes rest content h r =
     let e : within bounds h.0 ≡ true = (let p : low_of bounds ≤ h.0 = h.3 in let q : h.0 ≤ high_of bounds = h.4 in grind (arith, nat_tests)) in
-    rw (h.2) ([], in_character more Any (value * 64 + h.0 % 64), c ∷ content, rw e refl, refl, tail_on more Any (value * 64 + h.0 % 64) c h.1 rest content h.5 r)
+    rw (h.2) (
+      [],
+      in_character more Any (value * 64 + h.0 % 64),
+      c ∷ content,
+      rw e refl,
+      refl,
+      tail_on more Any
+          (value * 64 + h.0 % 64) c h.1 rest content h.5 r,
+    )
 
 wide_on : (c : ℕ) (first rest content : List ℕ) → IsWide c first → StringRest plain content rest → StringRest plain (c ∷ content) (first ++ rest)
 wide_on c first rest content h r =
-    rw (h.3) ([], in_character h.2.more h.2.bounds h.2.value, c ∷ content, lead_on h.0 h.2 h.4, refl, tail_on h.2.more h.2.bounds h.2.value c h.1 rest content h.5 r)
+    rw (h.3) (
+      [],
+      in_character h.2.more h.2.bounds h.2.value,
+      c ∷ content,
+      lead_on h.0 h.2 h.4,
+      refl,
+      tail_on h.2.more h.2.bounds h.2.value c h.1 rest content
+          h.5 r,
+    )
 
 character_on : (c : ℕ) (first rest content : List ℕ) → SpellsCharacter c first → StringRest plain content rest → StringRest plain (c ∷ content) (first ++ rest)
 character_on c first rest content h r = elim h [
@@ -244,9 +277,11 @@ content_on bytes (c ∷ content) h = rw (h.2) (character_on c h.0 h.1 content h.
 -- ---- the same, with what follows
 
 -- the next byte ends a text, or goes on in it
-pub string_on_step : {state : StringState} {content : List ℕ} {end : ℕ} {K : ℕ → List ℕ → Type 0} {n b : ℕ} {rest : List ℕ} → Then (StringOn state content end) K n (b ∷ rest)
+pub string_on_step : {state : StringState} {content : List ℕ} {end : ℕ} {K : ℕ → List ℕ → Type 0} {n b : ℕ} {rest : List ℕ}
+    → Then (StringOn state content end) K n (b ∷ rest)
     → ((string_next state b ≡ string_ends) × (content ≡ []) × (end ≡ n + 1) × K (n + 1) rest)
-    ⊎ ((more : List ℕ) × (next : StringState) × (later : List ℕ) × (string_next state b ≡ string_goes more next) × (content ≡ more ++ later) × Then (StringOn next later end) K (n + 1) rest)
+    ⊎ ((more : List ℕ) × (next : StringState) × (later : List ℕ) × (string_next state b ≡ string_goes more next) × (content ≡ more ++ later)
+    × Then (StringOn next later end) K (n + 1) rest)
 string_on_step {state} {content} {end} {K} {n} {b} {rest} h = go g.first g.joined g.before g.after
   where
     Tail : ℕ → List ℕ → Type 0
@@ -255,18 +290,29 @@ string_on_step {state} {content} {end} {K} {n} {b} {rest} h = go g.first g.joine
     g : Then (λ here inner. StringRest state content inner) (Then (Then (Exactly (quote_byte ∷ [])) (Ends end)) K) n (b ∷ rest)
     g = SpelledForms.then_left h
 
-    go : (inner : List ℕ) → b ∷ rest ≡ inner ++ g.rest → StringRest state content inner → Then (Then (Exactly (quote_byte ∷ [])) (Ends end)) K (n + length inner) g.rest
+    go : (inner : List ℕ) → b ∷ rest ≡ inner ++ g.rest → StringRest state content inner
+        → Then (Then (Exactly (quote_byte ∷ [])) (Ends end)) K (n + length inner) g.rest
         → ((string_next state b ≡ string_ends) × (content ≡ []) × (end ≡ n + 1) × K (n + 1) rest)
-        ⊎ ((more : List ℕ) × (next : StringState) × (later : List ℕ) × (string_next state b ≡ string_goes more next) × (content ≡ more ++ later) × Then (StringOn next later end) K (n + 1) rest)
+        ⊎ ((more : List ℕ) × (next : StringState) × (later : List ℕ) × (string_next state b ≡ string_goes more next) × (content ≡ more ++ later)
+        × Then (StringOn next later end) K (n + 1) rest)
     go [] e t k =
-        let k2 : Then (Then (Exactly (quote_byte ∷ [])) (Ends end)) K n (b ∷ rest) = SpelledForms.moved (Then (Then (Exactly (quote_byte ∷ [])) (Ends end)) K) (omega arith) (sym e) k in
+        let k2 : Then (Then (Exactly (quote_byte ∷ [])) (Ends end)) K n (b ∷ rest) =
+        SpelledForms.moved (Then (Then (Exactly (quote_byte ∷ [])) (Ends end)) K) (omega arith) (sym e) k in
         let j = SpelledForms.byte_on (SpelledForms.then_left k2) in
         let i = SpelledForms.ends_on j.1 in
         inl (rw t.1 (quote_on b j.0), t.0, i.0, i.1)
     go (c ∷ inner) e t k =
         let f : b ≡ c = cc in
         let next : string_next state b ≡ string_goes t.0 t.1 = rw f t.3 in
-        inr (t.0, t.1, t.2, next, t.4, SpelledForms.then_right (SpelledForms.joins inner g.rest (cc) t.5 (SpelledForms.moved (Then (Then (Exactly (quote_byte ∷ [])) (Ends end)) K) (omega arith) refl k)))
+        inr (
+          t.0,
+          t.1,
+          t.2,
+          next,
+          t.4,
+          SpelledForms.then_right
+              (SpelledForms.joins inner g.rest (cc) t.5 (SpelledForms.moved (Then (Then (Exactly (quote_byte ∷ [])) (Ends end)) K) (omega arith) refl k)),
+        )
 
 escape_never : (t : Bool) (o : Option ℕ) → (if t then string_goes [] hex_due else escape_step o) ≡ string_ends → ⊥
 escape_never true o e = cc
@@ -291,14 +337,21 @@ ended_plain (hex_two v) b e = absurd (hex_never _ (λ d k. cc) (hex_of b) e)
 ended_plain (hex_three v) b e = absurd (hex_never _ (λ d k. cc) (hex_of b) e)
 ended_plain (in_character more bounds value) b e = absurd (tail_never (within bounds b) more (value * 64 + b % 64) e)
 
-pub string_back_end : {state : StringState} {K : ℕ → List ℕ → Type 0} {n b : ℕ} {rest : List ℕ} → string_next state b ≡ string_ends → K (n + 1) rest → Then (StringOn state [] (n + 1)) K n (b ∷ rest)
+pub string_back_end : {state : StringState} {K : ℕ → List ℕ → Type 0} {n b : ℕ} {rest : List ℕ} → string_next state b ≡ string_ends → K (n + 1) rest
+    → Then (StringOn state [] (n + 1)) K n (b ∷ rest)
 string_back_end {state} {K} {n} {b} {rest} e k =
     let p = ended_plain state b e in
-    let tail : Then (Then (Exactly (quote_byte ∷ [])) (Ends (n + 1))) K n (b ∷ rest) = SpelledForms.then_right (SpelledForms.byte_more p.1 (SpelledForms.ends_here k)) in
-    SpelledForms.then_right (SpelledForms.joins [] (b ∷ rest) refl (refl, p.0) (SpelledForms.moved (Then (Then (Exactly (quote_byte ∷ [])) (Ends (n + 1))) K) (omega arith) refl tail))
+    let tail : Then (Then (Exactly (quote_byte ∷ [])) (Ends (n + 1))) K n (b ∷ rest) =
+    SpelledForms.then_right (SpelledForms.byte_more p.1 (SpelledForms.ends_here k)) in
+    SpelledForms.then_right
+    (SpelledForms.joins [] (b ∷ rest) refl (refl, p.0)
+    (SpelledForms.moved (Then (Then (Exactly (quote_byte ∷ [])) (Ends (n + 1))) K) (omega arith) refl tail))
 
-pub string_back_more : {state next : StringState} {more later : List ℕ} {end : ℕ} {K : ℕ → List ℕ → Type 0} {n b : ℕ} {rest : List ℕ} → string_next state b ≡ string_goes more next → Then (StringOn next later end) K (n + 1) rest
+pub string_back_more : {state next : StringState} {more later : List ℕ} {end : ℕ} {K : ℕ → List ℕ → Type 0} {n b : ℕ} {rest : List ℕ}
+    → string_next state b ≡ string_goes more next → Then (StringOn next later end) K (n + 1) rest
     → Then (StringOn state (more ++ later) end) K n (b ∷ rest)
 string_back_more {state} {next} {more} {later} {end} {K} {n} {b} {rest} e h =
     let g : Then (λ here inner. StringRest next later inner) (Then (Then (Exactly (quote_byte ∷ [])) (Ends end)) K) (n + 1) rest = SpelledForms.then_left h in
-    SpelledForms.then_right (SpelledForms.joins (b ∷ g.first) g.rest (ap (λ xs. b ∷ xs) g.joined) (more, next, later, e, refl, g.before) (SpelledForms.moved (Then (Then (Exactly (quote_byte ∷ [])) (Ends end)) K) (omega arith) refl g.after))
+    SpelledForms.then_right
+    (SpelledForms.joins (b ∷ g.first) g.rest (ap (λ xs. b ∷ xs) g.joined) (more, next, later, e, refl, g.before)
+    (SpelledForms.moved (Then (Then (Exactly (quote_byte ∷ [])) (Ends end)) K) (omega arith) refl g.after))

@@ -8,7 +8,8 @@ use Rattle.gj_json.specs.declared.mode.StringState.TheVariants.{Plain}
 use Rattle.gj_json.specs.Internal.QuietBytes.{Reads, is_plain}
 use Rattle.gj_json.proofs.Pieces.QuietModes
 
-pub by_first : (P : List ℕ → Type 0) (n : ℕ) (piece told first : List ℕ) → true ≡ bytes_eq (take n piece) told → told ≡ first → P (first ++ drop n piece) → P piece
+pub by_first : (P : List ℕ → Type 0) (n : ℕ) (piece told first : List ℕ) → true ≡ bytes_eq (take n piece) told → told ≡ first → P (first ++ drop n piece)
+    → P piece
 by_first P n piece told first same e h =
     let f : first ≡ take n piece = sym ((bytes_eq-Decides (take n piece) told).0 (sym same) ∙ e) in
     subst P (ap (λ xs. xs ++ drop n piece) f ∙ take-append-drop n piece) h

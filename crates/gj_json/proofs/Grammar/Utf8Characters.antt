@@ -1,5 +1,6 @@
 -- Whole characters in UTF-8 are read as such in a string.
-use Rattle.std.proofs.Common.{◌≡◌, ℕ, ◌+◌, zero, suc, ◌⊎◌, ◌<◌, ◌≤◌, inl, inr, Bool, true, false, cond, min, slice_index, List, [], ◌∷◌, ◌++◌, take, length, refl, sym, ap, subst, ◌∙◌, arith}
+use Rattle.std.proofs.Common.{◌≡◌, ℕ, ◌+◌, zero, suc, ◌⊎◌, ◌<◌, ◌≤◌, inl, inr, Bool, true, false, cond, min, slice_index, List, [], ◌∷◌, ◌++◌, take, length}
+use Rattle.std.proofs.Common.{refl, sym, ap, subst, ◌∙◌, arith}
 use Rattle.std.proofs.lemmas.Bool.{and_parts, cases_lt}
 use Rattle.std.proofs.lemmas.Bool.Decides.{nat_tests}
 use Rattle.std.specs.List.{AllByRecursion}
@@ -37,7 +38,8 @@ all_front (x ∷ xs) ys h = let k = all_front xs ys h.1 in ((h.0, k.0), k.1)
 
 character : (c : ℕ) → scalar c ≡ true → AllByRecursion IsUnescaped (encode c) → SpellsCharacter c (encode c)
 character c s h = elim (cases_lt c 128) [
-  | inl u ↦ let e = encode_one c u in let k : AllByRecursion IsUnescaped (c ∷ []) = subst (λ xs. AllByRecursion IsUnescaped xs) e h in inl (text_plain c u k.0, e)
+  | inl u ↦ let e = encode_one c u in let k : AllByRecursion IsUnescaped (c ∷ []) =
+      subst (λ xs. AllByRecursion IsUnescaped xs) e h in inl (text_plain c u k.0, e)
   | inr l ↦ inr (inr (inr (s, l, refl)))
 ]
 
@@ -81,17 +83,25 @@ module _ (piece : List ℕ) (m k : ℕ) (few : m ≤ plain_run_of piece) (longes
   pub front_unescaped : AllByRecursion IsUnescaped (take k piece)
   front_unescaped =
       let P : List ℕ → Type 0 = λ xs. AllByRecursion IsUnescaped xs in
-      subst P (take-take k (plain_run_of piece) piece (omega (arith, short))) (upto k (take (plain_run_of piece) piece) (all_run is_unescaped IsUnescaped (λ b e. e) piece))
+      subst P (take-take k (plain_run_of piece) piece (omega (arith, short)))
+      (upto k (take (plain_run_of piece) piece) (all_run is_unescaped IsUnescaped (λ b e. e) piece))
 
   pub front_within : k ≤ length piece
   front_within = omega (arith, short, prefix_len-le-length is_unescaped piece)
 
 -- what is UTF-8 up to some byte, and no further
 pub up_to_fault : (bytes : List ℕ) (k : ℕ) → IsValidUpTo bytes k → IsLongestUtf8 bytes k
-up_to_fault bytes k v = record { within = omega (arith, v.short); utf8 = v.front; longest = λ n w u. elim (cases_lt k n) [ inl less ↦ absurd (v.longest n less u) | inr e ↦ e ] }
+up_to_fault bytes k v =
+    record { within = omega (arith, v.short); utf8 = v.front; longest = λ n w u. elim (cases_lt k n) [ inl less ↦ absurd (v.longest n less u) | inr e ↦ e ] }
 
 pub all_utf8 : (bytes : List ℕ) (k : ℕ) → k ≡ length bytes → IsUtf8 bytes → IsLongestUtf8 bytes k
-all_utf8 bytes k e u = record { within = omega (arith, e); utf8 = (let P : List ℕ → Type 0 = λ xs. IsUtf8 xs in subst P (sym (take_all_of bytes k e)) u); longest = λ n w v. omega (arith, e, w) }
+all_utf8 bytes k e u =
+    record {
+      within = omega (arith, e);
+      utf8 = (let P : List ℕ → Type 0 = λ xs. IsUtf8 xs in subst P (sym (take_all_of bytes k e)) u);
+      longest =
+          λ n w v. omega (arith, e, w);
+    }
 
 -- of the first n bytes of a piece
 run_upto : (n : ℕ) (xs : List ℕ) → take (plain_run_of (take n xs)) (take n xs) ≡ take (min (plain_run_of xs) n) xs
@@ -104,10 +114,12 @@ run_upto (suc n) (x ∷ xs) = go (is_unescaped x) (run_upto n xs)
     go true e = let m : min (1 + plain_run_of xs) (suc n) ≡ suc (min (plain_run_of xs) n) = omega arith in rw (m, one-add) (ap (λ ys. x ∷ ys) e)
     go false e = let m : min 0 (suc n) ≡ 0 = omega arith in rw m refl
 
-pub longest_upto : (n k : ℕ) (piece : List ℕ) → IsLongestUtf8 (take (plain_run_of (take n piece)) (take n piece)) k → IsLongestUtf8 (take (min (plain_run_of piece) n) piece) k
+pub longest_upto : (n k : ℕ) (piece : List ℕ) → IsLongestUtf8 (take (plain_run_of (take n piece)) (take n piece)) k
+    → IsLongestUtf8 (take (min (plain_run_of piece) n) piece) k
 longest_upto n k piece h = let P : List ℕ → Type 0 = λ xs. IsLongestUtf8 xs k in subst P (run_upto n piece) h
 
-pub longest_all : (n k : ℕ) (piece : List ℕ) → length piece ≤ n → IsLongestUtf8 (take (plain_run_of piece) piece) k → IsLongestUtf8 (take (min (plain_run_of piece) n) piece) k
+pub longest_all : (n k : ℕ) (piece : List ℕ) → length piece ≤ n → IsLongestUtf8 (take (plain_run_of piece) piece) k
+    → IsLongestUtf8 (take (min (plain_run_of piece) n) piece) k
 longest_all n k piece w h =
     let m : min (plain_run_of piece) n ≡ plain_run_of piece = omega (arith, prefix_len-le-length is_unescaped piece) in
     let P : ℕ → Type 0 = λ j. IsLongestUtf8 (take j piece) k in subst P (sym m) h
@@ -161,7 +173,8 @@ each_ascii (x ∷ xs) zero h = h.0
 each_ascii (x ∷ xs) (suc i) h = each_ascii xs i h.1
 
 -- a few ASCII bytes are characters themselves
-pub few_holds : (text : List ℕ) (new : Content) (so_far : List ℕ) (utf8 : IsUtf8 text) → ((i : ℕ) → slice_index text i < 128) → (AllByRecursion IsAscii text → Holds new (so_far ++ text)) → Holds new (so_far ++ utf8.0)
+pub few_holds : (text : List ℕ) (new : Content) (so_far : List ℕ) (utf8 : IsUtf8 text) → ((i : ℕ) → slice_index text i < 128)
+    → (AllByRecursion IsAscii text → Holds new (so_far ++ text)) → Holds new (so_far ++ utf8.0)
 few_holds text new so_far utf8 ascii h =
     let a : AllByRecursion IsAscii text = all_ascii text ascii in
     let P : List ℕ → Type 0 = λ xs. AllByRecursion IsAscii xs in

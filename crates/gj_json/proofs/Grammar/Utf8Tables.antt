@@ -1,5 +1,6 @@
 -- The characters of several bytes are those whose first byte leads to the others.
-use Rattle.std.proofs.Common.{◌≡◌, ℕ, ◌+◌, ◌-◌, ◌*◌, ◌/◌, ◌%◌, zero, suc, ◌==◌, ◌⊎◌, ◌<◌, ◌≤◌, ◌≢◌, inl, inr, Bool, true, false, nat_le, ltb, if◌then◌else◌, List, [], ◌∷◌, Option, Some, None, refl, sym, subst, arith}
+use Rattle.std.proofs.Common.{◌≡◌, ℕ, ◌+◌, ◌-◌, ◌*◌, ◌/◌, ◌%◌, zero, suc, ◌==◌, ◌⊎◌, ◌<◌, ◌≤◌, ◌≢◌, inl, inr, Bool, true, false, nat_le, ltb, if◌then◌else◌}
+use Rattle.std.proofs.Common.{List, [], ◌∷◌, Option, Some, None, refl, sym, subst, arith}
 use Rattle.std.proofs.lemmas.Bool.{cases_lt}
 use Rattle.std.proofs.lemmas.Bool.Decides.{nat_tests}
 use lib.Utf8.{scalar, encode, next, scalar_cases, low_scalar}
@@ -11,7 +12,8 @@ use Rattle.gj_json.specs.Utf8Bytes.{Lead, lead, lead_of, low_of, high_of}
 -- the bytes of a character behind its first, of which so many follow the next, which lies within the bounds
 abbrev pub IsTail : ℕ → Bounds → ℕ → ℕ → List ℕ → Type 0
 IsTail zero bounds value c bytes = (b : ℕ) × (bytes ≡ b ∷ []) × (low_of bounds ≤ b) × (b ≤ high_of bounds) × (c ≡ value * 64 + b % 64)
-IsTail (suc more) bounds value c bytes = (b : ℕ) × (rest : List ℕ) × (bytes ≡ b ∷ rest) × (low_of bounds ≤ b) × (b ≤ high_of bounds) × IsTail more Any (value * 64 + b % 64) c rest
+IsTail (suc more) bounds value c bytes =
+    (b : ℕ) × (rest : List ℕ) × (bytes ≡ b ∷ rest) × (low_of bounds ≤ b) × (b ≤ high_of bounds) × IsTail more Any (value * 64 + b % 64) c rest
 
 abbrev pub IsWide : ℕ → List ℕ → Type 0
 IsWide c bytes = (b : ℕ) × (rest : List ℕ) × (first : Lead) × (bytes ≡ b ∷ rest) × (lead_of b ≡ Some first) × IsTail first.more first.bounds first.value c rest
@@ -51,7 +53,15 @@ lead_ed b e = rw e refl
 
 pub lead_high : (b : ℕ) → 0xED < b → b ≤ 0xEF → lead_of b ≡ lead 1 Any (b - 0xE0)
 unfolding lead_of
-lead_high b l u = rw (le_no b 0xC1 (omega arith), le_no b 0xDF (omega arith), eq_no b 0xE0 (λ e. omega arith), le_no b 0xEC (omega arith), eq_no b 0xED (λ e. omega arith), le_yes b 0xEF u) refl
+lead_high b l u = rw (
+  le_no b 0xC1 (omega arith),
+  le_no b 0xDF (omega arith),
+  eq_no b 0xE0 (λ e. omega arith),
+  le_no b 0xEC (omega arith),
+  eq_no b 0xED
+      (λ e. omega arith),
+  le_yes b 0xEF u,
+) refl
 
 pub lead_f0 : (b : ℕ) → b ≡ 0xF0 → lead_of b ≡ lead 2 AfterF0 0
 unfolding lead_of
@@ -60,7 +70,17 @@ lead_f0 b e = rw e refl
 pub lead_four : (b : ℕ) → 0xF0 < b → b ≤ 0xF3 → lead_of b ≡ lead 2 Any (b - 0xF0)
 unfolding lead_of
 lead_four b l u =
-    rw (le_no b 0xC1 (omega arith), le_no b 0xDF (omega arith), eq_no b 0xE0 (λ e. omega arith), le_no b 0xEC (omega arith), eq_no b 0xED (λ e. omega arith), le_no b 0xEF (omega arith), eq_no b 0xF0 (λ e. omega arith), le_yes b 0xF3 u) refl
+    rw (
+      le_no b 0xC1 (omega arith),
+      le_no b 0xDF (omega arith),
+      eq_no b 0xE0 (λ e. omega arith),
+      le_no b 0xEC (omega arith),
+      eq_no b 0xED
+          (λ e. omega arith),
+      le_no b 0xEF (omega arith),
+      eq_no b 0xF0 (λ e. omega arith),
+      le_yes b 0xF3 u,
+    ) refl
 
 pub lead_f4 : (b : ℕ) → b ≡ 0xF4 → lead_of b ≡ lead 2 AfterF4 4
 unfolding lead_of
@@ -89,22 +109,92 @@ two c l u = (192 + c / 64, next c ∷ [], _, refl, lead_two (192 + c / 64) (omeg
 
 three : (c : ℕ) → 2048 ≤ c → c < 65536 → ((c < 55296) ⊎ (57344 ≤ c)) → IsWide c ((224 + c / 4096) ∷ next (c / 64) ∷ next c ∷ [])
 three c l u s = elim (cases_lt c 4096) [
-  | inl a ↦ (224 + c / 4096, next (c / 64) ∷ next c ∷ [], _, refl, lead_e0 (224 + c / 4096) (omega arith), (next (c / 64), next c ∷ [], refl, omega arith, omega arith, (next c, refl, omega arith, omega arith, omega arith)))
+  | inl a ↦ (
+    224 + c / 4096,
+    next (c / 64) ∷ next c ∷ [],
+    _,
+    refl,
+    lead_e0 (224 + c / 4096) (omega arith),
+    (next (c / 64), next c ∷ [], refl, omega arith, omega arith, (next c, refl, omega arith, omega arith, omega arith)),
+  )
   | inr b ↦ elim (cases_lt c 53248) [
-    | inl a ↦ (224 + c / 4096, next (c / 64) ∷ next c ∷ [], _, refl, lead_low (224 + c / 4096) (omega arith) (omega arith), (next (c / 64), next c ∷ [], refl, omega arith, omega arith, (next c, refl, omega arith, omega arith, omega arith)))
+    | inl a ↦ (
+      224 + c / 4096,
+      next (c / 64) ∷ next c ∷ [],
+      _,
+      refl,
+      lead_low (224 + c / 4096) (omega arith) (omega arith),
+      (next (c / 64), next c ∷ [], refl, omega arith, omega arith, (next c, refl, omega arith, omega arith, omega arith)),
+    )
     | inr d ↦ elim s [
-      | inl a ↦ (224 + c / 4096, next (c / 64) ∷ next c ∷ [], _, refl, lead_ed (224 + c / 4096) (omega arith), (next (c / 64), next c ∷ [], refl, omega arith, omega arith, (next c, refl, omega arith, omega arith, omega arith)))
-      | inr a ↦ (224 + c / 4096, next (c / 64) ∷ next c ∷ [], _, refl, lead_high (224 + c / 4096) (omega arith) (omega arith), (next (c / 64), next c ∷ [], refl, omega arith, omega arith, (next c, refl, omega arith, omega arith, omega arith)))
+      | inl a ↦ (
+        224 + c / 4096,
+        next (c / 64) ∷ next c ∷ [],
+        _,
+        refl,
+        lead_ed (224 + c / 4096) (omega arith),
+        (next (c / 64), next c ∷ [], refl, omega arith, omega arith, (next c, refl, omega arith, omega arith, omega arith)),
+      )
+      | inr a ↦ (
+        224 + c / 4096,
+        next (c / 64) ∷ next c ∷ [],
+        _,
+        refl,
+        lead_high (224 + c / 4096) (omega arith) (omega arith),
+        (next (c / 64), next c ∷ [], refl, omega arith, omega arith, (next c, refl, omega arith, omega arith, omega arith)),
+      )
     ]
   ]
 ]
 
 four : (c : ℕ) → 65536 ≤ c → c < 1114112 → IsWide c ((240 + c / 262144) ∷ next (c / 4096) ∷ next (c / 64) ∷ next c ∷ [])
 four c l u = elim (cases_lt c 262144) [
-  | inl a ↦ (240 + c / 262144, next (c / 4096) ∷ next (c / 64) ∷ next c ∷ [], _, refl, lead_f0 (240 + c / 262144) (omega arith), (next (c / 4096), next (c / 64) ∷ next c ∷ [], refl, omega arith, omega arith, (next (c / 64), next c ∷ [], refl, omega arith, omega arith, (next c, refl, omega arith, omega arith, omega arith))))
+  | inl a ↦ (
+    240 + c / 262144,
+    next (c / 4096) ∷ next (c / 64) ∷ next c ∷ [],
+    _,
+    refl,
+    lead_f0 (240 + c / 262144) (omega arith),
+    (
+      next (c / 4096),
+      next (c / 64) ∷ next c ∷ [],
+      refl,
+      omega arith,
+      omega arith,
+      (next (c / 64), next c ∷ [], refl, omega arith, omega arith, (next c, refl, omega arith, omega arith, omega arith)),
+    ),
+  )
   | inr b ↦ elim (cases_lt c 1048576) [
-    | inl a ↦ (240 + c / 262144, next (c / 4096) ∷ next (c / 64) ∷ next c ∷ [], _, refl, lead_four (240 + c / 262144) (omega arith) (omega arith), (next (c / 4096), next (c / 64) ∷ next c ∷ [], refl, omega arith, omega arith, (next (c / 64), next c ∷ [], refl, omega arith, omega arith, (next c, refl, omega arith, omega arith, omega arith))))
-    | inr a ↦ (240 + c / 262144, next (c / 4096) ∷ next (c / 64) ∷ next c ∷ [], _, refl, lead_f4 (240 + c / 262144) (omega arith), (next (c / 4096), next (c / 64) ∷ next c ∷ [], refl, omega arith, omega arith, (next (c / 64), next c ∷ [], refl, omega arith, omega arith, (next c, refl, omega arith, omega arith, omega arith))))
+    | inl a ↦ (
+      240 + c / 262144,
+      next (c / 4096) ∷ next (c / 64) ∷ next c ∷ [],
+      _,
+      refl,
+      lead_four (240 + c / 262144) (omega arith) (omega arith),
+      (
+        next (c / 4096),
+        next (c / 64) ∷ next c ∷ [],
+        refl,
+        omega arith,
+        omega arith,
+        (next (c / 64), next c ∷ [], refl, omega arith, omega arith, (next c, refl, omega arith, omega arith, omega arith)),
+      ),
+    )
+    | inr a ↦ (
+      240 + c / 262144,
+      next (c / 4096) ∷ next (c / 64) ∷ next c ∷ [],
+      _,
+      refl,
+      lead_f4 (240 + c / 262144) (omega arith),
+      (
+        next (c / 4096),
+        next (c / 64) ∷ next c ∷ [],
+        refl,
+        omega arith,
+        omega arith,
+        (next (c / 64), next c ∷ [], refl, omega arith, omega arith, (next c, refl, omega arith, omega arith, omega arith)),
+      ),
+    )
   ]
 ]
 
@@ -131,7 +221,8 @@ of_two b c rest l u (x, e, m, w, v) =
     let k = encode_two c low few in
     (low_scalar c (omega arith), low, cc)
 
-of_three : (b v c x y : ℕ) → b ≡ 224 + v → v < 16 → 128 ≤ x → x ≤ 191 → 128 ≤ y → y ≤ 191 → c ≡ (v * 64 + x % 64) * 64 + y % 64 → 2048 ≤ c → scalar c ≡ true → IsUtf8 c (b ∷ x ∷ y ∷ [])
+of_three : (b v c x y : ℕ) → b ≡ 224 + v → v < 16 → 128 ≤ x → x ≤ 191 → 128 ≤ y → y ≤ 191 → c ≡ (v * 64 + x % 64) * 64 + y % 64 → 2048 ≤ c → scalar c ≡ true
+    → IsUtf8 c (b ∷ x ∷ y ∷ [])
 of_three b v c x y e small lx ux ly uy w low s =
     let few : c < 65536 = omega arith in
     let f : b ≡ 224 + c / 4096 = omega arith in
@@ -140,7 +231,8 @@ of_three b v c x y e small lx ux ly uy w low s =
     let k = encode_three c low few in
     (s, omega arith, cc)
 
-of_four : (b v c x y z : ℕ) → b ≡ 240 + v → 128 ≤ x → x ≤ 191 → 128 ≤ y → y ≤ 191 → 128 ≤ z → z ≤ 191 → c ≡ ((v * 64 + x % 64) * 64 + y % 64) * 64 + z % 64 → 65536 ≤ c → c < 1114112
+of_four : (b v c x y z : ℕ) → b ≡ 240 + v → 128 ≤ x → x ≤ 191 → 128 ≤ y → y ≤ 191 → 128 ≤ z → z ≤ 191 → c ≡ ((v * 64 + x % 64) * 64 + y % 64) * 64 + z % 64
+    → 65536 ≤ c → c < 1114112
     → IsUtf8 c (b ∷ x ∷ y ∷ z ∷ [])
 of_four b v c x y z e lx ux ly uy lz uz w low few =
     let f : b ≡ 240 + c / 262144 = omega arith in
@@ -151,24 +243,28 @@ of_four b v c x y z e lx ux ly uy lz uz w low few =
     (high_scalar c (omega arith) few, omega arith, cc)
 
 after_three : (b v c : ℕ) (bounds : Bounds) (rest : List ℕ) → b ≡ 224 + v → v < 16 → 128 ≤ low_of bounds → high_of bounds ≤ 191 → IsTail 1 bounds v c rest
-    → ((x y : ℕ) → low_of bounds ≤ x → x ≤ high_of bounds → 128 ≤ y → y ≤ 191 → c ≡ (v * 64 + x % 64) * 64 + y % 64 → (2048 ≤ c) × (scalar c ≡ true)) → IsUtf8 c (b ∷ rest)
+    → ((x y : ℕ) → low_of bounds ≤ x → x ≤ high_of bounds → 128 ≤ y → y ≤ 191 → c ≡ (v * 64 + x % 64) * 64 + y % 64 → (2048 ≤ c) × (scalar c ≡ true))
+    → IsUtf8 c (b ∷ rest)
 after_three b v c bounds rest e small least most (x, r, f, lx, ux, (y, g, ly, uy, w)) right =
     let s = right x y lx ux ly uy w in
     rw (f, g) (of_three b v c x y e small (omega arith) (omega arith) ly uy w s.0 s.1)
 
 after_four : (b v c : ℕ) (bounds : Bounds) (rest : List ℕ) → b ≡ 240 + v → 128 ≤ low_of bounds → high_of bounds ≤ 191 → IsTail 2 bounds v c rest
-    → ((x y z : ℕ) → low_of bounds ≤ x → x ≤ high_of bounds → 128 ≤ y → y ≤ 191 → 128 ≤ z → z ≤ 191 → c ≡ ((v * 64 + x % 64) * 64 + y % 64) * 64 + z % 64 → (65536 ≤ c) × (c < 1114112))
+    → ((x y z : ℕ) → low_of bounds ≤ x → x ≤ high_of bounds → 128 ≤ y → y ≤ 191 → 128 ≤ z → z ≤ 191 → c ≡ ((v * 64 + x % 64) * 64 + y % 64) * 64 + z % 64
+    → (65536 ≤ c) × (c < 1114112))
     → IsUtf8 c (b ∷ rest)
 after_four b v c bounds rest e least most (x, r, f, lx, ux, (y, r2, g, ly, uy, (z, h, lz, uz, w))) right =
     let s = right x y z lx ux ly uy lz uz w in
     rw (f, g, h) (of_four b v c x y z e (omega arith) (omega arith) ly uy lz uz w s.0 s.1)
 
 -- the row of a first byte that this one is
-row : (t : Bool) (one other : Option Lead) (first : Lead) → (if t then one else other) ≡ Some first → ((t ≡ true) × (one ≡ Some first)) ⊎ ((t ≡ false) × (other ≡ Some first))
+row : (t : Bool) (one other : Option Lead) (first : Lead) → (if t then one else other) ≡ Some first → ((t ≡ true) × (one ≡ Some first))
+    ⊎ ((t ≡ false) × (other ≡ Some first))
 row true one other first e = inl (refl, e)
 row false one other first e = inr (refl, e)
 
-tail_by : (more : ℕ) (bounds : Bounds) (value c : ℕ) (rest : List ℕ) (first : Lead) → lead more bounds value ≡ Some first → IsTail first.more first.bounds first.value c rest → IsTail more bounds value c rest
+tail_by : (more : ℕ) (bounds : Bounds) (value c : ℕ) (rest : List ℕ) (first : Lead) → lead more bounds value ≡ Some first
+    → IsTail first.more first.bounds first.value c rest → IsTail more bounds value c rest
 tail_by more bounds value c rest first e t =
     let f : first ≡ record { more = more; bounds = bounds; value = value } = cc in
     let P : Lead → Type 0 = λ l. IsTail l.more l.bounds l.value c rest in

@@ -1,5 +1,6 @@
 -- Bytes at which no unescaped character of up to three bytes ends too early are such characters.
-use Rattle.std.proofs.Common.{◌≡◌, ◌≢◌, ℕ, zero, suc, ◌+◌, ◌-◌, ◌<◌, ◌≤◌, ◌⊎◌, Bool, true, false, not, ◌&&◌, ◌||◌, leb, ltb, eqb, List, [], ◌∷◌, ◌++◌, length, take, drop, get_or, inl, inr, refl, sym, ap, subst, ◌∙◌, arith}
+use Rattle.std.proofs.Common.{◌≡◌, ◌≢◌, ℕ, zero, suc, ◌+◌, ◌-◌, ◌<◌, ◌≤◌, ◌⊎◌, Bool, true, false, not, ◌&&◌, ◌||◌, leb, ltb, eqb, List, [], ◌∷◌, ◌++◌, length}
+use Rattle.std.proofs.Common.{take, drop, get_or, inl, inr, refl, sym, ap, subst, ◌∙◌, arith}
 use Rattle.std.proofs.Math.Seq.{drop-cons}
 use Rattle.std.proofs.lemmas.Bool.{cases_lt}
 use Rattle.std.proofs.lemmas.Bool.Decides.{leb_tells, nat_tests}
@@ -68,7 +69,8 @@ tail_is : (b : ℕ) → is_tail b ≡ true → (0x80 ≤ b) × (b ≤ 0xBF)
 tail_is b h = (grind (arith, nat_tests), grind (arith, nat_tests))
 
 no_tail : (b : ℕ) → is_tail b ≡ false → (b < 0x80) ⊎ (0xBF < b)
-no_tail b h = elim (cases_lt b 0x80) [ inl l ↦ inl l | inr m ↦ elim (cases_lt 0xBF b) [ inl k ↦ inr k | inr k ↦ absurd (let e : is_tail b ≡ true = both b m k in cc) ] ]
+no_tail b h = elim (cases_lt b 0x80)
+    [ inl l ↦ inl l | inr m ↦ elim (cases_lt 0xBF b) [ inl k ↦ inr k | inr k ↦ absurd (let e : is_tail b ≡ true = both b m k in cc) ] ]
   where
     both : (b : ℕ) → 0x80 ≤ b → b ≤ 0xBF → is_tail b ≡ true
     both b l u = grind (arith, nat_tests)
@@ -144,7 +146,8 @@ narrow_is a b h = let u = neither (eqb a 0xE0 && ltb b 0xA0) (eqb a 0xED && leb 
     most : a ≡ 0xED → leb 0xA0 b ≡ false → b ≤ 0x9F
     most e h = grind (arith, nat_tests)
 
-three_more : (p a b c n : ℕ) (xs : List ℕ) → 0xE0 ≤ a → a < 0xF0 → is_tail b ≡ true → is_tail c ≡ true → is_narrow a b ≡ false → Whole c xs n → Whole p (a ∷ b ∷ c ∷ xs) (suc (suc (suc n)))
+three_more : (p a b c n : ℕ) (xs : List ℕ) → 0xE0 ≤ a → a < 0xF0 → is_tail b ≡ true → is_tail c ≡ true → is_narrow a b ≡ false → Whole c xs n
+    → Whole p (a ∷ b ∷ c ∷ xs) (suc (suc (suc n)))
 three_more p a b c n xs low high t u narrow more =
     let tail = tail_is b t in
     let last = tail_is c u in
@@ -207,7 +210,8 @@ whole p (a ∷ b ∷ c ∷ xs) (suc (suc zero)) l f w none =
     let h = bounded a s.stop in
     let s' = seen a b c (none (suc zero) (omega arith)) in
     elim (cases_lt a 0xC2) [
-      | inl low ↦ plain_more p a (suc zero) (b ∷ c ∷ xs) h f low (whole a (b ∷ c ∷ xs) (suc zero) (omega arith) (s.next ∙ done p a l low) (omega arith) (on (a ∷ b ∷ c ∷ xs) p (suc zero) none))
+      | inl low ↦ plain_more p a (suc zero) (b ∷ c ∷ xs) h f low
+          (whole a (b ∷ c ∷ xs) (suc zero) (omega arith) (s.next ∙ done p a l low) (omega arith) (on (a ∷ b ∷ c ∷ xs) p (suc zero) none))
       | inr high ↦ (
           let t : is_tail b ≡ true = s.next ∙ leads p a l high in
           let tail = tail_is b t in
@@ -226,17 +230,20 @@ whole p (a ∷ b ∷ c ∷ d ∷ xs) (suc (suc (suc n))) l f w none =
     let after_one = on (a ∷ b ∷ c ∷ d ∷ xs) p (suc (suc n)) none in
     let after_two = on (b ∷ c ∷ d ∷ xs) a (suc n) after_one in
     elim (cases_lt a 0xC2) [
-      | inl low ↦ plain_more p a (suc (suc n)) (b ∷ c ∷ d ∷ xs) h f low (whole a (b ∷ c ∷ d ∷ xs) (suc (suc n)) (omega arith) (s.next ∙ done p a l low) (omega arith) after_one)
+      | inl low ↦ plain_more p a (suc (suc n)) (b ∷ c ∷ d ∷ xs) h f low
+          (whole a (b ∷ c ∷ d ∷ xs) (suc (suc n)) (omega arith) (s.next ∙ done p a l low) (omega arith) after_one)
       | inr high ↦ (
           let t : is_tail b ≡ true = s.next ∙ leads p a l high in
           let tail = tail_is b t in
           elim (cases_lt a 0xE0) [
-            | inl less ↦ two_more p a b (suc n) (c ∷ d ∷ xs) high less t (whole b (c ∷ d ∷ xs) (suc n) (omega arith) (s'.next ∙ done a b less (omega arith)) (omega arith) after_two)
+            | inl less ↦ two_more p a b (suc n) (c ∷ d ∷ xs) high less t
+                (whole b (c ∷ d ∷ xs) (suc n) (omega arith) (s'.next ∙ done a b less (omega arith)) (omega arith) after_two)
             | inr third ↦ (
                 let u : is_tail c ≡ true = s'.next ∙ follows a b third in
                 let last = tail_is c u in
                 let most = h.most in
-                three_more p a b c n (d ∷ xs) third most t u s.narrow (whole c (d ∷ xs) n (omega arith) (s''.next ∙ done b c (omega arith) (omega arith)) (omega arith) (on (c ∷ d ∷ xs) b n after_two))
+                three_more p a b c n (d ∷ xs) third most t u s.narrow
+                (whole c (d ∷ xs) n (omega arith) (s''.next ∙ done b c (omega arith) (omega arith)) (omega arith) (on (c ∷ d ∷ xs) b n after_two))
                 )
           ]
           )
@@ -244,8 +251,10 @@ whole p (a ∷ b ∷ c ∷ d ∷ xs) (suc (suc (suc n))) l f w none =
 
 -- ---- behind a first character
 
-module _ (piece : List ℕ) (first n : ℕ) (some : 0 < first) (within : first < length piece) (character : IsCharacter (take first piece)) (last : get_or piece (first - 1) 0 ≤ 0xBF) (begins : is_tail (get_or piece first 0) ≡ false)
-    (room : n < length (take (length piece - (first - 1)) (drop (first - 1) piece))) (positive : 0 < n) (none : NoneEnds (take (length piece - (first - 1)) (drop (first - 1) piece)) n) where
+module _ (piece : List ℕ) (first n : ℕ) (some : 0 < first) (within : first < length piece) (character : IsCharacter (take first piece))
+    (last : get_or piece (first - 1) 0 ≤ 0xBF) (begins : is_tail (get_or piece first 0) ≡ false)
+    (room : n < length (take (length piece - (first - 1)) (drop (first - 1) piece))) (positive : 0 < n)
+    (none : NoneEnds (take (length piece - (first - 1)) (drop (first - 1) piece)) n) where
   rest : take (length piece - (first - 1)) (drop (first - 1) piece) ≡ get_or piece (first - 1) 0 ∷ drop first piece
   rest =
       let e : suc (first - 1) ≡ first = omega arith in
@@ -263,7 +272,8 @@ module _ (piece : List ℕ) (first n : ℕ) (some : 0 < first) (within : first <
   room_here = omega (arith, ap length rest)
 
   found : Whole (get_or piece (first - 1) 0) (drop first piece) (n - 1)
-  found = whole (get_or piece (first - 1) 0) (drop first piece) (n - 1) (omega arith) (let e : first + 0 ≡ first = omega arith in rw (get_or-drop first piece 0 0, e) begins) room_here none_here
+  found = whole (get_or piece (first - 1) 0) (drop first piece) (n - 1) (omega arith)
+      (let e : first + 0 ≡ first = omega arith in rw (get_or-drop first piece 0 0, e) begins) room_here none_here
 
   pub within_piece : first - 1 + n < length piece
   within_piece = omega (arith, length-drop first piece, room_here)
@@ -272,7 +282,8 @@ module _ (piece : List ℕ) (first n : ℕ) (some : 0 < first) (within : first <
   end_at = get_or-drop first piece (n - 1) 0 ∙ ap (λ k. get_or piece k 0) (omega arith)
 
   before_end : get_or (get_or piece (first - 1) 0 ∷ drop first piece) (n - 1) 0 ≡ get_or piece (first - 1 + n - 1) 0
-  before_end = ap (λ ys. get_or ys (n - 1) 0) (sym rest ∙ rest_of piece (first - 1)) ∙ get_or-drop (first - 1) piece (n - 1) 0 ∙ ap (λ k. get_or piece k 0) (omega arith)
+  before_end = ap (λ ys. get_or ys (n - 1) 0) (sym rest ∙ rest_of piece (first - 1)) ∙ get_or-drop (first - 1) piece (n - 1) 0
+      ∙ ap (λ k. get_or piece k 0) (omega arith)
 
   read : (k : ℕ) → k ≡ first + found.k → AreCharacters (take k piece)
   read k e =
@@ -285,8 +296,10 @@ module _ (piece : List ℕ) (first n : ℕ) (some : 0 < first) (within : first <
   pub all_whole : is_tail (get_or piece (first - 1 + n) 0) ≡ false → AreCharacters (take (first - 1 + n) piece)
   all_whole t = let d = found.all (ap is_tail end_at ∙ t) in read (first - 1 + n) (omega arith)
 
-  pub but_one_whole : is_tail (get_or piece (first - 1 + n) 0) ≡ true → is_tail (get_or piece (first - 1 + n - 1) 0) ≡ false → AreCharacters (take (first - 1 + n - 1) piece)
+  pub but_one_whole : is_tail (get_or piece (first - 1 + n) 0) ≡ true → is_tail (get_or piece (first - 1 + n - 1) 0) ≡ false
+      → AreCharacters (take (first - 1 + n - 1) piece)
   but_one_whole t u = let d = found.but_one (ap is_tail end_at ∙ t) (ap is_tail before_end ∙ u) in read (first - 1 + n - 1) (omega arith)
 
-  pub but_two_whole : is_tail (get_or piece (first - 1 + n) 0) ≡ true → is_tail (get_or piece (first - 1 + n - 1) 0) ≡ true → AreCharacters (take (first - 1 + n - 2) piece) × (2 ≤ first - 1 + n)
+  pub but_two_whole : is_tail (get_or piece (first - 1 + n) 0) ≡ true → is_tail (get_or piece (first - 1 + n - 1) 0) ≡ true
+      → AreCharacters (take (first - 1 + n - 2) piece) × (2 ≤ first - 1 + n)
   but_two_whole t u = let d = found.but_two (ap is_tail end_at ∙ t) (ap is_tail before_end ∙ u) in (read (first - 1 + n - 2) (omega arith), omega arith)

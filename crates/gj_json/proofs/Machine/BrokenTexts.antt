@@ -14,7 +14,8 @@ use Rattle.gj_json.proofs.Machine.LeftParts.{run_extends}
 use Rattle.gj_json.proofs.Machine.SpelledSteps.{spelled}
 use Rattle.gj_json.proofs.Machine.ReadBrokenTexts.{broken_run}
 
-pub viable_within : (levels : ℕ) (bytes : List ℕ) → IsViableWithin levels bytes ↔ ((broken : Broken) × SpellsBroken broken bytes × (broken_depth broken ≤ levels))
+pub viable_within : (levels : ℕ) (bytes : List ℕ)
+    → IsViableWithin levels bytes ↔ ((broken : Broken) × SpellsBroken broken bytes × (broken_depth broken ≤ levels))
 viable_within levels bytes = (
   λ v. go (run bytes) refl (viable_fits levels bytes v),
   λ b. well_viable levels bytes b.0 (broken_run b.0 bytes b.1) (fit_broken levels b.0 b.2),
@@ -30,7 +31,8 @@ viable bytes = (
   λ b. let e = broken_run b.0 bytes b.1 in let r = reached bytes b.0 e in some_viable _ bytes b.0 e (r.fits 0),
 )
   where
-    go : (o : Option Broken) → run bytes ≡ o → (T : Text) (rest : List ℕ) → Goes (TextFrom T (length bytes) rest) o → (broken : Broken) × SpellsBroken broken bytes
+    go : (o : Option Broken) → run bytes ≡ o → (T : Text) (rest : List ℕ) → Goes (TextFrom T (length bytes) rest) o → (broken : Broken)
+        × SpellsBroken broken bytes
     go None e T rest h = absurd h
     go (Some s) e T rest h = (s, spelled bytes s e)
 

@@ -2,13 +2,18 @@
 use Rattle.std.proofs.Common.{◌≡◌, ℕ, ◌+◌, ◌==◌, Bool, true, false, if◌then◌else◌, List, [], ◌∷◌, ◌++◌, Option, Some, None, refl, sym, subst, ◌∙◌}
 use Rattle.gj_json.specs.Internal.NamedBytes.{mark_first, mark_second, mark_third}
 use Rattle.gj_json.specs.declared.class.Class.{Class}
-use Rattle.gj_json.specs.declared.class.Class.TheVariants.{White, OpenArray, CloseArray, OpenObject, CloseObject, Comma, Colon, Quote, NumberStart, Letter, Other}
+use Rattle.gj_json.specs.declared.class.Class.TheVariants.{White, OpenArray, CloseArray, OpenObject, CloseObject, Comma, Colon, Quote, NumberStart, Letter}
+use Rattle.gj_json.specs.declared.class.Class.TheVariants.{Other}
 use Rattle.gj_json.specs.declared.constant.Constant.{Constant}
 use Rattle.gj_json.specs.declared.levels.Level.{Level}
 use Rattle.gj_json.specs.declared.mode.Mode.{Mode}
 use Rattle.gj_json.specs.declared.mode.StringState.{StringState}
 use Rattle.gj_json.specs.Internal.ByteClasses.{class_of}
-use Rattle.gj_json.specs.Internal.TextMachine.{Broken, text_due, mark_one, mark_two, begun, with_mark, step, run_from, Frame, in_array, in_object, Member, Leaf, Partial, value_due, value_done, array_opened, object_opened, constant_on, number_on, string_on, name_due, name_on, colon_due, to, step_leaf, begin_value, after_value, step_value_due, step_array_opened, step_object_opened, step_name_due, step_colon_due, step_constant, step_number, step_string, step_name, string_next, StringStep, string_ends, string_goes, string_refuses}
+use Rattle.gj_json.specs.Internal.TextMachine.{Broken, text_due, mark_one, mark_two, begun, with_mark, step, run_from, Frame, in_array, in_object, Member, Leaf}
+use Rattle.gj_json.specs.Internal.TextMachine.{Partial, value_due, value_done, array_opened, object_opened, constant_on, number_on, string_on, name_due}
+use Rattle.gj_json.specs.Internal.TextMachine.{name_on, colon_due, to, step_leaf, begin_value, after_value, step_value_due, step_array_opened}
+use Rattle.gj_json.specs.Internal.TextMachine.{step_object_opened, step_name_due, step_colon_due, step_constant, step_number, step_string, step_name}
+use Rattle.gj_json.specs.Internal.TextMachine.{string_next, StringStep, string_ends, string_goes, string_refuses}
 use Rattle.gj_number.specs.Grammar.{BeginsNumber}
 use Rattle.gj_number.specs.DecidedNumbers.{is_number, begins_number}
 use Rattle.gj_number.proofs.Grammar.DecidedNumbers.{begins}
@@ -55,7 +60,8 @@ name_came stack place done n b White = tt
 name_came stack place done n b Quote = (refl, refl)
 name_came stack place done n b _ = tt
 
-colon_came : (stack : List Frame) (place : ℕ) (done : List Member) (np : ℕ) (name : List ℕ) (ne n b : ℕ) (c : Class) → Came nothing b (step_colon_due stack place done np name ne c)
+colon_came : (stack : List Frame) (place : ℕ) (done : List Member) (np : ℕ) (name : List ℕ) (ne n b : ℕ) (c : Class)
+    → Came nothing b (step_colon_due stack place done np name ne c)
 colon_came stack place done np name ne n b White = tt
 colon_came stack place done np name ne n b Colon = tt
 colon_came stack place done np name ne n b _ = tt
@@ -89,12 +95,14 @@ number_came stack place so_far n b c true may_end e = (refl, (begins (so_far ++ 
 number_came stack place so_far n b c false true e = after_came (number so_far) b stack (number_tree place so_far n) n c
 number_came stack place so_far n b c false false e = tt
 
-string_came : (stack : List Frame) (place : ℕ) (so_far : List ℕ) (state : StringState) (n b : ℕ) (s : StringStep) → string_next state b ≡ s → Came (text so_far state) b (step_string stack place so_far n s)
+string_came : (stack : List Frame) (place : ℕ) (so_far : List ℕ) (state : StringState) (n b : ℕ) (s : StringStep) → string_next state b ≡ s
+    → Came (text so_far state) b (step_string stack place so_far n s)
 string_came stack place so_far state n b string_ends e = tt
 string_came stack place so_far state n b (string_goes more next) e = (more, refl, e)
 string_came stack place so_far state n b string_refuses e = tt
 
-name_string_came : (stack : List Frame) (place : ℕ) (done : List Member) (np : ℕ) (so_far : List ℕ) (state : StringState) (n b : ℕ) (s : StringStep) → string_next state b ≡ s → Came (text so_far state) b (step_name stack place done np so_far n s)
+name_string_came : (stack : List Frame) (place : ℕ) (done : List Member) (np : ℕ) (so_far : List ℕ) (state : StringState) (n b : ℕ) (s : StringStep)
+    → string_next state b ≡ s → Came (text so_far state) b (step_name stack place done np so_far n s)
 name_string_came stack place done np so_far state n b string_ends e = tt
 name_string_came stack place done np so_far state n b (string_goes more next) e = (more, refl, e)
 name_string_came stack place done np so_far state n b string_refuses e = tt
@@ -161,7 +169,8 @@ pub run_begun : (bytes : List ℕ) (s last : Broken) (n : ℕ) → IsBegun (unde
 run_begun [] s last n u e = let f : s ≡ last = cc in let P : Broken → Type 0 = λ x. IsBegun (under_of x) in subst P f u
 run_begun (b ∷ bytes) s last n u e = go (λ next. run_begun bytes next last (n + 1)) (step s n b) (step_came s n b) e
   where
-    go : ((next : Broken) → IsBegun (under_of next) → run_from (Some next) (n + 1) bytes ≡ Some last → IsBegun (under_of last)) → (o : Option Broken) → CameTo (under_of s) b o → run_from o (n + 1) bytes ≡ Some last → IsBegun (under_of last)
+    go : ((next : Broken) → IsBegun (under_of next) → run_from (Some next) (n + 1) bytes ≡ Some last → IsBegun (under_of last)) → (o : Option Broken)
+        → CameTo (under_of s) b o → run_from o (n + 1) bytes ≡ Some last → IsBegun (under_of last)
     go on None c f = let g = sym (run_none bytes (n + 1)) ∙ f in cc
     go on (Some next) c f = on next (came_begun (under_of s) b (under_of next) c) f
 

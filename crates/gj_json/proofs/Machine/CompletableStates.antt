@@ -5,7 +5,8 @@ use Rattle.gj_json.specs.Bytes.{close_brace, close_bracket, colon as colon_byte,
 use Rattle.gj_json.specs.Internal.NamedBytes.{letter_n, mark_second, mark_third}
 use Rattle.gj_json.specs.declared.constant.Constant.{Constant}
 use Rattle.gj_json.specs.declared.constant.Constant.TheVariants.{Null}
-use Rattle.gj_json.specs.Tree.{Text, Tree, constant, number, string, array, object, Elements, end_of_array, element, Members, end_of_object, member, depth, elements_depth, members_depth}
+use Rattle.gj_json.specs.Tree.{Text, Tree, constant, number, string, array, object, Elements, end_of_array, element, Members, end_of_object, member, depth}
+use Rattle.gj_json.specs.Tree.{elements_depth, members_depth}
 use Rattle.gj_json.specs.declared.mode.Bounds.{Bounds}
 use Rattle.gj_json.specs.declared.mode.Bounds.TheVariants.{Any, AfterE0, AfterED, AfterF0, AfterF4}
 use Rattle.gj_json.specs.Grammar.{Then, Exactly, Ends}
@@ -16,10 +17,13 @@ use Rattle.gj_json.proofs.Machine.CompletionsOfSteps
 use Rattle.gj_json.specs.Internal.ReaderState.{Fits, FitsName, FitsLeaf, FitsBroken}
 use Rattle.gj_json.proofs.Machine.MachineTexts.{text_goes_on, text_from}
 use Rattle.gj_json.specs.declared.mode.StringState.{StringState}
-use Rattle.gj_json.specs.declared.mode.StringState.TheVariants.{Plain as plain, Escape as escape, HexDue as hex_due, HexOne as hex_one, HexTwo as hex_two, HexThree as hex_three, InCharacter as in_character}
+use Rattle.gj_json.specs.declared.mode.StringState.TheVariants.{Plain as plain, Escape as escape, HexDue as hex_due, HexOne as hex_one, HexTwo as hex_two}
+use Rattle.gj_json.specs.declared.mode.StringState.TheVariants.{HexThree as hex_three, InCharacter as in_character}
 use Rattle.gj_json.specs.Characters.{escape_of, hex_of}
 use Rattle.gj_json.specs.Utf8Bytes.{low_of}
-use Rattle.gj_json.specs.Internal.TextMachine.{Broken, text_due, mark_one, mark_two, begun, Frame, in_array, in_object, Member, Leaf, value_due, value_done, array_opened, object_opened, constant_on, number_on, string_on, name_due, name_on, colon_due, back_elements, back_members, letters_after, run, string_next, string_goes, within}
+use Rattle.gj_json.specs.Internal.TextMachine.{Broken, text_due, mark_one, mark_two, begun, Frame, in_array, in_object, Member, Leaf, value_due, value_done}
+use Rattle.gj_json.specs.Internal.TextMachine.{array_opened, object_opened, constant_on, number_on, string_on, name_due, name_on, colon_due, back_elements}
+use Rattle.gj_json.specs.Internal.TextMachine.{back_members, letters_after, run, string_next, string_goes, within}
 use Rattle.gj_json.specs.Internal.UnderWay.{under_leaf, under_of}
 use Rattle.gj_json.proofs.Machine.BytesUnderWay.{IsBegun, run_begun}
 use Rattle.gj_json.proofs.Machine.Completions.{TextFrom, After, AfterName, Completes, Goes, StringRest, StringOn}
@@ -31,24 +35,30 @@ levels_fit d [] h = omega arith
 levels_fit d (in_array place done ∷ stack) h = omega arith
 levels_fit d (in_object place done np name ne ∷ stack) h = omega arith
 
-elements_apart : (d k : ℕ) (done : List Tree) (more : Elements) → elements_depth (back_elements done more) + k ≤ d → AllByRecursion (λ t. depth t + k ≤ d) done × (elements_depth more + k ≤ d)
+elements_apart : (d k : ℕ) (done : List Tree) (more : Elements) → elements_depth (back_elements done more) + k ≤ d → AllByRecursion (λ t. depth t + k ≤ d) done
+    × (elements_depth more + k ≤ d)
 elements_apart d k [] more h = (tt, h)
 elements_apart d k (t ∷ done) more h = let g = elements_apart d k done (element t more) h in ((omega (arith, g.1), g.0), omega (arith, g.1))
 
-pub elements_joined : (d k : ℕ) (done : List Tree) (more : Elements) → AllByRecursion (λ t. depth t + k ≤ d) done → elements_depth more + k ≤ d → elements_depth (back_elements done more) + k ≤ d
+pub elements_joined : (d k : ℕ) (done : List Tree) (more : Elements) → AllByRecursion (λ t. depth t + k ≤ d) done → elements_depth more + k ≤ d
+    → elements_depth (back_elements done more) + k ≤ d
 elements_joined d k [] more a h = h
 elements_joined d k (t ∷ done) more a h = elements_joined d k done (element t more) a.1 (omega (arith, a.0))
 
-members_apart : (d k : ℕ) (done : List Member) (more : Members) → members_depth (back_members done more) + k ≤ d → AllByRecursion (λ m. depth m.value + k ≤ d) done × (members_depth more + k ≤ d)
+members_apart : (d k : ℕ) (done : List Member) (more : Members) → members_depth (back_members done more) + k ≤ d
+    → AllByRecursion (λ m. depth m.value + k ≤ d) done × (members_depth more + k ≤ d)
 members_apart d k [] more h = (tt, h)
-members_apart d k (m ∷ done) more h = let g = members_apart d k done (member m.place m.name m.end m.value more) h in ((omega (arith, g.1), g.0), omega (arith, g.1))
+members_apart d k (m ∷ done) more h = let g =
+    members_apart d k done (member m.place m.name m.end m.value more) h in ((omega (arith, g.1), g.0), omega (arith, g.1))
 
-pub members_joined : (d k : ℕ) (done : List Member) (more : Members) → AllByRecursion (λ m. depth m.value + k ≤ d) done → members_depth more + k ≤ d → members_depth (back_members done more) + k ≤ d
+pub members_joined : (d k : ℕ) (done : List Member) (more : Members) → AllByRecursion (λ m. depth m.value + k ≤ d) done → members_depth more + k ≤ d
+    → members_depth (back_members done more) + k ≤ d
 members_joined d k [] more a h = h
 members_joined d k (m ∷ done) more a h = members_joined d k done (member m.place m.name m.end m.value more) a.1 (omega (arith, a.0))
 
 -- a tree within the limit has what is open within it
-pub after_fits : (d : ℕ) (stack : List Frame) (t T : Tree) (n : ℕ) (bytes : List ℕ) → After stack t T n bytes → depth T ≤ d → (depth t + length stack ≤ d) × Fits d stack
+pub after_fits : (d : ℕ) (stack : List Frame) (t T : Tree) (n : ℕ) (bytes : List ℕ) → After stack t T n bytes → depth T ≤ d → (depth t + length stack ≤ d)
+    × Fits d stack
 after_fits d [] t T n bytes h l = (let e : depth T ≡ depth t = ap depth h.1 in omega arith, tt)
 after_fits d (in_array place done ∷ stack) t T n bytes h l =
     let g = after_fits d stack (array place (back_elements done (element t h.0)) h.1) T _ _ h.2.after.after l in
@@ -59,10 +69,12 @@ after_fits d (in_object place done np name ne ∷ stack) t T n bytes h l =
     let k = members_apart d (length stack + 1) done (member np name ne t h.0) (omega (arith, g.0)) in
     (omega (arith, k.1), (omega (arith, g.0), k.0, g.1))
 
-name_fits : (d : ℕ) (stack : List Frame) (place : ℕ) (done : List Member) (np : ℕ) (name : List ℕ) (ne : ℕ) (T : Tree) (n : ℕ) (bytes : List ℕ) → AfterName stack place done np name ne T n bytes → depth T ≤ d → FitsName d stack done
+name_fits : (d : ℕ) (stack : List Frame) (place : ℕ) (done : List Member) (np : ℕ) (name : List ℕ) (ne : ℕ) (T : Tree) (n : ℕ) (bytes : List ℕ)
+    → AfterName stack place done np name ne T n bytes → depth T ≤ d → FitsName d stack done
 name_fits d stack place done np name ne T n bytes h l = (after_fits d (in_object place done np name ne ∷ stack) h.0 T _ _ h.1.after.after.after.after l).1
 
-pub leaf_fits : (d : ℕ) (stack : List Frame) (leaf : Leaf) (T : Tree) (n : ℕ) (bytes : List ℕ) → Completes stack leaf T n bytes → depth T ≤ d → FitsLeaf d stack leaf
+pub leaf_fits : (d : ℕ) (stack : List Frame) (leaf : Leaf) (T : Tree) (n : ℕ) (bytes : List ℕ) → Completes stack leaf T n bytes → depth T ≤ d
+    → FitsLeaf d stack leaf
 leaf_fits d stack value_due T n bytes h l = (after_fits d stack h.0 T _ _ h.1.after.after l).1
 leaf_fits d stack (value_done t) T n bytes h l = after_fits d stack t T n bytes h l
 leaf_fits d stack (array_opened place) T n bytes h l = let g = after_fits d stack (array place h.0 h.1) T _ _ h.2.after.after l in (omega (arith, g.0), g.1)
@@ -79,7 +91,8 @@ leaf_fits d stack (colon_due place done np name ne) T n bytes h l = name_fits d 
 abbrev pub Ending : ℕ → List Frame → Leaf → ℕ → Type 0
 Ending d stack leaf n = (T : Tree) × (rest : List ℕ) × Completes stack leaf T n rest × (depth T ≤ d)
 
-pub after_ending : (d : ℕ) (stack : List Frame) (t : Tree) (n : ℕ) → depth t + length stack ≤ d → Fits d stack → (T : Tree) × (rest : List ℕ) × After stack t T n rest × (depth T ≤ d)
+pub after_ending : (d : ℕ) (stack : List Frame) (t : Tree) (n : ℕ) → depth t + length stack ≤ d → Fits d stack → (T : Tree) × (rest : List ℕ)
+    × After stack t T n rest × (depth T ≤ d)
 after_ending d [] t n l f = (t, [], (tt, refl), omega arith)
 after_ending d (in_array place done ∷ stack) t n l f =
     let e = elements_joined d (length stack + 1) done (element t end_of_array) f.1 (omega arith) in
@@ -93,7 +106,8 @@ after_ending d (in_object place done np name ne ∷ stack) t n l f =
 exactly_all : {K : ℕ → List ℕ → Type 0} {n : ℕ} (letters rest : List ℕ) → K (n + length letters) rest → Then (Exactly letters) K n (letters ++ rest)
 exactly_all letters rest k = SpelledForms.joins letters rest refl refl k
 
-constant_ending : (d : ℕ) (stack : List Frame) (which : Constant) (place : ℕ) (left : List ℕ) (n : ℕ) → Fits d stack → Ending d stack (constant_on which place left) n
+constant_ending : (d : ℕ) (stack : List Frame) (which : Constant) (place : ℕ) (left : List ℕ) (n : ℕ) → Fits d stack
+    → Ending d stack (constant_on which place left) n
 constant_ending d stack which place left n f =
     let g = after_ending d stack (constant which place) (n + length left) (let l : length stack ≤ d = levels_fit d stack f in omega arith) f in
     (g.0, left ++ g.1, exactly_all left g.1 g.2, g.3)
@@ -125,7 +139,8 @@ bounds_low AfterF0 = refl
 bounds_low AfterF4 = refl
 
 character_ending : (more : ℕ) (bounds : Bounds) (value : ℕ) → (content : List ℕ) × (bytes : List ℕ) × StringRest (in_character more bounds value) content bytes
-character_ending zero bounds value = let c = value * 64 + low_of bounds % 64 in (c ∷ [], low_of bounds ∷ [], (c ∷ [], plain, [], rw (bounds_low bounds) refl, refl, (refl, refl)))
+character_ending zero bounds value = let c =
+    value * 64 + low_of bounds % 64 in (c ∷ [], low_of bounds ∷ [], (c ∷ [], plain, [], rw (bounds_low bounds) refl, refl, (refl, refl)))
 character_ending (suc more) bounds value =
     let g = character_ending more Any (value * 64 + low_of bounds % 64) in
     (g.0, low_of bounds ∷ g.1, ([], in_character more Any (value * 64 + low_of bounds % 64), g.0, rw (bounds_low bounds) refl, refl, g.2))
@@ -134,23 +149,28 @@ character_ending (suc more) bounds value =
 string_ending : (state : StringState) → (content : List ℕ) × (bytes : List ℕ) × StringRest state content bytes
 string_ending plain = ([], [], (refl, refl))
 string_ending escape = (line_feed ∷ [], letter_n ∷ [], (line_feed ∷ [], plain, [], escape_n, refl, (refl, refl)))
-string_ending hex_due = let g = two_on (0 * 16 + 0) in (g.0, zero_byte ∷ zero_byte ∷ g.1, ([], hex_one 0, g.0, rw zero_hex refl, refl, ([], hex_two (0 * 16 + 0), g.0, rw zero_hex refl, refl, g.2)))
+string_ending hex_due = let g = two_on (0 * 16 + 0) in
+    (g.0, zero_byte ∷ zero_byte ∷ g.1, ([], hex_one 0, g.0, rw zero_hex refl, refl, ([], hex_two (0 * 16 + 0), g.0, rw zero_hex refl, refl, g.2)))
 string_ending (hex_one v) = let g = two_on (v * 16 + 0) in (g.0, zero_byte ∷ g.1, ([], hex_two (v * 16 + 0), g.0, rw zero_hex refl, refl, g.2))
 string_ending (hex_two v) = two_on v
 string_ending (hex_three v) = three_on v
 string_ending (in_character more bounds value) = character_ending more bounds value
 
-quoted_ending : {K : ℕ → List ℕ → Type 0} {n : ℕ} (state : StringState) (content bytes rest : List ℕ) → StringRest state content bytes → K (n + length bytes + 1) rest → Then (StringOn state content (n + length bytes + 1)) K n (bytes ++ quote_byte ∷ rest)
+quoted_ending : {K : ℕ → List ℕ → Type 0} {n : ℕ} (state : StringState) (content bytes rest : List ℕ) → StringRest state content bytes
+    → K (n + length bytes + 1) rest → Then (StringOn state content (n + length bytes + 1)) K n (bytes ++ quote_byte ∷ rest)
 quoted_ending {K} {n} state content bytes rest t k =
-    let tail : Then (Then (Exactly (quote_byte ∷ [])) (Ends (n + length bytes + 1))) K (n + length bytes) (quote_byte ∷ rest) = SpelledForms.then_right (SpelledForms.byte_more refl (SpelledForms.ends_here k)) in
+    let tail : Then (Then (Exactly (quote_byte ∷ [])) (Ends (n + length bytes + 1))) K (n + length bytes) (quote_byte ∷ rest) =
+    SpelledForms.then_right (SpelledForms.byte_more refl (SpelledForms.ends_here k)) in
     SpelledForms.then_right (SpelledForms.joins bytes (quote_byte ∷ rest) refl t tail)
 
-colon_ending : (d : ℕ) (stack : List Frame) (place : ℕ) (done : List Member) (np : ℕ) (name : List ℕ) (ne n : ℕ) → FitsName d stack done → Ending d stack (colon_due place done np name ne) n
+colon_ending : (d : ℕ) (stack : List Frame) (place : ℕ) (done : List Member) (np : ℕ) (name : List ℕ) (ne n : ℕ) → FitsName d stack done
+    → Ending d stack (colon_due place done np name ne) n
 colon_ending d stack place done np name ne n f =
     let g = due_ending d (in_object place done np name ne ∷ stack) (n + 1) f in
     (g.0, colon_byte ∷ g.1, CompletionsOfSteps.back_colon_due stack place done np name ne g.0 n colon_byte g.1 colon refl g.2, g.3)
 
-name_ending : (d : ℕ) (stack : List Frame) (place : ℕ) (done : List Member) (np : ℕ) (so_far : List ℕ) (state : StringState) (n : ℕ) → FitsName d stack done → Ending d stack (name_on place done np so_far state) n
+name_ending : (d : ℕ) (stack : List Frame) (place : ℕ) (done : List Member) (np : ℕ) (so_far : List ℕ) (state : StringState) (n : ℕ) → FitsName d stack done
+    → Ending d stack (name_on place done np so_far state) n
 name_ending d stack place done np so_far state n f =
     let t = string_ending state in
     let e = n + length t.1 + 1 in
@@ -168,7 +188,8 @@ leaf_ending d stack (object_opened place) n f u =
     (g.0, close_brace ∷ g.1, (end_of_object, n, SpelledForms.white_none (SpelledForms.closes_more refl g.2)), g.3)
 leaf_ending d stack (constant_on which place left) n f u = constant_ending d stack which place left n f
 leaf_ending d stack (number_on place so_far) n f u =
-    let g = after_ending d stack (number place (so_far ++ u.0) (n + length u.0)) (n + length u.0) (let l : length stack ≤ d = levels_fit d stack f in omega arith) f in
+    let g = after_ending d stack (number place (so_far ++ u.0) (n + length u.0)) (n + length u.0)
+    (let l : length stack ≤ d = levels_fit d stack f in omega arith) f in
     (g.0, u.0 ++ g.1, (u.0, n + length u.0, u.1, exactly_all u.0 g.1 (SpelledForms.ends_here g.2)), g.3)
 leaf_ending d stack (string_on place so_far state) n f u =
     let t = string_ending state in

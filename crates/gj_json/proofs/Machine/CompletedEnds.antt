@@ -13,12 +13,15 @@ use Rattle.gj_json.specs.Characters.{SpellsContent}
 use Rattle.gj_json.proofs.Grammar.SpelledForms
 use Rattle.gj_json.proofs.Machine.StepsOfCompletions.{placed}
 use Rattle.gj_json.specs.declared.mode.StringState.{StringState}
-use Rattle.gj_json.specs.Internal.TextMachine.{Broken, text_due, mark_one, mark_two, begun, finish, text_with, Frame, in_array, in_object, Member, Leaf, value_due, value_done, array_opened, object_opened, constant_on, number_on, string_on, name_due, name_on, colon_due, finish_leaf, is_number}
+use Rattle.gj_json.specs.Internal.TextMachine.{Broken, text_due, mark_one, mark_two, begun, finish, text_with, Frame, in_array, in_object, Member, Leaf}
+use Rattle.gj_json.specs.Internal.TextMachine.{value_due, value_done, array_opened, object_opened, constant_on, number_on, string_on, name_due, name_on}
+use Rattle.gj_json.specs.Internal.TextMachine.{colon_due, finish_leaf, is_number}
 use Rattle.gj_json.proofs.Machine.Completions.{TextFrom, After, AfterName, Completes, StringRest, StringOn, Due}
 
 quoted_end : (place : ℕ) (content : List ℕ) (end : ℕ) {K : ℕ → List ℕ → Type 0} {n : ℕ} → Then (Quoted place content end) K n [] → ⊥
 quoted_end place content end h =
-    let g = placed {p = place} {F = Then (Exactly (quote_byte ∷ [])) (Then (λ here inner. SpellsContent content inner) (Then (Exactly (quote_byte ∷ [])) (Ends end)))} h in
+    let g = placed {p = place}
+    {F = Then (Exactly (quote_byte ∷ [])) (Then (λ here inner. SpellsContent content inner) (Then (Exactly (quote_byte ∷ [])) (Ends end)))} h in
     SpelledForms.exactly_end (SpelledForms.then_left g.1)
 
 number_end : {K : ℕ → List ℕ → Type 0} {n : ℕ} (literal : List ℕ) → IsNumber literal → Then (Exactly literal) K n [] → ⊥
@@ -33,10 +36,13 @@ constant_end False h = SpelledForms.exactly_end h
 -- a value is spelled by one byte at least
 value_end : {K : ℕ → List ℕ → Type 0} {n : ℕ} (t : Tree) → Then (Spells t) K n [] → ⊥
 value_end (constant which place) h = let g = placed {p = place} {F = Exactly (letters_of which)} h in constant_end which g.1
-value_end {K} (number place literal end) h = number_end literal h.before.1 (SpelledForms.then_left {C = K} (SpelledForms.joins h.first h.rest h.joined h.before.2 h.after))
+value_end {K} (number place literal end) h =
+    number_end literal h.before.1 (SpelledForms.then_left {C = K} (SpelledForms.joins h.first h.rest h.joined h.before.2 h.after))
 value_end (string place content end) h = quoted_end place content end h
-value_end (array place elements close) h = let g = placed {p = place} {F = Then (Exactly (open_bracket ∷ [])) (Then White (SpellsElements elements close))} h in SpelledForms.exactly_end (SpelledForms.then_left g.1)
-value_end (object place members close) h = let g = placed {p = place} {F = Then (Exactly (open_brace ∷ [])) (Then White (SpellsMembers members close))} h in SpelledForms.exactly_end (SpelledForms.then_left g.1)
+value_end (array place elements close) h = let g = placed {p = place} {F = Then (Exactly (open_bracket ∷ [])) (Then White (SpellsElements elements close))} h in
+    SpelledForms.exactly_end (SpelledForms.then_left g.1)
+value_end (object place members close) h = let g = placed {p = place} {F = Then (Exactly (open_brace ∷ [])) (Then White (SpellsMembers members close))} h in
+    SpelledForms.exactly_end (SpelledForms.then_left g.1)
 
 more_elements_end : {K : ℕ → List ℕ → Type 0} {n : ℕ} (more : Elements) (close : ℕ) → Then (SpellsMoreElements more close) K n [] → ⊥
 more_elements_end end_of_array close h = SpelledForms.closes_end {close = close} h
@@ -61,7 +67,8 @@ string_end {K} {n} state content end h = go g.first g.joined g.after
     g = SpelledForms.then_left h
 
     go : (inner : List ℕ) → [] ≡ inner ++ g.rest → Then (Then (Exactly (quote_byte ∷ [])) (Ends end)) K (n + length inner) g.rest → ⊥
-    go [] e k = SpelledForms.exactly_end {n = n} (SpelledForms.then_left (SpelledForms.moved (Then (Then (Exactly (quote_byte ∷ [])) (Ends end)) K) (omega arith) (sym e) k))
+    go [] e k = SpelledForms.exactly_end {n = n}
+        (SpelledForms.then_left (SpelledForms.moved (Then (Then (Exactly (quote_byte ∷ [])) (Ends end)) K) (omega arith) (sym e) k))
     go (c ∷ inner) e k = cc
 
 after_end : (stack : List Frame) (t T : Tree) (n : ℕ) → After stack t T n [] → (stack ≡ []) × (T ≡ t)
@@ -69,7 +76,8 @@ after_end [] t T n h = (refl, h.1)
 after_end (in_array place done ∷ stack) t T n h = absurd (more_elements_end h.0 h.1 (SpelledForms.white_end h.2))
 after_end (in_object place done np name ne ∷ stack) t T n h = absurd (more_members_end h.0 h.1 (SpelledForms.white_end h.2))
 
-name_end : (stack : List Frame) (place : ℕ) (done : List Member) (np : ℕ) (name : List ℕ) (ne : ℕ) (T : Tree) (n : ℕ) → AfterName stack place done np name ne T n [] → ⊥
+name_end : (stack : List Frame) (place : ℕ) (done : List Member) (np : ℕ) (name : List ℕ) (ne : ℕ) (T : Tree) (n : ℕ)
+    → AfterName stack place done np name ne T n [] → ⊥
 name_end stack place done np name ne T n h = SpelledForms.exactly_end (SpelledForms.white_end h.1)
 
 finished : (stack : List Frame) (leaf : Leaf) (T : Tree) (n : ℕ) → Completes stack leaf T n [] → finish_leaf stack leaf n ≡ Some T
@@ -81,7 +89,8 @@ finished stack (constant_on which place []) T n h = let g = after_end stack (con
 finished stack (constant_on which place (a ∷ left)) T n h = absurd (SpelledForms.exactly_end h)
 finished stack (number_on place so_far) T n h = go h.0 h.2 h.3
   where
-    go : (more : List ℕ) → IsNumber (so_far ++ more) → Then (Exactly more) (Then (Ends h.1) (After stack (number place (so_far ++ more) h.1) T)) n [] → finish_leaf stack (number_on place so_far) n ≡ Some T
+    go : (more : List ℕ) → IsNumber (so_far ++ more) → Then (Exactly more) (Then (Ends h.1) (After stack (number place (so_far ++ more) h.1) T)) n []
+        → finish_leaf stack (number_on place so_far) n ≡ Some T
     go [] r k =
         let j = SpelledForms.ends_on {end = h.1} (SpelledForms.exactly_done k) in
         let g = after_end stack (number place (so_far ++ []) h.1) T n j.1 in
@@ -113,7 +122,8 @@ with_finished T marked o m e = rw (e, ← m) refl
 
 with_completed : (T : Text) (marked : Bool) (o : Option Tree) → text_with marked o ≡ Some T → (T.marked ≡ marked) × (o ≡ Some T.value)
 with_completed T marked None e = cc
-with_completed T marked (Some t) e = let f : T ≡ record { marked = marked; value = t } = cc in (ap (λ (x : Text). x.marked) f, ap (λ (x : Text). Some x.value) (sym f))
+with_completed T marked (Some t) e = let f : T ≡ record { marked = marked; value = t } =
+    cc in (ap (λ (x : Text). x.marked) f, ap (λ (x : Text). Some x.value) (sym f))
 
 text_finished : (s : Broken) (T : Text) (n : ℕ) → TextFrom T n [] s → finish s n ≡ Some T
 text_finished text_due T n h = absurd (mark_end T n T.marked h)

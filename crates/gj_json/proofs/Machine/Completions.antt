@@ -8,21 +8,26 @@ use Rattle.gj_json.specs.Grammar.{Then, White, Exactly, Ends, Quoted, Spells, Sp
 use Rattle.gj_number.specs.Grammar.{IsNumber}
 use Rattle.gj_json.specs.declared.mode.StringState.{StringState}
 use Rattle.gj_json.specs.declared.mode.StringState.TheVariants.{Plain as plain}
-use Rattle.gj_json.specs.Internal.TextMachine.{Member, Frame, in_array, in_object, string_goes, string_next, Leaf, value_due, value_done, array_opened, object_opened, constant_on, number_on, string_on, name_due, name_on, colon_due, Partial, Broken, text_due, mark_one, mark_two, begun, back_elements, back_members}
+use Rattle.gj_json.specs.Internal.TextMachine.{Member, Frame, in_array, in_object, string_goes, string_next, Leaf, value_due, value_done, array_opened}
+use Rattle.gj_json.specs.Internal.TextMachine.{object_opened, constant_on, number_on, string_on, name_due, name_on, colon_due, Partial, Broken, text_due}
+use Rattle.gj_json.specs.Internal.TextMachine.{mark_one, mark_two, begun, back_elements, back_members}
 
 -- a text under way may go on by these bytes, up to its quote
 abbrev pub StringRest : StringState → List ℕ → List ℕ → Type 0
 StringRest state content [] = (content ≡ []) × (state ≡ plain)
 StringRest state content (b ∷ bytes) =
-    (more : List ℕ) × (next : StringState) × (later : List ℕ) × (string_next state b ≡ string_goes more next) × (content ≡ more ++ later) × StringRest next later bytes
+    (more : List ℕ) × (next : StringState) × (later : List ℕ) × (string_next state b ≡ string_goes more next) × (content ≡ more ++ later)
+    × StringRest next later bytes
 
 -- after the value t, to the tree T
 abbrev pub After : List Frame → Tree → Tree → ℕ → List ℕ → Type 0
 After [] t T n bytes = White n bytes × (T ≡ t)
 After (in_array place done ∷ stack) t T n bytes =
-    (more : Elements) × (close : ℕ) × Then White (Then (SpellsMoreElements more close) (After stack (array place (back_elements done (element t more)) close) T)) n bytes
+    (more : Elements) × (close : ℕ)
+    × Then White (Then (SpellsMoreElements more close) (After stack (array place (back_elements done (element t more)) close) T)) n bytes
 After (in_object place done np name ne ∷ stack) t T n bytes =
-    (more : Members) × (close : ℕ) × Then White (Then (SpellsMoreMembers more close) (After stack (object place (back_members done (member np name ne t more)) close) T)) n bytes
+    (more : Members) × (close : ℕ)
+    × Then White (Then (SpellsMoreMembers more close) (After stack (object place (back_members done (member np name ne t more)) close) T)) n bytes
 
 -- the colon, the value of the member and the members after it
 abbrev pub AfterName : List Frame → ℕ → List Member → ℕ → List ℕ → ℕ → Tree → ℕ → List ℕ → Type 0

@@ -2,7 +2,8 @@
 use Rattle.std.proofs.Common.{ℕ, ◌+◌, ◌≤◌, List, [], ◌∷◌, length, arith}
 use Rattle.std.specs.List.{AllByRecursion}
 use Rattle.gj_json.specs.Tree.{Tree, depth}
-use Rattle.gj_json.specs.Internal.TextMachine.{Broken, begun, Frame, Leaf, in_array, in_object, Member, value_due, value_done, array_opened, object_opened, constant_on, number_on, string_on, name_due, name_on, colon_due}
+use Rattle.gj_json.specs.Internal.TextMachine.{Broken, begun, Frame, Leaf, in_array, in_object, Member, value_due, value_done, array_opened, object_opened}
+use Rattle.gj_json.specs.Internal.TextMachine.{constant_on, number_on, string_on, name_due, name_on, colon_due}
 use Rattle.gj_json.specs.Internal.ReaderState.{FitsLeaf, FitsName, Fits, FitsBroken}
 use Rattle.gj_json.proofs.Machine.CompletableStates.{levels_fit}
 use Rattle.gj_json.proofs.Events.OpenContainers.{own_levels}

@@ -1,5 +1,6 @@
 -- The refusal of an input is told by its longest front that is viable, and there is one refusal or an admitted text.
-use Rattle.std.proofs.Common.{◌≡◌, ◌≢◌, ℕ, zero, suc, ◌+◌, ◌≤◌, ◌<◌, ◌⊎◌, ◌↔◌, inl, inr, min, List, [], ◌∷◌, ◌++◌, length, take, drop, get_or, Bool, true, false, if◌then◌else◌, Option, Some, None, refl, sym, ap, subst, ◌∙◌, arith, append_assoc, drop-cons}
+use Rattle.std.proofs.Common.{◌≡◌, ◌≢◌, ℕ, zero, suc, ◌+◌, ◌≤◌, ◌<◌, ◌⊎◌, ◌↔◌, inl, inr, min, List, [], ◌∷◌, ◌++◌, length, take, drop, get_or, Bool, true}
+use Rattle.std.proofs.Common.{false, if◌then◌else◌, Option, Some, None, refl, sym, ap, subst, ◌∙◌, arith, append_assoc, drop-cons}
 use Rattle.std.proofs.lemmas.List.{length-append, length-take-le, take_at, take-take, take_all, take-append-drop, append-nil}
 use Rattle.std.proofs.lemmas.Bool.Decides.{eqb_tells, leb_tells}
 use Rattle.gj_json.specs.declared.fault.JsonFault.{JsonFault}
@@ -10,7 +11,8 @@ use Rattle.gj_json.specs.Tree.{Text, Tree, constant, number, depth}
 use Rattle.gj_json.specs.Text.{IsText, IsTextWithin, IsViable, IsViableWithin}
 use Rattle.gj_json.specs.Refusal.{Stops, RefusedFor, IsRefusal, IsAdmitted}
 use Rattle.gj_json.specs.Longest.{IsLongest, IsToldBy}
-use Rattle.gj_json.specs.Internal.TextMachine.{Broken, text_due, mark_one, mark_two, begun, Frame, Leaf, value_done, constant_on, number_on, run, is_number, finish, finish_leaf, text_with}
+use Rattle.gj_json.specs.Internal.TextMachine.{Broken, text_due, mark_one, mark_two, begun, Frame, Leaf, value_done, constant_on, number_on, run, is_number}
+use Rattle.gj_json.specs.Internal.TextMachine.{finish, finish_leaf, text_with}
 use Rattle.gj_json.specs.Internal.ReaderState.{FitsLeaf}
 use Rattle.gj_json.specs.Broken.{broken_depth}
 use Rattle.gj_json.proofs.Machine.CompletableStates.{FitsRun, viable_fits, fits_viable}
@@ -70,9 +72,12 @@ no_deeper d T bytes h v = go (run bytes) (text_finishes T bytes h) (viable_fits 
 pub text_or_not : (bytes : List ℕ) → ((text : Text) × IsText text bytes) ⊎ ((text : Text) → IsText text bytes → ⊥)
 text_or_not bytes = go (run bytes) refl
   where
-    ends : (o : Option Text) (s : Broken) → run bytes ≡ Some s → finish s (length bytes) ≡ o → ((text : Text) × IsText text bytes) ⊎ ((text : Text) → IsText text bytes → ⊥)
+    ends : (o : Option Text) (s : Broken) → run bytes ≡ Some s → finish s (length bytes) ≡ o → ((text : Text) × IsText text bytes)
+        ⊎ ((text : Text) → IsText text bytes → ⊥)
     ends (Some text) s e f = inl (text, finishes_text text bytes (let k : Finishes text (length bytes) (Some s) = f in rw e k))
-    ends None s e f = inr (λ text h. let k : Finishes text (length bytes) (Some s) = (let g = text_finishes text bytes h in rw e at g) in let g : None ≡ Some text = sym f ∙ k in cc)
+    ends None s e f = inr
+        (λ text h. let k : Finishes text (length bytes) (Some s) = (let g = text_finishes text bytes h in rw e at g) in let g : None ≡ Some text =
+        sym f ∙ k in cc)
 
     go : (o : Option Broken) → run bytes ≡ o → ((text : Text) × IsText text bytes) ⊎ ((text : Text) → IsText text bytes → ⊥)
     go None e = inr (λ text h. let g = text_finishes text bytes h in let k : Finishes text (length bytes) None = rw e at g in k)
@@ -85,7 +90,8 @@ front_viable d bytes more v = (more ++ v.0, v.1, ((rw append_assoc at v.2.0), v.
 
 shorter_viable : (d m n : ℕ) (bytes : List ℕ) → m ≤ n → IsViableWithin d (take n bytes) → IsViableWithin d (take m bytes)
 shorter_viable d m n bytes l v =
-    let e : take n bytes ≡ take m bytes ++ drop m (take n bytes) = sym (take-append-drop m (take n bytes)) ∙ ap (λ xs. xs ++ drop m (take n bytes)) (take-take m n bytes l) in
+    let e : take n bytes ≡ take m bytes ++ drop m (take n bytes) =
+    sym (take-append-drop m (take n bytes)) ∙ ap (λ xs. xs ++ drop m (take n bytes)) (take-take m n bytes l) in
     let P : List ℕ → Type 0 = λ xs. IsViableWithin d xs in
     front_viable d (take m bytes) (drop m (take n bytes)) (subst P e v)
 
@@ -145,7 +151,8 @@ stops limits bytes k l v = record {
 }
 
 -- the first k bytes are viable, and no front that is longer
-longest_at : (limits : Allowed) (bytes : List ℕ) (k : ℕ) → k ≤ length bytes → k ≤ limits.bytes → IsViableWithin limits.depth (take k bytes) → (IsViableWithin limits.depth (take (k + 1) bytes) → ⊥) → IsLongest limits bytes k
+longest_at : (limits : Allowed) (bytes : List ℕ) (k : ℕ) → k ≤ length bytes → k ≤ limits.bytes → IsViableWithin limits.depth (take k bytes)
+    → (IsViableWithin limits.depth (take (k + 1) bytes) → ⊥) → IsLongest limits bytes k
 longest_at limits bytes k l m v never = record {
   within = l;
   allowed = m;
@@ -157,7 +164,8 @@ longest_at limits bytes k l m v never = record {
 }
 
 stop_viable : (limits : Allowed) (bytes : List ℕ) (place : ℕ) → Stops limits bytes place → IsViableWithin limits.depth (take place bytes)
-stop_viable limits bytes place s = let f = fronts limits bytes place s in let P : List ℕ → Type 0 = λ xs. IsViableWithin limits.depth xs in subst P (sym f.before) s.viable
+stop_viable limits bytes place s = let f = fronts limits bytes place s in let P : List ℕ → Type 0 =
+    λ xs. IsViableWithin limits.depth xs in subst P (sym f.before) s.viable
 
 -- a refusal is at the end of the longest viable front
 pub refused_longest : (limits : Allowed) (bytes : List ℕ) (cause : Cause) (place : ℕ) → RefusedFor cause limits bytes place → IsLongest limits bytes place
@@ -170,7 +178,13 @@ refused_longest limits bytes Depth place r =
     longest_at limits bytes place (omega (arith, f.shorter)) (omega (arith, r.1)) (stop_viable limits bytes place r.0) (rw (f.through) r.3)
 refused_longest limits bytes Length place r =
     let f = fronts limits bytes place r.0 in
-    record { within = omega (arith, f.shorter); allowed = omega (arith, r.1); viable = stop_viable limits bytes place r.0; longest = λ n a b w. omega (arith, r.1) }
+    record {
+      within = omega (arith, f.shorter);
+      allowed = omega (arith, r.1);
+      viable = stop_viable limits bytes place r.0;
+      longest =
+          λ n a b w. omega (arith, r.1);
+    }
 refused_longest limits bytes Truncated place r = record {
   within = omega (arith, r.0);
   allowed = r.1;
@@ -192,7 +206,8 @@ module _ (limits : Allowed) (bytes : List ℕ) (k : ℕ) (h : IsLongest limits b
     λ r. let f = fronts limits bytes k r.0 in (omega (arith, r.1), f.shorter, rw (f.through) r.2),
     λ r. let s = stops limits bytes k r.1 h.viable in
         let f = fronts limits bytes k s in
-        let never : IsViableWithin limits.depth (take (k + 1) bytes) → ⊥ = λ v. omega (arith, h.allowed, r.0, h.longest (k + 1) (omega (arith, r.1)) (omega (arith, h.allowed, r.0)) v) in
+        let never : IsViableWithin limits.depth (take (k + 1) bytes) → ⊥ =
+        λ v. omega (arith, h.allowed, r.0, h.longest (k + 1) (omega (arith, r.1)) (omega (arith, h.allowed, r.0)) v) in
         (s, omega (arith, h.allowed, r.0), rw (← f.through) r.2, rw (← f.through) never),
   )
 
@@ -212,7 +227,8 @@ module _ (limits : Allowed) (bytes : List ℕ) (k : ℕ) (h : IsLongest limits b
 
   whole_admitted : (text : Text) → IsAdmitted limits text bytes → k ≡ length bytes
   whole_admitted text a =
-      let v : IsViableWithin limits.depth (take (length bytes) bytes) = (let P : List ℕ → Type 0 = λ xs. IsViableWithin limits.depth xs in subst P (sym (take_all (length bytes) bytes (omega arith)))
+      let v : IsViableWithin limits.depth (take (length bytes) bytes) =
+      (let P : List ℕ → Type 0 = λ xs. IsViableWithin limits.depth xs in subst P (sym (take_all (length bytes) bytes (omega arith)))
       ([], text, (let e : bytes ≡ bytes ++ [] = simp append-nil in let P : List ℕ → Type 0 = λ xs. IsTextWithin limits.depth text xs in subst P e a.0))) in
       omega (arith, h.within, h.longest (length bytes) (omega arith) a.1 v)
 
@@ -230,7 +246,8 @@ module _ (limits : Allowed) (bytes : List ℕ) (k : ℕ) (h : IsLongest limits b
 
 -- ---- one refusal or an admitted text
 
-same_cause : (limits : Allowed) (bytes : List ℕ) (k : ℕ) → IsToldBy limits bytes k → (c d : Cause) → RefusedFor c limits bytes k → RefusedFor d limits bytes k → c ≡ d
+same_cause : (limits : Allowed) (bytes : List ℕ) (k : ℕ) → IsToldBy limits bytes k → (c d : Cause) → RefusedFor c limits bytes k → RefusedFor d limits bytes k
+    → c ≡ d
 same_cause limits bytes k t Length Length a b = refl
 same_cause limits bytes k t Length Depth a b = absurd ((t.too_deep.0 b).0 (t.too_long.0 a).0)
 same_cause limits bytes k t Length Syntax a b = absurd ((t.wrong.0 b).0 (t.too_long.0 a).0)
@@ -260,17 +277,24 @@ one_refusal limits bytes first second a b =
     let f : first.cause ≡ second.cause = same_cause limits bytes first.place t first.cause second.cause a (subst P e b) in
     ap (λ p. fault_at p first.cause) (sym e) ∙ ap (λ c. fault_at second.place c) f
 
-pub refused_or_admitted : (limits : Allowed) (bytes : List ℕ) → ((fault : JsonFault) × IsRefusal limits bytes fault) ⊎ ((text : Text) × IsAdmitted limits text bytes)
+pub refused_or_admitted : (limits : Allowed) (bytes : List ℕ) → ((fault : JsonFault) × IsRefusal limits bytes fault)
+    ⊎ ((text : Text) × IsAdmitted limits text bytes)
 refused_or_admitted limits bytes = go (some_longest limits bytes)
   where
     go : ((k : ℕ) × IsLongest limits bytes k) → ((fault : JsonFault) × IsRefusal limits bytes fault) ⊎ ((text : Text) × IsAdmitted limits text bytes)
     go l =
         let t = told_by limits bytes l.0 l.1 in
         elim (leb_tells (length bytes) l.0) [
-          | inl whole ↦ (let e : l.0 ≡ length bytes = omega (arith, whole.1, l.1.within) in elim (text_or_not bytes) [ inl text ↦ inr (t.admitted.1 (e, text)) | inr never ↦ inl (record { place = l.0; cause = Truncated }, t.cut_off.1 (e, never)) ])
+          | inl whole ↦ (let e : l.0 ≡ length bytes = omega (arith, whole.1, l.1.within) in
+              elim (text_or_not bytes)
+              [ inl text ↦ inr (t.admitted.1 (e, text)) | inr never ↦ inl (record { place = l.0; cause = Truncated }, t.cut_off.1 (e, never)) ])
           | inr more ↦ elim (eqb_tells l.0 limits.bytes) [
             | inl e ↦ inl (record { place = l.0; cause = Length }, t.too_long.1 (e.1, more.1))
-            | inr e ↦ elim (any_viable_or_not (take (l.0 + 1) bytes)) [ inl v ↦ inl (record { place = l.0; cause = Depth }, t.too_deep.1 (e.1, more.1, v)) | inr never ↦ inl (record { place = l.0; cause = Syntax }, t.wrong.1 (e.1, more.1, never)) ]
+            | inr e ↦ elim (any_viable_or_not (take (l.0 + 1) bytes)) [
+              | inl v ↦ inl (record { place = l.0; cause = Depth }, t.too_deep.1 (e.1, more.1, v))
+              | inr never ↦ inl
+                  (record { place = l.0; cause = Syntax }, t.wrong.1 (e.1, more.1, never))
+            ]
           ]
         ]
 
@@ -280,7 +304,8 @@ never_both limits bytes fault text r a =
     let g = t.admitted.0 (text, a) in
     go fault.cause t g r
   where
-    go : (c : Cause) → IsToldBy limits bytes fault.place → (fault.place ≡ length bytes) × ((text : Text) × IsText text bytes) → RefusedFor c limits bytes fault.place → ⊥
+    go : (c : Cause) → IsToldBy limits bytes fault.place → (fault.place ≡ length bytes) × ((text : Text) × IsText text bytes)
+        → RefusedFor c limits bytes fault.place → ⊥
     go Length t g r = omega (arith, g.0, (t.too_long.0 r).1)
     go Depth t g r = omega (arith, g.0, (t.too_deep.0 r).1)
     go Syntax t g r = omega (arith, g.0, (t.wrong.0 r).1)

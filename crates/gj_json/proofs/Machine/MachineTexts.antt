@@ -11,19 +11,23 @@ use Rattle.gj_json.proofs.Machine.StepsOfCompletions.{forward}
 use Rattle.gj_json.proofs.Machine.CompletionsOfSteps.{backward}
 use Rattle.gj_json.proofs.Machine.CompletedEnds.{finish_iff}
 
-pub through : (bytes rest : List ℕ) (T : Text) (s : Broken) (n : ℕ) → TextFrom T n (bytes ++ rest) s → Goes (TextFrom T (n + length bytes) rest) (run_from (Some s) n bytes)
+pub through : (bytes rest : List ℕ) (T : Text) (s : Broken) (n : ℕ) → TextFrom T n (bytes ++ rest) s
+    → Goes (TextFrom T (n + length bytes) rest) (run_from (Some s) n bytes)
 through [] rest T s n h = SpelledForms.moved (λ m bs. TextFrom T m bs s) (omega arith) refl h
 through (b ∷ bytes) rest T s n h = go (λ t k. through bytes rest T t (n + 1) k) (step s n b) (forward s T n b (bytes ++ rest) h)
   where
-    go : ((t : Broken) → TextFrom T (n + 1) (bytes ++ rest) t → Goes (TextFrom T (n + 1 + length bytes) rest) (run_from (Some t) (n + 1) bytes)) → (o : Option Broken) → Goes (TextFrom T (n + 1) (bytes ++ rest)) o → Goes (TextFrom T (n + length (b ∷ bytes)) rest) (run_from o (n + 1) bytes)
+    go : ((t : Broken) → TextFrom T (n + 1) (bytes ++ rest) t → Goes (TextFrom T (n + 1 + length bytes) rest) (run_from (Some t) (n + 1) bytes))
+        → (o : Option Broken) → Goes (TextFrom T (n + 1) (bytes ++ rest)) o → Goes (TextFrom T (n + length (b ∷ bytes)) rest) (run_from o (n + 1) bytes)
     go ih None k = absurd k
     go ih (Some t) k = let e : n + 1 + length bytes ≡ n + length (b ∷ bytes) = omega arith in rw (← e) (ih t k)
 
-pub back : (bytes rest : List ℕ) (T : Text) (s : Broken) (n : ℕ) → Goes (TextFrom T (n + length bytes) rest) (run_from (Some s) n bytes) → TextFrom T n (bytes ++ rest) s
+pub back : (bytes rest : List ℕ) (T : Text) (s : Broken) (n : ℕ) → Goes (TextFrom T (n + length bytes) rest) (run_from (Some s) n bytes)
+    → TextFrom T n (bytes ++ rest) s
 back [] rest T s n h = SpelledForms.moved (λ m bs. TextFrom T m bs s) (omega arith) refl h
 back (b ∷ bytes) rest T s n h = backward s T n b (bytes ++ rest) (go (λ t k. back bytes rest T t (n + 1) k) (step s n b) h)
   where
-    go : ((t : Broken) → Goes (TextFrom T (n + 1 + length bytes) rest) (run_from (Some t) (n + 1) bytes) → TextFrom T (n + 1) (bytes ++ rest) t) → (o : Option Broken) → Goes (TextFrom T (n + length (b ∷ bytes)) rest) (run_from o (n + 1) bytes) → Goes (TextFrom T (n + 1) (bytes ++ rest)) o
+    go : ((t : Broken) → Goes (TextFrom T (n + 1 + length bytes) rest) (run_from (Some t) (n + 1) bytes) → TextFrom T (n + 1) (bytes ++ rest) t)
+        → (o : Option Broken) → Goes (TextFrom T (n + length (b ∷ bytes)) rest) (run_from o (n + 1) bytes) → Goes (TextFrom T (n + 1) (bytes ++ rest)) o
     go ih None k = none bytes k
       where
         none : (bs : List ℕ) → Goes (TextFrom T (n + length (b ∷ bytes)) rest) (run_from None (n + 1) bs) → ⊥
@@ -33,7 +37,9 @@ back (b ∷ bytes) rest T s n h = backward s T n b (bytes ++ rest) (go (λ t k. 
 
 -- a text, and what the machine is to complete from its start
 pub text_start : (T : Text) (bytes : List ℕ) → IsText T bytes → TextFrom T 0 bytes text_due
-text_start T bytes h = SpelledForms.then_map {A = SpellsMark T.marked} {B = Then White (Then (Spells T.value) White)} {C = Due [] T.value} (λ m r k. (T.value, SpelledForms.behind (λ p q w. (w, refl)) k)) h
+text_start T bytes h =
+    SpelledForms.then_map {A = SpellsMark T.marked} {B = Then White (Then (Spells T.value) White)} {C = Due [] T.value}
+    (λ m r k. (T.value, SpelledForms.behind (λ p q w. (w, refl)) k)) h
 
 pub start_text : (T : Text) (bytes : List ℕ) → TextFrom T 0 bytes text_due → IsText T bytes
 start_text T bytes h =

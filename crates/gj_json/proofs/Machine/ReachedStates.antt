@@ -42,13 +42,15 @@ pub record IsReached (state : Broken) (n : ℕ) : Type 0 where
 abbrev Next : Broken → ℕ → Type 0
 Next next depth = (mode : Mode) × (levels : List Level) × StandsAs next mode levels × ((more : ℕ) → FitsBroken (depth + more) next)
 
-moved : (levels : List Level) (move : Move) (next : Broken) (depth : ℕ) → length levels + 1 ≤ depth → ((more : ℕ) → Follows (depth + more) levels move (Some next)) → Next next depth
+moved : (levels : List Level) (move : Move) (next : Broken) (depth : ℕ) → length levels + 1 ≤ depth
+    → ((more : ℕ) → Follows (depth + more) levels move (Some next)) → Next next depth
 moved levels Refuse next depth l h = let e : Some next ≡ None = h 0 in cc
 moved levels (Go mode ending) next depth l h = (mode, levels, (h 0).0, λ more. (h more).1)
 moved levels (Open level) next depth l h = (opened level, level ∷ levels, (h 0).0, λ more. (h more).1 (omega arith))
 moved levels (Close level) next depth l h = (ValueDone, outer_of levels, (h 0).0, λ more. (h more).1)
 
-seen_few : (n : ℕ) (s next : Broken) (es : List Event) → length (seen s) ≤ 2 * n → length es ≤ 2 → seen next ≡ seen s ++ all_at (n + 1) es → length (seen next) ≤ 2 * (n + 1)
+seen_few : (n : ℕ) (s next : Broken) (es : List Event) → length (seen s) ≤ 2 * n → length es ≤ 2 → seen next ≡ seen s ++ all_at (n + 1) es
+    → length (seen next) ≤ 2 * (n + 1)
 seen_few n s next es h k e = omega (arith, ap length e, length-append (seen s) (all_at (n + 1) es), length-all_at (n + 1) es)
 
 reached_on : (s next : Broken) (n b : ℕ) → IsReached s n → step s n b ≡ Some next → IsReached next (n + 1)
@@ -67,7 +69,9 @@ reached_on s next n b k e =
     let g = moved k.levels (move_of k.mode turn (inner_of k.levels) words b) next deep (omega arith) follows in
     let es = emitted k.mode turn (move_of k.mode turn (inner_of k.levels) words b) value k.start n in
     let T : Option Broken → Type 0 = λ o. Tells (seen s) (start_after k.mode k.start n) n es o in
-    let t : T (Some next) = subst T e (step_tells value words s k.mode turn k.levels k.start n b k.kept turns (own_has (under_of s) turn) (own_has_words (under_of s)) k.timely.edge) in
+    let t : T (Some next) =
+    subst T e (step_tells value words s k.mode turn k.levels k.start n b k.kept turns (own_has (under_of s) turn)
+    (own_has_words (under_of s)) k.timely.edge) in
     record {
       mode = g.0;
       levels = g.1;
@@ -88,7 +92,8 @@ reached_from [] s last n k e =
     subst R (omega arith) (subst Q f k)
 reached_from (b ∷ bytes) s last n k e = go (λ next f i. reached_from bytes next last (n + 1) (reached_on s next n b k f) i) (step s n b) refl e
   where
-    go : ((next : Broken) → step s n b ≡ Some next → run_from (Some next) (n + 1) bytes ≡ Some last → IsReached last (n + 1 + length bytes)) → (o : Option Broken) → step s n b ≡ o → run_from o (n + 1) bytes ≡ Some last → IsReached last (n + length (b ∷ bytes))
+    go : ((next : Broken) → step s n b ≡ Some next → run_from (Some next) (n + 1) bytes ≡ Some last → IsReached last (n + 1 + length bytes))
+        → (o : Option Broken) → step s n b ≡ o → run_from o (n + 1) bytes ≡ Some last → IsReached last (n + length (b ∷ bytes))
     go ih None f e = let g : None ≡ Some last = sym (run_none bytes (n + 1)) ∙ e in cc
     go ih (Some next) f e = let R : ℕ → Type 0 = λ m. IsReached last m in subst R (omega arith) (ih next f e)
 
@@ -120,5 +125,6 @@ alike bytes more other T U h k = go (run bytes) refl (text_goes_on T bytes more 
     go (Some s) e a b =
         let r = reached bytes s e in (
           events_seen s T (length bytes) r.start more r.timely a ∙ sym (events_seen s U (length bytes) r.start other r.timely b),
-          sym (open_levels s r.mode r.levels T (length bytes) r.start more r.kept r.timely a) ∙ open_levels s r.mode r.levels U (length bytes) r.start other r.kept r.timely b,
+          sym (open_levels s r.mode r.levels T (length bytes) r.start more r.kept r.timely a)
+              ∙ open_levels s r.mode r.levels U (length bytes) r.start other r.kept r.timely b,
         )

@@ -2,7 +2,8 @@
 use Rattle.std.proofs.Common.{ℕ, ◌+◌, ◌≤◌, List, [], ◌∷◌, length, arith}
 use Rattle.std.specs.List.{AllByRecursion}
 use Rattle.gj_json.specs.Tree.{Tree, depth}
-use Rattle.gj_json.specs.Internal.TextMachine.{Broken, text_due, mark_one, mark_two, begun, Frame, Leaf, in_array, in_object, Member, value_due, value_done, array_opened, object_opened, constant_on, number_on, string_on, name_due, name_on, colon_due}
+use Rattle.gj_json.specs.Internal.TextMachine.{Broken, text_due, mark_one, mark_two, begun, Frame, Leaf, in_array, in_object, Member, value_due, value_done}
+use Rattle.gj_json.specs.Internal.TextMachine.{array_opened, object_opened, constant_on, number_on, string_on, name_due, name_on, colon_due}
 use Rattle.gj_json.specs.Broken.{trees_depth, values_depth, stack_depth, leaf_depth, broken_depth}
 use Rattle.gj_json.specs.Internal.ReaderState.{Fits, FitsName, FitsLeaf, FitsBroken}
 use Rattle.gj_json.proofs.Machine.CompletableStates.{levels_fit}

@@ -4,7 +4,8 @@ use Rattle.std.proofs.lemmas.List.{length-append}
 use Rattle.gj_json.specs.Bytes.{open_bracket, close_bracket, open_brace, close_brace, IsWhite}
 use Rattle.gj_json.specs.Tree.{Tree, constant, number, string, array, object, Elements, end_of_array, element, Members, end_of_object, member}
 use Rattle.gj_json.specs.Grammar.{Then, White, Exactly, Closes, Spells, SpellsElements, SpellsMembers}
-use Rattle.gj_json.specs.Broken.{Member, Frame, in_array, in_object, back_elements, back_members, ElementsSoFar, MembersSoFar, Named, ArrayOpened, ObjectOpened, Opened, Behind}
+use Rattle.gj_json.specs.Broken.{Member, Frame, in_array, in_object, back_elements, back_members, ElementsSoFar, MembersSoFar, Named, ArrayOpened, ObjectOpened}
+use Rattle.gj_json.specs.Broken.{Opened, Behind}
 use Rattle.gj_json.proofs.Grammar.SpelledForms
 
 -- ---- what stands at the end of a form
@@ -17,28 +18,36 @@ pub then_adds : {A K L : ℕ → List ℕ → Type 0} {n : ℕ} {tail : List ℕ
 then_adds {A} {K} {L} {n} {tail} a = record {
   on = λ m bytes e h.
       let l : length bytes ≡ length (h.first ++ h.rest) = ap length h.joined in
-      SpelledForms.joins h.first (h.rest ++ tail) (ap (λ xs. xs ++ tail) h.joined ∙ append_assoc h.first h.rest tail) h.before (a.on (m + length h.first) h.rest (omega (arith, length-append h.first h.rest)) h.after);
+      SpelledForms.joins h.first (h.rest ++ tail) (ap (λ xs. xs ++ tail) h.joined ∙ append_assoc h.first h.rest tail) h.before
+      (a.on (m + length h.first) h.rest (omega (arith, length-append h.first h.rest)) h.after);
 }
 
-elements_add : {n : ℕ} {tail : List ℕ} (done : List Tree) {K L : ℕ → List ℕ → Type 0} → Adds n tail K L → Adds n tail (ElementsSoFar done K) (ElementsSoFar done L)
+elements_add : {n : ℕ} {tail : List ℕ} (done : List Tree) {K L : ℕ → List ℕ → Type 0} → Adds n tail K L
+    → Adds n tail (ElementsSoFar done K) (ElementsSoFar done L)
 elements_add [] a = a
 elements_add (t ∷ done) a = elements_add done (then_adds (then_adds (then_adds (then_adds a))))
 
-pub named_adds : {K L : ℕ → List ℕ → Type 0} {n : ℕ} {tail : List ℕ} (place : ℕ) (name : List ℕ) (end : ℕ) → Adds n tail K L → Adds n tail (Named place name end K) (Named place name end L)
+pub named_adds : {K L : ℕ → List ℕ → Type 0} {n : ℕ} {tail : List ℕ} (place : ℕ) (name : List ℕ) (end : ℕ) → Adds n tail K L
+    → Adds n tail (Named place name end K) (Named place name end L)
 named_adds place name end a = then_adds (then_adds (then_adds (then_adds a)))
 
-members_add : {n : ℕ} {tail : List ℕ} (done : List Member) {K L : ℕ → List ℕ → Type 0} → Adds n tail K L → Adds n tail (MembersSoFar done K) (MembersSoFar done L)
+members_add : {n : ℕ} {tail : List ℕ} (done : List Member) {K L : ℕ → List ℕ → Type 0} → Adds n tail K L
+    → Adds n tail (MembersSoFar done K) (MembersSoFar done L)
 members_add [] a = a
 members_add (m ∷ done) a = members_add done (named_adds m.place m.name m.end (then_adds (then_adds (then_adds (then_adds a)))))
 
-pub array_adds : {K L : ℕ → List ℕ → Type 0} {n : ℕ} {tail : List ℕ} (place : ℕ) (done : List Tree) → Adds n tail K L → Adds n tail (ArrayOpened place done K) (ArrayOpened place done L)
+pub array_adds : {K L : ℕ → List ℕ → Type 0} {n : ℕ} {tail : List ℕ} (place : ℕ) (done : List Tree) → Adds n tail K L
+    → Adds n tail (ArrayOpened place done K) (ArrayOpened place done L)
 array_adds {K} {L} {n} {tail} place done a =
-    let g : Adds n tail (Then (Exactly (open_bracket ∷ [])) (ElementsSoFar done K)) (Then (Exactly (open_bracket ∷ [])) (ElementsSoFar done L)) = then_adds (elements_add done a) in
+    let g : Adds n tail (Then (Exactly (open_bracket ∷ [])) (ElementsSoFar done K)) (Then (Exactly (open_bracket ∷ [])) (ElementsSoFar done L)) =
+    then_adds (elements_add done a) in
     record { on = λ m bytes e h. (h.0, g.on m bytes e h.1) }
 
-pub object_adds : {K L : ℕ → List ℕ → Type 0} {n : ℕ} {tail : List ℕ} (place : ℕ) (done : List Member) → Adds n tail K L → Adds n tail (ObjectOpened place done K) (ObjectOpened place done L)
+pub object_adds : {K L : ℕ → List ℕ → Type 0} {n : ℕ} {tail : List ℕ} (place : ℕ) (done : List Member) → Adds n tail K L
+    → Adds n tail (ObjectOpened place done K) (ObjectOpened place done L)
 object_adds {K} {L} {n} {tail} place done a =
-    let g : Adds n tail (Then (Exactly (open_brace ∷ [])) (MembersSoFar done K)) (Then (Exactly (open_brace ∷ [])) (MembersSoFar done L)) = then_adds (members_add done a) in
+    let g : Adds n tail (Then (Exactly (open_brace ∷ [])) (MembersSoFar done K)) (Then (Exactly (open_brace ∷ [])) (MembersSoFar done L)) =
+    then_adds (members_add done a) in
     record { on = λ m bytes e h. (h.0, g.on m bytes e h.1) }
 
 pub opened_adds : {n : ℕ} {tail : List ℕ} (stack : List Frame) {K L : ℕ → List ℕ → Type 0} → Adds n tail K L → Adds n tail (Opened stack K) (Opened stack L)
@@ -87,14 +96,18 @@ behind_adds (object place members close) w = white_adds w
 
 -- ---- what has ended in a container, and what comes last
 
-gathered : (done : List Tree) (v : Tree) (more : Elements) (close m : ℕ) (bytes : List ℕ) → ElementsSoFar done (Then White (SpellsElements (element v more) close)) m bytes → Then White (SpellsElements (back_elements done (element v more)) close) m bytes
+gathered : (done : List Tree) (v : Tree) (more : Elements) (close m : ℕ) (bytes : List ℕ)
+    → ElementsSoFar done (Then White (SpellsElements (element v more) close)) m bytes
+    → Then White (SpellsElements (back_elements done (element v more)) close) m bytes
 gathered [] v more close m bytes h = h
 gathered (t ∷ done) v more close m bytes h = gathered done t (element v more) close m bytes h
 
-gathered_members : (done : List Member) (place : ℕ) (name : List ℕ) (end : ℕ) (v : Tree) (more : Members) (close m : ℕ) (bytes : List ℕ) → MembersSoFar done (Then White (SpellsMembers (member place name end v more) close)) m bytes
+gathered_members : (done : List Member) (place : ℕ) (name : List ℕ) (end : ℕ) (v : Tree) (more : Members) (close m : ℕ) (bytes : List ℕ)
+    → MembersSoFar done (Then White (SpellsMembers (member place name end v more) close)) m bytes
     → Then White (SpellsMembers (back_members done (member place name end v more)) close) m bytes
 gathered_members [] place name end v more close m bytes h = h
-gathered_members (d ∷ done) place name end v more close m bytes h = gathered_members done d.place d.name d.end d.value (member place name end v more) close m bytes h
+gathered_members (d ∷ done) place name end v more close m bytes h =
+    gathered_members done d.place d.name d.end d.value (member place name end v more) close m bytes h
 
 closes : {n b a : ℕ} → b ≡ a → Closes a n n (b ∷ [])
 closes e = (ap (λ x. x ∷ []) e, refl)
@@ -102,31 +115,45 @@ closes e = (ap (λ x. x ∷ []) e, refl)
 pub array_closes : {n b : ℕ} (place : ℕ) (done : List Tree) (t : Tree) → b ≡ close_bracket
     → Adds n (b ∷ []) (ArrayOpened place done (Then White (Then (Spells t) White))) (Spells (array place (back_elements done (element t end_of_array)) n))
 array_closes {n} {b} place done t w =
-    let last : Adds n (b ∷ []) (Then White (Then (Spells t) White)) (Then White (Then (Spells t) (Then White (Closes close_bracket n)))) = then_adds (then_adds (follows (closes w))) in
-    let g : Adds n (b ∷ []) (ArrayOpened place done (Then White (Then (Spells t) White))) (ArrayOpened place done (Then White (SpellsElements (element t end_of_array) n))) = array_adds place done last in
+    let last : Adds n (b ∷ []) (Then White (Then (Spells t) White)) (Then White (Then (Spells t) (Then White (Closes close_bracket n)))) =
+    then_adds (then_adds (follows (closes w))) in
+    let g : Adds n (b ∷ []) (ArrayOpened place done (Then White (Then (Spells t) White)))
+    (ArrayOpened place done (Then White (SpellsElements (element t end_of_array) n))) = array_adds place done last in
     record {
       on = λ m bytes e h.
-          let k = g.on m bytes e h in
-          (k.0, SpelledForms.then_map {C = Then White (SpellsElements (back_elements done (element t end_of_array)) n)} (λ p xs j. gathered done t end_of_array n p xs j) k.1);
+          let k = g.on m bytes e h in (
+            k.0,
+            SpelledForms.then_map {C = Then White (SpellsElements (back_elements done (element t end_of_array)) n)}
+                (λ p xs j. gathered done t end_of_array n p xs j) k.1,
+          );
     }
 
 pub object_closes : {n b : ℕ} (place : ℕ) (done : List Member) (np : ℕ) (name : List ℕ) (ne : ℕ) (t : Tree) → b ≡ close_brace
-    → Adds n (b ∷ []) (ObjectOpened place done (Named np name ne (Then White (Then (Spells t) White)))) (Spells (object place (back_members done (member np name ne t end_of_object)) n))
+    → Adds n (b ∷ []) (ObjectOpened place done (Named np name ne (Then White (Then (Spells t) White))))
+    (Spells (object place (back_members done (member np name ne t end_of_object)) n))
 object_closes {n} {b} place done np name ne t w =
-    let last : Adds n (b ∷ []) (Named np name ne (Then White (Then (Spells t) White))) (Named np name ne (Then White (Then (Spells t) (Then White (Closes close_brace n))))) = named_adds np name ne (then_adds (then_adds (follows (closes w)))) in
-    let g : Adds n (b ∷ []) (ObjectOpened place done (Named np name ne (Then White (Then (Spells t) White)))) (ObjectOpened place done (Then White (SpellsMembers (member np name ne t end_of_object) n))) = object_adds place done last in
+    let last : Adds n (b ∷ []) (Named np name ne (Then White (Then (Spells t) White)))
+    (Named np name ne (Then White (Then (Spells t) (Then White (Closes close_brace n))))) =
+    named_adds np name ne (then_adds (then_adds (follows (closes w)))) in
+    let g : Adds n (b ∷ []) (ObjectOpened place done (Named np name ne (Then White (Then (Spells t) White))))
+    (ObjectOpened place done (Then White (SpellsMembers (member np name ne t end_of_object) n))) = object_adds place done last in
     record {
       on = λ m bytes e h.
-          let k = g.on m bytes e h in
-          (k.0, SpelledForms.then_map {C = Then White (SpellsMembers (back_members done (member np name ne t end_of_object)) n)} (λ p xs j. gathered_members done np name ne t end_of_object n p xs j) k.1);
+          let k = g.on m bytes e h in (
+            k.0,
+            SpelledForms.then_map {C = Then White (SpellsMembers (back_members done (member np name ne t end_of_object)) n)}
+                (λ p xs j. gathered_members done np name ne t end_of_object n p xs j) k.1,
+          );
     }
 
 pub empty_array : {n b : ℕ} (place : ℕ) → b ≡ close_bracket → Adds n (b ∷ []) (ArrayOpened place [] White) (Spells (array place end_of_array n))
 empty_array {n} {b} place w =
-    let g : Adds n (b ∷ []) (ArrayOpened place [] White) (ArrayOpened place [] (Then White (Closes close_bracket n))) = array_adds place [] (follows (closes w)) in
+    let g : Adds n (b ∷ []) (ArrayOpened place [] White) (ArrayOpened place [] (Then White (Closes close_bracket n))) =
+    array_adds place [] (follows (closes w)) in
     record { on = λ m bytes e h. g.on m bytes e h }
 
 pub empty_object : {n b : ℕ} (place : ℕ) → b ≡ close_brace → Adds n (b ∷ []) (ObjectOpened place [] White) (Spells (object place end_of_object n))
 empty_object {n} {b} place w =
-    let g : Adds n (b ∷ []) (ObjectOpened place [] White) (ObjectOpened place [] (Then White (Closes close_brace n))) = object_adds place [] (follows (closes w)) in
+    let g : Adds n (b ∷ []) (ObjectOpened place [] White) (ObjectOpened place [] (Then White (Closes close_brace n))) =
+    object_adds place [] (follows (closes w)) in
     record { on = λ m bytes e h. g.on m bytes e h }

@@ -9,7 +9,8 @@ use Rattle.gj_json.specs.Internal.ByteClasses.{class_of}
 use Rattle.gj_number.specs.Grammar.{IsNumber}
 use Rattle.gj_number.specs.DecidedNumbers.{begins_number}
 use Rattle.gj_number.proofs.Grammar.DecidedNumbers.{number as decided_number}
-use Rattle.gj_json.specs.Broken.{Member, Frame, in_array, in_object, Leaf, value_due, value_done, array_opened, object_opened, number_on, name_due, colon_due, Partial, Broken, begun}
+use Rattle.gj_json.specs.Broken.{Member, Frame, in_array, in_object, Leaf, value_due, value_done, array_opened, object_opened, number_on, name_due, colon_due}
+use Rattle.gj_json.specs.Broken.{Partial, Broken, begun}
 use Rattle.gj_json.specs.Internal.TextMachine.{with_mark, begin_value, after_value, step_value_due, step_array_opened, step_leaf, run_from, step, to}
 use Rattle.gj_json.proofs.Grammar.ClassOfBytes.{class_is}
 use Rattle.gj_json.proofs.Grammar.SpelledForms
@@ -29,7 +30,8 @@ leads_none s n = record { goes = λ marked. refl }
 
 pub leads_byte : {s t u : Partial} {n b : ℕ} {bytes : List ℕ} → step_leaf s.stack s.leaf n b ≡ Some t → Leads t (n + 1) bytes u → Leads s n (b ∷ bytes) u
 leads_byte {s} {t} {u} {n} {b} {bytes} e l = record {
-  goes = λ marked. (let P : Option Partial → Type 0 = λ o. run_from (with_mark marked o) (n + 1) bytes ≡ Some (begun marked u) in subst P (sym e) (l.goes marked));
+  goes = λ marked. (let P : Option Partial → Type 0 =
+      λ o. run_from (with_mark marked o) (n + 1) bytes ≡ Some (begun marked u) in subst P (sym e) (l.goes marked));
 }
 
 pub run_from-append : (xs ys : List ℕ) (o : Option Broken) (n : ℕ) → run_from o n (xs ++ ys) ≡ run_from (run_from o n xs) (n + length xs) ys
@@ -40,26 +42,32 @@ run_from-append (x ∷ xs) ys (Some s) n =
     let o = step s n x in
     run_from-append xs ys o (n + 1) ∙ ap (λ m. run_from (run_from o (n + 1) xs) m ys) e
 
-pub leads_on : {s t u : Partial} {n : ℕ} {bytes : List ℕ} (first rest : List ℕ) → bytes ≡ first ++ rest → Leads s n first t → Leads t (n + length first) rest u → Leads s n bytes u
+pub leads_on : {s t u : Partial} {n : ℕ} {bytes : List ℕ} (first rest : List ℕ) → bytes ≡ first ++ rest → Leads s n first t → Leads t (n + length first) rest u
+    → Leads s n bytes u
 leads_on {s} {t} {u} {n} {bytes} first rest e k l = record {
   goes = λ marked.
-      ap (λ xs. run_from (Some (begun marked s)) n xs) e ∙ run_from-append first rest (Some (begun marked s)) n ∙ ap (λ o. run_from o (n + length first) rest) (k.goes marked) ∙ l.goes marked;
+      ap (λ xs. run_from (Some (begun marked s)) n xs) e ∙ run_from-append first rest (Some (begun marked s)) n
+      ∙ ap (λ o. run_from o (n + length first) rest) (k.goes marked) ∙ l.goes marked;
 }
 
 -- one form, and behind it another
-pub then_leads : {A K : ℕ → List ℕ → Type 0} {s t u : Partial} {n : ℕ} {bytes : List ℕ} → (h : Then A K n bytes) → Leads s n h.first t → Leads t (n + length h.first) h.rest u → Leads s n bytes u
+pub then_leads : {A K : ℕ → List ℕ → Type 0} {s t u : Partial} {n : ℕ} {bytes : List ℕ} → (h : Then A K n bytes) → Leads s n h.first t
+    → Leads t (n + length h.first) h.rest u → Leads s n bytes u
 then_leads h k l = leads_on h.first h.rest h.joined k l
 
 -- one byte, and behind it another form
-pub byte_leads : {K : ℕ → List ℕ → Type 0} {s t u : Partial} {n a : ℕ} {bytes : List ℕ} → (h : Then (Exactly (a ∷ [])) K n bytes) → step_leaf s.stack s.leaf n a ≡ Some t → ((rest : List ℕ) → K (n + 1) rest → Leads t (n + 1) rest u) → Leads s n bytes u
+pub byte_leads : {K : ℕ → List ℕ → Type 0} {s t u : Partial} {n a : ℕ} {bytes : List ℕ} → (h : Then (Exactly (a ∷ [])) K n bytes)
+    → step_leaf s.stack s.leaf n a ≡ Some t → ((rest : List ℕ) → K (n + 1) rest → Leads t (n + 1) rest u) → Leads s n bytes u
 byte_leads {K} {s} {t} {u} {n} {a} {bytes} h e k =
     let f : h.first ≡ a ∷ [] = h.before in
     let l : length h.first ≡ 1 = ap length f in
-    leads_on (a ∷ []) h.rest (h.joined ∙ ap (λ xs. xs ++ h.rest) f) (leads_byte e (leads_none t (n + 1))) (k h.rest (SpelledForms.moved K (omega (arith, l)) refl h.after))
+    leads_on (a ∷ []) h.rest (h.joined ∙ ap (λ xs. xs ++ h.rest) f) (leads_byte e (leads_none t (n + 1)))
+    (k h.rest (SpelledForms.moved K (omega (arith, l)) refl h.after))
 
 -- ---- white space
 
-pub white_leads : (s : Partial) (stays : (n b : ℕ) → IsWhite b → step_leaf s.stack s.leaf n b ≡ Some s) (bytes : List ℕ) (n : ℕ) → White n bytes → Leads s n bytes s
+pub white_leads : (s : Partial) (stays : (n b : ℕ) → IsWhite b → step_leaf s.stack s.leaf n b ≡ Some s) (bytes : List ℕ) (n : ℕ) → White n bytes
+    → Leads s n bytes s
 white_leads s stays [] n w = leads_none s n
 white_leads s stays (b ∷ bytes) n w = leads_byte (stays n b w.0) (white_leads s stays bytes (n + 1) w.1)
 
@@ -75,10 +83,12 @@ array_white stack place n b w = rw (is_white b w) refl
 pub object_white : (stack : List Frame) (place n b : ℕ) → IsWhite b → step_leaf stack (object_opened place) n b ≡ to stack (object_opened place)
 object_white stack place n b w = rw (is_white b w) refl
 
-pub name_white : (stack : List Frame) (place : ℕ) (done : List Member) (n b : ℕ) → IsWhite b → step_leaf stack (name_due place done) n b ≡ to stack (name_due place done)
+pub name_white : (stack : List Frame) (place : ℕ) (done : List Member) (n b : ℕ) → IsWhite b
+    → step_leaf stack (name_due place done) n b ≡ to stack (name_due place done)
 name_white stack place done n b w = rw (is_white b w) refl
 
-pub colon_white : (stack : List Frame) (place : ℕ) (done : List Member) (np : ℕ) (name : List ℕ) (ne n b : ℕ) → IsWhite b → step_leaf stack (colon_due place done np name ne) n b ≡ to stack (colon_due place done np name ne)
+pub colon_white : (stack : List Frame) (place : ℕ) (done : List Member) (np : ℕ) (name : List ℕ) (ne n b : ℕ) → IsWhite b
+    → step_leaf stack (colon_due place done np name ne) n b ≡ to stack (colon_due place done np name ne)
 colon_white stack place done np name ne n b w = rw (is_white b w) refl
 
 -- ---- where a value may begin
@@ -93,12 +103,14 @@ pub due_begins : (stack : List Frame) (n b : ℕ) (c : Class) (s : Partial) → 
 due_begins stack n b white s e = cc
 due_begins stack n b _ s e = e
 
-pub array_begins : (stack : List Frame) (place n b : ℕ) (c : Class) (s : Partial) → begin_value (in_array place [] ∷ stack) n b c ≡ Some s → step_array_opened stack place n b c ≡ Some s
+pub array_begins : (stack : List Frame) (place n b : ℕ) (c : Class) (s : Partial) → begin_value (in_array place [] ∷ stack) n b c ≡ Some s
+    → step_array_opened stack place n b c ≡ Some s
 array_begins stack place n b white s e = cc
 array_begins stack place n b close_array s e = cc
 array_begins stack place n b _ s e = e
 
-pub begins : (stack : List Frame) (n b : ℕ) (c : Class) (s : Partial) → class_of b ≡ c → begin_value stack n b c ≡ Some s → step_leaf (awaiting stack).stack (awaiting stack).leaf n b ≡ Some s
+pub begins : (stack : List Frame) (n b : ℕ) (c : Class) (s : Partial) → class_of b ≡ c → begin_value stack n b c ≡ Some s
+    → step_leaf (awaiting stack).stack (awaiting stack).leaf n b ≡ Some s
 begins [] n b c s k e = rw k (due_begins [] n b c s e)
 begins (in_array place [] ∷ stack) n b c s k e = rw k (array_begins stack place n b c s e)
 begins (in_array place (t ∷ done) ∷ stack) n b c s k e = rw k (due_begins (in_array place (t ∷ done) ∷ stack) n b c s e)
@@ -107,8 +119,10 @@ begins (in_object place done np name ne ∷ stack) n b c s k e = rw k (due_begin
 pub awaiting_white : (stack : List Frame) (bytes : List ℕ) (n : ℕ) → White n bytes → Leads (awaiting stack) n bytes (awaiting stack)
 awaiting_white [] = white_leads (at [] value_due) (due_white [])
 awaiting_white (in_array place [] ∷ stack) = white_leads (at stack (array_opened place)) (array_white stack place)
-awaiting_white (in_array place (t ∷ done) ∷ stack) = white_leads (at (in_array place (t ∷ done) ∷ stack) value_due) (due_white (in_array place (t ∷ done) ∷ stack))
-awaiting_white (in_object place done np name ne ∷ stack) = white_leads (at (in_object place done np name ne ∷ stack) value_due) (due_white (in_object place done np name ne ∷ stack))
+awaiting_white (in_array place (t ∷ done) ∷ stack) =
+    white_leads (at (in_array place (t ∷ done) ∷ stack) value_due) (due_white (in_array place (t ∷ done) ∷ stack))
+awaiting_white (in_object place done np name ne ∷ stack) =
+    white_leads (at (in_object place done np name ne ∷ stack) value_due) (due_white (in_object place done np name ne ∷ stack))
 
 -- ---- where a value is over
 
@@ -119,7 +133,8 @@ NumberOver t n leaf = (place : ℕ) × (literal : List ℕ) × (leaf ≡ number_
 abbrev pub Over : Tree → ℕ → Leaf → Type 0
 Over t n leaf = (leaf ≡ value_done t) ⊎ NumberOver t n leaf
 
-pub over_steps : (stack : List Frame) (t : Tree) (n : ℕ) (leaf : Leaf) (b : ℕ) (c : Class) (s : Partial) → Over t n leaf → class_of b ≡ c → after_value stack t n c ≡ Some s → step_leaf stack leaf n b ≡ Some s
+pub over_steps : (stack : List Frame) (t : Tree) (n : ℕ) (leaf : Leaf) (b : ℕ) (c : Class) (s : Partial) → Over t n leaf → class_of b ≡ c
+    → after_value stack t n c ≡ Some s → step_leaf stack leaf n b ≡ Some s
 over_steps stack t n leaf b c s (inl e) k h = rw (e, k) h
 over_steps stack t n leaf b c s (inr (place, literal, e, f, i)) k h =
     let j : after_value stack (number place literal n) n c ≡ Some s = rw f at h in
@@ -127,10 +142,14 @@ over_steps stack t n leaf b c s (inr (place, literal, e, f, i)) k h =
     let never : begins_number (literal ++ b ∷ []) ≡ false = no_more (λ x. Unit {0}) stack (number place literal n) n literal b (rw k (subst P (sym j) tt)) in
     rw (e, k, never, (decided_number literal).1 i) j
 
-pub over_done : (stack : List Frame) (t : Tree) (leaf : Leaf) (b : ℕ) (bytes : List ℕ) (n : ℕ) → Over t n leaf → White n (b ∷ bytes) → Leads (at stack leaf) n (b ∷ bytes) (at stack (value_done t))
+pub over_done : (stack : List Frame) (t : Tree) (leaf : Leaf) (b : ℕ) (bytes : List ℕ) (n : ℕ) → Over t n leaf → White n (b ∷ bytes)
+    → Leads (at stack leaf) n (b ∷ bytes) (at stack (value_done t))
 over_done stack t leaf b bytes n o w =
-    leads_byte (over_steps stack t n leaf b white (at stack (value_done t)) o (is_white b w.0) refl) (white_leads (at stack (value_done t)) (λ m c v. over_steps stack t m (value_done t) c white (at stack (value_done t)) (inl refl) (is_white c v) refl) bytes (n + 1) w.1)
+    leads_byte (over_steps stack t n leaf b white (at stack (value_done t)) o (is_white b w.0) refl)
+    (white_leads (at stack (value_done t))
+    (λ m c v. over_steps stack t m (value_done t) c white (at stack (value_done t)) (inl refl) (is_white c v) refl) bytes (n + 1) w.1)
 
-pub over_white : (stack : List Frame) (t : Tree) (leaf : Leaf) (bytes : List ℕ) (n : ℕ) → Over t n leaf → White n bytes → (last : Leaf) × Leads (at stack leaf) n bytes (at stack last) × Over t (n + length bytes) last
+pub over_white : (stack : List Frame) (t : Tree) (leaf : Leaf) (bytes : List ℕ) (n : ℕ) → Over t n leaf → White n bytes → (last : Leaf)
+    × Leads (at stack leaf) n bytes (at stack last) × Over t (n + length bytes) last
 over_white stack t leaf [] n o w = (leaf, leads_none (at stack leaf) n, let P : ℕ → Type 0 = λ m. Over t m leaf in subst P (omega arith) o)
 over_white stack t leaf (b ∷ bytes) n o w = (value_done t, over_done stack t leaf b bytes n o w, inl refl)

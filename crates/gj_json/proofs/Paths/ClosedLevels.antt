@@ -29,7 +29,8 @@ module _ (last around : List PathStep) (is : IsSmall (advanced around) → last 
   abbrev Closes : List Event → Type 0
   Closes es = (k : ℕ) (s : List PathStep) → drop (suc k) s ≡ around → Leaves (suc k) es 0 → Follows last es s
 
-  closed : (es : List Event) → Closes es → (k : ℕ) (s : List PathStep) → drop (suc k) s ≡ around → Leaves (suc k - 1) es 0 → IsSmall (advanced (outer_steps s)) → Follows last es (advanced (outer_steps s))
+  closed : (es : List Event) → Closes es → (k : ℕ) (s : List PathStep) → drop (suc k) s ≡ around → Leaves (suc k - 1) es 0 → IsSmall (advanced (outer_steps s))
+      → Follows last es (advanced (outer_steps s))
   closed [] rest zero s d l room =
       let e : outer_steps s ≡ around = outer_dropped s ∙ d in
       let P : List PathStep → Type 0 = λ t. IsSmall (advanced t) in
@@ -46,7 +47,8 @@ module _ (last around : List PathStep) (is : IsSmall (advanced around) → last 
       let P : ℕ → Type 0 = λ m. Leaves m es 0 in
       rest (suc k) (Index 0 ∷ s) d (subst P n l)
 
-  after : (what : What) (es : List Event) → Closes es → (k : ℕ) (s : List PathStep) → drop (suc k) s ≡ around → Leaves (levels_behind what (suc k)) es 0 → HasRoom what s → Follows last es (followed what s)
+  after : (what : What) (es : List Event) → Closes es → (k : ℕ) (s : List PathStep) → drop (suc k) s ≡ around → Leaves (levels_behind what (suc k)) es 0
+      → HasRoom what s → Follows last es (followed what s)
   after What.OpenArray es rest k s d l room = opened es rest k s d l
   after What.OpenObject es rest k s d l room = opened es rest k s d l
   after What.CloseArray es rest k s d l room = closed es rest k s d l room
@@ -64,6 +66,7 @@ module _ (last around : List PathStep) (is : IsSmall (advanced around) → last 
   closes (e ∷ es) k s d l = after e.what es (closes es) k s d l
 
 -- none of them has to be told
-pub follows_closed : (p closed last : List PathStep) → closed ≡ outer_steps p → (IsSmall (advanced closed) → last ≡ advanced closed) → (t : List PathStep) → p ≡ t → (inner : List Event) → Leaves 1 inner 0 → Follows last inner t
+pub follows_closed : (p closed last : List PathStep) → closed ≡ outer_steps p → (IsSmall (advanced closed) → last ≡ advanced closed) → (t : List PathStep)
+    → p ≡ t → (inner : List Event) → Leaves 1 inner 0 → Follows last inner t
 follows_closed p closed last c a t e inner l =
     closes last closed a inner 0 t (let P : List PathStep → Type 0 = λ s. drop 1 s ≡ closed in subst P e (sym (outer_dropped p) ∙ sym c)) l

@@ -1,5 +1,6 @@
 -- The steps after the events that a state has seen.
-use Rattle.std.proofs.Common.{◌≡◌, ℕ, suc, ◌+◌, ◌^◌, ◌≤◌, ◌<◌, Bool, true, false, List, [], ◌∷◌, ◌++◌, length, Option, Some, None, refl, sym, ap, subst, ◌∙◌, arith, append_assoc}
+use Rattle.std.proofs.Common.{◌≡◌, ℕ, suc, ◌+◌, ◌^◌, ◌≤◌, ◌<◌, Bool, true, false, List, [], ◌∷◌, ◌++◌, length, Option, Some, None, refl, sym, ap, subst, ◌∙◌}
+use Rattle.std.proofs.Common.{arith, append_assoc}
 use Rattle.std.proofs.lemmas.List.{append-nil, length-append, map-append}
 use Rattle.std.specs.List.{AllByRecursion}
 use Rattle.std.specs.Option.{option_to_list}
@@ -12,16 +13,19 @@ use Rattle.gj_json.specs.Flat.{numbers_events, flat_events}
 use Rattle.gj_json.specs.declared.limits.TheConstants.{MOST_LEVELS}
 use Rattle.gj_json.specs.declared.path.PathStep.{PathStep}
 use Rattle.gj_json.specs.declared.path.PathStep.TheVariants.{Index}
-use Rattle.gj_json.specs.Tree.{Tree, constant, number, string, array, object, Elements, end_of_array, element, Members, end_of_object, member, depth, elements_depth, members_depth}
+use Rattle.gj_json.specs.Tree.{Tree, constant, number, string, array, object, Elements, end_of_array, element, Members, end_of_object, member, depth}
+use Rattle.gj_json.specs.Tree.{elements_depth, members_depth}
 use Rattle.gj_json.specs.Names.{known_of}
 use Rattle.gj_json.specs.Events.{Timed, timed, events, elements_events, members_events, mark_events}
 use Rattle.gj_json.specs.Internal.PathTrail.{advanced, IsSmall, followed, HasRoom, Follows, stack_steps, LeafTrail, TrailAt}
-use Rattle.gj_json.specs.Internal.TextMachine.{Frame, in_array, in_object, Member, Leaf, value_due, value_done, array_opened, object_opened, constant_on, number_on, string_on, name_due, name_on, colon_due, Broken, text_due, mark_one, mark_two, begun}
+use Rattle.gj_json.specs.Internal.TextMachine.{Frame, in_array, in_object, Member, Leaf, value_due, value_done, array_opened, object_opened, constant_on}
+use Rattle.gj_json.specs.Internal.TextMachine.{number_on, string_on, name_due, name_on, colon_due, Broken, text_due, mark_one, mark_two, begun}
 use Rattle.gj_json.specs.Internal.ReaderState.{Fits, FitsLeaf, FitsBroken}
 use Rattle.gj_json.specs.Internal.SeenEvents.{stack_timed, leaf_timed, partial_timed, seen, done_elements, done_members}
 use Rattle.gj_json.proofs.Events.EventTimes.{told}
 
-pub follows_on : (p q : List PathStep) (more : List Event) → ((t : List PathStep) → p ≡ t → Follows q more t) → (es : List Event) (s : List PathStep) → Follows p es s → Follows q (es ++ more) s
+pub follows_on : (p q : List PathStep) (more : List Event) → ((t : List PathStep) → p ≡ t → Follows q more t) → (es : List Event) (s : List PathStep)
+    → Follows p es s → Follows q (es ++ more) s
 follows_on p q more f [] s h = f s h
 follows_on p q more f (e ∷ es) s h = λ room. follows_on p q more f es (followed e.what s) (h room)
 
@@ -48,7 +52,8 @@ passes_cons x xs s t room f p more h = f p more (h room)
 
 passes_both : (xs ys : List Timed) (s t u : List PathStep) → Passes xs s t → Passes ys t u → Passes (xs ++ ys) s u
 passes_both xs ys s t u f g p more h =
-    let e : told (xs ++ ys) ++ more ≡ told xs ++ (told ys ++ more) = ap (λ es. es ++ more) (map-append (λ (x : Timed). x.event) xs ys) ∙ append_assoc (told xs) (told ys) more in
+    let e : told (xs ++ ys) ++ more ≡ told xs ++ (told ys ++ more) =
+    ap (λ es. es ++ more) (map-append (λ (x : Timed). x.event) xs ys) ∙ append_assoc (told xs) (told ys) more in
     let P : List Event → Type 0 = λ es. Follows p es s in
     g p more (f p (told ys ++ more) (subst P e h))
 
@@ -62,7 +67,8 @@ events_some (array place elements close) = omega arith
 events_some (object place members close) = omega arith
 
 mutual
-  value_passes : (t : Tree) (steps : List PathStep) → depth t + length steps ≤ MOST_LEVELS → length (events t) < 2 ^ 63 → IsSmall (advanced steps) → Passes (events t) steps (advanced steps)
+  value_passes : (t : Tree) (steps : List PathStep) → depth t + length steps ≤ MOST_LEVELS → length (events t) < 2 ^ 63 → IsSmall (advanced steps)
+      → Passes (events t) steps (advanced steps)
   value_passes (constant Null place) steps d c s = λ p more h. h s
   value_passes (constant True place) steps d c s = λ p more h. h s
   value_passes (constant False place) steps d c s = λ p more h. h s
@@ -73,15 +79,18 @@ mutual
       let l = length-append (elements_events elements) (last ∷ []) in
       let g = elements_pass elements 0 steps (omega (arith, d)) (omega (arith, c, l)) in
       passes_cons (timed (place + 1) place What.OpenArray) (elements_events elements ++ last ∷ []) steps (advanced steps) (omega (arith, d))
-      (passes_both (elements_events elements) (last ∷ []) (Index 0 ∷ steps) (Index g.0 ∷ steps) (advanced steps) g.1 (passes_cons last [] (Index g.0 ∷ steps) (advanced steps) s (passes_none (advanced steps))))
+      (passes_both (elements_events elements) (last ∷ []) (Index 0 ∷ steps) (Index g.0 ∷ steps) (advanced steps) g.1
+      (passes_cons last [] (Index g.0 ∷ steps) (advanced steps) s (passes_none (advanced steps))))
   value_passes (object place members close) steps d c s =
       let last = timed (close + 1) close What.CloseObject in
       let l = length-append (members_events members) (last ∷ []) in
       let g = members_pass members (Index 0) steps (omega (arith, d)) (omega (arith, c, l)) in
       passes_cons (timed (place + 1) place What.OpenObject) (members_events members ++ last ∷ []) steps (advanced steps) (omega (arith, d))
-      (passes_both (members_events members) (last ∷ []) (Index 0 ∷ steps) (g.0 ∷ steps) (advanced steps) g.1 (passes_cons last [] (g.0 ∷ steps) (advanced steps) s (passes_none (advanced steps))))
+      (passes_both (members_events members) (last ∷ []) (Index 0 ∷ steps) (g.0 ∷ steps) (advanced steps) g.1
+      (passes_cons last [] (g.0 ∷ steps) (advanced steps) s (passes_none (advanced steps))))
 
-  elements_pass : (elements : Elements) (i : ℕ) (steps : List PathStep) → elements_depth elements + (length steps + 1) ≤ MOST_LEVELS → i + length (elements_events elements) < 2 ^ 63 → (j : ℕ) × Passes (elements_events elements) (Index i ∷ steps) (Index j ∷ steps)
+  elements_pass : (elements : Elements) (i : ℕ) (steps : List PathStep) → elements_depth elements + (length steps + 1) ≤ MOST_LEVELS
+      → i + length (elements_events elements) < 2 ^ 63 → (j : ℕ) × Passes (elements_events elements) (Index i ∷ steps) (Index j ∷ steps)
   elements_pass end_of_array i steps d c = (i, passes_none (Index i ∷ steps))
   elements_pass (element v more) i steps d c =
       let l = length-append (events v) (elements_events more) in
@@ -90,14 +99,18 @@ mutual
       let g = elements_pass more (i + 1) steps (omega (arith, d)) (omega (arith, c, l, o)) in
       (g.0, passes_both (events v) (elements_events more) (Index i ∷ steps) (Index (i + 1) ∷ steps) (Index g.0 ∷ steps) f g.1)
 
-  members_pass : (members : Members) (x : PathStep) (steps : List PathStep) → members_depth members + (length steps + 1) ≤ MOST_LEVELS → length (members_events members) < 2 ^ 63 → (y : PathStep) × Passes (members_events members) (x ∷ steps) (y ∷ steps)
+  members_pass : (members : Members) (x : PathStep) (steps : List PathStep) → members_depth members + (length steps + 1) ≤ MOST_LEVELS
+      → length (members_events members) < 2 ^ 63 → (y : PathStep) × Passes (members_events members) (x ∷ steps) (y ∷ steps)
   members_pass end_of_object x steps d c = (x, passes_none (x ∷ steps))
   members_pass (member place name end v more) x steps d c =
       let l = length-append (events v) (members_events more) in
       let k : PathStep = PathStep.Member (known_of name) in
       let f = value_passes v (k ∷ steps) (omega (arith, d)) (omega (arith, c, l)) tt in
-      let g = members_pass more k steps (omega (arith, d)) (omega (arith, c, l)) in
-      (g.0, passes_cons (timed end place (What.Name (known_of name))) (events v ++ members_events more) (x ∷ steps) (g.0 ∷ steps) tt (passes_both (events v) (members_events more) (k ∷ steps) (k ∷ steps) (g.0 ∷ steps) f g.1))
+      let g = members_pass more k steps (omega (arith, d)) (omega (arith, c, l)) in (
+        g.0,
+        passes_cons (timed end place (What.Name (known_of name))) (events v ++ members_events more) (x ∷ steps) (g.0 ∷ steps) tt
+            (passes_both (events v) (members_events more) (k ∷ steps) (k ∷ steps) (g.0 ∷ steps) f g.1),
+      )
 
 -- ---- what has ended in a container that is open
 
@@ -105,7 +118,8 @@ done_many : (done : List Tree) → length done ≤ length (done_elements done)
 done_many [] = omega arith
 done_many (t ∷ done) = omega (arith, done_many done, events_some t, length-append (done_elements done) (events t))
 
-done_pass : (d n : ℕ) (done : List Tree) (steps : List PathStep) → length steps ≡ n → d ≤ MOST_LEVELS → AllByRecursion (λ t. depth t + (n + 1) ≤ d) done → length (done_elements done) < 2 ^ 63 → Passes (done_elements done) (Index 0 ∷ steps) (Index (length done) ∷ steps)
+done_pass : (d n : ℕ) (done : List Tree) (steps : List PathStep) → length steps ≡ n → d ≤ MOST_LEVELS → AllByRecursion (λ t. depth t + (n + 1) ≤ d) done
+    → length (done_elements done) < 2 ^ 63 → Passes (done_elements done) (Index 0 ∷ steps) (Index (length done) ∷ steps)
 done_pass d n [] steps e m h c = passes_none (Index 0 ∷ steps)
 done_pass d n (t ∷ done) steps e m h c =
     let l = length-append (done_elements done) (events t) in
@@ -115,15 +129,20 @@ done_pass d n (t ∷ done) steps e m h c =
     let g = value_passes t (Index (length done) ∷ steps) (omega (arith, h.0)) (omega (arith, c, l)) (omega (arith, c, l, done_many done)) in
     subst P k (passes_both (done_elements done) (events t) (Index 0 ∷ steps) (Index (length done) ∷ steps) (Index (length done + 1) ∷ steps) f g)
 
-done_members_pass : (d n : ℕ) (done : List Member) (steps : List PathStep) → length steps ≡ n → d ≤ MOST_LEVELS → AllByRecursion (λ m. depth m.value + (n + 1) ≤ d) done → length (done_members done) < 2 ^ 63 → (y : PathStep) × Passes (done_members done) (Index 0 ∷ steps) (y ∷ steps)
+done_members_pass : (d n : ℕ) (done : List Member) (steps : List PathStep) → length steps ≡ n → d ≤ MOST_LEVELS
+    → AllByRecursion (λ m. depth m.value + (n + 1) ≤ d) done → length (done_members done) < 2 ^ 63 → (y : PathStep)
+    × Passes (done_members done) (Index 0 ∷ steps) (y ∷ steps)
 done_members_pass d n [] steps e m h c = (Index 0, passes_none (Index 0 ∷ steps))
 done_members_pass d n (t ∷ done) steps e m h c =
     let named = timed t.end t.place (What.Name (known_of t.name)) in
     let l = length-append (done_members done) (named ∷ events t.value) in
     let k : PathStep = PathStep.Member (known_of t.name) in
     let f = done_members_pass d n done steps e m h.1 (omega (arith, c, l)) in
-    let g = value_passes t.value (k ∷ steps) (omega (arith, h.0)) (omega (arith, c, l)) tt in
-    (k, passes_both (done_members done) (named ∷ events t.value) (Index 0 ∷ steps) (f.0 ∷ steps) (k ∷ steps) f.1 (passes_cons named (events t.value) (f.0 ∷ steps) (k ∷ steps) tt g))
+    let g = value_passes t.value (k ∷ steps) (omega (arith, h.0)) (omega (arith, c, l)) tt in (
+      k,
+      passes_both (done_members done) (named ∷ events t.value) (Index 0 ∷ steps) (f.0 ∷ steps) (k ∷ steps) f.1
+          (passes_cons named (events t.value) (f.0 ∷ steps) (k ∷ steps) tt g),
+    )
 
 -- ---- the containers that are open
 
@@ -132,39 +151,50 @@ steps_long [] = refl
 steps_long (in_array place done ∷ stack) = ap suc (steps_long stack)
 steps_long (in_object place done np name ne ∷ stack) = ap suc (steps_long stack)
 
-opened_pass : (d : ℕ) (stack : List Frame) (place : ℕ) (done : List Member) → length stack + 1 ≤ d → d ≤ MOST_LEVELS → AllByRecursion (λ m. depth m.value + (length stack + 1) ≤ d) done → length (done_members done) < 2 ^ 63
+opened_pass : (d : ℕ) (stack : List Frame) (place : ℕ) (done : List Member) → length stack + 1 ≤ d → d ≤ MOST_LEVELS
+    → AllByRecursion (λ m. depth m.value + (length stack + 1) ≤ d) done → length (done_members done) < 2 ^ 63
     → (y : PathStep) × Passes (timed (place + 1) place What.OpenObject ∷ done_members done) (stack_steps stack) (y ∷ stack_steps stack)
 opened_pass d stack place done o m h c =
-    let g = done_members_pass d (length stack) done (stack_steps stack) (steps_long stack) m h c in
-    (g.0, passes_cons (timed (place + 1) place What.OpenObject) (done_members done) (stack_steps stack) (g.0 ∷ stack_steps stack) (omega (arith, o, m, steps_long stack)) g.1)
+    let g = done_members_pass d (length stack) done (stack_steps stack) (steps_long stack) m h c in (
+      g.0,
+      passes_cons (timed (place + 1) place What.OpenObject) (done_members done) (stack_steps stack) (g.0 ∷ stack_steps stack)
+          (omega (arith, o, m, steps_long stack)) g.1,
+    )
 
-named_pass : (d : ℕ) (stack : List Frame) (place : ℕ) (done : List Member) (np : ℕ) (name : List ℕ) (ne : ℕ) → length stack + 1 ≤ d → d ≤ MOST_LEVELS → AllByRecursion (λ m. depth m.value + (length stack + 1) ≤ d) done → length (done_members done) < 2 ^ 63
-    → Passes (timed (place + 1) place What.OpenObject ∷ (done_members done ++ timed ne np (What.Name (known_of name)) ∷ [])) (stack_steps stack) (PathStep.Member (known_of name) ∷ stack_steps stack)
+named_pass : (d : ℕ) (stack : List Frame) (place : ℕ) (done : List Member) (np : ℕ) (name : List ℕ) (ne : ℕ) → length stack + 1 ≤ d → d ≤ MOST_LEVELS
+    → AllByRecursion (λ m. depth m.value + (length stack + 1) ≤ d) done → length (done_members done) < 2 ^ 63
+    → Passes (timed (place + 1) place What.OpenObject ∷ (done_members done ++ timed ne np (What.Name (known_of name)) ∷ [])) (stack_steps stack)
+    (PathStep.Member (known_of name) ∷ stack_steps stack)
 named_pass d stack place done np name ne o m h c =
     let g = opened_pass d stack place done o m h c in
     let named = timed ne np (What.Name (known_of name)) in
     let k : PathStep = PathStep.Member (known_of name) in
-    passes_both (timed (place + 1) place What.OpenObject ∷ done_members done) (named ∷ []) (stack_steps stack) (g.0 ∷ stack_steps stack) (k ∷ stack_steps stack) g.1 (passes_cons named [] (g.0 ∷ stack_steps stack) (k ∷ stack_steps stack) tt (passes_none (k ∷ stack_steps stack)))
+    passes_both (timed (place + 1) place What.OpenObject ∷ done_members done) (named ∷ []) (stack_steps stack) (g.0 ∷ stack_steps stack)
+    (k ∷ stack_steps stack) g.1 (passes_cons named [] (g.0 ∷ stack_steps stack) (k ∷ stack_steps stack) tt (passes_none (k ∷ stack_steps stack)))
 
-stack_pass : (d : ℕ) (stack : List Frame) → Fits d stack → d ≤ MOST_LEVELS → length (stack_timed stack) < 2 ^ 63 → Passes (stack_timed stack) [] (stack_steps stack)
+stack_pass : (d : ℕ) (stack : List Frame) → Fits d stack → d ≤ MOST_LEVELS → length (stack_timed stack) < 2 ^ 63
+    → Passes (stack_timed stack) [] (stack_steps stack)
 stack_pass d [] f m c = passes_none []
 stack_pass d (in_array place done ∷ stack) f m c =
     let opening = timed (place + 1) place What.OpenArray in
     let l = length-append (stack_timed stack) (opening ∷ done_elements done) in
     let g = done_pass d (length stack) done (stack_steps stack) (steps_long stack) m f.1 (omega (arith, c, l)) in
-    passes_both (stack_timed stack) (opening ∷ done_elements done) [] (stack_steps stack) (Index (length done) ∷ stack_steps stack) (stack_pass d stack f.2 m (omega (arith, c, l)))
+    passes_both (stack_timed stack) (opening ∷ done_elements done) [] (stack_steps stack) (Index (length done) ∷ stack_steps stack)
+    (stack_pass d stack f.2 m (omega (arith, c, l)))
     (passes_cons opening (done_elements done) (stack_steps stack) (Index (length done) ∷ stack_steps stack) (omega (arith, f.0, m, steps_long stack)) g)
 stack_pass d (in_object place done np name ne ∷ stack) f m c =
     let named = timed ne np (What.Name (known_of name)) in
     let inner = timed (place + 1) place What.OpenObject ∷ (done_members done ++ named ∷ []) in
     let l = length-append (stack_timed stack) inner in
     let k = length-append (done_members done) (named ∷ []) in
-    passes_both (stack_timed stack) inner [] (stack_steps stack) (PathStep.Member (known_of name) ∷ stack_steps stack) (stack_pass d stack f.2 m (omega (arith, c, l)))
+    passes_both (stack_timed stack) inner [] (stack_steps stack) (PathStep.Member (known_of name) ∷ stack_steps stack)
+    (stack_pass d stack f.2 m (omega (arith, c, l)))
     (named_pass d stack place done np name ne f.0 m f.1 (omega (arith, c, l, k)))
 
 stack_small : (stack : List Frame) → length (stack_timed stack) < 2 ^ 63 → IsSmall (advanced (stack_steps stack))
 stack_small [] c = tt
-stack_small (in_array place done ∷ stack) c = omega (arith, c, done_many done, length-append (stack_timed stack) (timed (place + 1) place What.OpenArray ∷ done_elements done))
+stack_small (in_array place done ∷ stack) c =
+    omega (arith, c, done_many done, length-append (stack_timed stack) (timed (place + 1) place What.OpenArray ∷ done_elements done))
 stack_small (in_object place done np name ne ∷ stack) c = tt
 
 -- ---- each leaf
@@ -175,18 +205,34 @@ LeafPass stack leaf = (steps : List PathStep) × LeafTrail stack leaf steps × P
 leaf_none : (stack : List Frame) → Passes [] (stack_steps stack) (stack_steps stack)
 leaf_none stack = passes_none (stack_steps stack)
 
-leaf_pass : (d : ℕ) (stack : List Frame) (leaf : Leaf) → FitsLeaf d stack leaf → d ≤ MOST_LEVELS → length (stack_timed stack) + length (leaf_timed leaf) < 2 ^ 63 → LeafPass stack leaf
+leaf_pass : (d : ℕ) (stack : List Frame) (leaf : Leaf) → FitsLeaf d stack leaf → d ≤ MOST_LEVELS
+    → length (stack_timed stack) + length (leaf_timed leaf) < 2 ^ 63 → LeafPass stack leaf
 leaf_pass d stack value_due f m c = (stack_steps stack, refl, leaf_none stack)
-leaf_pass d stack (value_done t) f m c = (advanced (stack_steps stack), refl, value_passes t (stack_steps stack) (omega (arith, f.0, m, steps_long stack)) (omega (arith, c)) (stack_small stack (omega (arith, c))))
-leaf_pass d stack (array_opened place) f m c =
-    (Index 0 ∷ stack_steps stack, refl, passes_cons (timed (place + 1) place What.OpenArray) [] (stack_steps stack) (Index 0 ∷ stack_steps stack) (omega (arith, f.0, m, steps_long stack)) (passes_none (Index 0 ∷ stack_steps stack)))
-leaf_pass d stack (object_opened place) f m c =
-    (Index 0 ∷ stack_steps stack, record { inner = Index 0; are = refl }, passes_cons (timed (place + 1) place What.OpenObject) [] (stack_steps stack) (Index 0 ∷ stack_steps stack) (omega (arith, f.0, m, steps_long stack)) (passes_none (Index 0 ∷ stack_steps stack)))
+leaf_pass d stack (value_done t) f m c = (
+  advanced (stack_steps stack),
+  refl,
+  value_passes t (stack_steps stack) (omega (arith, f.0, m, steps_long stack)) (omega (arith, c))
+      (stack_small stack (omega (arith, c))),
+)
+leaf_pass d stack (array_opened place) f m c = (
+  Index 0 ∷ stack_steps stack,
+  refl,
+  passes_cons (timed (place + 1) place What.OpenArray) [] (stack_steps stack) (Index 0 ∷ stack_steps stack)
+      (omega (arith, f.0, m, steps_long stack)) (passes_none (Index 0 ∷ stack_steps stack)),
+)
+leaf_pass d stack (object_opened place) f m c = (
+  Index 0 ∷ stack_steps stack,
+  record { inner = Index 0; are = refl },
+  passes_cons (timed (place + 1) place What.OpenObject) [] (stack_steps stack)
+      (Index 0 ∷ stack_steps stack) (omega (arith, f.0, m, steps_long stack)) (passes_none (Index 0 ∷ stack_steps stack)),
+)
 leaf_pass d stack (constant_on which place left) f m c = (stack_steps stack, refl, leaf_none stack)
 leaf_pass d stack (number_on place so_far) f m c = (stack_steps stack, refl, leaf_none stack)
 leaf_pass d stack (string_on place so_far state) f m c = (stack_steps stack, refl, leaf_none stack)
-leaf_pass d stack (name_due place done) f m c = let g = opened_pass d stack place done f.0 m f.1 (omega (arith, c)) in (g.0 ∷ stack_steps stack, record { inner = g.0; are = refl }, g.1)
-leaf_pass d stack (name_on place done np so_far state) f m c = let g = opened_pass d stack place done f.0 m f.1 (omega (arith, c)) in (g.0 ∷ stack_steps stack, record { inner = g.0; are = refl }, g.1)
+leaf_pass d stack (name_due place done) f m c = let g =
+    opened_pass d stack place done f.0 m f.1 (omega (arith, c)) in (g.0 ∷ stack_steps stack, record { inner = g.0; are = refl }, g.1)
+leaf_pass d stack (name_on place done np so_far state) f m c = let g =
+    opened_pass d stack place done f.0 m f.1 (omega (arith, c)) in (g.0 ∷ stack_steps stack, record { inner = g.0; are = refl }, g.1)
 leaf_pass d stack (colon_due place done np name ne) f m c =
     let k = length-append (done_members done) (timed ne np (What.Name (known_of name)) ∷ []) in
     (PathStep.Member (known_of name) ∷ stack_steps stack, refl, named_pass d stack place done np name ne f.0 m f.1 (omega (arith, c, k)))
@@ -198,7 +244,8 @@ mark_pass true = λ p more h. h tt
 mark_pass false = passes_none []
 
 -- steps that follow the events that a state has seen are the steps of the state
-pub seen_trail : (state : Broken) (d : ℕ) (p : List PathStep) → FitsBroken d state → d ≤ MOST_LEVELS → length (seen state) < 2 ^ 63 → Follows p (told (seen state)) [] → TrailAt state p
+pub seen_trail : (state : Broken) (d : ℕ) (p : List PathStep) → FitsBroken d state → d ≤ MOST_LEVELS → length (seen state) < 2 ^ 63
+    → Follows p (told (seen state)) [] → TrailAt state p
 seen_trail text_due d p f m c h = h
 seen_trail mark_one d p f m c h = h
 seen_trail mark_two d p f m c h = h

@@ -15,7 +15,8 @@ numbers = unmarked (array 0 (element (number 1 (codes "10") 3) (element (number 
 
 -- {"x":[1,{}]}
 nested : Text
-nested = unmarked (object 0 (member 1 (codes "x") 4 (array 5 (element (number 6 (codes "1") 7) (element (object 8 end_of_object 9) end_of_array)) 10) end_of_object) 11)
+nested = unmarked (object 0
+    (member 1 (codes "x") 4 (array 5 (element (number 6 (codes "1") 7) (element (object 8 end_of_object 9) end_of_array)) 10) end_of_object) 11)
 
 -- {"id":"a"}
 named : Text

@@ -1,5 +1,6 @@
 -- The path that a front of a text leads to, by the state of the machine.
-use Rattle.std.proofs.Common.{◌≡◌, ℕ, ◌+◌, ◌==◌, ◌≤◌, Bool, true, false, if◌then◌else◌, List, [], ◌∷◌, ◌++◌, length, Option, Some, None, unwrap_or, refl, sym, ap, ◌∙◌, arith}
+use Rattle.std.proofs.Common.{◌≡◌, ℕ, ◌+◌, ◌==◌, ◌≤◌, Bool, true, false, if◌then◌else◌, List, [], ◌∷◌, ◌++◌, length, Option, Some, None, unwrap_or, refl, sym}
+use Rattle.std.proofs.Common.{ap, ◌∙◌, arith}
 use Rattle.std.proofs.lemmas.Bool.Decides.{nat_tests}
 use Rattle.std.specs.Option.{option_or}
 use Rattle.gj_json.specs.declared.constant.Constant.TheVariants.{Null, True, False}
@@ -15,7 +16,9 @@ use Rattle.gj_json.specs.Names.{known_of}
 use Rattle.gj_json.specs.Events.{timed, events, elements_events, members_events, mark_events}
 use Rattle.gj_json.specs.Path.{to_value, to_container, has_open, by_step, path_in, elements_path, members_path, path_at}
 use Rattle.gj_json.specs.Internal.PathTrail.{outer_steps, advanced, stack_steps, LeafTrail, TrailAt, begins, kept_steps}
-use Rattle.gj_json.specs.Internal.TextMachine.{run, Broken, text_due, mark_one, mark_two, begun, Frame, in_array, in_object, Member, Leaf, value_due, value_done, array_opened, object_opened, constant_on, number_on, string_on, name_due, name_on, colon_due, back_elements, back_members}
+use Rattle.gj_json.specs.Internal.TextMachine.{run, Broken, text_due, mark_one, mark_two, begun, Frame, in_array, in_object, Member, Leaf, value_due}
+use Rattle.gj_json.specs.Internal.TextMachine.{value_done, array_opened, object_opened, constant_on, number_on, string_on, name_due, name_on, colon_due}
+use Rattle.gj_json.specs.Internal.TextMachine.{back_elements, back_members}
 use Rattle.gj_json.specs.Internal.ReaderState.{LeafAs, StandsAs}
 use Rattle.gj_json.specs.Internal.SeenEvents.{InTime, BegunAs, IsTimely, stack_timed, leaf_timed, partial_timed, done_elements, done_members}
 use Rattle.gj_json.proofs.Machine.Completions.{Goes, TextFrom, After, AfterName, Due, Completes}
@@ -47,12 +50,14 @@ mutual
   to_come (array place elements close) n m bytes l h = rw (unopened n place close (omega (arith, h.0))) refl
   to_come (object place members close) n m bytes l h = rw (unopened n place close (omega (arith, h.0))) refl
 
-  elements_to_come : (elements : Elements) (close n m i : ℕ) (bytes : List ℕ) → n ≤ m → SpellsElements elements close m bytes → elements_path n i elements ≡ None
+  elements_to_come : (elements : Elements) (close n m i : ℕ) (bytes : List ℕ) → n ≤ m → SpellsElements elements close m bytes
+      → elements_path n i elements ≡ None
   elements_to_come end_of_array close n m i bytes l h = refl
   elements_to_come (element v more) close n m i bytes l h =
       rw (to_come v n _ _ l h.before) (more_elements_to_come more close n _ (i + 1) _ (omega arith) h.after.after)
 
-  more_elements_to_come : (elements : Elements) (close n m i : ℕ) (bytes : List ℕ) → n ≤ m → SpellsMoreElements elements close m bytes → elements_path n i elements ≡ None
+  more_elements_to_come : (elements : Elements) (close n m i : ℕ) (bytes : List ℕ) → n ≤ m → SpellsMoreElements elements close m bytes
+      → elements_path n i elements ≡ None
   more_elements_to_come end_of_array close n m i bytes l h = refl
   more_elements_to_come (element v more) close n m i bytes l h =
       rw (to_come v n _ _ (omega arith) h.after.after.before) (more_elements_to_come more close n _ (i + 1) _ (omega arith) h.after.after.after.after)
@@ -60,12 +65,14 @@ mutual
   members_to_come : (members : Members) (close n m : ℕ) (bytes : List ℕ) → n ≤ m → SpellsMembers members close m bytes → members_path n members ≡ None
   members_to_come end_of_object close n m bytes l h = refl
   members_to_come (member place name end v more) close n m bytes l h =
-      rw (to_come v n _ _ (omega arith) h.after.after.after.after.before) (more_members_to_come more close n _ _ (omega arith) h.after.after.after.after.after.after)
+      rw (to_come v n _ _ (omega arith) h.after.after.after.after.before)
+      (more_members_to_come more close n _ _ (omega arith) h.after.after.after.after.after.after)
 
   more_members_to_come : (members : Members) (close n m : ℕ) (bytes : List ℕ) → n ≤ m → SpellsMoreMembers members close m bytes → members_path n members ≡ None
   more_members_to_come end_of_object close n m bytes l h = refl
   more_members_to_come (member place name end v more) close n m bytes l h =
-      rw (to_come v n _ _ (omega arith) h.after.after.after.after.after.after.before) (more_members_to_come more close n _ _ (omega arith) h.after.after.after.after.after.after.after.after)
+      rw (to_come v n _ _ (omega arith) h.after.after.after.after.after.after.before)
+      (more_members_to_come more close n _ _ (omega arith) h.after.after.after.after.after.after.after.after)
 
 -- ---- nor into anything that is complete
 
@@ -82,7 +89,8 @@ complete (object place members close) n h w =
     let g = front n (members_events members) (timed (close + 1) close What.CloseObject ∷ []) h.1 in
     rw (shut n place close g.1.0) refl
 
-back_path : (n i : ℕ) (done : List Tree) (more : Elements) → InTime n (done_elements done) → WholeDone done → elements_path n i (back_elements done more) ≡ elements_path n (i + length done) more
+back_path : (n i : ℕ) (done : List Tree) (more : Elements) → InTime n (done_elements done) → WholeDone done
+    → elements_path n i (back_elements done more) ≡ elements_path n (i + length done) more
 back_path n i [] more h w = ap (λ k. elements_path n k more) (omega arith)
 back_path n i (t ∷ done) more h w =
     let g = front n (done_elements done) (events t) h in
@@ -90,7 +98,8 @@ back_path n i (t ∷ done) more h w =
     let k : i + length done + 1 ≡ i + length (t ∷ done) = omega arith in
     back_path n i done (element t more) g.0 w.1 ∙ rw e (ap (λ j. elements_path n j more) k)
 
-back_members_path : (n : ℕ) (done : List Member) (more : Members) → InTime n (done_members done) → WholeDoneMembers done → members_path n (back_members done more) ≡ members_path n more
+back_members_path : (n : ℕ) (done : List Member) (more : Members) → InTime n (done_members done) → WholeDoneMembers done
+    → members_path n (back_members done more) ≡ members_path n more
 back_members_path n [] more h w = refl
 back_members_path n (m ∷ done) more h w =
     let g = front n (done_members done) (timed m.end m.place (What.Name (known_of m.name)) ∷ events m.value) h in
@@ -103,7 +112,8 @@ back_members_path n (m ∷ done) more h w =
 abbrev at_element : ℕ → ℕ → Option (List PathStep) → Elements → Option (List PathStep)
 at_element n i o more = option_or (by_step (Index i) o) (elements_path n (i + 1) more)
 
-array_path : (n place close : ℕ) (done : List Tree) (t : Tree) (more : Elements) (o : Option (List PathStep)) → place + 1 ≤ n → n ≤ close → InTime n (done_elements done) → WholeDone done → path_in n t ≡ o
+array_path : (n place close : ℕ) (done : List Tree) (t : Tree) (more : Elements) (o : Option (List PathStep)) → place + 1 ≤ n → n ≤ close
+    → InTime n (done_elements done) → WholeDone done → path_in n t ≡ o
     → path_in n (array place (back_elements done (element t more)) close) ≡ to_container true (at_element n (length done) o more)
 array_path n place close done t more o p c h w e =
     let z : 0 + length done ≡ length done = omega arith in
@@ -114,7 +124,8 @@ array_path n place close done t more o p c h w e =
 abbrev at_member : ℕ → List ℕ → Option (List PathStep) → Members → Option (List PathStep)
 at_member n name o more = option_or (by_step (PathStep.Member (known_of name)) o) (members_path n more)
 
-object_path : (n place close : ℕ) (done : List Member) (np : ℕ) (name : List ℕ) (ne : ℕ) (t : Tree) (more : Members) (o : Option (List PathStep)) → place + 1 ≤ n → n ≤ close → InTime n (done_members done) → WholeDoneMembers done → path_in n t ≡ o
+object_path : (n place close : ℕ) (done : List Member) (np : ℕ) (name : List ℕ) (ne : ℕ) (t : Tree) (more : Members) (o : Option (List PathStep))
+    → place + 1 ≤ n → n ≤ close → InTime n (done_members done) → WholeDoneMembers done → path_in n t ≡ o
     → path_in n (object place (back_members done (member np name ne t more)) close) ≡ to_container true (at_member n name o more)
 object_path n place close done np name ne t more o p c h w e =
     let k : members_path n (back_members done (member np name ne t more)) ≡ at_member n name o more =
@@ -128,7 +139,8 @@ close_behind (element v more) close n bytes h = omega (arith, close_behind more 
 
 close_behind_members : (members : Members) (close n : ℕ) (bytes : List ℕ) → SpellsMoreMembers members close n bytes → n ≤ close
 close_behind_members end_of_object close n bytes h = omega (arith, h.1)
-close_behind_members (member place name end v more) close n bytes h = omega (arith, close_behind_members more close _ _ h.after.after.after.after.after.after.after.after)
+close_behind_members (member place name end v more) close n bytes h =
+    omega (arith, close_behind_members more close _ _ h.after.after.after.after.after.after.after.after)
 
 close_behind_first : (elements : Elements) (close n : ℕ) (bytes : List ℕ) → SpellsElements elements close n bytes → n ≤ close
 close_behind_first end_of_array close n bytes h = omega (arith, h.1)
@@ -136,10 +148,12 @@ close_behind_first (element v more) close n bytes h = omega (arith, close_behind
 
 close_behind_first_member : (members : Members) (close n : ℕ) (bytes : List ℕ) → SpellsMembers members close n bytes → n ≤ close
 close_behind_first_member end_of_object close n bytes h = omega (arith, h.1)
-close_behind_first_member (member place name end v more) close n bytes h = omega (arith, close_behind_members more close _ _ h.after.after.after.after.after.after)
+close_behind_first_member (member place name end v more) close n bytes h =
+    omega (arith, close_behind_members more close _ _ h.after.after.after.after.after.after)
 
 -- it leads through the containers of the stack to what it leads to in the value t
-through : (stack : List Frame) (t T : Tree) (n m : ℕ) (bytes : List ℕ) (steps : List PathStep) → n ≤ m → InTime n (stack_timed stack) → WholeStack stack → After stack t T m bytes → path_in n t ≡ Some steps
+through : (stack : List Frame) (t T : Tree) (n m : ℕ) (bytes : List ℕ) (steps : List PathStep) → n ≤ m → InTime n (stack_timed stack) → WholeStack stack
+    → After stack t T m bytes → path_in n t ≡ Some steps
     → path_in n T ≡ Some (outward (stack_steps stack) steps)
 through [] t T n m bytes steps l i w h e = ap (path_in n) h.1 ∙ e
 through (in_array place done ∷ stack) t T n m bytes steps l i w h e =
@@ -152,17 +166,21 @@ through (in_object place done np name ne ∷ stack) t T n m bytes steps l i w h 
     let j = front n (done_members done) (timed ne np (What.Name (known_of name)) ∷ []) g.1.1 in
     let c = close_behind_members h.0 h.1 _ _ h.2.after.before in
     let k = object_path n place h.1 done np name ne t h.0 (Some steps) g.1.0 (omega (arith, c)) j.0 w.0 e in
-    through stack (object place (back_members done (member np name ne t h.0)) h.1) T n _ _ (PathStep.Member (known_of name) ∷ steps) (omega arith) g.0 w.1 h.2.after.after k
+    through stack (object place (back_members done (member np name ne t h.0)) h.1) T n _ _ (PathStep.Member (known_of name) ∷ steps)
+    (omega arith) g.0 w.1 h.2.after.after k
 
 abbrev Leads : ℕ → Tree → List PathStep → Type 0
 Leads n T steps = unwrap_or (path_in n T) [] ≡ outward steps []
 
-to_it : (stack : List Frame) (t T : Tree) (n m : ℕ) (bytes : List ℕ) → n ≤ m → InTime n (stack_timed stack) → WholeStack stack → After stack t T m bytes → path_in n t ≡ Some [] → Leads n T (stack_steps stack)
+to_it : (stack : List Frame) (t T : Tree) (n m : ℕ) (bytes : List ℕ) → n ≤ m → InTime n (stack_timed stack) → WholeStack stack → After stack t T m bytes
+    → path_in n t ≡ Some [] → Leads n T (stack_steps stack)
 to_it stack t T n m bytes l i w h e = ap (λ o. unwrap_or o []) (through stack t T n m bytes [] l i w h e)
 
 -- where it leads nowhere in a member's value, though the name is yet to come, it leads to the object
-to_object : (stack : List Frame) (place : ℕ) (done : List Member) (np : ℕ) (name : List ℕ) (ne : ℕ) (t T : Tree) (n m : ℕ) (bytes : List ℕ) → n ≤ m → InTime n (stack_timed stack) → place + 1 ≤ n → InTime n (done_members done)
-    → WholeStack (in_object place done np name ne ∷ stack) → After (in_object place done np name ne ∷ stack) t T m bytes → path_in n t ≡ None → Leads n T (stack_steps stack)
+to_object : (stack : List Frame) (place : ℕ) (done : List Member) (np : ℕ) (name : List ℕ) (ne : ℕ) (t T : Tree) (n m : ℕ) (bytes : List ℕ) → n ≤ m
+    → InTime n (stack_timed stack) → place + 1 ≤ n → InTime n (done_members done)
+    → WholeStack (in_object place done np name ne ∷ stack) → After (in_object place done np name ne ∷ stack) t T m bytes → path_in n t ≡ None
+    → Leads n T (stack_steps stack)
 to_object stack place done np name ne t T n m bytes l i p j w h e =
     let c = close_behind_members h.0 h.1 _ _ h.2.after.before in
     let k = object_path n place h.1 done np name ne t h.0 None p (omega (arith, c)) j w.0 e in
@@ -171,7 +189,8 @@ to_object stack place done np name ne t T n m bytes l i p j w h e =
     to_it stack (object place (back_members done (member np name ne t h.0)) h.1) T n _ _ (omega arith) i w.1 h.2.after.after s
 
 -- where it leads nowhere in the value t, it leads to the innermost container
-to_innermost : (stack : List Frame) (t T : Tree) (n m : ℕ) (bytes : List ℕ) → n ≤ m → InTime n (stack_timed stack) → WholeStack stack → After stack t T m bytes → path_in n t ≡ None → Leads n T (outer_steps (stack_steps stack))
+to_innermost : (stack : List Frame) (t T : Tree) (n m : ℕ) (bytes : List ℕ) → n ≤ m → InTime n (stack_timed stack) → WholeStack stack → After stack t T m bytes
+    → path_in n t ≡ None → Leads n T (outer_steps (stack_steps stack))
 to_innermost [] t T n m bytes l i w h e = ap (λ o. unwrap_or o []) (ap (path_in n) h.1 ∙ e)
 to_innermost (in_array place done ∷ stack) t T n m bytes l i w h e =
     let g = front n (stack_timed stack) (timed (place + 1) place What.OpenArray ∷ done_elements done) i in
@@ -186,7 +205,8 @@ to_innermost (in_object place done np name ne ∷ stack) t T n m bytes l i w h e
     to_object stack place done np name ne t T n m bytes l g.0 g.1.0 j.0 w h e
 
 -- a value that is no array and no object is under way
-to_begun : (stack : List Frame) (t T : Tree) (place n m : ℕ) (bytes : List ℕ) → n ≤ m → InTime n (stack_timed stack) → WholeStack stack → After stack t T m bytes → path_in n t ≡ to_value n place
+to_begun : (stack : List Frame) (t T : Tree) (place n m : ℕ) (bytes : List ℕ) → n ≤ m → InTime n (stack_timed stack) → WholeStack stack
+    → After stack t T m bytes → path_in n t ≡ to_value n place
     → Leads n T (kept_steps (place + 1 == n) (stack_steps stack))
 to_begun stack t T place n m bytes l i w h e = go (place + 1 == n) e
   where
@@ -207,15 +227,19 @@ module _ (T : Tree) (n : ℕ) (whole : Whole T) where
 
   due : (stack : List Frame) (m : ℕ) (bytes : List ℕ) → n ≤ m → InTime n (stack_timed stack) → Due stack T m bytes → Leads n T (outer_steps (stack_steps stack))
   due stack m bytes l i h =
-      to_innermost stack h.0 T n _ _ (omega arith) i (stack_whole stack h.0 _ _ h.1.after.after) h.1.after.after (to_come h.0 n _ _ (omega arith) h.1.after.before)
+      to_innermost stack h.0 T n _ _ (omega arith) i (stack_whole stack h.0 _ _ h.1.after.after) h.1.after.after
+      (to_come h.0 n _ _ (omega arith) h.1.after.before)
 
-  value_to_come : (stack : List Frame) (place : ℕ) (done : List Member) (np : ℕ) (name : List ℕ) (ne m : ℕ) (bytes : List ℕ) → n ≤ m → InTime n (stack_timed stack) → place + 1 ≤ n → InTime n (done_members done)
+  value_to_come : (stack : List Frame) (place : ℕ) (done : List Member) (np : ℕ) (name : List ℕ) (ne m : ℕ) (bytes : List ℕ) → n ≤ m
+      → InTime n (stack_timed stack) → place + 1 ≤ n → InTime n (done_members done)
       → AfterName stack place done np name ne T m bytes → Leads n T (stack_steps stack)
   value_to_come stack place done np name ne m bytes l i p j h =
       let a = h.1.after.after.after.after in
-      to_object stack place done np name ne h.0 T n _ _ (omega arith) i p j (stack_whole (in_object place done np name ne ∷ stack) h.0 _ _ a) a (to_come h.0 n _ _ (omega arith) h.1.after.after.after.before)
+      to_object stack place done np name ne h.0 T n _ _ (omega arith) i p j (stack_whole (in_object place done np name ne ∷ stack) h.0 _ _ a) a
+      (to_come h.0 n _ _ (omega arith) h.1.after.after.after.before)
 
-  leaf_leads : (stack : List Frame) (leaf : Leaf) (mode : Mode) (start : ℕ) (bytes : List ℕ) (steps : List PathStep) → LeafAs leaf mode → BegunAs leaf start → LeafTrail stack leaf steps → InTime n (stack_timed stack ++ leaf_timed leaf)
+  leaf_leads : (stack : List Frame) (leaf : Leaf) (mode : Mode) (start : ℕ) (bytes : List ℕ) (steps : List PathStep) → LeafAs leaf mode → BegunAs leaf start
+      → LeafTrail stack leaf steps → InTime n (stack_timed stack ++ leaf_timed leaf)
       → Completes stack leaf T n bytes → Leads n T (kept_steps (begins mode start n) steps)
   leaf_leads stack value_due mode start bytes steps a g e i h = rw (a, e) (due stack n _ (omega arith) (front n (stack_timed stack) [] i).0 h)
   leaf_leads stack (value_done t) mode start bytes steps a g e i h =
@@ -235,11 +259,14 @@ module _ (T : Tree) (n : ℕ) (whole : Whole T) where
       let s : path_in n (object place h.0 h.1) ≡ Some [] = rw (opened n place h.1 f.1.0 (omega (arith, c)), r) refl in
       rw (a, e.are) (to_it stack (object place h.0 h.1) T n _ _ (omega arith) f.0 (stack_whole stack _ _ _ h.2.after.after) h.2.after.after s)
   leaf_leads stack (constant_on which place left) mode start bytes steps a g e i h =
-      rw (a.1, g, e) (to_begun stack (constant which place) T place n _ _ (omega arith) (front n (stack_timed stack) [] i).0 (stack_whole stack _ _ _ h.after) h.after refl)
+      rw (a.1, g, e) (to_begun stack (constant which place) T place n _ _ (omega arith) (front n (stack_timed stack) [] i).0
+      (stack_whole stack _ _ _ h.after) h.after refl)
   leaf_leads stack (number_on place so_far) mode start bytes steps a g e i h =
-      rw (a, g, e) (to_begun stack (number place (so_far ++ h.0) h.1) T place n _ _ (omega arith) (front n (stack_timed stack) [] i).0 (stack_whole stack _ _ _ h.3.after.after) h.3.after.after refl)
+      rw (a, g, e) (to_begun stack (number place (so_far ++ h.0) h.1) T place n _ _ (omega arith) (front n (stack_timed stack) [] i).0
+      (stack_whole stack _ _ _ h.3.after.after) h.3.after.after refl)
   leaf_leads stack (string_on place so_far state) mode start bytes steps a g e i h =
-      rw (a, g, e) (to_begun stack (string place (so_far ++ h.0) h.1) T place n _ _ (omega arith) (front n (stack_timed stack) [] i).0 (stack_whole stack _ _ _ h.2.after) h.2.after refl)
+      rw (a, g, e) (to_begun stack (string place (so_far ++ h.0) h.1) T place n _ _ (omega arith) (front n (stack_timed stack) [] i).0
+      (stack_whole stack _ _ _ h.2.after) h.2.after refl)
   leaf_leads stack (name_due place done) mode start bytes steps a g e i h =
       let f = front n (stack_timed stack) (timed (place + 1) place What.OpenObject ∷ done_members done) i in
       rw (a, e.are) (value_to_come stack place done h.0 h.1 h.2 _ _ (omega arith) f.0 f.1.0 f.1.1 h.3.after.after)
@@ -248,11 +275,13 @@ module _ (T : Tree) (n : ℕ) (whole : Whole T) where
       rw (a, e.are) (value_to_come stack place done np (so_far ++ h.0) h.1 _ _ (omega arith) f.0 f.1.0 f.1.1 h.2.after)
   leaf_leads stack (colon_due place done np name ne) mode start bytes steps a g e i h =
       let f = front n (stack_timed stack) (timed (place + 1) place What.OpenObject ∷ (done_members done ++ timed ne np (What.Name (known_of name)) ∷ [])) i in
-      rw (a, e) (value_to_come stack place done np name ne n _ (omega arith) f.0 f.1.0 (front n (done_members done) (timed ne np (What.Name (known_of name)) ∷ []) f.1.1).0 h)
+      rw (a, e) (value_to_come stack place done np name ne n _ (omega arith) f.0 f.1.0
+      (front n (done_members done) (timed ne np (What.Name (known_of name)) ∷ []) f.1.1).0 h)
 
 -- ---- a whole text
 
-pub path_leads : (state : Broken) (mode : Mode) (levels : List Level) (T : Text) (n start : ℕ) (bytes : List ℕ) (steps : List PathStep) → Whole T.value → StandsAs state mode levels → IsTimely state start n → TrailAt state steps → TextFrom T n bytes state
+pub path_leads : (state : Broken) (mode : Mode) (levels : List Level) (T : Text) (n start : ℕ) (bytes : List ℕ) (steps : List PathStep) → Whole T.value
+    → StandsAs state mode levels → IsTimely state start n → TrailAt state steps → TextFrom T n bytes state
     → path_at n T ≡ outward (kept_steps (begins mode start n) steps) []
 path_leads text_due mode levels T n start bytes steps w a t e h = rw (a.0, e) (due T.value n w [] (n + length h.first) _ (omega arith) tt h.after)
 path_leads mark_one mode levels T n start bytes steps w a t e h = rw (a.0, e) (due T.value n w [] (n + length h.1.first) _ (omega arith) tt h.1.after)
@@ -281,10 +310,12 @@ steps_of_state mark_one = ([], refl)
 steps_of_state mark_two = ([], refl)
 steps_of_state (begun marked s) = leaf_steps s.stack s.leaf
 
-pub same_path : (bytes more other : List ℕ) (T U : Text) → IsText T (bytes ++ more) → IsText U (bytes ++ other) → path_at (length bytes) T ≡ path_at (length bytes) U
+pub same_path : (bytes more other : List ℕ) (T U : Text) → IsText T (bytes ++ more) → IsText U (bytes ++ other)
+    → path_at (length bytes) T ≡ path_at (length bytes) U
 same_path bytes more other T U h k = go (run bytes) refl (text_goes_on T bytes more h) (text_goes_on U bytes other k)
   where
-    go : (o : Option Broken) → run bytes ≡ o → Goes (TextFrom T (length bytes) more) o → Goes (TextFrom U (length bytes) other) o → path_at (length bytes) T ≡ path_at (length bytes) U
+    go : (o : Option Broken) → run bytes ≡ o → Goes (TextFrom T (length bytes) more) o → Goes (TextFrom U (length bytes) other) o
+        → path_at (length bytes) T ≡ path_at (length bytes) U
     go None e a b = absurd a
     go (Some s) e a b =
         let r = reached bytes s e in

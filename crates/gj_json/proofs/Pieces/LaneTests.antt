@@ -1,5 +1,6 @@
 -- Bytes that pass a test, seen a vector at a time.
-use Rattle.std.proofs.Common.{◌≡◌, ℕ, ◌+◌, ◌<◌, ◌≤◌, ◌%◌, ◌^◌, ◌*◌, ◌/◌, Bool, true, false, not, cond, eqb, ltb, w8, Fits, List, [], ◌∷◌, map, length, take, drop, get_or, zero, suc, refl, sym, ap, ap₂, ◌∙◌, drop-drop, arith}
+use Rattle.std.proofs.Common.{◌≡◌, ℕ, ◌+◌, ◌<◌, ◌≤◌, ◌%◌, ◌^◌, ◌*◌, ◌/◌, Bool, true, false, not, cond, eqb, ltb, w8, Fits, List, [], ◌∷◌, map, length, take}
+use Rattle.std.proofs.Common.{drop, get_or, zero, suc, refl, sym, ap, ap₂, ◌∙◌, drop-drop, arith}
 use Rattle.std.proofs.lemmas.Bool.{agree_below, agree_below_at, eq-eqb, ne_eqb}
 use Rattle.std.proofs.lemmas.List.{length-map}
 use Rattle.std.proofs.lemmas.List.Folds.{prefix_len-append}
@@ -16,7 +17,8 @@ tops : (f : ℕ → ℕ) (p : ℕ → Bool) → agree_below (λ x. top 7 (f x)) 
 tops f p all [] fits = refl
 tops f p all (x ∷ v) fits = ap₂ (λ a b. a ∷ b) (agree_below_at (λ y. top 7 (f y)) p 256 x all fits.0.fits) (tops f p all v fits.1)
 
-pub mask_is : (f : ℕ → ℕ) (p : ℕ → Bool) (v z : List ℕ) → length v ≤ 64 → Each1 (Fits w8) v → z ≡ map f v → agree_below (λ x. top 7 (f x)) p 256 ≡ true → mask_l (map (top 7) z) % 2 ^ 64 ≡ mask_l (map p v)
+pub mask_is : (f : ℕ → ℕ) (p : ℕ → Bool) (v z : List ℕ) → length v ≤ 64 → Each1 (Fits w8) v → z ≡ map f v → agree_below (λ x. top 7 (f x)) p 256 ≡ true
+    → mask_l (map (top 7) z) % 2 ^ 64 ≡ mask_l (map p v)
 mask_is f p v z few fits e all =
     ap (λ m. mask_l m % 2 ^ 64) (ap (map (top 7)) e ∙ map-map (top 7) f v ∙ tops f p all v fits) ∙ mask_l-mod (map p v) 64 (omega (arith, length-map v p))
 
@@ -48,7 +50,8 @@ module _ (q : ℕ → Bool) where
       ∙ ap (λ l. cond (eqb (prefix_len q v) l) (l + prefix_len q (drop (at + n) piece)) (prefix_len q v)) (length-chunk at n piece room)
 
   -- where no lane fails the test, the run goes on behind them
-  pub lanes_on : (piece : List ℕ) (at n : ℕ) → at + n ≤ length piece → mask_l (map (λ b. not (q b)) (chunk at n piece)) ≡ 0 → prefix_len q (drop at piece) ≡ n + prefix_len q (drop (at + n) piece)
+  pub lanes_on : (piece : List ℕ) (at n : ℕ) → at + n ≤ length piece → mask_l (map (λ b. not (q b)) (chunk at n piece)) ≡ 0
+      → prefix_len q (drop at piece) ≡ n + prefix_len q (drop (at + n) piece)
   lanes_on piece at n room none =
       let v = chunk at n piece in
       let all : prefix_len q v ≡ n = sym (same_prefix v) ∙ leading_from_mask_l (λ b. not (q b)) v none ∙ length-chunk at n piece room in
@@ -60,8 +63,11 @@ module _ (q : ℕ → Bool) where
   lanes_stop piece at n room few some =
       let v = chunk at n piece in
       let l : length v ≡ n = length-chunk at n piece room in
-      let first : count_trailing_zeros 64 (mask_l (map (λ b. not (q b)) v)) ≡ prefix_len q v = trailing_mask_l (λ b. not (q b)) 64 v (omega arith) some ∙ same_prefix v in
-      split piece at n room ∙ ap (λ t. cond t (n + prefix_len q (drop (at + n) piece)) (prefix_len q v)) (ne_eqb _ _ (λ (e : prefix_len q v ≡ n). omega (arith, no_bit v (e ∙ sym l)))) ∙ sym first
+      let first : count_trailing_zeros 64 (mask_l (map (λ b. not (q b)) v)) ≡ prefix_len q v =
+      trailing_mask_l (λ b. not (q b)) 64 v (omega arith) some ∙ same_prefix v in
+      split piece at n room
+      ∙ ap (λ t. cond t (n + prefix_len q (drop (at + n) piece)) (prefix_len q v))
+      (ne_eqb _ _ (λ (e : prefix_len q v ≡ n). omega (arith, no_bit v (e ∙ sym l)))) ∙ sym first
     where
       no_more : (b : Bool) (m k l : ℕ) → m ≤ l → cond b (1 + m) 0 ≡ 1 + l → (m ≡ l → k ≡ 0) → cond (not b) 1 0 + 2 * k ≡ 0
       no_more true m k l w e h = let z : k ≡ 0 = h (omega arith) in omega arith
@@ -76,10 +82,12 @@ pub block_at : (n k i : ℕ) (piece : List ℕ) → i < k → get_or (first_chun
 block_at n zero i piece h = absurd (omega arith)
 block_at n (suc k) zero piece h = let e : 0 * n ≡ 0 = omega arith in ap (λ m. take n (drop m piece)) (sym e)
 block_at n (suc k) (suc i) piece h =
-    let e : n + i * n ≡ suc i * n = omega arith in block_at n k i (drop n piece) (omega arith) ∙ ap (take n) (drop-drop (i * n) n piece) ∙ ap (λ m. take n (drop m piece)) e
+    let e : n + i * n ≡ suc i * n =
+    omega arith in block_at n k i (drop n piece) (omega arith) ∙ ap (take n) (drop-drop (i * n) n piece) ∙ ap (λ m. take n (drop m piece)) e
 
 -- a run by blocks of sixteen bytes: where no lane of a block fails the test, and where one does
-module _ (q : ℕ → Bool) (piece : List ℕ) (index : ℕ) (block : List ℕ) (blocks : List (List ℕ)) (same : blocks ≡ first_chunks 16 (length piece / 16) piece) (is : block ≡ get_or blocks index []) (less : index < length piece / 16)
+module _ (q : ℕ → Bool) (piece : List ℕ) (index : ℕ) (block : List ℕ) (blocks : List (List ℕ)) (same : blocks ≡ first_chunks 16 (length piece / 16) piece)
+    (is : block ≡ get_or blocks index []) (less : index < length piece / 16)
     (stops : ℕ) (mask : stops ≡ mask_l (map (λ b. not (q b)) block)) (run : prefix_len q piece ≡ index * 16 + prefix_len q (drop (index * 16) piece)) where
   block_is : block ≡ chunk (index * 16) 16 piece
   block_is = is ∙ ap (λ bs. get_or bs index []) same ∙ block_at 16 (length piece / 16) index piece less
@@ -95,10 +103,13 @@ module _ (q : ℕ → Bool) (piece : List ℕ) (index : ℕ) (block : List ℕ) 
 
   pub block_stops : 0 < stops → index * 16 + count_trailing_zeros 64 stops ≡ prefix_len q piece
   block_stops some =
-      let end = lanes_stop q piece (index * 16) 16 (omega (arith, less)) (omega arith) (omega (arith, some, lanes)) ∙ ap (count_trailing_zeros 64) (sym lanes) in
+      let end = lanes_stop q piece (index * 16) 16 (omega (arith, less)) (omega arith) (omega (arith, some, lanes))
+      ∙ ap (count_trailing_zeros 64) (sym lanes) in
       omega (arith, run, end)
 
 -- and the bytes behind the last block
-pub rest_stops : (q : ℕ → Bool) (piece rest : List ℕ) (index : ℕ) → rest ≡ drop (length piece / 16 * 16) piece → index ≡ length piece / 16 → prefix_len q piece ≡ index * 16 + prefix_len q (drop (index * 16) piece)
+pub rest_stops : (q : ℕ → Bool) (piece rest : List ℕ) (index : ℕ) → rest ≡ drop (length piece / 16 * 16) piece → index ≡ length piece / 16
+    → prefix_len q piece ≡ index * 16 + prefix_len q (drop (index * 16) piece)
     → index * 16 + prefix_len q rest ≡ prefix_len q piece
-rest_stops q piece rest index same e run = let k : prefix_len q rest ≡ prefix_len q (drop (index * 16) piece) = ap (prefix_len q) same ∙ ap (λ m. prefix_len q (drop (m * 16) piece)) (sym e) in omega (arith, run, k)
+rest_stops q piece rest index same e run = let k : prefix_len q rest ≡ prefix_len q (drop (index * 16) piece) =
+    ap (prefix_len q) same ∙ ap (λ m. prefix_len q (drop (m * 16) piece)) (sym e) in omega (arith, run, k)

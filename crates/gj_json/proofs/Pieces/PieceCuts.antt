@@ -9,7 +9,8 @@ pub cut_joins : (piece : List ℕ) (a b c : ℕ) → a ≤ b → b ≤ c → cut
 cut_joins piece a b c v w =
     let e : c - a ≡ (b - a) + (c - b) = omega arith in
     let f : a + (b - a) ≡ b = omega arith in
-    ap (λ n. take n (drop a piece)) e ∙ take-add (b - a) (c - b) (drop a piece) ∙ ap (λ xs. cut piece a b ++ take (c - b) xs) (drop-drop (b - a) a piece ∙ ap (λ n. drop n piece) f)
+    ap (λ n. take n (drop a piece)) e ∙ take-add (b - a) (c - b) (drop a piece)
+    ∙ ap (λ xs. cut piece a b ++ take (c - b) xs) (drop-drop (b - a) a piece ∙ ap (λ n. drop n piece) f)
 
 pub cut_length : (piece : List ℕ) (a b : ℕ) → b ≤ length piece → length (cut piece a b) ≡ b - a
 cut_length piece a b w = length-take-le (b - a) (drop a piece) (omega (arith, length-drop a piece))

@@ -10,14 +10,18 @@ pub rest_of : (piece : List ℕ) (at : ℕ) → take (length piece - at) (drop a
 rest_of piece at = let l : length piece - at ≡ length (drop at piece) = omega (arith, length-drop at piece) in take_all_of (drop at piece) (length piece - at) l
 
 pub more_within : (piece : List ℕ) (at n : ℕ) → at ≤ length piece → n ≤ length (take (length piece - at) (drop at piece)) → at + n ≤ length piece
-more_within piece at n w h = let e : length (take (length piece - at) (drop at piece)) ≡ length (drop at piece) = ap length (rest_of piece at) in omega (arith, e, length-drop at piece)
+more_within piece at n w h = let e : length (take (length piece - at) (drop at piece)) ≡ length (drop at piece) =
+    ap length (rest_of piece at) in omega (arith, e, length-drop at piece)
 
 -- bytes before a piece, a front of it, and a front of its rest
-pub front_and_more : (bytes piece : List ℕ) (at n : ℕ) → (bytes ++ take at piece) ++ take n (take (length piece - at) (drop at piece)) ≡ bytes ++ take (at + n) piece
-front_and_more bytes piece at n = append_assoc bytes (take at piece) _ ∙ ap (λ xs. bytes ++ xs) (ap (λ ys. take at piece ++ take n ys) (rest_of piece at) ∙ sym (take-add at n piece))
+pub front_and_more : (bytes piece : List ℕ) (at n : ℕ)
+    → (bytes ++ take at piece) ++ take n (take (length piece - at) (drop at piece)) ≡ bytes ++ take (at + n) piece
+front_and_more bytes piece at n =
+    append_assoc bytes (take at piece) _ ∙ ap (λ xs. bytes ++ xs) (ap (λ ys. take at piece ++ take n ys) (rest_of piece at) ∙ sym (take-add at n piece))
 
 pub front_and_rest : (bytes piece : List ℕ) (at : ℕ) → (bytes ++ take at piece) ++ take (length piece - at) (drop at piece) ≡ bytes ++ piece
-front_and_rest bytes piece at = append_assoc bytes (take at piece) _ ∙ ap (λ xs. bytes ++ xs) (ap (λ ys. take at piece ++ ys) (rest_of piece at) ∙ take-append-drop at piece)
+front_and_rest bytes piece at =
+    append_assoc bytes (take at piece) _ ∙ ap (λ xs. bytes ++ xs) (ap (λ ys. take at piece ++ ys) (rest_of piece at) ∙ take-append-drop at piece)
 
 pub front_and_byte : (bytes piece : List ℕ) (at : ℕ) → at < length piece → (bytes ++ take at piece) ++ get_or piece at 0 ∷ [] ≡ bytes ++ take (at + 1) piece
 front_and_byte bytes piece at w = append_assoc bytes (take at piece) _ ∙ ap (λ xs. bytes ++ xs) (sym (take_more piece at 0 w))

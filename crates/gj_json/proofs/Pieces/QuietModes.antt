@@ -1,5 +1,6 @@
 -- White space and digits leave some modes as they are, and bytes of a string its mode.
-use Rattle.std.proofs.Common.{◌≡◌, ℕ, ◌+◌, ◌-◌, ◌<◌, Bool, true, false, cond, List, [], ◌∷◌, ◌++◌, length, take, drop, take-add, get_or, None, refl, sym, ap, subst, ◌∙◌, append_assoc, append-nil, arith}
+use Rattle.std.proofs.Common.{◌≡◌, ℕ, ◌+◌, ◌-◌, ◌<◌, Bool, true, false, cond, List, [], ◌∷◌, ◌++◌, length, take, drop, take-add, get_or, None, refl, sym, ap}
+use Rattle.std.proofs.Common.{subst, ◌∙◌, append_assoc, append-nil, arith}
 use Rattle.std.proofs.lemmas.List.{take_more}
 use Rattle.std.specs.List.{AllByRecursion, prefix_len}
 use Rattle.std.proofs.Math.Numerals.{one-add}
@@ -65,8 +66,10 @@ quiet_white NameDue h b e = record { moves = λ turn inner words. rw (class_whit
 quiet_white ColonDue h b e = record { moves = λ turn inner words. rw (class_white b e) refl; on = refl }
 quiet_white _ h b e = absurd h
 
-pub plain_run : (xs : List ℕ) → Reads Plain (take (prefix_len is_plain xs) xs) (take (prefix_len is_plain xs) xs) Plain × AllByRecursion IsAscii (take (prefix_len is_plain xs) xs)
-plain_run xs = let h = all_run is_plain IsPlain plain_is xs in (plain_reads (take (prefix_len is_plain xs) xs) h, plain_ascii (take (prefix_len is_plain xs) xs) h)
+pub plain_run : (xs : List ℕ) → Reads Plain (take (prefix_len is_plain xs) xs) (take (prefix_len is_plain xs) xs) Plain
+    × AllByRecursion IsAscii (take (prefix_len is_plain xs) xs)
+plain_run xs = let h =
+    all_run is_plain IsPlain plain_is xs in (plain_reads (take (prefix_len is_plain xs) xs) h, plain_ascii (take (prefix_len is_plain xs) xs) h)
 
 pub white_run : (mode : Mode) → PassesWhite mode → (xs : List ℕ) → AllByRecursion (IsQuiet mode) (take (prefix_len is_white xs) xs)
 white_run mode h xs = all_run is_white (IsQuiet mode) (quiet_white mode h) xs
@@ -77,16 +80,19 @@ pub joined : (a b c : StringState) (xs ys cs ds : List ℕ) → Reads a xs cs b 
 joined a b c [] ys cs ds h g = let P : StringState → Type 0 = λ s. Reads s ys ds c in rw (h.1) (subst P (sym h.0) g)
 joined a b c (x ∷ xs) ys cs ds h g = (h.0, h.1, h.2 ++ ds, h.3, ap (λ zs. zs ++ ds) h.4 ∙ append_assoc h.1 h.2 ds, joined h.0 b c xs ys h.2 ds h.5 g)
 
-pub reads_more : (a b c : StringState) (piece cs ds : List ℕ) (at n : ℕ) → Reads a (take at piece) cs b → Reads b (take n (take (length piece - at) (drop at piece))) ds c → Reads a (take (at + n) piece) (cs ++ ds) c
+pub reads_more : (a b c : StringState) (piece cs ds : List ℕ) (at n : ℕ) → Reads a (take at piece) cs b
+    → Reads b (take n (take (length piece - at) (drop at piece))) ds c → Reads a (take (at + n) piece) (cs ++ ds) c
 reads_more a b c piece cs ds at n h g =
     let P : List ℕ → Type 0 = λ xs. Reads b (take n xs) ds c in
     let Q : List ℕ → Type 0 = λ xs. Reads a xs (cs ++ ds) c in
     subst Q (sym (take-add at n piece)) (joined a b c (take at piece) (take n (drop at piece)) cs ds h (subst P (rest_of piece at) g))
 
-pub reads_byte : (a b c : StringState) (piece cs more : List ℕ) (at : ℕ) → at < length piece → Reads a (take at piece) cs b → string_next b (get_or piece at 0) ≡ string_goes more c → Reads a (take (at + 1) piece) (cs ++ more) c
+pub reads_byte : (a b c : StringState) (piece cs more : List ℕ) (at : ℕ) → at < length piece → Reads a (take at piece) cs b
+    → string_next b (get_or piece at 0) ≡ string_goes more c → Reads a (take (at + 1) piece) (cs ++ more) c
 reads_byte a b c piece cs more at w h g =
     let Q : List ℕ → Type 0 = λ xs. Reads a xs (cs ++ more) c in
-    subst Q (sym (take_more piece at 0 w)) (joined a b c (take at piece) (get_or piece at 0 ∷ []) cs more h (c, more, [], g, sym (append-nil more), (refl, refl)))
+    subst Q (sym (take_more piece at 0 w))
+    (joined a b c (take at piece) (get_or piece at 0 ∷ []) cs more h (c, more, [], g, sym (append-nil more), (refl, refl)))
 
 pub quiet_leads : (mode : Mode) (xs : List ℕ) → AllByRecursion (IsQuiet mode) xs → Leads mode xs mode
 quiet_leads mode [] h = refl

@@ -1,5 +1,6 @@
 -- Bytes that complete nothing, in a row.
-use Rattle.std.proofs.Common.{inl, inr, ◌≡◌, ℕ, ◌+◌, ◌≤◌, ◌<◌, true, false, List, [], ◌∷◌, ◌++◌, length, Option, Some, None, refl, sym, ap, subst, ◌∙◌, arith, append_assoc, append-nil}
+use Rattle.std.proofs.Common.{inl, inr, ◌≡◌, ℕ, ◌+◌, ◌≤◌, ◌<◌, true, false, List, [], ◌∷◌, ◌++◌, length, Option, Some, None, refl, sym, ap, subst, ◌∙◌, arith}
+use Rattle.std.proofs.Common.{append_assoc, append-nil}
 use Rattle.gj_json.specs.declared.event.Event.{Event}
 use Rattle.gj_json.specs.declared.levels.Level.{Level}
 use Rattle.gj_json.specs.declared.mode.Mode.{Mode}
@@ -7,7 +8,8 @@ use Rattle.gj_json.specs.Limits.{Allowed}
 use Rattle.gj_json.specs.Text.{IsText}
 use Rattle.gj_json.specs.Events.{events_by}
 use Rattle.gj_json.specs.Internal.OpenLevels.{inner_of}
-use Rattle.gj_json.specs.Internal.TextMachine.{Broken, text_due, mark_one, mark_two, begun, step, string_next, string_goes, Leaf, value_due, value_done, array_opened, object_opened, constant_on, number_on, string_on, name_due, name_on, colon_due}
+use Rattle.gj_json.specs.Internal.TextMachine.{Broken, text_due, mark_one, mark_two, begun, step, string_next, string_goes, Leaf, value_due, value_done}
+use Rattle.gj_json.specs.Internal.TextMachine.{array_opened, object_opened, constant_on, number_on, string_on, name_due, name_on, colon_due}
 use Rattle.gj_json.specs.Internal.Transitions.{move_of, string_move, value_string_move, name_string_move}
 use Rattle.gj_json.specs.Internal.QuietBytes.{LeadsBy, Leads, Reads}
 use Rattle.gj_json.specs.Reader.{Completed}
@@ -38,7 +40,8 @@ use Rattle.gj_json.specs.declared.mode.Ending.{Ending}
 use Rattle.gj_json.specs.declared.mode.Ending.TheVariants.{Nothing}
 
 -- where nothing is under way, it does not matter where that began
-leaf_start : (leaf : Leaf) (mode next : Mode) (start n : ℕ) → is_on mode ≡ is_on next → LeafAs leaf next → BegunAs leaf (start_after mode start n) → BegunAs leaf start
+leaf_start : (leaf : Leaf) (mode next : Mode) (start n : ℕ) → is_on mode ≡ is_on next → LeafAs leaf next → BegunAs leaf (start_after mode start n)
+    → BegunAs leaf start
 leaf_start value_due mode next start n on a h = tt
 leaf_start (value_done t) mode next start n on a h = tt
 leaf_start (array_opened place) mode next start n on a h = tt
@@ -50,14 +53,16 @@ leaf_start (name_due place done) mode next start n on a h = tt
 leaf_start (name_on place done np so_far state) mode next start n on a h = rw (on, a) at h
 leaf_start (colon_due place done np name ne) mode next start n on a h = tt
 
-edge_start : (s : Broken) (mode next : Mode) (levels : List Level) (start n m : ℕ) → is_on mode ≡ is_on next → StandsAs s next levels → EdgeAt s (start_after mode start n) m → EdgeAt s start m
+edge_start : (s : Broken) (mode next : Mode) (levels : List Level) (start n m : ℕ) → is_on mode ≡ is_on next → StandsAs s next levels
+    → EdgeAt s (start_after mode start n) m → EdgeAt s start m
 edge_start text_due mode next levels start n m on a h = h
 edge_start mark_one mode next levels start n m on a h = h
 edge_start mark_two mode next levels start n m on a h = h
 edge_start (begun marked s) mode next levels start n m on a h = (leaf_start s.leaf mode next start n on a.0 h.0, h.1)
 
 -- bytes after bytes, of which neither complete anything
-no_more : (offset n : ℕ) (bytes : List ℕ) (b : ℕ) (run : List ℕ) → Completed offset (offset + 1) (bytes ++ b ∷ []) [] → Completed (offset + 1) n ((bytes ++ b ∷ []) ++ run) [] → Completed offset n (bytes ++ (b ∷ run)) []
+no_more : (offset n : ℕ) (bytes : List ℕ) (b : ℕ) (run : List ℕ) → Completed offset (offset + 1) (bytes ++ b ∷ []) []
+    → Completed (offset + 1) n ((bytes ++ b ∷ []) ++ run) [] → Completed offset n (bytes ++ (b ∷ run)) []
 no_more offset n bytes b run c d = λ T rest t.
     let u : IsText T (((bytes ++ b ∷ []) ++ run) ++ rest) = rw (append_assoc bytes (b ∷ []) run) t in
     let v : IsText T ((bytes ++ b ∷ []) ++ (run ++ rest)) = rw (append_assoc (bytes ++ b ∷ []) run rest) at u in
@@ -65,33 +70,38 @@ no_more offset n bytes b run c d = λ T rest t.
 
 -- a mode in which a string, or a name, is under way
 record IsTextMode (on : StringState → Mode) : Type 0 where
-  pub moves : (state next : StringState) (more : List ℕ) (b : ℕ) (turn : NumberTurn) (inner : Option Level) (words : Words) → string_next state b ≡ string_goes more next → move_of (on state) turn inner words b ≡ Go (on next) Nothing
+  pub moves : (state next : StringState) (more : List ℕ) (b : ℕ) (turn : NumberTurn) (inner : Option Level) (words : Words)
+      → string_next state b ≡ string_goes more next → move_of (on state) turn inner words b ≡ Go (on next) Nothing
   pub is_text : (state : StringState) → is_on (on state) ≡ true
   pub number : (state : StringState) → in_number (on state) ≡ false
   pub state : (state : StringState) → text_state (on state) ≡ Some state
 
 string_mode : IsTextMode StringOn
 string_mode = record {
-  moves = λ state next more b turn inner words e. let o : OneCharacter (string_goes more next) = (let p = one_character state b in rw e at p) in rw e (move words more next o);
+  moves = λ state next more b turn inner words e. let o : OneCharacter (string_goes more next) =
+      (let p = one_character state b in rw e at p) in rw e (move words more next o);
   is_text = λ state. refl;
   number = λ state. refl;
   state = λ state. refl;
 }
   where
-    move : (words : Words) (more : List ℕ) (next : StringState) → OneCharacter (string_goes more next) → value_string_move words (string_move (string_goes more next)) ≡ Go (StringOn next) Nothing
+    move : (words : Words) (more : List ℕ) (next : StringState) → OneCharacter (string_goes more next)
+        → value_string_move words (string_move (string_goes more next)) ≡ Go (StringOn next) Nothing
     move words [] next o = refl
     move words (c ∷ []) next o = rw o refl
     move words (c ∷ d ∷ more) next o = absurd o
 
 name_mode : IsTextMode NameOn
 name_mode = record {
-  moves = λ state next more b turn inner words e. let o : OneCharacter (string_goes more next) = (let p = one_character state b in rw e at p) in rw e (move words more next o);
+  moves = λ state next more b turn inner words e. let o : OneCharacter (string_goes more next) =
+      (let p = one_character state b in rw e at p) in rw e (move words more next o);
   is_text = λ state. refl;
   number = λ state. refl;
   state = λ state. refl;
 }
   where
-    move : (words : Words) (more : List ℕ) (next : StringState) → OneCharacter (string_goes more next) → name_string_move words (string_move (string_goes more next)) ≡ Go (NameOn next) Nothing
+    move : (words : Words) (more : List ℕ) (next : StringState) → OneCharacter (string_goes more next)
+        → name_string_move words (string_move (string_goes more next)) ≡ Go (NameOn next) Nothing
     move words [] next o = refl
     move words (c ∷ []) next o = rw o refl
     move words (c ∷ d ∷ more) next o = absurd o
@@ -103,18 +113,23 @@ free_of_number _ b next q = refl
 
 module _ (limits : Allowed) (levels : List Level) (start : ℕ) where
   -- a byte that leads to another mode, by what it does to the number under way
-  pub byte_well : (mode next : Mode) (ending : Ending) (offset : ℕ) (bytes : List ℕ) (b : ℕ) (k : StandsWell limits mode levels start offset bytes) (turn : NumberTurn) → Turns (under_of k.state) b turn → offset < limits.bytes
-      → move_of mode turn (inner_of levels) (own_words (under_of k.state)) b ≡ Go next ending → is_on mode ≡ is_on next → (w : StandsWell limits next levels start (offset + 1) (bytes ++ b ∷ [])) × ComesFrom (under_of k.state) b (under_of w.state)
+  pub byte_well : (mode next : Mode) (ending : Ending) (offset : ℕ) (bytes : List ℕ) (b : ℕ) (k : StandsWell limits mode levels start offset bytes)
+      (turn : NumberTurn) → Turns (under_of k.state) b turn → offset < limits.bytes
+      → move_of mode turn (inner_of levels) (own_words (under_of k.state)) b ≡ Go next ending → is_on mode ≡ is_on next
+      → (w : StandsWell limits next levels start (offset + 1) (bytes ++ b ∷ [])) × ComesFrom (under_of k.state) b (under_of w.state)
   unfolding passed
   byte_well mode next ending offset bytes b k turn t room m on =
-      go (step k.state (length bytes) b) refl (rw m at (moves limits.depth k.state mode turn (own_words (under_of k.state)) levels (length bytes) b k.kept t k.fits))
-      (told_by_step limits mode levels start offset bytes b k turn (own_value (under_of k.state)) (own_words (under_of k.state)) t (own_has (under_of k.state) turn) (own_has_words (under_of k.state))) (step_came k.state (length bytes) b)
+      go (step k.state (length bytes) b) refl
+      (rw m at (moves limits.depth k.state mode turn (own_words (under_of k.state)) levels (length bytes) b k.kept t k.fits))
+      (told_by_step limits mode levels start offset bytes b k turn (own_value (under_of k.state)) (own_words (under_of k.state)) t
+      (own_has (under_of k.state) turn) (own_has_words (under_of k.state))) (step_came k.state (length bytes) b)
     where
       es : List Event
       es = emitted mode turn (move_of mode turn (inner_of levels) (own_words (under_of k.state)) b) (own_value (under_of k.state)) start offset
 
       go : (o : Option Broken) → step k.state (length bytes) b ≡ o → Goes (λ s. StandsAs s next levels × FitsBroken limits.depth s) o
-          → Tells (seen k.state) (start_after mode start offset) offset es o → CameTo (under_of k.state) b o → (w : StandsWell limits next levels start (offset + 1) (bytes ++ b ∷ [])) × ComesFrom (under_of k.state) b (under_of w.state)
+          → Tells (seen k.state) (start_after mode start offset) offset es o → CameTo (under_of k.state) b o
+          → (w : StandsWell limits next levels start (offset + 1) (bytes ++ b ∷ [])) × ComesFrom (under_of k.state) b (under_of w.state)
       go None e f h c = absurd f
       go (Some s) e f h c =
           let w = passed limits mode levels start offset bytes b k s next levels es room e f.0 f.1 h in (
@@ -130,20 +145,27 @@ module _ (limits : Allowed) (levels : List Level) (start : ℕ) where
             c,
           )
 
-  pub byte_completes : (mode next : Mode) (ending : Ending) (offset : ℕ) (bytes : List ℕ) (b : ℕ) (k : StandsWell limits mode levels start offset bytes) (turn : NumberTurn) → Turns (under_of k.state) b turn
-      → move_of mode turn (inner_of levels) (own_words (under_of k.state)) b ≡ Go next ending → number_events mode turn (own_value (under_of k.state)) start ≡ [] → ending_event ending start ≡ None → Completed offset (offset + 1) (bytes ++ b ∷ []) []
+  pub byte_completes : (mode next : Mode) (ending : Ending) (offset : ℕ) (bytes : List ℕ) (b : ℕ) (k : StandsWell limits mode levels start offset bytes)
+      (turn : NumberTurn) → Turns (under_of k.state) b turn
+      → move_of mode turn (inner_of levels) (own_words (under_of k.state)) b ≡ Go next ending
+      → number_events mode turn (own_value (under_of k.state)) start ≡ [] → ending_event ending start ≡ None
+      → Completed offset (offset + 1) (bytes ++ b ∷ []) []
   byte_completes mode next ending offset bytes b k turn t m n q =
-      let e : emitted mode turn (move_of mode turn (inner_of levels) (own_words (under_of k.state)) b) (own_value (under_of k.state)) start offset ≡ [] = rw (m, n, q) refl in
+      let e : emitted mode turn (move_of mode turn (inner_of levels) (own_words (under_of k.state)) b) (own_value (under_of k.state)) start offset ≡ [] =
+      rw (m, n, q) refl in
       let P : List Event → Type 0 = λ es. Completed offset (offset + 1) (bytes ++ b ∷ []) es in
-      subst P e (completed_from limits mode levels start offset bytes b k turn (own_value (under_of k.state)) (own_words (under_of k.state)) t (own_has (under_of k.state) turn) (own_has_words (under_of k.state)))
+      subst P e (completed_from limits mode levels start offset bytes b k turn (own_value (under_of k.state)) (own_words (under_of k.state)) t
+      (own_has (under_of k.state) turn) (own_has_words (under_of k.state)))
 
-  quiet_byte : (mode next : Mode) (offset : ℕ) (bytes : List ℕ) (b : ℕ) → StandsWell limits mode levels start offset bytes → offset < limits.bytes → LeadsBy mode b next
+  quiet_byte : (mode next : Mode) (offset : ℕ) (bytes : List ℕ) (b : ℕ) → StandsWell limits mode levels start offset bytes → offset < limits.bytes
+      → LeadsBy mode b next
       → StandsWell limits next levels start (offset + 1) (bytes ++ b ∷ []) × Completed offset (offset + 1) (bytes ++ b ∷ []) []
   quiet_byte mode next offset bytes b k room q =
       let turn = own_turn (under_of k.state) b in
       let t = own_turns (under_of k.state) b in (
         (byte_well mode next Nothing offset bytes b k turn t room (q.moves turn (inner_of levels) (own_words (under_of k.state))) q.on).0,
-        byte_completes mode next Nothing offset bytes b k turn t (q.moves turn (inner_of levels) (own_words (under_of k.state))) (no_number mode turn (own_value (under_of k.state)) start (free_of_number mode b next q)) refl,
+        byte_completes mode next Nothing offset bytes b k turn t (q.moves turn (inner_of levels) (own_words (under_of k.state)))
+            (no_number mode turn (own_value (under_of k.state)) start (free_of_number mode b next q)) refl,
       )
 
   -- the number under way behind the bytes
@@ -153,7 +175,8 @@ module _ (limits : Allowed) (levels : List Level) (start : ℕ) where
     pub nothing_more : Completed from to all []
 
   -- digits that go on in a number
-  digits_well : (run so_far : List ℕ) (offset : ℕ) (bytes : List ℕ) (k : StandsWell limits NumberOn levels start offset bytes) → under_of k.state ≡ number so_far
+  digits_well : (run so_far : List ℕ) (offset : ℕ) (bytes : List ℕ) (k : StandsWell limits NumberOn levels start offset bytes)
+      → under_of k.state ≡ number so_far
       → BeginsNumber (so_far ++ run) → offset + length run ≤ limits.bytes → AfterDigits offset (offset + length run) bytes run (bytes ++ run) (so_far ++ run)
   digits_well [] so_far offset bytes k u h room =
       let e : offset ≡ offset + 0 = omega arith in
@@ -170,21 +193,28 @@ module _ (limits : Allowed) (levels : List Level) (start : ℕ) where
       let e : offset + 1 + length run ≡ offset + length (b ∷ run) = omega arith in
       let P : ℕ → Type 0 = λ to. AfterDigits offset to bytes (b ∷ run) (bytes ++ (b ∷ run)) (so_far ++ (b ∷ run)) in
       let Q : List ℕ → Type 0 = λ xs. AfterDigits (offset + 1) (offset + 1 + length run) (bytes ++ b ∷ []) run ((bytes ++ b ∷ []) ++ run) xs in
-      let j : AfterDigits (offset + 1) (offset + 1 + length run) (bytes ++ b ∷ []) run ((bytes ++ b ∷ []) ++ run) (so_far ++ (b ∷ run)) = subst Q (append_assoc so_far (b ∷ []) run) g in
+      let j : AfterDigits (offset + 1) (offset + 1 + length run) (bytes ++ b ∷ []) run ((bytes ++ b ∷ []) ++ run) (so_far ++ (b ∷ run)) =
+      subst Q (append_assoc so_far (b ∷ []) run) g in
       subst P e (earlier offset (offset + 1 + length run) bytes b run (so_far ++ (b ∷ run)) d j)
     where
-      earlier : (offset to : ℕ) (bytes : List ℕ) (b : ℕ) (run so_far : List ℕ) → Completed offset (offset + 1) (bytes ++ b ∷ []) [] → AfterDigits (offset + 1) to (bytes ++ b ∷ []) run ((bytes ++ b ∷ []) ++ run) so_far
+      earlier : (offset to : ℕ) (bytes : List ℕ) (b : ℕ) (run so_far : List ℕ) → Completed offset (offset + 1) (bytes ++ b ∷ []) []
+          → AfterDigits (offset + 1) to (bytes ++ b ∷ []) run ((bytes ++ b ∷ []) ++ run) so_far
           → AfterDigits offset to bytes (b ∷ run) (bytes ++ (b ∷ run)) so_far
       earlier offset to bytes b run so_far d g =
           let P : List ℕ → Type 0 = λ xs. Completed offset to xs [] → AfterDigits offset to bytes (b ∷ run) xs so_far in
-          subst P (append_assoc bytes (b ∷ []) run) (λ n. record { well = g.well; under = g.under; nothing_more = n }) (no_more offset to bytes b run d g.nothing_more)
+          subst P (append_assoc bytes (b ∷ []) run) (λ n. record { well = g.well; under = g.under; nothing_more = n })
+          (no_more offset to bytes b run d g.nothing_more)
 
-  pub digits_run : (run : List ℕ) (old new : Literal) (before after : Content) (offset : ℕ) (bytes : List ℕ) → StandsOpen limits NumberOn levels old before start offset bytes
-      → ((so_far : List ℕ) → LiteralStandsFor old so_far → LiteralStandsFor new (so_far ++ run) × BeginsNumber (so_far ++ run)) → offset + length run ≤ limits.bytes
+  pub digits_run : (run : List ℕ) (old new : Literal) (before after : Content) (offset : ℕ) (bytes : List ℕ)
+      → StandsOpen limits NumberOn levels old before start offset bytes
+      → ((so_far : List ℕ) → LiteralStandsFor old so_far → LiteralStandsFor new (so_far ++ run) × BeginsNumber (so_far ++ run))
+      → offset + length run ≤ limits.bytes
       → StandsOpen limits NumberOn levels new after start (offset + length run) (bytes ++ run) × Completed offset (offset + length run) (bytes ++ run) []
-  digits_run run old new before after offset bytes k goes room = go (under_of k.well.state) refl k.keeps (sym (mode_under k.well.state NumberOn levels k.well.kept))
+  digits_run run old new before after offset bytes k goes room =
+      go (under_of k.well.state) refl k.keeps (sym (mode_under k.well.state NumberOn levels k.well.kept))
     where
-      go : (u : Under) → under_of k.well.state ≡ u → Keeps u old before → has_number u ≡ true → StandsOpen limits NumberOn levels new after start (offset + length run) (bytes ++ run) × Completed offset (offset + length run) (bytes ++ run) []
+      go : (u : Under) → under_of k.well.state ≡ u → Keeps u old before → has_number u ≡ true
+          → StandsOpen limits NumberOn levels new after start (offset + length run) (bytes ++ run) × Completed offset (offset + length run) (bytes ++ run) []
       go nothing e h n = cc
       go (text so_far state) e h n = cc
       go (number so_far) e h n =
@@ -199,13 +229,16 @@ module _ (limits : Allowed) (levels : List Level) (start : ℕ) where
     pub nothing_more : Completed from to all []
 
   -- bytes that go on in a string
-  text_well : (on : StringState → Mode) → IsTextMode on → (run so_far characters : List ℕ) (state last : StringState) (offset : ℕ) (bytes : List ℕ) (k : StandsWell limits (on state) levels start offset bytes)
-      → under_of k.state ≡ text so_far state → Reads state run characters last → offset + length run ≤ limits.bytes → AfterText on offset (offset + length run) bytes run (bytes ++ run) (so_far ++ characters) last
+  text_well : (on : StringState → Mode) → IsTextMode on
+      → (run so_far characters : List ℕ) (state last : StringState) (offset : ℕ) (bytes : List ℕ) (k : StandsWell limits (on state) levels start offset bytes)
+      → under_of k.state ≡ text so_far state → Reads state run characters last → offset + length run ≤ limits.bytes
+      → AfterText on offset (offset + length run) bytes run (bytes ++ run) (so_far ++ characters) last
   text_well on i [] so_far characters state last offset bytes k u h room =
       let e : offset ≡ offset + 0 = omega arith in
       let P : ℕ → Type 0 = λ to. AfterText on offset to bytes [] (bytes ++ []) (so_far ++ characters) last in
       let Q : StringState → Type 0 = λ s. AfterText on offset offset bytes [] bytes so_far s in
-      subst P e (rw (h.1, append-nil bytes, append-nil so_far) (subst Q h.0 (record { well = k; under = u; nothing_more = λ T rest t. sym (append-nil (events_by offset T)) })))
+      subst P e (rw (h.1, append-nil bytes, append-nil so_far)
+      (subst Q h.0 (record { well = k; under = u; nothing_more = λ T rest t. sym (append-nil (events_by offset T)) })))
   text_well on i (b ∷ run) so_far characters state last offset bytes k u h room =
       let turn = own_turn (under_of k.state) b in
       let t = own_turns (under_of k.state) b in
@@ -214,26 +247,34 @@ module _ (limits : Allowed) (levels : List Level) (start : ℕ) where
       let C : Under → Type 0 = λ v. ComesFrom v b (under_of w.0.state) in
       let c : ComesFrom (text so_far state) b (under_of w.0.state) = subst C u w.1 in
       let next = came_text so_far h.1 state h.0 b h.3 (under_of w.0.state) (sym (mode_state w.0.state (on h.0) levels w.0.kept) ∙ i.state h.0) c in
-      let d = byte_completes (on state) (on h.0) Nothing offset bytes b k turn t m (no_number (on state) turn (own_value (under_of k.state)) start (i.number state)) refl in
+      let d = byte_completes (on state) (on h.0) Nothing offset bytes b k turn t m
+      (no_number (on state) turn (own_value (under_of k.state)) start (i.number state)) refl in
       let g = text_well on i run (so_far ++ h.1) h.2 h.0 last (offset + 1) (bytes ++ b ∷ []) w.0 next h.5 (omega arith) in
       let e : offset + 1 + length run ≡ offset + length (b ∷ run) = omega arith in
       let P : ℕ → Type 0 = λ to. AfterText on offset to bytes (b ∷ run) (bytes ++ (b ∷ run)) (so_far ++ characters) last in
       let Q : List ℕ → Type 0 = λ xs. AfterText on (offset + 1) (offset + 1 + length run) (bytes ++ b ∷ []) run ((bytes ++ b ∷ []) ++ run) xs last in
-      let j : AfterText on (offset + 1) (offset + 1 + length run) (bytes ++ b ∷ []) run ((bytes ++ b ∷ []) ++ run) (so_far ++ characters) last = subst Q (append_assoc so_far h.1 h.2 ∙ ap (λ xs. so_far ++ xs) (sym h.4)) g in
+      let j : AfterText on (offset + 1) (offset + 1 + length run) (bytes ++ b ∷ []) run ((bytes ++ b ∷ []) ++ run) (so_far ++ characters) last =
+      subst Q (append_assoc so_far h.1 h.2 ∙ ap (λ xs. so_far ++ xs) (sym h.4)) g in
       subst P e (earlier offset (offset + 1 + length run) bytes b run (so_far ++ characters) d j)
     where
-      earlier : (offset to : ℕ) (bytes : List ℕ) (b : ℕ) (run so_far : List ℕ) → Completed offset (offset + 1) (bytes ++ b ∷ []) [] → AfterText on (offset + 1) to (bytes ++ b ∷ []) run ((bytes ++ b ∷ []) ++ run) so_far last
+      earlier : (offset to : ℕ) (bytes : List ℕ) (b : ℕ) (run so_far : List ℕ) → Completed offset (offset + 1) (bytes ++ b ∷ []) []
+          → AfterText on (offset + 1) to (bytes ++ b ∷ []) run ((bytes ++ b ∷ []) ++ run) so_far last
           → AfterText on offset to bytes (b ∷ run) (bytes ++ (b ∷ run)) so_far last
       earlier offset to bytes b run so_far d g =
           let P : List ℕ → Type 0 = λ xs. Completed offset to xs [] → AfterText on offset to bytes (b ∷ run) xs so_far last in
-          subst P (append_assoc bytes (b ∷ []) run) (λ n. record { well = g.well; under = g.under; nothing_more = n }) (no_more offset to bytes b run d g.nothing_more)
+          subst P (append_assoc bytes (b ∷ []) run) (λ n. record { well = g.well; under = g.under; nothing_more = n })
+          (no_more offset to bytes b run d g.nothing_more)
 
-  text_mode_run : (on : StringState → Mode) → IsTextMode on → (run characters : List ℕ) (first last : StringState) (old new : Literal) (before after : Content) (offset : ℕ) (bytes : List ℕ) → StandsOpen limits (on first) levels old before start offset bytes
+  text_mode_run : (on : StringState → Mode) → IsTextMode on
+      → (run characters : List ℕ) (first last : StringState) (old new : Literal) (before after : Content) (offset : ℕ) (bytes : List ℕ)
+      → StandsOpen limits (on first) levels old before start offset bytes
       → Reads first run characters last → ((so_far : List ℕ) → Holds before so_far → Holds after (so_far ++ characters)) → offset + length run ≤ limits.bytes
       → StandsOpen limits (on last) levels new after start (offset + length run) (bytes ++ run) × Completed offset (offset + length run) (bytes ++ run) []
-  text_mode_run on i run characters first last old new before after offset bytes k h holds room = go (under_of k.well.state) refl k.keeps (sym (mode_state k.well.state (on first) levels k.well.kept) ∙ i.state first)
+  text_mode_run on i run characters first last old new before after offset bytes k h holds room =
+      go (under_of k.well.state) refl k.keeps (sym (mode_state k.well.state (on first) levels k.well.kept) ∙ i.state first)
     where
-      go : (u : Under) → under_of k.well.state ≡ u → Keeps u old before → state_under u ≡ Some first → StandsOpen limits (on last) levels new after start (offset + length run) (bytes ++ run) × Completed offset (offset + length run) (bytes ++ run) []
+      go : (u : Under) → under_of k.well.state ≡ u → Keeps u old before → state_under u ≡ Some first
+          → StandsOpen limits (on last) levels new after start (offset + length run) (bytes ++ run) × Completed offset (offset + length run) (bytes ++ run) []
       go nothing e j n = cc
       go (number so_far) e j n = cc
       go (text so_far state) e j n =
@@ -242,19 +283,24 @@ module _ (limits : Allowed) (levels : List Level) (start : ℕ) where
           let d = text_well on i run so_far characters first last offset bytes k.well (subst P same e) h room in
           (record { well = d.well; keeps = rw (d.under) (holds so_far j) }, d.nothing_more)
 
-  pub text_run : (run characters : List ℕ) (first last : StringState) (mode next : Mode) (old new : Literal) (before after : Content) (offset : ℕ) (bytes : List ℕ) → StandsOpen limits mode levels old before start offset bytes
-      → GoesOn mode first next last → Reads first run characters last → ((so_far : List ℕ) → Holds before so_far → Holds after (so_far ++ characters)) → offset + length run ≤ limits.bytes
+  pub text_run : (run characters : List ℕ) (first last : StringState) (mode next : Mode) (old new : Literal) (before after : Content) (offset : ℕ)
+      (bytes : List ℕ) → StandsOpen limits mode levels old before start offset bytes
+      → GoesOn mode first next last → Reads first run characters last → ((so_far : List ℕ) → Holds before so_far → Holds after (so_far ++ characters))
+      → offset + length run ≤ limits.bytes
       → StandsOpen limits next levels new after start (offset + length run) (bytes ++ run) × Completed offset (offset + length run) (bytes ++ run) []
   text_run run characters first last mode next old new before after offset bytes k (inl m) h holds room =
       let P : Mode → Type 0 = λ x. StandsOpen limits x levels old before start offset bytes in
-      let Q : Mode → Type 0 = λ x. StandsOpen limits x levels new after start (offset + length run) (bytes ++ run) × Completed offset (offset + length run) (bytes ++ run) [] in
+      let Q : Mode → Type 0 =
+      λ x. StandsOpen limits x levels new after start (offset + length run) (bytes ++ run) × Completed offset (offset + length run) (bytes ++ run) [] in
       subst Q (sym m.1) (text_mode_run StringOn string_mode run characters first last old new before after offset bytes (subst P m.0 k) h holds room)
   text_run run characters first last mode next old new before after offset bytes k (inr m) h holds room =
       let P : Mode → Type 0 = λ x. StandsOpen limits x levels old before start offset bytes in
-      let Q : Mode → Type 0 = λ x. StandsOpen limits x levels new after start (offset + length run) (bytes ++ run) × Completed offset (offset + length run) (bytes ++ run) [] in
+      let Q : Mode → Type 0 =
+      λ x. StandsOpen limits x levels new after start (offset + length run) (bytes ++ run) × Completed offset (offset + length run) (bytes ++ run) [] in
       subst Q (sym m.1) (text_mode_run NameOn name_mode run characters first last old new before after offset bytes (subst P m.0 k) h holds room)
 
-  pub quiet_run : (run : List ℕ) (mode last : Mode) (offset : ℕ) (bytes : List ℕ) → StandsWell limits mode levels start offset bytes → offset + length run ≤ limits.bytes → Leads mode run last
+  pub quiet_run : (run : List ℕ) (mode last : Mode) (offset : ℕ) (bytes : List ℕ) → StandsWell limits mode levels start offset bytes
+      → offset + length run ≤ limits.bytes → Leads mode run last
       → StandsWell limits last levels start (offset + length run) (bytes ++ run) × Completed offset (offset + length run) (bytes ++ run) []
   quiet_run [] mode last offset bytes k room q =
       let e : offset ≡ offset + 0 = omega arith in

@@ -1,5 +1,6 @@
 -- Where a run of characters goes on: behind bytes that some byte of a character may follow.
-use Rattle.std.proofs.Common.{◌≡◌, ℕ, zero, suc, ◌==◌, ◌+◌, ◌≤◌, Bool, true, false, inl, inr, List, [], ◌∷◌, ◌++◌, length, take, slice_index, Option, Some, None, is_some, refl, subst, ◌∙◌, arith}
+use Rattle.std.proofs.Common.{◌≡◌, ℕ, zero, suc, ◌==◌, ◌+◌, ◌≤◌, Bool, true, false, inl, inr, List, [], ◌∷◌, ◌++◌, length, take, slice_index, Option, Some}
+use Rattle.std.proofs.Common.{None, is_some, refl, subst, ◌∙◌, arith}
 use Rattle.std.specs.List.{AllByRecursion}
 use Rattle.std.specs.Str.{IsUtf8}
 use Rattle.std.proofs.lemmas.List.{length-append}
@@ -15,7 +16,8 @@ use Rattle.gj_json.specs.declared.levels.Level.TheVariants.{Array, Object}
 use Rattle.gj_json.specs.declared.mode.Bounds.{Bounds}
 use Rattle.gj_json.specs.declared.mode.Bounds.TheVariants.{Any, AfterE0, AfterED, AfterF0, AfterF4}
 use Rattle.gj_json.specs.declared.mode.Mode.{Mode}
-use Rattle.gj_json.specs.declared.mode.Mode.TheVariants.{TextDue, MarkOne, MarkTwo, ValueDue, ValueDone, ArrayOpened, ObjectOpened, ConstantOn, NumberOn, StringOn, NameDue, NameOn, ColonDue}
+use Rattle.gj_json.specs.declared.mode.Mode.TheVariants.{TextDue, MarkOne, MarkTwo, ValueDue, ValueDone, ArrayOpened, ObjectOpened, ConstantOn, NumberOn}
+use Rattle.gj_json.specs.declared.mode.Mode.TheVariants.{StringOn, NameDue, NameOn, ColonDue}
 use Rattle.gj_json.specs.declared.mode.Move.{Move}
 use Rattle.gj_json.specs.declared.mode.Move.TheVariants.{Refuse, Go}
 use Rattle.gj_json.specs.declared.mode.Ending.TheVariants.{Nothing}
@@ -65,7 +67,8 @@ begun_in (StringOn state) = StringOn (InCharacter 0 Any 2)
 begun_in (NameOn state) = NameOn (InCharacter 0 Any 2)
 begun_in mode = mode
 
-in_text_c2 : (mode : Mode) → is_between mode ≡ true → (turn : NumberTurn) (inner : Option Level) → move_of mode turn inner (words_of []) character_byte ≡ Go (begun_in mode) Nothing
+in_text_c2 : (mode : Mode) → is_between mode ≡ true → (turn : NumberTurn) (inner : Option Level)
+    → move_of mode turn inner (words_of []) character_byte ≡ Go (begun_in mode) Nothing
 in_text_c2 (StringOn Plain) e turn inner = rw lead_c2 refl
 in_text_c2 (NameOn Plain) e turn inner = rw lead_c2 refl
 in_text_c2 _ e turn inner = cc
@@ -82,7 +85,8 @@ ended_c2 : (may_end : Bool) (inner : Option Level) → number_move (turn_of fals
 ended_c2 true inner = after_c2 inner
 ended_c2 false inner = refl
 
-number_move_c2 : (under : Under) (inner : Option Level) → true ≡ has_number under → number_move (own_turn under character_byte) (after_move inner (class_of character_byte)) ≡ Refuse
+number_move_c2 : (under : Under) (inner : Option Level) → true ≡ has_number under
+    → number_move (own_turn under character_byte) (after_move inner (class_of character_byte)) ≡ Refuse
 number_move_c2 (number so_far) inner e = rw (class_c2, number_c2 so_far) (ended_c2 (is_number so_far) inner)
 number_move_c2 nothing inner e = cc
 number_move_c2 (text so_far state) inner e = cc
@@ -121,7 +125,8 @@ escaped_c2 (HexTwo value) h = rw hex_c2 refl
 escaped_c2 (HexThree value) h = rw hex_c2 refl
 escaped_c2 (InCharacter more bounds value) h = bounds_c2 more bounds value
 
-elsewhere_c2 : (mode : Mode) (under : Under) (inner : Option Level) → is_between mode ≡ false → in_number mode ≡ has_number under → move_of mode (own_turn under character_byte) inner (words_of []) character_byte ≡ Refuse
+elsewhere_c2 : (mode : Mode) (under : Under) (inner : Option Level) → is_between mode ≡ false → in_number mode ≡ has_number under
+    → move_of mode (own_turn under character_byte) inner (words_of []) character_byte ≡ Refuse
 elsewhere_c2 TextDue under inner e n = rw class_c2 refl
 elsewhere_c2 MarkOne under inner e n = refl
 elsewhere_c2 MarkTwo under inner e n = refl
@@ -131,22 +136,27 @@ elsewhere_c2 ArrayOpened under inner e n = rw class_c2 refl
 elsewhere_c2 ObjectOpened under inner e n = rw class_c2 refl
 elsewhere_c2 (ConstantOn which count) under inner e n = constant_c2 which count
 elsewhere_c2 NumberOn under inner e n = number_move_c2 under inner n
-elsewhere_c2 (StringOn state) under inner e n = rw (escaped_c2 state (λ f. let P : StringState → Type 0 = λ s. is_between (StringOn s) ≡ false in let k = subst P f e in cc)) refl
+elsewhere_c2 (StringOn state) under inner e n =
+    rw (escaped_c2 state (λ f. let P : StringState → Type 0 = λ s. is_between (StringOn s) ≡ false in let k = subst P f e in cc)) refl
 elsewhere_c2 NameDue under inner e n = rw class_c2 refl
-elsewhere_c2 (NameOn state) under inner e n = rw (escaped_c2 state (λ f. let P : StringState → Type 0 = λ s. is_between (NameOn s) ≡ false in let k = subst P f e in cc)) refl
+elsewhere_c2 (NameOn state) under inner e n =
+    rw (escaped_c2 state (λ f. let P : StringState → Type 0 = λ s. is_between (NameOn s) ≡ false in let k = subst P f e in cc)) refl
 elsewhere_c2 ColonDue under inner e n = rw class_c2 refl
 
 -- ---- so the byte tells where a run goes on
 
 module _ (reader : Reader) (bytes : List ℕ) (live : reader.fault ≡ None) (h : StandsFor reader bytes) where
-  follows : (move : Move) → ((u : Under) → in_number reader.mode ≡ has_number u → move_of reader.mode (own_turn u character_byte) (inner_of (levels_in reader.levels)) (words_of []) character_byte ≡ move)
+  follows : (move : Move)
+      → ((u : Under) → in_number reader.mode ≡ has_number u
+      → move_of reader.mode (own_turn u character_byte) (inner_of (levels_in reader.levels)) (words_of []) character_byte ≡ move)
       → (state : Broken) × (run bytes ≡ Some state) × Follows reader.limits.depth (levels_in reader.levels) move (step state (length bytes) character_byte)
   follows move m =
       let w = well_of reader bytes live h in
       let u = under_of w.state in
       let P : Move → Type 0 = λ k. Follows reader.limits.depth (levels_in reader.levels) k (step w.state (length bytes) character_byte) in
       let f : P (move_of reader.mode (own_turn u character_byte) (inner_of (levels_in reader.levels)) (words_of []) character_byte) =
-      moves reader.limits.depth w.state reader.mode (own_turn u character_byte) (words_of []) (levels_in reader.levels) (length bytes) character_byte w.kept (own_turns u character_byte) w.fits in
+      moves reader.limits.depth w.state reader.mode (own_turn u character_byte) (words_of []) (levels_in reader.levels) (length bytes) character_byte w.kept
+      (own_turns u character_byte) w.fits in
       (w.state, w.runs, subst P (m u (mode_under w.state reader.mode (levels_in reader.levels) w.kept)) f)
 
   pub viable_between : is_between reader.mode ≡ true → IsViable (bytes ++ character_byte ∷ [])
@@ -154,7 +164,8 @@ module _ (reader : Reader) (bytes : List ℕ) (live : reader.fault ≡ None) (h 
       let f = follows (Go (begun_in reader.mode) Nothing) (λ u n. in_text_c2 reader.mode e (own_turn u character_byte) (inner_of (levels_in reader.levels))) in
       reach (begun_in reader.mode) f.0 f.1 (step f.0 (length bytes) character_byte) refl f.2
     where
-      reach : (next : Mode) (state : Broken) → run bytes ≡ Some state → (o : Option Broken) → step state (length bytes) character_byte ≡ o → Goes (λ s. StandsAs s next (levels_in reader.levels) × FitsBroken reader.limits.depth s) o
+      reach : (next : Mode) (state : Broken) → run bytes ≡ Some state → (o : Option Broken) → step state (length bytes) character_byte ≡ o
+          → Goes (λ s. StandsAs s next (levels_in reader.levels) × FitsBroken reader.limits.depth s) o
           → IsViable (bytes ++ character_byte ∷ [])
       reach next state r None e g = absurd g
       reach next state r (Some s) e g = some_viable reader.limits.depth (bytes ++ character_byte ∷ []) s (run-push bytes character_byte state r ∙ e) g.1
@@ -170,14 +181,18 @@ pub live_of : {A : Type 0} (fault : Option A) → is_some fault ≡ false → fa
 live_of None e = refl
 live_of (Some x) e = cc
 
-pub run_skips : (old mid new : Reader) (given : List ℕ) (count : ℕ) (mode : Mode) → old.mode ≡ mode → is_between mode ≡ true → length given ≡ count → Alike mid old → Passed count mode mid new → (utf8 : IsUtf8 given) → AllByRecursion IsUnescaped given
+pub run_skips : (old mid new : Reader) (given : List ℕ) (count : ℕ) (mode : Mode) → old.mode ≡ mode → is_between mode ≡ true → length given ≡ count
+    → Alike mid old → Passed count mode mid new → (utf8 : IsUtf8 given) → AllByRecursion IsUnescaped given
     → ((so_far : List ℕ) → Holds old.content so_far → Holds mid.content (so_far ++ utf8.0)) → Skips old new given
-run_skips old mid new given count (StringOn Plain) m e n a p utf8 all holds = text_skips old mid new given utf8.0 count Plain Plain (StringOn Plain) a n p (inl (m, refl)) (characters_read given utf8 all) holds
-run_skips old mid new given count (NameOn Plain) m e n a p utf8 all holds = text_skips old mid new given utf8.0 count Plain Plain (NameOn Plain) a n p (inr (m, refl)) (characters_read given utf8 all) holds
+run_skips old mid new given count (StringOn Plain) m e n a p utf8 all holds =
+    text_skips old mid new given utf8.0 count Plain Plain (StringOn Plain) a n p (inl (m, refl)) (characters_read given utf8 all) holds
+run_skips old mid new given count (NameOn Plain) m e n a p utf8 all holds =
+    text_skips old mid new given utf8.0 count Plain Plain (NameOn Plain) a n p (inr (m, refl)) (characters_read given utf8 all) holds
 run_skips old mid new given count _ m e n a p utf8 all holds = cc
 
 -- what bytes that complete nothing leave, and that they complete nothing
-module _ (old new : Reader) (given bytes : List ℕ) (live : old.fault ≡ None) (room : old.offset + length given ≤ old.limits.bytes) (skips : Skips old new given) (h : StandsFor old bytes) where
+module _ (old new : Reader) (given bytes : List ℕ) (live : old.fault ≡ None) (room : old.offset + length given ≤ old.limits.bytes) (skips : Skips old new given)
+    (h : StandsFor old bytes) where
   fed : FeedsAll (λ events. events ≡ []) (λ events. events ≡ []) old new given
   fed = skip_feeds old new given live room skips
 

@@ -1,6 +1,7 @@
 -- An array that stands whole, taken at once: the machine goes from where it is due to where it is done, and the reader keeps
 -- nothing of it but the mode and the offset.
-use Rattle.std.proofs.Common.{◌≡◌, ℕ, ◌+◌, ◌-◌, ◌≤◌, ◌<◌, Bool, true, List, [], ◌∷◌, ◌++◌, get_or, length, length-drop, take, take-add, drop, Some, None, refl, sym, ap, subst, ◌∙◌, arith, append_assoc, append-nil}
+use Rattle.std.proofs.Common.{◌≡◌, ℕ, ◌+◌, ◌-◌, ◌≤◌, ◌<◌, Bool, true, List, [], ◌∷◌, ◌++◌, get_or, length, length-drop, take, take-add, drop, Some, None, refl}
+use Rattle.std.proofs.Common.{sym, ap, subst, ◌∙◌, arith, append_assoc, append-nil}
 use Rattle.std.proofs.lemmas.List.{length-append, length-take-le, map-append, take_more, get_or-drop, drop-drop}
 use Rattle.std.specs.List.{AllByRecursion}
 use Rattle.gj_json.specs.Bytes.{open_bracket, comma, IsWhite}
@@ -28,7 +29,9 @@ use Rattle.gj_json.specs.Flat.{flat_events}
 use Rattle.gj_json.specs.Internal.SpelledNumbers.{IsFlat}
 use Rattle.gj_json.specs.Internal.FlatParts.{awaits, cut}
 use Rattle.gj_json.specs.Internal.OpenLevels.{levels_in, inner_of}
-use Rattle.gj_json.specs.Internal.TextMachine.{Frame, in_array, in_object, Leaf, value_due, value_done, array_opened, object_opened, constant_on, number_on, string_on, name_due, name_on, colon_due, Partial, Broken, text_due, mark_one, mark_two, begun, begin_value, step_leaf, to, run_from, run}
+use Rattle.gj_json.specs.Internal.TextMachine.{Frame, in_array, in_object, Leaf, value_due, value_done, array_opened, object_opened, constant_on, number_on}
+use Rattle.gj_json.specs.Internal.TextMachine.{string_on, name_due, name_on, colon_due, Partial, Broken, text_due, mark_one, mark_two, begun, begin_value}
+use Rattle.gj_json.specs.Internal.TextMachine.{step_leaf, to, run_from, run}
 use Rattle.gj_json.specs.Internal.Transitions.{IsMode, move_of}
 use Rattle.gj_json.specs.Internal.QuietBytes.{IsQuiet}
 use Rattle.gj_json.specs.Reader.{Completed}
@@ -55,11 +58,14 @@ use Rattle.gj_json.proofs.Machine.ReadValues.{elements_lead}
 
 -- ---- the machine
 
-array_leads : (s : Partial) (stack : List Frame) (place : ℕ) (elements : Elements) (close n : ℕ) (bytes : List ℕ) → step_leaf s.stack s.leaf n open_bracket ≡ to stack (array_opened n) → Spells (array place elements close) n bytes
+array_leads : (s : Partial) (stack : List Frame) (place : ℕ) (elements : Elements) (close n : ℕ) (bytes : List ℕ)
+    → step_leaf s.stack s.leaf n open_bracket ≡ to stack (array_opened n) → Spells (array place elements close) n bytes
     → Leads s n bytes (at stack (value_done (array place elements close)))
 array_leads s stack place elements close n bytes opens h =
     let P : ℕ → Type 0 = λ p. Leads s n bytes (at stack (value_done (array p elements close))) in
-    subst P (sym h.0) (byte_leads h.1 opens (λ rest k. then_leads k (white_leads (at stack (array_opened n)) (array_white stack n) k.first (n + 1) k.before) (elements_lead elements stack n close _ k.rest k.after)))
+    subst P (sym h.0) (byte_leads h.1 opens
+    (λ rest k. then_leads k (white_leads (at stack (array_opened n)) (array_white stack n) k.first (n + 1) k.before)
+    (elements_lead elements stack n close _ k.rest k.after)))
 
 -- where a value may begin: what is open around it
 pub record IsDue (state : Broken) (levels : List Level) (d : ℕ) : Type 0 where
@@ -67,16 +73,38 @@ pub record IsDue (state : Broken) (levels : List Level) (d : ℕ) : Type 0 where
   pub partial : Partial
   pub stack : List Frame
   pub is : state ≡ begun marked partial
-  pub begins : (n b : ℕ) (c : Class) (next : Partial) → class_of b ≡ c → begin_value stack n b c ≡ Some next → step_leaf partial.stack partial.leaf n b ≡ Some next
+  pub begins : (n b : ℕ) (c : Class) (next : Partial) → class_of b ≡ c → begin_value stack n b c ≡ Some next
+      → step_leaf partial.stack partial.leaf n b ≡ Some next
   pub around : levels ≡ levels_of stack
   pub fits : Fits d stack
   pub before : partial_timed partial ≡ stack_timed stack
 
-leaf_due : (marked : Bool) (stack : List Frame) (leaf : Leaf) (mode : Mode) (levels : List Level) (d : ℕ) → awaits mode ≡ true → StandsAs (begun marked (at stack leaf)) mode levels → FitsBroken d (begun marked (at stack leaf)) → IsDue (begun marked (at stack leaf)) levels d
+leaf_due : (marked : Bool) (stack : List Frame) (leaf : Leaf) (mode : Mode) (levels : List Level) (d : ℕ) → awaits mode ≡ true
+    → StandsAs (begun marked (at stack leaf)) mode levels → FitsBroken d (begun marked (at stack leaf)) → IsDue (begun marked (at stack leaf)) levels d
 leaf_due marked stack value_due mode levels d w a f =
-    record { marked = marked; partial = at stack value_due; stack = stack; is = refl; begins = λ n b c next k e. rw k (due_begins stack n b c next e); around = a.1; fits = f; before = append-nil (stack_timed stack) }
+    record {
+      marked = marked;
+      partial = at stack value_due;
+      stack = stack;
+      is = refl;
+      begins = λ n b c next k e. rw k (due_begins stack n b c next e);
+      around =
+          a.1;
+      fits = f;
+      before = append-nil (stack_timed stack);
+    }
 leaf_due marked stack (array_opened place) mode levels d w a f =
-    record { marked = marked; partial = at stack (array_opened place); stack = in_array place [] ∷ stack; is = refl; begins = λ n b c next k e. rw k (array_begins stack place n b c next e); around = a.1; fits = (f.0, tt, f.1); before = refl }
+    record {
+      marked = marked;
+      partial = at stack (array_opened place);
+      stack = in_array place [] ∷ stack;
+      is = refl;
+      begins =
+          λ n b c next k e. rw k (array_begins stack place n b c next e);
+      around = a.1;
+      fits = (f.0, tt, f.1);
+      before = refl;
+    }
 leaf_due marked stack (value_done t) mode levels d w a f = let x = rw (a.0) at w in cc
 leaf_due marked stack (object_opened place) mode levels d w a f = let x = rw (a.0) at w in cc
 leaf_due marked stack (constant_on which place left) mode levels d w a f = let x = rw (a.0.1) at w in cc
@@ -86,7 +114,8 @@ leaf_due marked stack (name_due place done) mode levels d w a f = let x = rw (a.
 leaf_due marked stack (name_on place done np so_far state) mode levels d w a f = let x = rw (a.0) at w in cc
 leaf_due marked stack (colon_due place done np name ne) mode levels d w a f = let x = rw (a.0) at w in cc
 
-pub is_due : (state : Broken) (mode : Mode) (levels : List Level) (d : ℕ) → awaits mode ≡ true → StandsAs state mode levels → FitsBroken d state → IsDue state levels d
+pub is_due : (state : Broken) (mode : Mode) (levels : List Level) (d : ℕ) → awaits mode ≡ true → StandsAs state mode levels → FitsBroken d state
+    → IsDue state levels d
 is_due text_due mode levels d w a f = let x = rw (a.0) at w in cc
 is_due mark_one mode levels d w a f = let x = rw (a.0) at w in cc
 is_due mark_two mode levels d w a f = let x = rw (a.0) at w in cc
@@ -101,13 +130,16 @@ levels-length (in_object place done np name ne ∷ stack) = let e = levels-lengt
 
 module _ (limits : Allowed) (levels : List Level) (start : ℕ) where
   -- the events that a state has seen are those that are complete
-  well_seen : (mode : Mode) (offset : ℕ) (bytes : List ℕ) (k : StandsWell limits mode levels start offset bytes) (T : Text) (rest : List ℕ) → IsText T (bytes ++ rest) → events_by offset T ≡ told (seen k.state)
+  well_seen : (mode : Mode) (offset : ℕ) (bytes : List ℕ) (k : StandsWell limits mode levels start offset bytes) (T : Text) (rest : List ℕ)
+      → IsText T (bytes ++ rest) → events_by offset T ≡ told (seen k.state)
   well_seen mode offset bytes k T rest t =
-      let c : TextFrom T (length bytes) rest k.state = (let j = text_goes_on T bytes rest t in let i : Goes (TextFrom T (length bytes) rest) (Some k.state) = rw (k.runs) at j in i) in
+      let c : TextFrom T (length bytes) rest k.state =
+      (let j = text_goes_on T bytes rest t in let i : Goes (TextFrom T (length bytes) rest) (Some k.state) = rw (k.runs) at j in i) in
       events_seen k.state T offset start rest k.timely (rw (k.at) c)
 
   -- from one state to another, by what they have seen
-  pub seen_between : (mode next : Mode) (from to : ℕ) (bytes given : List ℕ) (k : StandsWell limits mode levels start from bytes) (w : StandsWell limits next levels start to (bytes ++ given)) (es : List Event) → told (seen w.state) ≡ told (seen k.state) ++ es
+  pub seen_between : (mode next : Mode) (from to : ℕ) (bytes given : List ℕ) (k : StandsWell limits mode levels start from bytes)
+      (w : StandsWell limits next levels start to (bytes ++ given)) (es : List Event) → told (seen w.state) ≡ told (seen k.state) ++ es
       → Completed from to (bytes ++ given) es
   seen_between mode next from to bytes given k w es e = λ T rest t.
       let u : IsText T (bytes ++ (given ++ rest)) = rw (append_assoc bytes given rest) at t in
@@ -119,13 +151,20 @@ module _ (limits : Allowed) (levels : List Level) (start : ℕ) where
     pub keeps : (literal : Literal) (content : Content) → Keeps (under_of well.state) literal content
     pub more : Completed from to (bytes ++ given) es
 
-  value_seen : (marked : Bool) (s : Partial) (stack : List Frame) (t : Tree) → partial_timed s ≡ stack_timed stack → told (seen (begun marked (at stack (value_done t)))) ≡ told (seen (begun marked s)) ++ value_events t
-  value_seen marked s stack t e = rw e (ap told (sym (append_assoc (mark_events marked) (stack_timed stack) (events t))) ∙ map-append (λ (x : Timed). x.event) (mark_events marked ++ stack_timed stack) (events t))
+  value_seen : (marked : Bool) (s : Partial) (stack : List Frame) (t : Tree) → partial_timed s ≡ stack_timed stack
+      → told (seen (begun marked (at stack (value_done t)))) ≡ told (seen (begun marked s)) ++ value_events t
+  value_seen marked s stack t e =
+      rw e (ap told (sym (append_assoc (mark_events marked) (stack_timed stack) (events t)))
+      ∙ map-append (λ (x : Timed). x.event) (mark_events marked ++ stack_timed stack) (events t))
 
   -- a value that is due and stands whole
-  pub value_well : (mode : Mode) (offset : ℕ) (bytes : List ℕ) (k : StandsWell limits mode levels start offset bytes) → awaits mode ≡ true → (t : Tree) (given : List ℕ)
-      → ((s : Partial) (stack : List Frame) → ((n b : ℕ) (c : Class) (next : Partial) → class_of b ≡ c → begin_value stack n b c ≡ Some next → step_leaf s.stack s.leaf n b ≡ Some next) → Leads s offset given (at stack (value_done t)))
-      → depth t + length levels ≤ limits.depth → offset + length given ≤ limits.bytes → After ValueDone offset (offset + length given) bytes given (value_events t)
+  pub value_well : (mode : Mode) (offset : ℕ) (bytes : List ℕ) (k : StandsWell limits mode levels start offset bytes) → awaits mode ≡ true
+      → (t : Tree) (given : List ℕ)
+      → ((s : Partial) (stack : List Frame)
+      → ((n b : ℕ) (c : Class) (next : Partial) → class_of b ≡ c → begin_value stack n b c ≡ Some next → step_leaf s.stack s.leaf n b ≡ Some next)
+      → Leads s offset given (at stack (value_done t)))
+      → depth t + length levels ≤ limits.depth → offset + length given ≤ limits.bytes
+      → After ValueDone offset (offset + length given) bytes given (value_events t)
   value_well mode offset bytes k w t given lead deep room =
       let i = is_due k.state mode levels limits.depth w k.kept k.fits in
       let next : Broken = begun i.marked (at i.stack (value_done t)) in
@@ -133,7 +172,8 @@ module _ (limits : Allowed) (levels : List Level) (start : ℕ) where
       let z : 0 + length bytes ≡ offset = omega (arith, k.at) in
       let leads = lead i.partial i.stack i.begins in
       let runs : run (bytes ++ given) ≡ Some next =
-      run_from-append bytes given (Some text_due) 0 ∙ ap (λ o. run_from o (0 + length bytes) given) (k.runs ∙ ap (λ (s : Broken). Some s) i.is) ∙ ap (λ n. run_from (Some (begun i.marked i.partial)) n given) z ∙ leads.goes i.marked in
+      run_from-append bytes given (Some text_due) 0 ∙ ap (λ o. run_from o (0 + length bytes) given) (k.runs ∙ ap (λ (s : Broken). Some s) i.is)
+      ∙ ap (λ n. run_from (Some (begun i.marked i.partial)) n given) z ∙ leads.goes i.marked in
       let r = reached (bytes ++ given) next runs in
       let n : length levels ≡ length i.stack = ap length i.around ∙ levels-length i.stack in
       let well : StandsWell limits ValueDone levels start (offset + length given) (bytes ++ given) = record {
@@ -154,35 +194,45 @@ module _ (limits : Allowed) (levels : List Level) (start : ℕ) where
       }
 
   -- an array that is due and stands whole
-  array_well : (mode : Mode) (offset : ℕ) (bytes : List ℕ) (k : StandsWell limits mode levels start offset bytes) → awaits mode ≡ true → (place : ℕ) (elements : Elements) (close : ℕ) (given : List ℕ) → Spells (array place elements close) offset given
-      → elements_depth elements + 1 + length levels ≤ limits.depth → offset + length given ≤ limits.bytes → After ValueDone offset (offset + length given) bytes given (value_events (array place elements close))
+  array_well : (mode : Mode) (offset : ℕ) (bytes : List ℕ) (k : StandsWell limits mode levels start offset bytes) → awaits mode ≡ true
+      → (place : ℕ) (elements : Elements) (close : ℕ) (given : List ℕ) → Spells (array place elements close) offset given
+      → elements_depth elements + 1 + length levels ≤ limits.depth → offset + length given ≤ limits.bytes
+      → After ValueDone offset (offset + length given) bytes given (value_events (array place elements close))
   array_well mode offset bytes k w place elements close given spelled deep room =
-      value_well mode offset bytes k w (array place elements close) given (λ s stack begins. array_leads s stack place elements close offset given (begins offset open_bracket open_array (at stack (array_opened offset)) (class_is open_array open_bracket refl (λ e. cc)) refl) spelled)
+      value_well mode offset bytes k w (array place elements close) given
+      (λ s stack begins. array_leads s stack place elements close offset given
+      (begins offset open_bracket open_array (at stack (array_opened offset)) (class_is open_array open_bracket refl (λ e. cc)) refl) spelled)
       deep room
 
   -- a comma behind an element of an array
-  comma_well : (mode : Mode) (offset : ℕ) (bytes : List ℕ) → StandsWell limits mode levels start offset bytes → mode ≡ ValueDone → inner_of levels ≡ Some Array → offset < limits.bytes → After ValueDue offset (offset + 1) bytes (comma ∷ []) []
+  comma_well : (mode : Mode) (offset : ℕ) (bytes : List ℕ) → StandsWell limits mode levels start offset bytes → mode ≡ ValueDone → inner_of levels ≡ Some Array
+      → offset < limits.bytes → After ValueDue offset (offset + 1) bytes (comma ∷ []) []
   comma_well mode offset bytes k m i room =
       let turn = own_turn (under_of k.state) comma in
       let t = own_turns (under_of k.state) comma in
-      let move : move_of mode turn (inner_of levels) (own_words (under_of k.state)) comma ≡ Go ValueDue Ending.Item = rw (m, i, class_is comma_class comma refl (λ e. cc)) refl in
+      let move : move_of mode turn (inner_of levels) (own_words (under_of k.state)) comma ≡ Go ValueDue Ending.Item =
+      rw (m, i, class_is comma_class comma refl (λ e. cc)) refl in
       let w = byte_well limits levels start mode ValueDue Ending.Item offset bytes comma k turn t room move (rw m refl) in
       record {
         well = w.0;
-        keeps = λ literal content. keeps_none (under_of w.0.state) literal content (sym (mode_under w.0.state ValueDue levels w.0.kept)) (sym (mode_state w.0.state ValueDue levels w.0.kept));
+        keeps = λ literal content. keeps_none (under_of w.0.state) literal content (sym (mode_under w.0.state ValueDue levels w.0.kept))
+            (sym (mode_state w.0.state ValueDue levels w.0.kept));
         more = byte_completes limits levels start mode ValueDue Ending.Item offset bytes comma k turn t move (rw m refl) refl;
       }
 
 -- ---- from reader to reader
 
-pub taken_feeds : {before after : List Event → Type 0} (old new : Reader) (given : List ℕ) (mode : Mode) (es : List Event) → old.fault ≡ None → Passed (length given) mode old new
-    → ((bytes : List ℕ) → StandsWell old.limits old.mode (levels_in old.levels) old.start old.offset bytes → After old.limits (levels_in old.levels) old.start mode old.offset (old.offset + length given) bytes given es)
+pub taken_feeds : {before after : List Event → Type 0} (old new : Reader) (given : List ℕ) (mode : Mode) (es : List Event) → old.fault ≡ None
+    → Passed (length given) mode old new
+    → ((bytes : List ℕ) → StandsWell old.limits old.mode (levels_in old.levels) old.start old.offset bytes
+    → After old.limits (levels_in old.levels) old.start mode old.offset (old.offset + length given) bytes given es)
     → ((events : List Event) → before events → after (events ++ es)) → FeedsAll before after old new given
 taken_feeds {before} {after} old new given mode es live p behind heard = record {
   feeds = record {
     limits = p.limits;
     on = omega (arith, p.offset);
-    stands = λ bytes h. let g = behind bytes (open_of old bytes live h).well in rw (p.fault, live, p.limits, p.mode_is, p.levels, p.start, p.offset) (record { well = g.well; keeps = g.keeps new.literal new.content });
+    stands = λ bytes h. let g = behind bytes (open_of old bytes live h).well in
+        rw (p.fault, live, p.limits, p.mode_is, p.levels, p.start, p.offset) (record { well = g.well; keeps = g.keeps new.literal new.content });
     told = λ bytes events h k.
         let n : new.offset ≡ length (bytes ++ given) = omega (arith, p.offset, live_offset old bytes live h, length-append bytes given) in
         let t : take new.offset (bytes ++ given) ≡ bytes ++ given = take_all_of (bytes ++ given) new.offset n in
@@ -198,21 +248,30 @@ flat_is : (flat : Flat) (start : ℕ) (given : List ℕ) (f : IsFlat flat start 
 flat_is flat start given f =
     let opening : Event = record { place = flat.place; what = What.OpenArray } in
     let closing : Event = record { place = flat.close; what = What.CloseArray } in
-    ap (λ es. opening ∷ es) (map-append (λ (x : Timed). x.event) (elements_events f.elements) (timed (flat.close + 1) flat.close What.CloseArray ∷ []) ∙ ap (λ es. es ++ closing ∷ []) f.told)
+    ap (λ es. opening ∷ es)
+    (map-append (λ (x : Timed). x.event) (elements_events f.elements) (timed (flat.close + 1) flat.close What.CloseArray ∷ [])
+    ∙ ap (λ es. es ++ closing ∷ []) f.told)
 
-flat_feeds : {before after : List Event → Type 0} (old new : Reader) (flat : Flat) (given : List ℕ) → old.fault ≡ None → awaits old.mode ≡ true → length (levels_in old.levels) < old.limits.depth → old.offset + length given ≤ old.limits.bytes → IsFlat flat old.offset given
-    → Passed (length given) ValueDone old new → ((events : List Event) → before events → after (events ++ flat_events flat)) → FeedsAll before after old new given
+flat_feeds : {before after : List Event → Type 0} (old new : Reader) (flat : Flat) (given : List ℕ) → old.fault ≡ None → awaits old.mode ≡ true
+    → length (levels_in old.levels) < old.limits.depth → old.offset + length given ≤ old.limits.bytes → IsFlat flat old.offset given
+    → Passed (length given) ValueDone old new → ((events : List Event) → before events → after (events ++ flat_events flat))
+    → FeedsAll before after old new given
 flat_feeds {before} {after} old new flat given live due deep room f p heard =
     let P : List Event → Type 0 = λ es. ((events : List Event) → before events → after (events ++ es)) → FeedsAll before after old new given in
     let fed : P (value_events (array flat.place f.elements flat.close)) = taken_feeds old new given ValueDone _ live p (λ bytes k.
-    array_well old.limits (levels_in old.levels) old.start old.mode old.offset bytes k due flat.place f.elements flat.close given f.spelled (omega (arith, f.flat, deep)) room) in
+    array_well old.limits (levels_in old.levels) old.start old.mode old.offset bytes k due flat.place f.elements flat.close given f.spelled
+    (omega (arith, f.flat, deep)) room) in
     subst P (flat_is flat old.offset given f) fed heard
 
-comma_feeds : {heard : List Event → Type 0} (old new : Reader) → old.fault ≡ None → old.mode ≡ ValueDone → inner_of (levels_in old.levels) ≡ Some Array → old.offset < old.limits.bytes → Passed 1 ValueDue old new → FeedsAll heard heard old new (comma ∷ [])
-comma_feeds {heard} old new live done inner room p = taken_feeds old new (comma ∷ []) ValueDue [] live p (λ bytes k. comma_well old.limits (levels_in old.levels) old.start old.mode old.offset bytes k done inner room) (λ events h. rw append-nil h)
+comma_feeds : {heard : List Event → Type 0} (old new : Reader) → old.fault ≡ None → old.mode ≡ ValueDone → inner_of (levels_in old.levels) ≡ Some Array
+    → old.offset < old.limits.bytes → Passed 1 ValueDue old new → FeedsAll heard heard old new (comma ∷ [])
+comma_feeds {heard} old new live done inner room p =
+    taken_feeds old new (comma ∷ []) ValueDue [] live p
+    (λ bytes k. comma_well old.limits (levels_in old.levels) old.start old.mode old.offset bytes k done inner room) (λ events h. rw append-nil h)
 
 -- an array, and the comma behind it
-pub with_comma : {before after : List Event → Type 0} (old mid new : Reader) (piece : List ℕ) (n : ℕ) → n < length piece → old.offset + length piece ≤ old.limits.bytes → FeedsAll before after old mid (take n piece) → get_or piece n 0 ≡ comma → mid.mode ≡ ValueDone
+pub with_comma : {before after : List Event → Type 0} (old mid new : Reader) (piece : List ℕ) (n : ℕ) → n < length piece
+    → old.offset + length piece ≤ old.limits.bytes → FeedsAll before after old mid (take n piece) → get_or piece n 0 ≡ comma → mid.mode ≡ ValueDone
     → inner_of (levels_in mid.levels) ≡ Some Array → Passed 1 ValueDue mid new → FeedsAll before after old new (take (n + 1) piece)
 with_comma {before} {after} old mid new piece n w room f b done inner p =
     let e : mid.limits.bytes ≡ old.limits.bytes = ap (λ (a : Allowed). a.bytes) f.feeds.limits in
@@ -223,8 +282,10 @@ with_comma {before} {after} old mid new piece n w room f b done inner p =
     subst P (sym (take_more piece n 0 w)) (subst Q (sym b) (feeds_all_on old mid new (take n piece) (comma ∷ []) f g))
 
 -- an array at the front of a piece
-pub flat_taken : {before after : List Event → Type 0} (old new : Reader) (flat : Flat) (piece : List ℕ) (n : ℕ) → old.fault ≡ None → awaits old.mode ≡ true → length (levels_in old.levels) < old.limits.depth → old.offset + length piece ≤ old.limits.bytes → n ≤ length piece
-    → IsFlat flat old.offset (take n piece) → Passed n ValueDone old new → ((events : List Event) → before events → after (events ++ flat_events flat)) → FeedsAll before after old new (take n piece)
+pub flat_taken : {before after : List Event → Type 0} (old new : Reader) (flat : Flat) (piece : List ℕ) (n : ℕ) → old.fault ≡ None → awaits old.mode ≡ true
+    → length (levels_in old.levels) < old.limits.depth → old.offset + length piece ≤ old.limits.bytes → n ≤ length piece
+    → IsFlat flat old.offset (take n piece) → Passed n ValueDone old new → ((events : List Event) → before events → after (events ++ flat_events flat))
+    → FeedsAll before after old new (take n piece)
 flat_taken old new flat piece n live due deep room w f p heard =
     let l : length (take n piece) ≡ n = length-take-le n piece w in
     let P : ℕ → Type 0 = λ m. Passed m ValueDone old new in
@@ -248,10 +309,13 @@ mid_of old n mode sound room = record {
   nested = old.nested;
 }
 
-pub to_mid : (old : Reader) (n : ℕ) (mode : Mode) (sound : IsMode mode) (room : old.offset + n ≤ old.limits.bytes) → Passed n mode old (mid_of old n mode sound room)
-to_mid old n mode sound room = record { limits = refl; fault = refl; levels = refl; start = refl; literal = refl; content = refl; offset = refl; mode_is = refl }
+pub to_mid : (old : Reader) (n : ℕ) (mode : Mode) (sound : IsMode mode) (room : old.offset + n ≤ old.limits.bytes)
+    → Passed n mode old (mid_of old n mode sound room)
+to_mid old n mode sound room =
+    record { limits = refl; fault = refl; levels = refl; start = refl; literal = refl; content = refl; offset = refl; mode_is = refl }
 
-pub from_mid : (old new : Reader) (n k all : ℕ) (mode next : Mode) (sound : IsMode mode) (room : old.offset + n ≤ old.limits.bytes) → all ≡ n + k → Passed all next old new → Passed k next (mid_of old n mode sound room) new
+pub from_mid : (old new : Reader) (n k all : ℕ) (mode next : Mode) (sound : IsMode mode) (room : old.offset + n ≤ old.limits.bytes) → all ≡ n + k
+    → Passed all next old new → Passed k next (mid_of old n mode sound room) new
 from_mid old new n k all mode next sound room e p = record {
   limits = p.limits;
   fault = p.fault;
@@ -267,15 +331,20 @@ pub all_quiet : (xs : List ℕ) → AllByRecursion IsWhite xs → AllByRecursion
 all_quiet [] h = tt
 all_quiet (x ∷ xs) h = (record { moves = λ turn inner words. rw (class_is white_class x h.0 (λ e. cc)) refl; on = refl }, all_quiet xs h.1)
 
-pub comma_taken : {before after : List Event → Type 0} (old new : Reader) (flat : Flat) (piece : List ℕ) (n k : ℕ) → old.fault ≡ None → awaits old.mode ≡ true → length (levels_in old.levels) < old.limits.depth → old.offset + length piece ≤ old.limits.bytes → n ≤ length piece
-    → IsFlat flat old.offset (take n piece) → 0 < k → k ≤ length (take (length piece - n) (drop n piece)) → get_or (take (length piece - n) (drop n piece)) 0 0 ≡ comma → AllByRecursion IsWhite (cut (take (length piece - n) (drop n piece)) 1 k)
-    → inner_of (levels_in old.levels) ≡ Some Array → Passed (n + k) ValueDue old new → ((events : List Event) → before events → after (events ++ flat_events flat)) → FeedsAll before after old new (take (n + k) piece)
+pub comma_taken : {before after : List Event → Type 0} (old new : Reader) (flat : Flat) (piece : List ℕ) (n k : ℕ) → old.fault ≡ None → awaits old.mode ≡ true
+    → length (levels_in old.levels) < old.limits.depth → old.offset + length piece ≤ old.limits.bytes → n ≤ length piece
+    → IsFlat flat old.offset (take n piece) → 0 < k → k ≤ length (take (length piece - n) (drop n piece))
+    → get_or (take (length piece - n) (drop n piece)) 0 0 ≡ comma → AllByRecursion IsWhite (cut (take (length piece - n) (drop n piece)) 1 k)
+    → inner_of (levels_in old.levels) ≡ Some Array → Passed (n + k) ValueDue old new
+    → ((events : List Event) → before events → after (events ++ flat_events flat)) → FeedsAll before after old new (take (n + k) piece)
 comma_taken {before} {after} old new flat piece n k live due deep room w f some few byte white inner p heard =
     let in_piece : n + k ≤ length piece = more_within piece n k w few in
     let z : n + 0 ≡ n = omega arith in
-    let here : get_or piece n 0 ≡ comma = ap (λ i. get_or piece i 0) (sym z) ∙ sym (get_or-drop n piece 0 0) ∙ ap (λ xs. get_or xs 0 0) (sym (rest_of piece n)) ∙ byte in
+    let here : get_or piece n 0 ≡ comma =
+    ap (λ i. get_or piece i 0) (sym z) ∙ sym (get_or-drop n piece 0 0) ∙ ap (λ xs. get_or xs 0 0) (sym (rest_of piece n)) ∙ byte in
     let given : List ℕ = take (k - 1) (drop (n + 1) piece) in
-    let same : cut (take (length piece - n) (drop n piece)) 1 k ≡ given = ap (λ xs. cut xs 1 k) (rest_of piece n) ∙ ap (λ xs. take (k - 1) xs) (drop-drop 1 n piece) in
+    let same : cut (take (length piece - n) (drop n piece)) 1 k ≡ given =
+    ap (λ xs. cut xs 1 k) (rest_of piece n) ∙ ap (λ xs. take (k - 1) xs) (drop-drop 1 n piece) in
     let P : List ℕ → Type 0 = λ xs. AllByRecursion IsWhite xs in
     let one : IsMode ValueDone = omega arith in
     let two : IsMode ValueDue = omega arith in
@@ -284,9 +353,13 @@ comma_taken {before} {after} old new flat piece n k live due deep room w f some 
     let mid : Reader = mid_of old n ValueDone one r in
     let next : Reader = mid_of old (n + 1) ValueDue two q in
     let fed : FeedsAll before after old mid (take n piece) = flat_taken old mid flat piece n live due deep room w f (to_mid old n ValueDone one r) heard in
-    let on : FeedsAll before after old next (take (n + 1) piece) = with_comma old mid next piece n (omega arith) room fed here refl inner (from_mid old next n 1 (n + 1) ValueDone ValueDue one r refl (to_mid old (n + 1) ValueDue two q)) in
+    let on : FeedsAll before after old next (take (n + 1) piece) =
+    with_comma old mid next piece n (omega arith) room fed here refl inner
+    (from_mid old next n 1 (n + 1) ValueDone ValueDue one r refl (to_mid old (n + 1) ValueDue two q)) in
     let long : length given ≡ k - 1 = length-take-le (k - 1) (drop (n + 1) piece) (omega (arith, length-drop (n + 1) piece)) in
-    let skips : Skips next new given = leads_skips next new given (k - 1) ValueDue long (from_mid old new (n + 1) (k - 1) (n + k) ValueDue ValueDue two q (omega arith) p) (quiet_leads ValueDue given (all_quiet given (subst P same white))) refl refl in
+    let skips : Skips next new given =
+    leads_skips next new given (k - 1) ValueDue long (from_mid old new (n + 1) (k - 1) (n + k) ValueDue ValueDue two q (omega arith) p)
+    (quiet_leads ValueDue given (all_quiet given (subst P same white))) refl refl in
     let rest : FeedsAll after after next new given = skip_feeds next new given live (omega (arith, long)) skips in
     let e : n + k ≡ n + 1 + (k - 1) = omega arith in
     let Q : List ℕ → Type 0 = λ xs. FeedsAll before after old new xs in

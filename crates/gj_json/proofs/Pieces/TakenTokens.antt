@@ -1,11 +1,13 @@
 -- Whole tokens: where they lead the machine, and what they leave of a reader. Between two tokens a reader keeps nothing but
 -- the mode, the levels and the offset.
-use Rattle.std.proofs.Common.{◌≡◌, ℕ, ◌+◌, ◌-◌, ◌≤◌, ◌<◌, inl, inr, Bool, true, false, List, [], ◌∷◌, ◌++◌, get_or, length, take, drop, Option, Some, None, refl, sym, ap, subst, ◌∙◌, arith, append_assoc, append-nil}
+use Rattle.std.proofs.Common.{◌≡◌, ℕ, ◌+◌, ◌-◌, ◌≤◌, ◌<◌, inl, inr, Bool, true, false, List, [], ◌∷◌, ◌++◌, get_or, length, take, drop, Option, Some, None}
+use Rattle.std.proofs.Common.{refl, sym, ap, subst, ◌∙◌, arith, append_assoc, append-nil}
 use Rattle.std.proofs.lemmas.List.{length-append, length-take-le, map-append, take_more}
 use Rattle.gj_json.specs.Bytes.{quote as quote_byte, open_bracket, open_brace}
 use Rattle.gj_json.specs.Internal.ByteClasses.{class_of}
 use Rattle.gj_json.specs.declared.class.Class.{Class}
-use Rattle.gj_json.specs.declared.class.Class.TheVariants.{White as white, OpenArray as open_array, OpenObject as open_object, Comma as comma, Quote as quote, NumberStart as number_start, Letter as letter, Other as other_class}
+use Rattle.gj_json.specs.declared.class.Class.TheVariants.{White as white, OpenArray as open_array, OpenObject as open_object, Comma as comma, Quote as quote}
+use Rattle.gj_json.specs.declared.class.Class.TheVariants.{NumberStart as number_start, Letter as letter, Other as other_class}
 use Rattle.gj_json.specs.declared.constant.Constant.{Constant}
 use Rattle.gj_json.specs.declared.constant.Constant.TheVariants.{Null, True, False}
 use Rattle.gj_json.specs.declared.event.Event.{Event}
@@ -29,7 +31,9 @@ use Rattle.gj_json.specs.Events.{Timed, timed, events_by, value_events, mark_eve
 use Rattle.gj_json.specs.Internal.FedReader.{Passed, Skips, FeedsAll}
 use Rattle.gj_json.specs.Internal.FlatParts.{awaits}
 use Rattle.gj_json.specs.Internal.OpenLevels.{levels_in, inner_of, outer_of}
-use Rattle.gj_json.specs.Internal.TextMachine.{Frame, Leaf, value_due, value_done, array_opened, object_opened, constant_on, number_on, string_on, name_due, name_on, colon_due, Partial, Member, Broken, text_due, mark_one, mark_two, begun, begin_value, letters_after, step_leaf, step, to, run_from, run}
+use Rattle.gj_json.specs.Internal.TextMachine.{Frame, Leaf, value_due, value_done, array_opened, object_opened, constant_on, number_on, string_on, name_due}
+use Rattle.gj_json.specs.Internal.TextMachine.{name_on, colon_due, Partial, Member, Broken, text_due, mark_one, mark_two, begun, begin_value, letters_after}
+use Rattle.gj_json.specs.Internal.TextMachine.{step_leaf, step, to, run_from, run}
 use Rattle.gj_json.specs.Internal.Transitions.{IsMode, move_of, after_move}
 use Rattle.gj_json.specs.Names.{known_of, word_of}
 use Rattle.gj_json.specs.Internal.ContentWords.{Words}
@@ -89,14 +93,16 @@ free_leaf (name_due place done) mode start e a = tt
 free_leaf (name_on place done np so_far state) mode start e a = let x = rw a at e in cc
 free_leaf (colon_due place done np name ne) mode start e a = tt
 
-free_edge : (s : Broken) (mode : Mode) (levels : List Level) (start other n : ℕ) → is_on mode ≡ false → StandsAs s mode levels → EdgeAt s start n → EdgeAt s other n
+free_edge : (s : Broken) (mode : Mode) (levels : List Level) (start other n : ℕ) → is_on mode ≡ false → StandsAs s mode levels → EdgeAt s start n
+    → EdgeAt s other n
 free_edge text_due mode levels start other n e a h = h
 free_edge mark_one mode levels start other n e a h = h
 free_edge mark_two mode levels start other n e a h = h
 free_edge (begun marked s) mode levels start other n e a h = (free_leaf s.leaf mode other e a.0, h.1)
 
 -- where nothing is under way, it does not matter where that began
-freed : (limits : Allowed) (mode : Mode) (levels : List Level) (start other offset : ℕ) (bytes : List ℕ) → is_on mode ≡ false → StandsWell limits mode levels start offset bytes → StandsWell limits mode levels other offset bytes
+freed : (limits : Allowed) (mode : Mode) (levels : List Level) (start other offset : ℕ) (bytes : List ℕ) → is_on mode ≡ false
+    → StandsWell limits mode levels start offset bytes → StandsWell limits mode levels other offset bytes
 freed limits mode levels start other offset bytes e k = record {
   state = k.state;
   runs = k.runs;
@@ -113,8 +119,10 @@ pub record Moved (limits : Allowed) (mode : Mode) (levels : List Level) (from to
   pub well : StandsWell limits mode levels start to (bytes ++ given)
   pub more : Completed from to (bytes ++ given) es
 
-pub lands_feeds : {before after : List Event → Type 0} (old new : Reader) (given : List ℕ) (mode : Mode) (levels : List Level) (es : List Event) → old.fault ≡ None → Lands (length given) mode levels old new → is_on mode ≡ false
-    → ((bytes : List ℕ) → StandsWell old.limits old.mode (levels_in old.levels) old.start old.offset bytes → Moved old.limits mode levels old.offset (old.offset + length given) bytes given es)
+pub lands_feeds : {before after : List Event → Type 0} (old new : Reader) (given : List ℕ) (mode : Mode) (levels : List Level) (es : List Event)
+    → old.fault ≡ None → Lands (length given) mode levels old new → is_on mode ≡ false
+    → ((bytes : List ℕ) → StandsWell old.limits old.mode (levels_in old.levels) old.start old.offset bytes
+    → Moved old.limits mode levels old.offset (old.offset + length given) bytes given es)
     → ((events : List Event) → before events → after (events ++ es)) → FeedsAll before after old new given
 lands_feeds {before} {after} old new given mode levels es live p free moved heard = record {
   feeds = record {
@@ -123,7 +131,8 @@ lands_feeds {before} {after} old new given mode levels es live p free moved hear
     stands = λ bytes h.
         let g = moved bytes (open_of old bytes live h).well in
         let w = freed old.limits mode levels g.start new.start (old.offset + length given) (bytes ++ given) free g.well in
-        let keeps = keeps_none (under_of w.state) new.literal new.content (sym (mode_under w.state mode levels w.kept) ∙ free_number mode free) (sym (mode_state w.state mode levels w.kept) ∙ free_text mode free) in
+        let keeps = keeps_none (under_of w.state) new.literal new.content (sym (mode_under w.state mode levels w.kept) ∙ free_number mode free)
+        (sym (mode_state w.state mode levels w.kept) ∙ free_text mode free) in
         rw (p.fault, live, p.limits, p.mode_is, p.levels_are, p.offset) (record { well = w; keeps = keeps });
     told = λ bytes events h k.
         let n : new.offset ≡ length (bytes ++ given) = omega (arith, p.offset, live_offset old bytes live h, length-append bytes given) in
@@ -141,25 +150,33 @@ passed_lands count mode old new p = record { limits = p.limits; fault = p.fault;
 -- ---- one byte
 
 module _ (limits : Allowed) (levels : List Level) (start : ℕ) where
-  byte_moved : (mode next : Mode) (after : List Level) (offset : ℕ) (bytes : List ℕ) (b : ℕ) (k : StandsWell limits mode levels start offset bytes) (turn : NumberTurn) (value : Option Exact) (es : List Event) → Turns (under_of k.state) b turn
-      → HasValue (under_of k.state) turn value → offset < limits.bytes → Goes (λ s. StandsAs s next after × FitsBroken limits.depth s) (step k.state (length bytes) b)
-      → emitted mode turn (move_of mode turn (inner_of levels) (own_words (under_of k.state)) b) value start offset ≡ es → Moved limits next after offset (offset + 1) bytes (b ∷ []) es
+  byte_moved : (mode next : Mode) (after : List Level) (offset : ℕ) (bytes : List ℕ) (b : ℕ) (k : StandsWell limits mode levels start offset bytes)
+      (turn : NumberTurn) (value : Option Exact) (es : List Event) → Turns (under_of k.state) b turn
+      → HasValue (under_of k.state) turn value → offset < limits.bytes
+      → Goes (λ s. StandsAs s next after × FitsBroken limits.depth s) (step k.state (length bytes) b)
+      → emitted mode turn (move_of mode turn (inner_of levels) (own_words (under_of k.state)) b) value start offset ≡ es
+      → Moved limits next after offset (offset + 1) bytes (b ∷ []) es
   byte_moved mode next after offset bytes b k turn value es t v room g e = record {
     start = start_after mode start offset;
-    well = go (step k.state (length bytes) b) refl g (told_by_step limits mode levels start offset bytes b k turn value (own_words (under_of k.state)) t v (own_has_words (under_of k.state)));
-    more = (let P : List Event → Type 0 = λ xs. Completed offset (offset + 1) (bytes ++ b ∷ []) xs in subst P e (completed_from limits mode levels start offset bytes b k turn value (own_words (under_of k.state)) t v (own_has_words (under_of k.state))));
+    well = go (step k.state (length bytes) b) refl g
+        (told_by_step limits mode levels start offset bytes b k turn value (own_words (under_of k.state)) t v (own_has_words (under_of k.state)));
+    more = (let P : List Event
+        → Type 0 = λ xs. Completed offset (offset + 1) (bytes ++ b ∷ []) xs in
+        subst P e (completed_from limits mode levels start offset bytes b k turn value (own_words (under_of k.state)) t v (own_has_words (under_of k.state))));
   }
     where
       found : List Event
       found = emitted mode turn (move_of mode turn (inner_of levels) (own_words (under_of k.state)) b) value start offset
 
-      go : (o : Option Broken) → step k.state (length bytes) b ≡ o → Goes (λ s. StandsAs s next after × FitsBroken limits.depth s) o → Tells (seen k.state) (start_after mode start offset) offset found o
+      go : (o : Option Broken) → step k.state (length bytes) b ≡ o → Goes (λ s. StandsAs s next after × FitsBroken limits.depth s) o
+          → Tells (seen k.state) (start_after mode start offset) offset found o
           → StandsWell limits next after (start_after mode start offset) (offset + 1) (bytes ++ b ∷ [])
       go None f h c = absurd h
       go (Some s) f h c = passed limits mode levels start offset bytes b k s next after found room f h.0 h.1 c
 
 -- bytes that complete nothing, and then others
-then_moved : (limits : Allowed) (mode : Mode) (levels : List Level) (from mid to : ℕ) (bytes xs ys : List ℕ) (es : List Event) → Completed from mid (bytes ++ xs) [] → Moved limits mode levels mid to (bytes ++ xs) ys es → Moved limits mode levels from to bytes (xs ++ ys) es
+then_moved : (limits : Allowed) (mode : Mode) (levels : List Level) (from mid to : ℕ) (bytes xs ys : List ℕ) (es : List Event)
+    → Completed from mid (bytes ++ xs) [] → Moved limits mode levels mid to (bytes ++ xs) ys es → Moved limits mode levels from to bytes (xs ++ ys) es
 then_moved limits mode levels from mid to bytes xs ys es c m = record {
   start = m.start;
   well = (let P : List ℕ → Type 0 = λ zs. StandsWell limits mode levels m.start to zs in subst P (append_assoc bytes xs ys) m.well);
@@ -193,8 +210,10 @@ after_next inner c next ending e = go inner c (after_move inner c) refl e
     go (Some Array) _ made f e = cc
     go (Some Object) _ made f e = cc
 
-module _ (limits : Allowed) (levels : List Level) (start offset : ℕ) (bytes : List ℕ) (b : ℕ) (k : StandsWell limits ValueDone levels start offset bytes) (room : offset < limits.bytes) where
-  done_go : (next : Mode) (ending : Ending) → after_move (inner_of levels) (class_of b) ≡ Go next ending → Moved limits next levels offset (offset + 1) bytes (b ∷ []) []
+module _ (limits : Allowed) (levels : List Level) (start offset : ℕ) (bytes : List ℕ) (b : ℕ) (k : StandsWell limits ValueDone levels start offset bytes)
+    (room : offset < limits.bytes) where
+  done_go : (next : Mode) (ending : Ending) → after_move (inner_of levels) (class_of b) ≡ Go next ending
+      → Moved limits next levels offset (offset + 1) bytes (b ∷ []) []
   done_go next ending e =
       let u = under_of k.state in
       let turn = own_turn u b in
@@ -202,33 +221,47 @@ module _ (limits : Allowed) (levels : List Level) (start offset : ℕ) (bytes : 
       byte_moved limits levels start ValueDone next levels offset bytes b k turn (own_value u) [] (own_turns u b) (own_has u turn) room (rw e at f)
       (rw (e, (after_next (inner_of levels) (class_of b) next ending e).nothing start) refl)
 
-  done_close : (level : Level) → after_move (inner_of levels) (class_of b) ≡ Close level → Moved limits ValueDone (outer_of levels) offset (offset + 1) bytes (b ∷ []) (event_at offset (closing_of level) ∷ [])
+  done_close : (level : Level) → after_move (inner_of levels) (class_of b) ≡ Close level
+      → Moved limits ValueDone (outer_of levels) offset (offset + 1) bytes (b ∷ []) (event_at offset (closing_of level) ∷ [])
   done_close level e =
       let u = under_of k.state in
       let turn = own_turn u b in
       let f = moves limits.depth k.state ValueDone turn (own_words u) levels (length bytes) b k.kept (own_turns u b) k.fits in
-      byte_moved limits levels start ValueDone ValueDone (outer_of levels) offset bytes b k turn (own_value u) (event_at offset (closing_of level) ∷ []) (own_turns u b) (own_has u turn) room (rw e at f) (rw e refl)
+      byte_moved limits levels start ValueDone ValueDone (outer_of levels) offset bytes b k turn (own_value u) (event_at offset (closing_of level) ∷ [])
+      (own_turns u b) (own_has u turn) room (rw e at f) (rw e refl)
 
 one_byte : (piece : List ℕ) → 0 < length piece → take 1 piece ≡ get_or piece 0 0 ∷ []
 one_byte piece w = take_more piece 0 0 w
 
-well_in : (limits : Allowed) (mode other : Mode) (levels : List Level) (start offset : ℕ) (bytes : List ℕ) → mode ≡ other → StandsWell limits mode levels start offset bytes → StandsWell limits other levels start offset bytes
+well_in : (limits : Allowed) (mode other : Mode) (levels : List Level) (start offset : ℕ) (bytes : List ℕ) → mode ≡ other
+    → StandsWell limits mode levels start offset bytes → StandsWell limits other levels start offset bytes
 well_in limits mode other levels start offset bytes e k = let P : Mode → Type 0 = λ m. StandsWell limits m levels start offset bytes in subst P e k
 
-pub end_goes : {heard : List Event → Type 0} (old new : Reader) (piece : List ℕ) (next : Mode) (ending : Ending) → 0 < length piece → old.fault ≡ None → old.mode ≡ ValueDone → old.offset + length piece ≤ old.limits.bytes → after_move (inner_of (levels_in old.levels)) (class_of (get_or piece 0 0)) ≡ Go next ending
+pub end_goes : {heard : List Event → Type 0} (old new : Reader) (piece : List ℕ) (next : Mode) (ending : Ending) → 0 < length piece → old.fault ≡ None
+    → old.mode ≡ ValueDone → old.offset + length piece ≤ old.limits.bytes
+    → after_move (inner_of (levels_in old.levels)) (class_of (get_or piece 0 0)) ≡ Go next ending
     → Passed 1 next old new → FeedsAll heard heard old new (take 1 piece)
 end_goes {heard} old new piece next ending some live done room e p =
     rw (one_byte piece some)
-    (lands_feeds {before = heard} {after = heard} old new (get_or piece 0 0 ∷ []) next (levels_in old.levels) [] live (passed_lands 1 next old new p) ((after_next (inner_of (levels_in old.levels)) (class_of (get_or piece 0 0)) next ending e).free)
-    (λ bytes k. done_go old.limits (levels_in old.levels) old.start old.offset bytes (get_or piece 0 0) (well_in old.limits old.mode ValueDone (levels_in old.levels) old.start old.offset bytes done k) (omega (arith, room, some)) next ending e) (λ events h. rw append-nil h))
+    (lands_feeds {before = heard} {after = heard} old new (get_or piece 0 0 ∷ []) next (levels_in old.levels) [] live (passed_lands 1 next old new p)
+    ((after_next (inner_of (levels_in old.levels)) (class_of (get_or piece 0 0)) next ending e).free)
+    (λ bytes k. done_go old.limits (levels_in old.levels) old.start old.offset bytes (get_or piece 0 0)
+    (well_in old.limits old.mode ValueDone (levels_in old.levels) old.start old.offset bytes done k) (omega (arith, room, some)) next ending e)
+    (λ events h. rw append-nil h))
 
-pub end_closes : {before after : List Event → Type 0} (old new : Reader) (piece : List ℕ) (level : Level) → 0 < length piece → old.fault ≡ None → old.mode ≡ ValueDone → old.offset + length piece ≤ old.limits.bytes → after_move (inner_of (levels_in old.levels)) (class_of (get_or piece 0 0)) ≡ Close level
-    → Lands 1 ValueDone (outer_of (levels_in old.levels)) old new → ((events : List Event) → before events → after (events ++ event_at (old.offset + 1 - 1) (closing_of level) ∷ [])) → FeedsAll before after old new (take 1 piece)
+pub end_closes : {before after : List Event → Type 0} (old new : Reader) (piece : List ℕ) (level : Level) → 0 < length piece → old.fault ≡ None
+    → old.mode ≡ ValueDone → old.offset + length piece ≤ old.limits.bytes
+    → after_move (inner_of (levels_in old.levels)) (class_of (get_or piece 0 0)) ≡ Close level
+    → Lands 1 ValueDone (outer_of (levels_in old.levels)) old new
+    → ((events : List Event) → before events → after (events ++ event_at (old.offset + 1 - 1) (closing_of level) ∷ []))
+    → FeedsAll before after old new (take 1 piece)
 end_closes {before} {after} old new piece level some live done room e p heard =
     let z : old.offset + 1 - 1 ≡ old.offset = omega arith in
     rw (one_byte piece some)
-    (lands_feeds {before = before} {after = after} old new (get_or piece 0 0 ∷ []) ValueDone (outer_of (levels_in old.levels)) (event_at old.offset (closing_of level) ∷ []) live p refl
-    (λ bytes k. done_close old.limits (levels_in old.levels) old.start old.offset bytes (get_or piece 0 0) (well_in old.limits old.mode ValueDone (levels_in old.levels) old.start old.offset bytes done k) (omega (arith, room, some)) level e)
+    (lands_feeds {before = before} {after = after} old new (get_or piece 0 0 ∷ []) ValueDone (outer_of (levels_in old.levels))
+    (event_at old.offset (closing_of level) ∷ []) live p refl
+    (λ bytes k. done_close old.limits (levels_in old.levels) old.start old.offset bytes (get_or piece 0 0)
+    (well_in old.limits old.mode ValueDone (levels_in old.levels) old.start old.offset bytes done k) (omega (arith, room, some)) level e)
     (λ events h. let g = heard events h in rw z at g))
 
 -- ---- a string, a name, a literal name
@@ -243,40 +276,58 @@ Begins s stack = (n b : ℕ) (c : Class) (next : Partial) → class_of b ≡ c �
 quoted_end : (content given : List ℕ) (n : ℕ) → IsQuoted content given → n + 1 + length content + 1 ≡ n + length given
 quoted_end content given n q = omega (arith, ap length q.spelled, length-append content (quote_byte ∷ []))
 
-string_leads : (content given : List ℕ) (n : ℕ) → IsQuoted content given → (s : Partial) (stack : List Frame) → Begins s stack → Leads s n given (at stack (value_done (string n content (n + length given))))
+string_leads : (content given : List ℕ) (n : ℕ) → IsQuoted content given → (s : Partial) (stack : List Frame) → Begins s stack
+    → Leads s n given (at stack (value_done (string n content (n + length given))))
 string_leads content given n q s stack begins =
-    let opens : step_leaf s.stack s.leaf n quote_byte ≡ to stack (string_on n [] Plain) = begins n quote_byte quote (at stack (string_on n [] Plain)) (class_is quote quote_byte refl (λ e. cc)) refl in
-    let ends : Leads (at stack (string_on n content Plain)) (n + 1 + length content) (quote_byte ∷ []) (at stack (value_done (string n content (n + 1 + length content + 1)))) =
-    leads_byte ((a_string stack n).ends content Plain (n + 1 + length content) quote_byte (quote_on quote_byte refl)) (leads_none (at stack (value_done (string n content (n + 1 + length content + 1)))) (n + 1 + length content + 1)) in
+    let opens : step_leaf s.stack s.leaf n quote_byte ≡ to stack (string_on n [] Plain) =
+    begins n quote_byte quote (at stack (string_on n [] Plain)) (class_is quote quote_byte refl (λ e. cc)) refl in
+    let ends : Leads (at stack (string_on n content Plain)) (n + 1 + length content) (quote_byte ∷ [])
+    (at stack (value_done (string n content (n + 1 + length content + 1)))) =
+    leads_byte ((a_string stack n).ends content Plain (n + 1 + length content) quote_byte (quote_on quote_byte refl))
+    (leads_none (at stack (value_done (string n content (n + 1 + length content + 1)))) (n + 1 + length content + 1)) in
     let inner = text_leads stack (a_string stack n) content [] content Plain Plain (n + 1) (reads_to Plain Plain content content q.reads) in
-    let all : Leads s n (quote_byte ∷ (content ++ quote_byte ∷ [])) (at stack (value_done (string n content (n + 1 + length content + 1)))) = leads_byte opens (leads_on content (quote_byte ∷ []) refl inner ends) in
+    let all : Leads s n (quote_byte ∷ (content ++ quote_byte ∷ [])) (at stack (value_done (string n content (n + 1 + length content + 1)))) =
+    leads_byte opens (leads_on content (quote_byte ∷ []) refl inner ends) in
     let P : List ℕ → Type 0 = λ xs. Leads s n xs (at stack (value_done (string n content (n + 1 + length content + 1)))) in
     let Q : ℕ → Type 0 = λ m. Leads s n given (at stack (value_done (string n content m))) in
     subst Q (quoted_end content given n q) (subst P (sym q.spelled) all)
 
-constant_leads : (which : Constant) (given : List ℕ) (n : ℕ) → given ≡ letters_of which → (s : Partial) (stack : List Frame) → Begins s stack → Leads s n given (at stack (value_done (constant which n)))
-constant_leads which given n e s stack begins = let P : List ℕ → Type 0 = λ xs. Leads s n xs (at stack (value_done (constant which n))) in subst P (sym e) (go which)
+constant_leads : (which : Constant) (given : List ℕ) (n : ℕ) → given ≡ letters_of which → (s : Partial) (stack : List Frame) → Begins s stack
+    → Leads s n given (at stack (value_done (constant which n)))
+constant_leads which given n e s stack begins = let P : List ℕ → Type 0 =
+    λ xs. Leads s n xs (at stack (value_done (constant which n))) in subst P (sym e) (go which)
   where
     go : (which : Constant) → Leads s n (letters_of which) (at stack (value_done (constant which n)))
-    go Null = leads_byte (begins n _ (letter Null) (at stack (constant_on Null n (letters_after Null))) (class_is (letter Null) _ refl (λ e. cc)) refl) (letters_lead stack Null n _ _ (n + 1))
-    go True = leads_byte (begins n _ (letter True) (at stack (constant_on True n (letters_after True))) (class_is (letter True) _ refl (λ e. cc)) refl) (letters_lead stack True n _ _ (n + 1))
-    go False = leads_byte (begins n _ (letter False) (at stack (constant_on False n (letters_after False))) (class_is (letter False) _ refl (λ e. cc)) refl) (letters_lead stack False n _ _ (n + 1))
+    go Null = leads_byte (begins n _ (letter Null) (at stack (constant_on Null n (letters_after Null))) (class_is (letter Null) _ refl (λ e. cc)) refl)
+        (letters_lead stack Null n _ _ (n + 1))
+    go True = leads_byte (begins n _ (letter True) (at stack (constant_on True n (letters_after True))) (class_is (letter True) _ refl (λ e. cc)) refl)
+        (letters_lead stack True n _ _ (n + 1))
+    go False = leads_byte (begins n _ (letter False) (at stack (constant_on False n (letters_after False))) (class_is (letter False) _ refl (λ e. cc)) refl)
+        (letters_lead stack False n _ _ (n + 1))
 
 -- a value that is no array and no object, at the front of a piece
-module _ {before after : List Event → Type 0} (old new : Reader) (piece : List ℕ) (n : ℕ) (live : old.fault ≡ None) (due : awaits old.mode ≡ true) (room : old.offset + length piece ≤ old.limits.bytes) (w : n ≤ length piece) (p : Passed n ValueDone old new) where
-  value_taken : (t : Tree) → depth t ≡ 0 → ((s : Partial) (stack : List Frame) → Begins s stack → Leads s old.offset (take n piece) (at stack (value_done t))) → ((events : List Event) → before events → after (events ++ value_events t))
+module _ {before after : List Event → Type 0} (old new : Reader) (piece : List ℕ) (n : ℕ) (live : old.fault ≡ None) (due : awaits old.mode ≡ true)
+    (room : old.offset + length piece ≤ old.limits.bytes) (w : n ≤ length piece) (p : Passed n ValueDone old new) where
+  value_taken : (t : Tree) → depth t ≡ 0 → ((s : Partial) (stack : List Frame) → Begins s stack → Leads s old.offset (take n piece) (at stack (value_done t)))
+      → ((events : List Event) → before events → after (events ++ value_events t))
       → FeedsAll before after old new (take n piece)
   value_taken t flat lead heard =
       let l : length (take n piece) ≡ n = length-take-le n piece w in
       let P : ℕ → Type 0 = λ m. Passed m ValueDone old new in
-      lands_feeds {before = before} {after = after} old new (take n piece) ValueDone (levels_in old.levels) (value_events t) live (passed_lands (length (take n piece)) ValueDone old new (subst P (sym l) p)) refl
-      (λ bytes k. let g = value_well old.limits (levels_in old.levels) old.start old.mode old.offset bytes k due t (take n piece) lead (omega (arith, flat, old.nested)) (omega (arith, l, room, w)) in record { start = old.start; well = g.well; more = g.more })
+      lands_feeds {before = before} {after = after} old new (take n piece) ValueDone (levels_in old.levels) (value_events t) live
+      (passed_lands (length (take n piece)) ValueDone old new (subst P (sym l) p)) refl
+      (λ bytes k. let g = value_well old.limits (levels_in old.levels) old.start old.mode old.offset bytes k due t (take n piece) lead
+      (omega (arith, flat, old.nested)) (omega (arith, l, room, w)) in record { start = old.start; well = g.well; more = g.more })
       heard
 
-  pub text_taken : (content : List ℕ) → IsQuoted content (take n piece) → ((events : List Event) → before events → after (events ++ event_at old.offset (What.Text (word_of content)) ∷ [])) → FeedsAll before after old new (take n piece)
-  text_taken content q heard = value_taken (string old.offset content (old.offset + length (take n piece))) refl (string_leads content (take n piece) old.offset q) heard
+  pub text_taken : (content : List ℕ) → IsQuoted content (take n piece)
+      → ((events : List Event) → before events → after (events ++ event_at old.offset (What.Text (word_of content)) ∷ []))
+      → FeedsAll before after old new (take n piece)
+  text_taken content q heard =
+      value_taken (string old.offset content (old.offset + length (take n piece))) refl (string_leads content (take n piece) old.offset q) heard
 
-  pub constant_taken : (which : Constant) → take n piece ≡ letters_of which → ((events : List Event) → before events → after (events ++ event_at old.offset (what_of which) ∷ [])) → FeedsAll before after old new (take n piece)
+  pub constant_taken : (which : Constant) → take n piece ≡ letters_of which
+      → ((events : List Event) → before events → after (events ++ event_at old.offset (what_of which) ∷ [])) → FeedsAll before after old new (take n piece)
   constant_taken which e heard = value_taken (constant which old.offset) refl (constant_leads which (take n piece) old.offset e) heard
 
 -- ---- a name
@@ -294,12 +345,37 @@ record IsNaming (state : Broken) (levels : List Level) (d : ℕ) : Type 0 where
   pub fits : FitsName d stack done
   pub before : partial_timed partial ≡ stack_timed stack ++ (timed (place + 1) place What.OpenObject ∷ done_members done)
 
-leaf_naming : (marked : Bool) (stack : List Frame) (leaf : Leaf) (mode : Mode) (levels : List Level) (d : ℕ) → names mode ≡ true → StandsAs (begun marked (at stack leaf)) mode levels → FitsBroken d (begun marked (at stack leaf))
+leaf_naming : (marked : Bool) (stack : List Frame) (leaf : Leaf) (mode : Mode) (levels : List Level) (d : ℕ) → names mode ≡ true
+    → StandsAs (begun marked (at stack leaf)) mode levels → FitsBroken d (begun marked (at stack leaf))
     → IsNaming (begun marked (at stack leaf)) levels d
 leaf_naming marked stack (name_due place done) mode levels d w a f =
-    record { marked = marked; partial = at stack (name_due place done); stack = stack; place = place; done = done; is = refl; begins = λ n. rw (class_is quote quote_byte refl (λ e. cc)) refl; around = a.1; fits = f; before = refl }
+    record {
+      marked = marked;
+      partial = at stack (name_due place done);
+      stack = stack;
+      place = place;
+      done = done;
+      is = refl;
+      begins =
+          λ n. rw (class_is quote quote_byte refl (λ e. cc)) refl;
+      around = a.1;
+      fits = f;
+      before = refl;
+    }
 leaf_naming marked stack (object_opened place) mode levels d w a f =
-    record { marked = marked; partial = at stack (object_opened place); stack = stack; place = place; done = []; is = refl; begins = λ n. rw (class_is quote quote_byte refl (λ e. cc)) refl; around = a.1; fits = (f.0, tt, f.1); before = refl }
+    record {
+      marked = marked;
+      partial = at stack (object_opened place);
+      stack = stack;
+      place = place;
+      done = [];
+      is = refl;
+      begins =
+          λ n. rw (class_is quote quote_byte refl (λ e. cc)) refl;
+      around = a.1;
+      fits = (f.0, tt, f.1);
+      before = refl;
+    }
 leaf_naming marked stack value_due mode levels d w a f = let x = rw (a.0) at w in cc
 leaf_naming marked stack (array_opened place) mode levels d w a f = let x = rw (a.0) at w in cc
 leaf_naming marked stack (value_done t) mode levels d w a f = let x = rw (a.0) at w in cc
@@ -309,34 +385,44 @@ leaf_naming marked stack (string_on place so_far state) mode levels d w a f = le
 leaf_naming marked stack (name_on place done np so_far state) mode levels d w a f = let x = rw (a.0) at w in cc
 leaf_naming marked stack (colon_due place done np name ne) mode levels d w a f = let x = rw (a.0) at w in cc
 
-is_naming : (state : Broken) (mode : Mode) (levels : List Level) (d : ℕ) → names mode ≡ true → StandsAs state mode levels → FitsBroken d state → IsNaming state levels d
+is_naming : (state : Broken) (mode : Mode) (levels : List Level) (d : ℕ) → names mode ≡ true → StandsAs state mode levels → FitsBroken d state
+    → IsNaming state levels d
 is_naming text_due mode levels d w a f = let x = rw (a.0) at w in cc
 is_naming mark_one mode levels d w a f = let x = rw (a.0) at w in cc
 is_naming mark_two mode levels d w a f = let x = rw (a.0) at w in cc
 is_naming (begun marked s) mode levels d w a f = leaf_naming marked s.stack s.leaf mode levels d w a f
 
-name_leads : (content given : List ℕ) (n place : ℕ) (done : List Member) → IsQuoted content given → (s : Partial) (stack : List Frame) → step_leaf s.stack s.leaf n quote_byte ≡ to stack (name_on place done n [] Plain)
+name_leads : (content given : List ℕ) (n place : ℕ) (done : List Member) → IsQuoted content given → (s : Partial) (stack : List Frame)
+    → step_leaf s.stack s.leaf n quote_byte ≡ to stack (name_on place done n [] Plain)
     → Leads s n given (at stack (colon_due place done n content (n + length given)))
 name_leads content given n place done q s stack opens =
-    let ends : Leads (at stack (name_on place done n content Plain)) (n + 1 + length content) (quote_byte ∷ []) (at stack (colon_due place done n content (n + 1 + length content + 1))) =
-    leads_byte ((a_name stack place done n).ends content Plain (n + 1 + length content) quote_byte (quote_on quote_byte refl)) (leads_none (at stack (colon_due place done n content (n + 1 + length content + 1))) (n + 1 + length content + 1)) in
+    let ends : Leads (at stack (name_on place done n content Plain)) (n + 1 + length content) (quote_byte ∷ [])
+    (at stack (colon_due place done n content (n + 1 + length content + 1))) =
+    leads_byte ((a_name stack place done n).ends content Plain (n + 1 + length content) quote_byte (quote_on quote_byte refl))
+    (leads_none (at stack (colon_due place done n content (n + 1 + length content + 1))) (n + 1 + length content + 1)) in
     let inner = text_leads stack (a_name stack place done n) content [] content Plain Plain (n + 1) (reads_to Plain Plain content content q.reads) in
-    let all : Leads s n (quote_byte ∷ (content ++ quote_byte ∷ [])) (at stack (colon_due place done n content (n + 1 + length content + 1))) = leads_byte opens (leads_on content (quote_byte ∷ []) refl inner ends) in
+    let all : Leads s n (quote_byte ∷ (content ++ quote_byte ∷ [])) (at stack (colon_due place done n content (n + 1 + length content + 1))) =
+    leads_byte opens (leads_on content (quote_byte ∷ []) refl inner ends) in
     let P : List ℕ → Type 0 = λ xs. Leads s n xs (at stack (colon_due place done n content (n + 1 + length content + 1))) in
     let Q : ℕ → Type 0 = λ m. Leads s n given (at stack (colon_due place done n content m)) in
     subst Q (quoted_end content given n q) (subst P (sym q.spelled) all)
 
 module _ (limits : Allowed) (levels : List Level) (start : ℕ) where
-  name_seen : (marked : Bool) (s : Partial) (stack : List Frame) (place : ℕ) (done : List Member) (np : ℕ) (name : List ℕ) (ne : ℕ) → partial_timed s ≡ stack_timed stack ++ (timed (place + 1) place What.OpenObject ∷ done_members done)
+  name_seen : (marked : Bool) (s : Partial) (stack : List Frame) (place : ℕ) (done : List Member) (np : ℕ) (name : List ℕ) (ne : ℕ)
+      → partial_timed s ≡ stack_timed stack ++ (timed (place + 1) place What.OpenObject ∷ done_members done)
       → told (seen (begun marked (at stack (colon_due place done np name ne)))) ≡ told (seen (begun marked s)) ++ event_at np (What.Name (known_of name)) ∷ []
   name_seen marked s stack place done np name ne e =
       let opening = timed (place + 1) place What.OpenObject in
       let last = timed ne np (What.Name (known_of name)) ∷ [] in
-      let g : mark_events marked ++ (stack_timed stack ++ (opening ∷ (done_members done ++ last))) ≡ (mark_events marked ++ (stack_timed stack ++ (opening ∷ done_members done))) ++ last =
-      ap (λ xs. mark_events marked ++ xs) (sym (append_assoc (stack_timed stack) (opening ∷ done_members done) last)) ∙ sym (append_assoc (mark_events marked) (stack_timed stack ++ (opening ∷ done_members done)) last) in
+      let g : mark_events marked
+      ++ (stack_timed stack ++ (opening ∷ (done_members done ++ last))) ≡ (mark_events marked ++ (stack_timed stack ++ (opening ∷ done_members done)))
+      ++ last =
+      ap (λ xs. mark_events marked ++ xs) (sym (append_assoc (stack_timed stack) (opening ∷ done_members done) last))
+      ∙ sym (append_assoc (mark_events marked) (stack_timed stack ++ (opening ∷ done_members done)) last) in
       rw e (ap told g ∙ map-append (λ (x : Timed). x.event) (mark_events marked ++ (stack_timed stack ++ (opening ∷ done_members done))) last)
 
-  name_well : (mode : Mode) (offset : ℕ) (bytes : List ℕ) (k : StandsWell limits mode levels start offset bytes) → names mode ≡ true → (content given : List ℕ) → IsQuoted content given → offset + length given ≤ limits.bytes
+  name_well : (mode : Mode) (offset : ℕ) (bytes : List ℕ) (k : StandsWell limits mode levels start offset bytes) → names mode ≡ true → (content given : List ℕ)
+      → IsQuoted content given → offset + length given ≤ limits.bytes
       → Moved limits ColonDue levels offset (offset + length given) bytes given (event_at offset (What.Name (known_of content)) ∷ [])
   name_well mode offset bytes k w content given q room =
       let i = is_naming k.state mode levels limits.depth w k.kept k.fits in
@@ -345,7 +431,8 @@ module _ (limits : Allowed) (levels : List Level) (start : ℕ) where
       let z : 0 + length bytes ≡ offset = omega (arith, k.at) in
       let leads = name_leads content given offset i.place i.done q i.partial i.stack (i.begins offset) in
       let runs : run (bytes ++ given) ≡ Some next =
-      run_from-append bytes given (Some text_due) 0 ∙ ap (λ o. run_from o (0 + length bytes) given) (k.runs ∙ ap (λ (s : Broken). Some s) i.is) ∙ ap (λ n. run_from (Some (begun i.marked i.partial)) n given) z ∙ leads.goes i.marked in
+      run_from-append bytes given (Some text_due) 0 ∙ ap (λ o. run_from o (0 + length bytes) given) (k.runs ∙ ap (λ (s : Broken). Some s) i.is)
+      ∙ ap (λ n. run_from (Some (begun i.marked i.partial)) n given) z ∙ leads.goes i.marked in
       let r = reached (bytes ++ given) next runs in
       let well : StandsWell limits ColonDue levels start (offset + length given) (bytes ++ given) = record {
         state = next;
@@ -361,17 +448,22 @@ module _ (limits : Allowed) (levels : List Level) (start : ℕ) where
       let seen_is : P k.state = subst P (sym i.is) (name_seen i.marked i.partial i.stack i.place i.done offset content (offset + length given) i.before) in
       record { start = start; well = well; more = seen_between limits levels start mode ColonDue offset (offset + length given) bytes given k well es seen_is }
 
-name_taken : {before after : List Event → Type 0} (old new : Reader) (piece : List ℕ) (n : ℕ) → old.fault ≡ None → names old.mode ≡ true → old.offset + length piece ≤ old.limits.bytes → n ≤ length piece → Passed n ColonDue old new → (content : List ℕ) → IsQuoted content (take n piece)
-    → ((events : List Event) → before events → after (events ++ event_at old.offset (What.Name (known_of content)) ∷ [])) → FeedsAll before after old new (take n piece)
+name_taken : {before after : List Event → Type 0} (old new : Reader) (piece : List ℕ) (n : ℕ) → old.fault ≡ None → names old.mode ≡ true
+    → old.offset + length piece ≤ old.limits.bytes → n ≤ length piece → Passed n ColonDue old new → (content : List ℕ) → IsQuoted content (take n piece)
+    → ((events : List Event) → before events → after (events ++ event_at old.offset (What.Name (known_of content)) ∷ []))
+    → FeedsAll before after old new (take n piece)
 name_taken {before} {after} old new piece n live due room w p content q heard =
     let l : length (take n piece) ≡ n = length-take-le n piece w in
     let P : ℕ → Type 0 = λ m. Passed m ColonDue old new in
-    lands_feeds {before = before} {after = after} old new (take n piece) ColonDue (levels_in old.levels) (event_at old.offset (What.Name (known_of content)) ∷ []) live (passed_lands (length (take n piece)) ColonDue old new (subst P (sym l) p)) refl
-    (λ bytes k. name_well old.limits (levels_in old.levels) old.start old.mode old.offset bytes k due content (take n piece) q (omega (arith, l, room, w))) heard
+    lands_feeds {before = before} {after = after} old new (take n piece) ColonDue (levels_in old.levels)
+    (event_at old.offset (What.Name (known_of content)) ∷ []) live (passed_lands (length (take n piece)) ColonDue old new (subst P (sym l) p)) refl
+    (λ bytes k. name_well old.limits (levels_in old.levels) old.start old.mode old.offset bytes k due content (take n piece) q (omega (arith, l, room, w)))
+    heard
 
 -- ---- an opening bracket
 
-opens : (mode : Mode) → may_begin mode ≡ true → (level : Level) (turn : NumberTurn) (inner : Option Level) (words : Words) → move_of mode turn inner words (bracket_of level) ≡ Open level
+opens : (mode : Mode) → may_begin mode ≡ true → (level : Level) (turn : NumberTurn) (inner : Option Level) (words : Words)
+    → move_of mode turn inner words (bracket_of level) ≡ Open level
 opens TextDue w Array turn inner words = rw (class_is open_array open_bracket refl (λ e. cc)) refl
 opens TextDue w Object turn inner words = rw (class_is open_object open_brace refl (λ e. cc)) refl
 opens ValueDue w Array turn inner words = rw (class_is open_array open_bracket refl (λ e. cc)) refl
@@ -388,11 +480,13 @@ opened_free : (level : Level) → is_on (opened level) ≡ false
 opened_free Array = refl
 opened_free Object = refl
 
-fits_in : (d : ℕ) (mode : Mode) (levels : List Level) (o : Option Broken) {A : Type 0} → A → Goes (λ s. StandsAs s mode levels × (A → FitsBroken d s)) o → Goes (λ s. StandsAs s mode levels × FitsBroken d s) o
+fits_in : (d : ℕ) (mode : Mode) (levels : List Level) (o : Option Broken) {A : Type 0} → A → Goes (λ s. StandsAs s mode levels × (A → FitsBroken d s)) o
+    → Goes (λ s. StandsAs s mode levels × FitsBroken d s) o
 fits_in d mode levels None a g = g
 fits_in d mode levels (Some s) a g = (g.0, g.1 a)
 
-open_well : (limits : Allowed) (levels : List Level) (start : ℕ) (mode : Mode) (offset : ℕ) (bytes : List ℕ) → StandsWell limits mode levels start offset bytes → may_begin mode ≡ true → (level : Level) → offset < limits.bytes → length levels + 1 ≤ limits.depth
+open_well : (limits : Allowed) (levels : List Level) (start : ℕ) (mode : Mode) (offset : ℕ) (bytes : List ℕ) → StandsWell limits mode levels start offset bytes
+    → may_begin mode ≡ true → (level : Level) → offset < limits.bytes → length levels + 1 ≤ limits.depth
     → Moved limits (opened level) (level ∷ levels) offset (offset + 1) bytes (bracket_of level ∷ []) (event_at offset (opening_of level) ∷ [])
 open_well limits levels start mode offset bytes k w level room deep =
     let b = bracket_of level in
@@ -400,22 +494,30 @@ open_well limits levels start mode offset bytes k w level room deep =
     let turn = own_turn u b in
     let e = opens mode w level turn (inner_of levels) (own_words u) in
     let f = moves limits.depth k.state mode turn (own_words u) levels (length bytes) b k.kept (own_turns u b) k.fits in
-    byte_moved limits levels start mode (opened level) (level ∷ levels) offset bytes b k turn (own_value u) (event_at offset (opening_of level) ∷ []) (own_turns u b) (own_has u turn) room (fits_in limits.depth (opened level) (level ∷ levels) (step k.state (length bytes) b) deep (rw e at f))
+    byte_moved limits levels start mode (opened level) (level ∷ levels) offset bytes b k turn (own_value u) (event_at offset (opening_of level) ∷ [])
+    (own_turns u b) (own_has u turn) room (fits_in limits.depth (opened level) (level ∷ levels) (step k.state (length bytes) b) deep (rw e at f))
     (rw (e, no_number mode turn (own_value u) start (begins_free mode w)) refl)
 
-pub open_taken : {before after : List Event → Type 0} (old new : Reader) (piece : List ℕ) (level : Level) → 0 < length piece → get_or piece 0 0 ≡ bracket_of level → old.fault ≡ None → may_begin old.mode ≡ true → old.offset + length piece ≤ old.limits.bytes → length (levels_in old.levels) < old.limits.depth
-    → Lands 1 (opened level) (level ∷ levels_in old.levels) old new → ((events : List Event) → before events → after (events ++ event_at old.offset (opening_of level) ∷ [])) → FeedsAll before after old new (take 1 piece)
+pub open_taken : {before after : List Event → Type 0} (old new : Reader) (piece : List ℕ) (level : Level) → 0 < length piece
+    → get_or piece 0 0 ≡ bracket_of level → old.fault ≡ None → may_begin old.mode ≡ true → old.offset + length piece ≤ old.limits.bytes
+    → length (levels_in old.levels) < old.limits.depth
+    → Lands 1 (opened level) (level ∷ levels_in old.levels) old new
+    → ((events : List Event) → before events → after (events ++ event_at old.offset (opening_of level) ∷ [])) → FeedsAll before after old new (take 1 piece)
 open_taken {before} {after} old new piece level some is live due room deep p heard =
     rw (one_byte piece some, is)
-    (lands_feeds {before = before} {after = after} old new (bracket_of level ∷ []) (opened level) (level ∷ levels_in old.levels) (event_at old.offset (opening_of level) ∷ []) live p (opened_free level)
-    (λ bytes k. open_well old.limits (levels_in old.levels) old.start old.mode old.offset bytes k due level (omega (arith, room, some)) (omega (arith, deep))) heard)
+    (lands_feeds {before = before} {after = after} old new (bracket_of level ∷ []) (opened level) (level ∷ levels_in old.levels)
+    (event_at old.offset (opening_of level) ∷ []) live p (opened_free level)
+    (λ bytes k. open_well old.limits (levels_in old.levels) old.start old.mode old.offset bytes k due level (omega (arith, room, some)) (omega (arith, deep)))
+    heard)
 
 -- ---- a number, and the byte after it
 
-number_leads : (literal : List ℕ) (n : ℕ) → NumberBegun literal → (s : Partial) (stack : List Frame) → Begins s stack → Leads s n literal (at stack (number_on n literal))
+number_leads : (literal : List ℕ) (n : ℕ) → NumberBegun literal → (s : Partial) (stack : List Frame) → Begins s stack
+    → Leads s n literal (at stack (number_on n literal))
 number_leads [] n h s stack begins = absurd (h.0 refl)
 number_leads (b ∷ more) n h s stack begins =
-    leads_byte (begins n b number_start (at stack (number_on n (b ∷ []))) (starts_number b (number_front (b ∷ []) more h.1)) refl) (digits_lead stack n more (b ∷ []) (n + 1) h.1)
+    leads_byte (begins n b number_start (at stack (number_on n (b ∷ []))) (starts_number b (number_front (b ∷ []) more h.1)) refl)
+    (digits_lead stack n more (b ∷ []) (n + 1) h.1)
 
 awaits_free : (mode : Mode) → awaits mode ≡ true → is_on mode ≡ false
 awaits_free ValueDue e = refl
@@ -429,11 +531,13 @@ record Digits (limits : Allowed) (levels : List Level) (from to : ℕ) (bytes gi
   pub ends : is_number given ≡ true
   pub more : Completed from to (bytes ++ given) []
 
-digits_seen : (marked : Bool) (s : Partial) (stack : List Frame) (place : ℕ) (literal : List ℕ) → partial_timed s ≡ stack_timed stack → told (seen (begun marked (at stack (number_on place literal)))) ≡ told (seen (begun marked s)) ++ []
+digits_seen : (marked : Bool) (s : Partial) (stack : List Frame) (place : ℕ) (literal : List ℕ) → partial_timed s ≡ stack_timed stack
+    → told (seen (begun marked (at stack (number_on place literal)))) ≡ told (seen (begun marked s)) ++ []
 digits_seen marked s stack place literal e =
     rw e (ap (λ xs. told (mark_events marked ++ xs)) (append-nil (stack_timed stack)) ∙ sym (append-nil (told (mark_events marked ++ stack_timed stack))))
 
-digits_well : (limits : Allowed) (levels : List Level) (start : ℕ) (mode : Mode) (offset : ℕ) (bytes : List ℕ) → StandsWell limits mode levels start offset bytes → awaits mode ≡ true → (given : List ℕ) → IsNumber given → offset + length given ≤ limits.bytes
+digits_well : (limits : Allowed) (levels : List Level) (start : ℕ) (mode : Mode) (offset : ℕ) (bytes : List ℕ)
+    → StandsWell limits mode levels start offset bytes → awaits mode ≡ true → (given : List ℕ) → IsNumber given → offset + length given ≤ limits.bytes
     → Digits limits levels offset (offset + length given) bytes given
 digits_well limits levels start mode offset bytes k0 w given digits room =
     let k = freed limits mode levels start offset offset bytes (awaits_free mode w) k0 in
@@ -443,7 +547,8 @@ digits_well limits levels start mode offset bytes k0 w given digits room =
     let z : 0 + length bytes ≡ offset = omega (arith, k.at) in
     let leads = number_leads given offset (number_begun given digits) i.partial i.stack i.begins in
     let runs : run (bytes ++ given) ≡ Some next =
-    run_from-append bytes given (Some text_due) 0 ∙ ap (λ o. run_from o (0 + length bytes) given) (k.runs ∙ ap (λ (s : Broken). Some s) i.is) ∙ ap (λ n. run_from (Some (begun i.marked i.partial)) n given) z ∙ leads.goes i.marked in
+    run_from-append bytes given (Some text_due) 0 ∙ ap (λ o. run_from o (0 + length bytes) given) (k.runs ∙ ap (λ (s : Broken). Some s) i.is)
+    ∙ ap (λ n. run_from (Some (begun i.marked i.partial)) n given) z ∙ leads.goes i.marked in
     let r = reached (bytes ++ given) next runs in
     let well : StandsWell limits NumberOn levels offset (offset + length given) (bytes ++ given) = record {
       state = next;
@@ -456,7 +561,13 @@ digits_well limits levels start mode offset bytes k0 w given digits room =
     } in
     let P : Broken → Type 0 = λ s. told (seen next) ≡ told (seen s) ++ [] in
     let seen_is : P k.state = subst P (sym i.is) (digits_seen i.marked i.partial i.stack offset given i.before) in
-    record { well = well; under = refl; ends = (decided_number given).1 digits; more = seen_between limits levels offset mode NumberOn offset (offset + length given) bytes given k well [] seen_is }
+    record {
+      well = well;
+      under = refl;
+      ends = (decided_number given).1 digits;
+      more =
+          seen_between limits levels offset mode NumberOn offset (offset + length given) bytes given k well [] seen_is;
+    }
 
 -- a byte that goes on after a value goes on in no number
 never : (inner : Option Level) (so_far : List ℕ) (b : ℕ) → (after_move inner (class_of b) ≡ Refuse → ⊥) → begins_number (so_far ++ b ∷ []) ≡ false
@@ -467,29 +578,36 @@ never inner so_far b h = stops so_far b (λ x. elim (number_classes b x) [ inl e
     none (Some Array) = (refl, refl)
     none (Some Object) = (refl, refl)
 
-module _ (limits : Allowed) (levels : List Level) (from to : ℕ) (bytes given : List ℕ) (b : ℕ) (d : Digits limits levels from to bytes given) (room : to < limits.bytes) (h : after_move (inner_of levels) (class_of b) ≡ Refuse → ⊥) where
+module _ (limits : Allowed) (levels : List Level) (from to : ℕ) (bytes given : List ℕ) (b : ℕ) (d : Digits limits levels from to bytes given)
+    (room : to < limits.bytes) (h : after_move (inner_of levels) (class_of b) ≡ Refuse → ⊥) where
   turns : Turns (under_of d.well.state) b NumberTurn.Ends
   turns = rw (d.under, never (inner_of levels) given b h, d.ends) refl
 
   valued : HasValue (under_of d.well.state) NumberTurn.Ends (value_of given)
   valued = rw (d.under) (λ e. refl)
 
-  number_go : (next : Mode) (ending : Ending) → after_move (inner_of levels) (class_of b) ≡ Go next ending → Moved limits next levels from (to + 1) bytes (given ++ b ∷ []) (event_at from (What.Number (value_of given)) ∷ [])
+  number_go : (next : Mode) (ending : Ending) → after_move (inner_of levels) (class_of b) ≡ Go next ending
+      → Moved limits next levels from (to + 1) bytes (given ++ b ∷ []) (event_at from (What.Number (value_of given)) ∷ [])
   number_go next ending e =
       let u = under_of d.well.state in
       let f = moves limits.depth d.well.state NumberOn NumberTurn.Ends (own_words u) levels (length (bytes ++ given)) b d.well.kept turns d.well.fits in
       then_moved limits next levels from to (to + 1) bytes given (b ∷ []) _ d.more
-      (byte_moved limits levels from NumberOn next levels to (bytes ++ given) b d.well NumberTurn.Ends (value_of given) (event_at from (What.Number (value_of given)) ∷ []) turns valued room (rw e at f)
+      (byte_moved limits levels from NumberOn next levels to (bytes ++ given) b d.well NumberTurn.Ends (value_of given)
+      (event_at from (What.Number (value_of given)) ∷ []) turns valued room (rw e at f)
       (rw (e, (after_next (inner_of levels) (class_of b) next ending e).nothing from) refl))
 
-  number_close : (level : Level) → after_move (inner_of levels) (class_of b) ≡ Close level → Moved limits ValueDone (outer_of levels) from (to + 1) bytes (given ++ b ∷ []) (event_at from (What.Number (value_of given)) ∷ event_at to (closing_of level) ∷ [])
+  number_close : (level : Level) → after_move (inner_of levels) (class_of b) ≡ Close level
+      → Moved limits ValueDone (outer_of levels) from (to + 1) bytes (given ++ b ∷ [])
+      (event_at from (What.Number (value_of given)) ∷ event_at to (closing_of level) ∷ [])
   number_close level e =
       let u = under_of d.well.state in
       let f = moves limits.depth d.well.state NumberOn NumberTurn.Ends (own_words u) levels (length (bytes ++ given)) b d.well.kept turns d.well.fits in
       then_moved limits ValueDone (outer_of levels) from to (to + 1) bytes given (b ∷ []) _ d.more
-      (byte_moved limits levels from NumberOn ValueDone (outer_of levels) to (bytes ++ given) b d.well NumberTurn.Ends (value_of given) (event_at from (What.Number (value_of given)) ∷ event_at to (closing_of level) ∷ []) turns valued room (rw e at f) (rw e refl))
+      (byte_moved limits levels from NumberOn ValueDone (outer_of levels) to (bytes ++ given) b d.well NumberTurn.Ends (value_of given)
+      (event_at from (What.Number (value_of given)) ∷ event_at to (closing_of level) ∷ []) turns valued room (rw e at f) (rw e refl))
 
-module _ (old new : Reader) (piece : List ℕ) (n : ℕ) (value : Option Exact) (live : old.fault ≡ None) (due : awaits old.mode ≡ true) (room : old.offset + length piece ≤ old.limits.bytes) (w : n < length piece)
+module _ (old new : Reader) (piece : List ℕ) (n : ℕ) (value : Option Exact) (live : old.fault ≡ None) (due : awaits old.mode ≡ true)
+    (room : old.offset + length piece ≤ old.limits.bytes) (w : n < length piece)
     (digits : IsNumber (take n piece)) (has : value_of (take n piece) ≡ value) where
   with_byte : take (n + 1) piece ≡ take n piece ++ get_or piece n 0 ∷ []
   with_byte = take_more piece n 0 w
@@ -500,42 +618,62 @@ module _ (old new : Reader) (piece : List ℕ) (n : ℕ) (value : Option Exact) 
   short : length (take n piece) ≡ n
   short = length-take-le n piece (omega arith)
 
-  read_to : (bytes : List ℕ) → StandsWell old.limits old.mode (levels_in old.levels) old.start old.offset bytes → Digits old.limits (levels_in old.levels) old.offset (old.offset + length (take n piece)) bytes (take n piece)
-  read_to bytes k = digits_well old.limits (levels_in old.levels) old.start old.mode old.offset bytes k due (take n piece) digits (omega (arith, short, room, w))
+  read_to : (bytes : List ℕ) → StandsWell old.limits old.mode (levels_in old.levels) old.start old.offset bytes
+      → Digits old.limits (levels_in old.levels) old.offset (old.offset + length (take n piece)) bytes (take n piece)
+  read_to bytes k = digits_well old.limits (levels_in old.levels) old.start old.mode old.offset bytes k due (take n piece) digits
+      (omega (arith, short, room, w))
 
   all_to : old.offset + length (take n piece) + 1 ≡ old.offset + length (take n piece ++ get_or piece n 0 ∷ [])
   all_to = omega (arith, short, long)
 
-  pub number_then : {before after : List Event → Type 0} (next : Mode) (ending : Ending) → after_move (inner_of (levels_in old.levels)) (class_of (get_or piece n 0)) ≡ Go next ending → Passed (n + 1) next old new → ((events : List Event) → before events → after (events ++ event_at old.offset (What.Number value) ∷ [])) → FeedsAll before after old new (take (n + 1) piece)
+  pub number_then : {before after : List Event → Type 0} (next : Mode) (ending : Ending)
+      → after_move (inner_of (levels_in old.levels)) (class_of (get_or piece n 0)) ≡ Go next ending → Passed (n + 1) next old new
+      → ((events : List Event) → before events → after (events ++ event_at old.offset (What.Number value) ∷ []))
+      → FeedsAll before after old new (take (n + 1) piece)
   number_then {before} {after} next ending e p heard =
       let P : ℕ → Type 0 = λ m. Lands m next (levels_in old.levels) old new in
-      let Q : ℕ → List ℕ → Type 0 = λ m bytes. Moved old.limits next (levels_in old.levels) old.offset m bytes (take n piece ++ get_or piece n 0 ∷ []) (event_at old.offset (What.Number (value_of (take n piece))) ∷ []) in
+      let Q : ℕ → List ℕ → Type 0 =
+      λ m bytes. Moved old.limits next (levels_in old.levels) old.offset m bytes (take n piece ++ get_or piece n 0 ∷ [])
+      (event_at old.offset (What.Number (value_of (take n piece))) ∷ []) in
       rw with_byte
-      (lands_feeds {before = before} {after = after} old new (take n piece ++ get_or piece n 0 ∷ []) next (levels_in old.levels) (event_at old.offset (What.Number (value_of (take n piece))) ∷ []) live (subst P (sym long) (passed_lands (n + 1) next old new p))
+      (lands_feeds {before = before} {after = after} old new (take n piece ++ get_or piece n 0 ∷ []) next (levels_in old.levels)
+      (event_at old.offset (What.Number (value_of (take n piece))) ∷ []) live (subst P (sym long) (passed_lands (n + 1) next old new p))
       ((after_next (inner_of (levels_in old.levels)) (class_of (get_or piece n 0)) next ending e).free)
       (λ bytes k. let R : ℕ → Type 0 = λ m. Q m bytes in
-      subst R all_to (number_go old.limits (levels_in old.levels) old.offset (old.offset + length (take n piece)) bytes (take n piece) (get_or piece n 0) (read_to bytes k) (omega (arith, short, room, w)) (λ r. let x : Refuse ≡ Go next ending = sym r ∙ e in cc) next ending e))
+      subst R all_to (number_go old.limits (levels_in old.levels) old.offset (old.offset + length (take n piece)) bytes (take n piece) (get_or piece n 0)
+      (read_to bytes k) (omega (arith, short, room, w)) (λ r. let x : Refuse ≡ Go next ending = sym r ∙ e in cc) next ending e))
       (λ events h. rw has (heard events h)))
 
-  pub number_closed : {before after : List Event → Type 0} (level : Level) → after_move (inner_of (levels_in old.levels)) (class_of (get_or piece n 0)) ≡ Close level → Lands (n + 1) ValueDone (outer_of (levels_in old.levels)) old new
-      → ((events : List Event) → before events → after (events ++ event_at old.offset (What.Number value) ∷ event_at (old.offset + (n + 1) - 1) (closing_of level) ∷ [])) → FeedsAll before after old new (take (n + 1) piece)
+  pub number_closed : {before after : List Event → Type 0} (level : Level)
+      → after_move (inner_of (levels_in old.levels)) (class_of (get_or piece n 0)) ≡ Close level
+      → Lands (n + 1) ValueDone (outer_of (levels_in old.levels)) old new
+      → ((events : List Event) → before events
+      → after (events ++ event_at old.offset (What.Number value) ∷ event_at (old.offset + (n + 1) - 1) (closing_of level) ∷ []))
+      → FeedsAll before after old new (take (n + 1) piece)
   number_closed {before} {after} level e p heard =
       let es : ℕ → List Event = λ m. event_at old.offset (What.Number (value_of (take n piece))) ∷ event_at m (closing_of level) ∷ [] in
       let P : ℕ → Type 0 = λ m. Lands m ValueDone (outer_of (levels_in old.levels)) old new in
-      let Q : ℕ → List ℕ → Type 0 = λ m bytes. Moved old.limits ValueDone (outer_of (levels_in old.levels)) old.offset m bytes (take n piece ++ get_or piece n 0 ∷ []) (es (old.offset + length (take n piece))) in
+      let Q : ℕ → List ℕ → Type 0 =
+      λ m bytes. Moved old.limits ValueDone (outer_of (levels_in old.levels)) old.offset m bytes (take n piece ++ get_or piece n 0 ∷ [])
+      (es (old.offset + length (take n piece))) in
       let z : old.offset + (n + 1) - 1 ≡ old.offset + length (take n piece) = omega (arith, short) in
       rw with_byte
-      (lands_feeds {before = before} {after = after} old new (take n piece ++ get_or piece n 0 ∷ []) ValueDone (outer_of (levels_in old.levels)) (es (old.offset + length (take n piece))) live (subst P (sym long) p) refl
+      (lands_feeds {before = before} {after = after} old new (take n piece ++ get_or piece n 0 ∷ []) ValueDone (outer_of (levels_in old.levels))
+      (es (old.offset + length (take n piece))) live (subst P (sym long) p) refl
       (λ bytes k. let R : ℕ → Type 0 = λ m. Q m bytes in
-      subst R all_to (number_close old.limits (levels_in old.levels) old.offset (old.offset + length (take n piece)) bytes (take n piece) (get_or piece n 0) (read_to bytes k) (omega (arith, short, room, w)) (λ r. let x : Refuse ≡ Close level = sym r ∙ e in cc) level e))
+      subst R all_to (number_close old.limits (levels_in old.levels) old.offset (old.offset + length (take n piece)) bytes (take n piece) (get_or piece n 0)
+      (read_to bytes k) (omega (arith, short, room, w)) (λ r. let x : Refuse ≡ Close level = sym r ∙ e in cc) level e))
       (λ events h. let g = heard events h in rw (has, ← z) g))
 
 -- ---- one token after another
 
 -- a name and its colon
-pub named_taken : {before after : List Event → Type 0} (old new : Reader) (piece : List ℕ) (n k : ℕ) → old.fault ≡ None → names old.mode ≡ true → old.offset + length piece ≤ old.limits.bytes → n ≤ length piece → (content : List ℕ) → IsQuoted content (take n piece)
-    → k ≤ length (take (length piece - n) (drop n piece)) → LeadsOn ColonDue (take k (take (length piece - n) (drop n piece))) ValueDue → Passed (n + k) ValueDue old new
-    → ((events : List Event) → before events → after (events ++ event_at old.offset (What.Name (known_of content)) ∷ [])) → FeedsAll before after old new (take (n + k) piece)
+pub named_taken : {before after : List Event → Type 0} (old new : Reader) (piece : List ℕ) (n k : ℕ) → old.fault ≡ None → names old.mode ≡ true
+    → old.offset + length piece ≤ old.limits.bytes → n ≤ length piece → (content : List ℕ) → IsQuoted content (take n piece)
+    → k ≤ length (take (length piece - n) (drop n piece)) → LeadsOn ColonDue (take k (take (length piece - n) (drop n piece))) ValueDue
+    → Passed (n + k) ValueDue old new
+    → ((events : List Event) → before events → after (events ++ event_at old.offset (What.Name (known_of content)) ∷ []))
+    → FeedsAll before after old new (take (n + k) piece)
 named_taken {before} {after} old new piece n k live due room w content q few leads p heard =
     let given = take k (take (length piece - n) (drop n piece)) in
     let one : IsMode ColonDue = omega arith in
@@ -548,7 +686,8 @@ named_taken {before} {after} old new piece n k live due room w content q few lea
     piece_all old mid new piece n k fed (rest_all mid new piece n k rest)
 
 -- nothing, and then a token
-pub nothing_then : {before middle after : List Event → Type 0} (old mid new : Reader) (piece : List ℕ) (n m : ℕ) → n ≡ 0 → FeedsAll before middle old mid (take n piece) → FeedsAll middle after mid new (take m piece) → FeedsAll before after old new (take m piece)
+pub nothing_then : {before middle after : List Event → Type 0} (old mid new : Reader) (piece : List ℕ) (n m : ℕ) → n ≡ 0
+    → FeedsAll before middle old mid (take n piece) → FeedsAll middle after mid new (take m piece) → FeedsAll before after old new (take m piece)
 nothing_then {before} {middle} {after} old mid new piece n m e f g =
     let P : ℕ → Type 0 = λ k. FeedsAll before middle old mid (take k piece) in
     feeds_all_on old mid new [] (take m piece) (subst P e f) g

@@ -1,5 +1,6 @@
 -- Lanes that are looked at with those before and after them, by tables.
-use Rattle.std.proofs.Common.{◌≡◌, ℕ, zero, suc, ◌/◌, ◌<◌, ◌≤◌, ◌%◌, ◌^◌, Bool, true, false, not, ◌&&◌, ◌||◌, cond, Fits, w8, eqb, ltb, leb, List, [], ◌∷◌, map, length, get_or, replicate, bit_and, bit_or, refl, sym, ap, ap₂, ◌∙◌, arith, eqb-true}
+use Rattle.std.proofs.Common.{◌≡◌, ℕ, zero, suc, ◌/◌, ◌<◌, ◌≤◌, ◌%◌, ◌^◌, Bool, true, false, not, ◌&&◌, ◌||◌, cond, Fits, w8, eqb, ltb, leb, List, [], ◌∷◌, map}
+use Rattle.std.proofs.Common.{length, get_or, replicate, bit_and, bit_or, refl, sym, ap, ap₂, ◌∙◌, arith, eqb-true}
 use Rattle.std.proofs.lemmas.Bool.{agree_below_at}
 use Rattle.std.proofs.lemmas.Simd.{mask_l-mod}
 use lib.Lanes.{zip2, sel_l, mask_l, top, Each1}
@@ -22,15 +23,20 @@ abbrev kind_of : ℕ → ℕ
 kind_of a = bit_and (lower_of a) (upper_of a)
 
 selected : (n : ℕ) (ps hs : List ℕ) → length ps ≡ n → length hs ≡ n
-    → sel_l (map (top 7) (zip2 at_most (replicate n 224) ps)) (zip2 bit_or (zip2 bit_and (zip2 bit_and (map lower_of hs) (map upper_of hs)) (replicate n 127)) (replicate n 64)) (zip2 bit_and (map lower_of hs) (map upper_of hs)) ≡ kinds_of ps hs
+    → sel_l (map (top 7) (zip2 at_most (replicate n 224) ps))
+    (zip2 bit_or (zip2 bit_and (zip2 bit_and (map lower_of hs) (map upper_of hs)) (replicate n 127)) (replicate n 64))
+    (zip2 bit_and (map lower_of hs) (map upper_of hs)) ≡ kinds_of ps hs
 selected zero [] [] h k = refl
-selected (suc n) (p ∷ ps) (a ∷ hs) h k = ap₂ (λ x xs. x ∷ xs) (ap (λ t. cond t (bit_or (bit_and (kind_of a) 127) 64) (kind_of a)) (top_c (leb 224 p))) (selected n ps hs (omega arith) (omega arith))
+selected (suc n) (p ∷ ps) (a ∷ hs) h k =
+    ap₂ (λ x xs. x ∷ xs) (ap (λ t. cond t (bit_or (bit_and (kind_of a) 127) 64) (kind_of a)) (top_c (leb 224 p))) (selected n ps hs (omega arith) (omega arith))
 selected _ _ _ h k = absurd (omega arith)
 
 pub kinds_are : (ps hs : List ℕ) → length ps ≡ 16 → length hs ≡ 16 → {xs ys : List ℕ} → xs ≡ map lower_of hs → ys ≡ map upper_of hs
-    → sel_l (map (top 7) (zip2 at_most (replicate 16 224) ps)) (zip2 bit_or (zip2 bit_and (zip2 bit_and xs ys) (replicate 16 127)) (replicate 16 64)) (zip2 bit_and xs ys) ≡ kinds_of ps hs
+    → sel_l (map (top 7) (zip2 at_most (replicate 16 224) ps)) (zip2 bit_or (zip2 bit_and (zip2 bit_and xs ys) (replicate 16 127)) (replicate 16 64))
+    (zip2 bit_and xs ys) ≡ kinds_of ps hs
 kinds_are ps hs h k x y =
-    ap (λ ks. sel_l (map (top 7) (zip2 at_most (replicate 16 224) ps)) (zip2 bit_or (zip2 bit_and ks (replicate 16 127)) (replicate 16 64)) ks) (ap₂ (zip2 bit_and) x y)
+    ap (λ ks. sel_l (map (top 7) (zip2 at_most (replicate 16 224) ps)) (zip2 bit_or (zip2 bit_and ks (replicate 16 127)) (replicate 16 64)) ks)
+    (ap₂ (zip2 bit_and) x y)
     ∙ selected 16 ps hs h k
 
 -- ---- one lane, with the next byte
@@ -71,14 +77,16 @@ one p a b h k =
     top_c (not (eqb (bit_and (kind_at p a) (ending_of b)) 0))
     ∙ ap (λ e. not (eqb (bit_and (kind_at p a) e) 0)) (ending_is b k)
     ∙ agree (leb 224 p) (is_tail b) (ltb b 160) a h
-    ∙ ap (λ x. is_stop a || ((leb 194 a || leb 224 p) && not (is_tail b) || not (leb 194 a || leb 224 p) && is_tail b) || (eqb a 224 && ltb b 160 || eqb a 237 && x)) (sym (other_side b k))
+    ∙ ap (λ x. is_stop a || ((leb 194 a || leb 224 p) && not (is_tail b) || not (leb 194 a || leb 224 p) && is_tail b) ||
+    (eqb a 224 && ltb b 160 || eqb a 237 && x)) (sym (other_side b k))
 
 -- ---- all lanes
 
 lanes : (n : ℕ) (ps hs ns : List ℕ) → length ps ≡ n → length hs ≡ n → length ns ≡ n → Each1 (Fits w8) hs → Each1 (Fits w8) ns
     → map (top 7) (zip2 differs (zip2 bit_and (kinds_of ps hs) (map ending_of ns)) (replicate n 0)) ≡ ends_of ps hs ns
 lanes zero [] [] [] h k l f g = refl
-lanes (suc n) (p ∷ ps) (a ∷ hs) (b ∷ ns) h k l f g = ap₂ (λ x xs. x ∷ xs) (one p a b f.0.fits g.0.fits) (lanes n ps hs ns (omega arith) (omega arith) (omega arith) f.1 g.1)
+lanes (suc n) (p ∷ ps) (a ∷ hs) (b ∷ ns) h k l f g =
+    ap₂ (λ x xs. x ∷ xs) (one p a b f.0.fits g.0.fits) (lanes n ps hs ns (omega arith) (omega arith) (omega arith) f.1 g.1)
 lanes _ _ _ _ h k l f g = absurd (omega arith)
 
 few : (ps hs ns : List ℕ) → length (ends_of ps hs ns) ≤ length hs
@@ -87,7 +95,8 @@ few [] hs ns = omega arith
 few (p ∷ ps) [] ns = omega arith
 few (p ∷ ps) (a ∷ hs) [] = omega arith
 
-pub ends_are : (ps hs ns : List ℕ) → length ps ≡ 16 → length hs ≡ 16 → length ns ≡ 16 → Each1 (Fits w8) hs → Each1 (Fits w8) ns → {ks es : List ℕ} → ks ≡ kinds_of ps hs → es ≡ map ending_of ns
+pub ends_are : (ps hs ns : List ℕ) → length ps ≡ 16 → length hs ≡ 16 → length ns ≡ 16 → Each1 (Fits w8) hs → Each1 (Fits w8) ns → {ks es : List ℕ}
+    → ks ≡ kinds_of ps hs → es ≡ map ending_of ns
     → mask_l (map (top 7) (zip2 differs (zip2 bit_and ks es) (replicate 16 0))) % 2 ^ 64 ≡ mask_l (ends_of ps hs ns)
 ends_are ps hs ns h k l f g x y =
     ap (λ v. mask_l (map (top 7) (zip2 differs v (replicate 16 0))) % 2 ^ 64) (ap₂ (zip2 bit_and) x y)

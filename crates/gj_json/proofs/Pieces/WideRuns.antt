@@ -1,5 +1,6 @@
 -- Unescaped characters of up to three bytes, by what is seen at each byte.
-use Rattle.std.proofs.Common.{◌≡◌, ℕ, zero, suc, ◌+◌, ◌-◌, ◌<◌, ◌≤◌, Bool, true, false, not, List, [], ◌∷◌, map, length, take, drop, get_or, inl, inr, refl, sym, ap, ap₂, ◌∙◌, arith}
+use Rattle.std.proofs.Common.{◌≡◌, ℕ, zero, suc, ◌+◌, ◌-◌, ◌<◌, ◌≤◌, Bool, true, false, not, List, [], ◌∷◌, map, length, take, drop, get_or, inl, inr, refl}
+use Rattle.std.proofs.Common.{sym, ap, ap₂, ◌∙◌, arith}
 use Rattle.std.proofs.lemmas.Bool.{cases_lt}
 use Rattle.std.proofs.lemmas.List.{get_or-drop, get_or-take, length-drop, length-take-le, map-id}
 use Rattle.std.proofs.lemmas.List.Sums.{prefix_len_passes, prefix_len_stops, prefix_len-le-length}
@@ -16,7 +17,8 @@ length_of [] [] [] h k = refl
 length_of (p ∷ ps) (a ∷ hs) (b ∷ ns) h k = let e = length_of ps hs ns (omega arith) (omega arith) in omega arith
 length_of _ _ _ h k = absurd (omega arith)
 
-at_of : (ps hs ns : List ℕ) (i : ℕ) → i < length ps → i < length hs → i < length ns → get_or (ends_of ps hs ns) i true ≡ ends_at (get_or ps i 0) (get_or hs i 0) (get_or ns i 0)
+at_of : (ps hs ns : List ℕ) (i : ℕ) → i < length ps → i < length hs → i < length ns
+    → get_or (ends_of ps hs ns) i true ≡ ends_at (get_or ps i 0) (get_or hs i 0) (get_or ns i 0)
 at_of (p ∷ ps) (a ∷ hs) (b ∷ ns) zero h k l = refl
 at_of (p ∷ ps) (a ∷ hs) (b ∷ ns) (suc i) h k l = at_of ps hs ns i (omega arith) (omega arith) (omega arith)
 at_of [] hs ns i h k l = absurd (omega arith)
@@ -53,19 +55,24 @@ module _ (piece : List ℕ) (at : ℕ) (behind : 0 < at) (room : at + 16 < lengt
   next_long = sixteen_long piece (at + 1) (omega arith)
 
   pub looks_long : length (ends_of (sixteen piece (at - 1)) (sixteen piece at) (sixteen piece (at + 1))) ≡ 16
-  looks_long = length_of (sixteen piece (at - 1)) (sixteen piece at) (sixteen piece (at + 1)) (omega (arith, before_long, here_long)) (omega (arith, here_long, next_long)) ∙ here_long
+  looks_long = length_of (sixteen piece (at - 1)) (sixteen piece at) (sixteen piece (at + 1)) (omega (arith, before_long, here_long))
+      (omega (arith, here_long, next_long)) ∙ here_long
 
   -- what is seen at a lane
-  lane : (i j : ℕ) → i < 16 → j + 1 ≡ at + i → get_or (ends_of (sixteen piece (at - 1)) (sixteen piece at) (sixteen piece (at + 1))) i true ≡ ends_at (get_or piece j 0) (get_or piece (j + 1) 0) (get_or piece (j + 2) 0)
+  lane : (i j : ℕ) → i < 16 → j + 1 ≡ at + i
+      → get_or (ends_of (sixteen piece (at - 1)) (sixteen piece at) (sixteen piece (at + 1))) i true ≡ ends_at (get_or piece j 0) (get_or piece (j + 1) 0)
+      (get_or piece (j + 2) 0)
   lane i j within e =
-      let is = at_of (sixteen piece (at - 1)) (sixteen piece at) (sixteen piece (at + 1)) i (omega (arith, before_long)) (omega (arith, here_long)) (omega (arith, next_long)) in
+      let is = at_of (sixteen piece (at - 1)) (sixteen piece at) (sixteen piece (at + 1)) i (omega (arith, before_long)) (omega (arith, here_long))
+      (omega (arith, next_long)) in
       let p : get_or (sixteen piece (at - 1)) i 0 ≡ get_or piece j 0 = sixteen_at piece (at - 1) i within ∙ ap (λ k. get_or piece k 0) (omega arith) in
       let a : get_or (sixteen piece at) i 0 ≡ get_or piece (j + 1) 0 = sixteen_at piece at i within ∙ ap (λ k. get_or piece k 0) (omega arith) in
       let b : get_or (sixteen piece (at + 1)) i 0 ≡ get_or piece (j + 2) 0 = sixteen_at piece (at + 1) i within ∙ ap (λ k. get_or piece k 0) (omega arith) in
       rw (p, a, b) at is
 
   -- the bytes before the first lane that stops
-  on : (n : ℕ) → n ≡ prefix_len (λ x. not x) (ends_of (sixteen piece (at - 1)) (sixteen piece at) (sixteen piece (at + 1))) → NoneEnds piece at → NoneEnds piece (at + n)
+  on : (n : ℕ) → n ≡ prefix_len (λ x. not x) (ends_of (sixteen piece (at - 1)) (sixteen piece at) (sixteen piece (at + 1))) → NoneEnds piece at
+      → NoneEnds piece (at + n)
   on n e none j h = elim (cases_lt (j + 1) at) [
     | inl l ↦ none j l
     | inr m ↦ (
@@ -82,23 +89,30 @@ module _ (piece : List ℕ) (at : ℕ) (behind : 0 < at) (room : at + 16 < lengt
       no true h = cc
       no false h = refl
 
-  pub stops_on : (mask : ℕ) → mask ≡ mask_l (ends_of (sixteen piece (at - 1)) (sixteen piece at) (sixteen piece (at + 1))) → 0 < mask → NoneEnds piece at → NoneEnds piece (at + count_trailing_zeros 64 mask) × (count_trailing_zeros 64 mask < 16) × EndsThere piece (at + count_trailing_zeros 64 mask)
+  pub stops_on : (mask : ℕ) → mask ≡ mask_l (ends_of (sixteen piece (at - 1)) (sixteen piece at) (sixteen piece (at + 1))) → 0 < mask → NoneEnds piece at
+      → NoneEnds piece (at + count_trailing_zeros 64 mask) × (count_trailing_zeros 64 mask < 16) × EndsThere piece (at + count_trailing_zeros 64 mask)
   stops_on mask e some none =
       let ms = ends_of (sixteen piece (at - 1)) (sixteen piece at) (sixteen piece (at + 1)) in
       let same : mask_l (map (λ x. x) ms) ≡ mask = ap mask_l (map-id ms) ∙ sym e in
-      let first : count_trailing_zeros 64 mask ≡ prefix_len (λ x. not x) ms = ap (count_trailing_zeros 64) (sym same) ∙ trailing_mask_l (λ x. x) 64 ms (omega (arith, looks_long)) (omega (arith, same, some)) in
+      let first : count_trailing_zeros 64 mask ≡ prefix_len (λ x. not x) ms =
+      ap (count_trailing_zeros 64) (sym same) ∙ trailing_mask_l (λ x. x) 64 ms (omega (arith, looks_long)) (omega (arith, same, some)) in
       let n = count_trailing_zeros 64 mask in
       let some_lane : prefix_len (λ x. not x) ms < length ms = one_stops ms (omega (arith, some, e)) in
       let few : n < 16 = omega (arith, first, looks_long, some_lane) in
       let set : get_or ms n true ≡ true = rw first (yes _ (prefix_len_stops (λ x. not x) ms true some_lane)) in
-      let there = lane n (at + n - 1) few (omega arith) in
-      (on n first none, few, ap₂ (λ k l. ends_at (get_or piece (at + n - 1) 0) (get_or piece k 0) (get_or piece l 0)) (omega arith) (omega arith) ∙ sym there ∙ set)
+      let there = lane n (at + n - 1) few (omega arith) in (
+        on n first none,
+        few,
+        ap₂ (λ k l. ends_at (get_or piece (at + n - 1) 0) (get_or piece k 0) (get_or piece l 0)) (omega arith) (omega arith) ∙ sym there
+            ∙ set,
+      )
     where
       yes : (t : Bool) → not t ≡ false → t ≡ true
       yes true h = refl
       yes false h = cc
 
-  pub passes_on : (mask : ℕ) → mask ≡ mask_l (ends_of (sixteen piece (at - 1)) (sixteen piece at) (sixteen piece (at + 1))) → mask ≡ 0 → NoneEnds piece at → NoneEnds piece (at + 16)
+  pub passes_on : (mask : ℕ) → mask ≡ mask_l (ends_of (sixteen piece (at - 1)) (sixteen piece at) (sixteen piece (at + 1))) → mask ≡ 0 → NoneEnds piece at
+      → NoneEnds piece (at + 16)
   passes_on mask e nothing none =
       let ms = ends_of (sixteen piece (at - 1)) (sixteen piece at) (sixteen piece (at + 1)) in
       let same : mask_l (map (λ x. x) ms) ≡ 0 = ap mask_l (map-id ms) ∙ sym e ∙ nothing in

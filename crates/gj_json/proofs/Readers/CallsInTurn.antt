@@ -1,5 +1,6 @@
 -- What a call that takes bytes leaves, one call after another.
-use Rattle.std.proofs.Common.{inl, inr, ◌≡◌, ℕ, ◌+◌, ◌-◌, ◌≤◌, ◌<◌, List, [], ◌∷◌, ◌++◌, length, take, drop, take-add, get_or, Option, Some, None, Result, Ok, Err, refl, sym, ap, subst, ◌∙◌, arith, append_assoc, append-nil}
+use Rattle.std.proofs.Common.{inl, inr, ◌≡◌, ℕ, ◌+◌, ◌-◌, ◌≤◌, ◌<◌, List, [], ◌∷◌, ◌++◌, length, take, drop, take-add, get_or, Option, Some, None, Result, Ok}
+use Rattle.std.proofs.Common.{Err, refl, sym, ap, subst, ◌∙◌, arith, append_assoc, append-nil}
 use Rattle.std.specs.Result.{MatchResult, IfOk}
 use Rattle.std.proofs.lemmas.List.{length-append, length-take-le, take-append-le, take-append-drop, take_more}
 use Rattle.std.proofs.Math.Seq.{take-append-add}
@@ -35,7 +36,8 @@ use Rattle.gj_json.proofs.Pieces.PieceRests.{take_all_of, rest_of}
 -- ---- what a reader that stands for bytes says of them
 
 -- a reader that has refused a byte stands for whatever follows
-pub refused_stands : (reader : Reader) (bytes more : List ℕ) (fault : JsonFault) → reader.fault ≡ Some fault → StandsFor reader bytes → StandsFor reader (bytes ++ more)
+pub refused_stands : (reader : Reader) (bytes more : List ℕ) (fault : JsonFault) → reader.fault ≡ Some fault → StandsFor reader bytes
+    → StandsFor reader (bytes ++ more)
 refused_stands reader bytes more fault e h =
     let k : StandsRefused reader.limits fault reader.mode (levels_in reader.levels) reader.start reader.offset bytes = rw e at h in
     let g : StandsRefused reader.limits fault reader.mode (levels_in reader.levels) reader.start reader.offset (bytes ++ more) = record {
@@ -49,18 +51,22 @@ refused_stands reader bytes more fault e h =
     } in
     rw e g
 
-pub answers_ok : {A : Type 0} (reader : Reader) (bytes : List ℕ) (limits : Allowed) (result : Result A JsonFault) (x : A) → result ≡ Ok x → reader.limits ≡ limits → reader.fault ≡ None → StandsFor reader bytes → Answers limits bytes result
+pub answers_ok : {A : Type 0} (reader : Reader) (bytes : List ℕ) (limits : Allowed) (result : Result A JsonFault) (x : A) → result ≡ Ok x
+    → reader.limits ≡ limits → reader.fault ≡ None → StandsFor reader bytes → Answers limits bytes result
 answers_ok reader bytes limits result x r l e h =
     let k = well_of reader bytes e h in
     rw (r, ← l) (well_viable reader.limits.depth bytes k.state k.runs k.fits, omega (arith, k.at, k.within))
 
-pub answers_err : {A : Type 0} (reader : Reader) (bytes : List ℕ) (limits : Allowed) (result : Result A JsonFault) (fault : JsonFault) → result ≡ Err fault → reader.limits ≡ limits → reader.fault ≡ Some fault → StandsFor reader bytes → Answers limits bytes result
+pub answers_err : {A : Type 0} (reader : Reader) (bytes : List ℕ) (limits : Allowed) (result : Result A JsonFault) (fault : JsonFault) → result ≡ Err fault
+    → reader.limits ≡ limits → reader.fault ≡ Some fault → StandsFor reader bytes → Answers limits bytes result
 answers_err reader bytes limits result fault r l e h =
     let k : StandsRefused reader.limits fault reader.mode (levels_in reader.levels) reader.start reader.offset bytes = rw e at h in
-    let g : IsRefusal reader.limits bytes fault × ((more : List ℕ) → IsRefusal reader.limits (bytes ++ more) fault) = (k.refusal, λ more. lasts reader.limits bytes more fault.cause fault.place k.by_byte k.refusal) in
+    let g : IsRefusal reader.limits bytes fault × ((more : List ℕ) → IsRefusal reader.limits (bytes ++ more) fault) =
+    (k.refusal, λ more. lasts reader.limits bytes more fault.cause fault.place k.by_byte k.refusal) in
     rw (r, ← l) g
 
-pub kept_answer : (reader : Reader) (bytes : List ℕ) (fault : JsonFault) → reader.fault ≡ Some fault → StandsFor reader bytes → IsRefusal reader.limits bytes fault × ((more : List ℕ) → IsRefusal reader.limits (bytes ++ more) fault)
+pub kept_answer : (reader : Reader) (bytes : List ℕ) (fault : JsonFault) → reader.fault ≡ Some fault → StandsFor reader bytes
+    → IsRefusal reader.limits bytes fault × ((more : List ℕ) → IsRefusal reader.limits (bytes ++ more) fault)
 kept_answer reader bytes fault e h =
     let k : StandsRefused reader.limits fault reader.mode (levels_in reader.levels) reader.start reader.offset bytes = rw e at h in
     (k.refusal, λ more. lasts reader.limits bytes more fault.cause fault.place k.by_byte k.refusal)
@@ -100,13 +106,15 @@ pub data Outcome (old new : Reader) (result : Result Move JsonFault) : Type 0 wh
   took : (made : Move) → result ≡ Ok made → new.offset ≡ old.offset + 1 → new.fault ≡ old.fault → new.limits ≡ old.limits → Outcome old new result
   refused : (fault : JsonFault) → result ≡ Err fault → new.offset ≡ old.offset → new.fault ≡ Some fault → new.limits ≡ old.limits → Outcome old new result
 
-passes_outcome : (made : Move) (mode : Mode) (levels : List Level) (old new : Reader) (result : Result Move JsonFault) → PassesTo made mode levels old new result → Outcome old new result
+passes_outcome : (made : Move) (mode : Mode) (levels : List Level) (old new : Reader) (result : Result Move JsonFault)
+    → PassesTo made mode levels old new result → Outcome old new result
 passes_outcome made mode levels old new result h = took made h.answer h.passes.offset h.passes.fault h.passes.limits
 
 refuses_outcome : (cause : Cause) (old new : Reader) (result : Result Move JsonFault) → RefusesWith cause old new result → Outcome old new result
 refuses_outcome cause old new result h = refused h.fault h.answer h.refused.offset h.refused.kept h.refused.limits
 
-pub outcome : (made : Move) (old new : Reader) (result : Result Move JsonFault) → length (levels_in old.levels) ≤ old.limits.depth → Applied made old new result → Outcome old new result
+pub outcome : (made : Move) (old new : Reader) (result : Result Move JsonFault) → length (levels_in old.levels) ≤ old.limits.depth → Applied made old new result
+    → Outcome old new result
 outcome Refuse old new result n h = refuses_outcome Syntax old new result h
 outcome (Go mode ending) old new result n h = passes_outcome (Go mode ending) mode (levels_in old.levels) old new result h
 outcome (Open level) old new result n h = elim (eqb_tells (length (levels_in old.levels)) old.limits.depth) [
@@ -116,7 +124,8 @@ outcome (Open level) old new result n h = elim (eqb_tells (length (levels_in old
 outcome (Close level) old new result n h = passes_outcome (Close level) ValueDone (outer_of (levels_in old.levels)) old new result h
 
 -- the events of a byte, heard
-byte_hears : {before after : List Event → Type 0} (old new : Reader) (b : ℕ) (bytes : List ℕ) (events : List Event) (result : Result Move JsonFault) → old.fault ≡ None → StandsFor old bytes → Outcome old new result
+byte_hears : {before after : List Event → Type 0} (old new : Reader) (b : ℕ) (bytes : List ℕ) (events : List Event) (result : Result Move JsonFault)
+    → old.fault ≡ None → StandsFor old bytes → Outcome old new result
     → Takes before after old new b result → before events → Hears after events old.offset new.offset (take new.offset (bytes ++ b ∷ []))
 byte_hears {before} {after} old new b bytes events result live h (took made r o f l) w k =
     let es = told_by old w.turn w.value b in
@@ -134,7 +143,8 @@ pub outcome_on : (old new : Reader) (result : Result Move JsonFault) → Outcome
 outcome_on old new result (took made r o f l) = (l, omega (arith, o))
 outcome_on old new result (refused fault r o f l) = (l, omega (arith, o))
 
-pub byte_feeds : {before after : List Event → Type 0} (old new : Reader) (b : ℕ) (result : Result Move JsonFault) → old.fault ≡ None → old.offset < old.limits.bytes → length (levels_in old.levels) ≤ old.limits.depth
+pub byte_feeds : {before after : List Event → Type 0} (old new : Reader) (b : ℕ) (result : Result Move JsonFault) → old.fault ≡ None
+    → old.offset < old.limits.bytes → length (levels_in old.levels) ≤ old.limits.depth
     → Takes before after old new b result → Feeds before after old new (b ∷ [])
 byte_feeds {before} {after} old new b result live room nested w =
     let o = outcome (move_by old w.turn b) old new result nested w.applied in
@@ -148,24 +158,39 @@ byte_feeds {before} {after} old new b result live room nested w =
 
 -- ---- bytes that complete nothing
 
-skip_well : (old new : Reader) (given : List ℕ) → old.fault ≡ None → Skips old new given → (bytes : List ℕ) → StandsOpen old.limits new.mode (levels_in old.levels) new.literal new.content old.start (old.offset + length given) (bytes ++ given) → StandsFor new (bytes ++ given)
+skip_well : (old new : Reader) (given : List ℕ) → old.fault ≡ None → Skips old new given → (bytes : List ℕ)
+    → StandsOpen old.limits new.mode (levels_in old.levels) new.literal new.content old.start (old.offset + length given) (bytes ++ given)
+    → StandsFor new (bytes ++ given)
 skip_well old new given live s bytes w = rw (s.fault, live, s.limits, s.levels, s.start, s.offset) w
 
 -- what bytes leave that complete nothing
-pub skipped : (old new : Reader) (given : List ℕ) (bytes : List ℕ) → SkipsBy old new given → old.offset + length given ≤ old.limits.bytes → StandsOpen old.limits old.mode (levels_in old.levels) old.literal old.content old.start old.offset bytes
-    → StandsOpen old.limits new.mode (levels_in old.levels) new.literal new.content old.start (old.offset + length given) (bytes ++ given) × Completed old.offset (old.offset + length given) (bytes ++ given) []
+pub skipped : (old new : Reader) (given : List ℕ) (bytes : List ℕ) → SkipsBy old new given → old.offset + length given ≤ old.limits.bytes
+    → StandsOpen old.limits old.mode (levels_in old.levels) old.literal old.content old.start old.offset bytes
+    → StandsOpen old.limits new.mode (levels_in old.levels) new.literal new.content old.start (old.offset + length given) (bytes ++ given)
+    × Completed old.offset (old.offset + length given) (bytes ++ given) []
 skipped old new given bytes (leading leads other none) room k =
-    let q = quiet_run old.limits (levels_in old.levels) old.start given old.mode new.mode old.offset bytes k.well room leads in
-    (record { well = q.0; keeps = keeps_none (under_of q.0.state) new.literal new.content (sym (mode_under q.0.state new.mode (levels_in old.levels) q.0.kept) ∙ other) (sym (mode_state q.0.state new.mode (levels_in old.levels) q.0.kept) ∙ none) }, q.1)
+    let q = quiet_run old.limits (levels_in old.levels) old.start given old.mode new.mode old.offset bytes k.well room leads in (
+      record {
+        well = q.0;
+        keeps =
+            keeps_none (under_of q.0.state) new.literal new.content (sym (mode_under q.0.state new.mode (levels_in old.levels) q.0.kept) ∙ other)
+            (sym (mode_state q.0.state new.mode (levels_in old.levels) q.0.kept) ∙ none);
+      },
+      q.1,
+    )
 skipped old new given bytes (in_literal from to goes) room k =
     let P : Mode → Type 0 = λ m. StandsOpen old.limits m (levels_in old.levels) old.literal old.content old.start old.offset bytes in
-    let Q : Mode → Type 0 = λ m. StandsOpen old.limits m (levels_in old.levels) new.literal new.content old.start (old.offset + length given) (bytes ++ given) in
-    let d = digits_run old.limits (levels_in old.levels) old.start given old.literal new.literal old.content new.content old.offset bytes (subst P from k) goes room in
+    let Q : Mode → Type 0 =
+    λ m. StandsOpen old.limits m (levels_in old.levels) new.literal new.content old.start (old.offset + length given) (bytes ++ given) in
+    let d = digits_run old.limits (levels_in old.levels) old.start given old.literal new.literal old.content new.content old.offset bytes
+    (subst P from k) goes room in
     (subst Q (sym to) d.0, d.1)
 skipped old new given bytes (in_text first last characters modes reads holds) room k =
-    text_run old.limits (levels_in old.levels) old.start given characters first last old.mode new.mode old.literal new.literal old.content new.content old.offset bytes k modes reads holds room
+    text_run old.limits (levels_in old.levels) old.start given characters first last old.mode new.mode old.literal new.literal old.content new.content
+    old.offset bytes k modes reads holds room
 
-pub skip_feeds : {heard : List Event → Type 0} (old new : Reader) (given : List ℕ) → old.fault ≡ None → old.offset + length given ≤ old.limits.bytes → Skips old new given → FeedsAll heard heard old new given
+pub skip_feeds : {heard : List Event → Type 0} (old new : Reader) (given : List ℕ) → old.fault ≡ None → old.offset + length given ≤ old.limits.bytes
+    → Skips old new given → FeedsAll heard heard old new given
 skip_feeds {heard} old new given live room s = record {
   feeds = record {
     limits = s.limits;
@@ -182,7 +207,8 @@ skip_feeds {heard} old new given live room s = record {
 }
   where
     run : (bytes : List ℕ) → StandsFor old bytes
-        → StandsOpen old.limits new.mode (levels_in old.levels) new.literal new.content old.start (old.offset + length given) (bytes ++ given) × Completed old.offset (old.offset + length given) (bytes ++ given) []
+        → StandsOpen old.limits new.mode (levels_in old.levels) new.literal new.content old.start (old.offset + length given) (bytes ++ given)
+        × Completed old.offset (old.offset + length given) (bytes ++ given) []
     run bytes h = skipped old new given bytes s.by room (open_of old bytes live h)
 
 -- ---- one call after another
@@ -199,7 +225,8 @@ feeds_nothing {heard} reader live = record {
   offset = omega arith;
 }
 
-hears_both : {before middle after : List Event → Type 0} (first next last : Reader) (xs ys bytes : List ℕ) (events : List Event) → FeedsAll before middle first next xs → Feeds middle after next last ys → StandsFor first bytes → before events
+hears_both : {before middle after : List Event → Type 0} (first next last : Reader) (xs ys bytes : List ℕ) (events : List Event)
+    → FeedsAll before middle first next xs → Feeds middle after next last ys → StandsFor first bytes → before events
     → Hears after events first.offset last.offset (take last.offset (bytes ++ (xs ++ ys)))
 hears_both {before} {middle} {after} first next last xs ys bytes events f g h k =
     let a = f.feeds.told bytes events h k in
@@ -220,7 +247,8 @@ hears_both {before} {middle} {after} first next last xs ys bytes events f g h k 
           b.2 T rest v ∙ ap (λ es. es ++ b.0) (a.2 T _ z) ∙ append_assoc (events_by first.offset T) a.0 b.0,
     )
 
-pub feeds_on : {before middle after : List Event → Type 0} (first next last : Reader) (xs ys : List ℕ) → FeedsAll before middle first next xs → Feeds middle after next last ys → Feeds before after first last (xs ++ ys)
+pub feeds_on : {before middle after : List Event → Type 0} (first next last : Reader) (xs ys : List ℕ) → FeedsAll before middle first next xs
+    → Feeds middle after next last ys → Feeds before after first last (xs ++ ys)
 feeds_on {before} {middle} {after} first next last xs ys f g = record {
   limits = g.limits ∙ f.feeds.limits;
   on = omega (arith, g.on, f.feeds.on);
@@ -229,7 +257,8 @@ feeds_on {before} {middle} {after} first next last xs ys f g = record {
 }
 
 -- what comes behind a refused byte changes nothing
-pub feeds_more : {before after : List Event → Type 0} (old new : Reader) (given more : List ℕ) (fault : JsonFault) → Feeds before after old new given → new.fault ≡ Some fault → Feeds before after old new (given ++ more)
+pub feeds_more : {before after : List Event → Type 0} (old new : Reader) (given more : List ℕ) (fault : JsonFault) → Feeds before after old new given
+    → new.fault ≡ Some fault → Feeds before after old new (given ++ more)
 feeds_more {before} {after} old new given more fault f e = record {
   limits = f.limits;
   on = f.on;
@@ -237,13 +266,15 @@ feeds_more {before} {after} old new given more fault f e = record {
   told = λ bytes events h k.
       let g = f.told bytes events h k in
       let l : new.offset ≤ length (bytes ++ given) = refused_within new (bytes ++ given) fault e (f.stands bytes h) in
-      let t : take new.offset (bytes ++ (given ++ more)) ≡ take new.offset (bytes ++ given) = ap (λ xs. take new.offset xs) (sym (append_assoc bytes given more)) ∙ take-append-le new.offset (bytes ++ given) more l in
+      let t : take new.offset (bytes ++ (given ++ more)) ≡ take new.offset (bytes ++ given) =
+      ap (λ xs. take new.offset xs) (sym (append_assoc bytes given more)) ∙ take-append-le new.offset (bytes ++ given) more l in
       (g.0, g.1, rw t g.2);
 }
 
 -- ---- what a byte answers
 
-pub ok_live : (old new : Reader) (result : Result Move JsonFault) (x : Move) → Outcome old new result → result ≡ Ok x → (new.fault ≡ old.fault) × (new.offset ≡ old.offset + 1)
+pub ok_live : (old new : Reader) (result : Result Move JsonFault) (x : Move) → Outcome old new result → result ≡ Ok x → (new.fault ≡ old.fault)
+    × (new.offset ≡ old.offset + 1)
 ok_live old new result x (took made r o f l) e = (f, o)
 ok_live old new result x (refused fault r o f l) e = cc
 
@@ -251,43 +282,55 @@ pub err_kept : (old new : Reader) (result : Result Move JsonFault) (fault : Json
 err_kept old new result fault (took made r o f l) e = cc
 err_kept old new result fault (refused other r o f l) e = let k : other ≡ fault = cc in f ∙ ap (λ (x : JsonFault). Some x) k
 
-pub byte_all : {before after : List Event → Type 0} (old new : Reader) (b : ℕ) (result : Result Move JsonFault) (x : Move) → old.fault ≡ None → old.offset < old.limits.bytes → length (levels_in old.levels) ≤ old.limits.depth
+pub byte_all : {before after : List Event → Type 0} (old new : Reader) (b : ℕ) (result : Result Move JsonFault) (x : Move) → old.fault ≡ None
+    → old.offset < old.limits.bytes → length (levels_in old.levels) ≤ old.limits.depth
     → Takes before after old new b result → result ≡ Ok x → FeedsAll before after old new (b ∷ [])
 byte_all old new b result x live room nested w e =
     let k = ok_live old new result x (outcome (move_by old w.turn b) old new result nested w.applied) e in
     record { feeds = byte_feeds old new b result live room nested w; live = k.0 ∙ live; offset = k.1 }
 
-pub byte_to : {before after : List Event → Type 0} (old new : Reader) (b : ℕ) (result : Result Move JsonFault) (fault : JsonFault) → old.fault ≡ None → old.offset < old.limits.bytes → length (levels_in old.levels) ≤ old.limits.depth
+pub byte_to : {before after : List Event → Type 0} (old new : Reader) (b : ℕ) (result : Result Move JsonFault) (fault : JsonFault) → old.fault ≡ None
+    → old.offset < old.limits.bytes → length (levels_in old.levels) ≤ old.limits.depth
     → Takes before after old new b result → result ≡ Err fault → FeedsTo before after old new (b ∷ []) fault
 byte_to old new b result fault live room nested w e =
-    record { feeds = byte_feeds old new b result live room nested w; refused = err_kept old new result fault (outcome (move_by old w.turn b) old new result nested w.applied) e }
+    record {
+      feeds = byte_feeds old new b result live room nested w;
+      refused =
+          err_kept old new result fault (outcome (move_by old w.turn b) old new result nested w.applied) e;
+    }
 
 pub completed_at : (m n : ℕ) (bytes : List ℕ) (es fs : List Event) → m ≡ n → fs ≡ es → Completed m (m + 1) bytes es → Completed n (n + 1) bytes fs
 completed_at m n bytes es fs e f h = rw (f, ← e) h
 
 -- what a byte tells, and whether it is refused
-pub byte_told : {before after : List Event → Type 0} (old new : Reader) (b : ℕ) (bytes : List ℕ) (events : List Event) (result : Result Move JsonFault) → old.fault ≡ None → StandsFor old bytes
+pub byte_told : {before after : List Event → Type 0} (old new : Reader) (b : ℕ) (bytes : List ℕ) (events : List Event) (result : Result Move JsonFault)
+    → old.fault ≡ None → StandsFor old bytes
     → Takes before after old new b result → before events → IfOk result (λ done. HearsTwo after events bytes b)
 byte_told {before} {after} old new b bytes events (Ok done) live h w k = record {
   found = told_by old w.turn w.value b;
   told = w.told events k;
   few = emitted_few _ _ _ _ _ _;
-  completed = completed_at old.offset (length bytes) (bytes ++ b ∷ []) _ _ (live_offset old bytes live h) refl (completed old b bytes w.turn w.value w.says live h);
+  completed = completed_at old.offset (length bytes) (bytes ++ b ∷ []) _ _ (live_offset old bytes live h) refl
+      (completed old b bytes w.turn w.value w.says live h);
 }
 byte_told old new b bytes events (Err fault) live h w k = tt
 
-pub byte_refusal : (old new : Reader) (result : Result Move JsonFault) → old.fault ≡ None → Outcome old new result → MatchResult result (λ done. new.fault ≡ None) (λ fault. new.fault ≡ Some fault)
+pub byte_refusal : (old new : Reader) (result : Result Move JsonFault) → old.fault ≡ None → Outcome old new result
+    → MatchResult result (λ done. new.fault ≡ None) (λ fault. new.fault ≡ Some fault)
 byte_refusal old new result live (took made r o f l) = rw r (f ∙ live)
 byte_refusal old new result live (refused fault r o f l) = rw r f
 
 -- the byte behind the most that are allowed
-pub length_stands : {A : Type 0} (old new : Reader) (b : ℕ) (bytes : List ℕ) (fault : JsonFault) (result : Result A JsonFault) → result ≡ Err fault → old.fault ≡ None → old.offset ≡ old.limits.bytes → IsRefusedWith Length old new fault → StandsFor old bytes
+pub length_stands : {A : Type 0} (old new : Reader) (b : ℕ) (bytes : List ℕ) (fault : JsonFault) (result : Result A JsonFault) → result ≡ Err fault
+    → old.fault ≡ None → old.offset ≡ old.limits.bytes → IsRefusedWith Length old new fault → StandsFor old bytes
     → StandsFor new (bytes ++ b ∷ []) × Answers old.limits (bytes ++ b ∷ []) result
 length_stands old new b bytes fault result r live full w h =
     let k = well_of old bytes live h in
-    refuses_on old new b bytes Length result k (record { fault = fault; answer = r; refused = w }) tt (stop old.limits old.mode (levels_in old.levels) old.start old.offset bytes b k, full)
+    refuses_on old new b bytes Length result k (record { fault = fault; answer = r; refused = w }) tt
+    (stop old.limits old.mode (levels_in old.levels) old.start old.offset bytes b k, full)
 
-pub length_to : {heard : List Event → Type 0} (old new : Reader) (b : ℕ) (fault : JsonFault) → old.fault ≡ None → old.offset ≡ old.limits.bytes → IsRefusedWith Length old new fault → FeedsTo heard heard old new (b ∷ []) fault
+pub length_to : {heard : List Event → Type 0} (old new : Reader) (b : ℕ) (fault : JsonFault) → old.fault ≡ None → old.offset ≡ old.limits.bytes
+    → IsRefusedWith Length old new fault → FeedsTo heard heard old new (b ∷ []) fault
 length_to {heard} old new b fault live full w = record {
   feeds = record {
     limits = w.limits;
@@ -298,26 +341,33 @@ length_to {heard} old new b fault live full w = record {
   refused = w.kept;
 }
 
-pub feeds_all_on : {before middle after : List Event → Type 0} (first next last : Reader) (xs ys : List ℕ) → FeedsAll before middle first next xs → FeedsAll middle after next last ys → FeedsAll before after first last (xs ++ ys)
-feeds_all_on first next last xs ys f g = record { feeds = feeds_on first next last xs ys f g.feeds; live = g.live; offset = omega (arith, g.offset, f.offset, length-append xs ys) }
+pub feeds_all_on : {before middle after : List Event → Type 0} (first next last : Reader) (xs ys : List ℕ) → FeedsAll before middle first next xs
+    → FeedsAll middle after next last ys → FeedsAll before after first last (xs ++ ys)
+feeds_all_on first next last xs ys f g =
+    record { feeds = feeds_on first next last xs ys f g.feeds; live = g.live; offset = omega (arith, g.offset, f.offset, length-append xs ys) }
 
-pub feeds_to_on : {before middle after : List Event → Type 0} (first next last : Reader) (xs ys more : List ℕ) (fault : JsonFault) → FeedsAll before middle first next xs → FeedsTo middle after next last ys fault
+pub feeds_to_on : {before middle after : List Event → Type 0} (first next last : Reader) (xs ys more : List ℕ) (fault : JsonFault)
+    → FeedsAll before middle first next xs → FeedsTo middle after next last ys fault
     → FeedsTo before after first last ((xs ++ ys) ++ more) fault
-feeds_to_on first next last xs ys more fault f g = record { feeds = feeds_more first last (xs ++ ys) more fault (feeds_on first next last xs ys f g.feeds) g.refused; refused = g.refused }
+feeds_to_on first next last xs ys more fault f g =
+    record { feeds = feeds_more first last (xs ++ ys) more fault (feeds_on first next last xs ys f g.feeds) g.refused; refused = g.refused }
 
 -- ---- quiet bytes and then a byte, from the front of a piece
 
-pub front_skipped : {heard : List Event → Type 0} (old mid : Reader) (piece : List ℕ) (n : ℕ) → old.fault ≡ None → n ≤ length piece → old.offset + length piece ≤ old.limits.bytes → Skips old mid (take n piece) → FeedsAll heard heard old mid (take n piece)
+pub front_skipped : {heard : List Event → Type 0} (old mid : Reader) (piece : List ℕ) (n : ℕ) → old.fault ≡ None → n ≤ length piece
+    → old.offset + length piece ≤ old.limits.bytes → Skips old mid (take n piece) → FeedsAll heard heard old mid (take n piece)
 front_skipped old mid piece n live w room s = skip_feeds old mid (take n piece) live (omega (arith, length-take-le n piece w)) s
 
 byte_taken : (piece : List ℕ) (n : ℕ) → n < length piece → take n piece ++ get_or piece n 0 ∷ [] ≡ take (n + 1) piece
 byte_taken piece n w = sym (take_more piece n 0 w)
 
 -- a front of a piece that was taken, and the byte behind it
-module _ {before middle after : List Event → Type 0} (old mid new : Reader) (piece : List ℕ) (n : ℕ) (result : Result Move JsonFault) (w : n < length piece) (room : old.offset + length piece ≤ old.limits.bytes) (f : FeedsAll before middle old mid (take n piece))
+module _ {before middle after : List Event → Type 0} (old mid new : Reader) (piece : List ℕ) (n : ℕ) (result : Result Move JsonFault) (w : n < length piece)
+    (room : old.offset + length piece ≤ old.limits.bytes) (f : FeedsAll before middle old mid (take n piece))
     (t : Takes middle after mid new (get_or piece n 0) result) where
   mid_room : mid.offset < mid.limits.bytes
-  mid_room = let e : mid.limits.bytes ≡ old.limits.bytes = ap (λ (a : Allowed). a.bytes) f.feeds.limits in omega (arith, f.offset, length-take-le n piece (omega arith))
+  mid_room = let e : mid.limits.bytes ≡ old.limits.bytes =
+      ap (λ (a : Allowed). a.bytes) f.feeds.limits in omega (arith, f.offset, length-take-le n piece (omega arith))
 
   pub some_all : (x : Move) → result ≡ Ok x → FeedsAll before after old new (take (n + 1) piece)
   some_all x e =
@@ -329,31 +379,39 @@ module _ {before middle after : List Event → Type 0} (old mid new : Reader) (p
   some_to fault e =
       let g : FeedsTo middle after mid new (get_or piece n 0 ∷ []) fault = byte_to mid new (get_or piece n 0) result fault f.live mid_room mid.nested t e in
       let P : List ℕ → Type 0 = λ xs. FeedsTo before after old new xs fault in
-      let k : (take n piece ++ get_or piece n 0 ∷ []) ++ drop (n + 1) piece ≡ piece = ap (λ xs. xs ++ drop (n + 1) piece) (byte_taken piece n w) ∙ take-append-drop (n + 1) piece in
+      let k : (take n piece ++ get_or piece n 0 ∷ []) ++ drop (n + 1) piece ≡ piece =
+      ap (λ xs. xs ++ drop (n + 1) piece) (byte_taken piece n w) ∙ take-append-drop (n + 1) piece in
       subst P k (feeds_to_on old mid new (take n piece) (get_or piece n 0 ∷ []) (drop (n + 1) piece) fault f g)
 
 -- ---- one front of a piece after another
 
-pub piece_all : {before middle after : List Event → Type 0} (first next last : Reader) (piece : List ℕ) (at n : ℕ) → FeedsAll before middle first next (take at piece) → FeedsAll middle after next last (take n (drop at piece)) → FeedsAll before after first last (take (at + n) piece)
+pub piece_all : {before middle after : List Event → Type 0} (first next last : Reader) (piece : List ℕ) (at n : ℕ)
+    → FeedsAll before middle first next (take at piece) → FeedsAll middle after next last (take n (drop at piece))
+    → FeedsAll before after first last (take (at + n) piece)
 piece_all {before} {middle} {after} first next last piece at n f g =
     let P : List ℕ → Type 0 = λ xs. FeedsAll before after first last xs in
     subst P (sym (take-add at n piece)) (feeds_all_on first next last (take at piece) (take n (drop at piece)) f g)
 
-pub piece_to : {before middle after : List Event → Type 0} (first next last : Reader) (piece : List ℕ) (at : ℕ) (fault : JsonFault) → FeedsAll before middle first next (take at piece) → FeedsTo middle after next last (drop at piece) fault → FeedsTo before after first last piece fault
+pub piece_to : {before middle after : List Event → Type 0} (first next last : Reader) (piece : List ℕ) (at : ℕ) (fault : JsonFault)
+    → FeedsAll before middle first next (take at piece) → FeedsTo middle after next last (drop at piece) fault → FeedsTo before after first last piece fault
 piece_to {before} {middle} {after} first next last piece at fault f g =
     let P : List ℕ → Type 0 = λ xs. FeedsTo before after first last xs fault in
     subst P (append-nil (take at piece ++ drop at piece) ∙ take-append-drop at piece) (feeds_to_on first next last (take at piece) (drop at piece) [] fault f g)
 
-pub rest_all : {before after : List Event → Type 0} (old new : Reader) (piece : List ℕ) (at n : ℕ) → FeedsAll before after old new (take n (take (length piece - at) (drop at piece))) → FeedsAll before after old new (take n (drop at piece))
+pub rest_all : {before after : List Event → Type 0} (old new : Reader) (piece : List ℕ) (at n : ℕ)
+    → FeedsAll before after old new (take n (take (length piece - at) (drop at piece))) → FeedsAll before after old new (take n (drop at piece))
 rest_all {before} {after} old new piece at n f = let P : List ℕ → Type 0 = λ xs. FeedsAll before after old new (take n xs) in subst P (rest_of piece at) f
 
-pub rest_to : {before after : List Event → Type 0} (old new : Reader) (piece : List ℕ) (at : ℕ) (fault : JsonFault) → FeedsTo before after old new (take (length piece - at) (drop at piece)) fault → FeedsTo before after old new (drop at piece) fault
+pub rest_to : {before after : List Event → Type 0} (old new : Reader) (piece : List ℕ) (at : ℕ) (fault : JsonFault)
+    → FeedsTo before after old new (take (length piece - at) (drop at piece)) fault → FeedsTo before after old new (drop at piece) fault
 rest_to {before} {after} old new piece at fault f = let P : List ℕ → Type 0 = λ xs. FeedsTo before after old new xs fault in subst P (rest_of piece at) f
 
 -- quiet bytes, and what was taken of the rest
-pub skipped_and : {before after : List Event → Type 0} (old mid new : Reader) (piece : List ℕ) (quiet n : ℕ) → old.fault ≡ None → quiet ≤ length piece → old.offset + length piece ≤ old.limits.bytes → Skips old mid (take quiet piece)
+pub skipped_and : {before after : List Event → Type 0} (old mid new : Reader) (piece : List ℕ) (quiet n : ℕ) → old.fault ≡ None → quiet ≤ length piece
+    → old.offset + length piece ≤ old.limits.bytes → Skips old mid (take quiet piece)
     → FeedsAll before after mid new (take n (take (length piece - quiet) (drop quiet piece))) → FeedsAll before after old new (take (quiet + n) piece)
-skipped_and old mid new piece quiet n live w room s f = piece_all old mid new piece quiet n (front_skipped old mid piece quiet live w room s) (rest_all mid new piece quiet n f)
+skipped_and old mid new piece quiet n live w room s f =
+    piece_all old mid new piece quiet n (front_skipped old mid piece quiet live w room s) (rest_all mid new piece quiet n f)
 
 -- ---- a piece that is longer than allowed
 
@@ -361,7 +419,8 @@ module _ (piece : List ℕ) (room : ℕ) (longer : room < length piece) where
   around : (take room piece ++ get_or piece room 0 ∷ []) ++ drop (room + 1) piece ≡ piece
   around = ap (λ xs. xs ++ drop (room + 1) piece) (byte_taken piece room longer) ∙ take-append-drop (room + 1) piece
 
-  pub beyond : {before after : List Event → Type 0} (old mid new : Reader) (fault : JsonFault) → FeedsAll before after old mid (take room piece) → old.offset + room ≡ old.limits.bytes → IsRefusedWith Length mid new fault → FeedsTo before after old new piece fault
+  pub beyond : {before after : List Event → Type 0} (old mid new : Reader) (fault : JsonFault) → FeedsAll before after old mid (take room piece)
+      → old.offset + room ≡ old.limits.bytes → IsRefusedWith Length mid new fault → FeedsTo before after old new piece fault
   beyond {before} {after} old mid new fault f full w =
       let e : mid.limits.bytes ≡ old.limits.bytes = ap (λ (a : Allowed). a.bytes) f.feeds.limits in
       let m : mid.offset ≡ mid.limits.bytes = omega (arith, f.offset, length-take-le room piece (omega arith)) in
@@ -369,25 +428,30 @@ module _ (piece : List ℕ) (room : ℕ) (longer : room < length piece) where
       let P : List ℕ → Type 0 = λ xs. FeedsTo before after old new xs fault in
       subst P around (feeds_to_on old mid new (take room piece) (get_or piece room 0 ∷ []) (drop (room + 1) piece) fault f g)
 
-  pub within_to : {before after : List Event → Type 0} (old new : Reader) (fault : JsonFault) → FeedsTo before after old new (take room piece) fault → FeedsTo before after old new piece fault
+  pub within_to : {before after : List Event → Type 0} (old new : Reader) (fault : JsonFault) → FeedsTo before after old new (take room piece) fault
+      → FeedsTo before after old new piece fault
   within_to {before} {after} old new fault f =
       let P : List ℕ → Type 0 = λ xs. FeedsTo before after old new xs fault in
-      subst P (take-append-drop room piece) (record { feeds = feeds_more old new (take room piece) (drop room piece) fault f.feeds f.refused; refused = f.refused })
+      subst P (take-append-drop room piece)
+      (record { feeds = feeds_more old new (take room piece) (drop room piece) fault f.feeds f.refused; refused = f.refused })
 
 -- ---- what a piece answers
 
-pub to_answer : {before after : List Event → Type 0} (old new : Reader) (given bytes : List ℕ) (fault : JsonFault) → FeedsTo before after old new given fault → StandsFor old bytes → IsRefusal old.limits (bytes ++ given) fault × ((more : List ℕ) → IsRefusal old.limits ((bytes ++ given) ++ more) fault)
+pub to_answer : {before after : List Event → Type 0} (old new : Reader) (given bytes : List ℕ) (fault : JsonFault) → FeedsTo before after old new given fault
+    → StandsFor old bytes → IsRefusal old.limits (bytes ++ given) fault × ((more : List ℕ) → IsRefusal old.limits ((bytes ++ given) ++ more) fault)
 to_answer old new given bytes fault f h = let k = kept_answer new (bytes ++ given) fault f.refused (f.feeds.stands bytes h) in rw (f.feeds.limits) at k
 
 -- by what a whole piece leaves
 pub by_answer : (before after : List Event → Type 0) (old new : Reader) (given bytes : List ℕ) (result : Result (Unit {0}) JsonFault)
-    → MatchResult result (λ done. FeedsAll before after old new given) (FeedsTo before after old new given) → StandsFor old bytes → Answers old.limits (bytes ++ given) result
+    → MatchResult result (λ done. FeedsAll before after old new given) (FeedsTo before after old new given) → StandsFor old bytes
+    → Answers old.limits (bytes ++ given) result
 by_answer before after old new given bytes (Ok x) f h = answers_ok new (bytes ++ given) old.limits (Ok x) x refl f.feeds.limits f.live (f.feeds.stands bytes h)
 by_answer before after old new given bytes (Err fault) f h = to_answer old new given bytes fault f h
 
 -- ---- what a piece is heard as
 
-pub heard_all : {before after : List Event → Type 0} (old new : Reader) (given bytes : List ℕ) (events : List Event) → old.fault ≡ None → FeedsAll before after old new given → StandsFor old bytes → before events
+pub heard_all : {before after : List Event → Type 0} (old new : Reader) (given bytes : List ℕ) (events : List Event) → old.fault ≡ None
+    → FeedsAll before after old new given → StandsFor old bytes → before events
     → Hears after events (length bytes) (length (bytes ++ given)) (bytes ++ given)
 heard_all old new given bytes events live f h k =
     let t = f.feeds.told bytes events h k in
@@ -396,7 +460,8 @@ heard_all old new given bytes events live f h k =
     let e : take new.offset (bytes ++ given) ≡ bytes ++ given = take_all_of (bytes ++ given) new.offset n in
     rw (m, e, n) at t
 
-pub heard_to : {before after : List Event → Type 0} (old new : Reader) (given bytes : List ℕ) (events : List Event) (fault : JsonFault) → old.fault ≡ None → FeedsTo before after old new given fault → StandsFor old bytes → before events
+pub heard_to : {before after : List Event → Type 0} (old new : Reader) (given bytes : List ℕ) (events : List Event) (fault : JsonFault) → old.fault ≡ None
+    → FeedsTo before after old new given fault → StandsFor old bytes → before events
     → Hears after events (length bytes) fault.place (take fault.place (bytes ++ given))
 heard_to old new given bytes events fault live f h k =
     let t = f.feeds.told bytes events h k in
@@ -404,11 +469,14 @@ heard_to old new given bytes events fault live f h k =
     let n : new.offset ≡ fault.place = sym (refused_offset new (bytes ++ given) fault f.refused (f.feeds.stands bytes h)) in
     rw (m, n) at t
 
-pub heard_by : (before after : List Event → Type 0) (old new : Reader) (given bytes : List ℕ) (events : List Event) (result : Result (Unit {0}) JsonFault) → old.fault ≡ None
-    → MatchResult result (λ done. FeedsAll before after old new given) (FeedsTo before after old new given) → StandsFor old bytes → before events → HearsBy after events bytes given result
+pub heard_by : (before after : List Event → Type 0) (old new : Reader) (given bytes : List ℕ) (events : List Event) (result : Result (Unit {0}) JsonFault)
+    → old.fault ≡ None
+    → MatchResult result (λ done. FeedsAll before after old new given) (FeedsTo before after old new given) → StandsFor old bytes → before events
+    → HearsBy after events bytes given result
 heard_by before after old new given bytes events (Ok x) live f h k = heard_all old new given bytes events live f h k
 heard_by before after old new given bytes events (Err fault) live f h k = heard_to old new given bytes events fault live f h k
 
-pub by_on : (before after : List Event → Type 0) (old new : Reader) (given : List ℕ) (result : Result (Unit {0}) JsonFault) → MatchResult result (λ done. FeedsAll before after old new given) (FeedsTo before after old new given) → old.offset ≤ new.offset
+pub by_on : (before after : List Event → Type 0) (old new : Reader) (given : List ℕ) (result : Result (Unit {0}) JsonFault)
+    → MatchResult result (λ done. FeedsAll before after old new given) (FeedsTo before after old new given) → old.offset ≤ new.offset
 by_on before after old new given (Ok x) f = f.feeds.on
 by_on before after old new given (Err fault) f = f.feeds.on

@@ -15,11 +15,13 @@ length-levels_at (suc count) bits = ap suc (length-levels_at count (bits / 2))
 
 length-full : (n : ℕ) (words : List ℕ) → length (full_levels n words) ≡ n * WORD
 length-full zero words = refl
-length-full (suc n) words = omega (arith, length-append (levels_at WORD (get_or words n 0)) (full_levels n words), length-levels_at WORD (get_or words n 0), length-full n words)
+length-full (suc n) words =
+    omega (arith, length-append (levels_at WORD (get_or words n 0)) (full_levels n words), length-levels_at WORD (get_or words n 0), length-full n words)
 
 pub length-levels : (l : Levels) → length (levels_in l) ≡ l.count + l.full * WORD
 unfolding levels_in
-length-levels l = omega (arith, length-append (levels_at l.count l.inner) (full_levels l.full l.outer), length-levels_at l.count l.inner, length-full l.full l.outer)
+length-levels l = omega
+    (arith, length-append (levels_at l.count l.inner) (full_levels l.full l.outer), length-levels_at l.count l.inner, length-full l.full l.outer)
 
 pub few_levels : (l : Levels) → length (levels_in l) ≤ MOST_LEVELS
 few_levels l = omega (arith, l.some, l.few, length-levels l)

@@ -10,7 +10,8 @@ use Rattle.gj_json.specs.declared.reader.Reader.{Reader}
 use Rattle.gj_number.specs.DecidedNumbers.{is_number, begins_number}
 use Rattle.gj_number.proofs.Grammar.DecidedNumbers.{number as decided_number, begins}
 use Rattle.gj_json.specs.Internal.ToldEvents.{in_number, text_state, NumberTurn, turn_of, Goes, Ends, Refuses}
-use Rattle.gj_json.specs.Internal.UnderWay.{Under, nothing, number, text, ComesFrom, Keeps, Turns, HasValue, HasWords, TurnSays, LiteralSays, LiteralGoes, ContentGoes}
+use Rattle.gj_json.specs.Internal.UnderWay.{Under, nothing, number, text, ComesFrom, Keeps, Turns, HasValue, HasWords, TurnSays, LiteralSays, LiteralGoes}
+use Rattle.gj_json.specs.Internal.UnderWay.{ContentGoes}
 use Rattle.gj_json.specs.declared.content.Content.{Content}
 use Rattle.gj_json.specs.Internal.KeptContent.{words_in}
 use Rattle.gj_json.specs.Internal.ContentWords.{Words, words_of}
@@ -21,14 +22,16 @@ use Rattle.gj_json.proofs.Grammar.NumberPrefixes.{is_false}
 turn_is : (xs : List ℕ) (b : ℕ) (turn : NumberTurn) → TurnSays turn xs b → turn ≡ turn_of (begins_number (xs ++ b ∷ [])) (is_number xs)
 turn_is xs b Goes h = rw ((begins (xs ++ b ∷ [])).1 h) refl
 turn_is xs b Ends h = rw (is_false (begins_number (xs ++ b ∷ [])) (λ e. h.0 ((begins (xs ++ b ∷ [])).0 e)), (decided_number xs).1 h.1) refl
-turn_is xs b Refuses h = rw (is_false (begins_number (xs ++ b ∷ [])) (λ e. h.0 ((begins (xs ++ b ∷ [])).0 e)), is_false (is_number xs) (λ e. h.1 ((decided_number xs).0 e))) refl
+turn_is xs b Refuses h =
+    rw (is_false (begins_number (xs ++ b ∷ [])) (λ e. h.0 ((begins (xs ++ b ∷ [])).0 e)), is_false (is_number xs) (λ e. h.1 ((decided_number xs).0 e))) refl
 
 ended : (bytes : List ℕ) (b : ℕ) (turn : NumberTurn) → TurnSays turn bytes b → turn ≡ Ends → IsNumber bytes
 ended bytes b Goes h e = cc
 ended bytes b Ends h e = h.1
 ended bytes b Refuses h e = cc
 
-pub turns_by : (u : Under) (reader : Reader) (b : ℕ) (turn : NumberTurn) (value : Option Exact) → LiteralSays reader b turn value → Keeps u reader.literal reader.content → in_number reader.mode ≡ has_number u → Turns u b turn × HasValue u turn value
+pub turns_by : (u : Under) (reader : Reader) (b : ℕ) (turn : NumberTurn) (value : Option Exact) → LiteralSays reader b turn value
+    → Keeps u reader.literal reader.content → in_number reader.mode ≡ has_number u → Turns u b turn × HasValue u turn value
 turns_by nothing reader b turn value h k m = (tt, tt)
 turns_by (text so_far state) reader b turn value h k m = (tt, tt)
 turns_by (number so_far) reader b turn value h k m = (
@@ -62,7 +65,8 @@ came_number so_far b (text xs st) e c = cc
 came_number so_far b (number xs) e c = rw (c.0) refl
 
 -- where a string is under way behind a byte of a string
-pub came_text : (so_far more : List ℕ) (state next : StringState) (b : ℕ) → string_next state b ≡ string_goes more next → (u : Under) → state_under u ≡ Some next → ComesFrom (text so_far state) b u → u ≡ text (so_far ++ more) next
+pub came_text : (so_far more : List ℕ) (state next : StringState) (b : ℕ) → string_next state b ≡ string_goes more next → (u : Under)
+    → state_under u ≡ Some next → ComesFrom (text so_far state) b u → u ≡ text (so_far ++ more) next
 came_text so_far more state next b n nothing e c = cc
 came_text so_far more state next b n (number xs) e c = cc
 came_text so_far more state next b n (text xs st) e c =
@@ -77,8 +81,10 @@ keeps_none (text so_far state) literal content e f = cc
 keeps_none (number so_far) literal content e f = cc
 
 -- what is kept behind the byte
-pub keeps_on : (before after : Under) (old new : Reader) (b : ℕ) (turn : NumberTurn) → ComesFrom before b after → Keeps before old.literal old.content → Turns before b turn → LiteralGoes old new b turn → ContentGoes old new b
-    → in_number old.mode ≡ has_number before → in_number new.mode ≡ has_number after → text_state old.mode ≡ state_under before → text_state new.mode ≡ state_under after → Keeps after new.literal new.content
+pub keeps_on : (before after : Under) (old new : Reader) (b : ℕ) (turn : NumberTurn) → ComesFrom before b after → Keeps before old.literal old.content
+    → Turns before b turn → LiteralGoes old new b turn → ContentGoes old new b
+    → in_number old.mode ≡ has_number before → in_number new.mode ≡ has_number after → text_state old.mode ≡ state_under before
+    → text_state new.mode ≡ state_under after → Keeps after new.literal new.content
 keeps_on before nothing old new b turn c k t g w m n p q = tt
 keeps_on nothing (text so_far state) old new b turn c k t g w m n p q = rw (c.0) (w.begins state m p q)
 keeps_on (number xs) (text so_far state) old new b turn c k t g w m n p q = absurd c

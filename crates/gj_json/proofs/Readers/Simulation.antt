@@ -1,9 +1,11 @@
 -- What the reader keeps moves as the machine does.
-use Rattle.std.proofs.Common.{◌≡◌, ℕ, suc, ◌+◌, ◌==◌, ◌≤◌, ◌<◌, Bool, true, false, if◌then◌else◌, List, [], ◌∷◌, length, drop, Option, Some, None, refl, sym, ap, arith, eq-eqb, get_or, length-drop, drop-cons, ◌++◌}
+use Rattle.std.proofs.Common.{◌≡◌, ℕ, suc, ◌+◌, ◌==◌, ◌≤◌, ◌<◌, Bool, true, false, if◌then◌else◌, List, [], ◌∷◌, length, drop, Option, Some, None, refl, sym}
+use Rattle.std.proofs.Common.{ap, arith, eq-eqb, get_or, length-drop, drop-cons, ◌++◌}
 use Rattle.std.proofs.lemmas.Bool.Decides.{nat_tests}
 use Rattle.gj_json.specs.Internal.NamedBytes.{mark_first, mark_second, mark_third}
 use Rattle.gj_json.specs.declared.class.Class.{Class}
-use Rattle.gj_json.specs.declared.class.Class.TheVariants.{White, OpenArray, CloseArray, OpenObject, CloseObject, Comma, Colon, Quote, NumberStart, Letter, Other}
+use Rattle.gj_json.specs.declared.class.Class.TheVariants.{White, OpenArray, CloseArray, OpenObject, CloseObject, Comma, Colon, Quote, NumberStart, Letter}
+use Rattle.gj_json.specs.declared.class.Class.TheVariants.{Other}
 use Rattle.gj_json.specs.declared.constant.Constant.{Constant}
 use Rattle.gj_json.specs.declared.constant.Constant.TheVariants.{Null, True, False}
 use Rattle.gj_json.specs.declared.levels.Level.{Level}
@@ -18,8 +20,13 @@ use Rattle.gj_json.specs.Tree.{Tree, constant, number, end_of_array, element, en
 use Rattle.gj_json.specs.Grammar.{letters_of}
 use Rattle.gj_json.specs.Internal.ByteClasses.{class_of}
 use Rattle.gj_json.specs.Internal.OpenLevels.{inner_of, outer_of}
-use Rattle.gj_json.specs.Internal.TextMachine.{Frame, in_array, in_object, Member, Leaf, Partial, Broken, text_due, mark_one, mark_two, begun, with_mark, value_due, value_done, array_opened, object_opened, constant_on, number_on, string_on, name_due, name_on, colon_due, to, step, step_leaf, begin_value, begin_name, after_value, step_value_due, step_array_opened, step_object_opened, step_name_due, step_colon_due, step_constant, step_number, step_string, step_name, string_next, StringStep, string_ends, string_goes, string_refuses, letters_after}
-use Rattle.gj_json.specs.Internal.Transitions.{string_move, begin_move, due_move, array_move, name_move, object_move, name_due_move, colon_move, after_move, constant_move, number_move, value_string_move, name_string_move, move_of}
+use Rattle.gj_json.specs.Internal.TextMachine.{Frame, in_array, in_object, Member, Leaf, Partial, Broken, text_due, mark_one, mark_two, begun, with_mark}
+use Rattle.gj_json.specs.Internal.TextMachine.{value_due, value_done, array_opened, object_opened, constant_on, number_on, string_on, name_due, name_on}
+use Rattle.gj_json.specs.Internal.TextMachine.{colon_due, to, step, step_leaf, begin_value, begin_name, after_value, step_value_due, step_array_opened}
+use Rattle.gj_json.specs.Internal.TextMachine.{step_object_opened, step_name_due, step_colon_due, step_constant, step_number, step_string, step_name}
+use Rattle.gj_json.specs.Internal.TextMachine.{string_next, StringStep, string_ends, string_goes, string_refuses, letters_after}
+use Rattle.gj_json.specs.Internal.Transitions.{string_move, begin_move, due_move, array_move, name_move, object_move, name_due_move, colon_move, after_move}
+use Rattle.gj_json.specs.Internal.Transitions.{constant_move, number_move, value_string_move, name_string_move, move_of}
 use Rattle.gj_json.specs.Internal.ReaderState.{levels_of, levels_with, LeafAs, PartialAs, StandsAs, Fits, FitsName, FitsLeaf, FitsBroken}
 use Rattle.gj_json.specs.Internal.ReaderStep.{opened}
 use Rattle.gj_json.specs.Internal.ToldEvents.{NumberTurn, turn_of}
@@ -59,7 +66,8 @@ on_begin d stack n b Comma f = refl
 on_begin d stack n b Colon f = refl
 on_begin d stack n b Other f = refl
 
-on_after : (d : ℕ) (stack : List Frame) (t : Tree) (n : ℕ) (c : Class) → (depth t + length stack ≤ d) × Fits d stack → Simulates d (levels_of stack) (after_move (inner_of (levels_of stack)) c) (after_value stack t n c)
+on_after : (d : ℕ) (stack : List Frame) (t : Tree) (n : ℕ) (c : Class) → (depth t + length stack ≤ d) × Fits d stack
+    → Simulates d (levels_of stack) (after_move (inner_of (levels_of stack)) c) (after_value stack t n c)
 on_after d [] t n White f = ((refl, refl), f)
 on_after d (in_array place done ∷ stack) t n White f = ((refl, refl), f)
 on_after d (in_array place done ∷ stack) t n Comma f = ((refl, refl), (f.1.0, (omega (arith, f.0), f.1.1), f.1.2))
@@ -77,21 +85,25 @@ on_value_due : (d : ℕ) (stack : List Frame) (n b : ℕ) (c : Class) → Fits d
 on_value_due d stack n b White f = ((refl, refl), f)
 on_value_due d stack n b c f = on_begin d stack n b c f
 
-on_array_opened : (d : ℕ) (stack : List Frame) (place n b : ℕ) (c : Class) → (length stack + 1 ≤ d) × Fits d stack → Simulates d (Array ∷ levels_of stack) (array_move c) (step_array_opened stack place n b c)
+on_array_opened : (d : ℕ) (stack : List Frame) (place n b : ℕ) (c : Class) → (length stack + 1 ≤ d) × Fits d stack
+    → Simulates d (Array ∷ levels_of stack) (array_move c) (step_array_opened stack place n b c)
 on_array_opened d stack place n b White f = ((refl, refl), f)
 on_array_opened d stack place n b CloseArray f = ((refl, refl), (omega (arith, f.0), f.1))
 on_array_opened d stack place n b c f = on_begin d (in_array place [] ∷ stack) n b c (f.0, tt, f.1)
 
-on_name : (d : ℕ) (stack : List Frame) (place : ℕ) (done : List Member) (n : ℕ) (c : Class) → FitsName d stack done → Simulates d (Object ∷ levels_of stack) (name_move c) (begin_name stack place done n c)
+on_name : (d : ℕ) (stack : List Frame) (place : ℕ) (done : List Member) (n : ℕ) (c : Class) → FitsName d stack done
+    → Simulates d (Object ∷ levels_of stack) (name_move c) (begin_name stack place done n c)
 on_name d stack place done n Quote f = ((refl, refl), f)
 on_name d stack place done n _ f = refl
 
-on_object_opened : (d : ℕ) (stack : List Frame) (place n b : ℕ) (c : Class) → (length stack + 1 ≤ d) × Fits d stack → Simulates d (Object ∷ levels_of stack) (object_move c) (step_object_opened stack place n c)
+on_object_opened : (d : ℕ) (stack : List Frame) (place n b : ℕ) (c : Class) → (length stack + 1 ≤ d) × Fits d stack
+    → Simulates d (Object ∷ levels_of stack) (object_move c) (step_object_opened stack place n c)
 on_object_opened d stack place n b White f = ((refl, refl), f)
 on_object_opened d stack place n b CloseObject f = ((refl, refl), (omega (arith, f.0), f.1))
 on_object_opened d stack place n b c f = on_name d stack place [] n c (f.0, tt, f.1)
 
-on_name_due : (d : ℕ) (stack : List Frame) (place : ℕ) (done : List Member) (n : ℕ) (c : Class) → FitsName d stack done → Simulates d (Object ∷ levels_of stack) (name_due_move c) (step_name_due stack place done n c)
+on_name_due : (d : ℕ) (stack : List Frame) (place : ℕ) (done : List Member) (n : ℕ) (c : Class) → FitsName d stack done
+    → Simulates d (Object ∷ levels_of stack) (name_due_move c) (step_name_due stack place done n c)
 on_name_due d stack place done n White f = ((refl, refl), f)
 on_name_due d stack place done n c f = on_name d stack place done n c f
 
@@ -101,14 +113,16 @@ on_colon_due d stack place done np name ne n White f = ((refl, refl), f)
 on_colon_due d stack place done np name ne n Colon f = ((refl, refl), f)
 on_colon_due d stack place done np name ne n _ f = refl
 
-on_string : (words : Words) (d : ℕ) (stack : List Frame) (place : ℕ) (so_far : List ℕ) (n : ℕ) (s : StringStep) → OneCharacter s → Fits d stack → Simulates d (levels_of stack) (value_string_move words (string_move s)) (step_string stack place so_far n s)
+on_string : (words : Words) (d : ℕ) (stack : List Frame) (place : ℕ) (so_far : List ℕ) (n : ℕ) (s : StringStep) → OneCharacter s → Fits d stack
+    → Simulates d (levels_of stack) (value_string_move words (string_move s)) (step_string stack place so_far n s)
 on_string words d stack place so_far n string_ends o f = ((refl, refl), (omega (arith, levels_fit d stack f), f))
 on_string words d stack place so_far n (string_goes [] state) o f = ((refl, refl), f)
 on_string words d stack place so_far n (string_goes (c ∷ []) state) o f = ((rw o refl, refl), f)
 on_string words d stack place so_far n (string_goes (c ∷ e ∷ more) state) o f = absurd o
 on_string words d stack place so_far n string_refuses o f = refl
 
-on_name_string : (words : Words) (d : ℕ) (stack : List Frame) (place : ℕ) (done : List Member) (np : ℕ) (so_far : List ℕ) (n : ℕ) (s : StringStep) → OneCharacter s → FitsName d stack done
+on_name_string : (words : Words) (d : ℕ) (stack : List Frame) (place : ℕ) (done : List Member) (np : ℕ) (so_far : List ℕ) (n : ℕ) (s : StringStep)
+    → OneCharacter s → FitsName d stack done
     → Simulates d (Object ∷ levels_of stack) (name_string_move words (string_move s)) (step_name stack place done np so_far n s)
 on_name_string words d stack place done np so_far n string_ends o f = ((refl, refl), f)
 on_name_string words d stack place done np so_far n (string_goes [] state) o f = ((refl, refl), f)
@@ -117,17 +131,20 @@ on_name_string words d stack place done np so_far n (string_goes (c ∷ e ∷ mo
 on_name_string words d stack place done np so_far n string_refuses o f = refl
 
 on_number : (d : ℕ) (stack : List Frame) (place : ℕ) (so_far : List ℕ) (n b : ℕ) (c : Class) (goes may_end : Bool) → Fits d stack
-    → Simulates d (levels_of stack) (number_move (turn_of goes may_end) (after_move (inner_of (levels_of stack)) c)) (step_number stack place so_far b goes (if may_end then after_value stack (number place so_far n) n c else None))
+    → Simulates d (levels_of stack) (number_move (turn_of goes may_end) (after_move (inner_of (levels_of stack)) c))
+    (step_number stack place so_far b goes (if may_end then after_value stack (number place so_far n) n c else None))
 on_number d stack place so_far n b c true may_end f = ((refl, refl), f)
 on_number d stack place so_far n b c false true f = on_after d stack (number place so_far n) n c (omega (arith, levels_fit d stack f), f)
 on_number d stack place so_far n b c false false f = refl
 
-test_go : (d : ℕ) (stack : List Frame) (t : Bool) (mode : Mode) (ending : Ending) (leaf : Leaf) → LeafAs leaf mode → levels_with leaf (levels_of stack) ≡ levels_of stack → FitsLeaf d stack leaf
+test_go : (d : ℕ) (stack : List Frame) (t : Bool) (mode : Mode) (ending : Ending) (leaf : Leaf) → LeafAs leaf mode
+    → levels_with leaf (levels_of stack) ≡ levels_of stack → FitsLeaf d stack leaf
     → Simulates d (levels_of stack) (if t then Go mode ending else Refuse) (if t then to stack leaf else None)
 test_go d stack true mode ending leaf a e f = ((a, sym e), f)
 test_go d stack false mode ending leaf a e f = refl
 
-on_constant : (d : ℕ) (stack : List Frame) (which : Constant) (place : ℕ) (left : List ℕ) (n b count : ℕ) → left ≡ drop count (letters_of which) → count < length (letters_of which) → Fits d stack
+on_constant : (d : ℕ) (stack : List Frame) (which : Constant) (place : ℕ) (left : List ℕ) (n b count : ℕ) → left ≡ drop count (letters_of which)
+    → count < length (letters_of which) → Fits d stack
     → Simulates d (levels_of stack) (constant_move which count b) (step_constant stack which place left n b)
 on_constant d stack which place [] n b count l c f = absurd (omega (arith, length-drop count (letters_of which), ap length l))
 on_constant d stack which place (a ∷ []) n b count l c f =
@@ -135,7 +152,8 @@ on_constant d stack which place (a ∷ []) n b count l c f =
     let ea : a ≡ get_or (letters_of which) count 0 = cc in
     let er : [] ≡ drop (suc count) (letters_of which) = cc in
     let full : (count + 1 == length (letters_of which)) ≡ true = eq-eqb _ _ (omega (arith, length-drop (suc count) (letters_of which), ap length er)) in
-    rw (full, ← ea) (test_go d stack (b == a) ValueDone (Ending.Literal which) (value_done (constant which place)) refl refl (omega (arith, levels_fit d stack f), f))
+    rw (full, ← ea) (test_go d stack (b == a) ValueDone (Ending.Literal which) (value_done (constant which place)) refl refl
+    (omega (arith, levels_fit d stack f), f))
 on_constant d stack which place (a ∷ x ∷ left) n b count l c f =
     let k = drop-cons (letters_of which) count 0 c in
     let ea : a ≡ get_or (letters_of which) count 0 = cc in
@@ -143,19 +161,24 @@ on_constant d stack which place (a ∷ x ∷ left) n b count l c f =
     let more : count + 1 < length (letters_of which) = omega (arith, length-drop (suc count) (letters_of which), ap length er) in
     let s : suc count ≡ count + 1 = omega arith in
     let full : (count + 1 == length (letters_of which)) ≡ false = grind (arith, nat_tests) in
-    rw (full, ← ea) (test_go d stack (b == a) (ConstantOn which (count + 1)) Ending.Nothing (constant_on which place (x ∷ left)) (count + 1, refl, (rw (← s) er), more) refl f)
+    rw (full, ← ea) (test_go d stack (b == a) (ConstantOn which (count + 1)) Ending.Nothing (constant_on which place (x ∷ left))
+    (count + 1, refl, (rw (← s) er), more) refl f)
 
-leaf_moves : (d : ℕ) (stack : List Frame) (leaf : Leaf) (mode : Mode) (turn : NumberTurn) (words : Words) (n b : ℕ) → LeafAs leaf mode → Turns (under_leaf leaf) b turn → FitsLeaf d stack leaf
+leaf_moves : (d : ℕ) (stack : List Frame) (leaf : Leaf) (mode : Mode) (turn : NumberTurn) (words : Words) (n b : ℕ) → LeafAs leaf mode
+    → Turns (under_leaf leaf) b turn → FitsLeaf d stack leaf
     → Simulates d (levels_with leaf (levels_of stack)) (move_of mode turn (inner_of (levels_with leaf (levels_of stack))) words b) (step_leaf stack leaf n b)
 leaf_moves d stack value_due mode turn words n b a w f = rw a (on_value_due d stack n b (class_of b) f)
 leaf_moves d stack (value_done t) mode turn words n b a w f = rw a (on_after d stack t n (class_of b) f)
 leaf_moves d stack (array_opened place) mode turn words n b a w f = rw a (on_array_opened d stack place n b (class_of b) f)
 leaf_moves d stack (object_opened place) mode turn words n b a w f = rw a (on_object_opened d stack place n b (class_of b) f)
 leaf_moves d stack (constant_on which place left) mode turn words n b a w f = rw (a.1) (on_constant d stack which place left n b a.0 a.2 a.3 f)
-leaf_moves d stack (number_on place so_far) mode turn words n b a w f = rw (a, w) (on_number d stack place so_far n b (class_of b) (begins_number (so_far ++ b ∷ [])) (is_number so_far) f)
-leaf_moves d stack (string_on place so_far state) mode turn words n b a w f = rw a (on_string words d stack place so_far n (string_next state b) (one_character state b) f)
+leaf_moves d stack (number_on place so_far) mode turn words n b a w f =
+    rw (a, w) (on_number d stack place so_far n b (class_of b) (begins_number (so_far ++ b ∷ [])) (is_number so_far) f)
+leaf_moves d stack (string_on place so_far state) mode turn words n b a w f =
+    rw a (on_string words d stack place so_far n (string_next state b) (one_character state b) f)
 leaf_moves d stack (name_due place done) mode turn words n b a w f = rw a (on_name_due d stack place done n (class_of b) f)
-leaf_moves d stack (name_on place done np so_far state) mode turn words n b a w f = rw a (on_name_string words d stack place done np so_far n (string_next state b) (one_character state b) f)
+leaf_moves d stack (name_on place done np so_far state) mode turn words n b a w f =
+    rw a (on_name_string words d stack place done np so_far n (string_next state b) (one_character state b) f)
 leaf_moves d stack (colon_due place done np name ne) mode turn words n b a w f = rw a (on_colon_due d stack place done np name ne n (class_of b) f)
 
 -- ---- a whole text
@@ -166,7 +189,8 @@ Follows d levels (Go mode ending) o = Goes (λ s. StandsAs s mode levels × Fits
 Follows d levels (Open level) o = Goes (λ s. StandsAs s (opened level) (level ∷ levels) × (length levels + 1 ≤ d → FitsBroken d s)) o
 Follows d levels (Close level) o = Goes (λ s. StandsAs s ValueDone (outer_of levels) × FitsBroken d s) o
 
-marked_follows : (d : ℕ) (levels : List Level) (move : Move) (marked : Bool) (o : Option Partial) → Simulates d levels move o → Follows d levels move (with_mark marked o)
+marked_follows : (d : ℕ) (levels : List Level) (move : Move) (marked : Bool) (o : Option Partial) → Simulates d levels move o
+    → Follows d levels move (with_mark marked o)
 marked_follows d levels Refuse marked o h = rw h refl
 marked_follows d levels (Go mode ending) marked None h = h
 marked_follows d levels (Go mode ending) marked (Some s) h = h
@@ -175,18 +199,24 @@ marked_follows d levels (Open level) marked (Some s) h = h
 marked_follows d levels (Close level) marked None h = h
 marked_follows d levels (Close level) marked (Some s) h = h
 
-due_follows : (d n b : ℕ) (t : Bool) → Follows d [] (if t then Go MarkOne Ending.Nothing else due_move (class_of b)) (if t then Some mark_one else with_mark false (step_value_due [] n b (class_of b)))
+due_follows : (d n b : ℕ) (t : Bool)
+    → Follows d [] (if t then Go MarkOne Ending.Nothing else due_move (class_of b))
+    (if t then Some mark_one else with_mark false (step_value_due [] n b (class_of b)))
 due_follows d n b true = ((refl, refl), tt)
 due_follows d n b false = marked_follows d [] (due_move (class_of b)) false (step_value_due [] n b (class_of b)) (on_value_due d [] n b (class_of b) tt)
 
-mark_follows : (d : ℕ) (s : Broken) (mode : Mode) (ending : Ending) (t : Bool) → StandsAs s mode [] → FitsBroken d s → Follows d [] (if t then Go mode ending else Refuse) (if t then Some s else None)
+mark_follows : (d : ℕ) (s : Broken) (mode : Mode) (ending : Ending) (t : Bool) → StandsAs s mode [] → FitsBroken d s
+    → Follows d [] (if t then Go mode ending else Refuse) (if t then Some s else None)
 mark_follows d s mode ending true a f = (a, f)
 mark_follows d s mode ending false a f = refl
 
-pub moves : (d : ℕ) (s : Broken) (mode : Mode) (turn : NumberTurn) (words : Words) (levels : List Level) (n b : ℕ) → StandsAs s mode levels → Turns (under_of s) b turn → FitsBroken d s
+pub moves : (d : ℕ) (s : Broken) (mode : Mode) (turn : NumberTurn) (words : Words) (levels : List Level) (n b : ℕ) → StandsAs s mode levels
+    → Turns (under_of s) b turn → FitsBroken d s
     → Follows d levels (move_of mode turn (inner_of levels) words b) (step s n b)
 moves d text_due mode turn words levels n b a t f = rw (a.0, a.1) (due_follows d n b (b == mark_first))
 moves d mark_one mode turn words levels n b a t f = rw (a.0, a.1) (mark_follows d mark_two MarkTwo Ending.Nothing (b == mark_second) (refl, refl) tt)
-moves d mark_two mode turn words levels n b a t f = rw (a.0, a.1) (mark_follows d (begun true (record { stack = []; leaf = value_due })) ValueDue Ending.Mark (b == mark_third) (refl, refl) tt)
+moves d mark_two mode turn words levels n b a t f =
+    rw (a.0, a.1) (mark_follows d (begun true (record { stack = []; leaf = value_due })) ValueDue Ending.Mark (b == mark_third) (refl, refl) tt)
 moves d (begun marked s) mode turn words levels n b a t f =
-    rw (a.1) (marked_follows d (levels_with s.leaf (levels_of s.stack)) (move_of mode turn (inner_of (levels_with s.leaf (levels_of s.stack))) words b) marked (step_leaf s.stack s.leaf n b) (leaf_moves d s.stack s.leaf mode turn words n b a.0 t f))
+    rw (a.1) (marked_follows d (levels_with s.leaf (levels_of s.stack)) (move_of mode turn (inner_of (levels_with s.leaf (levels_of s.stack))) words b) marked
+    (step_leaf s.stack s.leaf n b) (leaf_moves d s.stack s.leaf mode turn words n b a.0 t f))

@@ -57,7 +57,8 @@ passes_alike old mid new mode levels a p = record {
   levels_are = p.levels_are;
 }
 
-refused_alike : (old mid new : Reader) (cause : Cause) (fault : JsonFault) → Alike mid old → IsRefusedWith cause mid new fault → IsRefusedWith cause old new fault
+refused_alike : (old mid new : Reader) (cause : Cause) (fault : JsonFault) → Alike mid old → IsRefusedWith cause mid new fault
+    → IsRefusedWith cause old new fault
 refused_alike old mid new cause fault a r = record {
   place = r.place ∙ a.offset;
   cause_is = r.cause_is;
@@ -69,10 +70,12 @@ refused_alike old mid new cause fault a r = record {
   levels_are = r.levels_are ∙ a.levels;
 }
 
-passes_to : (old mid new : Reader) (made : Move) (mode : Mode) (levels : List Level) (result : Result Move JsonFault) → Alike mid old → PassesTo made mode levels mid new result → PassesTo made mode levels old new result
+passes_to : (old mid new : Reader) (made : Move) (mode : Mode) (levels : List Level) (result : Result Move JsonFault) → Alike mid old
+    → PassesTo made mode levels mid new result → PassesTo made mode levels old new result
 passes_to old mid new made mode levels result a p = record { answer = p.answer; passes = passes_alike old mid new mode levels a p.passes }
 
-refuses : (old mid new : Reader) (cause : Cause) (result : Result Move JsonFault) → Alike mid old → RefusesWith cause mid new result → RefusesWith cause old new result
+refuses : (old mid new : Reader) (cause : Cause) (result : Result Move JsonFault) → Alike mid old → RefusesWith cause mid new result
+    → RefusesWith cause old new result
 refuses old mid new cause result a r = record { fault = r.fault; answer = r.answer; refused = refused_alike old mid new cause r.fault a r.refused }
 
 pub applied : (old mid new : Reader) (made : Move) (result : Result Move JsonFault) → Alike mid old → Applied made mid new result → Applied made old new result
@@ -85,7 +88,8 @@ applied old mid new (Open level) result a w =
     let e = inner_alike old mid a in
     let d : mid.limits.depth ≡ old.limits.depth = ap (λ (l : Allowed). l.depth) a.limits in (
       λ f. refuses old mid new Depth result a (w.0 (ap (λ (xs : List Level). length xs) e ∙ f ∙ sym d)),
-      λ f. subst P e (passes_to old mid new (Open level) (opened level) (level ∷ levels_in mid.levels) result a (w.1 (omega (arith, ap (λ (xs : List Level). length xs) e, d)))),
+      λ f. subst P e (passes_to old mid new (Open level) (opened level) (level ∷ levels_in mid.levels) result a
+          (w.1 (omega (arith, ap (λ (xs : List Level). length xs) e, d)))),
     )
 applied old mid new (Close level) result a w =
     let P : List Level → Type 0 = λ levels. PassesTo (Close level) ValueDone (outer_of levels) old new result in
@@ -93,15 +97,19 @@ applied old mid new (Close level) result a w =
 
 -- ---- while a number is under way
 
-in_number_move : (mode : Mode) (inner : Option Level) (words : Words) (b : ℕ) → mode ≡ NumberOn → (move_of mode Goes inner words b ≡ Go NumberOn Nothing) × (move_of mode Refuses inner words b ≡ Refuse)
+in_number_move : (mode : Mode) (inner : Option Level) (words : Words) (b : ℕ) → mode ≡ NumberOn → (move_of mode Goes inner words b ≡ Go NumberOn Nothing)
+    × (move_of mode Refuses inner words b ≡ Refuse)
 in_number_move mode inner words b e = rw e (refl, refl)
 
-pub goes : (old mid new : Reader) (b : ℕ) → old.mode ≡ NumberOn → Alike mid old → Passes NumberOn (levels_in old.levels) mid new → Applied (move_by old Goes b) old new (Ok (Go NumberOn Nothing))
+pub goes : (old mid new : Reader) (b : ℕ) → old.mode ≡ NumberOn → Alike mid old → Passes NumberOn (levels_in old.levels) mid new
+    → Applied (move_by old Goes b) old new (Ok (Go NumberOn Nothing))
 goes old mid new b e a p =
     let P : Move → Type 0 = λ made. Applied made old new (Ok (Go NumberOn Nothing)) in
-    subst P (sym (in_number_move old.mode (inner_of (levels_in old.levels)) (words_in old.content) b e).0) (record { answer = refl; passes = passes_alike old mid new NumberOn (levels_in old.levels) a p })
+    subst P (sym (in_number_move old.mode (inner_of (levels_in old.levels)) (words_in old.content) b e).0)
+    (record { answer = refl; passes = passes_alike old mid new NumberOn (levels_in old.levels) a p })
 
-pub refused : (old mid new : Reader) (b : ℕ) (result : Result Move JsonFault) → old.mode ≡ NumberOn → Alike mid old → RefusesWith Syntax mid new result → Applied (move_by old Refuses b) old new result
+pub refused : (old mid new : Reader) (b : ℕ) (result : Result Move JsonFault) → old.mode ≡ NumberOn → Alike mid old → RefusesWith Syntax mid new result
+    → Applied (move_by old Refuses b) old new result
 refused old mid new b result e a r =
     let P : Move → Type 0 = λ made. Applied made old new result in
     subst P (sym (in_number_move old.mode (inner_of (levels_in old.levels)) (words_in old.content) b e).1) (refuses old mid new Syntax result a r)
@@ -110,7 +118,8 @@ pub goes_tells : (old : Reader) (value : Option Exact) (b : ℕ) → old.mode �
 goes_tells old value b e = rw e refl
 
 -- the events of the byte after a number
-pub ends_tells : (old : Reader) (value : Option Exact) (b : ℕ) → old.mode ≡ NumberOn → told_by old Ends value b ≡ event_at old.start (What.Number value) ∷ made_by old Ends b
+pub ends_tells : (old : Reader) (value : Option Exact) (b : ℕ) → old.mode ≡ NumberOn
+    → told_by old Ends value b ≡ event_at old.start (What.Number value) ∷ made_by old Ends b
 ends_tells old value b e = ap (λ xs. xs ++ made_by old Ends b) (first old.mode e)
   where
     first : (mode : Mode) → mode ≡ NumberOn → number_events mode Ends value old.start ≡ event_at old.start (What.Number value) ∷ []
@@ -132,7 +141,8 @@ passes_after old mid new mode levels a p = record {
   levels_are = inner_alike mid new a ∙ p.levels_are;
 }
 
-passed_to : (old mid new : Reader) (made : Move) (mode : Mode) (levels : List Level) (result : Result Move JsonFault) → Alike new mid → PassesTo made mode levels old mid result → PassesTo made mode levels old new result
+passed_to : (old mid new : Reader) (made : Move) (mode : Mode) (levels : List Level) (result : Result Move JsonFault) → Alike new mid
+    → PassesTo made mode levels old mid result → PassesTo made mode levels old new result
 passed_to old mid new made mode levels result a p = record { answer = p.answer; passes = passes_after old mid new mode levels a p.passes }
 
 -- a byte that was taken
@@ -160,22 +170,27 @@ pub last_text : (mode next : Mode) (first last : StringState) → GoesOn mode fi
 last_text mode next first last (inl m) = let e = m.1 in record { number = rw e refl; text = rw e refl }
 last_text mode next first last (inr m) = let e = m.1 in record { number = rw e refl; text = rw e refl }
 
-reads_move : (mode between : Mode) (state : StringState) (turn : NumberTurn) (inner : Option Level) (words : Words) (b c : ℕ) → GoesOn mode state between Plain → string_move (string_next state b) ≡ Reads c → move_of mode turn inner words b ≡ Go between Nothing
+reads_move : (mode between : Mode) (state : StringState) (turn : NumberTurn) (inner : Option Level) (words : Words) (b c : ℕ) → GoesOn mode state between Plain
+    → string_move (string_next state b) ≡ Reads c → move_of mode turn inner words b ≡ Go between Nothing
 reads_move mode between state turn inner words b c (inl m) e = rw (m.0, m.1, e) refl
 reads_move mode between state turn inner words b c (inr m) e = rw (m.0, m.1, e) refl
 
-reads_by : (old : Reader) (between : Mode) (state : StringState) (turn : NumberTurn) (b c : ℕ) → GoesOn old.mode state between Plain → string_move (string_next state b) ≡ Reads c → move_by old turn b ≡ Go between Nothing
+reads_by : (old : Reader) (between : Mode) (state : StringState) (turn : NumberTurn) (b c : ℕ) → GoesOn old.mode state between Plain
+    → string_move (string_next state b) ≡ Reads c → move_by old turn b ≡ Go between Nothing
 reads_by old between state turn b c m e = reads_move old.mode between state turn (inner_of (levels_in old.levels)) (words_in old.content) b c m e
 
-pub reads : (old mid new : Reader) (between : Mode) (state : StringState) (turn : NumberTurn) (b c : ℕ) → GoesOn old.mode state between Plain → string_move (string_next state b) ≡ Reads c → Alike mid old → Passes between (levels_in old.levels) mid new
+pub reads : (old mid new : Reader) (between : Mode) (state : StringState) (turn : NumberTurn) (b c : ℕ) → GoesOn old.mode state between Plain
+    → string_move (string_next state b) ≡ Reads c → Alike mid old → Passes between (levels_in old.levels) mid new
     → Applied (move_by old turn b) old new (Ok (Go between Nothing))
 reads old mid new between state turn b c m e a p =
     let P : Move → Type 0 = λ made. Applied made old new (Ok (Go between Nothing)) in
     subst P (sym (reads_by old between state turn b c m e)) (record { answer = refl; passes = passes_alike old mid new between (levels_in old.levels) a p })
 
-pub reads_tells : (old : Reader) (between : Mode) (state : StringState) (turn : NumberTurn) (value : Option Exact) (b c : ℕ) → GoesOn old.mode state between Plain → string_move (string_next state b) ≡ Reads c → told_by old turn value b ≡ []
+pub reads_tells : (old : Reader) (between : Mode) (state : StringState) (turn : NumberTurn) (value : Option Exact) (b c : ℕ)
+    → GoesOn old.mode state between Plain → string_move (string_next state b) ≡ Reads c → told_by old turn value b ≡ []
 reads_tells old between state turn value b c m e =
-    other_tells old turn value b (first_text old.mode between state Plain m).number ∙ ap (λ made. option_to_list (move_event made old.start old.offset)) (reads_by old between state turn b c m e)
+    other_tells old turn value b (first_text old.mode between state Plain m).number
+    ∙ ap (λ made. option_to_list (move_event made old.start old.offset)) (reads_by old between state turn b c m e)
 
 -- a byte of a string that ends no character adds none
 pub no_more : (s : StringStep) (more : List ℕ) (next : StringState) → s ≡ string_goes more next → ((c : ℕ) → string_move s ≡ Reads c → ⊥) → more ≡ []
@@ -184,8 +199,10 @@ no_more s (c ∷ more) next e h = absurd (h c (rw e refl))
 
 -- ---- while neither is under way
 
-pub between : {before heard : List Event → Type 0} (old mid new : Reader) (b : ℕ) (made : Move) → in_number old.mode ≡ false → text_state old.mode ≡ None → Applied (move_by old Ends b) old mid (Ok made) → Alike new mid
-    → ((events : List Event) → before events → heard (events ++ made_by old Ends b)) → (in_number new.mode ≡ true → BeginsNumber (b ∷ []) → LiteralStandsFor new.literal (b ∷ []))
+pub between : {before heard : List Event → Type 0} (old mid new : Reader) (b : ℕ) (made : Move) → in_number old.mode ≡ false → text_state old.mode ≡ None
+    → Applied (move_by old Ends b) old mid (Ok made) → Alike new mid
+    → ((events : List Event) → before events → heard (events ++ made_by old Ends b))
+    → (in_number new.mode ≡ true → BeginsNumber (b ∷ []) → LiteralStandsFor new.literal (b ∷ []))
     → ((state : StringState) → text_state new.mode ≡ Some state → Holds new.content []) → Takes before heard old new b (Ok made)
 between old mid new b made m t w a h n x = record {
   turn = Ends;
@@ -208,7 +225,8 @@ between old mid new b made m t w a h n x = record {
   told = λ events k. rw (other_tells old Ends None b m) (h events k);
 }
 
-pub between_refused : {before heard : List Event → Type 0} (old new : Reader) (b : ℕ) (fault : JsonFault) → in_number old.mode ≡ false → Applied (move_by old Ends b) old new (Err fault)
+pub between_refused : {before heard : List Event → Type 0} (old new : Reader) (b : ℕ) (fault : JsonFault) → in_number old.mode ≡ false
+    → Applied (move_by old Ends b) old new (Err fault)
     → ((events : List Event) → before events → heard (events ++ [])) → Takes before heard old new b (Err fault)
 between_refused old new b fault m w h = record {
   turn = Ends;

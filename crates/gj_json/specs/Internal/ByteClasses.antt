@@ -1,11 +1,14 @@
 -- Which class of bytes a byte is of.
 use Rattle.std.specs.Prelude.{◌⊎◌, ◌≡◌, ℕ, ◌==◌, ◌&&◌, if◌then◌else◌, nat_le}
-use Rattle.gj_json.specs.Bytes.{open_bracket, close_bracket, open_brace, close_brace, comma as comma_byte, colon as colon_byte, quote as quote_byte, space, tab, line_feed, carriage_return, minus_sign, zero_digit as zero, nine_digit, IsWhite, IsDigit}
+use Rattle.gj_json.specs.Bytes.{open_bracket, close_bracket, open_brace, close_brace, comma as comma_byte, colon as colon_byte, quote as quote_byte, space, tab}
+use Rattle.gj_json.specs.Bytes.{line_feed, carriage_return, minus_sign, zero_digit as zero, nine_digit, IsWhite, IsDigit}
 use Rattle.gj_json.specs.Internal.NamedBytes.{letter_n, letter_t, letter_f}
 use Rattle.gj_json.specs.declared.constant.Constant.{Constant}
 use Rattle.gj_json.specs.declared.constant.Constant.TheVariants.{Null, True, False}
 use Rattle.gj_json.specs.declared.class.Class.{Class}
-use Rattle.gj_json.specs.declared.class.Class.TheVariants.{White as white, OpenArray as open_array, CloseArray as close_array, OpenObject as open_object, CloseObject as close_object, Comma as comma, Colon as colon, Quote as quote, NumberStart as number_start, Letter as letter, Other as other}
+use Rattle.gj_json.specs.declared.class.Class.TheVariants.{White as white, OpenArray as open_array, CloseArray as close_array, OpenObject as open_object}
+use Rattle.gj_json.specs.declared.class.Class.TheVariants.{CloseObject as close_object, Comma as comma, Colon as colon, Quote as quote}
+use Rattle.gj_json.specs.declared.class.Class.TheVariants.{NumberStart as number_start, Letter as letter, Other as other}
 
 unfoldable pub class_of : ℕ → Class
 class_of b =

@@ -26,7 +26,9 @@ may_follow b = b == letter_u || (is_some (escape_of b) && not (b == backslash))
 
 -- whether the byte does not have it
 abbrev pub wrong_at : ℕ → ℕ → ℕ → ℕ → Bool
-wrong_at fifth second last here = not (if last == backslash then may_follow here else (if fifth == letter_u || (second == backslash && not (last == letter_u)) then here == backslash else is_some (hex_of here)))
+wrong_at fifth second last here =
+    not (if last == backslash then may_follow here else
+    (if fifth == letter_u || (second == backslash && not (last == letter_u)) then here == backslash else is_some (hex_of here)))
 
 -- the same at each of some bytes
 abbrev pub wrong_of : List ℕ → List ℕ → List ℕ → List ℕ → List Bool
@@ -35,7 +37,8 @@ wrong_of _ _ _ _ = []
 
 -- at none of the bytes after an index and up to another
 abbrev pub NoneWrong : List ℕ → ℕ → ℕ → Type 0
-NoneWrong piece start end = (i : ℕ) → start < i + 5 → i + 5 ≤ end → wrong_at (get_or piece i 0) (get_or piece (i + 3) 0) (get_or piece (i + 4) 0) (get_or piece (i + 5) 0) ≡ false
+NoneWrong piece start end =
+    (i : ℕ) → start < i + 5 → i + 5 ≤ end → wrong_at (get_or piece i 0) (get_or piece (i + 3) 0) (get_or piece (i + 4) 0) (get_or piece (i + 5) 0) ≡ false
 
 -- no escape of six bytes is seen to be under way before an index, and no backslash comes right before it
 pub record IsFresh (piece : List ℕ) (at : ℕ) : Type 0 where

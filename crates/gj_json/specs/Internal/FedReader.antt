@@ -24,8 +24,11 @@ GoesOn mode first next last = ((mode ≡ StringOn first) × (next ≡ StringOn l
 -- or in a string.
 pub data SkipsBy (old new : Reader) (given : List ℕ) : Type 0 where
   leading : Leads old.mode given new.mode → in_number new.mode ≡ false → text_state new.mode ≡ None → SkipsBy old new given
-  in_literal : old.mode ≡ NumberOn → new.mode ≡ NumberOn → ((bytes : List ℕ) → LiteralStandsFor old.literal bytes → LiteralStandsFor new.literal (bytes ++ given) × BeginsNumber (bytes ++ given)) → SkipsBy old new given
-  in_text : (first last : StringState) (characters : List ℕ) → GoesOn old.mode first new.mode last → Reads first given characters last → ((so_far : List ℕ) → Holds old.content so_far → Holds new.content (so_far ++ characters))
+  in_literal : old.mode ≡ NumberOn → new.mode ≡ NumberOn
+      → ((bytes : List ℕ) → LiteralStandsFor old.literal bytes → LiteralStandsFor new.literal (bytes ++ given) × BeginsNumber (bytes ++ given))
+      → SkipsBy old new given
+  in_text : (first last : StringState) (characters : List ℕ) → GoesOn old.mode first new.mode last → Reads first given characters last
+      → ((so_far : List ℕ) → Holds old.content so_far → Holds new.content (so_far ++ characters))
       → SkipsBy old new given
 
 -- and they leave all else but the offset as it is
@@ -53,7 +56,8 @@ pub record Feeds (heard_before heard_after : List Event → Type 0) (old new : R
   pub limits : new.limits ≡ old.limits
   pub on : old.offset ≤ new.offset
   pub stands : (bytes : List ℕ) → StandsFor old bytes → StandsFor new (bytes ++ given)
-  pub told : (bytes : List ℕ) (events : List Event) → StandsFor old bytes → heard_before events → Hears heard_after events old.offset new.offset (take new.offset (bytes ++ given))
+  pub told : (bytes : List ℕ) (events : List Event) → StandsFor old bytes → heard_before events
+      → Hears heard_after events old.offset new.offset (take new.offset (bytes ++ given))
 
 -- and it refused none of them
 pub record FeedsAll (heard_before heard_after : List Event → Type 0) (old new : Reader) (given : List ℕ) : Type 0 where

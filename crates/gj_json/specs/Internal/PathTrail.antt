@@ -9,7 +9,8 @@ use Rattle.gj_json.specs.declared.mode.Mode.{Mode}
 use Rattle.gj_json.specs.declared.mode.Mode.TheVariants.{ConstantOn, NumberOn, StringOn}
 use Rattle.gj_json.specs.declared.limits.TheConstants.{MOST_LEVELS}
 use Rattle.gj_json.specs.Names.{known_of}
-use Rattle.gj_json.specs.Internal.TextMachine.{Frame, in_array, in_object, Leaf, value_done, array_opened, object_opened, name_due, name_on, colon_due, Broken, begun}
+use Rattle.gj_json.specs.Internal.TextMachine.{Frame, in_array, in_object, Leaf, value_done, array_opened, object_opened, name_due, name_on, colon_due, Broken}
+use Rattle.gj_json.specs.Internal.TextMachine.{begun}
 
 -- ---- the steps of a path, the innermost first
 

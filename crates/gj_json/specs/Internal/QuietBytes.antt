@@ -56,4 +56,5 @@ Leads mode (b ∷ bytes) last = (next : Mode) × LeadsBy mode b next × Leads ne
 abbrev pub Reads : StringState → List ℕ → List ℕ → StringState → Type 0
 Reads state [] characters last = (state ≡ last) × (characters ≡ [])
 Reads state (b ∷ bytes) characters last =
-    (next : StringState) × (more : List ℕ) × (later : List ℕ) × (string_next state b ≡ string_goes more next) × (characters ≡ more ++ later) × Reads next bytes later last
+    (next : StringState) × (more : List ℕ) × (later : List ℕ) × (string_next state b ≡ string_goes more next) × (characters ≡ more ++ later)
+    × Reads next bytes later last

@@ -5,11 +5,14 @@ use Rattle.gj_json.specs.declared.fault.JsonFault.{JsonFault}
 use Rattle.gj_json.specs.declared.levels.Level.{Level}
 use Rattle.gj_json.specs.declared.levels.Level.TheVariants.{Array, Object}
 use Rattle.gj_json.specs.declared.mode.Mode.{Mode}
-use Rattle.gj_json.specs.declared.mode.Mode.TheVariants.{ValueDue, ValueDone, ArrayOpened, ObjectOpened, ConstantOn, NumberOn, StringOn, NameDue, NameOn, ColonDue, TextDue, MarkOne, MarkTwo}
+use Rattle.gj_json.specs.declared.mode.Mode.TheVariants.{ValueDue, ValueDone, ArrayOpened, ObjectOpened, ConstantOn, NumberOn, StringOn, NameDue, NameOn}
+use Rattle.gj_json.specs.declared.mode.Mode.TheVariants.{ColonDue, TextDue, MarkOne, MarkTwo}
 use Rattle.gj_json.specs.Limits.{Allowed}
 use Rattle.gj_json.specs.Tree.{depth}
 use Rattle.gj_json.specs.Grammar.{letters_of}
-use Rattle.gj_json.specs.Internal.TextMachine.{Frame, in_array, in_object, Member, Leaf, Partial, value_due, value_done, array_opened, object_opened, constant_on, number_on, string_on, name_due, name_on, colon_due, Broken, text_due, mark_one, mark_two, begun, run}
+use Rattle.gj_json.specs.Internal.TextMachine.{Frame, in_array, in_object, Member, Leaf, Partial, value_due, value_done, array_opened, object_opened}
+use Rattle.gj_json.specs.Internal.TextMachine.{constant_on, number_on, string_on, name_due, name_on, colon_due, Broken, text_due, mark_one, mark_two, begun}
+use Rattle.gj_json.specs.Internal.TextMachine.{run}
 use Rattle.gj_json.specs.Refusal.{IsRefusal, IsByByte}
 use Rattle.gj_json.specs.Internal.SeenEvents.{IsTimely}
 use Rattle.gj_json.specs.declared.content.Content.{Content}
@@ -64,7 +67,8 @@ LeafAs value_due mode = mode ≡ ValueDue
 LeafAs (value_done t) mode = mode ≡ ValueDone
 LeafAs (array_opened place) mode = mode ≡ ArrayOpened
 LeafAs (object_opened place) mode = mode ≡ ObjectOpened
-LeafAs (constant_on which place left) mode = (count : ℕ) × (mode ≡ ConstantOn which count) × (left ≡ drop count (letters_of which)) × (count < length (letters_of which))
+LeafAs (constant_on which place left) mode =
+    (count : ℕ) × (mode ≡ ConstantOn which count) × (left ≡ drop count (letters_of which)) × (count < length (letters_of which))
 LeafAs (number_on place so_far) mode = mode ≡ NumberOn
 LeafAs (string_on place so_far state) mode = mode ≡ StringOn state
 LeafAs (name_due place done) mode = mode ≡ NameDue
@@ -101,7 +105,8 @@ pub record StandsRefused (limits : Allowed) (fault : JsonFault) (mode : Mode) (l
   pub well : StandsWell limits mode levels start offset taken
 
 -- and what is kept of the number or the string under way
-pub record StandsOpen (limits : Allowed) (mode : Mode) (levels : List Level) (literal : Literal) (content : Content) (start offset : ℕ) (bytes : List ℕ) : Type 0 where
+pub record StandsOpen (limits : Allowed) (mode : Mode) (levels : List Level) (literal : Literal) (content : Content) (start offset : ℕ)
+    (bytes : List ℕ) : Type 0 where
   pub well : StandsWell limits mode levels start offset bytes
   pub keeps : Keeps (under_of well.state) literal content
 

@@ -6,7 +6,8 @@ use Rattle.gj_json.specs.Tree.{Tree}
 use Rattle.gj_json.specs.Grammar.{letters_of}
 use Rattle.gj_json.specs.Names.{known_of}
 use Rattle.gj_json.specs.Events.{Timed, timed, events, mark_events}
-use Rattle.gj_json.specs.Internal.TextMachine.{Frame, in_array, in_object, Member, Leaf, value_due, value_done, array_opened, object_opened, constant_on, number_on, string_on, name_due, name_on, colon_due, Partial, Broken, text_due, mark_one, mark_two, begun}
+use Rattle.gj_json.specs.Internal.TextMachine.{Frame, in_array, in_object, Member, Leaf, value_due, value_done, array_opened, object_opened, constant_on}
+use Rattle.gj_json.specs.Internal.TextMachine.{number_on, string_on, name_due, name_on, colon_due, Partial, Broken, text_due, mark_one, mark_two, begun}
 
 abbrev pub InTime : ℕ → List Timed → Type 0
 InTime n xs = AllByRecursion (λ x. x.at ≤ n) xs
@@ -22,7 +23,8 @@ done_members (m ∷ done) = done_members done ++ timed m.end m.place (What.Name 
 abbrev pub stack_timed : List Frame → List Timed
 stack_timed [] = []
 stack_timed (in_array place done ∷ stack) = stack_timed stack ++ (timed (place + 1) place What.OpenArray ∷ done_elements done)
-stack_timed (in_object place done np name ne ∷ stack) = stack_timed stack ++ (timed (place + 1) place What.OpenObject ∷ (done_members done ++ timed ne np (What.Name (known_of name)) ∷ []))
+stack_timed (in_object place done np name ne ∷ stack) =
+    stack_timed stack ++ (timed (place + 1) place What.OpenObject ∷ (done_members done ++ timed ne np (What.Name (known_of name)) ∷ []))
 
 abbrev pub leaf_timed : Leaf → List Timed
 leaf_timed value_due = []

@@ -1,6 +1,8 @@
 -- A machine that reads a text byte by byte into a tree under way. What a reader stands for is said by it.
 use Rattle.std.specs.Prelude.{zero, suc, ◌%◌, ◌*◌, ℕ, ◌+◌, ◌==◌, ◌&&◌, Bool, true, false, if◌then◌else◌, List, [], ◌∷◌, ◌++◌, Option, Some, None, nat_le}
-pub use Rattle.gj_json.specs.Broken.{Member, Frame, in_array, in_object, Leaf, value_due, value_done, array_opened, object_opened, constant_on, number_on, string_on, name_due, name_on, colon_due, Partial, Broken, text_due, mark_one, mark_two, begun, back_elements, member_of, back_members}
+pub use Rattle.gj_json.specs.Broken.{Member, Frame, in_array, in_object, Leaf, value_due, value_done, array_opened, object_opened, constant_on, number_on}
+pub use Rattle.gj_json.specs.Broken.{string_on, name_due, name_on, colon_due, Partial, Broken, text_due, mark_one, mark_two, begun, back_elements, member_of}
+pub use Rattle.gj_json.specs.Broken.{back_members}
 pub use Rattle.gj_number.specs.DecidedNumbers.{is_number, begins_number}
 use Rattle.gj_json.specs.declared.constant.Constant.{Constant}
 use Rattle.gj_json.specs.declared.constant.Constant.TheVariants.{Null, True, False}
@@ -12,10 +14,13 @@ use Rattle.gj_json.specs.Bytes.{space, backslash, quote as quote_byte, letter_u}
 use Rattle.gj_json.specs.Internal.NamedBytes.{mark_first, mark_second, mark_third, after_n, after_t, after_f}
 use Rattle.gj_json.specs.Tree.{Text, Tree, constant, number, string, array, object, end_of_array, element, end_of_object, member}
 use Rattle.gj_json.specs.declared.class.Class.{Class}
-use Rattle.gj_json.specs.declared.class.Class.TheVariants.{White as white, OpenArray as open_array, CloseArray as close_array, OpenObject as open_object, CloseObject as close_object, Comma as comma, Colon as colon, Quote as quote, NumberStart as number_start, Letter as letter, Other as other}
+use Rattle.gj_json.specs.declared.class.Class.TheVariants.{White as white, OpenArray as open_array, CloseArray as close_array, OpenObject as open_object}
+use Rattle.gj_json.specs.declared.class.Class.TheVariants.{CloseObject as close_object, Comma as comma, Colon as colon, Quote as quote}
+use Rattle.gj_json.specs.declared.class.Class.TheVariants.{NumberStart as number_start, Letter as letter, Other as other}
 use Rattle.gj_json.specs.Internal.ByteClasses.{class_of}
 use Rattle.gj_json.specs.declared.mode.StringState.{StringState}
-use Rattle.gj_json.specs.declared.mode.StringState.TheVariants.{Plain as plain, Escape as escape, HexDue as hex_due, HexOne as hex_one, HexTwo as hex_two, HexThree as hex_three, InCharacter as in_character}
+use Rattle.gj_json.specs.declared.mode.StringState.TheVariants.{Plain as plain, Escape as escape, HexDue as hex_due, HexOne as hex_one, HexTwo as hex_two}
+use Rattle.gj_json.specs.declared.mode.StringState.TheVariants.{HexThree as hex_three, InCharacter as in_character}
 
 abbrev pub to : List Frame → Leaf → Option Partial
 to stack leaf = Some (record { stack = stack; leaf = leaf })
@@ -56,7 +61,8 @@ tail_step zero c = string_goes (c ∷ []) plain
 tail_step (suc more) value = string_goes [] (in_character more Any value)
 
 unfoldable pub plain_step : ℕ → StringStep
-plain_step b = if b == quote_byte then string_ends else (if b == backslash then string_goes [] escape else (if nat_le space b && nat_le b 0x7F then string_goes (b ∷ []) plain else lead_step (lead_of b)))
+plain_step b = if b == quote_byte then string_ends else
+    (if b == backslash then string_goes [] escape else (if nat_le space b && nat_le b 0x7F then string_goes (b ∷ []) plain else lead_step (lead_of b)))
 
 abbrev pub string_next : StringState → ℕ → StringStep
 string_next plain b = plain_step b
@@ -114,7 +120,8 @@ after_value stack t n white = to stack (value_done t)
 after_value (in_array place done ∷ stack) t n comma = to (in_array place (t ∷ done) ∷ stack) value_due
 after_value (in_array place done ∷ stack) t n close_array = to stack (value_done (array place (back_elements done (element t end_of_array)) n))
 after_value (in_object place done np name ne ∷ stack) t n comma = to stack (name_due place (record { place = np; name = name; end = ne; value = t } ∷ done))
-after_value (in_object place done np name ne ∷ stack) t n close_object = to stack (value_done (object place (back_members done (member np name ne t end_of_object)) n))
+after_value (in_object place done np name ne ∷ stack) t n close_object =
+    to stack (value_done (object place (back_members done (member np name ne t end_of_object)) n))
 after_value _ t n _ = None
 
 abbrev pub step_constant : List Frame → Constant → ℕ → List ℕ → ℕ → ℕ → Option Partial
@@ -143,7 +150,8 @@ step_leaf stack (array_opened place) n b = step_array_opened stack place n b (cl
 step_leaf stack (object_opened place) n b = step_object_opened stack place n (class_of b)
 step_leaf stack (constant_on which place left) n b = step_constant stack which place left n b
 step_leaf stack (number_on place so_far) n b =
-    step_number stack place so_far b (begins_number (so_far ++ b ∷ [])) (if is_number so_far then after_value stack (number place so_far n) n (class_of b) else None)
+    step_number stack place so_far b (begins_number (so_far ++ b ∷ []))
+    (if is_number so_far then after_value stack (number place so_far n) n (class_of b) else None)
 step_leaf stack (string_on place so_far state) n b = step_string stack place so_far n (string_next state b)
 step_leaf stack (name_due place done) n b = step_name_due stack place done n (class_of b)
 step_leaf stack (name_on place done np so_far state) n b = step_name stack place done np so_far n (string_next state b)

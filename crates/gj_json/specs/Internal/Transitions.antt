@@ -11,7 +11,8 @@ use Rattle.gj_json.specs.declared.mode.StringMove.TheVariants.{Ends, Goes, Reads
 use Rattle.gj_json.specs.declared.levels.Level.{Level}
 use Rattle.gj_json.specs.declared.levels.Level.TheVariants.{Array, Object}
 use Rattle.gj_json.specs.declared.mode.Mode.{Mode}
-use Rattle.gj_json.specs.declared.mode.Mode.TheVariants.{ValueDue, ValueDone, ArrayOpened, ObjectOpened, ConstantOn, NumberOn, StringOn, NameDue, NameOn, ColonDue, TextDue, MarkOne, MarkTwo}
+use Rattle.gj_json.specs.declared.mode.Mode.TheVariants.{ValueDue, ValueDone, ArrayOpened, ObjectOpened, ConstantOn, NumberOn, StringOn, NameDue, NameOn}
+use Rattle.gj_json.specs.declared.mode.Mode.TheVariants.{ColonDue, TextDue, MarkOne, MarkTwo}
 use Rattle.gj_json.specs.declared.mode.Ending.TheVariants.{Nothing, Mark, Literal, Text, Name, Item}
 use Rattle.gj_json.specs.Internal.ContentWords.{Words}
 use Rattle.gj_json.specs.declared.mode.Move.{Move}

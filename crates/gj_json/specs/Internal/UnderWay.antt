@@ -74,14 +74,18 @@ TurnSays NumberTurn.Refuses bytes b = (BeginsNumber (bytes ++ b ∷ []) → ⊥)
 -- what a byte does to the number under way, and which value that has
 pub record LiteralSays (reader : Reader) (b : ℕ) (turn : NumberTurn) (value : Option Exact) : Type 0 where
   pub turns : (bytes : List ℕ) → in_number reader.mode ≡ true → LiteralStandsFor reader.literal bytes → TurnSays turn bytes b
-  pub values : turn ≡ NumberTurn.Ends → (bytes : List ℕ) → in_number reader.mode ≡ true → LiteralStandsFor reader.literal bytes → IsNumber bytes → value ≡ value_of bytes
+  pub values : turn ≡ NumberTurn.Ends → (bytes : List ℕ) → in_number reader.mode ≡ true → LiteralStandsFor reader.literal bytes → IsNumber bytes
+      → value ≡ value_of bytes
 
 -- what a byte leaves of the literal
 pub record LiteralGoes (old new : Reader) (b : ℕ) (turn : NumberTurn) : Type 0 where
-  pub goes : turn ≡ NumberTurn.Goes → (bytes : List ℕ) → in_number old.mode ≡ true → in_number new.mode ≡ true → LiteralStandsFor old.literal bytes → LiteralStandsFor new.literal (bytes ++ b ∷ [])
-  pub begins : in_number old.mode ≡ false → text_state old.mode ≡ None → in_number new.mode ≡ true → BeginsNumber (b ∷ []) → LiteralStandsFor new.literal (b ∷ [])
+  pub goes : turn ≡ NumberTurn.Goes → (bytes : List ℕ) → in_number old.mode ≡ true → in_number new.mode ≡ true → LiteralStandsFor old.literal bytes
+      → LiteralStandsFor new.literal (bytes ++ b ∷ [])
+  pub begins : in_number old.mode ≡ false → text_state old.mode ≡ None → in_number new.mode ≡ true → BeginsNumber (b ∷ [])
+      → LiteralStandsFor new.literal (b ∷ [])
 
 -- what a byte leaves of the content
 pub record ContentGoes (old new : Reader) (b : ℕ) : Type 0 where
-  pub goes : (state next : StringState) (more so_far : List ℕ) → text_state old.mode ≡ Some state → string_next state b ≡ string_goes more next → Holds old.content so_far → Holds new.content (so_far ++ more)
+  pub goes : (state next : StringState) (more so_far : List ℕ) → text_state old.mode ≡ Some state → string_next state b ≡ string_goes more next
+      → Holds old.content so_far → Holds new.content (so_far ++ more)
   pub begins : (state : StringState) → in_number old.mode ≡ false → text_state old.mode ≡ None → text_state new.mode ≡ Some state → Holds new.content []

@@ -1,5 +1,6 @@
 -- Unescaped characters of up to three bytes (RFC 3629, section 4), seen at each byte with the one before and the one after it.
-use Rattle.std.specs.Prelude.{ℕ, ◌+◌, ◌-◌, ◌/◌, ◌<◌, ◌≡◌, ◌==◌, ◌&&◌, ◌||◌, if◌then◌else◌, bit_and, bit_or, Bool, true, false, not, nat_lt, nat_le, List, [], ◌∷◌, get_or}
+use Rattle.std.specs.Prelude.{ℕ, ◌+◌, ◌-◌, ◌/◌, ◌<◌, ◌≡◌, ◌==◌, ◌&&◌, ◌||◌, if◌then◌else◌, bit_and, bit_or, Bool, true, false, not, nat_lt, nat_le, List, []}
+use Rattle.std.specs.Prelude.{◌∷◌, get_or}
 use Rattle.gj_json.specs.Bytes.{space, quote, backslash}
 use Rattle.gj_json.specs.declared.wide.TheConstants.{LOWER, UPPER}
 

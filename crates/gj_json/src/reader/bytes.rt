@@ -155,7 +155,8 @@ impl Reader {
         requires room { self.old.offset < self.old.limits.bytes }
         requires number { self.old.mode ≡ NumberOn }
         ensures applied { Applied (move_by self.old Ends byte) self.old self.new result }
-        ensures heard { (events : List Event) → S.heard sink.old events → S.heard sink.new (events ++ told_on result (event_at self.old.start (What.Number value) ∷ made_by self.old Ends byte)) }
+        ensures heard { (events : List Event) → S.heard sink.old events
+            → S.heard sink.new (events ++ told_on result (event_at self.old.start (What.Number value) ∷ made_by self.old Ends byte)) }
     {
         let start = self.start;
         let offset = self.offset;

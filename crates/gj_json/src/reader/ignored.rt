@@ -74,7 +74,8 @@ impl Reader {
         requires room { self.old.offset + length piece.now ≤ self.old.limits.bytes }
         requires small { self.old.limits.bytes ≤ 2 ^ 60 }
         ensures within { IfOk result (λ n. n ≤ length piece.now) }
-        ensures feeds { MatchResult result (λ n. FeedsAll (S.heard sink.old) (S.heard sink.new) self.old self.new (take n piece.now)) (FeedsTo (S.heard sink.old) (S.heard sink.new) self.old self.new piece.now) }
+        ensures feeds { MatchResult result (λ n. FeedsAll (S.heard sink.old) (S.heard sink.new) self.old self.new (take n piece.now))
+            (FeedsTo (S.heard sink.old) (S.heard sink.new) self.old self.new piece.now) }
     {
         let ignored = sink.ignored();
         let open = self.levels.len();
@@ -98,7 +99,8 @@ impl Reader {
         requires room { self.old.offset + length piece.now ≤ self.old.limits.bytes }
         requires small { self.old.limits.bytes ≤ 2 ^ 60 }
         ensures within { IfOk result (λ n. n ≤ length piece.now) }
-        ensures feeds { MatchResult result (λ n. FeedsAll (S.heard sink.old) (S.heard sink.new) self.old self.new (take n piece.now)) (FeedsTo (S.heard sink.old) (S.heard sink.new) self.old self.new piece.now) }
+        ensures feeds { MatchResult result (λ n. FeedsAll (S.heard sink.old) (S.heard sink.new) self.old self.new (take n piece.now))
+            (FeedsTo (S.heard sink.old) (S.heard sink.new) self.old self.new piece.now) }
     {
         match self.mode {
             Mode::ObjectOpened | Mode::ArrayOpened => self.take_ignored(piece, sink),

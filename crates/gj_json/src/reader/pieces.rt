@@ -127,7 +127,8 @@ impl Reader {
         requires room { self.old.offset + length piece.now ≤ self.old.limits.bytes }
         requires small { self.old.limits.bytes ≤ 2 ^ 60 }
         ensures within { IfOk result (λ n. (0 < n) × (n ≤ length piece.now)) }
-        ensures feeds { MatchResult result (λ n. FeedsAll (S.heard sink.old) (S.heard sink.new) self.old self.new (take n piece.now)) (FeedsTo (S.heard sink.old) (S.heard sink.new) self.old self.new piece.now) }
+        ensures feeds { MatchResult result (λ n. FeedsAll (S.heard sink.old) (S.heard sink.new) self.old self.new (take n piece.now))
+            (FeedsTo (S.heard sink.old) (S.heard sink.new) self.old self.new piece.now) }
     {
         let quiet = self.skip_front(piece);
         if quiet == piece.len() {
@@ -155,7 +156,8 @@ impl Reader {
         requires room { self.old.offset + length piece.now ≤ self.old.limits.bytes }
         requires small { self.old.limits.bytes ≤ 2 ^ 60 }
         ensures within { IfOk result (λ n. n ≤ length piece.now) }
-        ensures feeds { MatchResult result (λ n. FeedsAll (S.heard sink.old) (S.heard sink.new) self.old self.new (take n piece.now)) (FeedsTo (S.heard sink.old) (S.heard sink.new) self.old self.new piece.now) }
+        ensures feeds { MatchResult result (λ n. FeedsAll (S.heard sink.old) (S.heard sink.new) self.old self.new (take n piece.now))
+            (FeedsTo (S.heard sink.old) (S.heard sink.new) self.old self.new piece.now) }
     {
         if sink.ignored() == 0 {
             return Ok(0);
@@ -172,7 +174,8 @@ impl Reader {
         requires live { self.old.fault ≡ None }
         requires room { self.old.offset + length piece.now ≤ self.old.limits.bytes }
         requires small { self.old.limits.bytes ≤ 2 ^ 60 }
-        ensures feeds { MatchResult result (λ done. FeedsAll (S.heard sink.old) (S.heard sink.new) self.old self.new piece.now) (FeedsTo (S.heard sink.old) (S.heard sink.new) self.old self.new piece.now) }
+        ensures feeds { MatchResult result (λ done. FeedsAll (S.heard sink.old) (S.heard sink.new) self.old self.new piece.now)
+            (FeedsTo (S.heard sink.old) (S.heard sink.new) self.old self.new piece.now) }
     {
         let mut at = match self.take_if_ignored(piece, sink) {
             Ok(count) => count,

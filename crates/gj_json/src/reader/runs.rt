@@ -34,10 +34,12 @@ impl Reader {
         ensures within { result ≤ length piece.now }
         ensures longest { (bytes : List ℕ) → refusal_of self.old ≡ None → StandsFor self.old bytes → IsViable (bytes ++ character_byte ∷ [])
             → IsLongestUtf8 (take (run_allowed (limits_of self.old) bytes piece.now) piece.now) result }
-        ensures elsewhere { (bytes : List ℕ) → refusal_of self.old ≡ None → StandsFor self.old bytes → (IsViable (bytes ++ character_byte ∷ []) → ⊥) → (result ≡ 0) × (self.new ≡ self.old) }
+        ensures elsewhere { (bytes : List ℕ) → refusal_of self.old ≡ None → StandsFor self.old bytes → (IsViable (bytes ++ character_byte ∷ []) → ⊥)
+            → (result ≡ 0) × (self.new ≡ self.old) }
         ensures refused { (fault : JsonFault) → refusal_of self.old ≡ Some fault → (result ≡ 0) × (self.new ≡ self.old) }
         ensures stands { (bytes : List ℕ) → StandsFor self.old bytes → StandsFor self.new (bytes ++ take result piece.now) }
-        ensures silent { (bytes : List ℕ) → refusal_of self.old ≡ None → StandsFor self.old bytes → Completed (length bytes) (length bytes + result) (bytes ++ take result piece.now) [] }
+        ensures silent { (bytes : List ℕ) → refusal_of self.old ≡ None → StandsFor self.old bytes
+            → Completed (length bytes) (length bytes + result) (bytes ++ take result piece.now) [] }
         ensures limits { limits_of self.new ≡ limits_of self.old }
         ensures refusal { refusal_of self.new ≡ refusal_of self.old }
     {

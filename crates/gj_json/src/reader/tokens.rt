@@ -253,7 +253,8 @@ impl Reader {
         requires small { self.old.limits.bytes ≤ 2 ^ 60 }
         ensures count { result ≡ count }
         ensures lands { Lands count ValueDone (outer_of (levels_in self.old.levels)) self.old self.new }
-        ensures heard { (events : List Event) → S.heard sink.old events → S.heard sink.new (events ++ event_at (self.old.offset + count - 1) (closing_of level) ∷ []) }
+        ensures heard { (events : List Event) → S.heard sink.old events
+            → S.heard sink.new (events ++ event_at (self.old.offset + count - 1) (closing_of level) ∷ []) }
     {
         sink.tell(Event {
             place: self.offset + count as u64 - 1,

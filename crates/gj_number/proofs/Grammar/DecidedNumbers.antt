@@ -62,7 +62,8 @@ unfolding is_number
 no_number h = let e : false ≡ true = (number []).1 h in cc
 
 -- the last byte leads from some state to another
-last_state : (bytes : List ℕ) (b : ℕ) → BeginsNumber (bytes ++ b ∷ []) → (s : Scan) × (next : State) × Reaches start bytes s × (next_of s.state (class_of b) ≡ Some next)
+last_state : (bytes : List ℕ) (b : ℕ) → BeginsNumber (bytes ++ b ∷ []) → (s : Scan) × (next : State) × Reaches start bytes s
+    × (next_of s.state (class_of b) ≡ Some next)
 last_state bytes b h =
     let k = number_scan ((bytes ++ b ∷ []) ++ h.0) h.1 in
     let p = reaches_part start k.0 (bytes ++ b ∷ []) h.0 k.1 in
@@ -70,7 +71,8 @@ last_state bytes b h =
     (q.0, q.2.0, q.1, q.2.1)
 
 pub last : (bytes : List ℕ) (b : ℕ) → BeginsNumber (bytes ++ b ∷ []) → IsNumberByte b
-last bytes b h = let k = last_state bytes b h in number_byte b (λ e. (let f : next_of k.0.state Other ≡ Some k.1 = rw e at k.3 in let g = sym (other_ends k.0.state) ∙ f in cc))
+last bytes b h = let k =
+    last_state bytes b h in number_byte b (λ e. (let f : next_of k.0.state Other ≡ Some k.1 = rw e at k.3 in let g = sym (other_ends k.0.state) ∙ f in cc))
 
 first_of_class : (c : Class) (b : ℕ) (next : State) → Means c b → next_of Start c ≡ Some next → (b ≡ minus_sign) ⊎ IsDigit b
 first_of_class Minus b next m e = inl m

@@ -6,7 +6,8 @@ use Rattle.std.specs.List.{AllByRecursion, position_or_len, before_first, after_
 use Rattle.gj_number.specs.Bytes.{minus_sign, plus_sign, lower_e, upper_e, zero_digit, IsDigit, IsExponentLetter, is_exponent_letter, decimal_point}
 use Rattle.gj_number.specs.Grammar.{IsNatural, IsDigits}
 use Rattle.gj_number.specs.Exact.{signed}
-use Rattle.gj_number.specs.Value.{number_of, is_negative, unsigned_of, significand_of, natural_of, fraction_of, exponent_of, signed_number, held_value, value_of}
+use Rattle.gj_number.specs.Value.{number_of, is_negative, unsigned_of, significand_of, natural_of, fraction_of, exponent_of, signed_number, held_value}
+use Rattle.gj_number.specs.Value.{value_of}
 use Rattle.gj_number.specs.Denotation.{Parts, Spells, SpellsSign, SpellsFraction, SpellsExponent, SpellsExponentSign, whole_of}
 
 -- ---- a list split at the first element that passes
@@ -74,7 +75,9 @@ pub fraction_digits : (digits bytes : List ℕ) → SpellsFraction digits bytes 
 fraction_digits digits bytes h = elim h [ inl e ↦ rw (e.1) tt | inr e ↦ all_digits digits e.1 ]
 
 pub parts_digits : (parts : Parts) (literal : List ℕ) → Spells parts literal → AllByRecursion IsDigit (parts.natural ++ parts.fraction)
-parts_digits parts literal h = all_on IsDigit parts.natural parts.fraction (natural_digits parts.natural h.spells_natural) (fraction_digits parts.fraction h.behind_point h.spells_fraction)
+parts_digits parts literal h =
+    all_on IsDigit parts.natural parts.fraction (natural_digits parts.natural h.spells_natural)
+    (fraction_digits parts.fraction h.behind_point h.spells_fraction)
 
 -- ---- the parts
 
@@ -88,13 +91,15 @@ sign_split false sign (b ∷ natural) tail literal e s n =
     rw (e, s, d, p) (refl, refl)
 sign_split true sign (b ∷ natural) tail literal e s n = rw (e, s) (refl, refl)
 
-fraction_ends : (digits bytes : List ℕ) → SpellsFraction digits bytes → BeginsBy is_point bytes × (behind bytes ≡ digits) × AllByRecursion (Fails is_exponent_letter) bytes
+fraction_ends : (digits bytes : List ℕ) → SpellsFraction digits bytes → BeginsBy is_point bytes × (behind bytes ≡ digits)
+    × AllByRecursion (Fails is_exponent_letter) bytes
 fraction_ends digits bytes h = elim h [
   | inl e ↦ rw (e.0, e.1) (tt, refl, tt)
   | inr e ↦ rw (e.0) (refl, refl, (refl, fails_all is_exponent_letter digit_no_letter digits (all_digits digits e.1)))
 ]
 
-sign_number : (negative : Bool) (sign digits : List ℕ) → SpellsExponentSign negative sign → IsDigits digits → signed_number (sign ++ digits) ≡ signed negative (number_of digits)
+sign_number : (negative : Bool) (sign digits : List ℕ) → SpellsExponentSign negative sign → IsDigits digits
+    → signed_number (sign ++ digits) ≡ signed negative (number_of digits)
 sign_number negative sign [] h d = absurd d
 sign_number false sign (b ∷ digits) h d =
     let m : (b == minus_sign) ≡ false = (let low : zero_digit ≤ b = d.0.0 in grind (arith, nat_tests)) in
@@ -123,14 +128,17 @@ found parts literal h =
     let c = exponent_ends parts.exponent h.behind_digits h.spells_exponent in
     let digits = natural_digits parts.natural h.spells_natural in
     let front = all_on (Fails is_exponent_letter) parts.natural h.behind_point (fails_all is_exponent_letter digit_no_letter parts.natural digits) b.2 in
-    let joined : unsigned_of literal ≡ (parts.natural ++ h.behind_point) ++ h.behind_digits = a.1 ∙ sym (append_assoc parts.natural h.behind_point h.behind_digits) in
-    let s : significand_of literal ≡ parts.natural ++ h.behind_point = ap (before_first is_exponent_letter) joined ∙ before_at is_exponent_letter (parts.natural ++ h.behind_point) h.behind_digits front c.0 in
+    let joined : unsigned_of literal ≡ (parts.natural ++ h.behind_point) ++ h.behind_digits =
+    a.1 ∙ sym (append_assoc parts.natural h.behind_point h.behind_digits) in
+    let s : significand_of literal ≡ parts.natural ++ h.behind_point =
+    ap (before_first is_exponent_letter) joined ∙ before_at is_exponent_letter (parts.natural ++ h.behind_point) h.behind_digits front c.0 in
     let no_point = fails_all is_point digit_no_point parts.natural digits in
     record {
       negative = a.0;
       natural = ap (before_first is_point) s ∙ before_at is_point parts.natural h.behind_point no_point b.0;
       fraction = ap (after_first is_point) s ∙ after_at is_point parts.natural h.behind_point no_point b.0 ∙ b.1;
-      exponent = ap signed_number (ap (after_first is_exponent_letter) joined ∙ after_at is_exponent_letter (parts.natural ++ h.behind_point) h.behind_digits front c.0) ∙ c.1;
+      exponent = ap signed_number
+          (ap (after_first is_exponent_letter) joined ∙ after_at is_exponent_letter (parts.natural ++ h.behind_point) h.behind_digits front c.0) ∙ c.1;
     }
 
 -- the value in terms of the parts

@@ -8,7 +8,8 @@ use Rattle.gj_number.specs.Exact.{signed}
 use Rattle.gj_number.specs.Value.{with_digit, number_of}
 use Rattle.gj_number.specs.Denotation.{Parts, Spells, SpellsSign, SpellsFraction, SpellsExponent, SpellsExponentSign, whole_of}
 use Rattle.gj_number.specs.declared.state.State.{State}
-use Rattle.gj_number.specs.declared.state.State.TheVariants.{Start, AfterMinus, AfterZero, InNatural, AfterPoint, InFraction, AfterLetter, AfterSign, InExponent}
+use Rattle.gj_number.specs.declared.state.State.TheVariants.{Start, AfterMinus, AfterZero, InNatural, AfterPoint, InFraction, AfterLetter, AfterSign}
+use Rattle.gj_number.specs.declared.state.State.TheVariants.{InExponent}
 use Rattle.gj_number.specs.declared.state.Class.TheVariants.{Minus, Plus, Point, Letter, Zero, NonZero}
 use Rattle.gj_number.specs.Internal.NumberMachine.{next_of, may_end_in, Scan, start, Reaches}
 use Rattle.gj_number.proofs.Grammar.ByteClasses.{class_is, digit_goes}
@@ -23,7 +24,8 @@ at state negative whole fraction exponent_negative exponent =
 pub natural_run : (negative : Bool) (n k : ℕ) (minus : Bool) (x : ℕ) (digits : List ℕ) → AllByRecursion IsDigit digits
     → Reaches (at InNatural negative n k minus x) digits (at InNatural negative (fold with_digit n digits) k minus x)
 natural_run negative n k minus x [] h = refl
-natural_run negative n k minus x (b ∷ digits) h = (InNatural, digit_goes InNatural InNatural b refl refl h.0, natural_run negative (with_digit n b) k minus x digits h.1)
+natural_run negative n k minus x (b ∷ digits) h =
+    (InNatural, digit_goes InNatural InNatural b refl refl h.0, natural_run negative (with_digit n b) k minus x digits h.1)
 
 pub fraction_run : (negative : Bool) (n k m : ℕ) (minus : Bool) (x : ℕ) (digits : List ℕ) → k + length digits ≡ m → AllByRecursion IsDigit digits
     → Reaches (at InFraction negative n k minus x) digits (at InFraction negative (fold with_digit n digits) m minus x)
@@ -34,7 +36,8 @@ fraction_run negative n k m minus x (b ∷ digits) e h =
 pub exponent_run : (negative : Bool) (n k : ℕ) (minus : Bool) (x : ℕ) (digits : List ℕ) → AllByRecursion IsDigit digits
     → Reaches (at InExponent negative n k minus x) digits (at InExponent negative n k minus (fold with_digit x digits))
 exponent_run negative n k minus x [] h = refl
-exponent_run negative n k minus x (b ∷ digits) h = (InExponent, digit_goes InExponent InExponent b refl refl h.0, exponent_run negative n k minus (with_digit x b) digits h.1)
+exponent_run negative n k minus x (b ∷ digits) h =
+    (InExponent, digit_goes InExponent InExponent b refl refl h.0, exponent_run negative n k minus (with_digit x b) digits h.1)
 
 -- ---- the parts
 
@@ -68,12 +71,18 @@ fraction_on s negative n digits bytes m p h = elim h [
   | inr e ↦ (InFraction, rw (e.0) (AfterPoint, rw (class_is Point _ refl (λ n. cc)) p, some digits e.1), record { ends = refl; letter = refl })
 ]
   where
-    some : (digits : List ℕ) → IsDigits digits → Reaches (at AfterPoint negative n 0 false 0) digits (at InFraction negative (fold with_digit n digits) (length digits) false 0)
+    some : (digits : List ℕ) → IsDigits digits
+        → Reaches (at AfterPoint negative n 0 false 0) digits (at InFraction negative (fold with_digit n digits) (length digits) false 0)
     some [] h = absurd h
-    some (b ∷ digits) h =
-        (InFraction, digit_goes AfterPoint InFraction b refl refl h.0, fraction_run negative (with_digit n b) (0 + 1) (length (b ∷ digits)) false 0 digits (omega arith) h.1)
+    some (b ∷ digits) h = (
+      InFraction,
+      digit_goes AfterPoint InFraction b refl refl h.0,
+      fraction_run negative (with_digit n b) (0 + 1) (length (b ∷ digits)) false 0 digits
+          (omega arith) h.1,
+    )
 
-digits_on : (s : State) (negative : Bool) (n k : ℕ) (minus : Bool) (digits : List ℕ) → next_of s Zero ≡ Some InExponent → next_of s NonZero ≡ Some InExponent → IsDigits digits
+digits_on : (s : State) (negative : Bool) (n k : ℕ) (minus : Bool) (digits : List ℕ) → next_of s Zero ≡ Some InExponent → next_of s NonZero ≡ Some InExponent
+    → IsDigits digits
     → Reaches (at s negative n k minus 0) digits (at InExponent negative n k minus (number_of digits))
 digits_on s negative n k minus [] z f h = absurd h
 digits_on s negative n k minus (b ∷ digits) z f h = (InExponent, digit_goes s InExponent b z f h.0, exponent_run negative n k minus (with_digit 0 b) digits h.1)
@@ -97,7 +106,8 @@ pub record Says (parts : Parts) (t : Scan) : Type 0 where
 
 -- a scan of a whole literal, but for the exponent, and what its exponent adds
 exponent_on : (s : State) (negative : Bool) (n k : ℕ) (exponent : _) (bytes : List ℕ) → MayEnd s → SpellsExponent exponent bytes
-    → (t : State) × (minus : Bool) × (x : ℕ) × Reaches (at s negative n k false 0) bytes (at t negative n k minus x) × (may_end_in t ≡ true) × (exponent ≡ signed minus x)
+    → (t : State) × (minus : Bool) × (x : ℕ) × Reaches (at s negative n k false 0) bytes (at t negative n k minus x) × (may_end_in t ≡ true)
+    × (exponent ≡ signed minus x)
 exponent_on s negative n k exponent bytes m h = elim h [
   | inl e ↦ (s, false, 0, rw (e.0) refl, m.ends, e.1)
   | inr e ↦ (
@@ -110,7 +120,8 @@ exponent_on s negative n k exponent bytes m h = elim h [
   )
 ]
 
-unsigned_on : (s : State) (parts : Parts) (behind_point behind_digits : List ℕ) → next_of s Zero ≡ Some AfterZero → next_of s NonZero ≡ Some InNatural → IsNatural parts.natural
+unsigned_on : (s : State) (parts : Parts) (behind_point behind_digits : List ℕ) → next_of s Zero ≡ Some AfterZero → next_of s NonZero ≡ Some InNatural
+    → IsNatural parts.natural
     → SpellsFraction parts.fraction behind_point → SpellsExponent parts.exponent behind_digits
     → (t : Scan) × Reaches (at s parts.negative 0 0 false 0) (parts.natural ++ (behind_point ++ behind_digits)) t × Says parts t
 unsigned_on s parts behind_point behind_digits z f n p x =
@@ -121,9 +132,11 @@ unsigned_on s parts behind_point behind_digits z f n p x =
     let c = exponent_on b.0 parts.negative whole places parts.exponent behind_digits b.2 x in
     let last : Scan = at c.0 parts.negative whole places c.1 c.2 in
     let tail : Reaches (at a.0 parts.negative (number_of parts.natural) 0 false 0) (behind_point ++ behind_digits) last =
-    reaches_on (at a.0 parts.negative (number_of parts.natural) 0 false 0) (at b.0 parts.negative whole places false 0) last behind_point behind_digits b.1 c.3 in
+    reaches_on (at a.0 parts.negative (number_of parts.natural) 0 false 0)
+    (at b.0 parts.negative whole places false 0) last behind_point behind_digits b.1 c.3 in
     let joined : Reaches (at s parts.negative 0 0 false 0) (parts.natural ++ (behind_point ++ behind_digits)) last =
-    reaches_on (at s parts.negative 0 0 false 0) (at a.0 parts.negative (number_of parts.natural) 0 false 0) last parts.natural (behind_point ++ behind_digits) a.1 tail in (
+    reaches_on (at s parts.negative 0 0 false 0) (at a.0 parts.negative (number_of parts.natural) 0 false 0) last parts.natural
+    (behind_point ++ behind_digits) a.1 tail in (
       last,
       joined,
       record {
@@ -154,5 +167,6 @@ first_goes true = refl
 
 pub parts_reach : (parts : Parts) (literal : List ℕ) → Spells parts literal → (t : Scan) × Reaches start literal t × Says parts t
 parts_reach parts literal h =
-    let k = unsigned_on (behind_sign parts.negative) parts h.behind_point h.behind_digits (zero_goes parts.negative) (first_goes parts.negative) h.spells_natural h.spells_fraction h.spells_exponent in
+    let k = unsigned_on (behind_sign parts.negative) parts h.behind_point h.behind_digits (zero_goes parts.negative)
+    (first_goes parts.negative) h.spells_natural h.spells_fraction h.spells_exponent in
     (k.0, rw (h.joined) (reaches_on start _ k.0 h.sign _ (sign_on parts.negative h.sign h.spells_sign) k.1), k.2)

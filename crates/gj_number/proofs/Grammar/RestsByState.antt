@@ -4,7 +4,8 @@ use Rattle.std.specs.List.{AllByRecursion}
 use Rattle.gj_number.specs.Bytes.{zero_digit, IsDigit, IsFirstDigit, IsExponentLetter}
 use Rattle.gj_number.specs.Grammar.{IsDigits, IsFraction, IsSign, IsExponent, IsUnsigned, IsNumber}
 use Rattle.gj_number.specs.declared.state.State.{State}
-use Rattle.gj_number.specs.declared.state.State.TheVariants.{Start, AfterMinus, AfterZero, InNatural, AfterPoint, InFraction, AfterLetter, AfterSign, InExponent}
+use Rattle.gj_number.specs.declared.state.State.TheVariants.{Start, AfterMinus, AfterZero, InNatural, AfterPoint, InFraction, AfterLetter, AfterSign}
+use Rattle.gj_number.specs.declared.state.State.TheVariants.{InExponent}
 use Rattle.gj_number.specs.declared.state.Class.{Class}
 use Rattle.gj_number.specs.declared.state.Class.TheVariants.{Minus, Plus, Point, Letter, Zero, NonZero}
 use Rattle.gj_number.specs.Internal.NumberMachine.{class_of, Means, next_of, may_end_in, Scan, taken, Reaches}
@@ -15,7 +16,8 @@ abbrev pub Rest : State → List ℕ → Type 0
 Rest Start bytes = IsNumber bytes
 Rest AfterMinus bytes = IsUnsigned bytes
 Rest AfterZero bytes = (fraction : List ℕ) × (exponent : List ℕ) × (bytes ≡ fraction ++ exponent) × IsFraction fraction × IsExponent exponent
-Rest InNatural bytes = (digits : List ℕ) × (fraction : List ℕ) × (exponent : List ℕ) × (bytes ≡ digits ++ (fraction ++ exponent)) × AllByRecursion IsDigit digits × IsFraction fraction × IsExponent exponent
+Rest InNatural bytes = (digits : List ℕ) × (fraction : List ℕ) × (exponent : List ℕ) × (bytes ≡ digits ++ (fraction ++ exponent))
+    × AllByRecursion IsDigit digits × IsFraction fraction × IsExponent exponent
 Rest AfterPoint bytes = (digits : List ℕ) × (exponent : List ℕ) × (bytes ≡ digits ++ exponent) × IsDigits digits × IsExponent exponent
 Rest InFraction bytes = (digits : List ℕ) × (exponent : List ℕ) × (bytes ≡ digits ++ exponent) × AllByRecursion IsDigit digits × IsExponent exponent
 Rest AfterLetter bytes = (sign : List ℕ) × (digits : List ℕ) × (bytes ≡ sign ++ digits) × IsSign sign × IsDigits digits

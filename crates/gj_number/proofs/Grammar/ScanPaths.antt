@@ -2,7 +2,8 @@
 use Rattle.std.proofs.Common.{◌≡◌, ℕ, true, Some, List, [], ◌∷◌, ◌++◌, refl, sym, ◌∙◌, subst}
 use Rattle.gj_number.specs.Bytes.{zero_digit}
 use Rattle.gj_number.specs.declared.state.State.{State}
-use Rattle.gj_number.specs.declared.state.State.TheVariants.{Start, AfterMinus, AfterZero, InNatural, AfterPoint, InFraction, AfterLetter, AfterSign, InExponent}
+use Rattle.gj_number.specs.declared.state.State.TheVariants.{Start, AfterMinus, AfterZero, InNatural, AfterPoint, InFraction, AfterLetter, AfterSign}
+use Rattle.gj_number.specs.declared.state.State.TheVariants.{InExponent}
 use Rattle.gj_number.specs.declared.state.Class.TheVariants.{Zero}
 use Rattle.gj_number.specs.Internal.NumberMachine.{class_of, next_of, may_end_in, Scan, taken, Reaches}
 use Rattle.gj_number.proofs.Grammar.ByteClasses.{class_is}
@@ -35,14 +36,16 @@ reaches_part s u [] ys h = (s, refl, h)
 reaches_part s u (b ∷ xs) ys h = let k = reaches_part (taken h.0 b s) u xs ys h.2 in (k.0, (h.0, h.1, k.1), k.2)
 
 -- one byte more
-pub reaches_one : (s t : Scan) (xs : List ℕ) (b : ℕ) (state : State) → Reaches s xs t → next_of t.state (class_of b) ≡ Some state → Reaches s (xs ++ b ∷ []) (taken state b t)
+pub reaches_one : (s t : Scan) (xs : List ℕ) (b : ℕ) (state : State) → Reaches s xs t → next_of t.state (class_of b) ≡ Some state
+    → Reaches s (xs ++ b ∷ []) (taken state b t)
 reaches_one s t xs b state h e = reaches_on s t (taken state b t) xs (b ∷ []) h (state, e, refl)
 
 -- each scan leads by some bytes to one in which a number may end
 pub ending : (state : State) (t : Scan) → t.state ≡ state → (rest : List ℕ) × (u : Scan) × Reaches t rest u × (may_end_in u.state ≡ true)
 ending state t e = go state e
   where
-    by_zero : (next : State) → next_of t.state (class_of zero_digit) ≡ Some next → may_end_in next ≡ true → (rest : List ℕ) × (u : Scan) × Reaches t rest u × (may_end_in u.state ≡ true)
+    by_zero : (next : State) → next_of t.state (class_of zero_digit) ≡ Some next → may_end_in next ≡ true → (rest : List ℕ) × (u : Scan) × Reaches t rest u
+        × (may_end_in u.state ≡ true)
     by_zero next n m = (zero_digit ∷ [], taken next zero_digit t, (next, n, refl), rw (state-taken next zero_digit t) m)
 
     here : may_end_in t.state ≡ true → (rest : List ℕ) × (u : Scan) × Reaches t rest u × (may_end_in u.state ≡ true)

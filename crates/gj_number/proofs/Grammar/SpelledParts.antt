@@ -18,7 +18,8 @@ exponent_parts bytes h = elim h [
   | inr k ↦ (let s = sign_parts k.1 k.5 in (signed s.0 (number_of k.2), inr (k.0, k.1, k.2, s.0, k.3, k.4, s.1, k.6, refl)))
 ]
 
-unsigned_parts : (negative : Bool) (sign unsigned literal : List ℕ) → literal ≡ sign ++ unsigned → SpellsSign negative sign → IsUnsigned unsigned → (parts : Parts) × Spells parts literal
+unsigned_parts : (negative : Bool) (sign unsigned literal : List ℕ) → literal ≡ sign ++ unsigned → SpellsSign negative sign → IsUnsigned unsigned
+    → (parts : Parts) × Spells parts literal
 unsigned_parts negative sign unsigned literal e s h =
     let f = fraction_parts h.1 h.5 in
     let x = exponent_parts h.2 h.6 in
@@ -68,6 +69,7 @@ number_from parts literal h = go parts.negative h.sign h.joined h.spells_sign
       ],
     )
 
-    go : (negative : Bool) (sign : List ℕ) → literal ≡ sign ++ (parts.natural ++ (h.behind_point ++ h.behind_digits)) → SpellsSign negative sign → IsNumber literal
+    go : (negative : Bool) (sign : List ℕ) → literal ≡ sign ++ (parts.natural ++ (h.behind_point ++ h.behind_digits)) → SpellsSign negative sign
+        → IsNumber literal
     go false sign e s = inl (rw (e, s) unsigned)
     go true sign e s = inr (parts.natural ++ (h.behind_point ++ h.behind_digits), rw (e, s) refl, unsigned)

@@ -2,7 +2,8 @@
 use Rattle.std.proofs.Common.{◌≡◌, ℕ, Bool, true, false, not, ◌||◌, Option, Some, None, refl, arith}
 use Rattle.gj_number.specs.Bytes.{IsDigit}
 use Rattle.gj_number.specs.declared.state.State.{State}
-use Rattle.gj_number.specs.declared.state.State.TheVariants.{Start, AfterMinus, AfterZero, InNatural, AfterPoint, InFraction, AfterLetter, AfterSign, InExponent}
+use Rattle.gj_number.specs.declared.state.State.TheVariants.{Start, AfterMinus, AfterZero, InNatural, AfterPoint, InFraction, AfterLetter, AfterSign}
+use Rattle.gj_number.specs.declared.state.State.TheVariants.{InExponent}
 use Rattle.gj_number.specs.declared.state.Class.{Class}
 use Rattle.gj_number.specs.declared.state.Class.TheVariants.{Zero, NonZero, Other}
 use Rattle.gj_number.specs.Internal.NumberMachine.{class_of, Means, next_of, is_before_fraction}

@@ -26,7 +26,8 @@ pub small_digit : (digit j : ℕ) → digit < 10 → 0 < j → digit < 10 ^ j
 small_digit digit j h k = let l : 10 ^ 1 ≤ 10 ^ j = pow-le-pow_right {n = 10} (omega arith) k in omega arith
 
 -- as long as all digits fit the first part
-pub kept_first : (head rest count more digit : ℕ) → count + more ≤ 19 → rest < 10 ^ (count - 19) → kept_number (head * 10 ^ more + digit) rest (count + more) ≡ kept_number head rest count * 10 ^ more + digit
+pub kept_first : (head rest count more digit : ℕ) → count + more ≤ 19 → rest < 10 ^ (count - 19)
+    → kept_number (head * 10 ^ more + digit) rest (count + more) ≡ kept_number head rest count * 10 ^ more + digit
 kept_first head rest count more digit few r =
     let e : count - 19 ≡ 0 = omega arith in
     let f : count + more - 19 ≡ 0 = omega arith in
@@ -41,11 +42,13 @@ kept_across head rest count more digit few many r =
     let none : rest ≡ 0 = (let k = rw e at r in omega arith) in
     let f : 19 - count + (count + more - 19) ≡ more = omega arith in
     let g : 10 ^ (19 - count) * 10 ^ (count + more - 19) ≡ 10 ^ more = sym (pow-add 10 (19 - count) (count + more - 19)) ∙ ap (λ n. 10 ^ n) f in
-    let h : head * 10 ^ (19 - count) * 10 ^ (count + more - 19) ≡ head * 10 ^ more = mul_assoc head (10 ^ (19 - count)) (10 ^ (count + more - 19)) ∙ ap (λ n. head * n) g in
+    let h : head * 10 ^ (19 - count) * 10 ^ (count + more - 19) ≡ head * 10 ^ more =
+    mul_assoc head (10 ^ (19 - count)) (10 ^ (count + more - 19)) ∙ ap (λ n. head * n) g in
     rw (e, none) (omega arith)
 
 -- where they are added to the second part
-pub kept_second : (head rest count more digit : ℕ) → 19 ≤ count → kept_number head (rest * 10 ^ more + digit) (count + more) ≡ kept_number head rest count * 10 ^ more + digit
+pub kept_second : (head rest count more digit : ℕ) → 19 ≤ count
+    → kept_number head (rest * 10 ^ more + digit) (count + more) ≡ kept_number head rest count * 10 ^ more + digit
 kept_second head rest count more digit many =
     let f : count - 19 + more ≡ count + more - 19 = omega arith in
     let g : 10 ^ (count - 19) * 10 ^ more ≡ 10 ^ (count + more - 19) = sym (pow-add 10 (count - 19) more) ∙ ap (λ n. 10 ^ n) f in
@@ -54,14 +57,17 @@ kept_second head rest count more digit many =
 
 -- the bounds for any count
 pub rest_below : (rest count : ℕ) → rest < 10 ^ (count - 19) → count ≤ 31 → rest < 10 ^ 12
-rest_below rest count h k = let l : 10 ^ (count - 19) ≤ 10 ^ 12 = (let e : count - 19 ≤ 12 = omega arith in pow-le-pow_right {n = 10} (omega arith) e) in omega arith
+rest_below rest count h k = let l : 10 ^ (count - 19) ≤ 10 ^ 12 =
+    (let e : count - 19 ≤ 12 = omega arith in pow-le-pow_right {n = 10} (omega arith) e) in omega arith
 
 pub head_below : (head count : ℕ) → head < 10 ^ min count 19 → head < 10 ^ 19
-head_below head count h = let l : 10 ^ min count 19 ≤ 10 ^ 19 = (let e : min count 19 ≤ 19 = omega arith in pow-le-pow_right {n = 10} (omega arith) e) in omega arith
+head_below head count h = let l : 10 ^ min count 19 ≤ 10 ^ 19 =
+    (let e : min count 19 ≤ 19 = omega arith in pow-le-pow_right {n = 10} (omega arith) e) in omega arith
 
 -- the bound while there is room for a digit more
 pub head_small : (head count : ℕ) → head < 10 ^ min count 19 → count < 19 → head < 10 ^ 18
-head_small head count h k = let l : 10 ^ min count 19 ≤ 10 ^ 18 = (let e : min count 19 ≤ 18 = omega arith in pow-le-pow_right {n = 10} (omega arith) e) in omega arith
+head_small head count h k = let l : 10 ^ min count 19 ≤ 10 ^ 18 =
+    (let e : min count 19 ≤ 18 = omega arith in pow-le-pow_right {n = 10} (omega arith) e) in omega arith
 
 -- behind the first digits there is room for another
 pub rest_small : (rest count : ℕ) → rest < 10 ^ (count - 19) → count < 30 → rest < 10 ^ 11

@@ -19,7 +19,8 @@ ends_in k more digit some small =
     let scaled : k * 10 ^ (more + 1) ≡ k * 10 ^ more * 10 = rw power (omega arith) in
     omega arith
 
-pub last_of : (head rest count k more digit : ℕ) → digit ≢ 0 → digit < 10 → kept_number head rest count ≡ k * 10 ^ (more + 1) + digit → 0 < last_digit head rest count
+pub last_of : (head rest count k more digit : ℕ) → digit ≢ 0 → digit < 10 → kept_number head rest count ≡ k * 10 ^ (more + 1) + digit
+    → 0 < last_digit head rest count
 last_of head rest count k more digit some small e = go (nat_le 1 count && nat_le count 30)
   where
     go : (t : Bool) → 0 < (if t then kept_number head rest count % 10 else 1)

@@ -64,7 +64,8 @@ value_by bytes t h n = go p.0 p.1 (subst P (one_scan start k.0 t bytes k.1 h) k.
     P : Scan → Type 0
     P u = Says p.0 u
 
-    go : (parts : Parts) → Spells parts bytes → Says parts t → (most : ℕ) × (t.whole < 10 ^ most) × (value_of bytes ≡ held_value t.negative most t.whole t.fraction (signed t.exponent_negative t.exponent))
+    go : (parts : Parts) → Spells parts bytes → Says parts t → (most : ℕ) × (t.whole < 10 ^ most)
+        × (value_of bytes ≡ held_value t.negative most t.whole t.fraction (signed t.exponent_negative t.exponent))
     go parts s says =
         let most = length (parts.natural ++ parts.fraction) in (
           most,
@@ -75,22 +76,31 @@ value_by bytes t h n = go p.0 p.1 (subst P (one_scan start k.0 t bytes k.1 h) k.
 -- ---- runs of digits
 
 -- the scan behind digits before the point
-pub natural_on : (t : Scan) (digits : List ℕ) → t.state ≡ InNatural → All IsDigit digits → Reaches t digits (record t { whole = fold with_digit t.whole digits })
+pub natural_on : (t : Scan) (digits : List ℕ) → t.state ≡ InNatural → All IsDigit digits
+    → Reaches t digits (record t { whole = fold with_digit t.whole digits })
 natural_on t digits e h =
-    let P : State → Type 0 = λ s. Reaches (at s t.negative t.whole t.fraction t.exponent_negative t.exponent) digits (at s t.negative (fold with_digit t.whole digits) t.fraction t.exponent_negative t.exponent) in
+    let P : State → Type 0 =
+    λ s. Reaches (at s t.negative t.whole t.fraction t.exponent_negative t.exponent) digits
+    (at s t.negative (fold with_digit t.whole digits) t.fraction t.exponent_negative t.exponent) in
     subst P (sym e) (natural_run t.negative t.whole t.fraction t.exponent_negative t.exponent digits (recursion_from_All IsDigit digits h))
 
 -- the scan behind digits behind the point
 pub fraction_on : (t : Scan) (digits : List ℕ) → t.state ≡ InFraction → All IsDigit digits
     → Reaches t digits (record t { whole = fold with_digit t.whole digits; fraction = t.fraction + length digits })
 fraction_on t digits e h =
-    let P : State → Type 0 = λ s. Reaches (at s t.negative t.whole t.fraction t.exponent_negative t.exponent) digits (at s t.negative (fold with_digit t.whole digits) (t.fraction + length digits) t.exponent_negative t.exponent) in
-    subst P (sym e) (fraction_run t.negative t.whole t.fraction (t.fraction + length digits) t.exponent_negative t.exponent digits refl (recursion_from_All IsDigit digits h))
+    let P : State → Type 0 =
+    λ s. Reaches (at s t.negative t.whole t.fraction t.exponent_negative t.exponent) digits
+    (at s t.negative (fold with_digit t.whole digits) (t.fraction + length digits) t.exponent_negative t.exponent) in
+    subst P (sym e) (fraction_run t.negative t.whole t.fraction (t.fraction + length digits) t.exponent_negative t.exponent digits refl
+    (recursion_from_All IsDigit digits h))
 
 -- the scan behind digits of the exponent
-pub exponent_on : (t : Scan) (digits : List ℕ) → t.state ≡ InExponent → All IsDigit digits → Reaches t digits (record t { exponent = fold with_digit t.exponent digits })
+pub exponent_on : (t : Scan) (digits : List ℕ) → t.state ≡ InExponent → All IsDigit digits
+    → Reaches t digits (record t { exponent = fold with_digit t.exponent digits })
 exponent_on t digits e h =
-    let P : State → Type 0 = λ s. Reaches (at s t.negative t.whole t.fraction t.exponent_negative t.exponent) digits (at s t.negative t.whole t.fraction t.exponent_negative (fold with_digit t.exponent digits)) in
+    let P : State → Type 0 =
+    λ s. Reaches (at s t.negative t.whole t.fraction t.exponent_negative t.exponent) digits
+    (at s t.negative t.whole t.fraction t.exponent_negative (fold with_digit t.exponent digits)) in
     subst P (sym e) (exponent_run t.negative t.whole t.fraction t.exponent_negative t.exponent digits (recursion_from_All IsDigit digits h))
 
 -- the scan behind the first digits behind the point
@@ -101,7 +111,8 @@ behind_point t (b ∷ digits) e some h =
     let all = recursion_from_All IsDigit (b ∷ digits) h in (
       InFraction,
       rw e (digit_goes AfterPoint InFraction b refl refl all.0),
-      fraction_run t.negative (with_digit t.whole b) (t.fraction + 1) (t.fraction + length (b ∷ digits)) t.exponent_negative t.exponent digits (omega arith) all.1,
+      fraction_run t.negative (with_digit t.whole b) (t.fraction + 1) (t.fraction + length (b ∷ digits)) t.exponent_negative t.exponent digits
+          (omega arith) all.1,
     )
 
 -- and with the point before them

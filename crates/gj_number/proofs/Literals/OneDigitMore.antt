@@ -18,7 +18,8 @@ at_most : (kept count pending digit : ℕ) → kept < 10 ^ count → digit < 10 
 at_most kept count pending digit h k =
     let step : kept + 1 ≤ 10 ^ count = omega arith in let g = mul-le-mul_right (10 ^ pending) step in rw (pow-add 10 count pending) (omega arith)
 
-pub digits_on : (kept count pending places whole fraction digit : ℕ) → 0 < digit → digit < 10 → count + pending < 30 → HasDigits kept count pending places whole fraction → fraction ≡ places
+pub digits_on : (kept count pending places whole fraction digit : ℕ) → 0 < digit → digit < 10 → count + pending < 30
+    → HasDigits kept count pending places whole fraction → fraction ≡ places
     → (places' : ℕ) → places' ≤ 1400 → HasDigits (kept * 10 ^ (pending + 1) + digit) (count + pending + 1) 0 places' (whole * 10 + digit) places'
 digits_on kept count pending places whole fraction digit h k few d e places' p =
     let tens_is : d.tens ≡ pending = (let f = d.behind in omega arith) in
@@ -54,7 +55,8 @@ first_digit digit places h k p = record {
   places_is = omega arith;
 }
 
-too_many : (kept count pending places whole fraction digit : ℕ) → 0 < digit → digit < 10 → 30 ≤ count + pending → HasDigits kept count pending places whole fraction → fraction ≡ places → (fraction' : ℕ) → IsFar (whole * 10 + digit) fraction'
+too_many : (kept count pending places whole fraction digit : ℕ) → 0 < digit → digit < 10 → 30 ≤ count + pending
+    → HasDigits kept count pending places whole fraction → fraction ≡ places → (fraction' : ℕ) → IsFar (whole * 10 + digit) fraction'
 too_many kept count pending places whole fraction digit h k many d e fraction' =
     let tens_is : d.tens ≡ pending = (let f = d.behind in omega arith) in
     let is : whole ≡ kept * 10 ^ pending = rw tens_is at d.whole_is in
@@ -63,8 +65,10 @@ too_many kept count pending places whole fraction digit h k many d e fraction' =
     ends_here whole digit fraction' h k (inl (omega arith))
 
 -- the same, for what is kept
-kept_on : (kept count pending places whole fraction digit kept' count' pending' places' : ℕ) → 0 < digit → digit < 10 → AddsOne kept count pending digit kept' count' pending' → places' ≤ 1400
-    → HasNoDigit kept count pending places whole fraction ⊎ HasDigits kept count pending places whole fraction → fraction ≡ places → IsKept kept' count' pending' places' (whole * 10 + digit) places'
+kept_on : (kept count pending places whole fraction digit kept' count' pending' places' : ℕ) → 0 < digit → digit < 10
+    → AddsOne kept count pending digit kept' count' pending' → places' ≤ 1400
+    → HasNoDigit kept count pending places whole fraction ⊎ HasDigits kept count pending places whole fraction → fraction ≡ places
+    → IsKept kept' count' pending' places' (whole * 10 + digit) places'
 kept_on kept count pending places whole fraction digit kept' count' pending' places' h k new p old e = elim old [
   | inl n ↦ (
       let none = n.none in
@@ -86,27 +90,34 @@ kept_on kept count pending places whole fraction digit kept' count' pending' pla
   ]
 ]
 
-pub keep_natural : (kept count pending places whole digit kept' count' pending' : ℕ) → digit ≢ 0 → digit < 10 → AddsOne kept count pending digit kept' count' pending'
+pub keep_natural : (kept count pending places whole digit kept' count' pending' : ℕ) → digit ≢ 0 → digit < 10
+    → AddsOne kept count pending digit kept' count' pending'
     → IsKept kept count pending places whole 0 → IsKept kept' count' pending' places (whole * 10 + digit) 0
 keep_natural kept count pending places whole digit kept' count' pending' h k new old = elim old [
-  | inl n ↦ (let e : places ≡ 0 = (let f = n.places_is in omega arith) in rw e (kept_on kept count pending places whole 0 digit kept' count' pending' 0 (omega arith) k new (omega arith) (inl n) (sym e)))
+  | inl n ↦ (let e : places ≡ 0 = (let f = n.places_is in omega arith) in
+      rw e (kept_on kept count pending places whole 0 digit kept' count' pending' 0 (omega arith) k new (omega arith) (inl n) (sym e)))
   | inr o ↦ elim o [
-    | inl d ↦ (let e : places ≡ 0 = (let f = d.places_is in omega arith) in rw e (kept_on kept count pending places whole 0 digit kept' count' pending' 0 (omega arith) k new (omega arith) (inr d) (sym e)))
+    | inl d ↦ (let e : places ≡ 0 = (let f = d.places_is in omega arith) in
+        rw e (kept_on kept count pending places whole 0 digit kept' count' pending' 0 (omega arith) k new (omega arith) (inr d) (sym e)))
     | inr l ↦ inr (inr (new.far (omega arith), far_natural whole digit k l.1))
   ]
 ]
 
-pub keep_fraction : (kept count pending places whole fraction digit kept' count' pending' : ℕ) → digit ≢ 0 → digit < 10 → places < 1400 → AddsOne kept count pending digit kept' count' pending'
+pub keep_fraction : (kept count pending places whole fraction digit kept' count' pending' : ℕ) → digit ≢ 0 → digit < 10 → places < 1400
+    → AddsOne kept count pending digit kept' count' pending'
     → IsKept kept count pending places whole fraction → IsKept kept' count' pending' (places + 1) (whole * 10 + digit) (fraction + 1)
 keep_fraction kept count pending places whole fraction digit kept' count' pending' h k room new old = elim old [
-  | inl n ↦ (let e : fraction ≡ places = (let f = n.places_is in omega arith) in rw e (kept_on kept count pending places whole fraction digit kept' count' pending' (places + 1) (omega arith) k new (omega arith) (inl n) e))
+  | inl n ↦ (let e : fraction ≡ places = (let f = n.places_is in omega arith) in
+      rw e (kept_on kept count pending places whole fraction digit kept' count' pending' (places + 1) (omega arith) k new (omega arith) (inl n) e))
   | inr o ↦ elim o [
-    | inl d ↦ (let e : fraction ≡ places = (let f = d.places_is in omega arith) in rw e (kept_on kept count pending places whole fraction digit kept' count' pending' (places + 1) (omega arith) k new (omega arith) (inr d) e))
+    | inl d ↦ (let e : fraction ≡ places = (let f = d.places_is in omega arith) in
+        rw e (kept_on kept count pending places whole fraction digit kept' count' pending' (places + 1) (omega arith) k new (omega arith) (inr d) e))
     | inr l ↦ inr (inr (new.far (omega arith), far_fraction whole fraction digit k l.1))
   ]
 ]
 
-pub past_fraction : (kept count pending places whole fraction digit : ℕ) → digit ≢ 0 → digit < 10 → 1400 ≤ places → IsKept kept count pending places whole fraction
+pub past_fraction : (kept count pending places whole fraction digit : ℕ) → digit ≢ 0 → digit < 10 → 1400 ≤ places
+    → IsKept kept count pending places whole fraction
     → IsFar (whole * 10 + digit) (fraction + 1)
 past_fraction kept count pending places whole fraction digit h k full old = elim old [
   | inl n ↦ ends_here whole digit (fraction + 1) (omega arith) k (inr (let f = n.places_is in omega arith))
@@ -118,13 +129,16 @@ past_fraction kept count pending places whole fraction digit h k full old = elim
 
 -- ---- a zero
 
-pub none_natural : (kept count pending places whole : ℕ) → count ≡ 0 → IsKept kept count pending places whole 0 → IsKept kept count pending places (whole * 10 + 0) 0
+pub none_natural : (kept count pending places whole : ℕ) → count ≡ 0 → IsKept kept count pending places whole 0
+    → IsKept kept count pending places (whole * 10 + 0) 0
 none_natural kept count pending places whole z old = elim old [
-  | inl n ↦ inl (record { none = n.none; nothing = n.nothing; no_pending = n.no_pending; whole_is = (let f = n.whole_is in omega arith); places_is = n.places_is })
+  | inl n ↦ inl (record
+      { none = n.none; nothing = n.nothing; no_pending = n.no_pending; whole_is = (let f = n.whole_is in omega arith); places_is = n.places_is })
   | inr o ↦ elim o [ inl d ↦ absurd (let f = d.some in omega arith) | inr l ↦ absurd (let f = l.0 in omega arith) ]
 ]
 
-pub zero_natural : (kept count pending places whole : ℕ) → count ≢ 0 → IsKept kept count pending places whole 0 → IsKept kept count (pending + 1) places (whole * 10 + 0) 0
+pub zero_natural : (kept count pending places whole : ℕ) → count ≢ 0 → IsKept kept count pending places whole 0
+    → IsKept kept count (pending + 1) places (whole * 10 + 0) 0
 zero_natural kept count pending places whole s old = elim old [
   | inl n ↦ absurd (s n.none)
   | inr o ↦ elim o [
@@ -160,7 +174,8 @@ past_natural kept count pending places whole s full old = elim old [
 
 -- a zero behind the point, with how many places and pending are counted now
 pub zero_fraction : (kept count pending places whole fraction pending' places' : ℕ) → IsKept kept count pending places whole fraction
-    → (count ≡ 0 → pending' ≡ pending) → (count ≢ 0 → pending' + places ≡ pending + places') → (places < 1400 → places' ≡ places + 1) → (1400 ≤ places → places' ≡ places)
+    → (count ≡ 0 → pending' ≡ pending) → (count ≢ 0 → pending' + places ≡ pending + places') → (places < 1400 → places' ≡ places + 1)
+    → (1400 ≤ places → places' ≡ places)
     → IsKept kept count pending' places' (whole * 10 + 0) (fraction + 1)
 zero_fraction kept count pending places whole fraction pending' places' old none some room full = elim old [
   | inl n ↦ inl (record {

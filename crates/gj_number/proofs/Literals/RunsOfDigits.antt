@@ -1,5 +1,6 @@
 -- What a run of digits keeps: how it begins and goes on, and what is left of it without its zeros.
-use Rattle.std.proofs.Common.{zero, suc, ◌≡◌, ℕ, ◌+◌, ◌-◌, ◌*◌, ◌/◌, ◌%◌, ◌^◌, ◌<◌, ◌≤◌, List, length, take, drop, get_or, All, fold, min, inl, inr, refl, sym, arith}
+use Rattle.std.proofs.Common.{zero, suc, ◌≡◌, ℕ, ◌+◌, ◌-◌, ◌*◌, ◌/◌, ◌%◌, ◌^◌, ◌<◌, ◌≤◌, List, length, take, drop, get_or, All, fold, min, inl, inr, refl, sym}
+use Rattle.std.proofs.Common.{arith}
 use Rattle.std.proofs.Math.Nat.{pow-suc, mul-le-mul_right, le_of_mul-le-mul_right}
 use Rattle.std.proofs.Math.Numerals.{add-one}
 use Rattle.std.proofs.lemmas.Nat.{pow-add}
@@ -40,7 +41,8 @@ zero_off all head zeros total some e is h =
     ten_digits head (suc (suc n)) h k = omega arith
 
 -- what is left of a run keeps its digits
-pub run_kept : (all total head count zeros whole : ℕ) → all ≡ head * 10 ^ zeros → total ≡ count + zeros → total ≤ 19 → 0 < head % 10 → head < 10 ^ count → whole ≡ all → 10 ^ total ≤ 10 * all
+pub run_kept : (all total head count zeros whole : ℕ) → all ≡ head * 10 ^ zeros → total ≡ count + zeros → total ≤ 19 → 0 < head % 10 → head < 10 ^ count
+    → whole ≡ all → 10 ^ total ≤ 10 * all
     → HasDigits head count zeros 0 whole 0
 run_kept all total head count zeros whole is sum room last below e least =
     let above = ten_above_zero zeros in
@@ -67,14 +69,16 @@ run_kept all total head count zeros whole is sum room last below e least =
     some_count (suc count) h k = omega arith
 
 -- the run of what is kept
-pub kept_run : (kept head count zeros all total whole : ℕ) → kept ≡ head → all ≡ head * 10 ^ zeros → total ≡ count + zeros → HasDigits kept count zeros 0 whole 0 → (whole ≡ all) × (10 ^ total ≤ 10 * all)
+pub kept_run : (kept head count zeros all total whole : ℕ) → kept ≡ head → all ≡ head * 10 ^ zeros → total ≡ count + zeros
+    → HasDigits kept count zeros 0 whole 0 → (whole ≡ all) × (10 ^ total ≤ 10 * all)
 kept_run kept head count zeros all total whole k is sum d =
     let tens_is : d.tens ≡ zeros = (let f = d.behind in omega arith) in
     let w : whole ≡ kept * 10 ^ zeros = rw tens_is at d.whole_is in
     (rw (w, k, is) refl, rw (sum, is, ← k) (at_least kept count zeros d.least))
 
 -- a digit more behind a first digit that is no zero
-pub digit_more : (all total whole digit : ℕ) → (whole ≡ all) × (10 ^ total ≤ 10 * all) → (whole * 10 + digit ≡ all * 10 + digit) × (10 ^ (total + 1) ≤ 10 * (all * 10 + digit))
+pub digit_more : (all total whole digit : ℕ) → (whole ≡ all) × (10 ^ total ≤ 10 * all) → (whole * 10 + digit ≡ all * 10 + digit)
+    × (10 ^ (total + 1) ≤ 10 * (all * 10 + digit))
 digit_more all total whole digit h = let p : 10 ^ (total + 1) ≡ 10 ^ total * 10 = rw add-one (pow-suc 10 total) in (omega arith, omega arith)
 
 -- ---- a run's place among the digits
@@ -85,7 +89,8 @@ kept_small head rest count few r =
     let e : count - 19 ≡ 0 = omega arith in let none : rest ≡ 0 = (let k = rw e at r in omega arith) in rw (e, none) (omega arith)
 
 -- where the digits stand does not matter for them, as long as each is counted
-pub unplaced : (kept count pending places whole fraction : ℕ) → fraction ≡ places → HasDigits kept count pending places whole fraction → HasDigits kept count pending 0 whole 0
+pub unplaced : (kept count pending places whole fraction : ℕ) → fraction ≡ places → HasDigits kept count pending places whole fraction
+    → HasDigits kept count pending 0 whole 0
 unplaced kept count pending places whole fraction e d = record {
   some = d.some;
   few = d.few;
@@ -112,21 +117,24 @@ placed kept count pending places whole few d = record {
 }
 
 -- what is kept is its digits, where there is room for more
-pub digits_of : (kept count pending places whole fraction : ℕ) → 0 < count → count < 19 → IsKept kept count pending places whole fraction → HasDigits kept count pending places whole fraction
+pub digits_of : (kept count pending places whole fraction : ℕ) → 0 < count → count < 19 → IsKept kept count pending places whole fraction
+    → HasDigits kept count pending places whole fraction
 digits_of kept count pending places whole fraction some few h = elim h [
   | inl n ↦ absurd (let e = n.none in omega arith)
   | inr o ↦ elim o [ inl d ↦ d | inr l ↦ absurd (let e = l.0 in omega arith) ]
 ]
 
 -- where no digit is kept, none but zeros has come
-pub nothing_of : (kept count pending places whole fraction : ℕ) → count ≡ 0 → IsKept kept count pending places whole fraction → HasNoDigit kept count pending places whole fraction
+pub nothing_of : (kept count pending places whole fraction : ℕ) → count ≡ 0 → IsKept kept count pending places whole fraction
+    → HasNoDigit kept count pending places whole fraction
 nothing_of kept count pending places whole fraction none h = elim h [
   | inl n ↦ n
   | inr o ↦ elim o [ inl d ↦ absurd (let e = d.some in omega arith) | inr l ↦ absurd (let e = l.0 in omega arith) ]
 ]
 
 -- and so it is behind more zeros
-pub zeros_more : (kept count pending places whole fraction more whole' places' : ℕ) → HasNoDigit kept count pending places whole fraction → whole' ≡ 0 → places' ≡ min (places + more) 1400
+pub zeros_more : (kept count pending places whole fraction more whole' places' : ℕ) → HasNoDigit kept count pending places whole fraction → whole' ≡ 0
+    → places' ≡ min (places + more) 1400
     → HasNoDigit kept count pending places' whole' (fraction + more)
 zeros_more kept count pending places whole fraction more whole' places' n e f = record {
   none = n.none;
@@ -143,7 +151,8 @@ first_run digit all total h e t = rw (e, t) (omega arith, omega arith)
 -- ---- the bytes of a run
 
 -- digits that are taken in two parts
-pub parts_fold : (piece : List ℕ) (i n whole : ℕ) → fold with_digit (fold with_digit whole (take i piece)) (take n (drop i piece)) ≡ fold with_digit whole (take (i + n) piece)
+pub parts_fold : (piece : List ℕ) (i n whole : ℕ)
+    → fold with_digit (fold with_digit whole (take i piece)) (take n (drop i piece)) ≡ fold with_digit whole (take (i + n) piece)
 parts_fold piece i n whole = rw (take-add i n piece) (sym (fold-append with_digit whole (take i piece) (take n (drop i piece))))
 
 pub parts_digits : (piece : List ℕ) (i n : ℕ) → All IsDigit (take i piece) → All IsDigit (take n (drop i piece)) → All IsDigit (take (i + n) piece)

@@ -19,16 +19,19 @@ zeros_on piece at count value s many none digits zeros =
     let Q : ℕ → Type 0 = λ n. All IsDigit (take (at + n) piece) in
     let R : ℕ → Type 0 = λ n. fold with_digit 0 (take (at + n) piece) ≡ 0 in
     let front : fold with_digit (fold with_digit 0 (take at piece)) (take count (drop at piece)) ≡ 0 =
-    ap (λ w. fold with_digit w (take count (drop at piece))) zeros ∙ ap (λ xs. fold with_digit 0 (take count xs)) (sym (rest_is piece at)) ∙ sym s.value_is ∙ none in
+    ap (λ w. fold with_digit w (take count (drop at piece))) zeros ∙ ap (λ xs. fold with_digit 0 (take count xs)) (sym (rest_is piece at)) ∙ sym s.value_is
+    ∙ none in
     (subst Q many (parts_digits piece at count digits (subst P (rest_is piece at) s.digits)), subst R many (sym (parts_fold piece at count 0) ∙ front))
 
 -- zeros past the places that are counted
-pub passed_zeros : (kept count pending places whole fraction total : ℕ) (zeros : List ℕ) → 1400 ≤ places → total ≡ fraction + length zeros → All IsDigit zeros → fold with_digit 0 zeros ≡ 0
+pub passed_zeros : (kept count pending places whole fraction total : ℕ) (zeros : List ℕ) → 1400 ≤ places → total ≡ fraction + length zeros → All IsDigit zeros
+    → fold with_digit 0 zeros ≡ 0
     → IsKept kept count pending places whole fraction → IsKept kept count pending places (fold with_digit whole zeros) total
 passed_zeros kept count pending places whole fraction total zeros full e digits none old =
     passed kept count pending places whole fraction total zeros full e (recursion_from_All IsDigit zeros digits) none old
   where
-    passed : (kept count pending places whole fraction total : ℕ) (zeros : List ℕ) → 1400 ≤ places → total ≡ fraction + length zeros → AllByRecursion IsDigit zeros → fold with_digit 0 zeros ≡ 0
+    passed : (kept count pending places whole fraction total : ℕ) (zeros : List ℕ) → 1400 ≤ places → total ≡ fraction + length zeros
+        → AllByRecursion IsDigit zeros → fold with_digit 0 zeros ≡ 0
         → IsKept kept count pending places whole fraction → IsKept kept count pending places (fold with_digit whole zeros) total
     passed kept count pending places whole fraction total [] full e digits none old =
         let same : fraction ≡ total = omega arith in
@@ -40,6 +43,7 @@ passed_zeros kept count pending places whole fraction total zeros full e digits 
         let zero_is : with_digit whole b ≡ whole * 10 + 0 = omega arith in
         let first : with_digit 0 b ≡ 0 = omega arith in
         let rest : fold with_digit 0 zeros ≡ 0 = rw first at none in
-        let next : IsKept kept count pending places (whole * 10 + 0) (fraction + 1) = zero_fraction kept count pending places whole fraction pending places old (λ z. refl) (λ s. refl) (λ few. absurd (omega arith)) (λ m. refl) in
+        let next : IsKept kept count pending places (whole * 10 + 0) (fraction + 1) =
+        zero_fraction kept count pending places whole fraction pending places old (λ z. refl) (λ s. refl) (λ few. absurd (omega arith)) (λ m. refl) in
         let P : ℕ → Type 0 = λ n. IsKept kept count pending places n (fraction + 1) in
         passed kept count pending places (with_digit whole b) (fraction + 1) total zeros full (omega arith) digits.1 rest (subst P (sym zero_is) next)

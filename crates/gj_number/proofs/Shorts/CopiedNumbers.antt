@@ -18,7 +18,8 @@ number_there piece more e n within h =
     }
 
 -- the same of two numbers
-pub pair_there : (piece more : List ℕ) (first second : Exact) (comma_at second_at end : ℕ) → end < length piece → StartsWithPair (piece ++ more) first second comma_at second_at end → StartsWithPair piece first second comma_at second_at end
+pub pair_there : (piece more : List ℕ) (first second : Exact) (comma_at second_at end : ℕ) → end < length piece
+    → StartsWithPair (piece ++ more) first second comma_at second_at end → StartsWithPair piece first second comma_at second_at end
 pair_there piece more first second comma_at second_at end within h =
     let ordered = h.ordered in
     let before : comma_at + 1 ≤ second_at = elim h.between [ inl e ↦ omega arith | inr e ↦ (let k = e.0 in omega arith) ] in

@@ -1,5 +1,6 @@
 -- Two numbers with a comma between them.
-use Rattle.std.proofs.Common.{◌≡◌, ℕ, ◌+◌, ◌-◌, ◌^◌, ◌<◌, ◌≤◌, ◌==◌, ◌⊎◌, Bool, true, false, List, length, drop, take, get_or, inl, inr, refl, sym, ap, ◌∙◌, subst, arith, length-drop}
+use Rattle.std.proofs.Common.{◌≡◌, ℕ, ◌+◌, ◌-◌, ◌^◌, ◌<◌, ◌≤◌, ◌==◌, ◌⊎◌, Bool, true, false, List, length, drop, take, get_or, inl, inr, refl, sym, ap, ◌∙◌}
+use Rattle.std.proofs.Common.{subst, arith, length-drop}
 use mir.Val.{bool_byte}
 use Rattle.std.proofs.lemmas.Bool.Decides.{nat_tests}
 use Rattle.std.proofs.lemmas.List.{get_or-drop}
@@ -25,8 +26,10 @@ space_or_none b k false e = inl (omega arith)
 space_or_none b k true e = inr (omega arith, grind (arith, nat_tests))
 
 module _ (piece : List ℕ) (negative minus : Bool) (digits places length_one more_digits more_places length_other at : ℕ) where
-  pub pair_front : SpellsPlain piece negative digits places length_one → digits < 10 ^ 18 → places ≤ 18 → length_one < length piece → get_or piece length_one 0 ≡ comma → at ≡ length_one + 1 + bool_byte (get_or piece (length_one + 1) 0 == space)
-      → at + length_other < length piece → SpellsPlain (take (length piece - at) (drop at piece)) minus more_digits more_places length_other → more_digits < 10 ^ 18 → more_places ≤ 18 → get_or (take (length piece - at) (drop at piece)) length_other 0 ≡ close_bracket
+  pub pair_front : SpellsPlain piece negative digits places length_one → digits < 10 ^ 18 → places ≤ 18 → length_one < length piece
+      → get_or piece length_one 0 ≡ comma → at ≡ length_one + 1 + bool_byte (get_or piece (length_one + 1) 0 == space)
+      → at + length_other < length piece → SpellsPlain (take (length piece - at) (drop at piece)) minus more_digits more_places length_other
+      → more_digits < 10 ^ 18 → more_places ≤ 18 → get_or (take (length piece - at) (drop at piece)) length_other 0 ≡ close_bracket
       → StartsWithPair piece (short_value negative digits places) (short_value minus more_digits more_places) length_one at (at + length_other)
   pair_front one small few within ends at_is room other more_small more_few closes =
       let rest : take (length piece - at) (drop at piece) ≡ drop at piece = rest_is piece at in
@@ -39,9 +42,13 @@ module _ (piece : List ℕ) (negative minus : Bool) (digits places length_one mo
         comma = ends;
         between = between_is;
         ordered = omega arith;
-        other = subst Q back (plain_front (drop at piece) minus more_digits more_places length_other (subst P rest other) more_small more_few (omega (arith, length-drop at piece)) (ap class_of closing ∙ bracket_other));
+        other = subst Q back
+            (plain_front (drop at piece) minus more_digits more_places length_other (subst P rest other) more_small more_few
+            (omega (arith, length-drop at piece)) (ap class_of closing ∙ bracket_other));
         closing = sym (get_or-drop at piece length_other 0) ∙ closing;
       }
     where
       between_is : (at ≡ length_one + 1) ⊎ ((at ≡ length_one + 2) × (get_or piece (length_one + 1) 0 ≡ space))
-      between_is = let R : ℕ → Type 0 = λ n. (n ≡ length_one + 1) ⊎ ((n ≡ length_one + 2) × (get_or piece (length_one + 1) 0 ≡ space)) in subst R (sym at_is) (space_or_none (get_or piece (length_one + 1) 0) length_one (get_or piece (length_one + 1) 0 == space) refl)
+      between_is = let R : ℕ → Type 0 = λ n. (n ≡ length_one + 1)
+          ⊎ ((n ≡ length_one + 2) × (get_or piece (length_one + 1) 0 ≡ space)) in
+          subst R (sym at_is) (space_or_none (get_or piece (length_one + 1) 0) length_one (get_or piece (length_one + 1) 0 == space) refl)

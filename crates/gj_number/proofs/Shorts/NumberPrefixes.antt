@@ -1,5 +1,6 @@
 -- The number at the front of a piece: its digits, its parts and its end.
-use Rattle.std.proofs.Common.{zero, suc, ◌≡◌, ℕ, ◌+◌, ◌-◌, ◌*◌, ◌%◌, ◌^◌, ◌<◌, ◌≤◌, Bool, true, false, ◌==◌, ◌⊎◌, List, [], ◌∷◌, ◌++◌, length, take, drop, get_or, All, fold, inl, inr, refl, sym, ◌∙◌, ap, subst, arith, append_assoc, append-nil, length-append, length-drop}
+use Rattle.std.proofs.Common.{zero, suc, ◌≡◌, ℕ, ◌+◌, ◌-◌, ◌*◌, ◌%◌, ◌^◌, ◌<◌, ◌≤◌, Bool, true, false, ◌==◌, ◌⊎◌, List, [], ◌∷◌, ◌++◌, length, take, drop}
+use Rattle.std.proofs.Common.{get_or, All, fold, inl, inr, refl, sym, ◌∙◌, ap, subst, arith, append_assoc, append-nil, length-append, length-drop}
 use Rattle.std.proofs.Math.Nat.{pow-suc, mul-le-mul_right, le-mul_of_pos_right}
 use Rattle.std.proofs.Math.Numerals.{add-one}
 use Rattle.std.proofs.Math.Seq.{take-add}
@@ -21,7 +22,8 @@ use Rattle.gj_number.proofs.Value.NormalForm.{ten_above_zero, number_bounded}
 -- ---- a digit more
 
 -- there is room for a digit more
-pub digit_room : (value digit rest : ℕ) → digit ≤ 9 → (value + 1) * 10 ^ (rest + 1) ≤ 10 ^ 18 → (value * 10 + digit < 10 ^ 18) × ((value * 10 + digit + 1) * 10 ^ rest ≤ 10 ^ 18)
+pub digit_room : (value digit rest : ℕ) → digit ≤ 9 → (value + 1) * 10 ^ (rest + 1) ≤ 10 ^ 18 → (value * 10 + digit < 10 ^ 18)
+    × ((value * 10 + digit + 1) * 10 ^ rest ≤ 10 ^ 18)
 digit_room value digit rest d h = let p : 10 ^ (rest + 1) ≡ 10 ^ rest * 10 = rw add-one (pow-suc 10 rest) in go (10 ^ rest) (ten_above_zero rest) (rw p at h)
   where
     go : (t : ℕ) → 0 < t → (value + 1) * (t * 10) ≤ 10 ^ 18 → (value * 10 + digit < 10 ^ 18) × ((value * 10 + digit + 1) * t ≤ 10 ^ 18)
@@ -46,7 +48,8 @@ other_byte b byte h d = let l = d.0 in let m = d.1 in omega arith
 -- ---- the parts
 
 -- digits of which the first is no zero, or one digit
-pub natural_is : (rest : List ℕ) (n : ℕ) → 0 < n → n ≤ length rest → All IsDigit (take n rest) → (get_or rest 0 0 ≡ zero_digit → n ≡ 1) → IsNatural (take n rest)
+pub natural_is : (rest : List ℕ) (n : ℕ) → 0 < n → n ≤ length rest → All IsDigit (take n rest) → (get_or rest 0 0 ≡ zero_digit → n ≡ 1)
+    → IsNatural (take n rest)
 natural_is rest zero some few h one = absurd (omega arith)
 natural_is [] (suc n) some few h one = absurd (omega arith)
 natural_is (b ∷ rest) (suc n) some few h one =
@@ -68,7 +71,8 @@ sign_is (x ∷ piece) some e = ap (λ y. y ∷ []) e
 
 -- ---- a number with no point, and one with a point
 
-module _ (piece : List ℕ) (negative : Bool) (first n value : ℕ) (sign : SpellsSign negative (take first piece)) (spells : SpellsOn (drop first piece) 0 n value) (some : 0 < n) (one : get_or (drop first piece) 0 0 ≡ zero_digit → n ≡ 1) where
+module _ (piece : List ℕ) (negative : Bool) (first n value : ℕ) (sign : SpellsSign negative (take first piece)) (spells : SpellsOn (drop first piece) 0 n value)
+    (some : 0 < n) (one : get_or (drop first piece) 0 0 ≡ zero_digit → n ≡ 1) where
   natural : IsNatural (take n (drop first piece))
   natural = natural_is (drop first piece) n some spells.within spells.digits one
 
@@ -86,7 +90,8 @@ module _ (piece : List ℕ) (negative : Bool) (first n value : ℕ) (sign : Spel
     places_is = refl;
   }
 
-  pub point_plain : (m all : ℕ) → get_or piece (first + n) 0 ≡ decimal_point → SpellsOn (drop (first + n + 1) piece) value m all → 0 < m → first + n < length piece → SpellsPlain piece negative all m (first + n + 1 + m)
+  pub point_plain : (m all : ℕ) → get_or piece (first + n) 0 ≡ decimal_point → SpellsOn (drop (first + n + 1) piece) value m all → 0 < m
+      → first + n < length piece → SpellsPlain piece negative all m (first + n + 1 + m)
   point_plain m all point more few within =
       let digits = take n (drop first piece) in
       let fraction = take m (drop (first + n + 1) piece) in
@@ -111,12 +116,14 @@ pub sign_length : (negative : Bool) → bool_byte negative ≤ 1
 sign_length false = omega arith
 sign_length true = omega arith
 
-pub sign_at : (piece : List ℕ) (negative : Bool) → (get_or piece 0 0 == minus_sign) ≡ negative → 0 < length piece → SpellsSign negative (take (bool_byte negative) piece)
+pub sign_at : (piece : List ℕ) (negative : Bool) → (get_or piece 0 0 == minus_sign) ≡ negative → 0 < length piece
+    → SpellsSign negative (take (bool_byte negative) piece)
 sign_at piece false e some = refl
 sign_at piece true e some = sign_is piece some (grind (arith, nat_tests))
 
 -- the slice behind a place
-pub spells_rest : (piece : List ℕ) (i before count value : ℕ) → SpellsOn (take (length piece - i) (drop i piece)) before count value → SpellsOn (drop i piece) before count value
+pub spells_rest : (piece : List ℕ) (i before count value : ℕ) → SpellsOn (take (length piece - i) (drop i piece)) before count value
+    → SpellsOn (drop i piece) before count value
 spells_rest piece i before count value h = let P : List ℕ → Type 0 = λ xs. SpellsOn xs before count value in subst P (rest_is piece i) h
 
 -- so many digits spell a number below that power of ten
@@ -132,10 +139,12 @@ pub one_of : (piece : List ℕ) (first n : ℕ) → (get_or piece first 0 ≡ ze
 one_of piece first n h e = let z : first + 0 ≡ first = omega arith in h (ap (λ k. get_or piece k 0) (sym z) ∙ sym (get_or-drop first piece 0 0) ∙ e)
 
 -- a digit there is one of those counted
-pub first_some : (piece : List ℕ) (first n : ℕ) → (IsDigit (get_or (take (length piece - first) (drop first piece)) n 0) → ⊥) → (n ≡ 0 → IsDigit (get_or piece first 0)) → 0 < n
+pub first_some : (piece : List ℕ) (first n : ℕ) → (IsDigit (get_or (take (length piece - first) (drop first piece)) n 0) → ⊥)
+    → (n ≡ 0 → IsDigit (get_or piece first 0)) → 0 < n
 first_some piece first zero ends h =
     let z : first + 0 ≡ first = omega arith in
-    let e : get_or (take (length piece - first) (drop first piece)) 0 0 ≡ get_or piece first 0 = ap (λ xs. get_or xs 0 0) (rest_is piece first) ∙ get_or-drop first piece 0 0 ∙ ap (λ k. get_or piece k 0) z in
+    let e : get_or (take (length piece - first) (drop first piece)) 0 0 ≡ get_or piece first 0 =
+    ap (λ xs. get_or xs 0 0) (rest_is piece first) ∙ get_or-drop first piece 0 0 ∙ ap (λ k. get_or piece k 0) z in
     let P : ℕ → Type 0 = λ b. IsDigit b in
     absurd (ends (subst P (sym e) (h refl)))
 first_some piece first (suc n) ends h = omega arith
@@ -147,13 +156,15 @@ apart n [] = omega arith
 apart n (b ∷ xs) = rw (pow-suc 10 (length xs)) (omega (arith, apart (with_digit n b) xs, apart (with_digit 0 b) xs))
 
 -- behind a number of so many digits there is room for the rest
-pub joined_fits : (natural count places behind : ℕ) (rest : List ℕ) → natural < 10 ^ count → SpellsOn rest 0 places behind → places ≤ 18 - count → count ≤ 18 → natural * 10 ^ places + behind < 10 ^ 18
+pub joined_fits : (natural count places behind : ℕ) (rest : List ℕ) → natural < 10 ^ count → SpellsOn rest 0 places behind → places ≤ 18 - count → count ≤ 18
+    → natural * 10 ^ places + behind < 10 ^ 18
 joined_fits natural count places behind rest n k few most =
     let b : behind < 10 ^ places = below_power rest places behind k in
     let l = scaled_below natural count places 18 n (omega arith) in
     omega arith
 
-pub joined_below : (natural count places behind : ℕ) (rest : List ℕ) → natural < 10 ^ count → SpellsOn rest 0 places behind → natural * 10 ^ places + behind < 10 ^ (count + places)
+pub joined_below : (natural count places behind : ℕ) (rest : List ℕ) → natural < 10 ^ count → SpellsOn rest 0 places behind
+    → natural * 10 ^ places + behind < 10 ^ (count + places)
 joined_below natural count places behind rest n k =
     let b : behind < 10 ^ places = below_power rest places behind k in
     let l = scaled_below natural count places (count + places) n (omega arith) in
@@ -168,7 +179,8 @@ joined_spells natural places behind rest k =
     record { within = k.within; digits = k.digits; value_is = omega arith }
 
 -- the digits behind these go on
-pub spells_more : (piece : List ℕ) (before n m first all : ℕ) → SpellsOn piece before n first → SpellsOn (drop n piece) first m all → SpellsOn piece before (n + m) all
+pub spells_more : (piece : List ℕ) (before n m first all : ℕ) → SpellsOn piece before n first → SpellsOn (drop n piece) first m all
+    → SpellsOn piece before (n + m) all
 spells_more piece before n m first all h k =
     let w = h.within in
     let v = k.within in
@@ -188,7 +200,8 @@ none_spells piece natural = record { within = omega arith; digits = (λ k d belo
 
 -- ---- a number of sixteen bytes at the most
 
-module _ (piece : List ℕ) (negative : Bool) (first n m bytes value : ℕ) (sign : SpellsSign negative (take first piece)) (k : SpellsUnsigned (drop first piece) n m bytes value) (some : 0 < n) (one : get_or (drop first piece) 0 0 ≡ zero_digit → n ≡ 1)
+module _ (piece : List ℕ) (negative : Bool) (first n m bytes value : ℕ) (sign : SpellsSign negative (take first piece))
+    (k : SpellsUnsigned (drop first piece) n m bytes value) (some : 0 < n) (one : get_or (drop first piece) 0 0 ≡ zero_digit → n ≡ 1)
     (few : bytes ≤ 16) (room : first + 16 < length piece) where
   shapes : (bytes ≡ n) ⊎ (bytes ≡ n + 1 + m)
   shapes = elim k.shape [ inl s ↦ inl s.1 | inr s ↦ inr s.2 ]
@@ -209,7 +222,14 @@ module _ (piece : List ℕ) (negative : Bool) (first n m bytes value : ℕ) (sig
       let digits = take n (drop first piece) ++ take m (drop (n + 1) (drop first piece)) in
       let all : All IsDigit digits = All-append IsDigit _ _ k.natural_digits k.fraction_digits in
       let b : number_of digits < 10 ^ length digits = number_bounded digits (recursion_from_All IsDigit digits all) in
-      let len : length digits ≤ 16 = omega (arith, length-append (take n (drop first piece)) (take m (drop (n + 1) (drop first piece))), length-take n (drop first piece), length-take m (drop (n + 1) (drop first piece))) in
+      let len : length digits ≤ 16 =
+      omega (
+        arith,
+        length-append (take n (drop first piece)) (take m (drop (n + 1) (drop first piece))),
+        length-take n (drop first piece),
+        length-take m
+            (drop (n + 1) (drop first piece)),
+      ) in
       let w = scaled_below (number_of digits) (length digits) 0 18 b (omega arith) in
       let v = k.value_is in
       (few', omega arith)
@@ -224,18 +244,26 @@ module _ (piece : List ℕ) (negative : Bool) (first n m bytes value : ℕ) (sig
             let Q : ℕ → Type 0 = λ i. SpellsPlain piece negative value i (first + bytes) in
             let R : ℕ → Type 0 = λ i. SpellsPlain piece negative value 0 (first + i) in
             let none : take m (drop (n + 1) (drop first piece)) ≡ [] = ap (λ i. take i (drop (n + 1) (drop first piece))) s.0 in
-            let same : value ≡ number_of (take n (drop first piece)) = v ∙ ap (λ xs. number_of (take n (drop first piece) ++ xs)) none ∙ ap number_of (append-nil (take n (drop first piece))) in
+            let same : value ≡ number_of (take n (drop first piece)) =
+            v ∙ ap (λ xs. number_of (take n (drop first piece) ++ xs)) none ∙ ap number_of (append-nil (take n (drop first piece))) in
             let spells : SpellsOn (drop first piece) 0 n value = record { within = spelled.within; digits = k.natural_digits; value_is = same } in
             subst Q (sym s.0) (subst R (sym e) (whole_plain piece negative first n value sign spells some one))
         | inr s ↦
             let e = s.2 in
             let R : ℕ → Type 0 = λ i. SpellsPlain piece negative value m i in
             let at : first + bytes ≡ first + n + 1 + m = omega arith in
-            let d : drop (n + 1) (drop first piece) ≡ drop (first + n + 1) piece = drop-drop (n + 1) first piece ∙ ap (λ i. drop i piece) {y = first + n + 1} (omega arith) in
+            let d : drop (n + 1) (drop first piece) ≡ drop (first + n + 1) piece =
+            drop-drop (n + 1) first piece ∙ ap (λ i. drop i piece) {y = first + n + 1} (omega arith) in
             let point : get_or piece (first + n) 0 ≡ decimal_point = sym (get_or-drop first piece n 0) ∙ s.1 in
             let Q : List ℕ → Type 0 = λ xs. SpellsOn xs (number_of (take n (drop first piece))) m value in
             let fits : m ≤ length (drop (n + 1) (drop first piece)) = let w = long in omega (arith, length-drop (n + 1) (drop first piece)) in
             let more : SpellsOn (drop (n + 1) (drop first piece)) (number_of (take n (drop first piece))) m value =
-            record { within = fits; digits = k.fraction_digits; value_is = v ∙ fold-append with_digit 0 (take n (drop first piece)) (take m (drop (n + 1) (drop first piece))) } in
-            subst R (sym at) (point_plain piece negative first n (number_of (take n (drop first piece))) sign spelled some one m value point (subst Q d more) s.0 (omega arith))
+            record {
+              within = fits;
+              digits = k.fraction_digits;
+              value_is =
+                  v ∙ fold-append with_digit 0 (take n (drop first piece)) (take m (drop (n + 1) (drop first piece)));
+            } in
+            subst R (sym at) (point_plain piece negative first n (number_of (take n (drop first piece))) sign spelled some one m value point
+            (subst Q d more) s.0 (omega arith))
       ]

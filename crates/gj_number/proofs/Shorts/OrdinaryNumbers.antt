@@ -1,5 +1,6 @@
 -- How an ordinary number lies at the start of a piece: its runs of digits, and what stands after each.
-use Rattle.std.proofs.Common.{suc, ◌≡◌, ℕ, ◌+◌, ◌-◌, ◌<◌, ◌≤◌, ◌⊎◌, Bool, true, false, ◌==◌, List, [], ◌∷◌, ◌++◌, length, take, drop, get_or, All, inl, inr, refl, sym, ◌∙◌, ap, subst, arith, append_assoc, length-append}
+use Rattle.std.proofs.Common.{suc, ◌≡◌, ℕ, ◌+◌, ◌-◌, ◌<◌, ◌≤◌, ◌⊎◌, Bool, true, false, ◌==◌, List, [], ◌∷◌, ◌++◌, length, take, drop, get_or, All, inl, inr}
+use Rattle.std.proofs.Common.{refl, sym, ◌∙◌, ap, subst, arith, append_assoc, length-append}
 use Rattle.std.proofs.Math.Seq.{drop-append_seam, take-append_seam, drop-cons}
 use Rattle.std.proofs.lemmas.Bool.Decides.{nat_tests}
 use Rattle.std.proofs.lemmas.List.{get_or-append-add, take-append-drop, drop-drop, get_or-drop, length-take-le}
@@ -53,14 +54,23 @@ point_no_digit : (b : ℕ) → b ≡ decimal_point → IsDigit b → ⊥
 point_no_digit b e d = let l = d.0 in omega arith
 
 -- the bytes after the sign
-laid_after : (natural fraction after more : List ℕ) (b : ℕ) → IsNatural natural → SpellsFraction fraction after → length natural + length fraction ≤ 18 → (IsNumberByte b → ⊥) → IsLaid (natural ++ (after ++ (b ∷ more))) 0 (length natural) (length fraction)
+laid_after : (natural fraction after more : List ℕ) (b : ℕ) → IsNatural natural → SpellsFraction fraction after → length natural + length fraction ≤ 18
+    → (IsNumberByte b → ⊥) → IsLaid (natural ++ (after ++ (b ∷ more))) 0 (length natural) (length fraction)
 laid_after natural fraction after more b n f few none = elim f [
   | inl e ↦ rw (e.0) (
       let ys : List ℕ = b ∷ more in
       let k = run_of natural ys (All-from_recursion IsDigit natural (natural_digits natural n)) (omega arith) (no_digit b none) in
       let at : get_or (natural ++ ys) (length natural) 0 ≡ b = after_all natural ys in
       let P : ℕ → Type 0 = λ x. IsNumberByte x → ⊥ in
-      record { digits = k; some = some_digit natural n; one = one_zero natural ys n; few = few; rest = inl (subst P (sym at) none); point = λ h. absurd (omega (arith, ap length e.1)) })
+      record {
+        digits = k;
+        some = some_digit natural n;
+        one = one_zero natural ys n;
+        few = few;
+        rest = inl (subst P (sym at) none);
+        point =
+            λ h. absurd (omega (arith, ap length e.1));
+      })
   | inr e ↦ rw (e.0) (
       let zs : List ℕ = fraction ++ (b ∷ more) in
       let ys : List ℕ = decimal_point ∷ zs in
@@ -82,7 +92,8 @@ laid_after natural fraction after more b n f few none = elim f [
 ]
 
 -- the sign, and what stands after it
-sign_of : (negative minus : Bool) (sign rest : List ℕ) → SpellsSign minus sign → (get_or (sign ++ rest) 0 0 == minus_sign) ≡ negative → (get_or rest 0 0 ≡ minus_sign → ⊥) → drop (bool_byte negative) (sign ++ rest) ≡ rest
+sign_of : (negative minus : Bool) (sign rest : List ℕ) → SpellsSign minus sign → (get_or (sign ++ rest) 0 0 == minus_sign) ≡ negative
+    → (get_or rest 0 0 ≡ minus_sign → ⊥) → drop (bool_byte negative) (sign ++ rest) ≡ rest
 sign_of negative true sign rest s e n = let t : negative ≡ true = sym e ∙ rw s refl in rw (s, t) refl
 sign_of true false sign rest s e n = absurd (n (let f : (get_or rest 0 0 == minus_sign) ≡ true = rw s at e in grind (arith, nat_tests)))
 sign_of false false sign rest s e n = rw s refl
@@ -91,13 +102,15 @@ first_digit : (natural ys : List ℕ) → IsNatural natural → get_or (natural 
 first_digit [] ys h e = absurd h
 first_digit (b ∷ xs) ys h e = let k = natural_digits (b ∷ xs) h in let l = k.0.0 in omega arith
 
-pub laid : (piece : List ℕ) (negative : Bool) (n : ℕ) → StartsSigned piece negative → (o : StartsOrdinary piece n) → IsLaid piece (bool_byte negative) (length o.ordinary.natural) (length o.ordinary.fraction)
+pub laid : (piece : List ℕ) (negative : Bool) (n : ℕ) → StartsSigned piece negative → (o : StartsOrdinary piece n)
+    → IsLaid piece (bool_byte negative) (length o.ordinary.natural) (length o.ordinary.fraction)
 laid piece negative n s o =
     let x = o.ordinary in
     let rest : List ℕ = x.natural ++ (x.after_natural ++ (get_or piece n 0 ∷ drop (suc n) piece)) in
     let whole : piece ≡ x.sign ++ rest = sym (take-append-drop n piece) ∙ (λ i. x.joined i ++ drop-cons piece n 0 o.within i) ∙ simp append_assoc in
     let e : (get_or (x.sign ++ rest) 0 0 == minus_sign) ≡ negative = ap (λ xs. get_or xs 0 0 == minus_sign) (sym whole) ∙ s in
-    let d : drop (bool_byte negative) piece ≡ rest = ap (drop (bool_byte negative)) whole ∙ sign_of negative x.negative x.sign rest x.spells_sign e (first_digit x.natural _ x.spells_natural) in
+    let d : drop (bool_byte negative) piece ≡ rest =
+    ap (drop (bool_byte negative)) whole ∙ sign_of negative x.negative x.sign rest x.spells_sign e (first_digit x.natural _ x.spells_natural) in
     let k = laid_after x.natural x.fraction x.after_natural (drop (suc n) piece) (get_or piece n 0) x.spells_natural x.spells_fraction x.few o.after in
     record {
       digits = rw d k.digits;
@@ -108,13 +121,15 @@ laid piece negative n s o =
       point = rw d k.point;
     }
 
-sign_size : (negative minus : Bool) (sign rest : List ℕ) → SpellsSign minus sign → (get_or (sign ++ rest) 0 0 == minus_sign) ≡ negative → (get_or rest 0 0 ≡ minus_sign → ⊥) → length sign ≡ bool_byte negative
+sign_size : (negative minus : Bool) (sign rest : List ℕ) → SpellsSign minus sign → (get_or (sign ++ rest) 0 0 == minus_sign) ≡ negative
+    → (get_or rest 0 0 ≡ minus_sign → ⊥) → length sign ≡ bool_byte negative
 sign_size negative true sign rest s e n = let t : negative ≡ true = sym e ∙ rw s refl in rw (s, t) refl
 sign_size true false sign rest s e n = absurd (n (let f : (get_or rest 0 0 == minus_sign) ≡ true = rw s at e in grind (arith, nat_tests)))
 sign_size false false sign rest s e n = rw s refl
 
 -- how many bytes it has, with a point
-pub laid_length : (piece : List ℕ) (negative : Bool) (n : ℕ) → StartsSigned piece negative → (o : StartsOrdinary piece n) → 0 < length o.ordinary.fraction → n ≡ bool_byte negative + (length o.ordinary.natural + 1 + length o.ordinary.fraction)
+pub laid_length : (piece : List ℕ) (negative : Bool) (n : ℕ) → StartsSigned piece negative → (o : StartsOrdinary piece n) → 0 < length o.ordinary.fraction
+    → n ≡ bool_byte negative + (length o.ordinary.natural + 1 + length o.ordinary.fraction)
 laid_length piece negative n s o some =
     let x = o.ordinary in
     let rest : List ℕ = x.natural ++ (x.after_natural ++ (get_or piece n 0 ∷ drop (suc n) piece)) in
@@ -123,13 +138,15 @@ laid_length piece negative n s o some =
     let size = sign_size negative x.negative x.sign rest x.spells_sign e (first_digit x.natural _ x.spells_natural) in
     let w = o.within in
     let all : length (x.sign ++ (x.natural ++ x.after_natural)) ≡ n = ap length (sym x.joined) ∙ length-take-le n piece (omega arith) in
-    let last : length x.after_natural ≡ 1 + length x.fraction = elim x.spells_fraction [ inl h ↦ absurd (omega (arith, ap length h.1)) | inr h ↦ (ap length h.0 ∙ omega arith) ] in
+    let last : length x.after_natural ≡ 1 + length x.fraction =
+    elim x.spells_fraction [ inl h ↦ absurd (omega (arith, ap length h.1)) | inr h ↦ (ap length h.0 ∙ omega arith) ] in
     omega (arith, length-append x.sign (x.natural ++ x.after_natural), length-append x.natural x.after_natural)
 
 -- ---- what the code meets
 
 -- a usual number after its sign
-pub pointed : (piece : List ℕ) (negative : Bool) (n behind : ℕ) → StartsSigned piece negative → (u : StartsUsual piece n behind) → IsPointed (drop (bool_byte negative) piece) (length u.number.ordinary.natural) (length u.number.ordinary.fraction)
+pub pointed : (piece : List ℕ) (negative : Bool) (n behind : ℕ) → StartsSigned piece negative → (u : StartsUsual piece n behind)
+    → IsPointed (drop (bool_byte negative) piece) (length u.number.ordinary.natural) (length u.number.ordinary.fraction)
 pointed piece negative n behind s u =
     let l = laid piece negative n s u.number in
     let a = u.few in
@@ -166,12 +183,14 @@ module _ (piece : List ℕ) (first natural fraction : ℕ) (l : IsLaid piece fir
       let P : ℕ → Type 0 = λ b. IsNumberByte b in
       elim l.rest [ inl h ↦ h (subst P (sym here) byte) | inr h ↦ none (sym here ∙ h.0) ]
 
-  pub point_goes_on : get_or piece (first + n) 0 ≡ decimal_point → (0 < fraction) × IsRun (drop (first + n + 1) piece) fraction × (IsNumberByte (get_or piece (first + n + 1 + fraction) 0) → ⊥)
+  pub point_goes_on : get_or piece (first + n) 0 ≡ decimal_point → (0 < fraction) × IsRun (drop (first + n + 1) piece) fraction
+      × (IsNumberByte (get_or piece (first + n + 1 + fraction) 0) → ⊥)
   point_goes_on point =
       let here : get_or (drop first piece) natural 0 ≡ get_or piece (first + n) 0 = at_rest natural ∙ ap (λ k. get_or piece (first + k) 0) (sym e) in
       let k : first + (natural + 1) ≡ first + n + 1 = omega arith in
       let d : drop (natural + 1) (drop first piece) ≡ drop (first + n + 1) piece = drop-drop (natural + 1) first piece ∙ ap (λ i. drop i piece) k in
-      let b : get_or (drop (natural + 1) (drop first piece)) fraction 0 ≡ get_or piece (first + n + 1 + fraction) 0 = ap (λ xs. get_or xs fraction 0) d ∙ get_or-drop (first + n + 1) piece fraction 0 in
+      let b : get_or (drop (natural + 1) (drop first piece)) fraction 0 ≡ get_or piece (first + n + 1 + fraction) 0 =
+      ap (λ xs. get_or xs fraction 0) d ∙ get_or-drop (first + n + 1) piece fraction 0 in
       let P : ℕ → Type 0 = λ x. IsNumberByte x in
       let Q : List ℕ → Type 0 = λ xs. IsRun xs fraction in
       elim l.rest [

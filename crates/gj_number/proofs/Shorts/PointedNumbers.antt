@@ -1,5 +1,6 @@
 -- A number with a point is found.
-use Rattle.std.proofs.Common.{◌≡◌, ◌++◌, ◌∷◌, [], fold, not, replicate, ℕ, ◌+◌, ◌-◌, ◌/◌, ◌^◌, ◌<◌, ◌≤◌, ◌⊎◌, ◌==◌, Bool, true, false, inl, inr, List, length, map, take, drop, get_or, leb, All, Fits, refl, sym, ap, ◌∙◌, subst, arith, length-drop, w8}
+use Rattle.std.proofs.Common.{◌≡◌, ◌++◌, ◌∷◌, [], fold, not, replicate, ℕ, ◌+◌, ◌-◌, ◌/◌, ◌^◌, ◌<◌, ◌≤◌, ◌⊎◌, ◌==◌, Bool, true, false, inl, inr, List, length}
+use Rattle.std.proofs.Common.{map, take, drop, get_or, leb, All, Fits, refl, sym, ap, ◌∙◌, subst, arith, length-drop, w8}
 use lib.Lanes.{Each1, mask_l}
 use lib.Count.{count_trailing_zeros}
 use Rattle.std.proofs.lemmas.List.{get_or-drop, drop-append-le, length-append}
@@ -14,10 +15,12 @@ use Rattle.gj_number.specs.Internal.DigitRuns.{IsPointed, StartsSigned, SpellsUn
 use Rattle.gj_number.proofs.Shorts.RunEnds.{digit_at, run_found}
 use Rattle.gj_number.proofs.Shorts.PiecePrefixes.{rest_is}
 use Rattle.gj_number.proofs.Shorts.OrdinaryNumbers.{laid, laid_length, natural_allowed, pointed}
-use Rattle.gj_number.proofs.Shorts.SixteenLanes.{lanes_long, leading_le, lane_ends, lanes_end, first_spell, mask_after, leading_ended, ended_some, next_small, two_moved_small, two_spell}
+use Rattle.gj_number.proofs.Shorts.SixteenLanes.{lanes_long, leading_le, lane_ends, lanes_end, first_spell, mask_after, leading_ended, ended_some, next_small}
+use Rattle.gj_number.proofs.Shorts.SixteenLanes.{two_moved_small, two_spell}
 
 -- the parts as the code finds them, by the bits of the lanes that are no digits, and one after them
-module _ (piece lanes : List ℕ) (long : 16 ≤ length piece) (fits : (k : ℕ) → Fits w8 (get_or piece k 0)) (e : lanes ≡ map lane_of (take 16 piece)) (mask : ℕ) (m : mask ≡ mask_l (map (leb 10) (lanes ++ 10 ∷ []))) where
+module _ (piece lanes : List ℕ) (long : 16 ≤ length piece) (fits : (k : ℕ) → Fits w8 (get_or piece k 0)) (e : lanes ≡ map lane_of (take 16 piece)) (mask : ℕ)
+    (m : mask ≡ mask_l (map (leb 10) (lanes ++ 10 ∷ []))) where
   abbrev before : ℕ
   before = count_trailing_zeros 64 mask
 
@@ -28,7 +31,8 @@ module _ (piece lanes : List ℕ) (long : 16 ≤ length piece) (fits : (k : ℕ)
   count = let l = lanes_long piece lanes long fits e in omega (arith, length-append lanes (10 ∷ []))
 
   before_is : before ≡ leading lanes
-  before_is = let l = count in ap (count_trailing_zeros 64) m ∙ trailing_mask_l (leb 10) 64 (lanes ++ 10 ∷ []) (omega arith) (ended_some lanes) ∙ leading_ended lanes
+  before_is = let l = count in ap (count_trailing_zeros 64) m ∙ trailing_mask_l (leb 10) 64 (lanes ++ 10 ∷ []) (omega arith) (ended_some lanes)
+      ∙ leading_ended lanes
 
   before_few : before ≤ 16
   before_few = let l = leading_le lanes (lanes_long piece lanes long fits e) in let b = before_is in omega arith
@@ -50,8 +54,10 @@ module _ (piece lanes : List ℕ) (long : 16 ≤ length piece) (fits : (k : ℕ)
         let rest : drop (before + 1) (lanes ++ 10 ∷ []) ≡ drop (before + 1) lanes ++ 10 ∷ [] = drop-append-le (before + 1) lanes (10 ∷ []) (omega arith) in
         let f : mask / 2 ^ (before + 1) ≡ mask_l (map (leb 10) (drop (before + 1) lanes ++ 10 ∷ [])) =
         ap (λ n. n / 2 ^ (before + 1)) m ∙ mask_after (lanes ++ 10 ∷ []) (before + 1) ∙ ap (λ xs. mask_l (map (leb 10) xs)) rest in
-        let w : length (drop (before + 1) lanes ++ 10 ∷ []) ≤ 64 = omega (arith, length-append (drop (before + 1) lanes) (10 ∷ []), length-drop (before + 1) lanes) in
-        ap (count_trailing_zeros 64) f ∙ trailing_mask_l (leb 10) 64 (drop (before + 1) lanes ++ 10 ∷ []) w (ended_some (drop (before + 1) lanes)) ∙ leading_ended (drop (before + 1) lanes)
+        let w : length (drop (before + 1) lanes ++ 10 ∷ []) ≤ 64 =
+        omega (arith, length-append (drop (before + 1) lanes) (10 ∷ []), length-drop (before + 1) lanes) in
+        ap (count_trailing_zeros 64) f ∙ trailing_mask_l (leb 10) 64 (drop (before + 1) lanes ++ 10 ∷ []) w (ended_some (drop (before + 1) lanes))
+        ∙ leading_ended (drop (before + 1) lanes)
 
     pub both_fit : before + 1 + after ≤ 16
     both_fit =
@@ -62,12 +68,16 @@ module _ (piece lanes : List ℕ) (long : 16 ≤ length piece) (fits : (k : ℕ)
     after_small : Each1 (λ x. x < 10) (take after (drop (before + 1) lanes))
     after_small = next_small lanes (before + 1) after after_is
 
-    pub pointed_small : Each1 (λ x. x < 10) (replicate (16 - (before + after)) 0 ++ take (before + after) (take before lanes ++ (drop (before + 1) lanes ++ 0 ∷ [])))
+    pub pointed_small : Each1 (λ x. x < 10)
+        (replicate (16 - (before + after)) 0 ++ take (before + after) (take before lanes ++ (drop (before + 1) lanes ++ 0 ∷ [])))
     pointed_small = two_moved_small piece lanes long fits e before after before_is few both_fit after_small
 
-    pub pointed_spell : (value : ℕ) → value ≡ fold with_value 0 (replicate (16 - (before + after)) 0 ++ take (before + after) (take before lanes ++ (drop (before + 1) lanes ++ 0 ∷ []))) → get_or piece before 0 ≡ decimal_point → (after ≡ 0 → ⊥)
+    pub pointed_spell : (value : ℕ)
+        → value ≡ fold with_value 0 (replicate (16 - (before + after)) 0 ++ take (before + after) (take before lanes ++ (drop (before + 1) lanes ++ 0 ∷ [])))
+        → get_or piece before 0 ≡ decimal_point → (after ≡ 0 → ⊥)
         → SpellsUnsigned piece before after (before + 1 + after) value
-    pointed_spell value v point some = two_spell piece lanes long fits e before after value (before + 1 + after) before_is few both_fit after_small v (inr (omega arith, point, refl))
+    pointed_spell value v point some =
+        two_spell piece lanes long fits e before after value (before + 1 + after) before_is few both_fit after_small v (inr (omega arith, point, refl))
 
     pub after_ends : before + 1 + after < 16 → IsDigit (get_or piece (before + 1 + after) 0) → ⊥
     after_ends l = lanes_end piece lanes long fits e (mask_l (map (leb 10) lanes)) refl (before + 1) after l after_is
@@ -78,29 +88,39 @@ module _ (piece lanes : List ℕ) (long : 16 ≤ length piece) (fits : (k : ℕ)
         let w = p.more.within in
         let fit = p.fits in
         let d = digit_at (drop (n + 1) piece) f 0 p.some_more (omega arith) p.more.digits in
-        let there : get_or (drop (n + 1) piece) 0 0 ≡ get_or piece (before + 1 + after) 0 = get_or-drop (n + 1) piece 0 0 ∙ ap (λ i. get_or piece i 0) {y = before + 1 + after} (omega arith) in
+        let there : get_or (drop (n + 1) piece) 0 0 ≡ get_or piece (before + 1 + after) 0 =
+        get_or-drop (n + 1) piece 0 0 ∙ ap (λ i. get_or piece i 0) {y = before + 1 + after} (omega arith) in
         let P : ℕ → Type 0 = λ b. IsDigit b in
         after_ends (omega (arith, p.some_more)) (subst P there d)
 
 -- ---- a usual number is found whole
 
-pub found_is : (xs : List ℕ) (n f natural fraction bytes value : ℕ) → SpellsUnsigned xs natural fraction bytes value → (IsDigit (get_or xs natural 0) → ⊥) → (natural + 1 + fraction < 16 → IsDigit (get_or xs (natural + 1 + fraction) 0) → ⊥) → natural + 1 + fraction ≤ 16 → 16 ≤ length xs → IsPointed xs n f
+pub found_is : (xs : List ℕ) (n f natural fraction bytes value : ℕ) → SpellsUnsigned xs natural fraction bytes value → (IsDigit (get_or xs natural 0) → ⊥)
+    → (natural + 1 + fraction < 16 → IsDigit (get_or xs (natural + 1 + fraction) 0) → ⊥) → natural + 1 + fraction ≤ 16 → 16 ≤ length xs → IsPointed xs n f
     → (natural ≡ n) × (fraction ≡ f)
 found_is xs n f natural fraction bytes value k point ends few long p =
     let is : natural ≡ n = run_found xs natural n (omega arith) k.natural_digits (λ l. point) p.digits in
     let P : ℕ → Type 0 = λ i. All IsDigit (take fraction (drop (i + 1) xs)) in
-    let there : get_or (drop (n + 1) xs) fraction 0 ≡ get_or xs (natural + 1 + fraction) 0 = get_or-drop (n + 1) xs fraction 0 ∙ ap (λ i. get_or xs (i + 1 + fraction) 0) (sym is) in
-    let Q : ℕ → Type 0 = λ b. IsDigit b in
-    (is, run_found (drop (n + 1) xs) fraction f (omega (arith, length-drop (n + 1) xs)) (subst P is k.fraction_digits) (λ l d. ends (let fit = p.fits in omega arith) (subst Q there d)) p.more)
+    let there : get_or (drop (n + 1) xs) fraction 0 ≡ get_or xs (natural + 1 + fraction) 0 =
+    get_or-drop (n + 1) xs fraction 0 ∙ ap (λ i. get_or xs (i + 1 + fraction) 0) (sym is) in
+    let Q : ℕ → Type 0 = λ b. IsDigit b in (
+      is,
+      run_found (drop (n + 1) xs) fraction f (omega (arith, length-drop (n + 1) xs)) (subst P is k.fraction_digits)
+          (λ l d. ends (let fit = p.fits in omega arith) (subst Q there d)) p.more,
+    )
 
 module _ (piece : List ℕ) (negative : Bool) (n behind : ℕ) (s : StartsSigned piece negative) (u : StartsUsual piece n behind) where
   abbrev slice : List ℕ
   slice = take (length piece - bool_byte negative) (drop (bool_byte negative) piece)
 
   pub slice_pointed : IsPointed slice (length u.number.ordinary.natural) (length u.number.ordinary.fraction)
-  slice_pointed = let P : List ℕ → Type 0 = λ xs. IsPointed xs (length u.number.ordinary.natural) (length u.number.ordinary.fraction) in subst P (sym (rest_is piece (bool_byte negative))) (pointed piece negative n behind s u)
+  slice_pointed = let P : List ℕ
+      → Type 0 = λ xs. IsPointed xs (length u.number.ordinary.natural) (length u.number.ordinary.fraction) in
+      subst P (sym (rest_is piece (bool_byte negative))) (pointed piece negative n behind s u)
 
-  module _ (natural fraction bytes value : ℕ) (k : SpellsUnsigned slice natural fraction bytes value) (point : IsDigit (get_or slice natural 0) → ⊥) (ends : natural + 1 + fraction < 16 → IsDigit (get_or slice (natural + 1 + fraction) 0) → ⊥) (few : natural + 1 + fraction ≤ 16) (long : 16 ≤ length slice) where
+  module _ (natural fraction bytes value : ℕ) (k : SpellsUnsigned slice natural fraction bytes value) (point : IsDigit (get_or slice natural 0) → ⊥)
+      (ends : natural + 1 + fraction < 16 → IsDigit (get_or slice (natural + 1 + fraction) 0) → ⊥) (few : natural + 1 + fraction ≤ 16)
+      (long : 16 ≤ length slice) where
     is : (natural ≡ length u.number.ordinary.natural) × (fraction ≡ length u.number.ordinary.fraction)
     is = found_is slice _ _ natural fraction bytes value k point ends few long slice_pointed
 
@@ -125,9 +145,12 @@ no_space : (b k : ℕ) (t : Bool) → (b == space) ≡ t → (b ≡ space → �
 no_space b k false e none = omega arith
 no_space b k true e none = absurd (none (grind (arith, nat_tests)))
 
-pub second_is : (piece : List ℕ) (comma_at second_at n behind : ℕ) → (second_at ≡ comma_at + 1) ⊎ ((second_at ≡ comma_at + 2) × (get_or piece (comma_at + 1) 0 ≡ space)) → StartsUsual (drop second_at piece) n behind
+pub second_is : (piece : List ℕ) (comma_at second_at n behind : ℕ) → (second_at ≡ comma_at + 1)
+    ⊎ ((second_at ≡ comma_at + 2) × (get_or piece (comma_at + 1) 0 ≡ space)) → StartsUsual (drop second_at piece) n behind
     → comma_at + 1 + bool_byte (get_or piece (comma_at + 1) 0 == space) ≡ second_at
 second_is piece comma_at second_at n behind (inl e) u =
-    let there : get_or (drop second_at piece) 0 0 ≡ get_or piece (comma_at + 1) 0 = get_or-drop second_at piece 0 0 ∙ ap (λ i. get_or piece i 0) {y = comma_at + 1} (omega arith) in
-    no_space (get_or piece (comma_at + 1) 0) (comma_at + 1) (get_or piece (comma_at + 1) 0 == space) refl (λ h. usual_start (drop second_at piece) n behind u (there ∙ h)) ∙ sym e
+    let there : get_or (drop second_at piece) 0 0 ≡ get_or piece (comma_at + 1) 0 =
+    get_or-drop second_at piece 0 0 ∙ ap (λ i. get_or piece i 0) {y = comma_at + 1} (omega arith) in
+    no_space (get_or piece (comma_at + 1) 0) (comma_at + 1) (get_or piece (comma_at + 1) 0 == space) refl
+    (λ h. usual_start (drop second_at piece) n behind u (there ∙ h)) ∙ sym e
 second_is piece comma_at second_at n behind (inr h) u = rw (h.1) (let e = h.0 in omega arith)

@@ -1,6 +1,7 @@
 -- The decimal of a short number, and what is read off it.
 use Rattle.std.specs.Prelude.{int_le, neg_ℤ, ◌&&◌, nat_le, option_map}
-use Rattle.std.proofs.Common.{zero, suc, ◌≡◌, ◌≢◌, ℕ, ◌+◌, ◌-◌, ◌*◌, ◌/◌, ◌%◌, ◌^◌, ◌<◌, ◌≤◌, ◌↔◌, Bool, true, false, not, ltb, nat_eq, IsTrue, inl, inr, refl, sym, ◌∙◌, ap, subst, arith, ℤ, pos, negsuc, ◌+ℤ◌, ◌-ℤ◌, unsigned_abs, Some, None, if◌then◌else◌}
+use Rattle.std.proofs.Common.{zero, suc, ◌≡◌, ◌≢◌, ℕ, ◌+◌, ◌-◌, ◌*◌, ◌/◌, ◌%◌, ◌^◌, ◌<◌, ◌≤◌, ◌↔◌, Bool, true, false, not, ltb, nat_eq, IsTrue, inl, inr, refl}
+use Rattle.std.proofs.Common.{sym, ◌∙◌, ap, subst, arith, ℤ, pos, negsuc, ◌+ℤ◌, ◌-ℤ◌, unsigned_abs, Some, None, if◌then◌else◌}
 use Rattle.std.proofs.Math.Nat.{le-mul_of_pos_right, eq_of_mul-eq-mul_right, pow-suc, div-one, zero-div, mul_assoc, mul-div_cancel, mul-div-mul_right}
 use Rattle.std.proofs.lemmas.Nat.{pow-add}
 use Rattle.std.proofs.lemmas.Bool.{cases_lt}
@@ -47,21 +48,25 @@ short_is negative all places some small =
 
 -- the digits are at most all of them
 pub short_digits_le : (negative : Bool) (all places : ℕ) (e : Exact) → IsShort negative all places e → e.digits ≤ all
-short_digits_le negative all places e k = let p = ten_above_zero k.tens in let l : e.digits ≤ e.digits * 10 ^ k.tens = le-mul_of_pos_right e.digits p in let f = k.all_is in omega arith
+short_digits_le negative all places e k = let p = ten_above_zero k.tens in let l : e.digits ≤ e.digits * 10 ^ k.tens = le-mul_of_pos_right e.digits p in let f =
+    k.all_is in omega arith
 
 -- the digits of a number that is read with another power of ten, which needs so many zeros more
-pub moved_digits : (negative : Bool) (digits up all places : ℕ) (e : Exact) → 0 < digits → all ≡ digits * 10 ^ up → all < 10 ^ 18 → (k : IsShort negative all places e) → (tens : ℕ) × (digits ≡ e.digits * 10 ^ tens) × (k.tens ≡ tens + up)
+pub moved_digits : (negative : Bool) (digits up all places : ℕ) (e : Exact) → 0 < digits → all ≡ digits * 10 ^ up → all < 10 ^ 18
+    → (k : IsShort negative all places e) → (tens : ℕ) × (digits ≡ e.digits * 10 ^ tens) × (k.tens ≡ tens + up)
 moved_digits negative digits up all places e some is small k =
     let l : digits ≤ digits * 10 ^ up = le-mul_of_pos_right digits (ten_above_zero up) in
     let s = stripped_is 18 digits some (omega arith) in
     let tens = tens_in 18 digits in
     let p = pow-add 10 tens up in
-    let a : all ≡ stripped 18 digits * 10 ^ (tens + up) = is ∙ ap (λ n. n * 10 ^ up) s.1 ∙ mul_assoc (stripped 18 digits) (10 ^ tens) (10 ^ up) ∙ ap (λ n. stripped 18 digits * n) (sym p) in
+    let a : all ≡ stripped 18 digits * 10 ^ (tens + up) =
+    is ∙ ap (λ n. n * 10 ^ up) s.1 ∙ mul_assoc (stripped 18 digits) (10 ^ tens) (10 ^ up) ∙ ap (λ n. stripped 18 digits * n) (sym p) in
     let n = one_normal (stripped 18 digits) e.digits (tens + up) k.tens s.0 k.last (sym a ∙ k.all_is) in
     (tens, s.1 ∙ ap (λ m. m * 10 ^ tens) n.0, sym n.1)
 
 -- it is what parts denote with this power of ten
-pub denoted_short : (parts : Parts) (up all places : ℕ) → all ≡ whole_of parts * 10 ^ up → all < 10 ^ 18 → scale_of parts ≡ pos up -ℤ pos places → IsDecimalOf (short_value parts.negative all places) parts
+pub denoted_short : (parts : Parts) (up all places : ℕ) → all ≡ whole_of parts * 10 ^ up → all < 10 ^ 18 → scale_of parts ≡ pos up -ℤ pos places
+    → IsDecimalOf (short_value parts.negative all places) parts
 denoted_short parts up all places is small scale = elim (eqb_tells (whole_of parts) 0) [
   | inl e ↦
       let none : all ≡ 0 = is ∙ ap (λ n. n * 10 ^ up) e.1 ∙ omega arith in
@@ -76,7 +81,8 @@ denoted_short parts up all places is small scale = elim (eqb_tells (whole_of par
 ]
 
 -- and it is held
-pub held_short : (negative : Bool) (most digits up all places fraction : ℕ) (exponent : ℤ) → digits < 10 ^ most → all ≡ digits * 10 ^ up → all < 10 ^ 18 → places ≤ 18 → unsigned_abs exponent ≤ 1000
+pub held_short : (negative : Bool) (most digits up all places fraction : ℕ) (exponent : ℤ) → digits < 10 ^ most → all ≡ digits * 10 ^ up → all < 10 ^ 18
+    → places ≤ 18 → unsigned_abs exponent ≤ 1000
     → exponent -ℤ pos fraction ≡ pos up -ℤ pos places → held_value negative most digits fraction exponent ≡ Some (short_value negative all places)
 held_short negative most digits up all places fraction exponent bounded is small few written scale = elim (eqb_tells digits 0) [
   | inl e ↦
@@ -124,17 +130,20 @@ cut_raised negative all places small few = elim (eqb_tells all 0) [
       let up : ℕ = k.tens + (7 - places) in
       let p = pow-add 10 k.tens (7 - places) in
       let a = k.all_is in
-      magnitude_up v up (raised_power v.power k.tens places up k.power (omega arith)) ∙ rw p (sym (ap (λ n. n * 10 ^ (7 - places)) a ∙ mul_assoc v.digits (10 ^ k.tens) (10 ^ (7 - places))))
+      magnitude_up v up (raised_power v.power k.tens places up k.power (omega arith))
+      ∙ rw p (sym (ap (λ n. n * 10 ^ (7 - places)) a ∙ mul_assoc v.digits (10 ^ k.tens) (10 ^ (7 - places))))
 ]
 
 -- more do, `down` of them beyond the seventh: as many zeros at the end, or fewer
-cut_zeros : (negative : Bool) (all places down : ℕ) (e : Exact) (k : IsShort negative all places e) → places ≡ 7 + down → down ≤ k.tens → all ≡ e.digits * 10 ^ (k.tens - down) * 10 ^ down
+cut_zeros : (negative : Bool) (all places down : ℕ) (e : Exact) (k : IsShort negative all places e) → places ≡ 7 + down → down ≤ k.tens
+    → all ≡ e.digits * 10 ^ (k.tens - down) * 10 ^ down
 cut_zeros negative all places down e k is many =
     let back : k.tens - down + down ≡ k.tens = omega arith in
     let p : 10 ^ k.tens ≡ 10 ^ (k.tens - down) * 10 ^ down = ap (λ n. 10 ^ n) (sym back) ∙ pow-add 10 (k.tens - down) down in
     k.all_is ∙ rw p (sym (mul_assoc e.digits (10 ^ (k.tens - down)) (10 ^ down)))
 
-pub cut_lowered : (negative : Bool) (all places down : ℕ) → all < 10 ^ 18 → places ≡ 7 + down → cut_magnitude (short_value negative all places) ≡ all / 10 ^ down
+pub cut_lowered : (negative : Bool) (all places down : ℕ) → all < 10 ^ 18 → places ≡ 7 + down
+    → cut_magnitude (short_value negative all places) ≡ all / 10 ^ down
 cut_lowered negative all places down small is = elim (eqb_tells all 0) [
   | inl e ↦ rw (e.1, short_zero negative places) (sym (zero-div (10 ^ down)))
   | inr e ↦
@@ -171,12 +180,14 @@ short_places negative all places e k = elim (cases_lt k.tens places) [
 no_zeros : (all digits tens down q : ℕ) → all ≡ digits * 10 ^ tens → digits % 10 ≢ 0 → tens < down → q * 10 ^ down ≡ all → ⊥
 no_zeros all digits tens down q is last less e =
     let d : ℕ = down - tens - 1 in
-    let p : 10 ^ down ≡ 10 ^ d * 10 * 10 ^ tens = ap (λ n. 10 ^ n) {y = suc d + tens} (omega arith) ∙ pow-add 10 (suc d) tens ∙ ap (λ n. n * 10 ^ tens) (pow-suc 10 d) in
+    let p : 10 ^ down ≡ 10 ^ d * 10 * 10 ^ tens =
+    ap (λ n. 10 ^ n) {y = suc d + tens} (omega arith) ∙ pow-add 10 (suc d) tens ∙ ap (λ n. n * 10 ^ tens) (pow-suc 10 d) in
     let f : q * (10 ^ d * 10) * 10 ^ tens ≡ digits * 10 ^ tens = mul_assoc q (10 ^ d * 10) (10 ^ tens) ∙ ap (λ n. q * n) (sym p) ∙ e ∙ is in
     let g : q * (10 ^ d * 10) ≡ digits = eq_of_mul-eq-mul_right (10 ^ tens) (ten_above_zero tens) (q * (10 ^ d * 10)) digits f in
     last (ten_divides digits q (10 ^ d) (sym g))
 
-pub precise_is : (negative : Bool) (all places down : ℕ) → all < 10 ^ 18 → places ≡ 7 + down → (all / 10 ^ down * 10 ^ down ≡ all → ⊥) ↔ (7 < places_of (short_value negative all places))
+pub precise_is : (negative : Bool) (all places down : ℕ) → all < 10 ^ 18 → places ≡ 7 + down
+    → (all / 10 ^ down * 10 ^ down ≡ all → ⊥) ↔ (7 < places_of (short_value negative all places))
 precise_is negative all places down small is = elim (eqb_tells all 0) [
   | inl e ↦ rw (e.1, short_zero negative places) ((λ n. absurd (n (rw (zero-div (10 ^ down)) (omega arith)))), (λ l. absurd (omega arith)))
   | inr e ↦
@@ -188,7 +199,8 @@ precise_is negative all places down small is = elim (eqb_tells all 0) [
         | inr many ↦
             let z = cut_zeros negative all places down v k is many in
             let x : ℕ = v.digits * 10 ^ (k.tens - down) in
-            let whole : all / 10 ^ down * 10 ^ down ≡ all = ap (λ n. n / 10 ^ down * 10 ^ down) z ∙ ap (λ n. n * 10 ^ down) (mul-div_cancel x (ten_above_zero down)) ∙ sym z in
+            let whole : all / 10 ^ down * 10 ^ down ≡ all =
+            ap (λ n. n / 10 ^ down * 10 ^ down) z ∙ ap (λ n. n * 10 ^ down) (mul-div_cancel x (ten_above_zero down)) ∙ sym z in
             ((λ n. absurd (n whole)), (λ l. absurd (omega arith)))
       ]
 ]
@@ -221,10 +233,12 @@ pub same_digits : (na nb : Bool) (a b places : ℕ) → a < 10 ^ 18 → b < 10 ^
 same_digits na nb a b places sa sb e = elim (eqb_tells a 0) [
   | inl z ↦ elim (eqb_tells b 0) [
     | inl y ↦ z.1 ∙ sym y.1
-    | inr y ↦ absurd (zero_differs na nb b places (omega arith) sb (let P : ℕ → Type 0 = λ n. short_value na n places ≡ short_value nb b places in subst P z.1 e))
+    | inr y ↦ absurd (zero_differs na nb b places (omega arith) sb
+        (let P : ℕ → Type 0 = λ n. short_value na n places ≡ short_value nb b places in subst P z.1 e))
   ]
   | inr z ↦ elim (eqb_tells b 0) [
-    | inl y ↦ absurd (zero_differs nb na a places (omega arith) sa (let P : ℕ → Type 0 = λ n. short_value nb n places ≡ short_value na a places in subst P y.1 (sym e)))
+    | inl y ↦ absurd (zero_differs nb na a places (omega arith) sa
+        (let P : ℕ → Type 0 = λ n. short_value nb n places ≡ short_value na a places in subst P y.1 (sym e)))
     | inr y ↦
         let k = short_is na a places (omega arith) sa in
         let l = short_is nb b places (omega arith) sb in
@@ -261,7 +275,8 @@ module _ (na nb : Bool) (a b places : ℕ) (sa : a < 10 ^ 18) (sb : b < 10 ^ 18)
       subst P (sym z) (subst Q (sym (sym e ∙ z)) (zero_signs na nb places)))
 
   pub signs_differ : a ≡ b → (na ≡ nb → ⊥) → (a ≡ 0 → ⊥) → SameValue (short_value na a places) (short_value nb b places) → ⊥
-  signs_differ e f z s = f (same_sign na nb a places (omega arith) sa (let P : ℕ → Type 0 = λ n. short_value na a places ≡ short_value nb n places in subst P (sym e) (value.1 s)))
+  signs_differ e f z s =
+      f (same_sign na nb a places (omega arith) sa (let P : ℕ → Type 0 = λ n. short_value na a places ≡ short_value nb n places in subst P (sym e) (value.1 s)))
 
 -- ---- what the code finds
 
@@ -272,13 +287,18 @@ same_iff P h = ((λ _. h), (λ _. refl))
 pub differ_iff : (P : Type 0) → (P → ⊥) → IsTrue false ↔ P
 differ_iff P h = ((λ t. cc), (λ p. absurd (h p)))
 
-pub digits_iff : (na nb : Bool) (a b p q : ℕ) → a < 10 ^ 18 → b < 10 ^ 18 → p ≡ q → (a ≡ b → ⊥) → IsTrue false ↔ SameValue (short_value na a p) (short_value nb b q)
-digits_iff na nb a b p q sa sb e n = let P : ℕ → Type 0 = λ x. IsTrue false ↔ SameValue (short_value na a p) (short_value nb b x) in subst P e (differ_iff _ (digits_differ na nb a b p sa sb n))
+pub digits_iff : (na nb : Bool) (a b p q : ℕ) → a < 10 ^ 18 → b < 10 ^ 18 → p ≡ q → (a ≡ b → ⊥)
+    → IsTrue false ↔ SameValue (short_value na a p) (short_value nb b q)
+digits_iff na nb a b p q sa sb e n = let P : ℕ → Type 0 =
+    λ x. IsTrue false ↔ SameValue (short_value na a p) (short_value nb b x) in subst P e (differ_iff _ (digits_differ na nb a b p sa sb n))
 
-pub signs_iff : (na nb : Bool) (a b p q : ℕ) → a < 10 ^ 18 → b < 10 ^ 18 → p ≡ q → a ≡ b → beq na nb ≡ true → IsTrue true ↔ SameValue (short_value na a p) (short_value nb b q)
-signs_iff na nb a b p q sa sb e f g = let P : ℕ → Type 0 = λ x. IsTrue true ↔ SameValue (short_value na a p) (short_value nb b x) in subst P e (same_iff _ (signs_same na nb a b p sa sb f ((beq_decides na nb).0 g)))
+pub signs_iff : (na nb : Bool) (a b p q : ℕ) → a < 10 ^ 18 → b < 10 ^ 18 → p ≡ q → a ≡ b → beq na nb ≡ true
+    → IsTrue true ↔ SameValue (short_value na a p) (short_value nb b q)
+signs_iff na nb a b p q sa sb e f g = let P : ℕ → Type 0 =
+    λ x. IsTrue true ↔ SameValue (short_value na a p) (short_value nb b x) in subst P e (same_iff _ (signs_same na nb a b p sa sb f ((beq_decides na nb).0 g)))
 
-pub zeros_iff : (na nb : Bool) (a b p q : ℕ) → a < 10 ^ 18 → b < 10 ^ 18 → p ≡ q → a ≡ b → beq na nb ≡ false → IsTrue (nat_eq a 0) ↔ SameValue (short_value na a p) (short_value nb b q)
+pub zeros_iff : (na nb : Bool) (a b p q : ℕ) → a < 10 ^ 18 → b < 10 ^ 18 → p ≡ q → a ≡ b → beq na nb ≡ false
+    → IsTrue (nat_eq a 0) ↔ SameValue (short_value na a p) (short_value nb b q)
 zeros_iff na nb a b p q sa sb e f n =
     let P : ℕ → Type 0 = λ x. IsTrue (nat_eq a 0) ↔ SameValue (short_value na a p) (short_value nb b x) in
     subst P e (elim (eqb_tells a 0) [
@@ -292,7 +312,8 @@ unequal_iff x n = elim (eqb_tells x n) [
   | inr e ↦ rw (e.0) ((λ _. e.1), (λ _. refl))
 ]
 
-pub short_made : (negative : Bool) (all places digits tens : ℕ) (power : ℤ) → (all ≡ 0 → ⊥) → all < 10 ^ 18 → all ≡ digits * 10 ^ tens → digits % 10 ≢ 0 → power ≡ pos tens -ℤ pos places
+pub short_made : (negative : Bool) (all places digits tens : ℕ) (power : ℤ) → (all ≡ 0 → ⊥) → all < 10 ^ 18 → all ≡ digits * 10 ^ tens → digits % 10 ≢ 0
+    → power ≡ pos tens -ℤ pos places
     → record { negative = negative; digits = digits; power = power } ≡ short_value negative all places
 short_made negative all places digits tens power some small is last p =
     let v = short_value negative all places in
@@ -305,7 +326,8 @@ signs_of_zero : (negative : Bool) → signed negative 0 ≡ pos 0
 signs_of_zero false = refl
 signs_of_zero true = refl
 
-pub cut_some : (negative : Bool) (all places m : ℕ) → all < 10 ^ 18 → limited_cut (cut_magnitude (short_value negative all places)) ≡ Some m → Some (signed negative m) ≡ cut_of (short_value negative all places)
+pub cut_some : (negative : Bool) (all places m : ℕ) → all < 10 ^ 18 → limited_cut (cut_magnitude (short_value negative all places)) ≡ Some m
+    → Some (signed negative m) ≡ cut_of (short_value negative all places)
 cut_some negative all places m small e =
     let v = short_value negative all places in
     elim (cases_lt (cut_magnitude v) cut_limit) [
@@ -336,12 +358,14 @@ signed_within : (negative : Bool) (magnitude most : ℕ)
 signed_within false magnitude most = grind (arith, ints, nat_tests)
 signed_within true magnitude most = grind (arith, ints, nat_tests)
 
-within_if : (b : Bool) (negative : Bool) (magnitude : ℕ) → option_map (signed negative) (if b then Some magnitude else None) ≡ (if b then Some (signed negative magnitude) else None)
+within_if : (b : Bool) (negative : Bool) (magnitude : ℕ)
+    → option_map (signed negative) (if b then Some magnitude else None) ≡ (if b then Some (signed negative magnitude) else None)
 within_if true negative magnitude = refl
 within_if false negative magnitude = refl
 
 pub cut_within_is : (negative : Bool) (all places most : ℕ) → all < 10 ^ 18 → most < cut_limit
-    → option_map (signed negative) (limited_to most (cut_magnitude (short_value negative all places))) ≡ cut_within most (cut_of (short_value negative all places))
+    → option_map (signed negative) (limited_to most (cut_magnitude (short_value negative all places))) ≡ cut_within most
+    (cut_of (short_value negative all places))
 cut_within_is negative all places most small few =
     let v = short_value negative all places in
     let m = cut_magnitude v in

@@ -1,5 +1,7 @@
 -- Sixteen lanes.
-use Rattle.std.proofs.Common.{min, All, append-nil, ◌/◌, ◌⊎◌, cond, length-drop, zero, suc, ◌≡◌, ℕ, ◌+◌, ◌-◌, ◌*◌, ◌%◌, ◌^◌, ◌<◌, ◌≤◌, ◌++◌, Bool, List, [], ◌∷◌, length, map, take, drop, get_or, replicate, fold, Fits, leb, ltb, T, true, false, not, ◌&&◌, ◌||◌, inl, inr, refl, sym, ◌∙◌, ap, subst, arith, w8}
+use Rattle.std.proofs.Common.{min, All, append-nil, ◌/◌, ◌⊎◌, cond, length-drop, zero, suc, ◌≡◌, ℕ, ◌+◌, ◌-◌, ◌*◌, ◌%◌, ◌^◌, ◌<◌, ◌≤◌, ◌++◌, Bool, List, []}
+use Rattle.std.proofs.Common.{◌∷◌, length, map, take, drop, get_or, replicate, fold, Fits, leb, ltb, T, true, false, not, ◌&&◌, ◌||◌, inl, inr, refl, sym, ◌∙◌}
+use Rattle.std.proofs.Common.{ap, subst, arith, w8}
 use mir.Val.{zeroes}
 use Rattle.gj_number.specs.declared.lanes.TheConstants.{PLACES, OTHERS, POINTED}
 use lib.Lanes.{zip2, Each1, chunk, number_l, digits_l, mask_l}
@@ -9,10 +11,12 @@ use Rattle.std.proofs.Math.Numerals.{one-add}
 use Rattle.std.proofs.lemmas.Bool.Decides.{leb_tells}
 use Rattle.std.proofs.Math.Nat.{div-one, zero-div, pow-suc, div-div-eq-div-mul}
 use Rattle.std.proofs.Math.Seq.{take-append-add}
-use Rattle.std.proofs.lemmas.List.{take-map, take-take, length-take-le, length-map, get_or-map, get_or-take, get_or-drop, drop-map, drop-take, map-append, take-append-le}
+use Rattle.std.proofs.lemmas.List.{take-map, take-take, length-take-le, length-map, get_or-map, get_or-take, get_or-drop, drop-map, drop-take, map-append}
+use Rattle.std.proofs.lemmas.List.{take-append-le}
 use Rattle.std.proofs.lemmas.List.Elements.{All-from_recursion, All-nil}
 use Rattle.std.proofs.lemmas.List.Sums.{prefix_len-le-length, prefix_len_stops}
-use Rattle.std.proofs.lemmas.Simd.{zip2_splat, leading_from_mask_l, trailing_mask_l, bit_mask_l, chunk-fits, Each1-replicate, swz_l, SwzOk, SwzOk-from_Each1, Each1-chunk, length-chunk}
+use Rattle.std.proofs.lemmas.Simd.{zip2_splat, leading_from_mask_l, trailing_mask_l, bit_mask_l, chunk-fits, Each1-replicate, swz_l, SwzOk, SwzOk-from_Each1}
+use Rattle.std.proofs.lemmas.Simd.{Each1-chunk, length-chunk}
 use Rattle.std.proofs.lemmas.Bool.{cases_lt}
 use Rattle.gj_number.specs.Bytes.{decimal_point, IsDigit}
 use Rattle.gj_number.specs.Internal.DigitRuns.{IsRun, SpellsOn, SpellsUnsigned}
@@ -64,7 +68,8 @@ both_is : (n : ℕ) (numbers : List ℕ) → length numbers ≡ 2 * n → Each1 
 both_is zero [] len all = refl
 both_is (suc n) (a ∷ b ∷ numbers) len all =
     let rest = number_l 65536 numbers in
-    (λ i. both a b rest all.0 all.1.0 i ∷ both_in n (past_both a b rest all.0 all.1.0 i)) ∙ ap (λ xs. (a * 100 + b) ∷ xs) (both_is n numbers (omega arith) all.1.1)
+    (λ i. both a b rest all.0 all.1.0 i ∷ both_in n (past_both a b rest all.0 all.1.0 i))
+    ∙ ap (λ xs. (a * 100 + b) ∷ xs) (both_is n numbers (omega arith) all.1.1)
 both_is zero (_ ∷ _) len all = absurd (omega arith)
 both_is (suc n) [] len all = absurd (omega arith)
 both_is (suc n) (_ ∷ []) len all = absurd (omega arith)
@@ -80,7 +85,8 @@ bytes_back (suc n) x few =
     let l : x / 256 < 256 ^ n = omega arith in
     ap (λ r. x % 256 + 256 * r) (bytes_back n (x / 256) l) ∙ omega arith
 
-pub both_are : (numbers : List ℕ) → length numbers ≡ 8 → Each1 (λ x. x < 100) numbers → both_in 4 (number_l 256 (digits_l 256 16 (number_l 65536 numbers))) ≡ by_both numbers
+pub both_are : (numbers : List ℕ) → length numbers ≡ 8 → Each1 (λ x. x < 100) numbers
+    → both_in 4 (number_l 256 (digits_l 256 16 (number_l 65536 numbers))) ≡ by_both numbers
 both_are numbers len all =
     let P : ℕ → Type 0 = λ n. number_l 65536 numbers < 65536 ^ n in
     let few : number_l 65536 numbers < 65536 ^ 8 = subst P len (number_small numbers all) in
@@ -97,7 +103,8 @@ fours_are (_ ∷ _ ∷ []) (suc n) len = absurd (omega arith)
 fours_are (_ ∷ _ ∷ _ ∷ []) (suc n) len = absurd (omega arith)
 
 -- four digits of four, as one number of sixteen
-joined : (p q r s : ℕ) → p < 10000 → q < 10000 → r < 10000 → s < 10000 → (p * 10000 % 2 ^ 32 + q) % 2 ^ 32 * 100000000 + (r * 10000 % 2 ^ 32 + s) % 2 ^ 32 ≡ ((p * 10000 + q) * 10000 + r) * 10000 + s
+joined : (p q r s : ℕ) → p < 10000 → q < 10000 → r < 10000 → s < 10000
+    → (p * 10000 % 2 ^ 32 + q) % 2 ^ 32 * 100000000 + (r * 10000 % 2 ^ 32 + s) % 2 ^ 32 ≡ ((p * 10000 + q) * 10000 + r) * 10000 + s
 joined p q r s P Q R S = omega arith
 
 small_four : (a b c d : ℕ) → a < 10 → b < 10 → c < 10 → d < 10 → ((a * 10 + b) * 10 + c) * 10 + d < 10000
@@ -105,11 +112,14 @@ small_four a b c d A B C D = omega arith
 
 -- what the code makes of four numbers in a row
 abbrev pub joined_at : List ℕ → ℕ → ℕ
-joined_at fs i = (get_or fs i 0 * 10000 % 2 ^ 32 + get_or fs (i + 1) 0) % 2 ^ 32 * 100000000 + (get_or fs (i + 2) 0 * 10000 % 2 ^ 32 + get_or fs (i + 3) 0) % 2 ^ 32
+joined_at fs i = (get_or fs i 0 * 10000 % 2 ^ 32 + get_or fs (i + 1) 0) % 2 ^ 32 * 100000000 + (get_or fs (i + 2) 0 * 10000 % 2 ^ 32 + get_or fs (i + 3) 0) % 2
+    ^ 32
 
 pub fours_joined : (xs gs : List ℕ) → length xs ≡ 16 → Each1 (λ x. x < 10) xs → joined_at (by_fours xs ++ gs) 0 ≡ fold with_value 0 xs
 fours_joined (a ∷ b ∷ c ∷ d ∷ x ∷ f ∷ g ∷ h ∷ p ∷ q ∷ r ∷ s ∷ t ∷ u ∷ v ∷ w ∷ []) gs len all =
-    let e = joined _ _ _ _ (small_four a b c d all.0 all.1.0 all.1.1.0 all.1.1.1.0) (small_four x f g h all.1.1.1.1.0 all.1.1.1.1.1.0 all.1.1.1.1.1.1.0 all.1.1.1.1.1.1.1.0) (small_four p q r s all.1.1.1.1.1.1.1.1.0 all.1.1.1.1.1.1.1.1.1.0 all.1.1.1.1.1.1.1.1.1.1.0 all.1.1.1.1.1.1.1.1.1.1.1.0)
+    let e = joined _ _ _ _ (small_four a b c d all.0 all.1.0 all.1.1.0 all.1.1.1.0)
+    (small_four x f g h all.1.1.1.1.0 all.1.1.1.1.1.0 all.1.1.1.1.1.1.0 all.1.1.1.1.1.1.1.0)
+    (small_four p q r s all.1.1.1.1.1.1.1.1.0 all.1.1.1.1.1.1.1.1.1.0 all.1.1.1.1.1.1.1.1.1.1.0 all.1.1.1.1.1.1.1.1.1.1.1.0)
     (small_four t u v w all.1.1.1.1.1.1.1.1.1.1.1.1.0 all.1.1.1.1.1.1.1.1.1.1.1.1.1.0 all.1.1.1.1.1.1.1.1.1.1.1.1.1.1.0 all.1.1.1.1.1.1.1.1.1.1.1.1.1.1.1.0) in
     e ∙ omega arith
 fours_joined _ gs len all = absurd (omega arith)
@@ -118,7 +128,8 @@ four_first : (xs gs : List ℕ) → length xs ≡ 16 → joined_at (by_fours xs 
 four_first (a ∷ b ∷ c ∷ d ∷ x ∷ f ∷ g ∷ h ∷ p ∷ q ∷ r ∷ s ∷ t ∷ u ∷ v ∷ w ∷ []) gs len = refl
 four_first _ gs len = absurd (omega arith)
 
-pub second_joined : (xs ys : List ℕ) → length xs ≡ 16 → length ys ≡ 16 → Each1 (λ x. x < 10) ys → joined_at (by_fours xs ++ by_fours ys) 4 ≡ fold with_value 0 ys
+pub second_joined : (xs ys : List ℕ) → length xs ≡ 16 → length ys ≡ 16 → Each1 (λ x. x < 10) ys
+    → joined_at (by_fours xs ++ by_fours ys) 4 ≡ fold with_value 0 ys
 second_joined xs ys len more all =
     let nil : by_fours ys ++ [] ≡ by_fours ys = append-nil (by_fours ys) in
     four_first xs (by_fours ys) len ∙ ap (λ zs. joined_at zs 0) (sym nil) ∙ fours_joined ys [] more all
@@ -152,14 +163,17 @@ places_ok count h =
     let P : ℕ → Type 0 = λ j. T (zeroes 16 w8 j || ltb j 16) in
     let all : Each1 P PLACES = every_each (λ j. zeroes 16 w8 j || ltb j 16) PLACES tt in
     let rest = Each1-chunk P count (32 - count) PLACES all in
-    let long : length (chunk 0 16 (chunk count (32 - count) PLACES)) ≡ 16 = length-chunk 0 16 _ (omega (arith, length-chunk count (32 - count) PLACES (omega arith))) in
+    let long : length (chunk 0 16 (chunk count (32 - count) PLACES)) ≡ 16 =
+    length-chunk 0 16 _ (omega (arith, length-chunk count (32 - count) PLACES (omega arith))) in
     SwzOk-from_Each1 w8 16 1 16 0 _ refl (omega arith) (Each1-chunk P 0 16 _ rest)
 
-pub moved_is : (xs : List ℕ) → length xs ≡ 16 → (count : ℕ) → count ≤ 16 → swz_l w8 16 xs 0 (chunk 0 16 (chunk count (32 - count) PLACES)) ≡ replicate (16 - count) 0 ++ take count xs
+pub moved_is : (xs : List ℕ) → length xs ≡ 16 → (count : ℕ) → count ≤ 16
+    → swz_l w8 16 xs 0 (chunk 0 16 (chunk count (32 - count) PLACES)) ≡ replicate (16 - count) 0 ++ take count xs
 moved_is (a ∷ b ∷ c ∷ d ∷ x ∷ f ∷ g ∷ h ∷ p ∷ q ∷ r ∷ s ∷ t ∷ u ∷ v ∷ w ∷ []) len count few =
     let xs : List ℕ = a ∷ b ∷ c ∷ d ∷ x ∷ f ∷ g ∷ h ∷ p ∷ q ∷ r ∷ s ∷ t ∷ u ∷ v ∷ w ∷ [] in
     let P : ℕ → Type 0 = λ k. swz_l w8 16 xs 0 (chunk 0 16 (chunk k (32 - k) PLACES)) ≡ replicate (16 - k) 0 ++ take k xs in
-    let all : Below P 17 = (((((((((((((((((tt, refl), refl), refl), refl), refl), refl), refl), refl), refl), refl), refl), refl), refl), refl), refl), refl), refl) in
+    let all : Below P 17 =
+    (((((((((((((((((tt, refl), refl), refl), refl), refl), refl), refl), refl), refl), refl), refl), refl), refl), refl), refl), refl), refl) in
     below_at P 17 count all (omega arith)
 moved_is _ len count few = absurd (omega arith)
 
@@ -170,10 +184,12 @@ others_ok at h =
     let P : ℕ → Type 0 = λ j. T (zeroes 16 w8 j || ltb j 16) in
     let all : Each1 P OTHERS = every_each (λ j. zeroes 16 w8 j || ltb j 16) OTHERS tt in
     let rest = Each1-chunk P (16 * at) (256 - 16 * at) OTHERS all in
-    let long : length (chunk 0 16 (chunk (16 * at) (256 - 16 * at) OTHERS)) ≡ 16 = length-chunk 0 16 _ (omega (arith, length-chunk (16 * at) (256 - 16 * at) OTHERS (omega arith))) in
+    let long : length (chunk 0 16 (chunk (16 * at) (256 - 16 * at) OTHERS)) ≡ 16 =
+    length-chunk 0 16 _ (omega (arith, length-chunk (16 * at) (256 - 16 * at) OTHERS (omega arith))) in
     SwzOk-from_Each1 w8 16 1 16 0 _ refl (omega arith) (Each1-chunk P 0 16 _ rest)
 
-pub others_is : (xs : List ℕ) → length xs ≡ 16 → (at : ℕ) → at < 16 → swz_l w8 16 xs 0 (chunk 0 16 (chunk (16 * at) (256 - 16 * at) OTHERS)) ≡ take at xs ++ (drop (at + 1) xs ++ 0 ∷ [])
+pub others_is : (xs : List ℕ) → length xs ≡ 16 → (at : ℕ) → at < 16
+    → swz_l w8 16 xs 0 (chunk 0 16 (chunk (16 * at) (256 - 16 * at) OTHERS)) ≡ take at xs ++ (drop (at + 1) xs ++ 0 ∷ [])
 others_is (a ∷ b ∷ c ∷ d ∷ x ∷ f ∷ g ∷ h ∷ p ∷ q ∷ r ∷ s ∷ t ∷ u ∷ v ∷ w ∷ []) len at few =
     let xs : List ℕ = a ∷ b ∷ c ∷ d ∷ x ∷ f ∷ g ∷ h ∷ p ∷ q ∷ r ∷ s ∷ t ∷ u ∷ v ∷ w ∷ [] in
     let P : ℕ → Type 0 = λ k. swz_l w8 16 xs 0 (chunk 0 16 (chunk (16 * k) (256 - 16 * k) OTHERS)) ≡ take k xs ++ (drop (k + 1) xs ++ 0 ∷ []) in
@@ -193,12 +209,14 @@ pointed_ok at h =
 
 -- what a row of the table leaves of the lanes
 abbrev pub IsRow : List ℕ → ℕ → ℕ → Type 0
-IsRow xs n f = swz_l w8 16 xs 0 (chunk 0 16 (chunk (256 * (n - 1) + 16 * f) (768 - (256 * (n - 1) + 16 * f)) POINTED)) ≡ replicate (16 - (n + f)) 0 ++ take (n + f) (take n xs ++ (drop (n + 1) xs ++ 0 ∷ []))
+IsRow xs n f = swz_l w8 16 xs 0 (chunk 0 16 (chunk (256 * (n - 1) + 16 * f) (768 - (256 * (n - 1) + 16 * f)) POINTED)) ≡ replicate (16 - (n + f)) 0 ++ take
+    (n + f) (take n xs ++ (drop (n + 1) xs ++ 0 ∷ []))
 
 row_one : (xs : List ℕ) → length xs ≡ 16 → (f : ℕ) → f < 15 → IsRow xs 1 f
 row_one (a ∷ b ∷ c ∷ d ∷ x ∷ y ∷ g ∷ h ∷ p ∷ q ∷ r ∷ s ∷ t ∷ u ∷ v ∷ w ∷ []) len f few =
     let xs : List ℕ = a ∷ b ∷ c ∷ d ∷ x ∷ y ∷ g ∷ h ∷ p ∷ q ∷ r ∷ s ∷ t ∷ u ∷ v ∷ w ∷ [] in
-    let all : Below (IsRow xs 1) 15 = (((((((((((((((tt, refl), refl), refl), refl), refl), refl), refl), refl), refl), refl), refl), refl), refl), refl), refl) in
+    let all : Below (IsRow xs 1) 15 =
+    (((((((((((((((tt, refl), refl), refl), refl), refl), refl), refl), refl), refl), refl), refl), refl), refl), refl), refl) in
     below_at (IsRow xs 1) 15 f all few
 row_one _ len f few = absurd (omega arith)
 
@@ -241,7 +259,8 @@ fold_zeros zero xs = refl
 fold_zeros (suc n) xs = fold_zeros n xs
 
 -- lanes of digits are digits, and spell what the bytes do
-lanes_spell : (n : ℕ) (xs : List ℕ) → Each1 (Fits w8) xs → Each1 (λ x. x < 10) (map lane_of xs) → AllByRecursion IsDigit xs × (fold with_value n (map lane_of xs) ≡ fold with_digit n xs)
+lanes_spell : (n : ℕ) (xs : List ℕ) → Each1 (Fits w8) xs → Each1 (λ x. x < 10) (map lane_of xs) → AllByRecursion IsDigit xs
+    × (fold with_value n (map lane_of xs) ≡ fold with_digit n xs)
 lanes_spell n [] fits h = (tt, refl)
 lanes_spell n (x ∷ xs) fits h =
     let byte = fits.0.fits in
@@ -251,13 +270,16 @@ lanes_spell n (x ∷ xs) fits h =
 
 -- the lanes moved to the end are digits
 pub moved_small : (lanes : List ℕ) (count : ℕ) → count ≡ leading lanes → Each1 (λ x. x < 10) (replicate (16 - count) 0 ++ take count lanes)
-moved_small lanes count e = each_on (replicate (16 - count) 0) (take count lanes) (Each1-replicate (λ x. x < 10) (16 - count) 0 (omega arith)) (rw e (leading_small lanes))
+moved_small lanes count e =
+    each_on (replicate (16 - count) 0) (take count lanes) (Each1-replicate (λ x. x < 10) (16 - count) 0 (omega arith)) (rw e (leading_small lanes))
 
-pub first_spell : (piece lanes : List ℕ) (count value : ℕ) → 16 ≤ length piece → ((k : ℕ) → Fits w8 (get_or piece k 0)) → lanes ≡ map lane_of (take 16 piece) → count ≡ leading lanes → count ≤ 16
+pub first_spell : (piece lanes : List ℕ) (count value : ℕ) → 16 ≤ length piece → ((k : ℕ) → Fits w8 (get_or piece k 0)) → lanes ≡ map lane_of (take 16 piece)
+    → count ≡ leading lanes → count ≤ 16
     → value ≡ fold with_value 0 (replicate (16 - count) 0 ++ take count lanes) → SpellsOn piece 0 count value
 first_spell piece lanes count value long fits e c few v =
     let small : Each1 (λ x. x < 10) (take count lanes) = rw c (leading_small lanes) in
-    let front : take count lanes ≡ map lane_of (take count piece) = ap (take count) e ∙ take-map lane_of count (take 16 piece) ∙ ap (map lane_of) (take-take count 16 piece few) in
+    let front : take count lanes ≡ map lane_of (take count piece) =
+    ap (take count) e ∙ take-map lane_of count (take 16 piece) ∙ ap (map lane_of) (take-take count 16 piece few) in
     let P : List ℕ → Type 0 = λ xs. Each1 (λ x. x < 10) xs in
     let k = lanes_spell 0 (take count piece) (chunk-fits w8 0 count piece fits) (subst P front small) in
     record {
@@ -274,7 +296,8 @@ lanes_are piece long = zip2_splat (λ a b. (a + (256 - b)) % 256) (take 16 piece
 pub leading_none : (lanes : List ℕ) (mask : ℕ) → length lanes ≡ 16 → mask ≡ mask_l (map (leb 10) lanes) → mask ≡ 0 → 16 ≡ leading lanes
 leading_none lanes mask long e none = sym (leading_from_mask_l (leb 10) lanes (sym e ∙ none) ∙ long)
 
-pub leading_some : (lanes : List ℕ) (mask : ℕ) → length lanes ≡ 16 → mask ≡ mask_l (map (leb 10) lanes) → (mask ≡ 0 → ⊥) → count_trailing_zeros 64 mask ≡ leading lanes
+pub leading_some : (lanes : List ℕ) (mask : ℕ) → length lanes ≡ 16 → mask ≡ mask_l (map (leb 10) lanes) → (mask ≡ 0 → ⊥)
+    → count_trailing_zeros 64 mask ≡ leading lanes
 leading_some lanes mask long e some = ap (count_trailing_zeros 64) e ∙ trailing_mask_l (leb 10) 64 lanes (omega arith) (omega arith)
 
 pub leading_le : (lanes : List ℕ) → length lanes ≡ 16 → leading lanes ≤ 16
@@ -287,7 +310,8 @@ lane_ends piece n long e few d =
     let t : length (take 16 piece) ≡ 16 = length-take-le 16 piece long in
     let l : length lanes ≡ 16 = length-map (take 16 piece) lane_of ∙ t in
     let stops : not (leb 10 (get_or lanes n 0)) ≡ false = rw e (prefix_len_stops (λ x. not (leb 10 x)) lanes 0 (omega arith)) in
-    let here : get_or lanes n 0 ≡ lane_of (get_or piece n 0) = get_or-map lane_of (take 16 piece) n 0 0 (omega arith) ∙ ap lane_of (get_or-take 16 piece n 0 few) in
+    let here : get_or lanes n 0 ≡ lane_of (get_or piece n 0) =
+    get_or-map lane_of (take 16 piece) n 0 0 (omega arith) ∙ ap lane_of (get_or-take 16 piece n 0 few) in
     let low = d.0 in
     let high = d.1 in
     elim (leb_tells 10 (get_or lanes n 0)) [
@@ -295,7 +319,8 @@ lane_ends piece n long e few d =
       | inr h ↦ (let f : not false ≡ false = rw (h.0) at stops in cc)
     ]
 
-pub run_whole : (piece lanes : List ℕ) (n count : ℕ) → 16 ≤ length piece → lanes ≡ map lane_of (take 16 piece) → n ≡ leading lanes → n ≤ 16 → All IsDigit (take n piece) → IsRun piece count → n ≡ min count 16
+pub run_whole : (piece lanes : List ℕ) (n count : ℕ) → 16 ≤ length piece → lanes ≡ map lane_of (take 16 piece) → n ≡ leading lanes → n ≤ 16
+    → All IsDigit (take n piece) → IsRun piece count → n ≡ min count 16
 run_whole piece lanes n count long e f few digits r =
     let ends : n < 16 → IsDigit (get_or piece n 0) → ⊥ = λ l. lane_ends piece n long (f ∙ ap leading e) l in
     let w = r.within in
@@ -305,7 +330,8 @@ run_whole piece lanes n count long e f few digits r =
     ]
 
 -- digits in more lanes
-pub digits_on : (piece lanes : List ℕ) (at count : ℕ) → at + 16 ≤ length piece → ((k : ℕ) → Fits w8 (get_or piece k 0)) → lanes ≡ map lane_of (take 16 (take (length piece - at) (drop at piece))) → count ≡ leading lanes → count ≤ 16
+pub digits_on : (piece lanes : List ℕ) (at count : ℕ) → at + 16 ≤ length piece → ((k : ℕ) → Fits w8 (get_or piece k 0))
+    → lanes ≡ map lane_of (take 16 (take (length piece - at) (drop at piece))) → count ≡ leading lanes → count ≤ 16
     → All IsDigit (take at piece) → All IsDigit (take (at + count) piece)
 digits_on piece lanes at count long fits e c few front =
     let rest = drop at piece in
@@ -331,18 +357,22 @@ mask_rest (m ∷ ms) (suc k) =
 pub mask_after : (lanes : List ℕ) (k : ℕ) → mask_l (map (leb 10) lanes) / 2 ^ k ≡ mask_l (map (leb 10) (drop k lanes))
 mask_after lanes k = mask_rest (map (leb 10) lanes) k ∙ ap mask_l (drop-map (leb 10) k lanes)
 
-two_lanes : (lanes : List ℕ) (n f : ℕ) → length lanes ≡ 16 → n < 16 → n + 1 + f ≤ 16 → take (n + f) (take n lanes ++ (drop (n + 1) lanes ++ 0 ∷ [])) ≡ take n lanes ++ take f (drop (n + 1) lanes)
+two_lanes : (lanes : List ℕ) (n f : ℕ) → length lanes ≡ 16 → n < 16 → n + 1 + f ≤ 16
+    → take (n + f) (take n lanes ++ (drop (n + 1) lanes ++ 0 ∷ [])) ≡ take n lanes ++ take f (drop (n + 1) lanes)
 two_lanes lanes n f long few fits =
     let l : length (take n lanes) ≡ n = length-take-le n lanes (omega arith) in
     let P : ℕ → Type 0 = λ k. take (k + f) (take n lanes ++ (drop (n + 1) lanes ++ 0 ∷ [])) ≡ take n lanes ++ take f (drop (n + 1) lanes) in
-    subst P l (take-append-add (take n lanes) (drop (n + 1) lanes ++ 0 ∷ []) f ∙ ap (λ xs. take n lanes ++ xs) (take-append-le f (drop (n + 1) lanes) (0 ∷ []) (omega (arith, length-drop (n + 1) lanes))))
+    subst P l (take-append-add (take n lanes) (drop (n + 1) lanes ++ 0 ∷ []) f
+    ∙ ap (λ xs. take n lanes ++ xs) (take-append-le f (drop (n + 1) lanes) (0 ∷ []) (omega (arith, length-drop (n + 1) lanes))))
 
 -- the lanes after the byte that is no digit are those of the bytes there
 lanes_after : (piece : List ℕ) (n f : ℕ) → n + 1 + f ≤ 16 → take f (drop (n + 1) (map lane_of (take 16 piece))) ≡ map lane_of (take f (drop (n + 1) piece))
 lanes_after piece n f fits =
     let k : 16 ≡ n + 1 + (16 - (n + 1)) = omega arith in
-    let e : drop (n + 1) (take 16 piece) ≡ take (16 - (n + 1)) (drop (n + 1) piece) = ap (λ m. drop (n + 1) (take m piece)) k ∙ drop-take (n + 1) (16 - (n + 1)) piece in
-    ap (take f) (drop-map lane_of (n + 1) (take 16 piece) ∙ ap (map lane_of) e) ∙ take-map lane_of f (take (16 - (n + 1)) (drop (n + 1) piece)) ∙ ap (map lane_of) (take-take f (16 - (n + 1)) (drop (n + 1) piece) (omega arith))
+    let e : drop (n + 1) (take 16 piece) ≡ take (16 - (n + 1)) (drop (n + 1) piece) =
+    ap (λ m. drop (n + 1) (take m piece)) k ∙ drop-take (n + 1) (16 - (n + 1)) piece in
+    ap (take f) (drop-map lane_of (n + 1) (take 16 piece) ∙ ap (map lane_of) e) ∙ take-map lane_of f (take (16 - (n + 1)) (drop (n + 1) piece))
+    ∙ ap (map lane_of) (take-take f (16 - (n + 1)) (drop (n + 1) piece) (omega arith))
 
 each_both : (xs ys : List ℕ) → Each1 (Fits w8) xs → Each1 (Fits w8) ys → Each1 (Fits w8) (xs ++ ys)
 each_both [] ys h k = k
@@ -359,7 +389,8 @@ leading_less (x ∷ xs) h = elim (leb_tells 10 x) [
   | inr e ↦ rw (e.0) (let k = leading_less xs (λ z. h (rw (e.0, z) refl)) in omega arith)
 ]
 
-pub first_other : (lanes : List ℕ) (mask : ℕ) → length lanes ≡ 16 → mask ≡ mask_l (map (leb 10) lanes) → (mask ≡ 0 → ⊥) → (count_trailing_zeros 64 mask ≡ leading lanes) × (count_trailing_zeros 64 mask < 16)
+pub first_other : (lanes : List ℕ) (mask : ℕ) → length lanes ≡ 16 → mask ≡ mask_l (map (leb 10) lanes) → (mask ≡ 0 → ⊥)
+    → (count_trailing_zeros 64 mask ≡ leading lanes) × (count_trailing_zeros 64 mask < 16)
 first_other lanes mask long e some =
     let t : count_trailing_zeros 64 mask ≡ leading lanes = leading_some lanes mask long e some in
     let l = leading_less lanes (λ z. some (e ∙ z)) in
@@ -370,7 +401,8 @@ pub next_other : (lanes : List ℕ) (mask k : ℕ) → length lanes ≡ 16 → k
 next_other lanes mask k long few e some =
     let f : mask / 2 ^ k ≡ mask_l (map (leb 10) (drop k lanes)) = ap (λ n. n / 2 ^ k) e ∙ mask_after lanes k in
     let l : length (drop k lanes) ≡ 16 - k = omega (arith, length-drop k lanes) in
-    let t : count_trailing_zeros 64 (mask / 2 ^ k) ≡ leading (drop k lanes) = ap (count_trailing_zeros 64) f ∙ trailing_mask_l (leb 10) 64 (drop k lanes) (omega arith) (omega arith) in
+    let t : count_trailing_zeros 64 (mask / 2 ^ k) ≡ leading (drop k lanes) =
+    ap (count_trailing_zeros 64) f ∙ trailing_mask_l (leb 10) 64 (drop k lanes) (omega arith) (omega arith) in
     let m = leading_less (drop k lanes) (λ z. some (f ∙ z)) in
     (t, omega arith)
 
@@ -382,21 +414,29 @@ module _ (piece lanes : List ℕ) (long : 16 ≤ length piece) (fits : (k : ℕ)
   lanes_long = ap length e ∙ length-map (take 16 piece) lane_of ∙ length-take-le 16 piece long
 
   -- the lanes of both runs, as digits
-  two_small : (n f : ℕ) → n ≡ leading lanes → Each1 (λ x. x < 10) (take f (drop (n + 1) lanes)) → Each1 (λ x. x < 10) (take n lanes ++ take f (drop (n + 1) lanes))
+  two_small : (n f : ℕ) → n ≡ leading lanes → Each1 (λ x. x < 10) (take f (drop (n + 1) lanes))
+      → Each1 (λ x. x < 10) (take n lanes ++ take f (drop (n + 1) lanes))
   two_small n f c small = each_on (take n lanes) (take f (drop (n + 1) lanes)) (rw c (leading_small lanes)) small
 
-  pub two_moved_small : (n f : ℕ) → n ≡ leading lanes → n < 16 → n + 1 + f ≤ 16 → Each1 (λ x. x < 10) (take f (drop (n + 1) lanes)) → Each1 (λ x. x < 10) (replicate (16 - (n + f)) 0 ++ take (n + f) (take n lanes ++ (drop (n + 1) lanes ++ 0 ∷ [])))
+  pub two_moved_small : (n f : ℕ) → n ≡ leading lanes → n < 16 → n + 1 + f ≤ 16 → Each1 (λ x. x < 10) (take f (drop (n + 1) lanes))
+      → Each1 (λ x. x < 10) (replicate (16 - (n + f)) 0 ++ take (n + f) (take n lanes ++ (drop (n + 1) lanes ++ 0 ∷ [])))
   two_moved_small n f c few within small =
-      each_on (replicate (16 - (n + f)) 0) _ (Each1-replicate (λ x. x < 10) (16 - (n + f)) 0 (omega arith)) (rw (two_lanes lanes n f lanes_long few within) (two_small n f c small))
+      each_on (replicate (16 - (n + f)) 0) _ (Each1-replicate (λ x. x < 10) (16 - (n + f)) 0 (omega arith))
+      (rw (two_lanes lanes n f lanes_long few within) (two_small n f c small))
 
-  pub two_spell : (n f value bytes : ℕ) → n ≡ leading lanes → n < 16 → n + 1 + f ≤ 16 → Each1 (λ x. x < 10) (take f (drop (n + 1) lanes)) → value ≡ fold with_value 0 (replicate (16 - (n + f)) 0 ++ take (n + f) (take n lanes ++ (drop (n + 1) lanes ++ 0 ∷ [])))
+  pub two_spell : (n f value bytes : ℕ) → n ≡ leading lanes → n < 16 → n + 1 + f ≤ 16 → Each1 (λ x. x < 10) (take f (drop (n + 1) lanes))
+      → value ≡ fold with_value 0 (replicate (16 - (n + f)) 0 ++ take (n + f) (take n lanes ++ (drop (n + 1) lanes ++ 0 ∷ [])))
       → ((f ≡ 0) × (bytes ≡ n)) ⊎ ((0 < f) × (get_or piece n 0 ≡ decimal_point) × (bytes ≡ n + 1 + f)) → SpellsUnsigned piece n f bytes value
   two_spell n f value bytes c few within small v shape =
-      let first : take n lanes ≡ map lane_of (take n piece) = ap (take n) e ∙ take-map lane_of n (take 16 piece) ∙ ap (map lane_of) (take-take n 16 piece (omega arith)) in
-      let second : take f (drop (n + 1) lanes) ≡ map lane_of (take f (drop (n + 1) piece)) = ap (λ xs. take f (drop (n + 1) xs)) e ∙ lanes_after piece n f within in
-      let both : take n lanes ++ take f (drop (n + 1) lanes) ≡ map lane_of (take n piece ++ take f (drop (n + 1) piece)) = (λ i. first i ++ second i) ∙ sym (map-append lane_of (take n piece) (take f (drop (n + 1) piece))) in
+      let first : take n lanes ≡ map lane_of (take n piece) =
+      ap (take n) e ∙ take-map lane_of n (take 16 piece) ∙ ap (map lane_of) (take-take n 16 piece (omega arith)) in
+      let second : take f (drop (n + 1) lanes) ≡ map lane_of (take f (drop (n + 1) piece)) =
+      ap (λ xs. take f (drop (n + 1) xs)) e ∙ lanes_after piece n f within in
+      let both : take n lanes ++ take f (drop (n + 1) lanes) ≡ map lane_of (take n piece ++ take f (drop (n + 1) piece)) =
+      (λ i. first i ++ second i) ∙ sym (map-append lane_of (take n piece) (take f (drop (n + 1) piece))) in
       let P : List ℕ → Type 0 = λ xs. Each1 (λ x. x < 10) xs in
-      let bytes_fit : Each1 (Fits w8) (take n piece ++ take f (drop (n + 1) piece)) = each_both (take n piece) (take f (drop (n + 1) piece)) (chunk-fits w8 0 n piece fits) (chunk-fits w8 (n + 1) f piece fits) in
+      let bytes_fit : Each1 (Fits w8) (take n piece ++ take f (drop (n + 1) piece)) =
+      each_both (take n piece) (take f (drop (n + 1) piece)) (chunk-fits w8 0 n piece fits) (chunk-fits w8 (n + 1) f piece fits) in
       let k = lanes_spell 0 (take n piece ++ take f (drop (n + 1) piece)) bytes_fit (subst P both (two_small n f c small)) in
       let apart = digits_apart (take n piece) (take f (drop (n + 1) piece)) k.0 in
       record {
@@ -407,7 +447,8 @@ module _ (piece lanes : List ℕ) (long : 16 ≤ length piece) (fits : (k : ℕ)
       }
 
 -- the runs as the code finds them, by the bits of the lanes that are no digits
-module _ (piece lanes : List ℕ) (long : 16 ≤ length piece) (fits : (k : ℕ) → Fits w8 (get_or piece k 0)) (e : lanes ≡ map lane_of (take 16 piece)) (mask : ℕ) (m : mask ≡ mask_l (map (leb 10) lanes)) (some : mask ≡ 0 → ⊥) where
+module _ (piece lanes : List ℕ) (long : 16 ≤ length piece) (fits : (k : ℕ) → Fits w8 (get_or piece k 0)) (e : lanes ≡ map lane_of (take 16 piece)) (mask : ℕ)
+    (m : mask ≡ mask_l (map (leb 10) lanes)) (some : mask ≡ 0 → ⊥) where
   abbrev natural : ℕ
   natural = count_trailing_zeros 64 mask
 
@@ -447,10 +488,14 @@ module _ (piece lanes : List ℕ) (long : 16 ≤ length piece) (fits : (k : ℕ)
     small : Each1 (λ x. x < 10) (take fraction (drop (natural + 1) lanes))
     small = next_small lanes (natural + 1) fraction next.0
 
-    pub both_small : Each1 (λ x. x < 10) (replicate (16 - (natural + fraction)) 0 ++ take (natural + fraction) (take natural lanes ++ (drop (natural + 1) lanes ++ 0 ∷ [])))
+    pub both_small : Each1 (λ x. x < 10)
+        (replicate (16 - (natural + fraction)) 0 ++ take (natural + fraction) (take natural lanes ++ (drop (natural + 1) lanes ++ 0 ∷ [])))
     both_small = let l = next.1 in two_moved_small piece lanes long fits e natural fraction found.0 found.1 (omega arith) small
 
-    pub both_spell : (value : ℕ) → value ≡ fold with_value 0 (replicate (16 - (natural + fraction)) 0 ++ take (natural + fraction) (take natural lanes ++ (drop (natural + 1) lanes ++ 0 ∷ []))) → get_or piece natural 0 ≡ decimal_point → (fraction ≡ 0 → ⊥)
+    pub both_spell : (value : ℕ)
+        → value ≡ fold with_value 0
+        (replicate (16 - (natural + fraction)) 0 ++ take (natural + fraction) (take natural lanes ++ (drop (natural + 1) lanes ++ 0 ∷ [])))
+        → get_or piece natural 0 ≡ decimal_point → (fraction ≡ 0 → ⊥)
         → SpellsUnsigned piece natural fraction (natural + 1 + fraction) value
     both_spell value v point digits =
         let l = next.1 in
@@ -475,7 +520,8 @@ ended_some (x ∷ xs) = let k = ended_some xs in omega arith
 
 -- ---- a byte that is no digit has its bit
 
-module _ (piece lanes : List ℕ) (long : 16 ≤ length piece) (fits : (k : ℕ) → Fits w8 (get_or piece k 0)) (e : lanes ≡ map lane_of (take 16 piece)) (mask : ℕ) (m : mask ≡ mask_l (map (leb 10) lanes)) where
+module _ (piece lanes : List ℕ) (long : 16 ≤ length piece) (fits : (k : ℕ) → Fits w8 (get_or piece k 0)) (e : lanes ≡ map lane_of (take 16 piece)) (mask : ℕ)
+    (m : mask ≡ mask_l (map (leb 10) lanes)) where
   lane_at : (i : ℕ) → i < 16 → get_or lanes i 0 ≡ lane_of (get_or piece i 0)
   lane_at i few =
       let t : length (take 16 piece) ≡ 16 = length-take-le 16 piece long in
@@ -493,7 +539,8 @@ module _ (piece lanes : List ℕ) (long : 16 ≤ length piece) (fits : (k : ℕ)
       let l = lanes_long piece lanes long fits e in
       let f : mask / 2 ^ k ≡ mask_l ms = ap (λ n. n / 2 ^ k) m ∙ mask_after lanes k in
       let w : i < length (drop k lanes) = omega (arith, length-drop k lanes) in
-      let here : get_or ms i false ≡ true = get_or-map (leb 10) (drop k lanes) i 0 false w ∙ ap (leb 10) (get_or-drop k lanes i 0) ∙ lane_of_other (k + i) few other in
+      let here : get_or ms i false ≡ true =
+      get_or-map (leb 10) (drop k lanes) i 0 false w ∙ ap (leb 10) (get_or-drop k lanes i 0) ∙ lane_of_other (k + i) few other in
       let zero_bit : 0 / 2 ^ i % 2 ≡ 0 = ap (λ n. n % 2) (zero-div (2 ^ i)) in
       let b : 0 / 2 ^ i % 2 ≡ 1 = ap (λ n. n / 2 ^ i % 2) (sym none ∙ f) ∙ bit_mask_l ms i ∙ ap (λ t. cond t 1 0) here in
       omega arith

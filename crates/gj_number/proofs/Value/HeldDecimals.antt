@@ -21,7 +21,8 @@ unlimited z e = elim (leb_tells (unsigned_abs z) power_limit) [
   | inr h ↦ h.1
 ]
 
-has_digits : (kept count pending places whole fraction : ℕ) → count ≢ 0 → count ≤ 30 → IsKept kept count pending places whole fraction → HasDigits kept count pending places whole fraction
+has_digits : (kept count pending places whole fraction : ℕ) → count ≢ 0 → count ≤ 30 → IsKept kept count pending places whole fraction
+    → HasDigits kept count pending places whole fraction
 has_digits kept count pending places whole fraction some few h = elim h [
   | inl n ↦ absurd (some n.none)
   | inr o ↦ elim o [ inl d ↦ d | inr l ↦ absurd (let e = l.0 in omega arith) ]
@@ -51,7 +52,8 @@ module _ (negative minus : Bool) (kept count pending places whole fraction magni
     far_not_held some far = sym (elim old [
       | inl n ↦ absurd (some n.none)
       | inr o ↦ elim o [
-        | inl d ↦ held_no_exponent negative most kept count pending places whole fraction (signed minus written) small d (rw (unsigned_abs-signed minus written) (large d))
+        | inl d ↦ held_no_exponent negative most kept count pending places whole fraction (signed minus written) small d
+            (rw (unsigned_abs-signed minus written) (large d))
         | inr l ↦ held_not_far negative most kept count pending places whole fraction (signed minus written) small l.1
       ]
     ])
@@ -62,12 +64,16 @@ module _ (negative minus : Bool) (kept count pending places whole fraction magni
     exponent_is : magnitude ≤ 1000 → written ≡ magnitude
     exponent_is h = omega arith
 
-    pub power_not_held : count ≢ 0 → count ≤ 30 → magnitude ≤ 1000 → limited_power (signed minus magnitude -ℤ pos places +ℤ pos pending) ≡ None → None ≡ held_value negative most whole fraction (signed minus written)
+    pub power_not_held : count ≢ 0 → count ≤ 30 → magnitude ≤ 1000 → limited_power (signed minus magnitude -ℤ pos places +ℤ pos pending) ≡ None
+        → None ≡ held_value negative most whole fraction (signed minus written)
     power_not_held some few exponent e =
         let d = has_digits kept count pending places whole fraction some few old in
-        rw (exponent_is exponent) (sym (held_no_power negative most kept count pending places whole fraction (signed minus magnitude) small d (unlimited (signed minus magnitude -ℤ pos places +ℤ pos pending) e)))
+        rw (exponent_is exponent)
+        (sym (held_no_power negative most kept count pending places whole fraction (signed minus magnitude) small d
+        (unlimited (signed minus magnitude -ℤ pos places +ℤ pos pending) e)))
 
-    pub decimal_held : (power : ℤ) → count ≢ 0 → count ≤ 30 → magnitude ≤ 1000 → limited_power (signed minus magnitude -ℤ pos places +ℤ pos pending) ≡ Some power
+    pub decimal_held : (power : ℤ) → count ≢ 0 → count ≤ 30 → magnitude ≤ 1000
+        → limited_power (signed minus magnitude -ℤ pos places +ℤ pos pending) ≡ Some power
         → Some (exact_of negative kept power) ≡ held_value negative most whole fraction (signed minus written)
     decimal_held power some few exponent e =
         let d = has_digits kept count pending places whole fraction some few old in

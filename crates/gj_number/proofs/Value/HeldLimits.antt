@@ -1,5 +1,6 @@
 -- Where a decimal is within the limits of a held one, and where the kept digits are.
-use Rattle.std.proofs.Common.{◌≡◌, ℕ, ◌+◌, ◌^◌, ◌<◌, ◌≤◌, ◌⊎◌, inl, inr, Bool, true, false, ◌&&◌, nat_lt, nat_le, if◌then◌else◌, Some, None, refl, ◌∙◌, ap, arith, ℤ, pos, negsuc, ◌+ℤ◌, ◌-ℤ◌, unsigned_abs}
+use Rattle.std.proofs.Common.{◌≡◌, ℕ, ◌+◌, ◌^◌, ◌<◌, ◌≤◌, ◌⊎◌, inl, inr, Bool, true, false, ◌&&◌, nat_lt, nat_le, if◌then◌else◌, Some, None, refl, ◌∙◌, ap}
+use Rattle.std.proofs.Common.{arith, ℤ, pos, negsuc, ◌+ℤ◌, ◌-ℤ◌, unsigned_abs}
 use Rattle.std.proofs.lemmas.Bool.Decides.{nat_tests}
 use Rattle.std.proofs.lemmas.Int.{ints}
 use Rattle.std.proofs.Math.Nat.{pow-le-pow_right}
@@ -14,7 +15,8 @@ pub record IsWithin (exponent : ℤ) (e : Exact) : Type 0 where
   pub written : unsigned_abs exponent ≤ exponent_limit
 
 -- the test, and what each answer says
-pub within : (exponent : ℤ) (e : Exact) → (IsWithin exponent e × (within_limits exponent e ≡ Some e)) ⊎ ((¬ IsWithin exponent e) × (within_limits exponent e ≡ None))
+pub within : (exponent : ℤ) (e : Exact) → (IsWithin exponent e × (within_limits exponent e ≡ Some e))
+    ⊎ ((¬ IsWithin exponent e) × (within_limits exponent e ≡ None))
 unfolding within_limits
 within exponent e = go (nat_lt e.digits digits_limit && nat_le (unsigned_abs e.power) power_limit && nat_le (unsigned_abs exponent) exponent_limit) refl
   where
@@ -39,16 +41,19 @@ pub few_digits : (kept count : ℕ) → kept < 10 ^ count → count ≤ 30 → k
 few_digits kept count h k = let l : 10 ^ count ≤ 10 ^ 30 = pow-le-pow_right {n = 10} (omega arith) k in omega arith
 
 -- the power of the last kept digit
-power_is : (exponent : ℤ) (pending places fraction tens : ℕ) → pending + fraction ≡ tens + places → exponent -ℤ pos fraction +ℤ pos tens ≡ exponent -ℤ pos places +ℤ pos pending
+power_is : (exponent : ℤ) (pending places fraction tens : ℕ) → pending + fraction ≡ tens + places
+    → exponent -ℤ pos fraction +ℤ pos tens ≡ exponent -ℤ pos places +ℤ pos pending
 power_is exponent pending places fraction tens e = omega (arith, ints)
 
-too_high : (exponent : ℤ) (fraction tens : ℕ) → unsigned_abs exponent ≤ 1000 → fraction + 1401 ≤ tens → (power : ℤ) → power ≡ exponent -ℤ pos fraction +ℤ pos tens → unsigned_abs power ≤ 400 → ⊥
+too_high : (exponent : ℤ) (fraction tens : ℕ) → unsigned_abs exponent ≤ 1000 → fraction + 1401 ≤ tens → (power : ℤ)
+    → power ≡ exponent -ℤ pos fraction +ℤ pos tens → unsigned_abs power ≤ 400 → ⊥
 too_high (pos x) fraction tens h far (pos p) e k = omega (arith, ints)
 too_high (pos x) fraction tens h far (negsuc p) e k = omega (arith, ints)
 too_high (negsuc x) fraction tens h far (pos p) e k = omega (arith, ints)
 too_high (negsuc x) fraction tens h far (negsuc p) e k = omega (arith, ints)
 
-too_low : (exponent : ℤ) (fraction tens : ℕ) → unsigned_abs exponent ≤ 1000 → tens + 1401 ≤ fraction → (power : ℤ) → power ≡ exponent -ℤ pos fraction +ℤ pos tens → unsigned_abs power ≤ 400 → ⊥
+too_low : (exponent : ℤ) (fraction tens : ℕ) → unsigned_abs exponent ≤ 1000 → tens + 1401 ≤ fraction → (power : ℤ)
+    → power ≡ exponent -ℤ pos fraction +ℤ pos tens → unsigned_abs power ≤ 400 → ⊥
 too_low (pos x) fraction tens h far (pos p) e k = omega (arith, ints)
 too_low (pos x) fraction tens h far (negsuc p) e k = omega (arith, ints)
 too_low (negsuc x) fraction tens h far (pos p) e k = omega (arith, ints)
@@ -61,14 +66,17 @@ module _ (negative : Bool) (most kept count pending places whole fraction : ℕ)
       held_value-normal negative most whole fraction exponent kept d.tens small d.last d.whole_is
       ∙ ap (λ p. within_limits exponent (exact_of negative kept p)) (power_is exponent pending places fraction d.tens d.behind)
 
-  pub held_some : HasDigits kept count pending places whole fraction → unsigned_abs exponent ≤ exponent_limit → unsigned_abs (exponent -ℤ pos places +ℤ pos pending) ≤ power_limit
+  pub held_some : HasDigits kept count pending places whole fraction → unsigned_abs exponent ≤ exponent_limit
+      → unsigned_abs (exponent -ℤ pos places +ℤ pos pending) ≤ power_limit
       → held_value negative most whole fraction exponent ≡ Some (exact_of negative kept (exponent -ℤ pos places +ℤ pos pending))
   held_some d written power = value_is d ∙ within_some exponent _ (record { digits = few_digits kept count d.below d.few; power = power; written = written })
 
-  pub held_no_power : HasDigits kept count pending places whole fraction → power_limit < unsigned_abs (exponent -ℤ pos places +ℤ pos pending) → held_value negative most whole fraction exponent ≡ None
+  pub held_no_power : HasDigits kept count pending places whole fraction → power_limit < unsigned_abs (exponent -ℤ pos places +ℤ pos pending)
+      → held_value negative most whole fraction exponent ≡ None
   held_no_power d power = value_is d ∙ within_none exponent _ (λ w. let p = w.power in omega arith)
 
-  pub held_no_exponent : HasDigits kept count pending places whole fraction → exponent_limit < unsigned_abs exponent → held_value negative most whole fraction exponent ≡ None
+  pub held_no_exponent : HasDigits kept count pending places whole fraction → exponent_limit < unsigned_abs exponent
+      → held_value negative most whole fraction exponent ≡ None
   held_no_exponent d written = value_is d ∙ within_none exponent _ (λ w. let p = w.written in omega arith)
 
   pub held_not_far : IsFar whole fraction → held_value negative most whole fraction exponent ≡ None

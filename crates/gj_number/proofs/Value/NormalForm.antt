@@ -1,5 +1,6 @@
 -- Each number above zero is in one way digits that ten does not divide times a power of ten.
-use Rattle.std.proofs.Common.{zero, suc, ◌≡◌, ◌≢◌, ℕ, ◌+◌, ◌*◌, ◌/◌, ◌%◌, ◌^◌, ◌<◌, ◌≤◌, Bool, refl, sym, ◌∙◌, ap, arith, inl, inr, Some, List, [], ◌∷◌, length, ℤ, pos, ◌+ℤ◌, ◌-ℤ◌}
+use Rattle.std.proofs.Common.{zero, suc, ◌≡◌, ◌≢◌, ℕ, ◌+◌, ◌*◌, ◌/◌, ◌%◌, ◌^◌, ◌<◌, ◌≤◌, Bool, refl, sym, ◌∙◌, ap, arith, inl, inr, Some, List, [], ◌∷◌, length}
+use Rattle.std.proofs.Common.{ℤ, pos, ◌+ℤ◌, ◌-ℤ◌}
 use Rattle.std.proofs.lemmas.Bool.Decides.{eqb_tells}
 use Rattle.std.proofs.Math.Nat.{pow-suc, one-le-pow, one-le-mul, mul-le-mul_right}
 use Rattle.std.specs.List.{AllByRecursion, fold}
@@ -44,7 +45,8 @@ stripped_is (suc most) n h k = elim (eqb_tells (n % 10) 0) [
 
 -- the function on a number above zero, whose one normal form is a times ten to the power i
 pub held_value-normal : (negative : Bool) (most whole places : ℕ) (exponent : ℤ) (a i : ℕ) → whole < 10 ^ most → a % 10 ≢ 0 → whole ≡ a * 10 ^ i
-    → held_value negative most whole places exponent ≡ within_limits exponent (record { negative = negative; digits = a; power = exponent -ℤ pos places +ℤ pos i })
+    → held_value negative most whole places exponent ≡ within_limits exponent
+    (record { negative = negative; digits = a; power = exponent -ℤ pos places +ℤ pos i })
 unfolding held_value
 held_value-normal negative most whole places exponent a i small last e =
     let some : 0 < whole = (let k = normal_above_zero a i last in omega arith) in

@@ -1,5 +1,6 @@
 -- Which decimal a literal denotes: that there is one and no other, and where the function gives it.
-use Rattle.std.proofs.Common.{◌≡◌, ◌≢◌, ℕ, ◌*◌, ◌%◌, ◌^◌, ◌≤◌, ◌⊎◌, inl, inr, Bool, ◌↔◌, Some, None, List, ◌++◌, length, refl, sym, ◌∙◌, ap, subst, arith, ℤ, pos, ◌+ℤ◌, unsigned_abs}
+use Rattle.std.proofs.Common.{◌≡◌, ◌≢◌, ℕ, ◌*◌, ◌%◌, ◌^◌, ◌≤◌, ◌⊎◌, inl, inr, Bool, ◌↔◌, Some, None, List, ◌++◌, length, refl, sym, ◌∙◌, ap, subst, arith, ℤ}
+use Rattle.std.proofs.Common.{pos, ◌+ℤ◌, unsigned_abs}
 use Rattle.std.proofs.lemmas.Bool.Decides.{eqb_tells}
 use Rattle.gj_number.specs.Grammar.{IsNumber}
 use Rattle.gj_number.specs.Exact.{Exact, zero_exact, IsNormal}
@@ -29,7 +30,8 @@ one_parts p q literal h k =
     let with_natural : List ℕ → Parts = λ x. record { negative = q.negative; natural = x; fraction = p.fraction; exponent = p.exponent } in
     let with_fraction : List ℕ → Parts = λ x. record { negative = q.negative; natural = q.natural; fraction = x; exponent = p.exponent } in
     let with_exponent : ℤ → Parts = λ x. record { negative = q.negative; natural = q.natural; fraction = q.fraction; exponent = x } in
-    ap with_sign (sym f.negative ∙ g.negative) ∙ ap with_natural (sym f.natural ∙ g.natural) ∙ ap with_fraction (sym f.fraction ∙ g.fraction) ∙ ap with_exponent (sym f.exponent ∙ g.exponent)
+    ap with_sign (sym f.negative ∙ g.negative) ∙ ap with_natural (sym f.natural ∙ g.natural) ∙ ap with_fraction (sym f.fraction ∙ g.fraction)
+    ∙ ap with_exponent (sym f.exponent ∙ g.exponent)
 
 -- parts have one decimal
 one_of_parts : (a b : Exact) (p : Parts) → IsDecimalOf a p → IsDecimalOf b p → a ≡ b
@@ -40,7 +42,8 @@ one_of_parts a b p h k = elim h [
   ]
   | inr m ↦ elim k [
     | inl y ↦ absurd (let above = normal_above_zero a.digits m.0 m.2 in let e = sym y.0 ∙ m.3 in omega arith)
-    | inr n ↦ (let e = one_normal a.digits b.digits m.0 n.0 m.2 n.2 (sym m.3 ∙ n.3) in same_exact a b (m.1 ∙ sym n.1) e.0 (m.4 ∙ ap (λ x. scale_of p +ℤ pos x) e.1 ∙ sym n.4))
+    | inr n ↦ (let e = one_normal a.digits b.digits m.0 n.0 m.2 n.2 (sym m.3 ∙ n.3) in
+        same_exact a b (m.1 ∙ sym n.1) e.0 (m.4 ∙ ap (λ x. scale_of p +ℤ pos x) e.1 ∙ sym n.4))
   ]
 ]
 
@@ -69,7 +72,8 @@ denoted_normal literal e d = elim d.2 [ inl z ↦ inl z.1 | inr n ↦ inr n.2 ]
 -- ---- where the function gives it
 
 -- the function gives the decimal where it is held, and nothing elsewhere
-value_decides : (literal : List ℕ) (e : Exact) → Denotes literal e → (IsHeld literal e × (value_of literal ≡ Some e)) ⊎ ((¬ IsHeld literal e) × (value_of literal ≡ None))
+value_decides : (literal : List ℕ) (e : Exact) → Denotes literal e → (IsHeld literal e × (value_of literal ≡ Some e))
+    ⊎ ((¬ IsHeld literal e) × (value_of literal ≡ None))
 value_decides literal e d = elim d.2 [
   | inl z ↦ inl (inl (ap (λ x. x.digits) z.1), value_is d.0 literal d.1 ∙ held_value-zero _ _ _ _ _ z.0 ∙ ap Some (sym z.1))
   | inr n ↦ normal n
@@ -83,13 +87,19 @@ value_decides literal e d = elim d.2 [
     normal n =
         let bounded = number_bounded (d.0.natural ++ d.0.fraction) (parts_digits d.0 literal d.1) in
         let same : record { negative = d.0.negative; digits = e.digits; power = scale_of d.0 +ℤ pos n.0 } ≡ e = same_exact _ e (sym n.1) refl (sym n.4) in
-        let is : value_of literal ≡ within_limits d.0.exponent e = value_is d.0 literal d.1 ∙ held_value-normal _ _ _ _ _ e.digits n.0 bounded n.2 n.3 ∙ ap (within_limits d.0.exponent) same in
+        let is : value_of literal ≡ within_limits d.0.exponent e =
+        value_is d.0 literal d.1 ∙ held_value-normal _ _ _ _ _ e.digits n.0 bounded n.2 n.3 ∙ ap (within_limits d.0.exponent) same in
         elim (within d.0.exponent e) [
           | inl w ↦ inl (inr (d.0, d.1, w.0.digits, w.0.power, w.0.written), is ∙ w.1)
           | inr w ↦ inr (
             (λ held. elim held [
               | inl z ↦ n.2 (ap (λ x. x % 10) z)
-              | inr h ↦ w.0 (record { digits = h.2; power = h.3; written = (let P : Parts → Type 0 = λ p. unsigned_abs p.exponent ≤ exponent_limit in subst P (one_parts h.0 d.0 literal h.1 d.1) h.4) })
+              | inr h ↦ w.0 (record {
+                digits = h.2;
+                power = h.3;
+                written =
+                    (let P : Parts → Type 0 = λ p. unsigned_abs p.exponent ≤ exponent_limit in subst P (one_parts h.0 d.0 literal h.1 d.1) h.4);
+              })
             ]),
             is ∙ w.1,
           )

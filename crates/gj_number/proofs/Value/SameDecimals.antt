@@ -1,5 +1,6 @@
 -- Decimals in normal form are the same number exactly where they are one.
-use Rattle.std.proofs.Common.{zero, suc, ◌≡◌, ◌≢◌, ℕ, ◌*◌, ◌%◌, ◌^◌, ◌<◌, inl, inr, Bool, true, false, ◌==◌, ◌&&◌, Decides, ◌↔◌, refl, sym, ◌∙◌, ap, subst, arith, pos, ◌+ℤ◌, unsigned_abs}
+use Rattle.std.proofs.Common.{zero, suc, ◌≡◌, ◌≢◌, ℕ, ◌*◌, ◌%◌, ◌^◌, ◌<◌, inl, inr, Bool, true, false, ◌==◌, ◌&&◌, Decides, ◌↔◌, refl, sym, ◌∙◌, ap, subst}
+use Rattle.std.proofs.Common.{arith, pos, ◌+ℤ◌, unsigned_abs}
 use Rattle.std.specs.Bool.{beq}
 use Rattle.std.specs.Ordering.{int_eq}
 use Rattle.std.proofs.lemmas.Int.{ints}
@@ -23,7 +24,8 @@ one_sign true true n h e = refl
 
 pub same_from_value : (a b : Exact) → IsNormal a → IsNormal b → SameValue a b → a ≡ b
 same_from_value a b h k s =
-    let e : a.digits * 10 ^ s.above_a ≡ b.digits * 10 ^ s.above_b = sym (unsigned_abs-signed a.negative _) ∙ ap unsigned_abs s.same ∙ unsigned_abs-signed b.negative _ in
+    let e : a.digits * 10 ^ s.above_a ≡ b.digits * 10 ^ s.above_b =
+    sym (unsigned_abs-signed a.negative _) ∙ ap unsigned_abs s.same ∙ unsigned_abs-signed b.negative _ in
     elim h [
       | inl z ↦ elim k [
         | inl y ↦ z ∙ sym y
@@ -39,7 +41,8 @@ same_from_value a b h k s =
     both m n e =
         let f = one_normal a.digits b.digits s.above_a s.above_b m n e in
         let same : signed a.negative (b.digits * 10 ^ s.above_b) ≡ signed b.negative (b.digits * 10 ^ s.above_b) = ap (signed a.negative) (sym e) ∙ s.same in
-        same_exact a b (one_sign a.negative b.negative _ (normal_above_zero b.digits s.above_b n) same) f.0 (s.power_a ∙ ap (λ x. s.least +ℤ pos x) f.1 ∙ sym s.power_b)
+        same_exact a b (one_sign a.negative b.negative _ (normal_above_zero b.digits s.above_b n) same) f.0
+        (s.power_a ∙ ap (λ x. s.least +ℤ pos x) f.1 ∙ sym s.power_b)
 
 pub value_from_same : (a b : Exact) → a ≡ b → SameValue a b
 value_from_same a b e = let P : Exact → Type 0 = λ x. SameValue a x in subst P e (record {

@@ -71,12 +71,15 @@ far_fraction whole fraction (suc d) k h = ends_here whole (suc d) (fraction + 1)
 
 far_naturals : (whole : ℕ) (digits : List ℕ) → AllByRecursion IsDigit digits → IsFar whole 0 → IsFar (fold with_digit whole digits) 0
 far_naturals whole [] h far = far
-far_naturals whole (b ∷ digits) h far = far_naturals (with_digit whole b) digits h.1 (far_natural whole (b - zero_digit) (let low = h.0.0 in let high = h.0.1 in omega arith) far)
+far_naturals whole (b ∷ digits) h far =
+    far_naturals (with_digit whole b) digits h.1 (far_natural whole (b - zero_digit) (let low = h.0.0 in let high = h.0.1 in omega arith) far)
 
-far_fractions : (whole fraction n : ℕ) (digits : List ℕ) → n ≡ fraction + length digits → AllByRecursion IsDigit digits → IsFar whole fraction → IsFar (fold with_digit whole digits) n
+far_fractions : (whole fraction n : ℕ) (digits : List ℕ) → n ≡ fraction + length digits → AllByRecursion IsDigit digits → IsFar whole fraction
+    → IsFar (fold with_digit whole digits) n
 far_fractions whole fraction n [] e h far = let f : n ≡ fraction = omega arith in rw f far
 far_fractions whole fraction n (b ∷ digits) e h far =
-    far_fractions (with_digit whole b) (fraction + 1) n digits (omega arith) h.1 (far_fraction whole fraction (b - zero_digit) (let low = h.0.0 in let high = h.0.1 in omega arith) far)
+    far_fractions (with_digit whole b) (fraction + 1) n digits (omega arith) h.1
+    (far_fraction whole fraction (b - zero_digit) (let low = h.0.0 in let high = h.0.1 in omega arith) far)
 
 -- where the number is not held, what is kept is of use
 far_of : (kept count pending places whole fraction : ℕ) → count ≡ 31 → IsKept kept count pending places whole fraction → IsFar whole fraction
@@ -86,10 +89,13 @@ far_of kept count pending places whole fraction e h = elim h [
 ]
 
 -- and digits behind it change nothing
-pub passed_natural : (kept count pending places whole : ℕ) (digits : List ℕ) → count ≡ 31 → All IsDigit digits → IsKept kept count pending places whole 0 → IsKept kept count pending places (fold with_digit whole digits) 0
-passed_natural kept count pending places whole digits e h old = inr (inr (e, far_naturals whole digits (recursion_from_All IsDigit digits h) (far_of kept count pending places whole 0 e old)))
+pub passed_natural : (kept count pending places whole : ℕ) (digits : List ℕ) → count ≡ 31 → All IsDigit digits → IsKept kept count pending places whole 0
+    → IsKept kept count pending places (fold with_digit whole digits) 0
+passed_natural kept count pending places whole digits e h old =
+    inr (inr (e, far_naturals whole digits (recursion_from_All IsDigit digits h) (far_of kept count pending places whole 0 e old)))
 
-pub passed_fraction : (kept count pending places whole fraction n : ℕ) (digits : List ℕ) → count ≡ 31 → n ≡ fraction + length digits → All IsDigit digits → IsKept kept count pending places whole fraction
+pub passed_fraction : (kept count pending places whole fraction n : ℕ) (digits : List ℕ) → count ≡ 31 → n ≡ fraction + length digits → All IsDigit digits
+    → IsKept kept count pending places whole fraction
     → IsKept kept count pending places (fold with_digit whole digits) n
 passed_fraction kept count pending places whole fraction n digits e len h old =
     inr (inr (e, far_fractions whole fraction n digits len (recursion_from_All IsDigit digits h) (far_of kept count pending places whole fraction e old)))

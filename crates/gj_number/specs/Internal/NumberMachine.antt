@@ -3,7 +3,8 @@ use Rattle.std.specs.Prelude.{◌≡◌, ℕ, ◌+◌, Bool, true, false, ◌&&�
 use Rattle.gj_number.specs.Bytes.{minus_sign, plus_sign, decimal_point, lower_e, upper_e, zero_digit, nine_digit, IsFirstDigit, IsExponentLetter}
 use Rattle.gj_number.specs.Value.{with_digit}
 use Rattle.gj_number.specs.declared.state.State.{State}
-use Rattle.gj_number.specs.declared.state.State.TheVariants.{Start, AfterMinus, AfterZero, InNatural, AfterPoint, InFraction, AfterLetter, AfterSign, InExponent}
+use Rattle.gj_number.specs.declared.state.State.TheVariants.{Start, AfterMinus, AfterZero, InNatural, AfterPoint, InFraction, AfterLetter, AfterSign}
+use Rattle.gj_number.specs.declared.state.State.TheVariants.{InExponent}
 use Rattle.gj_number.specs.declared.state.Class.{Class}
 use Rattle.gj_number.specs.declared.state.Class.TheVariants.{Minus, Plus, Point, Letter, Zero, NonZero, Other}
 

@@ -158,7 +158,8 @@ impl Digits {
         ensures fraction_length { 0 < result.behind → result.before + 1 + result.behind ≤ length piece.now }
         ensures fraction_digits { All IsDigit (take result.behind (drop (result.before + 1) piece.now)) }
         ensures keeps { (whole : ℕ) → Keeps self.old whole 0
-            → Keeps self.new (fold with_digit (fold with_digit whole (take result.before piece.now)) (take result.behind (drop (result.before + 1) piece.now))) result.behind }
+            → Keeps self.new (fold with_digit (fold with_digit whole (take result.before piece.now)) (take result.behind (drop (result.before + 1) piece.now)))
+            result.behind }
     {
         if !self.has_room() {
             return Plain {

@@ -1,5 +1,6 @@
 -- What the first events of a text show of it, and what the rules keep of them.
-use Rattle.std.proofs.Common.{◌≡◌, ℕ, zero, suc, ◌+◌, ◌≤◌, Bool, true, false, ◌||◌, if◌then◌else◌, List, [], ◌∷◌, ◌++◌, map, inl, inr, Option, Some, None, is_some, refl, sym, ap, subst, ◌∙◌}
+use Rattle.std.proofs.Common.{◌≡◌, ℕ, zero, suc, ◌+◌, ◌≤◌, Bool, true, false, ◌||◌, if◌then◌else◌, List, [], ◌∷◌, ◌++◌, map, inl, inr, Option, Some, None}
+use Rattle.std.proofs.Common.{is_some, refl, sym, ap, subst, ◌∙◌}
 use Rattle.std.specs.List.{list_any}
 use Rattle.std.proofs.lemmas.Bool.{or_left, or_right, or_cases}
 use Rattle.gj_json.specs.declared.constant.Constant.TheVariants.{Null, True, False}
@@ -32,7 +33,8 @@ use Rattle.gj_rules.specs.Doomed.{names, first_type, repeats, type_fails, member
 use Rattle.gj_rules.specs.Faults.{faults, text_faults}
 use Rattle.gj_rules.specs.Internal.FrameCalls as F
 use Rattle.gj_rules.specs.Internal.RulesState.{core_of}
-use Rattle.gj_rules.specs.Internal.LostObjects.{slot_fails, geometry_forbids, feature_forbids, features_forbid, simple_fails, feature_fails, fails_as, type_lost, is_lost, core_lost}
+use Rattle.gj_rules.specs.Internal.LostObjects.{slot_fails, geometry_forbids, feature_forbids, features_forbid, simple_fails, feature_fails, fails_as}
+use Rattle.gj_rules.specs.Internal.LostObjects.{type_lost, is_lost, core_lost}
 use Rattle.gj_rules.specs.Members.{mentions}
 use Rattle.gj_rules.specs.Role.{is_allowed}
 use Rattle.gj_rules.specs.Rules.{StandsFor}
@@ -70,7 +72,8 @@ fault_kept : (o : Option Slot) → Keeps (slot_fails o) (is_some (S.slot_fault o
 fault_kept None e = e
 fault_kept (Some slot) e = e
 
-shape_kept : (simple : Simple) (place : ℕ) (shapes : Shapes) (o : Option Slot) → Keeps (is_some (shape_for simple shapes)) (is_some (S.due_shape simple place shapes o))
+shape_kept : (simple : Simple) (place : ℕ) (shapes : Shapes) (o : Option Slot)
+    → Keeps (is_some (shape_for simple shapes)) (is_some (S.due_shape simple place shapes o))
 shape_kept simple place shapes None e = refl
 shape_kept simple place shapes (Some slot) e = e
 
@@ -96,7 +99,8 @@ features_kept f =
     (lesser_or (is_some f.coordinates) _ (S.forbidden_slot f.coordinates) _ (forbidden_kept f.coordinates) (forbidden_kept f.geometries))
     (lesser_or (is_some f.geometry) _ (S.forbidden_slot f.geometry) _ (forbidden_kept f.geometry) (forbidden_kept f.properties))
 
-typed_kept : (word : Word) (place : ℕ) (f : MemberSlots) → Keeps (fails_as word f) (is_some (if is_allowed Role.Root word then S.as_type word f else Some (fault_at place G3)))
+typed_kept : (word : Word) (place : ℕ) (f : MemberSlots)
+    → Keeps (fails_as word f) (is_some (if is_allowed Role.Root word then S.as_type word f else Some (fault_at place G3)))
 typed_kept Word.Point place f = simple_kept Simple.Point f
 typed_kept Word.MultiPoint place f = simple_kept Simple.MultiPoint f
 typed_kept Word.LineString place f = simple_kept Simple.LineString f
@@ -111,7 +115,8 @@ typed_kept Word.Other place f = λ e. refl
 rest_kept : (o : Option TypeValue) (f : MemberSlots) → f.role ≡ Role.Root → Keeps (type_lost o f) (is_some (S.rest_by o f))
 rest_kept None f r e = refl
 rest_kept (Some value) f r e =
-    subst (λ (role : Role). is_some (if is_allowed role value.word then S.as_type value.word f else Some (fault_at value.place G3)) ≡ true) (sym r) (typed_kept value.word value.place f e)
+    subst (λ (role : Role). is_some (if is_allowed role value.word then S.as_type value.word f else Some (fault_at value.place G3)) ≡ true) (sym r)
+    (typed_kept value.word value.place f e)
 
 settled_lost : (f : MemberSlots) → f.role ≡ Role.Root → Keeps (is_lost f) (is_some (S.settled f))
 settled_lost f r =
@@ -132,19 +137,23 @@ lost_faults place close ms e none =
     let last : Frame = F.members_taken ms (blank place) in
     let lost : is_lost last.slots ≡ true = ap is_lost (members_shown ms (blank place)) ∙ e in
     let some : is_some (F.settled last).fault ≡ true = settled_lost last.slots (frame_role ms (blank place)) lost in
-    let same : (F.settled last).fault ≡ least (faults Role.Root (object place ms close)) = ap (λ (x : Findings). x.fault) (all_closed Role.Root place close ms) in
+    let same : (F.settled last).fault ≡ least (faults Role.Root (object place ms close)) =
+    ap (λ (x : Findings). x.fault) (all_closed Role.Root place close ms) in
     let nothing : is_some (F.settled last).fault ≡ false = ap is_some same ∙ ap (λ xs. is_some (least xs)) none in
     cc
 
-closed_faults : (place close : ℕ) (ms : Members) → is_some (F.settled (F.members_taken ms (blank place))).fault ≡ true → faults Role.Root (object place ms close) ≡ [] → ⊥
+closed_faults : (place close : ℕ) (ms : Members) → is_some (F.settled (F.members_taken ms (blank place))).fault ≡ true
+    → faults Role.Root (object place ms close) ≡ [] → ⊥
 closed_faults place close ms some none =
     let last : Frame = F.members_taken ms (blank place) in
-    let same : (F.settled last).fault ≡ least (faults Role.Root (object place ms close)) = ap (λ (x : Findings). x.fault) (all_closed Role.Root place close ms) in
+    let same : (F.settled last).fault ≡ least (faults Role.Root (object place ms close)) =
+    ap (λ (x : Findings). x.fault) (all_closed Role.Root place close ms) in
     let nothing : is_some (F.settled last).fault ≡ false = ap is_some same ∙ ap (λ xs. is_some (least xs)) none in
     cc
 
 -- the names that are there
-three : (x y z : Known) (a b c : Bool) (found : List Known) → a ≡ mentions found x → b ≡ mentions found y → c ≡ mentions found z → list_any (mentions found) (x ∷ y ∷ z ∷ []) ≡ true → (a || (b || c)) ≡ true
+three : (x y z : Known) (a b c : Bool) (found : List Known) → a ≡ mentions found x → b ≡ mentions found y → c ≡ mentions found z
+    → list_any (mentions found) (x ∷ y ∷ z ∷ []) ≡ true → (a || (b || c)) ≡ true
 three x y z a b c found p q r e = go (mentions found x) (mentions found y) (mentions found z) p q r e
   where
     go : (l m n : Bool) → a ≡ l → b ≡ m → c ≡ n → (l || (m || (n || false))) ≡ true → (a || (b || c)) ≡ true
@@ -164,16 +173,24 @@ four x y z w a b c d found p q r s e = go (mentions found x) (mentions found y) 
     go false false false true p q r s e = or_right (a || b) (c || d) (or_right c d s)
     go false false false false p q r s e = cc
 
-forbidden_lost : (word : Word) (g : MemberSlots) (found : List Known) → is_some g.coordinates ≡ mentions found Coordinates → is_some g.geometries ≡ mentions found Geometries → is_some g.geometry ≡ mentions found Geometry
-    → is_some g.properties ≡ mentions found Properties → is_some g.features ≡ mentions found Features → type_fails (Some word) found ≡ true → fails_as word g ≡ true
+forbidden_lost : (word : Word) (g : MemberSlots) (found : List Known) → is_some g.coordinates ≡ mentions found Coordinates
+    → is_some g.geometries ≡ mentions found Geometries → is_some g.geometry ≡ mentions found Geometry
+    → is_some g.properties ≡ mentions found Properties → is_some g.features ≡ mentions found Features → type_fails (Some word) found ≡ true
+    → fails_as word g ≡ true
 forbidden_lost Word.Other g found a b c d h e = refl
-forbidden_lost Word.Feature g found a b c d h e = or_left (feature_forbids g) _ (three Coordinates Geometries Features (is_some g.coordinates) (is_some g.geometries) (is_some g.features) found a b h e)
+forbidden_lost Word.Feature g found a b c d h e =
+    or_left (feature_forbids g) _ (three Coordinates Geometries Features (is_some g.coordinates) (is_some g.geometries) (is_some g.features) found a b h e)
 forbidden_lost Word.FeatureCollection g found a b c d h e =
-    or_left (features_forbid g) _ (four Coordinates Geometries Geometry Properties (is_some g.coordinates) (is_some g.geometries) (is_some g.geometry) (is_some g.properties) found a b c d e)
-forbidden_lost _ g found a b c d h e = or_left (geometry_forbids g) _ (three Geometry Properties Features (is_some g.geometry) (is_some g.properties) (is_some g.features) found c d h e)
+    or_left (features_forbid g) _
+    (four Coordinates Geometries Geometry Properties (is_some g.coordinates) (is_some g.geometries) (is_some g.geometry)
+    (is_some g.properties) found a b c d e)
+forbidden_lost _ g found a b c d h e =
+    or_left (geometry_forbids g) _ (three Geometry Properties Features (is_some g.geometry) (is_some g.properties) (is_some g.features) found c d h e)
 
-type_is_lost : (o : Option TypeValue) (g : MemberSlots) (found : List Known) → is_some g.coordinates ≡ mentions found Coordinates → is_some g.geometries ≡ mentions found Geometries → is_some g.geometry ≡ mentions found Geometry
-    → is_some g.properties ≡ mentions found Properties → is_some g.features ≡ mentions found Features → type_fails (word_in o) found ≡ true → type_lost o g ≡ true
+type_is_lost : (o : Option TypeValue) (g : MemberSlots) (found : List Known) → is_some g.coordinates ≡ mentions found Coordinates
+    → is_some g.geometries ≡ mentions found Geometries → is_some g.geometry ≡ mentions found Geometry
+    → is_some g.properties ≡ mentions found Properties → is_some g.features ≡ mentions found Features → type_fails (word_in o) found ≡ true
+    → type_lost o g ≡ true
 type_is_lost None g found a b c d h e = cc
 type_is_lost (Some value) g found a b c d h e = forbidden_lost value.word g found a b c d h e
 
@@ -183,7 +200,8 @@ shown_lost place g shown h e = elim (or_cases (repeats [] (names shown)) (type_f
   | inl again ↦ or_left (is_some g.repeated) _ (h.repeated ∙ again)
   | inr typed ↦
       or_right (is_some g.repeated) _ (or_right (slot_fails g.bbox) _
-      (type_is_lost g.type_value g (names shown) (h.slots Coordinates refl) (h.slots Geometries refl) (h.slots Geometry refl) (h.slots Properties refl) (h.slots Features refl)
+      (type_is_lost g.type_value g (names shown) (h.slots Coordinates refl) (h.slots Geometries refl) (h.slots Geometry refl) (h.slots Properties refl)
+      (h.slots Features refl)
       (ap (λ (o : Option Word). type_fails o (names shown)) h.type_word ∙ typed)))
 ]
 
@@ -230,7 +248,8 @@ object_answers place close ms had done rest e = elim (members_cut ms [] (blank p
     value : Tree
     value = object place ms close
 
-    cut : Cut [] (blank place).slots (S.members_taken ms (blank place).slots) (had_found had) (own 1 done) s → Answers value (map event_of (plain (place + 1) place W.OpenObject ∷ done)) s
+    cut : Cut [] (blank place).slots (S.members_taken ms (blank place).slots) (had_found had) (own 1 done) s
+        → Answers value (map event_of (plain (place + 1) place W.OpenObject ∷ done)) s
     cut c =
         let still : is_some s.core.answer.fault ≡ false = ap (λ (x : Findings). is_some x.fault) c.still in record {
           sound = λ l. lost_faults place close ms (c.onward (subst (λ (b : Bool). (b || is_lost (root s)) ≡ true) still l));
@@ -242,7 +261,8 @@ object_answers place close ms had done rest e = elim (members_cut ms [] (blank p
         let last_state : State = run (last_of close ∷ []) (st 0 Names last [] (had_found had)) in
         let comes : s ≡ last_state =
         ap (λ (ts : List Told). run ts (object_st place had)) c.whole
-        ∙ (run_end (members_told ms) (last_of close ∷ []) (object_st place had) ∙ ap (λ (z : State). run (last_of close ∷ []) z) (members_run ms [] (blank place) (had_found had) (blank_shows place))) in
+        ∙ (run_end (members_told ms) (last_of close ∷ []) (object_st place had)
+        ∙ ap (λ (z : State). run (last_of close ∷ []) z) (members_run ms [] (blank place) (had_found had) (blank_shows place))) in
         let lost : core_lost last_state.core ≡ (is_some (F.settled last).fault || is_lost last.slots) = refl in
         let shown : is_lost last.slots ≡ is_lost (S.members_taken ms (blank place).slots) = ap is_lost (members_shown ms (blank place)) in
         subst (λ (z : State). Answers value (map event_of (plain (place + 1) place W.OpenObject ∷ done)) z) (sym comes)
@@ -251,7 +271,8 @@ object_answers place close ms had done rest e = elim (members_cut ms [] (blank p
             | inl some ↦ closed_faults place close ms some
             | inr some ↦ lost_faults place close ms (sym shown ∙ some)
           ];
-          early = λ d. or_right (is_some (F.settled last).fault) (is_lost last.slots) (shown ∙ shown_lost place (S.members_taken ms (blank place).slots) (own 1 done) c.here d);
+          early = λ d. or_right (is_some (F.settled last).fault) (is_lost last.slots)
+              (shown ∙ shown_lost place (S.members_taken ms (blank place).slots) (own 1 done) c.here d);
         })
       where
         run_end : (xs ys : List Told) (z : State) → run (xs ++ ys) z ≡ run ys (run xs z)
@@ -263,22 +284,28 @@ value_answers : (v : Tree) (had : Warnings) (done rest : List Told) → told v �
 value_answers v had [] rest e = before_value v had
 value_answers (constant Null place) had (x ∷ d) rest e =
     let f : plain (place + 4) place W.Null ≡ x = cc in
-    subst (λ (z : Told). Answers (constant Null place) (map event_of (z ∷ d)) (run (z ∷ d) (due_root had))) f (no_object (constant Null place) d place 0 _ _ had (λ n. cc))
+    subst (λ (z : Told). Answers (constant Null place) (map event_of (z ∷ d)) (run (z ∷ d) (due_root had))) f
+    (no_object (constant Null place) d place 0 _ _ had (λ n. cc))
 value_answers (constant True place) had (x ∷ d) rest e =
     let f : plain (place + 4) place W.True ≡ x = cc in
-    subst (λ (z : Told). Answers (constant True place) (map event_of (z ∷ d)) (run (z ∷ d) (due_root had))) f (no_object (constant True place) d place 0 _ _ had (λ n. cc))
+    subst (λ (z : Told). Answers (constant True place) (map event_of (z ∷ d)) (run (z ∷ d) (due_root had))) f
+    (no_object (constant True place) d place 0 _ _ had (λ n. cc))
 value_answers (constant False place) had (x ∷ d) rest e =
     let f : plain (place + 5) place W.False ≡ x = cc in
-    subst (λ (z : Told). Answers (constant False place) (map event_of (z ∷ d)) (run (z ∷ d) (due_root had))) f (no_object (constant False place) d place 0 _ _ had (λ n. cc))
+    subst (λ (z : Told). Answers (constant False place) (map event_of (z ∷ d)) (run (z ∷ d) (due_root had))) f
+    (no_object (constant False place) d place 0 _ _ had (λ n. cc))
 value_answers (number place literal end) had (x ∷ d) rest e =
     let f : plain (end + 1) place (W.Number (value_of literal)) ≡ x = cc in
-    subst (λ (z : Told). Answers (number place literal end) (map event_of (z ∷ d)) (run (z ∷ d) (due_root had))) f (no_object (number place literal end) d place 0 _ _ had (λ n. cc))
+    subst (λ (z : Told). Answers (number place literal end) (map event_of (z ∷ d)) (run (z ∷ d) (due_root had))) f
+    (no_object (number place literal end) d place 0 _ _ had (λ n. cc))
 value_answers (string place content end) had (x ∷ d) rest e =
     let f : plain end place (W.Text (word_of content)) ≡ x = cc in
-    subst (λ (z : Told). Answers (string place content end) (map event_of (z ∷ d)) (run (z ∷ d) (due_root had))) f (no_object (string place content end) d place 0 _ _ had (λ n. cc))
+    subst (λ (z : Told). Answers (string place content end) (map event_of (z ∷ d)) (run (z ∷ d) (due_root had))) f
+    (no_object (string place content end) d place 0 _ _ had (λ n. cc))
 value_answers (array place es close) had (x ∷ d) rest e =
     let f : plain (place + 1) place W.OpenArray ≡ x = cc in
-    subst (λ (z : Told). Answers (array place es close) (map event_of (z ∷ d)) (run (z ∷ d) (due_root had))) f (no_object (array place es close) d place 1 _ _ had (λ n. cc))
+    subst (λ (z : Told). Answers (array place es close) (map event_of (z ∷ d)) (run (z ∷ d) (due_root had))) f
+    (no_object (array place es close) d place 1 _ _ had (λ n. cc))
 value_answers (object place ms close) had (x ∷ d) rest e =
     let f : plain (place + 1) place W.OpenObject ≡ x = cc in
     let g : members_told ms ++ last_of close ∷ [] ≡ d ++ rest = cc in
@@ -287,15 +314,22 @@ value_answers (object place ms close) had (x ∷ d) rest e =
 -- no value begins with a mark
 unmarked : (v : Tree) (done rest : List Told) → told v ≡ done ++ rest → unmarked_fails (map event_of done) ≡ true → is_doomed (map event_of done) ≡ true
 unmarked v [] rest e h = h
-unmarked (constant Null place) (x ∷ d) rest e h = let f : plain (place + 4) place W.Null ≡ x = cc in subst (λ (z : Told). is_doomed (map event_of (z ∷ d)) ≡ true) f refl
-unmarked (constant True place) (x ∷ d) rest e h = let f : plain (place + 4) place W.True ≡ x = cc in subst (λ (z : Told). is_doomed (map event_of (z ∷ d)) ≡ true) f refl
-unmarked (constant False place) (x ∷ d) rest e h = let f : plain (place + 5) place W.False ≡ x = cc in subst (λ (z : Told). is_doomed (map event_of (z ∷ d)) ≡ true) f refl
-unmarked (number place literal end) (x ∷ d) rest e h = let f : plain (end + 1) place (W.Number (value_of literal)) ≡ x = cc in subst (λ (z : Told). is_doomed (map event_of (z ∷ d)) ≡ true) f refl
-unmarked (string place content end) (x ∷ d) rest e h = let f : plain end place (W.Text (word_of content)) ≡ x = cc in subst (λ (z : Told). is_doomed (map event_of (z ∷ d)) ≡ true) f refl
-unmarked (array place es close) (x ∷ d) rest e h = let f : plain (place + 1) place W.OpenArray ≡ x = cc in subst (λ (z : Told). is_doomed (map event_of (z ∷ d)) ≡ true) f refl
+unmarked (constant Null place) (x ∷ d) rest e h = let f : plain (place + 4) place W.Null ≡ x =
+    cc in subst (λ (z : Told). is_doomed (map event_of (z ∷ d)) ≡ true) f refl
+unmarked (constant True place) (x ∷ d) rest e h = let f : plain (place + 4) place W.True ≡ x =
+    cc in subst (λ (z : Told). is_doomed (map event_of (z ∷ d)) ≡ true) f refl
+unmarked (constant False place) (x ∷ d) rest e h = let f : plain (place + 5) place W.False ≡ x =
+    cc in subst (λ (z : Told). is_doomed (map event_of (z ∷ d)) ≡ true) f refl
+unmarked (number place literal end) (x ∷ d) rest e h = let f : plain (end + 1) place (W.Number (value_of literal)) ≡ x =
+    cc in subst (λ (z : Told). is_doomed (map event_of (z ∷ d)) ≡ true) f refl
+unmarked (string place content end) (x ∷ d) rest e h = let f : plain end place (W.Text (word_of content)) ≡ x =
+    cc in subst (λ (z : Told). is_doomed (map event_of (z ∷ d)) ≡ true) f refl
+unmarked (array place es close) (x ∷ d) rest e h = let f : plain (place + 1) place W.OpenArray ≡ x =
+    cc in subst (λ (z : Told). is_doomed (map event_of (z ∷ d)) ≡ true) f refl
 unmarked (object place ms close) (x ∷ d) rest e h =
     let f : plain (place + 1) place W.OpenObject ≡ x = cc in
-    let k : unmarked_fails (map event_of (plain (place + 1) place W.OpenObject ∷ d)) ≡ true = subst (λ (z : Told). unmarked_fails (map event_of (z ∷ d)) ≡ true) (sym f) h in
+    let k : unmarked_fails (map event_of (plain (place + 1) place W.OpenObject ∷ d)) ≡ true =
+    subst (λ (z : Told). unmarked_fails (map event_of (z ∷ d)) ≡ true) (sym f) h in
     subst (λ (z : Told). is_doomed (map event_of (z ∷ d)) ≡ true) f k
 
 marked_answers : (marked : Bool) (v : Tree) (done rest : List Told) → mark_told marked ++ told v ≡ done ++ rest → Answers v (map event_of done) (run done start)
@@ -310,7 +344,8 @@ marked_answers true v (x ∷ d) rest e =
 
 -- ---- the rules
 
-pub answers : {frames : ℕ} (rules : FramedRules frames) (text : Text) (bytes : List ℕ) (n : ℕ) → IsText text bytes → depth text.value ≤ levels_within frames → StandsFor rules (events_by n text)
+pub answers : {frames : ℕ} (rules : FramedRules frames) (text : Text) (bytes : List ℕ) (n : ℕ) → IsText text bytes → depth text.value ≤ levels_within frames
+    → StandsFor rules (events_by n text)
     → (core_lost (core_of rules) ≡ true → text_faults text ≡ [] → ⊥) × (is_doomed (events_by n text) ≡ true → core_lost (core_of rules) ≡ true)
 answers rules text bytes n t d h =
     let front = front_text text bytes n t in

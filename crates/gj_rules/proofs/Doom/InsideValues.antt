@@ -1,5 +1,6 @@
 -- While the events of a value come, the text's object shows no other names, and what fails in it goes on to fail.
-use Rattle.std.proofs.Common.{◌≡◌, ◌<◌, ℕ, zero, suc, ◌+◌, List, [], ◌∷◌, ◌++◌, map, reverse, length, get_or, take, Option, Some, refl, sym, ap, subst, ◌∙◌, arith}
+use Rattle.std.proofs.Common.{◌≡◌, ◌<◌, ℕ, zero, suc, ◌+◌, List, [], ◌∷◌, ◌++◌, map, reverse, length, get_or, take, Option, Some, refl, sym, ap, subst, ◌∙◌}
+use Rattle.std.proofs.Common.{arith}
 use Rattle.std.proofs.Math.Seq.{take-suc}
 use Rattle.std.proofs.lemmas.List.{reverse-append}
 use Rattle.gj_json.specs.declared.constant.Constant.TheVariants.{Null, True, False}
@@ -31,7 +32,8 @@ use Rattle.gj_rules.specs.Internal.TextKept.{kept, all_kept}
 use Rattle.gj_rules.specs.Internal.LabelledEvents.{Told, plain, event_of, told, elements_told, members_told}
 use Rattle.gj_rules.proofs.Objects.ClosedFrames.{all_closed}
 use Rattle.gj_rules.proofs.Objects.GrowingFaults.{Grows, grows_same, grows_twice, grows_joined}
-use Rattle.gj_rules.proofs.Texts.ValuesByEvents.{st, feeding, due_st, behind, behind_idle, mode_listed, known_list, IsListed, IsFed, some_told, up, down, frame_role}
+use Rattle.gj_rules.proofs.Texts.ValuesByEvents.{st, feeding, due_st, behind, behind_idle, mode_listed, known_list, IsListed, IsFed, some_told, up, down}
+use Rattle.gj_rules.proofs.Texts.ValuesByEvents.{frame_role}
 use Rattle.gj_rules.proofs.Objects.JoinedFindings.{taken_none, taken_twice}
 use Rattle.gj_rules.proofs.Texts.TimedEvents.{told-events}
 
@@ -66,7 +68,8 @@ thru_at f h a (y ∷ ys) x rest s t p = thru_at f h a ys x rest (step y s) t p.1
 -- ---- what is not looked into
 
 mutual
-  skip_value : (v : Tree) (k : ℕ) (m : Mode) (g : Frame) (o : List Frame) (a : Findings) (f h : MemberSlots) → In f (root_of g o) h → Thru f h a (told v) (st (suc k) m g o a) (st (suc k) m g o a)
+  skip_value : (v : Tree) (k : ℕ) (m : Mode) (g : Frame) (o : List Frame) (a : Findings) (f h : MemberSlots) → In f (root_of g o) h
+      → Thru f h a (told v) (st (suc k) m g o a) (st (suc k) m g o a)
   skip_value (constant Null place) k m g o a f h i = ((i, refl), refl)
   skip_value (constant True place) k m g o a f h i = ((i, refl), refl)
   skip_value (constant False place) k m g o a f h i = ((i, refl), refl)
@@ -75,42 +78,51 @@ mutual
   skip_value (array place es close) k m g o a f h i = (
     (i, refl),
     subst (λ n. Thru f h a (elements_told es ++ plain (close + 1) close What.CloseArray ∷ []) (st n m g o a) (st (suc k) m g o a)) (sym (up k))
-        (thru_both f h a (elements_told es) (plain (close + 1) close What.CloseArray ∷ []) (st (suc (suc k)) m g o a) (st (suc (suc k)) m g o a) (st (suc k) m g o a)
+        (thru_both f h a (elements_told es) (plain (close + 1) close What.CloseArray ∷ []) (st (suc (suc k)) m g o a) (st (suc (suc k)) m g o a)
+        (st (suc k) m g o a)
         (skip_elements es (suc k) m g o a f h i) ((i, refl), ap (λ n. st n m g o a) (down k))),
   )
   skip_value (object place ms close) k m g o a f h i = (
     (i, refl),
     subst (λ n. Thru f h a (members_told ms ++ plain (close + 1) close What.CloseObject ∷ []) (st n m g o a) (st (suc k) m g o a)) (sym (up k))
-        (thru_both f h a (members_told ms) (plain (close + 1) close What.CloseObject ∷ []) (st (suc (suc k)) m g o a) (st (suc (suc k)) m g o a) (st (suc k) m g o a)
+        (thru_both f h a (members_told ms) (plain (close + 1) close What.CloseObject ∷ []) (st (suc (suc k)) m g o a) (st (suc (suc k)) m g o a)
+        (st (suc k) m g o a)
         (skip_members ms (suc k) m g o a f h i) ((i, refl), ap (λ n. st n m g o a) (down k))),
   )
 
-  skip_elements : (es : Tree.Elements) (k : ℕ) (m : Mode) (g : Frame) (o : List Frame) (a : Findings) (f h : MemberSlots) → In f (root_of g o) h → Thru f h a (elements_told es) (st (suc k) m g o a) (st (suc k) m g o a)
+  skip_elements : (es : Tree.Elements) (k : ℕ) (m : Mode) (g : Frame) (o : List Frame) (a : Findings) (f h : MemberSlots) → In f (root_of g o) h
+      → Thru f h a (elements_told es) (st (suc k) m g o a) (st (suc k) m g o a)
   skip_elements end_of_array k m g o a f h i = refl
   skip_elements (element v more) k m g o a f h i =
-      thru_both f h a (told v) (elements_told more) (st (suc k) m g o a) (st (suc k) m g o a) (st (suc k) m g o a) (skip_value v k m g o a f h i) (skip_elements more k m g o a f h i)
+      thru_both f h a (told v) (elements_told more) (st (suc k) m g o a) (st (suc k) m g o a) (st (suc k) m g o a) (skip_value v k m g o a f h i)
+      (skip_elements more k m g o a f h i)
 
-  skip_members : (ms : Members) (k : ℕ) (m : Mode) (g : Frame) (o : List Frame) (a : Findings) (f h : MemberSlots) → In f (root_of g o) h → Thru f h a (members_told ms) (st (suc k) m g o a) (st (suc k) m g o a)
+  skip_members : (ms : Members) (k : ℕ) (m : Mode) (g : Frame) (o : List Frame) (a : Findings) (f h : MemberSlots) → In f (root_of g o) h
+      → Thru f h a (members_told ms) (st (suc k) m g o a) (st (suc k) m g o a)
   skip_members end_of_object k m g o a f h i = refl
   skip_members (member place name end v more) k m g o a f h i = (
     (i, refl),
-    thru_both f h a (told v) (members_told more) (st (suc k) m g o a) (st (suc k) m g o a) (st (suc k) m g o a) (skip_value v k m g o a f h i) (skip_members more k m g o a f h i),
+    thru_both f h a (told v) (members_told more) (st (suc k) m g o a) (st (suc k) m g o a) (st (suc k) m g o a) (skip_value v k m g o a f h i)
+        (skip_members more k m g o a f h i),
   )
 
 -- the rest of an array or an object that is not looked into
 pub array_rest : (es : Tree.Elements) (close : ℕ) (m : Mode) (g : Frame) (o : List Frame) (a : Findings) (f h : MemberSlots) → In f (root_of g o) h
     → Thru f h a (elements_told es ++ plain (close + 1) close What.CloseArray ∷ []) (st 1 m g o a) (st 0 m g o a)
 array_rest es close m g o a f h i =
-    thru_both f h a (elements_told es) (plain (close + 1) close What.CloseArray ∷ []) (st 1 m g o a) (st 1 m g o a) (st 0 m g o a) (skip_elements es 0 m g o a f h i) ((i, refl), refl)
+    thru_both f h a (elements_told es) (plain (close + 1) close What.CloseArray ∷ []) (st 1 m g o a) (st 1 m g o a) (st 0 m g o a)
+    (skip_elements es 0 m g o a f h i) ((i, refl), refl)
 
 pub object_rest : (ms : Members) (close : ℕ) (m : Mode) (g : Frame) (o : List Frame) (a : Findings) (f h : MemberSlots) → In f (root_of g o) h
     → Thru f h a (members_told ms ++ plain (close + 1) close What.CloseObject ∷ []) (st 1 m g o a) (st 0 m g o a)
 object_rest ms close m g o a f h i =
-    thru_both f h a (members_told ms) (plain (close + 1) close What.CloseObject ∷ []) (st 1 m g o a) (st 1 m g o a) (st 0 m g o a) (skip_members ms 0 m g o a f h i) ((i, refl), refl)
+    thru_both f h a (members_told ms) (plain (close + 1) close What.CloseObject ∷ []) (st 1 m g o a) (st 1 m g o a) (st 0 m g o a)
+    (skip_members ms 0 m g o a f h i) ((i, refl), refl)
 
 -- ---- what a summary takes
 
-feed_all : (name : Known) → IsFed name → (v : Tree) (taken : List Event) (x : Told) (xs : List Told) (g : Frame) (o : List Frame) (a : Findings) (f h : MemberSlots) → In f (root_of g o) h
+feed_all : (name : Known) → IsFed name
+    → (v : Tree) (taken : List Event) (x : Told) (xs : List Told) (g : Frame) (o : List Frame) (a : Findings) (f h : MemberSlots) → In f (root_of g o) h
     → Thru f h a (x ∷ xs) (feeding name v taken (map event_of (x ∷ xs)) g o a) (st 0 Names (filled name v g) o a)
 feed_all Coordinates q v taken x [] g o a f h i = ((i, refl), refl)
 feed_all Coordinates q v taken x (y ∷ ys) g o a f h i = ((i, refl), feed_all Coordinates q v (taken ++ event_of x ∷ []) y ys g o a f h i)
@@ -125,7 +137,8 @@ feed_value name q v g o a f h i = go (some_told v)
     go : (x : Told) × (xs : List Told) × (told v ≡ x ∷ xs) → Thru f h a (told v) (feeding name v [] (value_events v) g o a) (st 0 Names (filled name v g) o a)
     go (x, xs, e) =
         subst (λ (es : List Event). Thru f h a (told v) (feeding name v [] es g o a) (st 0 Names (filled name v g) o a)) (told-events v)
-        (subst (λ (ts : List Told). Thru f h a ts (feeding name v [] (map event_of ts) g o a) (st 0 Names (filled name v g) o a)) (sym e) (feed_all name q v [] x xs g o a f h i))
+        (subst (λ (ts : List Told). Thru f h a ts (feeding name v [] (map event_of ts) g o a) (st 0 Names (filled name v g) o a)) (sym e)
+        (feed_all name q v [] x xs g o a f h i))
 
 -- ---- what has a role
 
@@ -149,7 +162,8 @@ object_by : (r : Role) (place close : ℕ) (ms : Members) (g : Frame) (o : List 
     → Thru f h a (members_told ms ++ plain (close + 1) close What.CloseObject ∷ []) (st 0 Names (blank r place) (g ∷ o) a)
     (st 0 (mode_behind r) (taken_any (member_of r) (least (faults r (object place ms close))) (kept r (object place ms close)) g) o a)
 object_by r place close ms g o a f h i p =
-    thru_both f h a (members_told ms) (plain (close + 1) close What.CloseObject ∷ []) (st 0 Names (blank r place) (g ∷ o) a) (st 0 Names (members_taken ms (blank r place)) (g ∷ o) a) _
+    thru_both f h a (members_told ms) (plain (close + 1) close What.CloseObject ∷ []) (st 0 Names (blank r place) (g ∷ o) a)
+    (st 0 Names (members_taken ms (blank r place)) (g ∷ o) a) _
     p ((i, refl), close_is r place close ms g o a)
 
 -- an array of values with a role, by its elements
@@ -159,12 +173,14 @@ list_by : (es : Tree.Elements) (close : ℕ) (r : Role) (g : Frame) (o : List Fr
     → Thru f h a (elements_told es ++ plain (close + 1) close What.CloseArray ∷ []) (st 0 (Elements r) g o a)
     (st 0 Names (taken_any (member_of r) (least (all_faults r es)) (all_kept r es) g) o a)
 list_by es close r g o a f h j p =
-    thru_both f h a (elements_told es) (plain (close + 1) close What.CloseArray ∷ []) (st 0 (Elements r) g o a) (st 0 (Elements r) (taken_any (member_of r) (least (all_faults r es)) (all_kept r es) g) o a) _
+    thru_both f h a (elements_told es) (plain (close + 1) close What.CloseArray ∷ []) (st 0 (Elements r) g o a)
+    (st 0 (Elements r) (taken_any (member_of r) (least (all_faults r es)) (all_kept r es) g) o a) _
     p ((j, refl), refl)
 
 mutual
   -- the value of a first member
-  pub on_due : (v : Tree) (name : Known) (g : Frame) (o : List Frame) (a : Findings) (f h : MemberSlots) → In f (root_of g o) h → In f (root_of (filled name v g) o) h
+  pub on_due : (v : Tree) (name : Known) (g : Frame) (o : List Frame) (a : Findings) (f h : MemberSlots) → In f (root_of g o) h
+      → In f (root_of (filled name v g) o) h
       → Thru f h a (told v) (due_st name v g o a) (st 0 Names (filled name v g) o a)
   on_due v Coordinates g o a f h i j = feed_value Coordinates tt v g o a f h i
   on_due v Bbox g o a f h i j = feed_value Bbox tt v g o a f h i
@@ -176,7 +192,8 @@ mutual
   on_due (array place es close) Geometries g o a f h i j = ((i, refl), list_by es close Role.Part g o a f h j (on_elements es Role.Part tt g o a f h i j))
   on_due (array place es close) Features g o a f h i j = ((i, refl), list_by es close Role.Feature g o a f h j (on_elements es Role.Feature tt g o a f h i j))
   on_due (array place es close) name g o a f h i j = ((i, refl), array_rest es close Names (filled name (array place es close) g) o a f h j)
-  on_due (object place ms close) Geometry g o a f h i j = ((i, refl), object_by Role.Geometry place close ms g o a f h i (on_members ms (blank Role.Geometry place) g o a f h i))
+  on_due (object place ms close) Geometry g o a f h i j =
+      ((i, refl), object_by Role.Geometry place close ms g o a f h i (on_members ms (blank Role.Geometry place) g o a f h i))
   on_due (object place ms close) name g o a f h i j = ((i, refl), object_rest ms close Names (filled name (object place ms close) g) o a f h j)
 
   -- an element of an array of values with a role
@@ -190,12 +207,14 @@ mutual
   on_element (constant False place) r q g o a f h i j = ((i, refl), refl)
   on_element (number place literal end) r q g o a f h i j = ((i, refl), refl)
   on_element (string place content end) r q g o a f h i j = ((i, refl), refl)
-  on_element (array place es close) r q g o a f h i j = ((i, refl), array_rest es close (Elements r) (joined (member_of r) (Some (fault_at place G1)) g) o a f h j)
+  on_element (array place es close) r q g o a f h i j =
+      ((i, refl), array_rest es close (Elements r) (joined (member_of r) (Some (fault_at place G1)) g) o a f h j)
   on_element (object place ms close) r q g o a f h i j =
       let inner : Frame = taken_any (member_of r) (least (faults r (object place ms close))) (kept r (object place ms close)) g in
       let last : Told = plain (close + 1) close What.CloseObject in (
         (i, refl),
-        subst (λ (m : Mode). Thru f h a (members_told ms ++ last ∷ []) (st 0 Names (blank r place) (g ∷ o) a) (st 0 m inner o a)) (mode_listed r q) (object_by r place close ms g o a f h i (on_members ms (blank r place) g o a f h i)),
+        subst (λ (m : Mode). Thru f h a (members_told ms ++ last ∷ []) (st 0 Names (blank r place) (g ∷ o) a) (st 0 m inner o a)) (mode_listed r q)
+            (object_by r place close ms g o a f h i (on_members ms (blank r place) g o a f h i)),
       )
 
   on_elements : (es : Tree.Elements) (r : Role) → IsListed r → (g : Frame) (o : List Frame) (a : Findings) (f h : MemberSlots) → In f (root_of g o) h
@@ -215,7 +234,8 @@ mutual
       } in
       thru_both f h a (told v) (elements_told more) (st 0 (Elements r) g o a) (st 0 (Elements r) mid o a) _
       (on_element v r q g o a f h i here)
-      (subst (λ (x : Frame). Thru f h a (elements_told more) (st 0 (Elements r) mid o a) (st 0 (Elements r) x o a)) (sym e) (on_elements more r q mid o a f h here end))
+      (subst (λ (x : Frame). Thru f h a (elements_told more) (st 0 (Elements r) mid o a) (st 0 (Elements r) x o a)) (sym e)
+      (on_elements more r q mid o a f h here end))
 
   -- the members of an object in another
   on_members : (ms : Members) (e : Frame) (p : Frame) (o : List Frame) (a : Findings) (f h : MemberSlots) → In f (root_of p o) h
@@ -223,8 +243,10 @@ mutual
   on_members end_of_object e p o a f h i = refl
   on_members (member place name end v more) e p o a f h i = (
     (i, refl),
-    thru_both f h a (told v) (members_told more) (due_st (due_after (known_of name) e) v (named (known_of name) place e) (p ∷ o) a) (st 0 Names (member_taken place (known_of name) v e) (p ∷ o) a) _
-        (on_due v (due_after (known_of name) e) (named (known_of name) place e) (p ∷ o) a f h i i) (on_members more (member_taken place (known_of name) v e) p o a f h i),
+    thru_both f h a (told v) (members_told more) (due_st (due_after (known_of name) e) v (named (known_of name) place e) (p ∷ o) a)
+        (st 0 Names (member_taken place (known_of name) v e) (p ∷ o) a) _
+        (on_due v (due_after (known_of name) e) (named (known_of name) place e) (p ∷ o) a f h i i)
+        (on_members more (member_taken place (known_of name) v e) p o a f h i),
   )
 
 -- ---- the outermost frame

@@ -1,5 +1,6 @@
 -- What stands directly in the text's object, of the events of its members.
-use Rattle.std.proofs.Common.{◌≡◌, ℕ, zero, suc, ◌+◌, Bool, true, false, List, [], ◌∷◌, ◌++◌, map, Option, Some, None, refl, sym, ap, ◌∙◌, append_assoc, append-nil}
+use Rattle.std.proofs.Common.{◌≡◌, ℕ, zero, suc, ◌+◌, Bool, true, false, List, [], ◌∷◌, ◌++◌, map, Option, Some, None, refl, sym, ap, ◌∙◌, append_assoc}
+use Rattle.std.proofs.Common.{append-nil}
 use Rattle.std.proofs.lemmas.List.{map-append}
 use Rattle.gj_json.specs.declared.constant.Constant.TheVariants.{Null, True, False}
 use Rattle.gj_json.specs.declared.event.Event.{Event}
@@ -101,8 +102,11 @@ own_part v x done rest e =
     sym (own_value v []) ∙ (ap (λ (ts : List Told). own 1 ts) (append-nil (told v) ∙ e)
     ∙ (ap (λ (es : List Event). outermost 1 es) (map-append event_of (x ∷ done) rest) ∙ k.1)) in
     let later : List What = outermost (levels_behind (event_of x).what 1) (map event_of done) in
-    let none : later ≡ [] = no_front later (outermost k.0 (map event_of rest)) (let f : first_what v ∷ [] ≡ (event_of x).what ∷ (later ++ outermost k.0 (map event_of rest)) = whole in cc) in
-    let first : (event_of x).what ≡ first_what v = (let f : first_what v ∷ [] ≡ (event_of x).what ∷ (later ++ outermost k.0 (map event_of rest)) = whole in cc) in
+    let none : later ≡ [] =
+    no_front later (outermost k.0 (map event_of rest))
+    (let f : first_what v ∷ [] ≡ (event_of x).what ∷ (later ++ outermost k.0 (map event_of rest)) = whole in cc) in
+    let first : (event_of x).what ≡ first_what v =
+    (let f : first_what v ∷ [] ≡ (event_of x).what ∷ (later ++ outermost k.0 (map event_of rest)) = whole in cc) in
     ap (λ (w : What). w ∷ later) first ∙ ap (λ (ws : List What). first_what v ∷ ws) none
 
 -- ---- the names and the first type
@@ -144,7 +148,8 @@ abbrev pub typed_by : Bool → Tree → Option Word
 typed_by true v = Some (type_of v)
 typed_by false v = None
 
-pub first_type_member : (name : Known) (v : Tree) (xs : List What) → first_type (W.Name name ∷ (first_what v ∷ xs)) ≡ or_word (typed_by (same TypeName name) v) (first_type xs)
+pub first_type_member : (name : Known) (v : Tree) (xs : List What)
+    → first_type (W.Name name ∷ (first_what v ∷ xs)) ≡ or_word (typed_by (same TypeName name) v) (first_type xs)
 first_type_member TypeName v xs = ap (λ (w : Word). Some w) (type_value_is v)
 first_type_member _ v xs = type_after_value v xs
 

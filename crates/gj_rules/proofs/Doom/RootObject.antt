@@ -1,5 +1,6 @@
 -- What the text's object has shown after some events of its members, and what comes of it at its end.
-use Rattle.std.proofs.Common.{◌≡◌, ℕ, ◌+◌, Bool, true, false, ◌&&◌, ◌||◌, if◌then◌else◌, List, [], ◌∷◌, ◌++◌, ◌⊎◌, inl, inr, Option, Some, None, is_some, refl, sym, ap, subst, ◌∙◌, append_assoc}
+use Rattle.std.proofs.Common.{◌≡◌, ℕ, ◌+◌, Bool, true, false, ◌&&◌, ◌||◌, if◌then◌else◌, List, [], ◌∷◌, ◌++◌, ◌⊎◌, inl, inr, Option, Some, None, is_some, refl}
+use Rattle.std.proofs.Common.{sym, ap, subst, ◌∙◌, append_assoc}
 use Rattle.gj_json.specs.declared.event.What.{What}
 use Rattle.gj_json.specs.declared.event.What.TheVariants as W
 use Rattle.gj_json.specs.declared.names.Known.{Known}
@@ -26,10 +27,12 @@ use Rattle.gj_rules.specs.Internal.EventSteps.{State, step, run}
 use Rattle.gj_rules.specs.Internal.Summaries.{no_shapes, shapes_of, asked}
 use Rattle.gj_rules.specs.Internal.LabelledEvents.{Told, plain, told, members_told}
 use Rattle.gj_json.specs.declared.constant.Constant.TheVariants.{Null, True, False}
-use Rattle.gj_rules.proofs.Objects.GrowingFaults.{Keeps, lesser_first, Worse, worse_same, worse_twice, worse_named, lost_worse, TypeGrows, type_same, Grows, grows_same, grows_joined, grows_shapes}
+use Rattle.gj_rules.proofs.Objects.GrowingFaults.{Keeps, lesser_first, Worse, worse_same, worse_twice, worse_named, lost_worse, TypeGrows, type_same, Grows}
+use Rattle.gj_rules.proofs.Objects.GrowingFaults.{grows_same, grows_joined, grows_shapes}
 use Rattle.gj_rules.proofs.Texts.ValuesByEvents.{st, due_st}
 use Rattle.gj_rules.proofs.Objects.OneMember.{same_is}
-use Rattle.gj_rules.proofs.Objects.AllMembers.{Mentions, mentions_step, member_object, type_from, type_after, stays_after, typed_after, shapes_from, shapes_one, repeated_after}
+use Rattle.gj_rules.proofs.Objects.AllMembers.{Mentions, mentions_step, member_object, type_from, type_after, stays_after, typed_after, shapes_from, shapes_one}
+use Rattle.gj_rules.proofs.Objects.AllMembers.{repeated_after}
 use Rattle.gj_rules.proofs.Objects.AskedShapes.{TypeStays}
 use Rattle.gj_rules.proofs.Doom.InsideValues.{Thru, thru_run, thru_at, root, on_due, array_rest, object_rest}
 use Rattle.gj_rules.proofs.Doom.OutermostMembers.{own, first_what, own_value, own_part, names_value, or_word, typed_by, first_type_member, first_type_name}
@@ -54,21 +57,25 @@ type_one name place end v f = type_after (member place name end v end_of_object)
 
 slot_is : (n : Known) (before : List Known) (name : Known) (place : ℕ) (v : Tree) (f : MemberSlots) → Mentions before f → is_known n ≡ true
     → is_some (slot_of n (member_taken place name v f)) ≡ (if same n name then true else is_some (slot_of n f))
-slot_is n before name place v f m k = mentions_step before n name place v f (same n name) m k refl ∙ ap (λ (b : Bool). if same n name then true else b) (sym (m.each n k))
+slot_is n before name place v f m k =
+    mentions_step before n name place v f (same n name) m k refl ∙ ap (λ (b : Bool). if same n name then true else b) (sym (m.each n k))
 
-shaped_is : (u b : Bool) (t : Option Slot) (known : Option TypeValue) (had : Shapes) (x : First) → (if b then true else is_some t) ≡ false → (is_some t ≡ false → had ≡ no_shapes)
+shaped_is : (u b : Bool) (t : Option Slot) (known : Option TypeValue) (had : Shapes) (x : First) → (if b then true else is_some t) ≡ false
+    → (is_some t ≡ false → had ≡ no_shapes)
     → shapes_from u t known had (if b then Some x else None) ≡ no_shapes
 shaped_is u true t known had x e h = cc
 shaped_is u false (Some slot) known had x e h = cc
 shaped_is u false None known had x e h = h refl
 
-pub shows_more : (before : List Known) (name : List ℕ) (place end : ℕ) (v : Tree) (f : MemberSlots) → Shows before f → Shows (known_of name ∷ before) (member_taken place (known_of name) v f)
+pub shows_more : (before : List Known) (name : List ℕ) (place end : ℕ) (v : Tree) (f : MemberSlots) → Shows before f
+    → Shows (known_of name ∷ before) (member_taken place (known_of name) v f)
 shows_more before name place end v f h = record {
   mentioned = record { each = λ q k. mentions_step before q (known_of name) place v f (same q (known_of name)) h.mentioned k refl };
   typed = typed_after place end name v f h.typed;
   shaped = λ e.
       shapes_one (known_of name) place v f (same Coordinates (known_of name)) refl
-      ∙ shaped_is (uses f.role Coordinates) (same Coordinates (known_of name)) f.coordinates f.type_value f.shapes (record { name_at = place; value = v; faults = judge Coordinates v })
+      ∙ shaped_is (uses f.role Coordinates) (same Coordinates (known_of name)) f.coordinates f.type_value f.shapes
+      (record { name_at = place; value = v; faults = judge Coordinates v })
       (sym (slot_is Coordinates before (known_of name) place v f h.mentioned refl) ∙ e) h.shaped;
   role = (member_object (known_of name) place v f).role ∙ h.role;
 }
@@ -100,7 +107,8 @@ typed_worse place word f = record {
 }
 
 -- of which name a value is due
-due_from : (n m : Known) (r : Role) (k u : Bool) (o : Option Slot) → uses r n ≡ u → (if k then due_known n o r else Other) ≡ m → is_known m ≡ true → (n ≡ m) × (o ≡ None)
+due_from : (n m : Known) (r : Role) (k u : Bool) (o : Option Slot) → uses r n ≡ u → (if k then due_known n o r else Other) ≡ m → is_known m ≡ true → (n ≡ m)
+    × (o ≡ None)
 due_from n m r false u o e d i = let j : is_known Other ≡ is_known m = ap is_known d in cc
 due_from n m r true u (Some slot) e d i = let j : is_known Other ≡ is_known m = ap is_known d in cc
 due_from n m r true true None e d i = (subst (λ (b : Bool). (if b then n else Other) ≡ m) e d, refl)
@@ -115,7 +123,8 @@ kept_shapes n place f true (Some slot) = refl
 kept_shapes TypeName place f true None = refl
 kept_shapes _ place f true None = refl
 
-due_shapes : (before : List Known) (n : Known) (place : ℕ) (f : MemberSlots) → Shows before f → due_after n f ≡ Coordinates → (named n place f).shapes ≡ no_shapes
+due_shapes : (before : List Known) (n : Known) (place : ℕ) (f : MemberSlots) → Shows before f → due_after n f ≡ Coordinates
+    → (named n place f).shapes ≡ no_shapes
 due_shapes before n place f h e =
     let d = due_from n Coordinates f.role (is_known n) (uses f.role n) (slot_of n f) refl e refl in
     let none : slot_of Coordinates f ≡ None = subst (λ (m : Known). slot_of m f ≡ None) d.0 d.1 in
@@ -137,7 +146,8 @@ type_goes : (o x : Option TypeValue) → TypeStays o x → TypeGrows o x
 type_goes None x h = tt
 type_goes (Some value) x h = h
 
-lost_member : (before : List Known) (name : List ℕ) (place end : ℕ) (v : Tree) (f : MemberSlots) → Shows before f → Keeps (is_lost f) (is_lost (member_taken place (known_of name) v f))
+lost_member : (before : List Known) (name : List ℕ) (place end : ℕ) (v : Tree) (f : MemberSlots) → Shows before f
+    → Keeps (is_lost f) (is_lost (member_taken place (known_of name) v f))
 lost_member before name place end v f h =
     let n : Known = known_of name in
     let worse = worse_twice f (named n place f) (member_taken place n v f)
@@ -149,7 +159,8 @@ lost_member before name place end v f h =
 pub lost_members : (ms : Members) (before : List Known) (f : MemberSlots) → Shows before f → Keeps (is_lost f) (is_lost (members_taken ms f))
 lost_members end_of_object before f h = λ e. e
 lost_members (member place name end v more) before f h = λ e.
-    lost_members more (known_of name ∷ before) (member_taken place (known_of name) v f) (shows_more before name place end v f h) (lost_member before name place end v f h e)
+    lost_members more (known_of name ∷ before) (member_taken place (known_of name) v f) (shows_more before name place end v f h)
+    (lost_member before name place end v f h e)
 
 -- ---- what some events have shown
 
@@ -186,7 +197,8 @@ again_is (Some x) false m place = refl
 repeated_one : (before : List Known) (name : List ℕ) (place end : ℕ) (v : Tree) (f : MemberSlots) → Mentions before f
     → is_some (member_taken place (known_of name) v f).repeated ≡ (is_some f.repeated || (is_known (known_of name) && mentions before (known_of name)))
 repeated_one before name place end v f m =
-    ap is_some (repeated_after (member place name end v end_of_object) before f m) ∙ again_is f.repeated (is_known (known_of name)) (mentions before (known_of name)) place
+    ap is_some (repeated_after (member place name end v end_of_object) before f m)
+    ∙ again_is f.repeated (is_known (known_of name)) (mentions before (known_of name)) place
 
 word_one : (t : Option Slot) (o : Option TypeValue) (b : Bool) (v : Tree) → is_some o ≡ is_some t
     → word_in (type_from t o (if b then Some (record { place = place_of v; word = type_of v }) else None)) ≡ or_word (word_in o) (typed_by b v)
@@ -282,14 +294,16 @@ root_uses : (f : MemberSlots) (n : Known) → f.role ≡ Role.Root → uses f.ro
 root_uses f n e = ap (λ (r : Role). uses r n) e
 
 -- the name is `type`, and the value is not due
-not_due : (f : MemberSlots) (t : Option Slot) (o : Option TypeValue) → f.role ≡ Role.Root → f.type_name ≡ t → is_some o ≡ is_some t → (due_after TypeName f ≡ TypeName → ⊥) → (x y : Option Word) → or_word (word_in o) x ≡ or_word (word_in o) y
+not_due : (f : MemberSlots) (t : Option Slot) (o : Option TypeValue) → f.role ≡ Role.Root → f.type_name ≡ t → is_some o ≡ is_some t
+    → (due_after TypeName f ≡ TypeName → ⊥) → (x y : Option Word) → or_word (word_in o) x ≡ or_word (word_in o) y
 not_due f (Some slot) (Some value) r e k d x y = refl
 not_due f (Some slot) None r e k d x y = cc
 not_due f None (Some value) r e k d x y = cc
 not_due f None None r e k d x y =
     absurd (d (rw e (subst (λ (u : Bool). (if u then TypeName else Other) ≡ TypeName) (sym (root_uses f TypeName r)) refl)))
 
-other_word : (f : MemberSlots) (n : Known) (v : Tree) (x : Option Word) (b : Bool) → same TypeName n ≡ b → f.role ≡ Role.Root → is_some f.type_value ≡ is_some f.type_name → (due_after n f ≡ TypeName → ⊥)
+other_word : (f : MemberSlots) (n : Known) (v : Tree) (x : Option Word) (b : Bool) → same TypeName n ≡ b → f.role ≡ Role.Root
+    → is_some f.type_value ≡ is_some f.type_name → (due_after n f ≡ TypeName → ⊥)
     → (b ≡ false → x ≡ None) → or_word (word_in f.type_value) (typed_by b v) ≡ or_word (word_in f.type_value) x
 other_word f n v x false e r k d h = ap (λ o. or_word (word_in f.type_value) o) (sym (h refl))
 other_word f n v x true e r k d h =
@@ -302,7 +316,8 @@ names_part v [] more y e = refl
 names_part v (x ∷ d) more y e = ap (λ (ws : List What). names ws) (own_part v x d (y ∷ more) e) ∙ names_value v []
 
 -- where the name is not `type`, no type comes
-no_type : (n : Known) (v : Tree) (done more : List Told) (y : Told) → told v ≡ done ++ y ∷ more → same TypeName n ≡ false → first_type (W.Name n ∷ own 1 done) ≡ None
+no_type : (n : Known) (v : Tree) (done more : List Told) (y : Told) → told v ≡ done ++ y ∷ more → same TypeName n ≡ false
+    → first_type (W.Name n ∷ own 1 done) ≡ None
 no_type n v [] more y e f = first_type_name n
 no_type n v (x ∷ d) more y e f =
     ap (λ (ws : List What). first_type (W.Name n ∷ ws)) (own_part v x d (y ∷ more) e)
@@ -311,9 +326,11 @@ no_type n v (x ∷ d) more y e f =
 no_type_due : (due : Known) → same TypeName due ≡ false → due ≡ TypeName → ⊥
 no_type_due due e f = let g : same TypeName due ≡ same TypeName TypeName = ap (λ (m : Known). same TypeName m) f in cc
 
-inside_value : (before : List Known) (name : List ℕ) (place end : ℕ) (v : Tree) (f : Frame) (a : Findings) (done more : List Told) (y : Told) → Shows before f.slots → told v ≡ done ++ y ∷ more
+inside_value : (before : List Known) (name : List ℕ) (place end : ℕ) (v : Tree) (f : Frame) (a : Findings) (done more : List Told) (y : Told)
+    → Shows before f.slots → told v ≡ done ++ y ∷ more
     → same TypeName (due_after (known_of name) f.slots) ≡ false
-    → Cut before f.slots (member_taken place (known_of name) v f.slots) a (W.Name (known_of name) ∷ own 1 done) (run done (due_st (due_after (known_of name) f.slots) v (F.named (known_of name) place f) [] a))
+    → Cut before f.slots (member_taken place (known_of name) v f.slots) a (W.Name (known_of name) ∷ own 1 done)
+    (run done (due_st (due_after (known_of name) f.slots) v (F.named (known_of name) place f) [] a))
 inside_value before name place end v f a done more y h e t =
     let n : Known = known_of name in
     let due : Known = due_after n f.slots in
@@ -337,7 +354,8 @@ abbrev After : MemberSlots → Findings → List Told → State → State → Ty
 After f a [] s t = ⊥
 After f a (x ∷ xs) s t = Thru f f a xs (step x s) t
 
-after_type : (v : Tree) (f : Frame) (a : Findings) → After (type_set (place_of v) (type_of v) f.slots) a (told v) (due_st TypeName v f [] a) (st 0 Names (F.filled TypeName v f) [] a)
+after_type : (v : Tree) (f : Frame) (a : Findings)
+    → After (type_set (place_of v) (type_of v) f.slots) a (told v) (due_st TypeName v f [] a) (st 0 Names (F.filled TypeName v f) [] a)
 after_type (constant Null place) f a = refl
 after_type (constant True place) f a = refl
 after_type (constant False place) f a = refl
@@ -374,9 +392,11 @@ unset n f k e = go f.type_value (k ∙ ap is_some none)
     go None g = refl
     go (Some value) g = cc
 
-inside_type : (before : List Known) (name : List ℕ) (place end : ℕ) (v : Tree) (f : Frame) (a : Findings) (done more : List Told) (y : Told) → Shows before f.slots → told v ≡ done ++ y ∷ more
+inside_type : (before : List Known) (name : List ℕ) (place end : ℕ) (v : Tree) (f : Frame) (a : Findings) (done more : List Told) (y : Told)
+    → Shows before f.slots → told v ≡ done ++ y ∷ more
     → due_after (known_of name) f.slots ≡ TypeName
-    → Cut before f.slots (member_taken place (known_of name) v f.slots) a (W.Name (known_of name) ∷ own 1 done) (run done (due_st TypeName v (F.named (known_of name) place f) [] a))
+    → Cut before f.slots (member_taken place (known_of name) v f.slots) a (W.Name (known_of name) ∷ own 1 done)
+    (run done (due_st TypeName v (F.named (known_of name) place f) [] a))
 inside_type before name place end v f a [] more y h e t =
     let n : Known = known_of name in
     let f1 : MemberSlots = named n place f.slots in
@@ -386,7 +406,8 @@ inside_type before name place end v f a [] more y h e t =
       here = here_inside before name place end v f.slots f1 [] h refl
           (ap (λ (g : MemberSlots). g.repeated) (sym is))
           (λ q. ap (λ (g : MemberSlots). is_some (slot_of q g)) is ∙ ap is_some (slot_typed q (place_of v) (type_of v) f1))
-          (ap word_in (kept_typed n place f.slots (is_known n) (slot_of n f.slots)) ∙ (or_none (word_in f.slots.type_value) ∙ ap (λ o. or_word (word_in f.slots.type_value) o) (sym (first_type_name n))));
+          (ap word_in (kept_typed n place f.slots (is_known n) (slot_of n f.slots))
+          ∙ (or_none (word_in f.slots.type_value) ∙ ap (λ o. or_word (word_in f.slots.type_value) o) (sym (first_type_name n))));
       onward = subst (λ (g : MemberSlots). Keeps (is_lost f1) (is_lost g)) (sym is)
           (lost_worse f1 f2 (typed_worse (place_of v) (type_of v) f1) (subst (λ (o : Option TypeValue). TypeGrows o f2.type_value) (sym none) tt));
       still = refl;
@@ -409,16 +430,20 @@ inside_type before name place end v f a (x ∷ d) more y h e t =
       still = at.1;
     }
 
-inside : (before : List Known) (name : List ℕ) (place end : ℕ) (v : Tree) (f : Frame) (a : Findings) (done more : List Told) (y : Told) → Shows before f.slots → told v ≡ done ++ y ∷ more
-    → Cut before f.slots (member_taken place (known_of name) v f.slots) a (W.Name (known_of name) ∷ own 1 done) (run done (due_st (due_after (known_of name) f.slots) v (F.named (known_of name) place f) [] a))
+inside : (before : List Known) (name : List ℕ) (place end : ℕ) (v : Tree) (f : Frame) (a : Findings) (done more : List Told) (y : Told) → Shows before f.slots
+    → told v ≡ done ++ y ∷ more
+    → Cut before f.slots (member_taken place (known_of name) v f.slots) a (W.Name (known_of name) ∷ own 1 done)
+    (run done (due_st (due_after (known_of name) f.slots) v (F.named (known_of name) place f) [] a))
 inside before name place end v f a done more y h e = go (same TypeName (due_after (known_of name) f.slots)) refl
   where
     go : (b : Bool) → same TypeName (due_after (known_of name) f.slots) ≡ b
-        → Cut before f.slots (member_taken place (known_of name) v f.slots) a (W.Name (known_of name) ∷ own 1 done) (run done (due_st (due_after (known_of name) f.slots) v (F.named (known_of name) place f) [] a))
+        → Cut before f.slots (member_taken place (known_of name) v f.slots) a (W.Name (known_of name) ∷ own 1 done)
+        (run done (due_st (due_after (known_of name) f.slots) v (F.named (known_of name) place f) [] a))
     go false t = inside_value before name place end v f a done more y h e t
     go true t =
         let is : TypeName ≡ due_after (known_of name) f.slots = same_is TypeName (due_after (known_of name) f.slots) t in
-        subst (λ (m : Known). Cut before f.slots (member_taken place (known_of name) v f.slots) a (W.Name (known_of name) ∷ own 1 done) (run done (due_st m v (F.named (known_of name) place f) [] a))) is
+        subst (λ (m : Known). Cut before f.slots (member_taken place (known_of name) v f.slots) a (W.Name (known_of name) ∷ own 1 done)
+        (run done (due_st m v (F.named (known_of name) place f) [] a))) is
         (inside_type before name place end v f a done more y h e (sym is))
 
 -- ---- a whole value
@@ -430,11 +455,13 @@ value_run before n place v f a h = go (due_after n f.slots) (same TypeName (due_
     f1 : Frame
     f1 = F.named n place f
 
-    go : (due : Known) (b : Bool) → same TypeName due ≡ b → (due ≡ Coordinates → f1.slots.shapes ≡ no_shapes) → run (told v) (due_st due v f1 [] a) ≡ st 0 Names (F.filled due v f1) [] a
+    go : (due : Known) (b : Bool) → same TypeName due ≡ b → (due ≡ Coordinates → f1.slots.shapes ≡ no_shapes)
+        → run (told v) (due_st due v f1 [] a) ≡ st 0 Names (F.filled due v f1) [] a
     go due false t c =
         let g1 = filled_grows due v f1.slots (no_type_due due t) c in
         thru_run f1.slots (filled due v f1.slots) a (told v) _ _
-        (on_due v due f1 [] a f1.slots (filled due v f1.slots) (record { lo = grows_same f1.slots; hi = g1 }) (record { lo = g1; hi = grows_same (filled due v f1.slots) }))
+        (on_due v due f1 [] a f1.slots (filled due v f1.slots) (record { lo = grows_same f1.slots; hi = g1 })
+        (record { lo = g1; hi = grows_same (filled due v f1.slots) }))
     go due true t c =
         subst (λ (m : Known). run (told v) (due_st m v f1 [] a) ≡ st 0 Names (F.filled m v f1) [] a) (same_is TypeName due t)
         (after_run (type_set (place_of v) (type_of v) f1.slots) a (told v) _ _ (after_type v f1 a))
@@ -443,7 +470,8 @@ run_both : (xs ys : List Told) (s : State) → run (xs ++ ys) s ≡ run ys (run 
 run_both [] ys s = refl
 run_both (x ∷ xs) ys s = run_both xs ys (step x s)
 
-pub members_run : (ms : Members) (before : List Known) (f : Frame) (a : Findings) → Shows before f.slots → run (members_told ms) (st 0 Names f [] a) ≡ st 0 Names (F.members_taken ms f) [] a
+pub members_run : (ms : Members) (before : List Known) (f : Frame) (a : Findings) → Shows before f.slots
+    → run (members_told ms) (st 0 Names f [] a) ≡ st 0 Names (F.members_taken ms f) [] a
 members_run end_of_object before f a h = refl
 members_run (member place name end v more) before f a h =
     let n : Known = known_of name in
@@ -467,13 +495,17 @@ here_end before f h = record {
   slots = λ n k. h.mentioned.each n k ∙ or_false (mentions before n);
 }
 
-cut_onward : (before : List Known) (f g h : MemberSlots) (a : Findings) (shown : List What) (s : State) → Keeps (is_lost g) (is_lost h) → Cut before f g a shown s → Cut before f h a shown s
+cut_onward : (before : List Known) (f g h : MemberSlots) (a : Findings) (shown : List What) (s : State) → Keeps (is_lost g) (is_lost h)
+    → Cut before f g a shown s → Cut before f h a shown s
 cut_onward before f g h a shown s k c = record { here = c.here; onward = λ e. k (c.onward e); still = c.still }
 
 -- a whole member, and then more
-cut_more : (before : List Known) (name : List ℕ) (place end : ℕ) (v : Tree) (f : Frame) (h : MemberSlots) (a : Findings) (later : List Told) → Shows before f.slots
-    → Cut (known_of name ∷ before) (member_taken place (known_of name) v f.slots) h a (own 1 later) (run later (st 0 Names (F.member_taken place (known_of name) v f) [] a))
-    → Cut before f.slots h a (W.Name (known_of name) ∷ own 1 (told v ++ later)) (run (told v ++ later) (due_st (due_after (known_of name) f.slots) v (F.named (known_of name) place f) [] a))
+cut_more : (before : List Known) (name : List ℕ) (place end : ℕ) (v : Tree) (f : Frame) (h : MemberSlots) (a : Findings) (later : List Told)
+    → Shows before f.slots
+    → Cut (known_of name ∷ before) (member_taken place (known_of name) v f.slots) h a (own 1 later)
+    (run later (st 0 Names (F.member_taken place (known_of name) v f) [] a))
+    → Cut before f.slots h a (W.Name (known_of name) ∷ own 1 (told v ++ later))
+    (run (told v ++ later) (due_st (due_after (known_of name) f.slots) v (F.named (known_of name) place f) [] a))
 cut_more before name place end v f h a later s c =
     let n : Known = known_of name in
     let there : State = run later (st 0 Names (F.member_taken place n v f) [] a) in
@@ -506,7 +538,8 @@ nothing_more (x ∷ xs) ys e = cc
 abbrev pub Partly : List Known → Frame → Members → Findings → ℕ → List Told → Type 0
 Partly before f ms a close done = Cut before f.slots (members_taken ms f.slots) a (own 1 done) (run done (st 0 Names f [] a)) ⊎ End before f ms close done
 
-pub members_cut : (ms : Members) (before : List Known) (f : Frame) (a : Findings) (close : ℕ) (done rest : List Told) → Shows before f.slots → members_told ms ++ last_of close ∷ [] ≡ done ++ rest
+pub members_cut : (ms : Members) (before : List Known) (f : Frame) (a : Findings) (close : ℕ) (done rest : List Told) → Shows before f.slots
+    → members_told ms ++ last_of close ∷ [] ≡ done ++ rest
     → Partly before f ms a close done
 members_cut ms before f a close [] rest h e = inl (record { here = here_start before f.slots h; onward = lost_members ms before f.slots h; still = refl })
 members_cut end_of_object before f a close (x ∷ d) rest h e =

@@ -10,7 +10,8 @@ lines_parts : parts_from Lines Input 0 (97 ∷ 10 ∷ 10 ∷ 32 ∷ 10 ∷ 98 �
 lines_parts = refl
 
 -- the blank lines are no records
-lines_counted : entries_of Lines (record { depth = 1; bytes = 9 }) (97 ∷ 10 ∷ 10 ∷ 32 ∷ 10 ∷ 98 ∷ []) ≡ entry_at 1 (part_at 0 (97 ∷ []) Separator) ∷ entry_at 2 (part_at 5 (98 ∷ []) Input) ∷ []
+lines_counted : entries_of Lines (record { depth = 1; bytes = 9 }) (97 ∷ 10 ∷ 10 ∷ 32 ∷ 10 ∷ 98 ∷ []) ≡ entry_at 1 (part_at 0 (97 ∷ []) Separator) ∷ entry_at 2
+    (part_at 5 (98 ∷ []) Input) ∷ []
 lines_counted = refl
 
 -- LF at the end begins no line
@@ -27,7 +28,8 @@ cut_off : entries_of Sequence (record { depth = 1; bytes = 3 }) (30 ∷ 97 ∷ 9
 cut_off = refl
 
 -- and a line of which only white space is within them may have gone on
-line_cut_off : entries_of Lines (record { depth = 1; bytes = 3 }) (97 ∷ 10 ∷ 32 ∷ 99 ∷ []) ≡ entry_at 1 (part_at 0 (97 ∷ []) Separator) ∷ entry_at 2 (part_at 2 (32 ∷ []) Limit) ∷ []
+line_cut_off : entries_of Lines (record { depth = 1; bytes = 3 }) (97 ∷ 10 ∷ 32 ∷ 99 ∷ []) ≡ entry_at 1 (part_at 0 (97 ∷ []) Separator) ∷ entry_at 2
+    (part_at 2 (32 ∷ []) Limit) ∷ []
 line_cut_off = refl
 
 nothing : entries_of Sequence (record { depth = 1; bytes = 9 }) [] ≡ []

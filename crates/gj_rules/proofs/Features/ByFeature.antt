@@ -15,7 +15,9 @@ use Rattle.gj_rules.specs.declared.role.Role.{Role}
 use Rattle.gj_rules.specs.Members.{first_type, repeated}
 use Rattle.gj_rules.specs.Faults.{faults, first, forbidden, optional, due, text_faults}
 use Rattle.gj_rules.specs.TextWarnings.{warnings, crs_warnings, first_value, first_warnings, text_warnings}
-use Rattle.gj_rules.specs.FeatureFindings.{FeatureFinding, finding_of, unless_broken, elements_if, features_of, findings_from, feature_findings, complete_at, complete_in, findings_by, members_emptied, without_features, own_faults, own_warnings, names_collection, IsCollection, least_found, warnings_found}
+use Rattle.gj_rules.specs.FeatureFindings.{FeatureFinding, finding_of, unless_broken, elements_if, features_of, findings_from, feature_findings, complete_at}
+use Rattle.gj_rules.specs.FeatureFindings.{complete_in, findings_by, members_emptied, without_features, own_faults, own_warnings, names_collection}
+use Rattle.gj_rules.specs.FeatureFindings.{IsCollection, least_found, warnings_found}
 use Rattle.gj_rules.proofs.Features.OwnText.{own_first, own_type, own_repeated, own_crs, own_box, due_each, features_each}
 
 -- ---- lists
@@ -43,7 +45,8 @@ of_features vs = flat_map (λ v. faults Role.Feature v) vs
 
 least_each : (index : ℕ) (vs : List Tree) → least (of_features vs) ≡ least_found (findings_from index vs)
 least_each index [] = refl
-least_each index (v ∷ vs) = least-append (faults Role.Feature v) (of_features vs) ∙ ap (λ x. lesser (least (faults Role.Feature v)) x) (least_each (index + 1) vs)
+least_each index (v ∷ vs) =
+    least-append (faults Role.Feature v) (of_features vs) ∙ ap (λ x. lesser (least (faults Role.Feature v)) x) (least_each (index + 1) vs)
 
 all_sound : (index : ℕ) (vs : List Tree) → of_features vs ≡ [] → AllByRecursion (λ finding. finding.fault ≡ None) (findings_from index vs)
 all_sound index [] e = tt
@@ -73,14 +76,16 @@ forbidden_there ms =
 abbrev collected_faults : ℕ → Members → List Fault
 collected_faults place ms = repeated [] ms ++ (optional (first Bbox ms) ++ (forbidden_there ms ++ due place G8 (first Features ms)))
 
-root_faults : (place close : ℕ) (ms : Members) (o : Option TypeValue) → first_type ms ≡ o → names_collection o → faults Role.Root (object place ms close) ≡ collected_faults place ms
+root_faults : (place close : ℕ) (ms : Members) (o : Option TypeValue) → first_type ms ≡ o → names_collection o
+    → faults Role.Root (object place ms close) ≡ collected_faults place ms
 root_faults place close ms None e h = absurd h
 root_faults place close ms (Some value) e h = rw (e, h) refl
 
 abbrev collected_warnings : Members → List Warning
 collected_warnings ms = crs_warnings ms ++ (first_warnings Bbox ms ++ first_warnings Features ms)
 
-root_warnings : (place close : ℕ) (ms : Members) (o : Option TypeValue) → first_type ms ≡ o → names_collection o → warnings Role.Root (object place ms close) ≡ collected_warnings ms
+root_warnings : (place close : ℕ) (ms : Members) (o : Option TypeValue) → first_type ms ≡ o → names_collection o
+    → warnings Role.Root (object place ms close) ≡ collected_warnings ms
 root_warnings place close ms None e h = absurd h
 root_warnings place close ms (Some value) e h = rw (e, h) refl
 
@@ -88,7 +93,8 @@ root_warnings place close ms (Some value) e h = rw (e, h) refl
 goes_on : {A : Type 0} (a b c d e : List A) → a ++ (b ++ (c ++ (d ++ e))) ≡ (a ++ (b ++ (c ++ d))) ++ e
 goes_on a b c d e = sym (append_assoc a (b ++ (c ++ d)) e ∙ ap (λ xs. a ++ xs) (append_assoc b (c ++ d) e ∙ ap (λ xs. b ++ xs) (append_assoc c d e)))
 
-own_collected : (place : ℕ) (ms : Members) → collected_faults place ms ≡ collected_faults place (members_emptied ms) ++ of_features (elements_if (first_value Features ms))
+own_collected : (place : ℕ) (ms : Members)
+    → collected_faults place ms ≡ collected_faults place (members_emptied ms) ++ of_features (elements_if (first_value Features ms))
 own_collected place ms =
     rw (
       own_repeated [] ms,
@@ -99,7 +105,8 @@ own_collected place ms =
       own_first Properties ms refl,
       due_each place ms,
     )
-    (goes_on (repeated [] ms) (optional (first Bbox ms)) (forbidden_there ms) (due place G8 (first Features (members_emptied ms))) (of_features (elements_if (first_value Features ms))))
+    (goes_on (repeated [] ms) (optional (first Bbox ms)) (forbidden_there ms) (due place G8 (first Features (members_emptied ms)))
+    (of_features (elements_if (first_value Features ms))))
 
 -- the faults of a FeatureCollection are its own and those of its features
 by_features : (v : Tree) → IsCollection v → faults Role.Root v ≡ faults Role.Root (without_features v) ++ of_features (features_of v)
@@ -112,16 +119,20 @@ by_features (constant which place) h = absurd h
 by_features (number place literal end) h = absurd h
 by_features (string place content end) h = absurd h
 
-warned_by_features : (v : Tree) → IsCollection v → warnings Role.Root v ≡ warnings Role.Root (without_features v) ++ flat_map (λ v. warnings Role.Feature v) (features_of v)
+warned_by_features : (v : Tree) → IsCollection v
+    → warnings Role.Root v ≡ warnings Role.Root (without_features v) ++ flat_map (λ v. warnings Role.Feature v) (features_of v)
 warned_by_features (object place ms close) h =
     root_warnings place close ms (first_type ms) refl h
     ∙ (own_warned ms
-    ∙ ap (λ xs. xs ++ flat_map (λ v. warnings Role.Feature v) (elements_if (first_value Features ms))) (sym (root_warnings place close (members_emptied ms) (first_type ms) (own_type ms) h)))
+    ∙ ap (λ xs. xs ++ flat_map (λ v. warnings Role.Feature v) (elements_if (first_value Features ms)))
+    (sym (root_warnings place close (members_emptied ms) (first_type ms) (own_type ms) h)))
   where
-    own_warned : (ms : Members) → collected_warnings ms ≡ collected_warnings (members_emptied ms) ++ flat_map (λ v. warnings Role.Feature v) (elements_if (first_value Features ms))
+    own_warned : (ms : Members)
+        → collected_warnings ms ≡ collected_warnings (members_emptied ms) ++ flat_map (λ v. warnings Role.Feature v) (elements_if (first_value Features ms))
     own_warned ms =
         rw (own_crs ms, own_box ms, features_each ms)
-        (goes_on [] (crs_warnings ms) (first_warnings Bbox ms) (first_warnings Features (members_emptied ms)) (flat_map (λ v. warnings Role.Feature v) (elements_if (first_value Features ms))))
+        (goes_on [] (crs_warnings ms) (first_warnings Bbox ms) (first_warnings Features (members_emptied ms))
+        (flat_map (λ v. warnings Role.Feature v) (elements_if (first_value Features ms))))
 warned_by_features (array place es close) h = absurd h
 warned_by_features (constant which place) h = absurd h
 warned_by_features (number place literal end) h = absurd h
@@ -138,14 +149,17 @@ least_of_all text h =
 pub sound_parts : (text : Text) → IsCollection text.value → text_faults text ≡ [] → (own_faults text ≡ []) × (of_features (features_of text.value) ≡ [])
 sound_parts text h e = no_parts (own_faults text) (of_features (features_of text.value)) (sym (by_features text.value h) ∙ e)
 
-pub all_valid : (text : Text) → IsCollection text.value → text_faults text ≡ [] → (own_faults text ≡ []) × AllByRecursion (λ finding. finding.fault ≡ None) (feature_findings text)
+pub all_valid : (text : Text) → IsCollection text.value → text_faults text ≡ [] → (own_faults text ≡ [])
+    × AllByRecursion (λ finding. finding.fault ≡ None) (feature_findings text)
 all_valid text h e = let p = sound_parts text h e in (p.0, all_sound 0 (features_of text.value) p.1)
 
-pub valid_all : (text : Text) → IsCollection text.value → (own_faults text ≡ []) × AllByRecursion (λ finding. finding.fault ≡ None) (feature_findings text) → text_faults text ≡ []
+pub valid_all : (text : Text) → IsCollection text.value → (own_faults text ≡ []) × AllByRecursion (λ finding. finding.fault ≡ None) (feature_findings text)
+    → text_faults text ≡ []
 valid_all text h p =
     by_features text.value h ∙ (ap (λ xs. xs ++ of_features (features_of text.value)) p.0 ∙ sound_all 0 (features_of text.value) p.1)
 
-pub warned_all_in : (text : Text) → IsCollection text.value → text_faults text ≡ [] → text_warnings text ≡ own_warnings text ++ warnings_found (feature_findings text)
+pub warned_all_in : (text : Text) → IsCollection text.value → text_faults text ≡ []
+    → text_warnings text ≡ own_warnings text ++ warnings_found (feature_findings text)
 warned_all_in text h e =
     let p = sound_parts text h e in
     ap (λ xs. warned_if text.marked 0 W1 ++ xs)
@@ -158,7 +172,9 @@ so_far : (n index : ℕ) (vs : List Tree) → (later : List FeatureFinding) × (
 so_far n index [] = ([], refl)
 so_far n index (v ∷ vs) = split (nat_le (complete_at v) n) refl (so_far n (index + 1) vs)
   where
-    split : (b : Bool) → nat_le (complete_at v) n ≡ b → (later : List FeatureFinding) × (findings_from (index + 1) vs ≡ findings_from (index + 1) (complete_in n vs) ++ later) → (later : List FeatureFinding) × (findings_from index (v ∷ vs) ≡ findings_from index (complete_in n (v ∷ vs)) ++ later)
+    split : (b : Bool) → nat_le (complete_at v) n ≡ b → (later : List FeatureFinding)
+        × (findings_from (index + 1) vs ≡ findings_from (index + 1) (complete_in n vs) ++ later) → (later : List FeatureFinding)
+        × (findings_from index (v ∷ vs) ≡ findings_from index (complete_in n (v ∷ vs)) ++ later)
     split true e k = (k.0, rw e (ap (λ xs. finding_of index v ∷ xs) k.1))
     split false e k = (findings_from index (v ∷ vs), rw e refl)
 

@@ -5,18 +5,21 @@ use Rattle.gj_json.specs.declared.event.What.{What}
 use Rattle.gj_rules.specs.declared.feature_count.FeatureCount.{FeatureCount}
 use Rattle.gj_rules.specs.declared.feature_count.Stage.{Stage}
 use Rattle.gj_rules.specs.CleanFeature.{feature_of}
-use Rattle.gj_rules.specs.Internal.FeatureSteps.{count_at, list_step, element_step, tells_at, stage_tells, element_tells, feature_found, began, stage_step, is_scalar}
+use Rattle.gj_rules.specs.Internal.FeatureSteps.{count_at, list_step, element_step, tells_at, stage_tells, element_tells, feature_found, began, stage_step}
+use Rattle.gj_rules.specs.Internal.FeatureSteps.{is_scalar}
 use Rattle.gj_rules.specs.Internal.FrameCalls.{settled}
 use Rattle.gj_rules.specs.Internal.FrameMeaning.{Findings, Frame}
 use Rattle.gj_rules.specs.Internal.Summaries.{none_found}
 
-pub opens : (c : FeatureCount) (place : ℕ) (starts : Bool) → c.inner ≡ 0 → c.stage ≡ Stage.List → count_at c.inner What.OpenObject place starts c ≡ list_step What.OpenObject place c
+pub opens : (c : FeatureCount) (place : ℕ) (starts : Bool) → c.inner ≡ 0 → c.stage ≡ Stage.List
+    → count_at c.inner What.OpenObject place starts c ≡ list_step What.OpenObject place c
 opens c place starts i s = rw (i, s) refl
 
 pub opens_untold : (c : FeatureCount) (place : ℕ) (top : Frame) → c.inner ≡ 0 → c.stage ≡ Stage.List → tells_at c.inner What.OpenObject place top c ≡ []
 opens_untold c place top i s = rw (i, s) refl
 
-pub closes : (c : FeatureCount) (place : ℕ) (starts : Bool) → c.inner ≡ 0 → c.stage ≡ Stage.Element → count_at c.inner What.CloseObject place starts c ≡ element_step What.CloseObject 0 c
+pub closes : (c : FeatureCount) (place : ℕ) (starts : Bool) → c.inner ≡ 0 → c.stage ≡ Stage.Element
+    → count_at c.inner What.CloseObject place starts c ≡ element_step What.CloseObject 0 c
 closes c place starts i s = rw (i, s) refl
 
 pub closes_clean : (c : FeatureCount) (place : ℕ) (top : Frame) → c.inner ≡ 0 → c.stage ≡ Stage.Element → settled top ≡ none_found
@@ -39,7 +42,8 @@ pub named_within : (n : ℕ) (name : Known) (place : ℕ) (starts : Bool) (c : F
 named_within zero name place starts c e l = absurd (omega (arith, l))
 named_within (suc n) name place starts c e l = ap (λ k. record c { inner = k }) e
 
-pub begins_id : (c : FeatureCount) (what : What) (place : ℕ) (starts : Bool) → is_scalar what ≡ true → c.inner ≡ 0 → c.stage ≡ Stage.Element → count_at c.inner what place starts c ≡ began place c
+pub begins_id : (c : FeatureCount) (what : What) (place : ℕ) (starts : Bool) → is_scalar what ≡ true → c.inner ≡ 0 → c.stage ≡ Stage.Element
+    → count_at c.inner what place starts c ≡ began place c
 begins_id c what place starts k i s = ap (λ n. count_at n what place starts c) i ∙ (ap (λ g. stage_step g what place starts c) s ∙ scalar what k)
   where
     scalar : (what : What) → is_scalar what ≡ true → element_step what place c ≡ began place c
@@ -47,7 +51,8 @@ begins_id c what place starts k i s = ap (λ n. count_at n what place starts c) 
     scalar (What.Number value) k = refl
     scalar _ k = cc
 
-pub id_untold : (c : FeatureCount) (what : What) (place : ℕ) (top : Frame) → is_scalar what ≡ true → c.inner ≡ 0 → c.stage ≡ Stage.Element → tells_at c.inner what place top c ≡ []
+pub id_untold : (c : FeatureCount) (what : What) (place : ℕ) (top : Frame) → is_scalar what ≡ true → c.inner ≡ 0 → c.stage ≡ Stage.Element
+    → tells_at c.inner what place top c ≡ []
 id_untold c what place top k i s = ap (λ n. tells_at n what place top c) i ∙ (ap (λ g. stage_tells g what place top c) s ∙ scalar what k)
   where
     scalar : (what : What) → is_scalar what ≡ true → element_tells what place top c ≡ []

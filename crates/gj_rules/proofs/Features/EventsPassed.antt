@@ -1,5 +1,6 @@
 -- Events that matter to no feature.
-use Rattle.std.proofs.Common.{◌≡◌, ℕ, zero, suc, ◌+◌, ◌-◌, ◌<◌, ◌≤◌, ◌^◌, nat_le, Bool, true, false, List, [], ◌∷◌, ◌++◌, map, length, Option, refl, sym, ap, subst, ◌∙◌, arith, append_assoc, append-nil}
+use Rattle.std.proofs.Common.{◌≡◌, ℕ, zero, suc, ◌+◌, ◌-◌, ◌<◌, ◌≤◌, ◌^◌, nat_le, Bool, true, false, List, [], ◌∷◌, ◌++◌, map, length, Option, refl, sym, ap}
+use Rattle.std.proofs.Common.{subst, ◌∙◌, arith, append_assoc, append-nil}
 use Rattle.std.proofs.lemmas.Bool.Decides.{nat_tests}
 use Rattle.std.proofs.lemmas.List.{length-append}
 use Rattle.gj_json.specs.declared.event.Event.{Event}
@@ -15,7 +16,8 @@ use Rattle.gj_rules.specs.declared.feature_count.Stage.{Stage}
 use Rattle.gj_rules.specs.Internal.FrameMeaning.{Frame}
 use Rattle.gj_rules.specs.Internal.EventSteps.{State, run, start}
 use Rattle.gj_rules.specs.Internal.LabelledEvents.{Told, event_of, text_told}
-use Rattle.gj_rules.specs.Internal.FeatureSteps.{heard, count, counted, count_at, inner_step, tells, tells_at, features_in, no_count, concerned, ignored_of, FeaturesAre}
+use Rattle.gj_rules.specs.Internal.FeatureSteps.{heard, count, counted, count_at, inner_step, tells, tells_at, features_in, no_count, concerned, ignored_of}
+use Rattle.gj_rules.specs.Internal.FeatureSteps.{FeaturesAre}
 use Rattle.gj_rules.proofs.Features.FeaturesSoFar.{small, count-last, heard-last}
 use Rattle.gj_rules.proofs.Texts.OneEventMore.{last_told}
 
@@ -38,7 +40,8 @@ abbrev TellsNone : What → ℕ → Frame → FeatureCount → Type 0
 TellsNone what place top c = tells_at c.inner what place top c ≡ []
 
 -- where its kind does not concern the count, its levels alone change
-counts_levels : (what : What) (place : ℕ) (starts : Bool) (n : ℕ) (stage : Stage) (i p : ℕ) (d : Option ℕ) (b : Bool) → concerned what n stage b ≡ false → Counts what place starts (at_level n stage i p d b)
+counts_levels : (what : What) (place : ℕ) (starts : Bool) (n : ℕ) (stage : Stage) (i p : ℕ) (d : Option ℕ) (b : Bool) → concerned what n stage b ≡ false
+    → Counts what place starts (at_level n stage i p d b)
 counts_levels what place starts (suc n) stage i p d b e = ap (λ k. at_level k stage i p d b) (inner_is what n)
 counts_levels (What.Name Id) place starts zero stage i p d b e = cc
 counts_levels (What.Name _) place starts zero Stage.Outside i p d b e = refl
@@ -62,7 +65,8 @@ counts_levels _ place starts zero Stage.Element i p d true e = cc
 pub counts_quiet : (what : What) (place : ℕ) (starts : Bool) (c : FeatureCount) → concerned what c.inner c.stage c.id_due ≡ false → Counts what place starts c
 counts_quiet what place starts c e = counts_levels what place starts c.inner c.stage c.index c.place c.id c.id_due e
 
-tells_levels : (what : What) (place : ℕ) (top : Frame) (n : ℕ) (stage : Stage) (i p : ℕ) (d : Option ℕ) (b : Bool) → concerned what n stage b ≡ false → TellsNone what place top (at_level n stage i p d b)
+tells_levels : (what : What) (place : ℕ) (top : Frame) (n : ℕ) (stage : Stage) (i p : ℕ) (d : Option ℕ) (b : Bool) → concerned what n stage b ≡ false
+    → TellsNone what place top (at_level n stage i p d b)
 tells_levels what place top (suc n) stage i p d b e = refl
 tells_levels what place top zero Stage.Outside i p d b e = refl
 tells_levels what place top zero Stage.Root i p d b e = refl
@@ -101,7 +105,8 @@ one_quiet Says c event events n i h text done rest split e d few =
     let inner : before.inner ≡ suc n = ap (λ (z : FeatureCount). z.inner) (sym was.0) ∙ i in
     let same : counted (event_of x) (run front start) before ≡ with_levels (levels_behind event.what (suc n)) c =
     quiet_step (event_of x) (run front start) before n inner
-    ∙ (ap (λ (y : Event). with_levels (levels_behind y.what (suc n)) before) k.4 ∙ ap (λ (z : FeatureCount). with_levels (levels_behind event.what (suc n)) z) (sym was.0)) in (
+    ∙ (ap (λ (y : Event). with_levels (levels_behind y.what (suc n)) before) k.4
+    ∙ ap (λ (z : FeatureCount). with_levels (levels_behind event.what (suc n)) z) (sym was.0)) in (
       sym same ∙ (sym (count-last front x start no_count) ∙ ap (λ (ts : List Told). count ts start no_count) (sym k.2)),
       subst Says
           (sym (append-nil (features_in (heard front start no_count)))
@@ -111,7 +116,8 @@ one_quiet Says c event events n i h text done rest split e d few =
     )
 
 -- of so many levels more than have to close, they leave so many more than are left
-pub quiet_events : (Says : List Feature → Type 0) (inner : List Event) (c : FeatureCount) (events : List Event) (more levels left : ℕ) → c.inner ≡ more + levels → Leaves levels inner left
+pub quiet_events : (Says : List Feature → Type 0) (inner : List Event) (c : FeatureCount) (events : List Event) (more levels left : ℕ) → c.inner ≡ more + levels
+    → Leaves levels inner left
     → FeaturesAre Says c events → FeaturesAre Says (with_levels (more + left) c) (events ++ inner)
 quiet_events Says [] c events more levels left e l h =
     let same : with_levels (more + left) c ≡ c = ap (λ k. with_levels k c) (ap (λ k. more + k) (sym l) ∙ sym e) in
@@ -119,7 +125,8 @@ quiet_events Says [] c events more levels left e l h =
 quiet_events Says (event ∷ inner) c events more zero left e l h = absurd l
 quiet_events Says (event ∷ inner) c events more (suc levels) left e l h =
     let one = one_quiet Says c event events (more + levels) (omega (arith, e)) h in
-    let on = quiet_events Says inner (with_levels (levels_behind event.what (suc (more + levels))) c) (events ++ event ∷ []) more (levels_behind event.what (suc levels)) left (behind event.what more levels) l one in
+    let on = quiet_events Says inner (with_levels (levels_behind event.what (suc (more + levels))) c) (events ++ event ∷ []) more
+    (levels_behind event.what (suc levels)) left (behind event.what more levels) l one in
     subst (λ es. FeaturesAre Says (with_levels (more + left) c) es) (append_assoc events (event ∷ []) inner) on
   where
     behind : (what : What) (more levels : ℕ) → levels_behind what (suc (more + levels)) ≡ more + levels_behind what (suc levels)
@@ -131,36 +138,43 @@ quiet_events Says (event ∷ inner) c events more (suc levels) left e l h =
 
 -- ---- an array of numbers
 
-numbers_leave : (numbers : List Numbered) (levels close : ℕ) → Leaves (suc (suc levels)) (map number_event numbers ++ record { place = close; what = What.CloseArray } ∷ []) (suc levels)
+numbers_leave : (numbers : List Numbered) (levels close : ℕ)
+    → Leaves (suc (suc levels)) (map number_event numbers ++ record { place = close; what = What.CloseArray } ∷ []) (suc levels)
 numbers_leave [] levels close = omega arith
 numbers_leave (number ∷ numbers) levels close = numbers_leave numbers levels close
 
 flat_leaves : (flat : Flat) (levels : ℕ) → Leaves (suc levels) (flat_events flat) (suc levels)
 flat_leaves flat levels =
     let e : suc levels + 1 ≡ suc (suc levels) = omega arith in
-    subst (λ n. Leaves n (map number_event (numbers_of flat) ++ record { place = flat.close; what = What.CloseArray } ∷ []) (suc levels)) (sym e) (numbers_leave (numbers_of flat) levels flat.close)
+    subst (λ n. Leaves n (map number_event (numbers_of flat) ++ record { place = flat.close; what = What.CloseArray } ∷ []) (suc levels)) (sym e)
+    (numbers_leave (numbers_of flat) levels flat.close)
 
-pub quiet_flat : (Says : List Feature → Type 0) (flat : Flat) (c : FeatureCount) (events : List Event) → 0 < c.inner → FeaturesAre Says c events → FeaturesAre Says c (events ++ flat_events flat)
+pub quiet_flat : (Says : List Feature → Type 0) (flat : Flat) (c : FeatureCount) (events : List Event) → 0 < c.inner → FeaturesAre Says c events
+    → FeaturesAre Says c (events ++ flat_events flat)
 quiet_flat Says flat c events l h = go c.inner refl
   where
     go : (n : ℕ) → c.inner ≡ n → FeaturesAre Says c (events ++ flat_events flat)
     go zero e = absurd (omega (arith, l, e))
     go (suc n) e =
         let same : with_levels (0 + suc n) c ≡ c = ap (λ k. with_levels k c) (omega (arith, e)) in
-        subst (λ z. FeaturesAre Says z (events ++ flat_events flat)) same (quiet_events Says (flat_events flat) c events 0 (suc n) (suc n) (omega (arith, e)) (flat_leaves flat n) h)
+        subst (λ z. FeaturesAre Says z (events ++ flat_events flat)) same
+        (quiet_events Says (flat_events flat) c events 0 (suc n) (suc n) (omega (arith, e)) (flat_leaves flat n) h)
 
 -- ---- levels that are ignored
 
 -- this is the count, as far as it is small
-same_count : (Says : List Feature → Type 0) (c after : FeatureCount) (events : List Event) → (c.inner < 2 ^ 63 → after ≡ c) → FeaturesAre Says c events → FeaturesAre Says after events
+same_count : (Says : List Feature → Type 0) (c after : FeatureCount) (events : List Event) → (c.inner < 2 ^ 63 → after ≡ c) → FeaturesAre Says c events
+    → FeaturesAre Says after events
 same_count Says c after events same h text done rest split e d few =
     let was = h text done rest split e d few in
     let g = small done start no_count in
     let long : length (text_told text) ≡ length done + length rest = ap length split ∙ length-append done rest in
     (same (omega (arith, ap (λ (z : FeatureCount). z.inner) was.0, g.0, long, few)) ∙ was.0, was.1)
 
-pub quiet_pass : (Says : List Feature → Type 0) (inner : List Event) (c after : FeatureCount) (events : List Event) (skipped left : ℕ) → 0 < ignored_of skipped c.inner
-    → (c.inner - skipped + left < 2 ^ 63 → after ≡ with_levels (c.inner - skipped + left) c) → Leaves (ignored_of skipped c.inner) inner left → FeaturesAre Says c events → FeaturesAre Says after (events ++ inner)
+pub quiet_pass : (Says : List Feature → Type 0) (inner : List Event) (c after : FeatureCount) (events : List Event) (skipped left : ℕ)
+    → 0 < ignored_of skipped c.inner
+    → (c.inner - skipped + left < 2 ^ 63 → after ≡ with_levels (c.inner - skipped + left) c) → Leaves (ignored_of skipped c.inner) inner left
+    → FeaturesAre Says c events → FeaturesAre Says after (events ++ inner)
 quiet_pass Says inner c after events skipped left l same leaves h = go (nat_le skipped c.inner) refl
   where
     go : (b : Bool) → nat_le skipped c.inner ≡ b → FeaturesAre Says after (events ++ inner)
@@ -172,7 +186,8 @@ quiet_pass Says inner c after events skipped left l same leaves h = go (nat_le s
         (quiet_events Says inner c events (c.inner - skipped) skipped left (omega (arith, fits)) (subst (λ n. Leaves n inner left) all leaves) h)
 
 -- the rules ignore no fewer levels
-pub leaves_all : (skipped inner left : ℕ) (events : List Event) → 0 < ignored_of skipped inner → Leaves (ignored_of skipped inner) events left → (0 < skipped) × Leaves skipped events left
+pub leaves_all : (skipped inner left : ℕ) (events : List Event) → 0 < ignored_of skipped inner → Leaves (ignored_of skipped inner) events left → (0 < skipped)
+    × Leaves skipped events left
 leaves_all skipped inner left events l leaves = go (nat_le skipped inner) refl
   where
     go : (b : Bool) → nat_le skipped inner ≡ b → (0 < skipped) × Leaves skipped events left

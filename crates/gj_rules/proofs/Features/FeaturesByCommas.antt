@@ -1,5 +1,6 @@
 -- A comma stands between two features of a text: in a run of its bytes at most one more is complete than it has commas.
-use Rattle.std.proofs.Common.{◌≡◌, ℕ, zero, suc, ◌+◌, ◌-◌, ◌<◌, ◌≤◌, nat_le, Bool, true, false, cond, if◌then◌else◌, List, [], ◌∷◌, ◌++◌, length, take, append_assoc, Option, Some, refl, ap, sym, subst, ◌∙◌, arith}
+use Rattle.std.proofs.Common.{◌≡◌, ℕ, zero, suc, ◌+◌, ◌-◌, ◌<◌, ◌≤◌, nat_le, Bool, true, false, cond, if◌then◌else◌, List, [], ◌∷◌, ◌++◌, length, take}
+use Rattle.std.proofs.Common.{append_assoc, Option, Some, refl, ap, sym, subst, ◌∙◌, arith}
 use Rattle.std.proofs.lemmas.Bool.Decides.{nat_tests}
 use Rattle.std.proofs.lemmas.List.{length-append, take-append-le, take_all}
 use Rattle.std.proofs.lemmas.List.Sums.{sum_by-cons, sum_by-append}
@@ -48,7 +49,8 @@ before_split q n bytes xs ys e =
     let k : q - n - length xs ≡ q - (n + length xs) = omega arith in
     ap (λ bs. commas (take (q - n) bs)) e ∙ commas_split (q - n) xs ys ∙ ap (λ i. before q n xs + commas (take i ys)) k
 
-then_split : {First Rest : ℕ → List ℕ → Type 0} {n : ℕ} {bytes : List ℕ} (q : ℕ) (h : Then First Rest n bytes) → before q n bytes ≡ before q n h.first + before q (n + length h.first) h.rest
+then_split : {First Rest : ℕ → List ℕ → Type 0} {n : ℕ} {bytes : List ℕ} (q : ℕ) (h : Then First Rest n bytes)
+    → before q n bytes ≡ before q n h.first + before q (n + length h.first) h.rest
 then_split {n = n} {bytes = bytes} q h = before_split q n bytes h.first h.rest h.joined
 
 none_before : (q n : ℕ) (bytes : List ℕ) → q ≤ n → before q n bytes ≡ 0
@@ -70,16 +72,19 @@ none_spaced : (m q n : ℕ) (bytes : List ℕ) → m ≤ q → Spaced m q n byte
 none_spaced m q n bytes l = omega (arith, before_grows m q n bytes l)
 
 -- also where other bytes stand before and after
-spaced_rest : {First Rest : ℕ → List ℕ → Type 0} {n : ℕ} {bytes : List ℕ} (m q : ℕ) (vs : List Tree) (h : Then First Rest n bytes) → m ≤ q → Spaced m q (n + length h.first) h.rest vs → Spaced m q n bytes vs
+spaced_rest : {First Rest : ℕ → List ℕ → Type 0} {n : ℕ} {bytes : List ℕ} (m q : ℕ) (vs : List Tree) (h : Then First Rest n bytes) → m ≤ q
+    → Spaced m q (n + length h.first) h.rest vs → Spaced m q n bytes vs
 spaced_rest {n = n} {bytes = bytes} m q vs h l k =
     omega (arith, then_split m h, then_split q h, before_grows m q n h.first l, k)
 
-spaced_first : {First Rest : ℕ → List ℕ → Type 0} {n : ℕ} {bytes : List ℕ} (m q : ℕ) (vs : List Tree) (h : Then First Rest n bytes) → m ≤ q → Spaced m q n h.first vs → Spaced m q n bytes vs
+spaced_first : {First Rest : ℕ → List ℕ → Type 0} {n : ℕ} {bytes : List ℕ} (m q : ℕ) (vs : List Tree) (h : Then First Rest n bytes) → m ≤ q
+    → Spaced m q n h.first vs → Spaced m q n bytes vs
 spaced_first {n = n} {bytes = bytes} m q vs h l k =
     omega (arith, then_split m h, then_split q h, before_grows m q (n + length h.first) h.rest l, k)
 
 -- a value, and those after it, each with a comma before it
-spaced_value : {Rest : ℕ → List ℕ → Type 0} {n : ℕ} {bytes : List ℕ} (m q : ℕ) (v : Tree) (vs : List Tree) (h : Then (Spells v) (Then White Rest) n bytes) → m ≤ q
+spaced_value : {Rest : ℕ → List ℕ → Type 0} {n : ℕ} {bytes : List ℕ} (m q : ℕ) (v : Tree) (vs : List Tree) (h : Then (Spells v) (Then White Rest) n bytes)
+    → m ≤ q
     → length (complete_in q vs) ≤ before q (n + length h.first + length h.after.first) h.after.rest
     → Spaced m q (n + length h.first + length h.after.first) h.after.rest vs → Spaced m q n bytes (v ∷ vs)
 spaced_value {n = n} {bytes = bytes} m q v vs h l few more =
@@ -113,7 +118,8 @@ spaced_value {n = n} {bytes = bytes} m q v vs h l few more =
         let i : m < complete_at v = grind (arith, nat_tests) in
         omega (arith, at_m, at_q, grows, none (omega (arith, i, late)))
 
-few_more : (q : ℕ) (es : Tree.Elements) (close n : ℕ) (bytes : List ℕ) → SpellsMoreElements es close n bytes → length (complete_in q (items es)) ≤ before q n bytes
+few_more : (q : ℕ) (es : Tree.Elements) (close n : ℕ) (bytes : List ℕ) → SpellsMoreElements es close n bytes
+    → length (complete_in q (items es)) ≤ before q n bytes
 few_more q end_of_array close n bytes h = omega arith
 few_more q (element v more) close n bytes h =
     let k = h.after.after in
@@ -156,7 +162,8 @@ spaced_if m q n bytes true v o h k = h
 spaced_if m q n bytes false v o h k = k
 
 -- the first member `features`, from the value of a member on
-spaced_member : (m q : ℕ) (v : Tree) (more : Members) (name : List ℕ) (close n : ℕ) (bytes : List ℕ) → m ≤ q → (h : Then (Spells v) (Then White (SpellsMoreMembers more close)) n bytes)
+spaced_member : (m q : ℕ) (v : Tree) (more : Members) (name : List ℕ) (close n : ℕ) (bytes : List ℕ) → m ≤ q
+    → (h : Then (Spells v) (Then White (SpellsMoreMembers more close)) n bytes)
     → Spaced m q (n + length h.first + length h.after.first) h.after.rest (elements_if (first_value Features more))
     → Spaced m q n bytes (elements_if (if same Features (known_of name) then Some v else first_value Features more))
 spaced_member m q v more name close n bytes l h k =
@@ -164,7 +171,8 @@ spaced_member m q v more name close n bytes l h k =
     (spaced_first m q (elements_of v) h l (spaced_in_value m q v _ h.first l h.before))
     (spaced_rest m q (elements_if (first_value Features more)) h l (spaced_rest m q (elements_if (first_value Features more)) h.after l k))
 
-spaced_more_members : (m q : ℕ) (ms : Members) (close n : ℕ) (bytes : List ℕ) → m ≤ q → SpellsMoreMembers ms close n bytes → Spaced m q n bytes (elements_if (first_value Features ms))
+spaced_more_members : (m q : ℕ) (ms : Members) (close n : ℕ) (bytes : List ℕ) → m ≤ q → SpellsMoreMembers ms close n bytes
+    → Spaced m q n bytes (elements_if (first_value Features ms))
 spaced_more_members m q end_of_object close n bytes l h = none_spaced m q n bytes l
 spaced_more_members m q (member place name end v more) close n bytes l h =
     let found = elements_if (first_value Features (member place name end v more)) in
@@ -173,10 +181,12 @@ spaced_more_members m q (member place name end v more) close n bytes l h =
     let c = b.after in
     let d = c.after in
     let e = d.after in
-    spaced_rest m q found h l (spaced_rest m q found a l (spaced_rest m q found b l (spaced_rest m q found c l (spaced_rest m q found d l (spaced_rest m q found e l
+    spaced_rest m q found h l
+    (spaced_rest m q found a l (spaced_rest m q found b l (spaced_rest m q found c l (spaced_rest m q found d l (spaced_rest m q found e l
     (spaced_member m q v more name close _ _ l e.after (spaced_more_members m q more close _ _ l e.after.after.after)))))))
 
-spaced_members : (m q : ℕ) (ms : Members) (close n : ℕ) (bytes : List ℕ) → m ≤ q → SpellsMembers ms close n bytes → Spaced m q n bytes (elements_if (first_value Features ms))
+spaced_members : (m q : ℕ) (ms : Members) (close n : ℕ) (bytes : List ℕ) → m ≤ q → SpellsMembers ms close n bytes
+    → Spaced m q n bytes (elements_if (first_value Features ms))
 spaced_members m q end_of_object close n bytes l h = none_spaced m q n bytes l
 spaced_members m q (member place name end v more) close n bytes l h =
     let found = elements_if (first_value Features (member place name end v more)) in
@@ -198,7 +208,8 @@ spaced_features m q (array place es close) n bytes l h = none_spaced m q n bytes
 spaced_text : (text : Text) (bytes : List ℕ) (m q : ℕ) → IsText text bytes → m ≤ q → Spaced m q 0 bytes (features_of text.value)
 spaced_text text bytes m q t l =
     let found = features_of text.value in
-    spaced_rest m q found t l (spaced_rest m q found t.after l (spaced_first m q found t.after.after l (spaced_features m q text.value _ _ l t.after.after.before)))
+    spaced_rest m q found t l
+    (spaced_rest m q found t.after l (spaced_first m q found t.after.after l (spaced_features m q text.value _ _ l t.after.after.before)))
 
 pub few_by_commas : (text : Text) (before run after : List ℕ) → IsText text (before ++ run ++ after)
     → length (findings_by (length before + length run) text) ≤ length (findings_by (length before) text) + commas run + 1

@@ -41,7 +41,16 @@ mutual
   members_end (member place name end v more) close n bytes h =
       let k = h.after.after in
       let i = k.after.after in
-      omega (arith, more_members_end more close _ _ i.after.after, then_length h, then_length h.after, then_length k, then_length k.after, then_length i, then_length i.after)
+      omega (
+        arith,
+        more_members_end more close _ _ i.after.after,
+        then_length h,
+        then_length h.after,
+        then_length k,
+        then_length k.after,
+        then_length i,
+        then_length i.after,
+      )
 
   more_members_end : (ms : Members) (close n : ℕ) (bytes : List ℕ) → SpellsMoreMembers ms close n bytes → close + 1 ≡ n + length bytes
   more_members_end end_of_object close n bytes h = closed_at h
@@ -49,7 +58,18 @@ mutual
       let j = h.after.after in
       let k = j.after.after in
       let i = k.after.after in
-      omega (arith, more_members_end more close _ _ i.after.after, then_length h, then_length h.after, then_length j, then_length j.after, then_length k, then_length k.after, then_length i, then_length i.after)
+      omega (
+        arith,
+        more_members_end more close _ _ i.after.after,
+        then_length h,
+        then_length h.after,
+        then_length j,
+        then_length j.after,
+        then_length k,
+        then_length k.after,
+        then_length i,
+        then_length i.after,
+      )
 
 -- where a value is complete that is spelled
 pub complete_within : (v : Tree) (n : ℕ) (bytes : List ℕ) → Spells v n bytes → (n < complete_at v) × (complete_at v ≤ n + length bytes + 1)
@@ -96,13 +116,15 @@ rising_more_members : (ms : Members) (close n : ℕ) (bytes : List ℕ) → Spel
 rising_more_members end_of_object close n bytes h = tt
 rising_more_members (member place name end v more) close n bytes h =
     let i = h.after.after.after.after.after.after in
-    rising_first (same Features (known_of name)) v (first_value Features more) (rising_value v _ i.first i.before) (rising_more_members more close _ _ i.after.after)
+    rising_first (same Features (known_of name)) v (first_value Features more) (rising_value v _ i.first i.before)
+    (rising_more_members more close _ _ i.after.after)
 
 rising_members : (ms : Members) (close n : ℕ) (bytes : List ℕ) → SpellsMembers ms close n bytes → Rising 0 (elements_if (first_value Features ms))
 rising_members end_of_object close n bytes h = tt
 rising_members (member place name end v more) close n bytes h =
     let i = h.after.after.after.after in
-    rising_first (same Features (known_of name)) v (first_value Features more) (rising_value v _ i.first i.before) (rising_more_members more close _ _ i.after.after)
+    rising_first (same Features (known_of name)) v (first_value Features more) (rising_value v _ i.first i.before)
+    (rising_more_members more close _ _ i.after.after)
 
 rising_features : (v : Tree) (n : ℕ) (bytes : List ℕ) → Spells v n bytes → Rising 0 (features_of v)
 rising_features (object place ms close) n bytes h = rising_members ms close _ _ h.1.after.after

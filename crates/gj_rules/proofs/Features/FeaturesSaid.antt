@@ -1,5 +1,6 @@
 -- What is told of features says what is found in them.
-use Rattle.std.proofs.Common.{◌≡◌, ℕ, suc, ◌+◌, ◌<◌, ◌^◌, nat_le, Bool, true, false, if◌then◌else◌, List, [], ◌∷◌, ◌++◌, length, length-append, Option, Some, None, refl, sym, arith}
+use Rattle.std.proofs.Common.{◌≡◌, ℕ, suc, ◌+◌, ◌<◌, ◌^◌, nat_le, Bool, true, false, if◌then◌else◌, List, [], ◌∷◌, ◌++◌, length, length-append, Option, Some}
+use Rattle.std.proofs.Common.{None, refl, sym, arith}
 use Rattle.std.proofs.lemmas.List.{length-map}
 use Rattle.std.specs.List.{AllByRecursion}
 use Rattle.gj_json.specs.declared.event.What.TheVariants as What
@@ -51,7 +52,8 @@ few_members (member place name end v more) h =
     let l = length-append (events v) (members_events more) in
     choose (same Features (known_of name)) (few_in v (omega (arith, h, l))) (few_members more (omega (arith, h, l)))
   where
-    choose : (b : Bool) → AllFew (elements_of v) → AllFew (elements_if (first_value Features more)) → AllFew (elements_if (if b then Some v else first_value Features more))
+    choose : (b : Bool) → AllFew (elements_of v) → AllFew (elements_if (first_value Features more))
+        → AllFew (elements_if (if b then Some v else first_value Features more))
     choose true f g = f
     choose false f g = g
 
@@ -76,7 +78,8 @@ warned_says : (o : Option Fault) (kept : Warnings) (all : List Warning) → kept
 warned_says None kept all e = e
 warned_says (Some fault) kept all e = sym warnings_of_none
 
-module _ (law : (simple : Simple) (value : Tree) → length (value_events value) < 2 ^ 64 → coordinates_kept simple value ≡ warnings_of (coordinates_warnings simple value)) where
+module _ (law : (simple : Simple) (value : Tree) → length (value_events value) < 2 ^ 64
+    → coordinates_kept simple value ≡ warnings_of (coordinates_warnings simple value)) where
   all_say : (i j : ℕ) (vs : List Tree) → i ≡ j → AllFew vs → SayFindings (features_from i vs) (findings_from j vs)
   all_say i j [] e h = tt
   all_say i j (v ∷ vs) e h = (

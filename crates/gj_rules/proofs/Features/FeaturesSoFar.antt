@@ -1,5 +1,6 @@
 -- What the events in the first bytes of a text tell of its features, and what one event more tells.
-use Rattle.std.proofs.Common.{◌≡◌, ℕ, zero, suc, ◌+◌, ◌<◌, ◌≤◌, ◌^◌, nat_le, Bool, true, false, List, [], ◌∷◌, ◌++◌, map, length, Option, inl, inr, refl, sym, ap, subst, ◌∙◌, arith, append_assoc, append-nil}
+use Rattle.std.proofs.Common.{◌≡◌, ℕ, zero, suc, ◌+◌, ◌<◌, ◌≤◌, ◌^◌, nat_le, Bool, true, false, List, [], ◌∷◌, ◌++◌, map, length, Option, inl, inr, refl, sym}
+use Rattle.std.proofs.Common.{ap, subst, ◌∙◌, arith, append_assoc, append-nil}
 use Rattle.std.proofs.lemmas.Bool.{cases_lt}
 use Rattle.std.proofs.lemmas.Bool.Decides.{nat_tests}
 use Rattle.std.proofs.lemmas.List.{map-append, length-append, length-map}
@@ -21,7 +22,9 @@ use Rattle.gj_rules.specs.FeatureFindings.{complete_at, complete_in, features_of
 use Rattle.gj_rules.specs.Internal.RulesState.{core_of}
 use Rattle.gj_rules.specs.Internal.EventSteps.{Core, State, step, run, start}
 use Rattle.gj_rules.specs.Internal.LabelledEvents.{Told, event_of, at_of, text_told}
-use Rattle.gj_rules.specs.Internal.FeatureSteps.{TimedFeature, heard, count, counted, count_at, stage_step, outside_step, root_step, list_step, element_step, inner_step, tells, tells_at, timed_at, timed_from, feature_of, features_from, features_by, features_in, no_count, starts_at, FeaturesAre, Stand}
+use Rattle.gj_rules.specs.Internal.FeatureSteps.{TimedFeature, heard, count, counted, count_at, stage_step, outside_step, root_step, list_step, element_step}
+use Rattle.gj_rules.specs.Internal.FeatureSteps.{inner_step, tells, tells_at, timed_at, timed_from, feature_of, features_from, features_by, features_in}
+use Rattle.gj_rules.specs.Internal.FeatureSteps.{no_count, starts_at, FeaturesAre, Stand}
 use Rattle.gj_rules.proofs.Features.FeatureEvents.{text_heard}
 use Rattle.gj_rules.proofs.Texts.EventOrder.{Late, InOrder, late_after, by_late, by_in_time, in_order}
 use Rattle.gj_rules.proofs.Texts.OneEventMore.{last_told, none_told}
@@ -45,7 +48,15 @@ cut_at n [] i = record { done = []; rest = []; split = refl; first = tt; last = 
 cut_at n (x ∷ xs) i =
     elim (cases_lt n (at_of x)) [
       | inr l ↦ on x xs l (cut_at n xs i.1)
-      | inl l ↦ record { done = []; rest = x ∷ xs; split = refl; first = tt; last = (l, late_after n (at_of x) xs l i.0); complete = sym (by_late n (x ∷ xs) (l, late_after n (at_of x) xs l i.0)) }
+      | inl l ↦ record {
+        done = [];
+        rest = x ∷ xs;
+        split = refl;
+        first = tt;
+        last = (l, late_after n (at_of x) xs l i.0);
+        complete =
+            sym (by_late n (x ∷ xs) (l, late_after n (at_of x) xs l i.0));
+      }
     ]
   where
     on : (x : Told) (xs : List Told) → at_of x ≤ n → Cut n xs → Cut n (x ∷ xs)
@@ -88,7 +99,8 @@ later_heard : (n : ℕ) (xs : List Told) (s : State) (c : FeatureCount) → Late
 later_heard n [] s c h = tt
 later_heard n (x ∷ xs) s c h = later_at n (at_of x) (tells (event_of x) s c) _ h.0 (later_heard n xs (step x s) (counted (event_of x) s c) h.1)
 
-soon_are : (n : ℕ) (xs ys : List TimedFeature) (i : ℕ) (vs : List Tree) → Soon n xs → Later n ys → xs ++ ys ≡ timed_from i vs → features_in xs ≡ features_from i (complete_in n vs)
+soon_are : (n : ℕ) (xs ys : List TimedFeature) (i : ℕ) (vs : List Tree) → Soon n xs → Later n ys → xs ++ ys ≡ timed_from i vs
+    → features_in xs ≡ features_from i (complete_in n vs)
 soon_are n [] ys i [] h k e = refl
 soon_are n [] [] i (v ∷ vs) h k e = cc
 soon_are n [] (y ∷ ys) i (v ∷ vs) h k e =
@@ -109,7 +121,8 @@ soon_are n (x ∷ xs) ys i (v ∷ vs) h k e =
     rw g (ap (λ (t : TimedFeature). t.feature ∷ features_in xs) p ∙ ap (λ fs. feature_of i v ∷ fs) (soon_are n xs ys (suc i) vs h.1 k q))
 
 -- what was told of a prefix of a text is what the definition lists of it
-pub features_are : (Says : List Feature → Type 0) (c : FeatureCount) (text : Text) (bytes : List ℕ) (n : ℕ) → IsText text bytes → depth text.value ≤ most_levels → length (all_events text) < 2 ^ 63
+pub features_are : (Says : List Feature → Type 0) (c : FeatureCount) (text : Text) (bytes : List ℕ) (n : ℕ) → IsText text bytes → depth text.value ≤ most_levels
+    → length (all_events text) < 2 ^ 63
     → FeaturesAre Says c (events_by n text) → Says (features_by n text)
 features_are Says c text bytes n t d few h =
     let k = cut_at n (text_told text) (in_order text bytes t) in
@@ -190,14 +203,16 @@ untimed : (at : ℕ) (fs : List Feature) → features_in (timed_at at fs) ≡ fs
 untimed at [] = refl
 untimed at (f ∷ fs) = ap (λ gs. f ∷ gs) (untimed at fs)
 
-pub heard-last : (xs : List Told) (x : Told) → features_in (heard (xs ++ x ∷ []) start no_count) ≡ features_in (heard xs start no_count) ++ tells (event_of x) (run xs start) (count xs start no_count)
+pub heard-last : (xs : List Told) (x : Told)
+    → features_in (heard (xs ++ x ∷ []) start no_count) ≡ features_in (heard xs start no_count) ++ tells (event_of x) (run xs start) (count xs start no_count)
 heard-last xs x =
     let fs = tells (event_of x) (run xs start) (count xs start no_count) in
     ap features_in (heard-append xs (x ∷ []) start no_count)
     ∙ (map-append (λ (t : TimedFeature). t.feature) (heard xs start no_count) (timed_at (at_of x) fs ++ [])
     ∙ ap (λ gs. features_in (heard xs start no_count) ++ gs) (ap features_in (append-nil (timed_at (at_of x) fs)) ∙ untimed (at_of x) fs))
 
-pub told_more : (Old New : List Feature → Type 0) (rules : FramedRules MOST_FRAMES) (c after : FeatureCount) (event : Event) (events : List Event) (told : Option Feature)
+pub told_more : (Old New : List Feature → Type 0) (rules : FramedRules MOST_FRAMES) (c after : FeatureCount) (event : Event) (events : List Event)
+    (told : Option Feature)
     → option_to_list told ≡ tells_at c.inner event.what event.place (core_of rules).top c
     → (c.inner < 2 ^ 63 → c.index < 2 ^ 63 → after ≡ count_at c.inner event.what event.place (starts_at rules.skipped rules.mode) c)
     → ((fs : List Feature) → Old fs → New (fs ++ option_to_list told))
@@ -213,12 +228,15 @@ told_more Old New rules c after event events told t n say h text done rest split
     let g = small front start no_count in
     let inner : c.inner < 2 ^ 63 = omega (arith, ap (λ (z : FeatureCount). z.inner) was.0, g.0, long, few) in
     let index : c.index < 2 ^ 63 = omega (arith, ap (λ (z : FeatureCount). z.index) was.0, g.1, long, few) in
-    let counted_is : count_at c.inner event.what event.place (starts_at rules.skipped rules.mode) c ≡ counted (event_of x) (run front start) (count front start no_count) =
+    let counted_is : count_at c.inner event.what event.place (starts_at rules.skipped rules.mode) c ≡ counted (event_of x) (run front start)
+    (count front start no_count) =
     ap (λ (q : Core). count_at c.inner event.what event.place (starts_at q.skipped q.mode) c) stands.0
-    ∙ (ap (λ (z : FeatureCount). counted event (run front start) z) was.0 ∙ ap (λ (y : Event). counted y (run front start) (count front start no_count)) (sym k.4)) in
+    ∙ (ap (λ (z : FeatureCount). counted event (run front start) z) was.0
+    ∙ ap (λ (y : Event). counted y (run front start) (count front start no_count)) (sym k.4)) in
     let tells_is : option_to_list told ≡ tells (event_of x) (run front start) (count front start no_count) =
     t ∙ (ap (λ (q : Core). tells_at c.inner event.what event.place q.top c) stands.0
-    ∙ (ap (λ (z : FeatureCount). tells event (run front start) z) was.0 ∙ ap (λ (y : Event). tells y (run front start) (count front start no_count)) (sym k.4))) in (
+    ∙ (ap (λ (z : FeatureCount). tells event (run front start) z) was.0
+    ∙ ap (λ (y : Event). tells y (run front start) (count front start no_count)) (sym k.4))) in (
       n inner index ∙ (counted_is ∙ (sym (count-last front x start no_count) ∙ ap (λ (ts : List Told). count ts start no_count) (sym k.2))),
       subst New
           (ap (λ fs. features_in (heard front start no_count) ++ fs) tells_is

@@ -24,7 +24,8 @@ pub own_first : (name : Known) (ms : Members) → same name Features ≡ false �
 own_first name end_of_object e = refl
 own_first name (member place found end v more) e = split (same Features (known_of found)) refl (own_first name more e)
   where
-    split : (b : Bool) → same Features (known_of found) ≡ b → first name (members_emptied more) ≡ first name more → first name (members_emptied (member place found end v more)) ≡ first name (member place found end v more)
+    split : (b : Bool) → same Features (known_of found) ≡ b → first name (members_emptied more) ≡ first name more
+        → first name (members_emptied (member place found end v more)) ≡ first name (member place found end v more)
     split true f h =
         let g : same name (known_of found) ≡ false = ap (λ k. same name k) (is_features (known_of found) f) ∙ e in
         rw (f, g) refl
@@ -34,7 +35,8 @@ pub own_type : (ms : Members) → first_type (members_emptied ms) ≡ first_type
 own_type end_of_object = refl
 own_type (member place found end v more) = split (same Features (known_of found)) refl (own_type more)
   where
-    split : (b : Bool) → same Features (known_of found) ≡ b → first_type (members_emptied more) ≡ first_type more → first_type (members_emptied (member place found end v more)) ≡ first_type (member place found end v more)
+    split : (b : Bool) → same Features (known_of found) ≡ b → first_type (members_emptied more) ≡ first_type more
+        → first_type (members_emptied (member place found end v more)) ≡ first_type (member place found end v more)
     split true f h =
         let g : same TypeName (known_of found) ≡ false = ap (λ k. same TypeName k) (is_features (known_of found) f) in
         rw (f, g) refl
@@ -44,7 +46,9 @@ pub own_repeated : (before : List Known) (ms : Members) → repeated before (mem
 own_repeated before end_of_object = refl
 own_repeated before (member place found end v more) = split (same Features (known_of found)) refl (own_repeated (known_of found ∷ before) more)
   where
-    split : (b : Bool) → same Features (known_of found) ≡ b → repeated (known_of found ∷ before) (members_emptied more) ≡ repeated (known_of found ∷ before) more → repeated before (members_emptied (member place found end v more)) ≡ repeated before (member place found end v more)
+    split : (b : Bool) → same Features (known_of found) ≡ b
+        → repeated (known_of found ∷ before) (members_emptied more) ≡ repeated (known_of found ∷ before) more
+        → repeated before (members_emptied (member place found end v more)) ≡ repeated before (member place found end v more)
     split true f h = rw f refl
     split false f h = rw (f, h) refl
 
@@ -52,7 +56,8 @@ pub own_crs : (ms : Members) → crs_warnings (members_emptied ms) ≡ crs_warni
 own_crs end_of_object = refl
 own_crs (member place found end v more) = split (same Features (known_of found)) refl (own_crs more)
   where
-    split : (b : Bool) → same Features (known_of found) ≡ b → crs_warnings (members_emptied more) ≡ crs_warnings more → crs_warnings (members_emptied (member place found end v more)) ≡ crs_warnings (member place found end v more)
+    split : (b : Bool) → same Features (known_of found) ≡ b → crs_warnings (members_emptied more) ≡ crs_warnings more
+        → crs_warnings (members_emptied (member place found end v more)) ≡ crs_warnings (member place found end v more)
     split true f h = rw f refl
     split false f h = rw (f, h) refl
 
@@ -60,7 +65,8 @@ pub own_box : (ms : Members) → first_warnings Bbox (members_emptied ms) ≡ fi
 own_box end_of_object = refl
 own_box (member place found end v more) = split (same Features (known_of found)) refl (own_box more)
   where
-    split : (b : Bool) → same Features (known_of found) ≡ b → first_warnings Bbox (members_emptied more) ≡ first_warnings Bbox more → first_warnings Bbox (members_emptied (member place found end v more)) ≡ first_warnings Bbox (member place found end v more)
+    split : (b : Bool) → same Features (known_of found) ≡ b → first_warnings Bbox (members_emptied more) ≡ first_warnings Bbox more
+        → first_warnings Bbox (members_emptied (member place found end v more)) ≡ first_warnings Bbox (member place found end v more)
     split true f h =
         let g : same Bbox (known_of found) ≡ false = ap (λ k. same Bbox k) (is_features (known_of found) f) in
         rw (f, g) refl
@@ -91,23 +97,29 @@ warned_each (string place content end) = refl
 warned_each (object place ms close) = refl
 
 pub due_each : (place : ℕ) (ms : Members)
-    → due place G8 (first Features ms) ≡ due place G8 (first Features (members_emptied ms)) ++ flat_map (λ v. faults Role.Feature v) (elements_if (first_value Features ms))
+    → due place G8 (first Features ms) ≡ due place G8 (first Features (members_emptied ms)) ++ flat_map (λ v. faults Role.Feature v)
+    (elements_if (first_value Features ms))
 due_each place end_of_object = refl
 due_each place (member at found end v more) = split (same Features (known_of found)) refl (due_each place more)
   where
     split : (b : Bool) → same Features (known_of found) ≡ b
-        → due place G8 (first Features more) ≡ due place G8 (first Features (members_emptied more)) ++ flat_map (λ v. faults Role.Feature v) (elements_if (first_value Features more))
-        → due place G8 (first Features (member at found end v more)) ≡ due place G8 (first Features (members_emptied (member at found end v more))) ++ flat_map (λ v. faults Role.Feature v) (elements_if (first_value Features (member at found end v more)))
+        → due place G8 (first Features more) ≡ due place G8 (first Features (members_emptied more)) ++ flat_map (λ v. faults Role.Feature v)
+        (elements_if (first_value Features more))
+        → due place G8 (first Features (member at found end v more)) ≡ due place G8 (first Features (members_emptied (member at found end v more))) ++ flat_map
+        (λ v. faults Role.Feature v) (elements_if (first_value Features (member at found end v more)))
     split true f h = rw (f, f) (listed_each v)
     split false f h = rw (f, f) h
 
 pub features_each : (ms : Members)
-    → first_warnings Features ms ≡ first_warnings Features (members_emptied ms) ++ flat_map (λ v. warnings Role.Feature v) (elements_if (first_value Features ms))
+    → first_warnings Features ms ≡ first_warnings Features (members_emptied ms) ++ flat_map (λ v. warnings Role.Feature v)
+    (elements_if (first_value Features ms))
 features_each end_of_object = refl
 features_each (member at found end v more) = split (same Features (known_of found)) refl (features_each more)
   where
     split : (b : Bool) → same Features (known_of found) ≡ b
-        → first_warnings Features more ≡ first_warnings Features (members_emptied more) ++ flat_map (λ v. warnings Role.Feature v) (elements_if (first_value Features more))
-        → first_warnings Features (member at found end v more) ≡ first_warnings Features (members_emptied (member at found end v more)) ++ flat_map (λ v. warnings Role.Feature v) (elements_if (first_value Features (member at found end v more)))
+        → first_warnings Features more ≡ first_warnings Features (members_emptied more) ++ flat_map (λ v. warnings Role.Feature v)
+        (elements_if (first_value Features more))
+        → first_warnings Features (member at found end v more) ≡ first_warnings Features (members_emptied (member at found end v more)) ++ flat_map
+        (λ v. warnings Role.Feature v) (elements_if (first_value Features (member at found end v more)))
     split true f h = rw (f, f) (warned_each v)
     split false f h = rw (f, f) h

@@ -73,21 +73,27 @@ or_none None = refl
 or_none (Some s) = refl
 
 slots_step : (n name : Known) (place : ℕ) (value : Tree) (f : MemberSlots) (b : Bool) (rest : Option First) → is_known n ≡ true → same n name ≡ b
-    → or_slot (slot_of n (member_taken place name value f)) (slot_from (uses f.role n) rest) ≡ or_slot (slot_of n f) (slot_from (uses f.role n) (if b then Some (record { name_at = place; value = value; faults = judge n value }) else rest))
+    → or_slot (slot_of n (member_taken place name value f)) (slot_from (uses f.role n) rest) ≡ or_slot (slot_of n f)
+    (slot_from (uses f.role n) (if b then Some (record { name_at = place; value = value; faults = judge n value }) else rest))
 slots_step n name place value f false rest k e = ap (λ o. or_slot o (slot_from (uses f.role n) rest)) (slot-other n name place value f k e)
 slots_step n name place value f true rest k e =
-    subst (λ m. or_slot (slot_of n (member_taken place m value f)) (slot_from (uses f.role n) rest) ≡ or_slot (slot_of n f) (slot_from (uses f.role n) (Some (record { name_at = place; value = value; faults = judge n value })))) (same_is n name e)
-    (ap (λ o. or_slot o (slot_from (uses f.role n) rest)) (slot-own n place value f k) ∙ twice (slot_of n f) (record { name_at = place; value = value; faults = judge n value }) (uses f.role n) rest)
+    subst (λ m. or_slot (slot_of n (member_taken place m value f)) (slot_from (uses f.role n) rest) ≡ or_slot (slot_of n f)
+    (slot_from (uses f.role n) (Some (record { name_at = place; value = value; faults = judge n value })))) (same_is n name e)
+    (ap (λ o. or_slot o (slot_from (uses f.role n) rest)) (slot-own n place value f k)
+    ∙ twice (slot_of n f) (record { name_at = place; value = value; faults = judge n value }) (uses f.role n) rest)
   where
-    twice : (o : Option Slot) (x : First) (u : Bool) (rest : Option First) → or_slot (or_slot o (slot_from u (Some x))) (slot_from u rest) ≡ or_slot o (slot_from u (Some x))
+    twice : (o : Option Slot) (x : First) (u : Bool) (rest : Option First)
+        → or_slot (or_slot o (slot_from u (Some x))) (slot_from u rest) ≡ or_slot o (slot_from u (Some x))
     twice None x u rest = refl
     twice (Some s) x u rest = refl
 
-pub slots_after : (n : Known) (ms : Members) (f : MemberSlots) → is_known n ≡ true → slot_of n (members_taken ms f) ≡ or_slot (slot_of n f) (slot_from (uses f.role n) (first n ms))
+pub slots_after : (n : Known) (ms : Members) (f : MemberSlots) → is_known n ≡ true
+    → slot_of n (members_taken ms f) ≡ or_slot (slot_of n f) (slot_from (uses f.role n) (first n ms))
 slots_after n end_of_object f k = sym (or_none (slot_of n f))
 slots_after n (member place name end value more) f k =
     slots_after n more (member_taken place (known_of name) value f) k
-    ∙ (ap (λ p. or_slot (slot_of n (member_taken place (known_of name) value f)) (slot_from (uses p n) (first n more))) (member_object (known_of name) place value f).role
+    ∙ (ap (λ p. or_slot (slot_of n (member_taken place (known_of name) value f)) (slot_from (uses p n) (first n more)))
+    (member_object (known_of name) place value f).role
     ∙ slots_step n (known_of name) place value f (same n (known_of name)) (first n more) k refl)
 
 -- ---- the type
@@ -122,14 +128,16 @@ named_type m place f true (Some slot) = refl
 named_type m place f true None = with_slot_type m (record { name_at = place; fault = None }) f
 named_type m place f false o = refl
 
-due_no_type : (m : Known) (f : MemberSlots) (k u : Bool) (o : Option Slot) → uses f.role m ≡ u → same TypeName m ≡ false → same TypeName (if k then due_known m o f.role else Other) ≡ false
+due_no_type : (m : Known) (f : MemberSlots) (k u : Bool) (o : Option Slot) → uses f.role m ≡ u → same TypeName m ≡ false
+    → same TypeName (if k then due_known m o f.role else Other) ≡ false
 due_no_type m f true u (Some slot) i e = refl
 due_no_type m f true true None i e = rw i e
 due_no_type m f true false None i e = rw i refl
 due_no_type m f false u o i e = refl
 
 type_other : (m : Known) (place : ℕ) (v : Tree) (f : MemberSlots) → same TypeName m ≡ false → (member_taken place m v f).type_value ≡ f.type_value
-type_other m place v f e = filled_type (due_after m f) v (named m place f) (due_no_type m f (is_known m) (uses f.role m) (slot_of m f) refl e) ∙ named_type m place f (is_known m) (slot_of m f)
+type_other m place v f e = filled_type (due_after m f) v (named m place f) (due_no_type m f (is_known m) (uses f.role m) (slot_of m f) refl e)
+    ∙ named_type m place f (is_known m) (slot_of m f)
 
 uses_type : (p : Role) → uses p TypeName ≡ true
 uses_type Role.Root = refl
@@ -137,16 +145,19 @@ uses_type _ = refl
 
 -- the first `type` sets it
 type_own : (place : ℕ) (v : Tree) (f : MemberSlots) (o : Option Slot) (u : Bool) (more : Option TypeValue) → uses f.role TypeName ≡ true → f.type_name ≡ o
-    → type_from (slot_of TypeName (filled (due_known TypeName o f.role) v (named_known TypeName place o f))) (filled (due_known TypeName o f.role) v (named_known TypeName place o f)).type_value more
+    → type_from (slot_of TypeName (filled (due_known TypeName o f.role) v (named_known TypeName place o f)))
+    (filled (due_known TypeName o f.role) v (named_known TypeName place o f)).type_value more
     ≡ type_from o f.type_value (Some (record { place = place_of v; word = type_of v }))
 type_own place v f (Some slot) u more i e = rw e refl
 type_own place v f None u more i e = rw i refl
 
 type_step : (name : Known) (place : ℕ) (value : Tree) (f : MemberSlots) (b : Bool) (rest : Option TypeValue) → same TypeName name ≡ b
-    → type_from (slot_of TypeName (member_taken place name value f)) (member_taken place name value f).type_value rest ≡ type_from f.type_name f.type_value (if b then Some (record { place = place_of value; word = type_of value }) else rest)
+    → type_from (slot_of TypeName (member_taken place name value f)) (member_taken place name value f).type_value rest ≡ type_from f.type_name f.type_value
+    (if b then Some (record { place = place_of value; word = type_of value }) else rest)
 type_step name place value f false rest e = rw (slot-other TypeName name place value f refl e, type_other name place value f e) refl
 type_step name place value f true rest e =
-    subst (λ m. type_from (slot_of TypeName (member_taken place m value f)) (member_taken place m value f).type_value rest ≡ type_from f.type_name f.type_value (Some (record { place = place_of value; word = type_of value }))) (same_is TypeName name e)
+    subst (λ m. type_from (slot_of TypeName (member_taken place m value f)) (member_taken place m value f).type_value rest ≡ type_from f.type_name f.type_value
+    (Some (record { place = place_of value; word = type_of value }))) (same_is TypeName name e)
     (type_own place value f f.type_name true rest (uses_type f.role) refl)
 
 pub type_after : (ms : Members) (f : MemberSlots) → (members_taken ms f).type_value ≡ type_from f.type_name f.type_value (first_type ms)
@@ -155,7 +166,8 @@ type_after end_of_object f = none f.type_name
     none : (o : Option Slot) → f.type_value ≡ type_from o f.type_value None
     none None = refl
     none (Some s) = refl
-type_after (member place name end value more) f = type_after more (member_taken place (known_of name) value f) ∙ type_step (known_of name) place value f (same TypeName (known_of name)) (first_type more) refl
+type_after (member place name end value more) f = type_after more (member_taken place (known_of name) value f)
+    ∙ type_step (known_of name) place value f (same TypeName (known_of name)) (first_type more) refl
 
 -- the first type stays, where it has come with its name
 abbrev pub IsTyped : MemberSlots → Type 0
@@ -219,14 +231,16 @@ named_shapes m place f true (Some slot) = refl
 named_shapes m place f true None = with_slot_shapes m (record { name_at = place; fault = None }) f
 named_shapes m place f false o = refl
 
-due_no_shapes : (m : Known) (f : MemberSlots) (k u : Bool) (o : Option Slot) → uses f.role m ≡ u → same Coordinates m ≡ false → same Coordinates (if k then due_known m o f.role else Other) ≡ false
+due_no_shapes : (m : Known) (f : MemberSlots) (k u : Bool) (o : Option Slot) → uses f.role m ≡ u → same Coordinates m ≡ false
+    → same Coordinates (if k then due_known m o f.role else Other) ≡ false
 due_no_shapes m f true u (Some slot) i e = refl
 due_no_shapes m f true true None i e = rw i e
 due_no_shapes m f true false None i e = rw i refl
 due_no_shapes m f false u o i e = refl
 
 shapes_other : (m : Known) (place : ℕ) (v : Tree) (f : MemberSlots) → same Coordinates m ≡ false → (member_taken place m v f).shapes ≡ f.shapes
-shapes_other m place v f e = filled_shapes (due_after m f) v (named m place f) (due_no_shapes m f (is_known m) (uses f.role m) (slot_of m f) refl e) ∙ named_shapes m place f (is_known m) (slot_of m f)
+shapes_other m place v f e = filled_shapes (due_after m f) v (named m place f) (due_no_shapes m f (is_known m) (uses f.role m) (slot_of m f) refl e)
+    ∙ named_shapes m place f (is_known m) (slot_of m f)
 
 shapes_own : (place : ℕ) (v : Tree) (f : MemberSlots) (o : Option Slot) (u : Bool) → uses f.role Coordinates ≡ u → f.coordinates ≡ o
     → (filled (due_known Coordinates o f.role) v (named_known Coordinates place o f)).shapes
@@ -242,11 +256,13 @@ none_found (Some s) u known had = refl
 -- after one member
 pub shapes_one : (name : Known) (place : ℕ) (value : Tree) (f : MemberSlots) (b : Bool) → same Coordinates name ≡ b
     → (member_taken place name value f).shapes
-    ≡ shapes_from (uses f.role Coordinates) f.coordinates f.type_value f.shapes (if b then Some (record { name_at = place; value = value; faults = judge Coordinates value }) else None)
+    ≡ shapes_from (uses f.role Coordinates) f.coordinates f.type_value f.shapes
+    (if b then Some (record { name_at = place; value = value; faults = judge Coordinates value }) else None)
 shapes_one name place value f false e = shapes_other name place value f e ∙ none_found f.coordinates (uses f.role Coordinates) f.type_value f.shapes
 shapes_one name place value f true e =
     subst (λ m. (member_taken place m value f).shapes
-    ≡ shapes_from (uses f.role Coordinates) f.coordinates f.type_value f.shapes (Some (record { name_at = place; value = value; faults = judge Coordinates value }))) (same_is Coordinates name e)
+    ≡ shapes_from (uses f.role Coordinates) f.coordinates f.type_value f.shapes
+    (Some (record { name_at = place; value = value; faults = judge Coordinates value }))) (same_is Coordinates name e)
     (shapes_own place value f f.coordinates (uses f.role Coordinates) refl refl)
 
 -- a member, and then others: what is asked for in the end is that of the first
@@ -272,8 +288,10 @@ shapes_after (member place name end value more) f h =
     let found : Option First = if same Coordinates m then Some x else None in
     shapes_after more g (typed_after place end name value f h)
     ∙ (ap (λ (p : Role). asked t (shapes_from (uses p Coordinates) g.coordinates None g.shapes (first Coordinates more))) (member_object m place value f).role
-    ∙ (ap (λ (o : Option Slot). asked t (shapes_from u o None g.shapes (first Coordinates more))) (slots_after Coordinates (member place name end value end_of_object) f refl)
-    ∙ (ap (λ (s : Shapes). asked t (shapes_from u (or_slot f.coordinates (slot_from u found)) None s (first Coordinates more))) (shapes_one m place value f (same Coordinates m) refl)
+    ∙ (ap (λ (o : Option Slot). asked t (shapes_from u o None g.shapes (first Coordinates more)))
+    (slots_after Coordinates (member place name end value end_of_object) f refl)
+    ∙ (ap (λ (s : Shapes). asked t (shapes_from u (or_slot f.coordinates (slot_from u found)) None s (first Coordinates more)))
+    (shapes_one m place value f (same Coordinates m) refl)
     ∙ asked_step t f.type_value u (same Coordinates m) f.coordinates f.shapes x (first Coordinates more) (stays_after (member place name end value more) f h))))
 
 -- ---- repeated names
@@ -298,7 +316,8 @@ filled_repeated Features v f = joined_repeated Features (least (judge Features v
 filled_repeated Bbox v f = joined_repeated Bbox (least (judge Bbox v)) f.bbox f
 filled_repeated Id v f = joined_repeated Id (least (judge Id v)) f.id f
 
-named_repeated : (m : Known) (place : ℕ) (f : MemberSlots) (k : Bool) (o : Option Slot) → (if k then named_known m place o f else f).repeated ≡ lesser f.repeated (least (again k (is_some o) place))
+named_repeated : (m : Known) (place : ℕ) (f : MemberSlots) (k : Bool) (o : Option Slot)
+    → (if k then named_known m place o f else f).repeated ≡ lesser f.repeated (least (again k (is_some o) place))
 named_repeated m place f true (Some slot) = refl
 named_repeated m place f true None = with_slot_repeated m (record { name_at = place; fault = None }) f ∙ sym (lesser-none f.repeated)
 named_repeated m place f false o = sym (lesser-none f.repeated)
@@ -311,7 +330,8 @@ again_same : (k : Bool) (o : Option Slot) (b : Bool) (place : ℕ) → (k ≡ tr
 again_same true o b place h = ap (λ x. again true x place) (h refl)
 again_same false o b place h = refl
 
-pub mentions_step : (before : List Known) (n name : Known) (place : ℕ) (value : Tree) (f : MemberSlots) (b : Bool) → Mentions before f → is_known n ≡ true → same n name ≡ b
+pub mentions_step : (before : List Known) (n name : Known) (place : ℕ) (value : Tree) (f : MemberSlots) (b : Bool) → Mentions before f → is_known n ≡ true
+    → same n name ≡ b
     → is_some (slot_of n (member_taken place name value f)) ≡ (if b then true else mentions before n)
 mentions_step before n name place value f false h k e = ap is_some (slot-other n name place value f k e) ∙ h.each n k
 mentions_step before n name place value f true h k e =
@@ -322,14 +342,17 @@ mentions_step before n name place value f true h k e =
     set None u x = refl
     set (Some s) u x = refl
 
-pub repeated_after : (ms : Members) (before : List Known) (f : MemberSlots) → Mentions before f → (members_taken ms f).repeated ≡ lesser f.repeated (least (repeated before ms))
+pub repeated_after : (ms : Members) (before : List Known) (f : MemberSlots) → Mentions before f
+    → (members_taken ms f).repeated ≡ lesser f.repeated (least (repeated before ms))
 repeated_after end_of_object before f h = sym (lesser-none f.repeated)
 repeated_after (member place name end value more) before f h =
     let found : List Fault = again (is_known (known_of name)) (mentions before (known_of name)) place in
-    repeated_after more ((known_of name) ∷ before) (member_taken place (known_of name) value f) (record { each = λ n k. mentions_step before n (known_of name) place value f (same n (known_of name)) h k refl })
+    repeated_after more ((known_of name) ∷ before) (member_taken place (known_of name) value f)
+    (record { each = λ n k. mentions_step before n (known_of name) place value f (same n (known_of name)) h k refl })
     ∙ (ap (λ x. lesser x (least (repeated ((known_of name) ∷ before) more)))
     (filled_repeated (due_after (known_of name) f) value (named (known_of name) place f)
     ∙ (named_repeated (known_of name) place f (is_known (known_of name)) (slot_of (known_of name) f)
-    ∙ ap (λ xs. lesser f.repeated (least xs)) (again_same (is_known (known_of name)) (slot_of (known_of name) f) (mentions before (known_of name)) place (h.each (known_of name)))))
+    ∙ ap (λ xs. lesser f.repeated (least xs))
+    (again_same (is_known (known_of name)) (slot_of (known_of name) f) (mentions before (known_of name)) place (h.each (known_of name)))))
     ∙ (lesser_assoc f.repeated (least found) (least (repeated ((known_of name) ∷ before) more))
     ∙ ap (λ x. lesser f.repeated x) (sym (least-append found (repeated ((known_of name) ∷ before) more)))))

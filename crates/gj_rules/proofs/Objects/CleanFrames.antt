@@ -1,5 +1,6 @@
 -- An object in which nothing is found changes nothing around it.
-use Rattle.std.proofs.Common.{◌≡◌, ◌<◌, ℕ, zero, suc, ◌-◌, List, [], ◌∷◌, map, reverse, length, get_or, take, Bool, true, false, if◌then◌else◌, Option, Some, None, refl, sym, ap, ◌∙◌, arith}
+use Rattle.std.proofs.Common.{◌≡◌, ◌<◌, ℕ, zero, suc, ◌-◌, List, [], ◌∷◌, map, reverse, length, get_or, take, Bool, true, false, if◌then◌else◌, Option, Some}
+use Rattle.std.proofs.Common.{None, refl, sym, ap, ◌∙◌, arith}
 use Rattle.std.proofs.Math.Seq.{take-suc}
 use Rattle.std.proofs.lemmas.List.{reverse-append}
 use Rattle.gj_json.specs.declared.names.Known.{Known}
@@ -84,4 +85,5 @@ left_clean role s frames zero h k = absurd (omega arith)
 left_clean role s frames (suc n) h k =
     let one : suc n - 1 ≡ n = omega arith in
     rw one (rw (take-suc frames n no_frame (omega arith)) (rw (reverse-append (take n frames) (get_or frames n no_frame ∷ []))
-    (ap (λ (f : Frame). record s { mode = mode_behind role; top = f; outer = map frame_in (reverse (take n frames)) }) (sym (nothing_taken (member_of role) (frame_in (get_or frames n no_frame)))))))
+    (ap (λ (f : Frame). record s { mode = mode_behind role; top = f; outer = map frame_in (reverse (take n frames)) })
+    (sym (nothing_taken (member_of role) (frame_in (get_or frames n no_frame)))))))

@@ -143,7 +143,8 @@ own_kept ms = joined (warnings_of (crs_warnings ms)) (or_none (first_kept Bbox m
 
 left_after : (role : Role) (place : ℕ) (ms : Members)
     → members_taken ms (blank role place)
-    ≡ left_with role place (S.members_taken ms (S.blank role place)).type_name (S.members_taken ms (S.blank role place)).shapes (parts_of ms) (own_kept ms) (first_kept Geometries ms) (first_kept Geometry ms) (first_kept Features ms)
+    ≡ left_with role place (S.members_taken ms (S.blank role place)).type_name (S.members_taken ms (S.blank role place)).shapes (parts_of ms) (own_kept ms)
+    (first_kept Geometries ms) (first_kept Geometry ms) (first_kept Features ms)
 left_after role place ms =
     let f : Frame = blank role place in
     fields_are (members_taken ms f) _
@@ -167,12 +168,14 @@ all_closed role place close ms =
     let geometries = first_kept Geometries ms in
     let geometry = first_kept Geometry ms in
     let features = first_kept Features ms in
-    let with_type : warned_by (first_type ms) (left_with role place s.type_name s.shapes p own geometries geometry features) ≡ warned_by (first_type ms) (left role place s.type_name p own geometries geometry features) =
+    let with_type : warned_by (first_type ms) (left_with role place s.type_name s.shapes p own geometries geometry features) ≡ warned_by (first_type ms)
+    (left role place s.type_name p own geometries geometry features) =
     warned_asked (first_type ms) role place s.type_name s.shapes p own geometries geometry features
     ∙ (ap (λ (x : Shapes). warned_by (first_type ms) (left_with role place s.type_name x p own geometries geometry features)) (asked_after role place ms)
     ∙ sym (warned_asked (first_type ms) role place s.type_name (first_shapes role p) p own geometries geometry features)) in
     let b : (settled (members_taken ms (blank role place))).warned ≡ or_none (kept role (object place ms close)) =
     ap (λ (g : Frame). joined g.gathered.own (warned_by g.slots.type_value g)) e
     ∙ (ap (joined own) (with_type ∙ by_type_is role place s.type_name p own geometries geometry features (first_type ms))
-    ∙ ap (λ (o : Option Tree). joined own (by_type_kept (first_type ms) role place o (or_none geometries) (or_none geometry) (or_none features))) (value_is Coordinates ms)) in
+    ∙ ap (λ (o : Option Tree). joined own (by_type_kept (first_type ms) role place o (or_none geometries) (or_none geometry) (or_none features)))
+    (value_is Coordinates ms)) in
     λ i. record { fault = a i; warned = b i }

@@ -20,10 +20,12 @@ lost : (b : Bool) → b ≡ false → IsTrue b → ⊥
 lost true e i = cc
 lost false e i = cc
 
-held_now : (k : ℕ) (m : Mode) (c : C.Coordinates) (bbox : Bbox) (es : List Event) → k ≡ 0 → m ≡ Due Coordinates → StandsForCoordinates c es → HoldsIn k m c bbox es
+held_now : (k : ℕ) (m : Mode) (c : C.Coordinates) (bbox : Bbox) (es : List Event) → k ≡ 0 → m ≡ Due Coordinates → StandsForCoordinates c es
+    → HoldsIn k m c bbox es
 held_now k m c bbox es a b h = rw (a, b) h
 
-pub not_whole : {frames : ℕ} (old new : FramedRules frames) (v : Tree) (taken events left : List Event) (done : Bool) → old.skipped ≡ 0 → old.mode ≡ Due Coordinates
+pub not_whole : {frames : ℕ} (old new : FramedRules frames) (v : Tree) (taken events left : List Event) (done : Bool) → old.skipped ≡ 0
+    → old.mode ≡ Due Coordinates
     → new.skipped ≡ 0 → new.mode ≡ Due Coordinates → core_of new ≡ core_of old
     → (StandsForCoordinates old.coordinates taken → StandsForCoordinates new.coordinates (taken ++ events))
     → done ≡ false → (StandsForCoordinates new.coordinates (taken ++ events) → IsTrue done ↔ (left ≡ [])) → Holds old taken
@@ -33,7 +35,8 @@ not_whole old new v taken events [] done a b k m e t f d h =
 not_whole old new v taken events (y ∷ ys) done a b k m e t f d h =
     (e, held_now new.skipped new.mode new.coordinates new.bbox (taken ++ events) k m (t (held old.skipped old.mode old.coordinates old.bbox taken a b h)))
 
-pub whole : {frames : ℕ} (old new : FramedRules frames) (c : C.Coordinates) (v : Tree) (taken events left : List Event) (done : Bool) → old.skipped ≡ 0 → old.mode ≡ Due Coordinates
+pub whole : {frames : ℕ} (old new : FramedRules frames) (c : C.Coordinates) (v : Tree) (taken events left : List Event) (done : Bool) → old.skipped ≡ 0
+    → old.mode ≡ Due Coordinates
     → (StandsForCoordinates old.coordinates taken → StandsForCoordinates c (taken ++ events))
     → done ≡ true → (StandsForCoordinates c (taken ++ events) → IsTrue done ↔ (left ≡ [])) → Holds old taken
     → (taken ++ events) ++ left ≡ value_events v

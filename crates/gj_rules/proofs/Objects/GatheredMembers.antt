@@ -80,7 +80,8 @@ at_holder Geometry _ i place g = refl
 at_holder Features _ i place g = refl
 at_holder _ m i place g = absurd i
 
-any_own : (n : Known) → IsHolder n → (place : ℕ) (w : Option Warnings) (g : MemberWarnings) → gathered_of n (gathered_any n w (gathered_at n place g)) ≡ and_kept (gathered_of n g) w
+any_own : (n : Known) → IsHolder n → (place : ℕ) (w : Option Warnings) (g : MemberWarnings)
+    → gathered_of n (gathered_any n w (gathered_at n place g)) ≡ and_kept (gathered_of n g) w
 any_own Geometries i place None g = refl
 any_own Geometries i place (Some w) g = refl
 any_own Geometry i place None g = refl
@@ -90,7 +91,8 @@ any_own Features i place (Some w) g = refl
 any_own _ i place w g = absurd i
 
 -- a member of another name
-holder_other : (n m : Known) → IsHolder n → (place : ℕ) (v : Tree) (f : Frame) → same n m ≡ false → gathered_of n (member_taken place m v f).gathered ≡ gathered_of n f.gathered
+holder_other : (n m : Known) → IsHolder n → (place : ℕ) (v : Tree) (f : Frame) → same n m ≡ false
+    → gathered_of n (member_taken place m v f).gathered ≡ gathered_of n f.gathered
 holder_other n m i place v f e =
     any_other n (due_after m f) i (judged_kept (due_after m f) v) (gathered_at m place f.gathered)
     (due_other n m (is_known m) (uses f.slots.role m) (slot_of m f.slots) f.slots.role refl (holder_known n i) e)
@@ -98,7 +100,8 @@ holder_other n m i place v f e =
 
 -- a member of its own name
 holder_due : (n : Known) → IsHolder n → (place : ℕ) (v : Tree) (g : MemberWarnings) (o : Option Slot) (u : Bool) (role : Role) → uses role n ≡ u
-    → gathered_of n (gathered_any (due_known n o role) (judged_kept (due_known n o role) v) (gathered_at n place g)) ≡ gathered_from u o (gathered_of n g) (judged_kept n v)
+    → gathered_of n (gathered_any (due_known n o role) (judged_kept (due_known n o role) v) (gathered_at n place g)) ≡ gathered_from u o (gathered_of n g)
+    (judged_kept n v)
 holder_due n i place v g (Some s) u role e = at_holder n n i place g
 holder_due n i place v g None true role e = rw e (any_own n i place (judged_kept n v) g)
 holder_due n i place v g None false role e = rw e (at_holder n n i place g)
@@ -114,10 +117,12 @@ holder_step : (n m : Known) → IsHolder n → (place : ℕ) (v : Tree) (f : Fra
     → gathered_from (uses f.slots.role n) (slot_of n (member_taken place m v f).slots) (gathered_of n (member_taken place m v f).gathered) rest
     ≡ gathered_from (uses f.slots.role n) (slot_of n f.slots) (gathered_of n f.gathered) (if b then judged_kept n v else rest)
 holder_step n m i place v f false rest e =
-    ap (λ (o : Option Slot). gathered_from (uses f.slots.role n) o (gathered_of n (member_taken place m v f).gathered) rest) (slot-other n m place v f.slots (holder_known n i) e)
+    ap (λ (o : Option Slot). gathered_from (uses f.slots.role n) o (gathered_of n (member_taken place m v f).gathered) rest)
+    (slot-other n m place v f.slots (holder_known n i) e)
     ∙ ap (λ (w : Warnings). gathered_from (uses f.slots.role n) (slot_of n f.slots) w rest) (holder_other n m i place v f e)
 holder_step n m i place v f true rest e =
-    subst (λ (q : Known). gathered_from (uses f.slots.role n) (slot_of n (member_taken place q v f).slots) (gathered_of n (member_taken place q v f).gathered) rest
+    subst (λ (q : Known). gathered_from (uses f.slots.role n) (slot_of n (member_taken place q v f).slots)
+    (gathered_of n (member_taken place q v f).gathered) rest
     ≡ gathered_from (uses f.slots.role n) (slot_of n f.slots) (gathered_of n f.gathered) (judged_kept n v)) (same_is n m e)
     (let s = own_set n place v f (holder_known n i) in
     from_set (uses f.slots.role n) (slot_of n (member_taken place n v f).slots) s.0 (gathered_of n (member_taken place n v f).gathered) rest s.1
@@ -134,7 +139,8 @@ gathered_after n i end_of_object f = none_from (uses f.slots.role n) (slot_of n 
 gathered_after n i (member place name end value more) f =
     let g : Frame = member_taken place (known_of name) value f in
     gathered_after n i more g
-    ∙ (ap (λ (r : Role). gathered_from (uses r n) (slot_of n g.slots) (gathered_of n g.gathered) (first_kept n more)) (member_object (known_of name) place value f.slots).role
+    ∙ (ap (λ (r : Role). gathered_from (uses r n) (slot_of n g.slots) (gathered_of n g.gathered) (first_kept n more))
+    (member_object (known_of name) place value f.slots).role
     ∙ holder_step n (known_of name) i place value f (same n (known_of name)) (first_kept n more) refl)
 
 -- ---- of `crs` and `bbox`
@@ -158,9 +164,11 @@ at_not_crs Crs place g e = cc
 at_not_crs _ place g e = refl
 
 bbox_due : (place : ℕ) (v : Tree) (g : MemberWarnings) (o : Option Slot) (role : Role)
-    → (gathered_any (due_known Bbox o role) (judged_kept (due_known Bbox o role) v) g).own ≡ joined (joined g.own (warnings_of [])) (or_none (own_from o (judged_kept Bbox v)))
+    → (gathered_any (due_known Bbox o role) (judged_kept (due_known Bbox o role) v) g).own ≡ joined (joined g.own (warnings_of []))
+    (or_none (own_from o (judged_kept Bbox v)))
 bbox_due place v g (Some s) role = sym (nothing_more g.own)
-bbox_due place v g None role = rw (uses_bbox role) (ap (λ (w : Warnings). joined w (or_none (judged_kept Bbox v))) (sym (ap (joined g.own) warnings_of_none ∙ joined_none_last g.own)))
+bbox_due place v g None role =
+    rw (uses_bbox role) (ap (λ (w : Warnings). joined w (or_none (judged_kept Bbox v))) (sym (ap (joined g.own) warnings_of_none ∙ joined_none_last g.own)))
   where
     uses_bbox : (role : Role) → uses role Bbox ≡ true
     uses_bbox Role.Root = refl
@@ -173,7 +181,8 @@ added_own b c place v o had = joined (joined had (warnings_of (warned_if c place
 own_step : (m : Known) (place : ℕ) (v : Tree) (f : Frame) (b c : Bool) → same Bbox m ≡ b → same Crs m ≡ c
     → (member_taken place m v f).gathered.own ≡ added_own b c place v (slot_of Bbox f.slots) f.gathered.own
 own_step Bbox place v f b c d e = rw (← d, ← e) (bbox_due place v f.gathered (slot_of Bbox f.slots) f.slots.role)
-own_step Crs place v f b c d e = rw (← d, ← e) (added_is f.gathered.own W9 place ∙ sym (joined_none_last (joined f.gathered.own (warnings_of (warning_at place W9 ∷ [])))))
+own_step Crs place v f b c d e =
+    rw (← d, ← e) (added_is f.gathered.own W9 place ∙ sym (joined_none_last (joined f.gathered.own (warnings_of (warning_at place W9 ∷ [])))))
 own_step _ place v f true c d e = cc
 own_step _ place v f false true d e = cc
 own_step m place v f false false d e =
@@ -206,8 +215,11 @@ shuffle o x y c z =
     ∙ sym (joined_assoc x c (joined y z))))
 
 pub own_after : (ms : Members) (f : Frame)
-    → (members_taken ms f).gathered.own ≡ joined f.gathered.own (joined (warnings_of (crs_warnings ms)) (or_none (own_from (slot_of Bbox f.slots) (first_kept Bbox ms))))
-own_after end_of_object f = sym (ap (joined f.gathered.own) (ap (joined (warnings_of [])) (none (slot_of Bbox f.slots))) ∙ (sym (joined_assoc f.gathered.own (warnings_of []) no_warnings) ∙ nothing_more f.gathered.own))
+    → (members_taken ms f).gathered.own ≡ joined f.gathered.own
+    (joined (warnings_of (crs_warnings ms)) (or_none (own_from (slot_of Bbox f.slots) (first_kept Bbox ms))))
+own_after end_of_object f =
+    sym (ap (joined f.gathered.own) (ap (joined (warnings_of [])) (none (slot_of Bbox f.slots)))
+    ∙ (sym (joined_assoc f.gathered.own (warnings_of []) no_warnings) ∙ nothing_more f.gathered.own))
   where
     none : (o : Option Slot) → or_none (own_from o None) ≡ no_warnings
     none None = refl
@@ -222,10 +234,12 @@ own_after (member place name end value more) f =
     let z : Warnings = or_none (if same Bbox m then None else own_from o (first_kept Bbox more)) in
     let c : Warnings = warnings_of (crs_warnings more) in
     let e : g.gathered.own ≡ joined (joined had x) y = own_step m place value f (same Bbox m) (same Crs m) refl refl in
-    let l : or_none (own_from (slot_of Bbox g.slots) (first_kept Bbox more)) ≡ z = ap or_none (later_own m place value f (same Bbox m) (first_kept Bbox more) refl) in
+    let l : or_none (own_from (slot_of Bbox g.slots) (first_kept Bbox more)) ≡ z =
+    ap or_none (later_own m place value f (same Bbox m) (first_kept Bbox more) refl) in
     own_after more g
     ∙ (ap (λ (w : Warnings). joined w (joined c (or_none (own_from (slot_of Bbox g.slots) (first_kept Bbox more))))) e
     ∙ (ap (λ (w : Warnings). joined (joined (joined had x) y) (joined c w)) l
     ∙ (shuffle had x y c z
     ∙ (ap (λ (w : Warnings). joined had (joined w (joined y z))) (sym (warnings_of-append (warned_if (same Crs m) place W9) (crs_warnings more)))
-    ∙ ap (λ (w : Warnings). joined had (joined (warnings_of (crs_warnings (member place name end value more))) w)) (first_own (same Bbox m) o (judged_kept Bbox value) (first_kept Bbox more))))))
+    ∙ ap (λ (w : Warnings). joined had (joined (warnings_of (crs_warnings (member place name end value more))) w))
+    (first_own (same Bbox m) o (judged_kept Bbox value) (first_kept Bbox more))))))

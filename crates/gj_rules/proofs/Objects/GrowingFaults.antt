@@ -11,7 +11,8 @@ use Rattle.gj_coords.specs.Fault.{lesser, fault_at, comes_first}
 use Rattle.gj_rules.specs.Internal.FrameMeaning.{Shapes, MemberSlots}
 use Rattle.gj_rules.specs.declared.member_slots.Slot.{Slot}
 use Rattle.gj_rules.specs.declared.member_slots.TypeValue.{TypeValue}
-use Rattle.gj_rules.specs.Internal.LostObjects.{slot_fails, geometry_forbids, simple_fails, feature_forbids, feature_fails, features_forbid, fails_as, all_fail, is_lost, type_lost}
+use Rattle.gj_rules.specs.Internal.LostObjects.{slot_fails, geometry_forbids, simple_fails, feature_forbids, feature_fails, features_forbid, fails_as, all_fail}
+use Rattle.gj_rules.specs.Internal.LostObjects.{is_lost, type_lost}
 use Rattle.gj_rules.specs.Members.{is_known, same}
 use Rattle.gj_rules.specs.Internal.OpenMembers.{slot_of, with_slot, joined, joined_to, shapes_set, named_known, repeated_at}
 use Rattle.gj_rules.specs.Internal.Summaries.{no_shapes, shape_for}
@@ -104,10 +105,13 @@ fails_worse Word.Other f g w = λ e. e
 
 -- where all types fail, each does
 pub each_fails : (word : Word) (f : MemberSlots) → all_fail f ≡ true → fails_as word f ≡ true
-each_fails word f e = go word (fails_as Word.Point f) (fails_as Word.MultiPoint f) (fails_as Word.LineString f) (fails_as Word.MultiLineString f) (fails_as Word.Polygon f)
-    (fails_as Word.MultiPolygon f) (fails_as Word.GeometryCollection f) (fails_as Word.Feature f) (fails_as Word.FeatureCollection f) refl refl refl refl refl refl refl refl refl e
+each_fails word f e =
+    go word (fails_as Word.Point f) (fails_as Word.MultiPoint f) (fails_as Word.LineString f) (fails_as Word.MultiLineString f) (fails_as Word.Polygon f)
+    (fails_as Word.MultiPolygon f) (fails_as Word.GeometryCollection f) (fails_as Word.Feature f)
+    (fails_as Word.FeatureCollection f) refl refl refl refl refl refl refl refl refl e
   where
-    go : (word : Word) (a b c d k l m n o : Bool) → fails_as Word.Point f ≡ a → fails_as Word.MultiPoint f ≡ b → fails_as Word.LineString f ≡ c → fails_as Word.MultiLineString f ≡ d → fails_as Word.Polygon f ≡ k
+    go : (word : Word) (a b c d k l m n o : Bool) → fails_as Word.Point f ≡ a → fails_as Word.MultiPoint f ≡ b → fails_as Word.LineString f ≡ c
+        → fails_as Word.MultiLineString f ≡ d → fails_as Word.Polygon f ≡ k
         → fails_as Word.MultiPolygon f ≡ l → fails_as Word.GeometryCollection f ≡ m → fails_as Word.Feature f ≡ n → fails_as Word.FeatureCollection f ≡ o
         → (a && (b && (c && (d && (k && (l && (m && (n && o)))))))) ≡ true → fails_as word f ≡ true
     go Word.Point true true true true true true true true true p q r s t u v w x e = p

@@ -35,13 +35,16 @@ slot_of-with _ s f e = refl
 -- no other fault changes nothing
 none_joined : (name : Known) (f : MemberSlots) (o : Option Slot) → slot_of name f ≡ o → joined_to name None o f ≡ f
 none_joined name f None e = refl
-none_joined name f (Some slot) e = with_slot-same name (record { name_at = slot.name_at; fault = lesser slot.fault None }) f (e ∙ ap (λ (x : Option Fault). Some (record { name_at = slot.name_at; fault = x })) (sym (lesser-none slot.fault)))
+none_joined name f (Some slot) e =
+    with_slot-same name (record { name_at = slot.name_at; fault = lesser slot.fault None }) f
+    (e ∙ ap (λ (x : Option Fault). Some (record { name_at = slot.name_at; fault = x })) (sym (lesser-none slot.fault)))
 
 pub joined-none : (name : Known) (f : MemberSlots) → joined name None f ≡ f
 joined-none name f = none_joined name f (slot_of name f) refl
 
 -- two faults are joined one after the other
-both_joined : (name : Known) (f : MemberSlots) (a b : Option Fault) (o : Option Slot) → slot_of name f ≡ o → is_known name ≡ true → joined name b (joined_to name a o f) ≡ joined_to name (lesser a b) o f
+both_joined : (name : Known) (f : MemberSlots) (a b : Option Fault) (o : Option Slot) → slot_of name f ≡ o → is_known name ≡ true
+    → joined name b (joined_to name a o f) ≡ joined_to name (lesser a b) o f
 both_joined name f a b None e k = ap (λ (o : Option Slot). joined_to name b o f) e
 both_joined name f a b (Some slot) e k =
     let s : Slot = record { name_at = slot.name_at; fault = lesser slot.fault a } in

@@ -92,7 +92,8 @@ four_forbidden : (u v w x : Bool) (a b c d : Known) (p : ObjectMembers)
     (lesser (F.forbidden_slot (slot_from w (p.of c))) (F.forbidden_slot (slot_from x (p.of d))))
     ≡ least (forbidden_members (a ∷ b ∷ c ∷ d ∷ []) p)
 four_forbidden u v w x a b c d p =
-    lesser_assoc (F.forbidden_slot (slot_from u (p.of a))) (F.forbidden_slot (slot_from v (p.of b))) (lesser (F.forbidden_slot (slot_from w (p.of c))) (F.forbidden_slot (slot_from x (p.of d))))
+    lesser_assoc (F.forbidden_slot (slot_from u (p.of a))) (F.forbidden_slot (slot_from v (p.of b)))
+    (lesser (F.forbidden_slot (slot_from w (p.of c))) (F.forbidden_slot (slot_from x (p.of d))))
     ∙ also _ (R.forbidden (p.of a)) _ (forbidden_members (b ∷ c ∷ d ∷ []) p) (forbidden_is u (p.of a)) (three_forbidden v w x b c d p)
 
 -- ---- of each type
@@ -111,22 +112,28 @@ due_shape_is simple place None = refl
 due_shape_is simple place (Some first) = shape_is simple first.value
 
 simple_is : (simple : Simple) (u v w : Bool) (place : ℕ) (p : ObjectMembers)
-    → lesser (lesser (F.forbidden_slot (slot_from u (p.of Geometry))) (lesser (F.forbidden_slot (slot_from v (p.of Properties))) (F.forbidden_slot (slot_from w (p.of Features)))))
+    → lesser (lesser (F.forbidden_slot (slot_from u (p.of Geometry)))
+    (lesser (F.forbidden_slot (slot_from v (p.of Properties))) (F.forbidden_slot (slot_from w (p.of Features)))))
     (F.due_shape simple place (shapes_from true None None no_shapes (p.of Coordinates)) (slot_from true (p.of Coordinates)))
     ≡ least (forbidden_members (Geometry ∷ Properties ∷ Features ∷ []) p ++ R.due_coordinates simple place (p.of Coordinates))
 simple_is simple u v w place p =
-    also _ (forbidden_members (Geometry ∷ Properties ∷ Features ∷ []) p) _ _ (three_forbidden u v w Geometry Properties Features p) (due_shape_is simple place (p.of Coordinates))
+    also _ (forbidden_members (Geometry ∷ Properties ∷ Features ∷ []) p) _ _ (three_forbidden u v w Geometry Properties Features p)
+    (due_shape_is simple place (p.of Coordinates))
 
 collection_is : (u v w : Bool) (place : ℕ) (p : ObjectMembers)
-    → lesser (lesser (F.forbidden_slot (slot_from u (p.of Geometry))) (lesser (F.forbidden_slot (slot_from v (p.of Properties))) (F.forbidden_slot (slot_from w (p.of Features)))))
+    → lesser (lesser (F.forbidden_slot (slot_from u (p.of Geometry)))
+    (lesser (F.forbidden_slot (slot_from v (p.of Properties))) (F.forbidden_slot (slot_from w (p.of Features)))))
     (F.due_slot place G5 (slot_from true (p.of Geometries)))
     ≡ least (forbidden_members (Geometry ∷ Properties ∷ Features ∷ []) p ++ R.due place G5 (p.of Geometries))
 collection_is u v w place p =
-    also _ (forbidden_members (Geometry ∷ Properties ∷ Features ∷ []) p) _ _ (three_forbidden u v w Geometry Properties Features p) (due_is place G5 (p.of Geometries))
+    also _ (forbidden_members (Geometry ∷ Properties ∷ Features ∷ []) p) _ _ (three_forbidden u v w Geometry Properties Features p)
+    (due_is place G5 (p.of Geometries))
 
 feature_is : (u v w : Bool) (place : ℕ) (p : ObjectMembers)
-    → lesser (lesser (F.forbidden_slot (slot_from u (p.of Coordinates))) (lesser (F.forbidden_slot (slot_from v (p.of Geometries))) (F.forbidden_slot (slot_from w (p.of Features)))))
-    (lesser (F.due_slot place G6 (slot_from true (p.of Geometry))) (lesser (F.due_slot place G7 (slot_from true (p.of Properties))) (F.slot_fault (slot_from true (p.of Id)))))
+    → lesser (lesser (F.forbidden_slot (slot_from u (p.of Coordinates)))
+    (lesser (F.forbidden_slot (slot_from v (p.of Geometries))) (F.forbidden_slot (slot_from w (p.of Features)))))
+    (lesser (F.due_slot place G6 (slot_from true (p.of Geometry)))
+    (lesser (F.due_slot place G7 (slot_from true (p.of Properties))) (F.slot_fault (slot_from true (p.of Id)))))
     ≡ least (forbidden_members (Coordinates ∷ Geometries ∷ Features ∷ []) p ++ R.as_type Word.Feature place p.of)
 feature_is u v w place p =
     also _ (forbidden_members (Coordinates ∷ Geometries ∷ Features ∷ []) p) _ _ (three_forbidden u v w Coordinates Geometries Features p)
@@ -139,7 +146,8 @@ features_is : (u v w x : Bool) (place : ℕ) (p : ObjectMembers)
     (F.due_slot place G8 (slot_from true (p.of Features)))
     ≡ least (forbidden_members (Coordinates ∷ Geometries ∷ Geometry ∷ Properties ∷ []) p ++ R.due place G8 (p.of Features))
 features_is u v w x place p =
-    also _ (forbidden_members (Coordinates ∷ Geometries ∷ Geometry ∷ Properties ∷ []) p) _ _ (four_forbidden u v w x Coordinates Geometries Geometry Properties p) (due_is place G8 (p.of Features))
+    also _ (forbidden_members (Coordinates ∷ Geometries ∷ Geometry ∷ Properties ∷ []) p) _ _
+    (four_forbidden u v w x Coordinates Geometries Geometry Properties p) (due_is place G8 (p.of Features))
 
 -- at each role, for each type that is allowed there
 typed_is : (role : Role) (word : Word) (at : ℕ) (place : ℕ) (t : Option Slot) (p : ObjectMembers)
@@ -177,10 +185,12 @@ uses_bbox : (role : Role) → F.uses role Bbox ≡ true
 uses_bbox Role.Root = refl
 uses_bbox _ = refl
 
-pub settled_is : (role : Role) (place : ℕ) (t : Option Slot) (p : ObjectMembers) → F.settled (shown_for role place t p) ≡ least (R.object_faults role place p.repeated p.type_value p.of)
+pub settled_is : (role : Role) (place : ℕ) (t : Option Slot) (p : ObjectMembers)
+    → F.settled (shown_for role place t p) ≡ least (R.object_faults role place p.repeated p.type_value p.of)
 settled_is role place t p =
     also _ p.repeated _ _ refl
-    (also _ (R.optional (p.of Bbox)) _ _ (ap (λ u. F.slot_fault (slot_from u (p.of Bbox))) (uses_bbox role) ∙ optional_is (p.of Bbox)) (rest_is role place t p p.type_value))
+    (also _ (R.optional (p.of Bbox)) _ _ (ap (λ u. F.slot_fault (slot_from u (p.of Bbox))) (uses_bbox role) ∙ optional_is (p.of Bbox))
+    (rest_is role place t p p.type_value))
 
 abbrev pub parts_of : Members → ObjectMembers
 parts_of members = record {
@@ -194,8 +204,10 @@ none_set role place TypeName = refl
 none_set role place _ = refl
 
 -- what is shown is its fields
-fields_are : (f : MemberSlots) (place : ℕ) (role : Role) (repeated : Option Fault) (type_value : Option TypeValue) (shapes : Shapes) (type_name coordinates geometries geometry properties features bbox id : Option Slot)
-    → f.place ≡ place → f.role ≡ role → f.repeated ≡ repeated → f.type_value ≡ type_value → f.shapes ≡ shapes → f.type_name ≡ type_name → f.coordinates ≡ coordinates
+fields_are : (f : MemberSlots) (place : ℕ) (role : Role) (repeated : Option Fault) (type_value : Option TypeValue) (shapes : Shapes)
+    (type_name coordinates geometries geometry properties features bbox id : Option Slot)
+    → f.place ≡ place → f.role ≡ role → f.repeated ≡ repeated → f.type_value ≡ type_value → f.shapes ≡ shapes → f.type_name ≡ type_name
+    → f.coordinates ≡ coordinates
     → f.geometries ≡ geometries → f.geometry ≡ geometry → f.properties ≡ properties → f.features ≡ features → f.bbox ≡ bbox → f.id ≡ id
     → f ≡ record {
       place = place;
@@ -246,19 +258,22 @@ pub asked_after : (role : Role) (place : ℕ) (members : Members)
     ≡ asked (first_type members) (shapes_from (F.uses role Coordinates) None None no_shapes (R.first Coordinates members))
 asked_after role place members =
     let f : MemberSlots = F.blank role place in
-    subst (λ (t : Option TypeValue). asked t (members_taken members f).shapes ≡ asked t (shapes_from (F.uses role Coordinates) None None no_shapes (R.first Coordinates members)))
+    subst (λ (t : Option TypeValue). asked t (members_taken members f).shapes ≡ asked t
+    (shapes_from (F.uses role Coordinates) None None no_shapes (R.first Coordinates members)))
     (type_after members f ∙ kind_is (first_type members)) (shapes_after members f refl)
 
 -- ---- only what its type asks for counts
 
-due_asked : (simple : Simple) (place : ℕ) (x : Shapes) (o : Option Slot) → F.due_shape simple place x o ≡ F.due_shape simple place (alike (shape_found simple x)) o
+due_asked : (simple : Simple) (place : ℕ) (x : Shapes) (o : Option Slot)
+    → F.due_shape simple place x o ≡ F.due_shape simple place (alike (shape_found simple x)) o
 due_asked simple place x None = refl
 due_asked simple place x (Some slot) = sym (one_fault simple (shape_found simple x))
 
 simple_asked : (simple : Simple) (role : Role) (place : ℕ) (t : Option Slot) (x : Shapes) (p : ObjectMembers)
     → F.as_simple simple (shown_with role place t x p) ≡ F.as_simple simple (shown_with role place t (alike (shape_found simple x)) p)
 simple_asked simple role place t x p =
-    ap (λ (o : Option Fault). lesser (F.geometry_forbids (shown_with role place t x p)) o) (due_asked simple place x (slot_from (F.uses role Coordinates) (p.of Coordinates)))
+    ap (λ (o : Option Fault). lesser (F.geometry_forbids (shown_with role place t x p)) o)
+    (due_asked simple place x (slot_from (F.uses role Coordinates) (p.of Coordinates)))
 
 word_asked : (word : Word) (role : Role) (place : ℕ) (t : Option Slot) (x : Shapes) (p : ObjectMembers)
     → F.as_type word (shown_with role place t x p) ≡ F.as_type word (shown_with role place t (asked_as (simple_of word) x) p)
@@ -279,9 +294,11 @@ rest_asked (Some value) role place t x p =
 settled_asked : (role : Role) (place : ℕ) (t : Option Slot) (x : Shapes) (p : ObjectMembers)
     → F.settled (shown_with role place t x p) ≡ F.settled (shown_with role place t (asked p.type_value x) p)
 settled_asked role place t x p =
-    ap (λ (o : Option Fault). lesser (least p.repeated) (lesser (F.slot_fault (slot_from (F.uses role Bbox) (p.of Bbox))) o)) (rest_asked p.type_value role place t x p)
+    ap (λ (o : Option Fault). lesser (least p.repeated) (lesser (F.slot_fault (slot_from (F.uses role Bbox) (p.of Bbox))) o))
+    (rest_asked p.type_value role place t x p)
 
-pub closed : (role : Role) (place close : ℕ) (members : Members) → F.settled (members_taken members (F.blank role place)) ≡ least (faults role (object place members close))
+pub closed : (role : Role) (place close : ℕ) (members : Members)
+    → F.settled (members_taken members (F.blank role place)) ≡ least (faults role (object place members close))
 closed role place close members =
     let f : MemberSlots = members_taken members (F.blank role place) in
     let p : ObjectMembers = parts_of members in

@@ -1,5 +1,6 @@
 -- What the rules keep of a text's warnings is what is kept of the list of them, where each `coordinates` has few enough events.
-use Rattle.std.proofs.Common.{◌≡◌, ℕ, suc, ◌+◌, ◌<◌, Bool, true, false, if◌then◌else◌, List, [], ◌∷◌, ◌++◌, length, Option, Some, None, refl, sym, ap, subst, ◌∙◌, arith, length-append}
+use Rattle.std.proofs.Common.{◌≡◌, ℕ, suc, ◌+◌, ◌<◌, Bool, true, false, if◌then◌else◌, List, [], ◌∷◌, ◌++◌, length, Option, Some, None, refl, sym, ap, subst}
+use Rattle.std.proofs.Common.{◌∙◌, arith, length-append}
 use Rattle.std.proofs.lemmas.List.{length-map}
 use Rattle.gj_json.specs.declared.names.Known.{Known}
 use Rattle.gj_json.specs.declared.names.Known.TheVariants.{Coordinates, Geometries, Geometry, Features, Bbox}
@@ -21,8 +22,10 @@ use Rattle.gj_rules.specs.declared.role.Role.{Role}
 use Rattle.gj_rules.specs.declared.member_slots.TypeValue.{TypeValue}
 use Rattle.gj_rules.specs.Members.{same, first_type}
 use Rattle.gj_rules.specs.Role.{is_allowed}
-use Rattle.gj_rules.specs.Internal.TextKept.{both, or_none, simple_kept, typed_kept, by_type_kept, selected_kept, kept, list_kept, all_kept, first_kept, marked_kept, and_kept, text_kept}
-use Rattle.gj_rules.specs.TextWarnings.{crs_warnings, first_value, simple_warnings, typed_warnings, by_type_warnings, selected_warnings, warnings, list_warnings, all_warnings, first_warnings, text_warnings}
+use Rattle.gj_rules.specs.Internal.TextKept.{both, or_none, simple_kept, typed_kept, by_type_kept, selected_kept, kept, list_kept, all_kept, first_kept}
+use Rattle.gj_rules.specs.Internal.TextKept.{marked_kept, and_kept, text_kept}
+use Rattle.gj_rules.specs.TextWarnings.{crs_warnings, first_value, simple_warnings, typed_warnings, by_type_warnings, selected_warnings, warnings}
+use Rattle.gj_rules.specs.TextWarnings.{list_warnings, all_warnings, first_warnings, text_warnings}
 
 -- nothing is what is kept of no warnings
 none_is : no_warnings ≡ warnings_of []
@@ -74,7 +77,8 @@ by_type_is (Some value) role place o a b c xs ys zs h e f g =
     (typed_is value.word role place o a b c xs ys zs h e f g)
 
 -- of the value of a first member
-selected_is : (name : Known) (v : Tree) (a b c : Option Warnings) (xs ys zs : List Warning) → or_none a ≡ warnings_of xs → or_none b ≡ warnings_of ys → or_none c ≡ warnings_of zs
+selected_is : (name : Known) (v : Tree) (a b c : Option Warnings) (xs ys zs : List Warning) → or_none a ≡ warnings_of xs → or_none b ≡ warnings_of ys
+    → or_none c ≡ warnings_of zs
     → or_none (selected_kept name v a b c) ≡ warnings_of (selected_warnings name v xs ys zs)
 selected_is Geometry v a b c xs ys zs e f g = e
 selected_is Geometries v a b c xs ys zs e f g = f
@@ -82,7 +86,8 @@ selected_is Features v a b c xs ys zs e f g = g
 selected_is Bbox v a b c xs ys zs e f g = refl
 selected_is _ v a b c xs ys zs e f g = none_is
 
-choose : (t : Bool) (a b : Option Warnings) (xs ys : List Warning) → or_none a ≡ warnings_of xs → or_none b ≡ warnings_of ys → or_none (if t then a else b) ≡ warnings_of (if t then xs else ys)
+choose : (t : Bool) (a b : Option Warnings) (xs ys : List Warning) → or_none a ≡ warnings_of xs → or_none b ≡ warnings_of ys
+    → or_none (if t then a else b) ≡ warnings_of (if t then xs else ys)
 choose true a b xs ys e f = e
 choose false a b xs ys e f = f
 
@@ -101,7 +106,8 @@ behind_few xs most h = omega (arith, h)
 inner_few : (xs : List Timed) (last : Timed) (most : ℕ) → suc (length (xs ++ last ∷ [])) < most → length xs < most
 inner_few xs last most h = front_few xs (last ∷ []) most (behind_few (xs ++ last ∷ []) most h)
 
-module _ (most : ℕ) (law : (simple : Simple) (value : Tree) → length (value_events value) < most → coordinates_kept simple value ≡ warnings_of (coordinates_warnings simple value)) where
+module _ (most : ℕ) (law : (simple : Simple) (value : Tree) → length (value_events value) < most
+    → coordinates_kept simple value ≡ warnings_of (coordinates_warnings simple value)) where
   simple_is : (simple : Simple) (ms : Members) → length (members_events ms) < most
       → simple_kept simple (first_value Coordinates ms) ≡ warnings_of (simple_warnings simple (first_value Coordinates ms))
   simple_is simple end_of_object d = none_is
@@ -113,7 +119,8 @@ module _ (most : ℕ) (law : (simple : Simple) (value : Tree) → length (value_
     where
       choose_value : (t : Bool) → coordinates_kept simple v ≡ warnings_of (coordinates_warnings simple v)
           → simple_kept simple (first_value Coordinates more) ≡ warnings_of (simple_warnings simple (first_value Coordinates more))
-          → simple_kept simple (if t then Some v else first_value Coordinates more) ≡ warnings_of (simple_warnings simple (if t then Some v else first_value Coordinates more))
+          → simple_kept simple (if t then Some v else first_value Coordinates more) ≡ warnings_of
+          (simple_warnings simple (if t then Some v else first_value Coordinates more))
       choose_value true e f = e
       choose_value false e f = f
 
@@ -126,11 +133,14 @@ module _ (most : ℕ) (law : (simple : Simple) (value : Tree) → length (value_
     value_is role (object place ms close) d =
         let k = inner_few (members_events ms) (timed (close + 1) close What.CloseObject) most d in
         let xs : List Warning = first_warnings Bbox ms in
-        let rest : List Warning = by_type_warnings (first_type ms) role place (first_value Coordinates ms) (first_warnings Geometries ms) (first_warnings Geometry ms) (first_warnings Features ms) in
+        let rest : List Warning =
+        by_type_warnings (first_type ms) role place (first_value Coordinates ms) (first_warnings Geometries ms) (first_warnings Geometry ms)
+        (first_warnings Features ms) in
         joined_assoc (warnings_of (crs_warnings ms)) (or_none (first_kept Bbox ms)) _
         ∙ append_is (warnings_of (crs_warnings ms)) _ (crs_warnings ms) (xs ++ rest) refl
         (append_is (or_none (first_kept Bbox ms)) _ xs rest (first_is Bbox ms k)
-        (by_type_is (first_type ms) role place (first_value Coordinates ms) _ _ _ (first_warnings Geometries ms) (first_warnings Geometry ms) (first_warnings Features ms)
+        (by_type_is (first_type ms) role place (first_value Coordinates ms) _ _ _ (first_warnings Geometries ms) (first_warnings Geometry ms)
+        (first_warnings Features ms)
         (λ simple. simple_is simple ms k) (first_is Geometries ms k) (first_is Geometry ms k) (first_is Features ms k)))
 
     list_is : (role : Role) (v : Tree) → length (events v) < most → or_none (list_kept role v) ≡ warnings_of (list_warnings role v)

@@ -20,7 +20,8 @@ use Rattle.gj_rules.proofs.Parts.RecordSteps.{open_of, over_of, over_more}
 
 -- ---- what is found, with more behind it
 
-both_found : (framing : Framing) (levels : ℕ) (entries others : List Entry) (found more : List Record) → AreFindings framing levels entries found → AreFindings framing levels others more
+both_found : (framing : Framing) (levels : ℕ) (entries others : List Entry) (found more : List Record) → AreFindings framing levels entries found
+    → AreFindings framing levels others more
     → AreFindings framing levels (entries ++ others) (found ++ more)
 both_found framing levels [] others [] more h k = k
 both_found framing levels [] others (other ∷ found) more h k = absurd h
@@ -48,7 +49,8 @@ take_both n xs ys l =
     ap (λ k. take k (xs ++ ys)) sum ∙ take-append-add xs ys (n - length xs)
 
 -- those that have ended are the first
-parts_more : (s : Records) (bytes more : List ℕ) (found : List Record) (h : IsOpen s bytes found) → (rest : List Part) × (parts_of s.framing s.limits (bytes ++ more) ≡ h.done ++ rest)
+parts_more : (s : Records) (bytes more : List ℕ) (found : List Record) (h : IsOpen s bytes found) → (rest : List Part)
+    × (parts_of s.framing s.limits (bytes ++ more) ≡ h.done ++ rest)
 parts_more s bytes more found h = by_test (is_too_long s.limits (bytes ++ more)) refl
   where
     room : ℕ
@@ -62,12 +64,14 @@ parts_more s bytes more found h = by_test (is_too_long s.limits (bytes ++ more))
     )
     by_test false e = (
       parts_from s.framing Input s.record.start (h.given ++ more),
-      ap (λ t. if t then parts_from s.framing Limit 0 (take s.limits.bytes (bytes ++ more)) else parts_from s.framing Input 0 (bytes ++ more)) e ∙ h.cut Input more,
+      ap (λ t. if t then parts_from s.framing Limit 0 (take s.limits.bytes (bytes ++ more)) else parts_from s.framing Input 0 (bytes ++ more)) e
+          ∙ h.cut Input more,
     )
 
 -- ---- the whole
 
-pub decided_lasts : ((limits : Allowed) (bytes : List ℕ) → (verdict : Verdict) × IsVerdict limits bytes verdict) → (s : Records) (bytes more : List ℕ) (found : List Record) → StandsFor s bytes found
+pub decided_lasts : ((limits : Allowed) (bytes : List ℕ) → (verdict : Verdict) × IsVerdict limits bytes verdict)
+    → (s : Records) (bytes more : List ℕ) (found : List Record) → StandsFor s bytes found
     → (s.is_over ≡ false → is_valid_sequence (whole_of found) ≡ false) → IsWholeVerdict s.framing s.limits (bytes ++ more) (whole_of found)
 decided_lasts some s bytes more found h fails = by_test s.is_over refl
   where

@@ -7,7 +7,8 @@ use Rattle.gj_rules.specs.declared.sequence.verdict.SeqVerdict.{SeqVerdict}
 use Rattle.gj_rules.specs.RecordFindings.{IsOwnVerdict, IsNumberedVerdict, IsFinding, AreFindings, after, whole_from}
 use Rattle.gj_rules.specs.Records.{Part, Entry}
 
-pub found-append : (framing : Framing) (levels : ℕ) (entries : List Entry) (found : List Record) (entry : Entry) (one : Record) → AreFindings framing levels entries found → IsFinding framing levels entry one
+pub found-append : (framing : Framing) (levels : ℕ) (entries : List Entry) (found : List Record) (entry : Entry) (one : Record)
+    → AreFindings framing levels entries found → IsFinding framing levels entry one
     → AreFindings framing levels (entries ++ entry ∷ []) (found ++ one ∷ [])
 found-append framing levels [] [] entry one h k = (k, tt)
 found-append framing levels [] (other ∷ found) entry one h k = absurd h
@@ -18,6 +19,7 @@ pub whole-append : (verdict : SeqVerdict) (found : List Record) (one : Record) �
 whole-append verdict [] one = refl
 whole-append verdict (other ∷ found) one = whole-append (after verdict other) found one
 
-pub numbered_own : (framing : Framing) (levels number : ℕ) (part : Part) (verdict : Verdict) → 0 < number → IsOwnVerdict framing levels part verdict → IsNumberedVerdict framing levels number part verdict
+pub numbered_own : (framing : Framing) (levels number : ℕ) (part : Part) (verdict : Verdict) → 0 < number → IsOwnVerdict framing levels part verdict
+    → IsNumberedVerdict framing levels number part verdict
 numbered_own framing levels zero part verdict some h = absurd (omega (arith, some))
 numbered_own framing levels (suc n) part verdict some h = h

@@ -26,25 +26,29 @@ module _ (some : (limits : Allowed) (bytes : List ℕ) → (verdict : Verdict) �
         (record { number = refl; place = refl; end = refl; verdict = v.1 }, rest.1),
       )
 
-module _ (one : (limits : Allowed) (bytes : List ℕ) (first second : Verdict) → IsVerdict limits bytes first → IsVerdict limits bytes second → first ≡ second) where
-  one_verdict : (framing : Framing) (levels number : ℕ) (part : Part) (a b : Verdict) → IsNumberedVerdict framing levels number part a → IsNumberedVerdict framing levels number part b → a ≡ b
-  one_verdict framing levels zero part a b h k = h ∙ sym k
-  one_verdict framing levels (suc n) part a b h k =
-      h.2 ∙ (ap (λ own. shifted_verdict part.start (ended_as framing part.end (ends_in_line_feed part.bytes) (length part.bytes) own)) (one (own_limits levels part.bytes) part.bytes h.0 k.0 h.1 k.1) ∙ sym k.2)
+module _ (one : (limits : Allowed) (bytes : List ℕ) (first second : Verdict) → IsVerdict limits bytes first → IsVerdict limits bytes second → first ≡ second)
+  where
+    one_verdict : (framing : Framing) (levels number : ℕ) (part : Part) (a b : Verdict) → IsNumberedVerdict framing levels number part a
+        → IsNumberedVerdict framing levels number part b → a ≡ b
+    one_verdict framing levels zero part a b h k = h ∙ sym k
+    one_verdict framing levels (suc n) part a b h k =
+        h.2 ∙ (ap (λ own. shifted_verdict part.start (ended_as framing part.end (ends_in_line_feed part.bytes) (length part.bytes) own))
+        (one (own_limits levels part.bytes) part.bytes h.0 k.0 h.1 k.1) ∙ sym k.2)
 
-  same_record : (a b : Record) → a.number ≡ b.number → a.place ≡ b.place → a.end ≡ b.end → a.verdict ≡ b.verdict → a ≡ b
-  same_record a b e f g h =
-      ap (λ n. record a { number = n }) e
-      ∙ (ap (λ n. record a { number = b.number; place = n }) f
-      ∙ (ap (λ n. record a { number = b.number; place = b.place; end = n }) g ∙ ap (λ v. record b { verdict = v }) h))
+    same_record : (a b : Record) → a.number ≡ b.number → a.place ≡ b.place → a.end ≡ b.end → a.verdict ≡ b.verdict → a ≡ b
+    same_record a b e f g h =
+        ap (λ n. record a { number = n }) e
+        ∙ (ap (λ n. record a { number = b.number; place = n }) f
+        ∙ (ap (λ n. record a { number = b.number; place = b.place; end = n }) g ∙ ap (λ v. record b { verdict = v }) h))
 
-  pub one_findings : (framing : Framing) (levels : ℕ) (entries : List Entry) (a b : List Record) → AreFindings framing levels entries a → AreFindings framing levels entries b → a ≡ b
-  one_findings framing levels [] [] [] h k = refl
-  one_findings framing levels [] (x ∷ a) b h k = absurd h
-  one_findings framing levels [] [] (y ∷ b) h k = absurd k
-  one_findings framing levels (entry ∷ more) [] b h k = absurd h
-  one_findings framing levels (entry ∷ more) (x ∷ a) [] h k = absurd k
-  one_findings framing levels (entry ∷ more) (x ∷ a) (y ∷ b) h k =
-      let same = same_record x y (h.0.number ∙ sym k.0.number) (h.0.place ∙ sym k.0.place) (h.0.end ∙ sym k.0.end)
-      (one_verdict framing levels entry.number entry.part x.verdict y.verdict h.0.verdict k.0.verdict) in
-      ap (λ r. r ∷ a) same ∙ ap (λ rs. y ∷ rs) (one_findings framing levels more a b h.1 k.1)
+    pub one_findings : (framing : Framing) (levels : ℕ) (entries : List Entry) (a b : List Record) → AreFindings framing levels entries a
+        → AreFindings framing levels entries b → a ≡ b
+    one_findings framing levels [] [] [] h k = refl
+    one_findings framing levels [] (x ∷ a) b h k = absurd h
+    one_findings framing levels [] [] (y ∷ b) h k = absurd k
+    one_findings framing levels (entry ∷ more) [] b h k = absurd h
+    one_findings framing levels (entry ∷ more) (x ∷ a) [] h k = absurd k
+    one_findings framing levels (entry ∷ more) (x ∷ a) (y ∷ b) h k =
+        let same = same_record x y (h.0.number ∙ sym k.0.number) (h.0.place ∙ sym k.0.place) (h.0.end ∙ sym k.0.end)
+        (one_verdict framing levels entry.number entry.part x.verdict y.verdict h.0.verdict k.0.verdict) in
+        ap (λ r. r ∷ a) same ∙ ap (λ rs. y ∷ rs) (one_findings framing levels more a b h.1 k.1)

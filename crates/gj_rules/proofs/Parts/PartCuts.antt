@@ -1,5 +1,6 @@
 -- How an input is cut into parts, as it goes on.
-use Rattle.std.proofs.Common.{◌≡◌, ℕ, zero, suc, ◌+◌, ◌<◌, ◌≤◌, Bool, true, false, ◌&&◌, ◌||◌, nat_eq, if◌then◌else◌, List, [], ◌∷◌, ◌++◌, length, take, refl, ap, sym, ◌∙◌, arith}
+use Rattle.std.proofs.Common.{◌≡◌, ℕ, zero, suc, ◌+◌, ◌<◌, ◌≤◌, Bool, true, false, ◌&&◌, ◌||◌, nat_eq, if◌then◌else◌, List, [], ◌∷◌, ◌++◌, length, take, refl}
+use Rattle.std.proofs.Common.{ap, sym, ◌∙◌, arith}
 use Rattle.std.proofs.lemmas.Bool.Decides.{nat_tests}
 use Rattle.gj_json.specs.Limits.{Allowed}
 use Rattle.gj_rules.specs.declared.records.framing.Framing.{Framing}
@@ -29,7 +30,8 @@ rest_other wanted byte more h = by_test (nat_eq byte wanted) h
 
 pub other-append : (wanted : ℕ) (xs ys : List ℕ) → has_byte wanted xs ≡ false → has_byte wanted ys ≡ false → has_byte wanted (xs ++ ys) ≡ false
 other-append wanted [] ys h k = k
-other-append wanted (x ∷ xs) ys h k = ap (λ t. t || has_byte wanted (xs ++ ys)) (first_other wanted x xs h) ∙ other-append wanted xs ys (rest_other wanted x xs h) k
+other-append wanted (x ∷ xs) ys h k =
+    ap (λ t. t || has_byte wanted (xs ++ ys)) (first_other wanted x xs h) ∙ other-append wanted xs ys (rest_other wanted x xs h) k
 
 -- ---- parts
 
@@ -40,23 +42,27 @@ same_byte n = grind (arith, nat_tests)
 on_by : (framing : Framing) (last : RecordEnd) (place byte : ℕ) (more : List ℕ) → nat_eq byte (separator_of framing) ≡ false
     → parts_from framing last place (byte ∷ more) ≡ with_first place byte (parts_from framing last (place + 1) more)
 on_by framing last place byte more e =
-    ap (λ t. if t then part_at place [] Separator ∷ parts_from framing last (place + 1) more else with_first place byte (parts_from framing last (place + 1) more)) e
+    ap (λ t. if t then part_at place [] Separator ∷ parts_from framing last (place + 1) more else with_first place byte
+    (parts_from framing last (place + 1) more)) e
 
 parted_by : (framing : Framing) (last : RecordEnd) (place : ℕ) (more : List ℕ)
     → parts_from framing last place (separator_of framing ∷ more) ≡ part_at place [] Separator ∷ parts_from framing last (place + 1) more
 parted_by framing last place more =
-    ap (λ t. if t then part_at place [] Separator ∷ parts_from framing last (place + 1) more else with_first place (separator_of framing) (parts_from framing last (place + 1) more))
+    ap (λ t. if t then part_at place [] Separator ∷ parts_from framing last (place + 1) more else with_first place (separator_of framing)
+    (parts_from framing last (place + 1) more))
     (same_byte (separator_of framing))
 
 -- bytes without a separator are one part
-pub one_part : (framing : Framing) (last : RecordEnd) (place : ℕ) (given : List ℕ) → has_byte (separator_of framing) given ≡ false → parts_from framing last place given ≡ part_at place given last ∷ []
+pub one_part : (framing : Framing) (last : RecordEnd) (place : ℕ) (given : List ℕ) → has_byte (separator_of framing) given ≡ false
+    → parts_from framing last place given ≡ part_at place given last ∷ []
 one_part framing last place [] h = refl
 one_part framing last place (byte ∷ more) h =
     on_by framing last place byte more (first_other (separator_of framing) byte more h)
     ∙ ap (with_first place byte) (one_part framing last (place + 1) more (rest_other (separator_of framing) byte more h))
 
 -- and the first one, where a separator follows them
-pub first_part : (framing : Framing) (last : RecordEnd) (place next : ℕ) (given more : List ℕ) → has_byte (separator_of framing) given ≡ false → next ≡ place + length given + 1
+pub first_part : (framing : Framing) (last : RecordEnd) (place next : ℕ) (given more : List ℕ) → has_byte (separator_of framing) given ≡ false
+    → next ≡ place + length given + 1
     → parts_from framing last place (given ++ separator_of framing ∷ more) ≡ part_at place given Separator ∷ parts_from framing last next more
 first_part framing last place next [] more h e =
     parted_by framing last place more ∙ ap (λ n. part_at place [] Separator ∷ parts_from framing last n more) (next_is place next e)
@@ -65,7 +71,8 @@ first_part framing last place next [] more h e =
     next_is n m f = omega (arith, f)
 first_part framing last place next (byte ∷ given) more h e =
     on_by framing last place byte (given ++ separator_of framing ∷ more) (first_other (separator_of framing) byte given h)
-    ∙ ap (with_first place byte) (first_part framing last (place + 1) next given more (rest_other (separator_of framing) byte given h) (next_is place next (length given) e))
+    ∙ ap (with_first place byte)
+    (first_part framing last (place + 1) next given more (rest_other (separator_of framing) byte given h) (next_is place next (length given) e))
   where
     next_is : (n m k : ℕ) → m ≡ n + suc k + 1 → m ≡ n + 1 + k + 1
     next_is n m k f = omega (arith, f)
@@ -104,19 +111,23 @@ within_limit limits bytes l = grind (arith, nat_tests)
 pub beyond_limit : (limits : Allowed) (bytes : List ℕ) → limits.bytes < length bytes → is_too_long limits bytes ≡ true
 beyond_limit limits bytes l = grind (arith, nat_tests)
 
-pub short_parts : (framing : Framing) (limits : Allowed) (bytes : List ℕ) → length bytes ≤ limits.bytes → parts_of framing limits bytes ≡ parts_from framing Input 0 bytes
+pub short_parts : (framing : Framing) (limits : Allowed) (bytes : List ℕ) → length bytes ≤ limits.bytes
+    → parts_of framing limits bytes ≡ parts_from framing Input 0 bytes
 short_parts framing limits bytes l =
     ap (λ t. if t then parts_from framing Limit 0 (take limits.bytes bytes) else parts_from framing Input 0 bytes) (within_limit limits bytes l)
 
-pub long_parts : (framing : Framing) (limits : Allowed) (bytes : List ℕ) → limits.bytes < length bytes → parts_of framing limits bytes ≡ parts_from framing Limit 0 (take limits.bytes bytes)
+pub long_parts : (framing : Framing) (limits : Allowed) (bytes : List ℕ) → limits.bytes < length bytes
+    → parts_of framing limits bytes ≡ parts_from framing Limit 0 (take limits.bytes bytes)
 long_parts framing limits bytes l =
     ap (λ t. if t then parts_from framing Limit 0 (take limits.bytes bytes) else parts_from framing Input 0 bytes) (beyond_limit limits bytes l)
 
-pub short_whole : (framing : Framing) (limits : Allowed) (bytes : List ℕ) → length bytes ≤ limits.bytes → whole_parts framing limits bytes ≡ but_last (parts_from framing Input 0 bytes)
+pub short_whole : (framing : Framing) (limits : Allowed) (bytes : List ℕ) → length bytes ≤ limits.bytes
+    → whole_parts framing limits bytes ≡ but_last (parts_from framing Input 0 bytes)
 short_whole framing limits bytes l =
     ap (λ t. if t then parts_from framing Limit 0 (take limits.bytes bytes) else but_last (parts_from framing Input 0 bytes)) (within_limit limits bytes l)
 
-pub long_whole : (framing : Framing) (limits : Allowed) (bytes : List ℕ) → limits.bytes < length bytes → whole_parts framing limits bytes ≡ parts_of framing limits bytes
+pub long_whole : (framing : Framing) (limits : Allowed) (bytes : List ℕ) → limits.bytes < length bytes
+    → whole_parts framing limits bytes ≡ parts_of framing limits bytes
 long_whole framing limits bytes l =
     ap (λ t. if t then parts_from framing Limit 0 (take limits.bytes bytes) else but_last (parts_from framing Input 0 bytes)) (beyond_limit limits bytes l)
     ∙ sym (long_parts framing limits bytes l)

@@ -1,5 +1,6 @@
 -- What `Records` stand for, from step to step.
-use Rattle.std.proofs.Common.{◌≡◌, ℕ, zero, suc, ◌+◌, ◌-◌, ◌<◌, ◌≤◌, Bool, true, false, ◌&&◌, not, List, [], ◌∷◌, ◌++◌, length, length-append, take, drop, append_assoc, append-nil, refl, ap, sym, subst, ◌∙◌, arith}
+use Rattle.std.proofs.Common.{◌≡◌, ℕ, zero, suc, ◌+◌, ◌-◌, ◌<◌, ◌≤◌, Bool, true, false, ◌&&◌, not, List, [], ◌∷◌, ◌++◌, length, length-append, take, drop}
+use Rattle.std.proofs.Common.{append_assoc, append-nil, refl, ap, sym, subst, ◌∙◌, arith}
 use Rattle.std.proofs.lemmas.List.{take_all, length-drop}
 use Rattle.gj_json.specs.Limits.{Allowed}
 use Rattle.gj_coords.specs.Internal.KeptWarnings.{no_warnings}
@@ -14,12 +15,14 @@ use Rattle.gj_rules.specs.Internal.OpenParts.{IsOpen, IsOver}
 use Rattle.gj_rules.specs.Internal.OpenRecord.{StandsFor as RecordStandsFor}
 use Rattle.gj_rules.specs.Internal.ToldRecords.{Keeps, TellsOne}
 use Rattle.gj_rules.specs.RecordFindings.{IsFinding, AreFindings, AreAllFindings, AreFindingsSoFar, but_last, after, whole_of}
-use Rattle.gj_rules.specs.Records.{Part, Entry, part_at, entry_at, entry_if, counts, entries_of, is_void, is_counted, number_after, at_least_one, number_from, first_number, separator_of, parts_from, parts_of, entries_in}
+use Rattle.gj_rules.specs.Records.{Part, Entry, part_at, entry_at, entry_if, counts, entries_of, is_void, is_counted, number_after, at_least_one, number_from}
+use Rattle.gj_rules.specs.Records.{first_number, separator_of, parts_from, parts_of, entries_in}
 use Rattle.gj_rules.specs.RecordsStand.{StandsBy, StandsFor, HaveTold, HaveToldIf, HaveToldAllIf}
 use Rattle.gj_rules.proofs.Sequences.SequenceSteps.{take_further}
 use Rattle.gj_rules.proofs.Parts.CountedParts.{next_number, next_entries}
 use Rattle.gj_rules.proofs.Parts.FoundRecords.{found-append, whole-append}
-use Rattle.gj_rules.proofs.Parts.PartCuts.{other-append, one_part, first_part, void-append, but_last-append, short_parts, long_parts, short_whole, long_whole, take_within, no_bytes_void}
+use Rattle.gj_rules.proofs.Parts.PartCuts.{other-append, one_part, first_part, void-append, but_last-append, short_parts, long_parts, short_whole, long_whole}
+use Rattle.gj_rules.proofs.Parts.PartCuts.{take_within, no_bytes_void}
 
 -- ---- which of the two they stand for
 
@@ -38,7 +41,8 @@ stand_over s bytes found e h = let P : Bool → Type 0 = λ b. StandsBy b s byte
 -- ---- the parts, as they end
 
 -- all parts, the open one last
-pub all_parts : (s : Records) (bytes : List ℕ) (found : List Record) (h : IsOpen s bytes found) (last : RecordEnd) → parts_from s.framing last 0 bytes ≡ h.done ++ part_at s.record.start h.given last ∷ []
+pub all_parts : (s : Records) (bytes : List ℕ) (found : List Record) (h : IsOpen s bytes found) (last : RecordEnd)
+    → parts_from s.framing last 0 bytes ≡ h.done ++ part_at s.record.start h.given last ∷ []
 all_parts s bytes found h last =
     ap (parts_from s.framing last 0) (sym (append-nil bytes))
     ∙ (h.cut last [] ∙ (ap (λ bs. h.done ++ parts_from s.framing last s.record.start bs) (append-nil h.given)
@@ -52,7 +56,8 @@ so_far s bytes found h = by_test s.is_over refl
     by_test false e =
         let k = open_of s bytes found e h in
         let P : List Part → Type 0 = λ ps. AreFindings s.framing s.limits.depth (entries_in s.framing ps) found in
-        subst P (sym (short_whole s.framing s.limits bytes k.fits ∙ (ap but_last (all_parts s bytes found k Input) ∙ but_last-append k.done (part_at s.record.start k.given Input)))) k.are
+        subst P (sym (short_whole s.framing s.limits bytes k.fits
+        ∙ (ap but_last (all_parts s bytes found k Input) ∙ but_last-append k.done (part_at s.record.start k.given Input)))) k.are
     by_test true e =
         let k = over_of s bytes found e h in
         let P : List Part → Type 0 = λ ps. AreFindings s.framing s.limits.depth (entries_in s.framing ps) found in
@@ -60,21 +65,25 @@ so_far s bytes found h = by_test s.is_over refl
 
 -- ---- what was told
 
-pub have_told : (told : List Record → Type 0) (s : Records) (bytes : List ℕ) (before found more : List Record) → StandsFor s bytes (found ++ more) → told (before ++ (found ++ more)) → HaveTold told s bytes before found
+pub have_told : (told : List Record → Type 0) (s : Records) (bytes : List ℕ) (before found more : List Record) → StandsFor s bytes (found ++ more)
+    → told (before ++ (found ++ more)) → HaveTold told s bytes before found
 have_told told s bytes before found more h t = record { more = more; stands = h; findings = so_far s bytes (found ++ more) h; heard = t }
 
-pub none_told : (told : List Record → Type 0) (s : Records) (bytes : List ℕ) (before found : List Record) → StandsFor s bytes found → told (before ++ found) → HaveTold told s bytes before found
+pub none_told : (told : List Record → Type 0) (s : Records) (bytes : List ℕ) (before found : List Record) → StandsFor s bytes found → told (before ++ found)
+    → HaveTold told s bytes before found
 none_told told s bytes before found h t =
     let P : List Record → Type 0 = λ rs. StandsFor s bytes rs in
     let T : List Record → Type 0 = λ rs. told (before ++ rs) in
     have_told told s bytes before found [] (subst P (sym (append-nil found)) h) (subst T (sym (append-nil found)) t)
 
 -- no record, or one
-pub none_if : (told : List Record → Type 0) (s : Records) (bytes : List ℕ) (before found : List Record) → StandsFor s bytes found → told (before ++ found) → HaveToldIf false told s bytes before found
+pub none_if : (told : List Record → Type 0) (s : Records) (bytes : List ℕ) (before found : List Record) → StandsFor s bytes found → told (before ++ found)
+    → HaveToldIf false told s bytes before found
 unfolding none_told have_told
 none_if told s bytes before found h t = record { have = none_told told s bytes before found h t; one_or_none = refl }
 
-pub one_if : (told : List Record → Type 0) (s : Records) (bytes : List ℕ) (before found : List Record) (one : Record) → StandsFor s bytes (found ++ one ∷ []) → told (before ++ (found ++ one ∷ [])) → HaveToldIf true told s bytes before found
+pub one_if : (told : List Record → Type 0) (s : Records) (bytes : List ℕ) (before found : List Record) (one : Record) → StandsFor s bytes (found ++ one ∷ [])
+    → told (before ++ (found ++ one ∷ [])) → HaveToldIf true told s bytes before found
 unfolding have_told
 one_if told s bytes before found one h t = record { have = have_told told s bytes before found (one ∷ []) h t; one_or_none = refl }
 
@@ -84,10 +93,12 @@ then_told first second s t bytes more before found h step =
     let k = step (found ++ h.more) h.stands h.heard in
     let P : List Record → Type 0 = λ rs. StandsFor t more rs in
     let T : List Record → Type 0 = λ rs. second (before ++ rs) in
-    have_told second t more before found (h.more ++ k.more) (subst P (append_assoc found h.more k.more) k.stands) (subst T (append_assoc found h.more k.more) k.heard)
+    have_told second t more before found (h.more ++ k.more) (subst P (append_assoc found h.more k.more) k.stands)
+    (subst T (append_assoc found h.more k.more) k.heard)
 
 -- no record was told before
-pub then_if : (b : Bool) (first second : List Record → Type 0) (s t : Records) (bytes more : List ℕ) (before found : List Record) → HaveToldIf false first s bytes before found
+pub then_if : (b : Bool) (first second : List Record → Type 0) (s t : Records) (bytes more : List ℕ) (before found : List Record)
+    → HaveToldIf false first s bytes before found
     → ((all : List Record) → StandsFor s bytes all → first (before ++ all) → HaveToldIf b second t more before all) → HaveToldIf b second t more before found
 unfolding have_told
 then_if b first second s t bytes more before found h step =
@@ -98,7 +109,8 @@ then_if b first second s t bytes more before found h step =
     let none = h.one_or_none in
     let same : length (h.have.more ++ k.have.more) ≡ length k.have.more = omega (arith, both, none) in
     record {
-      have = have_told second t more before found (h.have.more ++ k.have.more) (subst P (append_assoc found h.have.more k.have.more) k.have.stands) (subst T (append_assoc found h.have.more k.have.more) k.have.heard);
+      have = have_told second t more before found (h.have.more ++ k.have.more) (subst P (append_assoc found h.have.more k.have.more) k.have.stands)
+          (subst T (append_assoc found h.have.more k.have.more) k.have.heard);
       one_or_none = same ∙ k.one_or_none;
     }
 
@@ -121,16 +133,19 @@ over_more s bytes more found e h =
 -- ---- one byte or run more
 
 -- bytes of the open part
-pub run_open : (s t : Records) (bytes run : List ℕ) (found : List Record) (h : IsOpen s bytes found) → t.framing ≡ s.framing → t.limits ≡ s.limits → t.number ≡ s.number → t.whole ≡ s.whole
+pub run_open : (s t : Records) (bytes run : List ℕ) (found : List Record) (h : IsOpen s bytes found) → t.framing ≡ s.framing → t.limits ≡ s.limits
+    → t.number ≡ s.number → t.whole ≡ s.whole
     → has_byte (separator_of s.framing) run ≡ false → s.record.end + length run ≤ s.limits.bytes
     → RecordStandsFor t.record (h.given ++ run) → t.record.start ≡ s.record.start → t.record.end ≡ s.record.end + length run → t.record.limits ≡ s.record.limits
     → t.is_void ≡ (s.is_void && is_void s.framing run) → IsOpen t (bytes ++ run) found
 run_open s t bytes run found h framing over number whole plain room stands start end limits void =
     let taken = h.taken in
     let longer : length (bytes ++ run) ≡ length bytes + length run = length-append bytes run in
-    let C : Framing → ℕ → Type 0 = λ f n. (last : RecordEnd) (more : List ℕ) → parts_from f last 0 ((bytes ++ run) ++ more) ≡ h.done ++ parts_from f last n ((h.given ++ run) ++ more) in
+    let C : Framing → ℕ → Type 0 =
+    λ f n. (last : RecordEnd) (more : List ℕ) → parts_from f last 0 ((bytes ++ run) ++ more) ≡ h.done ++ parts_from f last n ((h.given ++ run) ++ more) in
     let cut : C s.framing s.record.start = λ last more.
-    ap (parts_from s.framing last 0) (append_assoc bytes run more) ∙ (h.cut last (run ++ more) ∙ ap (λ bs. h.done ++ parts_from s.framing last s.record.start bs) (sym (append_assoc h.given run more))) in
+    ap (parts_from s.framing last 0) (append_assoc bytes run more)
+    ∙ (h.cut last (run ++ more) ∙ ap (λ bs. h.done ++ parts_from s.framing last s.record.start bs) (sym (append_assoc h.given run more))) in
     let A : Framing → Allowed → Type 0 = λ f l. AreFindings f l.depth (entries_in f h.done) found in
     record {
       done = h.done;
@@ -141,7 +156,8 @@ run_open s t bytes run found h framing over number whole plain room stands start
       depth = ap (λ l. l.depth) limits ∙ (h.depth ∙ sym (ap (λ l. l.depth) over));
       taken = omega (arith, end, taken, longer);
       fits = subst (λ (l : Allowed). length (bytes ++ run) ≤ l.bytes) (sym over) (omega (arith, room, taken, longer));
-      void = void ∙ (ap (λ b. b && is_void s.framing run) h.void ∙ (sym (void-append s.framing h.given run) ∙ ap (λ f. is_void f (h.given ++ run)) (sym framing)));
+      void = void ∙ (ap (λ b. b && is_void s.framing run) h.void
+          ∙ (sym (void-append s.framing h.given run) ∙ ap (λ f. is_void f (h.given ++ run)) (sym framing)));
       number = number ∙ (h.number ∙ ap (λ f. number_from f (first_number f) h.done) (sym framing));
       are = subst (λ (f : Framing). A f t.limits) (sym framing) (subst (λ (l : Allowed). A s.framing l) (sym over) h.are);
       whole = whole ∙ h.whole;
@@ -149,7 +165,8 @@ run_open s t bytes run found h framing over number whole plain room stands start
 
 -- the open part ends with a separator, and the next has no byte
 pub next_open : (s t : Records) (bytes : List ℕ) (found all : List Record) (h : IsOpen s bytes found) (b : Bool) → t.framing ≡ s.framing → t.limits ≡ s.limits
-    → s.record.end < s.limits.bytes → RecordStandsFor t.record [] → t.record.start ≡ s.record.end + 1 → t.record.end ≡ s.record.end + 1 → t.record.limits ≡ s.record.limits
+    → s.record.end < s.limits.bytes → RecordStandsFor t.record [] → t.record.start ≡ s.record.end + 1 → t.record.end ≡ s.record.end + 1
+    → t.record.limits ≡ s.record.limits
     → t.is_void ≡ true → s.is_void ≡ not b → t.number ≡ number_after b s.number
     → AreFindings s.framing s.limits.depth (entries_in s.framing h.done ++ entry_if b (entry_at s.number (part_at s.record.start h.given Separator)) []) all
     → t.whole ≡ whole_of all → IsOpen t (bytes ++ separator_of s.framing ∷ []) all
@@ -158,7 +175,8 @@ next_open s t bytes found all h b framing over room stands start end limits void
     let taken = h.taken in
     let counted = h.stands.counted in
     let longer : length (bytes ++ separator_of s.framing ∷ []) ≡ length bytes + 1 = length-append bytes (separator_of s.framing ∷ []) in
-    let C : Framing → ℕ → Type 0 = λ f n. (last : RecordEnd) (more : List ℕ) → parts_from f last 0 ((bytes ++ separator_of s.framing ∷ []) ++ more) ≡ (h.done ++ part ∷ []) ++ parts_from f last n more in
+    let C : Framing → ℕ → Type 0 = λ f n. (last : RecordEnd) (more : List ℕ)
+    → parts_from f last 0 ((bytes ++ separator_of s.framing ∷ []) ++ more) ≡ (h.done ++ part ∷ []) ++ parts_from f last n more in
     let cut : C s.framing t.record.start = λ last more.
     ap (parts_from s.framing last 0) (append_assoc bytes (separator_of s.framing ∷ []) more)
     ∙ (h.cut last (separator_of s.framing ∷ more)
@@ -166,7 +184,8 @@ next_open s t bytes found all h b framing over room stands start end limits void
     ∙ sym (append_assoc h.done (part ∷ []) (parts_from s.framing last t.record.start more)))) in
     let counting : is_counted s.framing s.number part ≡ b = ap not (sym h.void) ∙ (ap not was ∙ not_not b) in
     let A : Framing → Allowed → Type 0 = λ f l. AreFindings f l.depth (entries_in f (h.done ++ part ∷ [])) all in
-    let a : A s.framing s.limits = subst (λ (es : List Entry). AreFindings s.framing s.limits.depth es all) (sym (next_entries s.framing h.done part s.number b h.number counting)) are in
+    let a : A s.framing s.limits =
+    subst (λ (es : List Entry). AreFindings s.framing s.limits.depth es all) (sym (next_entries s.framing h.done part s.number b h.number counting)) are in
     record {
       done = h.done ++ part ∷ [];
       given = [];
@@ -177,7 +196,8 @@ next_open s t bytes found all h b framing over room stands start end limits void
       taken = omega (arith, end, taken, longer);
       fits = subst (λ (l : Allowed). length (bytes ++ separator_of s.framing ∷ []) ≤ l.bytes) (sym over) (omega (arith, room, taken, longer));
       void = void ∙ (sym (no_bytes_void s.framing) ∙ ap (λ f. is_void f []) (sym framing));
-      number = number ∙ (sym (next_number s.framing h.done part s.number b h.number counting) ∙ ap (λ f. number_from f (first_number f) (h.done ++ part ∷ [])) (sym framing));
+      number = number ∙ (sym (next_number s.framing h.done part s.number b h.number counting)
+          ∙ ap (λ f. number_from f (first_number f) (h.done ++ part ∷ [])) (sym framing));
       are = subst (λ (f : Framing). A f t.limits) (sym framing) (subst (λ (l : Allowed). A s.framing l) (sym over) a);
       whole = whole;
     }
@@ -189,21 +209,25 @@ next_open s t bytes found all h b framing over room stands start end limits void
 -- ---- the open record is told
 
 -- the finding of the open record, and the verdict of all with it
-pub told_next : (before after_it : List Record → Type 0) (ending : RecordEnd) (next : ℕ) (s t : Records) (bytes : List ℕ) (earlier found : List Record) (h : IsOpen s bytes found)
+pub told_next : (before after_it : List Record → Type 0) (ending : RecordEnd) (next : ℕ) (s t : Records) (bytes : List ℕ) (earlier found : List Record)
+    (h : IsOpen s bytes found)
     → TellsOne before after_it ending next s t → before (earlier ++ found)
-    → (one : Record) × AreFindings s.framing s.limits.depth (entries_in s.framing h.done ++ entry_at s.number (part_at s.record.start h.given ending) ∷ []) (found ++ one ∷ [])
+    → (one : Record) × AreFindings s.framing s.limits.depth (entries_in s.framing h.done ++ entry_at s.number (part_at s.record.start h.given ending) ∷ [])
+    (found ++ one ∷ [])
     × (t.whole ≡ whole_of (found ++ one ∷ [])) × after_it (earlier ++ (found ++ one ∷ []))
 told_next before after_it ending next s t bytes earlier found h tells was =
     let (one, finding, whole, told) = tells.tells h.given (earlier ++ found) h.stands was in
     let P : ℕ → Type 0 = λ d. IsFinding s.framing d (entry_at s.number (part_at s.record.start h.given ending)) one in (
       one,
-      found-append s.framing s.limits.depth (entries_in s.framing h.done) found (entry_at s.number (part_at s.record.start h.given ending)) one h.are (subst P h.depth finding),
+      found-append s.framing s.limits.depth (entries_in s.framing h.done) found (entry_at s.number (part_at s.record.start h.given ending)) one h.are
+          (subst P h.depth finding),
       whole ∙ (ap (λ v. after v one) h.whole ∙ sym (whole-append (SeqVerdict.Valid 0 no_warnings) found one)),
       subst after_it (append_assoc earlier found (one ∷ [])) told,
     )
 
 -- the first byte beyond the limit
-pub over_next : (before after_it : List Record → Type 0) (s t new : Records) (bytes ended : List ℕ) (byte next : ℕ) (earlier found : List Record) (h : IsOpen s bytes found)
+pub over_next : (before after_it : List Record → Type 0) (s t new : Records) (bytes ended : List ℕ) (byte next : ℕ) (earlier found : List Record)
+    (h : IsOpen s bytes found)
     → TellsOne before after_it Limit next s t → next ≡ s.limits.bytes → s.record.end ≡ s.limits.bytes → ended ≡ byte ∷ []
     → new.is_over ≡ true → new.framing ≡ t.framing → new.limits ≡ t.limits → new.record.end ≡ t.record.end → new.whole ≡ t.whole → before (earlier ++ found)
     → HaveToldIf true after_it new (bytes ++ ended) earlier found
@@ -217,7 +241,8 @@ over_next before after_it s t new bytes ended byte next earlier found h tells to
     let beyond : s.limits.bytes < length (bytes ++ byte ∷ []) = omega (arith, taken, full, longer) in
     let all : parts_of s.framing s.limits (bytes ++ byte ∷ []) ≡ h.done ++ part ∷ [] =
     long_parts s.framing s.limits (bytes ++ byte ∷ []) beyond
-    ∙ (ap (parts_from s.framing Limit 0) (take_within s.limits.bytes bytes (byte ∷ []) (omega (arith, taken, full)) ∙ take_all s.limits.bytes bytes (omega (arith, taken, full)))
+    ∙ (ap (parts_from s.framing Limit 0)
+    (take_within s.limits.bytes bytes (byte ∷ []) (omega (arith, taken, full)) ∙ take_all s.limits.bytes bytes (omega (arith, taken, full)))
     ∙ all_parts s bytes found h Limit) in
     let entries = ap (entries_in s.framing) all ∙ next_entries s.framing h.done part s.number true h.number refl in
     let A : Framing → Allowed → Type 0 = λ f l. AreAllFindings f l (bytes ++ byte ∷ []) (found ++ one ∷ []) in
@@ -239,7 +264,8 @@ end_entries s bytes found h b counted =
     ap (entries_in s.framing) (short_parts s.framing s.limits bytes h.fits ∙ all_parts s bytes found h Input)
     ∙ next_entries s.framing h.done (part_at s.record.start h.given Input) s.number b h.number (ap (counts s.framing s.number Input) (sym h.void) ∙ counted)
 
-all_told : (told : List Record → Type 0) (s : Records) (bytes : List ℕ) (earlier found : List Record) → AreAllFindings s.framing s.limits bytes found → s.whole ≡ whole_of found
+all_told : (told : List Record → Type 0) (s : Records) (bytes : List ℕ) (earlier found : List Record) → AreAllFindings s.framing s.limits bytes found
+    → s.whole ≡ whole_of found
     → told (earlier ++ found) → HaveToldAllIf false told s.framing s.limits bytes earlier found s.whole
 all_told told s bytes earlier found are whole was =
     let nil = sym (append-nil found) in
@@ -280,7 +306,8 @@ ends_over told s bytes earlier found h was = all_told told s bytes earlier found
 
 -- a part that is passed over
 pub passed_open : (s t : Records) (bytes : List ℕ) (found : List Record) (h : IsOpen s bytes found) → t.framing ≡ s.framing → t.limits ≡ s.limits
-    → s.record.end < s.limits.bytes → RecordStandsFor t.record [] → t.record.start ≡ s.record.end + 1 → t.record.end ≡ s.record.end + 1 → t.record.limits ≡ s.record.limits
+    → s.record.end < s.limits.bytes → RecordStandsFor t.record [] → t.record.start ≡ s.record.end + 1 → t.record.end ≡ s.record.end + 1
+    → t.record.limits ≡ s.record.limits
     → t.is_void ≡ true → s.is_void ≡ true → t.number ≡ at_least_one s.number → t.whole ≡ s.whole → IsOpen t (bytes ++ separator_of s.framing ∷ []) found
 passed_open s t bytes found h framing over room stands start end limits void was number whole =
     next_open s t bytes found found h false framing over room stands start end limits void was number
@@ -324,7 +351,8 @@ further_at P bytes piece n m l h =
     ∙ ap (λ xs. bytes ++ xs) (ap (λ xs. take n piece ++ take m xs) rest ∙ sym (take_further piece n m))) h
 
 pub further : (told : List Record → Type 0) (s : Records) (bytes piece : List ℕ) (n m : ℕ) (before found : List Record) → n ≤ length piece
-    → HaveTold told s ((bytes ++ take n piece) ++ take m (take (length piece - n) (drop n piece))) before found → HaveTold told s (bytes ++ take (n + m) piece) before found
+    → HaveTold told s ((bytes ++ take n piece) ++ take m (take (length piece - n) (drop n piece))) before found
+    → HaveTold told s (bytes ++ take (n + m) piece) before found
 further told s bytes piece n m before found l h = further_at (λ bs. HaveTold told s bs before found) bytes piece n m l h
 
 pub kept_on : (a b c : Records) → Keeps a b → Keeps b c → Keeps a c
@@ -333,7 +361,8 @@ kept_on a b c h k = record { limits = k.limits ∙ h.limits; framing = k.framing
 -- ---- the end of the input
 
 -- nothing is left to tell
-pub finished_none : (told : List Record → Type 0) (s : Records) (bytes : List ℕ) (earlier found : List Record) → (s.is_over ≡ false → counts s.framing s.number Input s.is_void ≡ false)
+pub finished_none : (told : List Record → Type 0) (s : Records) (bytes : List ℕ) (earlier found : List Record)
+    → (s.is_over ≡ false → counts s.framing s.number Input s.is_void ≡ false)
     → StandsFor s bytes found → told (earlier ++ found) → HaveToldAllIf false told s.framing s.limits bytes earlier found s.whole
 finished_none told s bytes earlier found live h was = by_test s.is_over refl
   where
@@ -342,8 +371,10 @@ finished_none told s bytes earlier found live h was = by_test s.is_over refl
     by_test false e = ends_open told s bytes earlier found (open_of s bytes found e h) (live e) was
 
 -- the open record is told
-pub finished_some : (before after_it : List Record → Type 0) (s t : Records) (bytes : List ℕ) (next : ℕ) (earlier found : List Record) → (s.is_over ≡ true → ⊥) → (s.is_over ≡ false → counts s.framing s.number Input s.is_void ≡ true)
-    → TellsOne before after_it Input next s t → StandsFor s bytes found → before (earlier ++ found) → HaveToldAllIf true after_it s.framing s.limits bytes earlier found t.whole
+pub finished_some : (before after_it : List Record → Type 0) (s t : Records) (bytes : List ℕ) (next : ℕ) (earlier found : List Record) → (s.is_over ≡ true → ⊥)
+    → (s.is_over ≡ false → counts s.framing s.number Input s.is_void ≡ true)
+    → TellsOne before after_it Input next s t → StandsFor s bytes found → before (earlier ++ found)
+    → HaveToldAllIf true after_it s.framing s.limits bytes earlier found t.whole
 finished_some before after_it s t bytes next earlier found over live tells h was = by_test s.is_over refl
   where
     by_test : (b : Bool) → s.is_over ≡ b → HaveToldAllIf true after_it s.framing s.limits bytes earlier found t.whole

@@ -1,5 +1,6 @@
 -- A text sequence is what its records make it.
-use Rattle.std.proofs.Common.{◌≡◌, ◌⊎◌, inl, inr, ⊎_elim, ℕ, zero, suc, ◌+◌, ◌<◌, ◌≤◌, Bool, true, false, ◌&&◌, ◌||◌, not, if◌then◌else◌, List, [], ◌∷◌, length, take, refl, ap, sym, subst, ◌∙◌, arith}
+use Rattle.std.proofs.Common.{◌≡◌, ◌⊎◌, inl, inr, ⊎_elim, ℕ, zero, suc, ◌+◌, ◌<◌, ◌≤◌, Bool, true, false, ◌&&◌, ◌||◌, not, if◌then◌else◌, List, [], ◌∷◌, length}
+use Rattle.std.proofs.Common.{take, refl, ap, sym, subst, ◌∙◌, arith}
 use Rattle.std.proofs.lemmas.Bool.Decides.{nat_tests}
 use Rattle.std.proofs.lemmas.List.{take_all}
 use Rattle.gj_json.specs.Limits.{Allowed}
@@ -16,7 +17,8 @@ use Rattle.gj_rules.specs.declared.verdict.Verdict.{Verdict}
 use Rattle.gj_rules.specs.declared.verdict.Verdict.TheVariants.{Valid, Broken, NotJson}
 use Rattle.gj_rules.specs.RecordFindings.{IsOwnVerdict, IsNumberedVerdict, AreFindings, AreAllFindings, joined_with, whole_from, whole_of}
 use Rattle.gj_rules.specs.Records.{Part, Entry, part_at, entry_at, with_first, parts_from, parts_of, is_too_long, counts, are_none, at_least_one, entries_from}
-use Rattle.gj_rules.specs.Sequence.{is_separator, begins_with_separator, has_separator, up_to_separator, SequenceRecord, records_from, not_json, IsRecordVerdict, AllValid, IsFirstFailing, IsJudgedBy, IsSequenceVerdict, is_stray, is_valid}
+use Rattle.gj_rules.specs.Sequence.{is_separator, begins_with_separator, has_separator, up_to_separator, SequenceRecord, records_from, not_json}
+use Rattle.gj_rules.specs.Sequence.{IsRecordVerdict, AllValid, IsFirstFailing, IsJudgedBy, IsSequenceVerdict, is_stray, is_valid}
 use Rattle.gj_rules.proofs.Sequences.RecordCuts.{record_at}
 
 -- ---- the records of a sequence are the parts that count
@@ -57,13 +59,16 @@ record CutAs (is_cut : Bool) (place : ℕ) (bytes : List ℕ) : Type 0 where
   records : kept rest ≡ records_from is_cut place bytes
 
 one_kept : (is_cut : Bool) (place : ℕ) (more : List ℕ) (rest : List SequenceRecord)
-    → keep_if (keeps (part_at (place + 1) (up_to_separator more) (end_if (has_separator more) is_cut))) (as_record (part_at (place + 1) (up_to_separator more) (end_if (has_separator more) is_cut))) rest
+    → keep_if (keeps (part_at (place + 1) (up_to_separator more) (end_if (has_separator more) is_cut)))
+    (as_record (part_at (place + 1) (up_to_separator more) (end_if (has_separator more) is_cut))) rest
     ≡ (if true && not (begins_with_separator more) then record_at (place + 1) (up_to_separator more) (is_cut && not (has_separator more)) ∷ rest else rest)
 one_kept true place [] rest = refl
 one_kept false place [] rest = refl
 one_kept is_cut place (byte ∷ more) rest = by_test (is_separator byte)
   where
-    open_end : (cut has : Bool) (bytes : List ℕ) → keep_if (counts Framings.Sequence 1 (end_if has cut) (are_none (byte ∷ bytes))) (record_at (place + 1) (byte ∷ bytes) (is_limit (end_if has cut))) rest
+    open_end : (cut has : Bool) (bytes : List ℕ)
+        → keep_if (counts Framings.Sequence 1 (end_if has cut) (are_none (byte ∷ bytes)))
+        (record_at (place + 1) (byte ∷ bytes) (is_limit (end_if has cut))) rest
         ≡ record_at (place + 1) (byte ∷ bytes) (cut && not has) ∷ rest
     open_end true true bytes = refl
     open_end true false bytes = refl
@@ -73,7 +78,8 @@ one_kept is_cut place (byte ∷ more) rest = by_test (is_separator byte)
     by_test : (t : Bool)
         → keep_if (counts Framings.Sequence 1 (end_if (t || has_separator more) is_cut) (are_none (if t then [] else byte ∷ up_to_separator more)))
         (record_at (place + 1) (if t then [] else byte ∷ up_to_separator more) (is_limit (end_if (t || has_separator more) is_cut))) rest
-        ≡ (if true && not t then record_at (place + 1) (if t then [] else byte ∷ up_to_separator more) (is_cut && not (t || has_separator more)) ∷ rest else rest)
+        ≡ (if true && not t then record_at (place + 1) (if t then [] else byte ∷ up_to_separator more)
+        (is_cut && not (t || has_separator more)) ∷ rest else rest)
     by_test true = refl
     by_test false = open_end is_cut (has_separator more) (up_to_separator more)
 
@@ -105,13 +111,15 @@ Shown levels number (r ∷ more) (found ∷ others) = (found.number ≡ number) 
 Shown levels number [] (found ∷ others) = ⊥
 Shown levels number (r ∷ more) [] = ⊥
 
-record_verdict : (levels start : ℕ) (bytes : List ℕ) (end : RecordEnd) (verdict : Verdict) → IsOwnVerdict Framings.Sequence levels (part_at start bytes end) verdict
+record_verdict : (levels start : ℕ) (bytes : List ℕ) (end : RecordEnd) (verdict : Verdict)
+    → IsOwnVerdict Framings.Sequence levels (part_at start bytes end) verdict
     → IsRecordVerdict levels (record_at start bytes (is_limit end)) verdict
 record_verdict levels start bytes Separator verdict h = h
 record_verdict levels start bytes Input verdict h = h
 record_verdict levels start bytes Limit verdict h = h
 
-own_of : (framing : Framing) (levels number : ℕ) (part : Part) (verdict : Verdict) → 0 < number → IsNumberedVerdict framing levels number part verdict → IsOwnVerdict framing levels part verdict
+own_of : (framing : Framing) (levels number : ℕ) (part : Part) (verdict : Verdict) → 0 < number → IsNumberedVerdict framing levels number part verdict
+    → IsOwnVerdict framing levels part verdict
 own_of framing levels zero part verdict some h = absurd (omega (arith, some))
 own_of framing levels (suc n) part verdict some h = h
 
@@ -126,15 +134,19 @@ stays_some zero some = absurd (omega (arith, some))
 stays_some (suc n) some = refl
 
 abbrev ShowsRest : ℕ → List Part → Type 0
-ShowsRest levels parts = (n : ℕ) (all : List Record) → 0 < n → AreFindings Framings.Sequence levels (entries_from Framings.Sequence n parts) all → Shown levels n (kept parts) all
+ShowsRest levels parts =
+    (n : ℕ) (all : List Record) → 0 < n → AreFindings Framings.Sequence levels (entries_from Framings.Sequence n parts) all → Shown levels n (kept parts) all
 
-shown : (levels number : ℕ) (parts : List Part) (found : List Record) → 0 < number → AreFindings Framings.Sequence levels (entries_from Framings.Sequence number parts) found → Shown levels number (kept parts) found
+shown : (levels number : ℕ) (parts : List Part) (found : List Record) → 0 < number
+    → AreFindings Framings.Sequence levels (entries_from Framings.Sequence number parts) found → Shown levels number (kept parts) found
 shown levels number [] [] some h = tt
 shown levels number [] (one ∷ found) some h = h
 shown levels number (part ∷ parts) found some h =
     by_test (λ n all more k. shown levels n parts all more k) (keeps part) (counts_alike number part.end (are_none part.bytes) some) found h
   where
-    told : ShowsRest levels parts → (all : List Record) → AreFindings Framings.Sequence levels (entry_at number part ∷ entries_from Framings.Sequence (number + 1) parts) all → Shown levels number (as_record part ∷ kept parts) all
+    told : ShowsRest levels parts → (all : List Record)
+        → AreFindings Framings.Sequence levels (entry_at number part ∷ entries_from Framings.Sequence (number + 1) parts) all
+        → Shown levels number (as_record part ∷ kept parts) all
     told again [] k = k
     told again (one ∷ all) k = (
       k.0.number,
@@ -143,7 +155,8 @@ shown levels number (part ∷ parts) found some h =
     )
 
     by_test : ShowsRest levels parts → (b : Bool) → counts Framings.Sequence number part.end (are_none part.bytes) ≡ b → (all : List Record)
-        → AreFindings Framings.Sequence levels (entries_from Framings.Sequence number (part ∷ parts)) all → Shown levels number (keep_if b (as_record part) (kept parts)) all
+        → AreFindings Framings.Sequence levels (entries_from Framings.Sequence number (part ∷ parts)) all
+        → Shown levels number (keep_if b (as_record part) (kept parts)) all
     by_test again true e all k = told again all (rw e at k)
     by_test again false e all k =
         let N : ℕ → Type 0 = λ n. AreFindings Framings.Sequence levels (entries_from Framings.Sequence n parts) all in
@@ -163,7 +176,8 @@ Judged levels count before records verdict =
 
 -- ---- the first part
 
-first_counts : (is_cut : Bool) (taken : List ℕ) → (is_cut ≡ true → 0 < length taken) → counts Framings.Sequence 0 (end_if (has_separator taken) is_cut) (are_none (up_to_separator taken)) ≡ is_stray taken
+first_counts : (is_cut : Bool) (taken : List ℕ) → (is_cut ≡ true → 0 < length taken)
+    → counts Framings.Sequence 0 (end_if (has_separator taken) is_cut) (are_none (up_to_separator taken)) ≡ is_stray taken
 first_counts false [] some = refl
 first_counts true [] some = absurd (omega (arith, some refl))
 first_counts is_cut (byte ∷ more) some = by_test (is_separator byte)
@@ -174,18 +188,21 @@ first_counts is_cut (byte ∷ more) some = by_test (is_separator byte)
     open_end false true = refl
     open_end false false = refl
 
-    by_test : (t : Bool) → counts Framings.Sequence 0 (end_if (t || has_separator more) is_cut) (are_none (if t then [] else byte ∷ up_to_separator more)) ≡ not t
+    by_test : (t : Bool)
+        → counts Framings.Sequence 0 (end_if (t || has_separator more) is_cut) (are_none (if t then [] else byte ∷ up_to_separator more)) ≡ not t
     by_test true = refl
     by_test false = open_end is_cut (has_separator more)
 
-parts_taken : (limits : Allowed) (bytes : List ℕ) → parts_of Framings.Sequence limits bytes ≡ parts_from Framings.Sequence (last_end (is_too_long limits bytes)) 0 (take limits.bytes bytes)
+parts_taken : (limits : Allowed) (bytes : List ℕ)
+    → parts_of Framings.Sequence limits bytes ≡ parts_from Framings.Sequence (last_end (is_too_long limits bytes)) 0 (take limits.bytes bytes)
 parts_taken limits bytes = by_test (is_too_long limits bytes) refl
   where
     fits : is_too_long limits bytes ≡ false → length bytes ≤ limits.bytes
     fits e = grind (arith, nat_tests)
 
     by_test : (t : Bool) → is_too_long limits bytes ≡ t
-        → (if t then parts_from Framings.Sequence Limit 0 (take limits.bytes bytes) else parts_from Framings.Sequence Input 0 bytes) ≡ parts_from Framings.Sequence (last_end t) 0 (take limits.bytes bytes)
+        → (if t then parts_from Framings.Sequence Limit 0 (take limits.bytes bytes) else parts_from Framings.Sequence Input 0 bytes) ≡ parts_from
+        Framings.Sequence (last_end t) 0 (take limits.bytes bytes)
     by_test true e = refl
     by_test false e = ap (parts_from Framings.Sequence Input 0) (sym (take_all limits.bytes bytes (fits e)))
 
@@ -215,8 +232,10 @@ stray_first levels start bytes end more (one ∷ found) h =
 
 module _ (none_first : (a : Warnings) → joined no_warnings a ≡ a) (none_last : (a : Warnings) → joined a no_warnings ≡ a)
     (grouping : (a b c : Warnings) → joined (joined a b) c ≡ joined a (joined b c)) where
-  fails_here : (levels count : ℕ) (before : Warnings) (r : SequenceRecord) (more : List SequenceRecord) (number : ℕ) (verdict : Verdict) (found : List Record) → number ≡ count + 1
-      → IsRecordVerdict levels r verdict → is_valid verdict ≡ false → Judged levels count before (r ∷ more) (whole_from (SeqVerdict.Record number verdict) found)
+  fails_here : (levels count : ℕ) (before : Warnings) (r : SequenceRecord) (more : List SequenceRecord) (number : ℕ) (verdict : Verdict) (found : List Record)
+      → number ≡ count + 1
+      → IsRecordVerdict levels r verdict → is_valid verdict ≡ false
+      → Judged levels count before (r ∷ more) (whole_from (SeqVerdict.Record number verdict) found)
   fails_here levels count before r more number verdict found e h f = inr (
     1,
     verdict,
@@ -224,12 +243,14 @@ module _ (none_first : (a : Warnings) → joined no_warnings a ≡ a) (none_last
     decided number verdict found ∙ ap (λ n. SeqVerdict.Record n verdict) e,
   )
 
-  later : (levels count : ℕ) (before first : Warnings) (r : SequenceRecord) (more : List SequenceRecord) (verdict : SeqVerdict) → IsRecordVerdict levels r (Valid first)
+  later : (levels count : ℕ) (before first : Warnings) (r : SequenceRecord) (more : List SequenceRecord) (verdict : SeqVerdict)
+      → IsRecordVerdict levels r (Valid first)
       → Judged levels (count + 1) (joined before first) more verdict → Judged levels count before (r ∷ more) verdict
   later levels count before first r more verdict h (inl a) = inl (
     joined first a.0,
     (first, a.0, h, a.1, refl),
-    a.2 ∙ (ap (λ n. SeqVerdict.Valid n (joined (joined before first) a.0)) (one_on count (length more)) ∙ ap (SeqVerdict.Valid (count + suc (length more))) (grouping before first a.0)),
+    a.2 ∙ (ap (λ n. SeqVerdict.Valid n (joined (joined before first) a.0)) (one_on count (length more))
+        ∙ ap (SeqVerdict.Valid (count + suc (length more))) (grouping before first a.0)),
   )
     where
       one_on : (n m : ℕ) → n + 1 + m ≡ n + suc m
@@ -259,22 +280,27 @@ module _ (none_first : (a : Warnings) → joined no_warnings a ≡ a) (none_last
 
   judged : (levels count : ℕ) (before : Warnings) (records : List SequenceRecord) (found : List Record) → Shown levels (count + 1) records found
       → Judged levels count before records (whole_from (SeqVerdict.Valid count before) found)
-  judged levels count before [] [] h = inl (no_warnings, refl, ap (λ n. SeqVerdict.Valid n before) (none_on count) ∙ ap (SeqVerdict.Valid (count + 0)) (sym (none_last before)))
+  judged levels count before [] [] h =
+      inl (no_warnings, refl, ap (λ n. SeqVerdict.Valid n before) (none_on count) ∙ ap (SeqVerdict.Valid (count + 0)) (sym (none_last before)))
     where
       none_on : (n : ℕ) → n ≡ n + 0
       none_on n = omega arith
   judged levels count before [] (one ∷ found) h = absurd h
   judged levels count before (r ∷ records) [] h = absurd h
-  judged levels count before (r ∷ records) (one ∷ found) h = by_verdict (λ first. judged levels (count + 1) (joined before first) records found h.2) one.verdict h.1
+  judged levels count before (r ∷ records) (one ∷ found) h =
+      by_verdict (λ first. judged levels (count + 1) (joined before first) records found h.2) one.verdict h.1
     where
-      by_verdict : ((first : Warnings) → Judged levels (count + 1) (joined before first) records (whole_from (SeqVerdict.Valid (count + 1) (joined before first)) found)) → (v : Verdict) → IsRecordVerdict levels r v → Judged levels count before (r ∷ records) (whole_from (joined_with before one.number v) found)
+      by_verdict : ((first : Warnings)
+          → Judged levels (count + 1) (joined before first) records (whole_from (SeqVerdict.Valid (count + 1) (joined before first)) found)) → (v : Verdict)
+          → IsRecordVerdict levels r v → Judged levels count before (r ∷ records) (whole_from (joined_with before one.number v) found)
       by_verdict rest (Valid first) k =
           let J : ℕ → Type 0 = λ n. Judged levels count before (r ∷ records) (whole_from (SeqVerdict.Valid n (joined before first)) found) in
           subst J (sym h.0) (later levels count before first r records _ k (rest first))
       by_verdict rest (Broken fault) k = fails_here levels count before r records one.number (Broken fault) found h.0 k refl
       by_verdict rest (NotJson fault) k = fails_here levels count before r records one.number (NotJson fault) found h.0 k refl
 
-  by_records : (levels : ℕ) (records : List SequenceRecord) (found : List Record) → Shown levels 1 records found → IsJudgedBy false levels records (whole_of found)
+  by_records : (levels : ℕ) (records : List SequenceRecord) (found : List Record) → Shown levels 1 records found
+      → IsJudgedBy false levels records (whole_of found)
   by_records levels records found h =
       let B : SeqVerdict → Type 0 = λ v. IsJudgedBy false levels records v in
       ⊎_elim (λ a. let A : Warnings → Type 0 = λ w. AllValid levels records w in
@@ -288,13 +314,15 @@ module _ (none_first : (a : Warnings) → joined no_warnings a ≡ a) (none_last
 
   -- ---- all together
 
-  by_first : (levels : ℕ) (first : Part) (rest : List Part) (found : List Record) (stray : Bool) → counts Framings.Sequence 0 first.end (are_none first.bytes) ≡ stray → first.start ≡ 0
+  by_first : (levels : ℕ) (first : Part) (rest : List Part) (found : List Record) (stray : Bool)
+      → counts Framings.Sequence 0 first.end (are_none first.bytes) ≡ stray → first.start ≡ 0
       → AreFindings Framings.Sequence levels (entries_from Framings.Sequence 0 (first ∷ rest)) found → IsJudgedBy stray levels (kept rest) (whole_of found)
   by_first levels first rest found true e start h =
       stray_first levels first.start first.bytes first.end _ found (rw e at h) ∙ ap (λ n. SeqVerdict.Record 0 (not_json n Syntax)) start
   by_first levels first rest found false e start h = by_records levels (kept rest) found (shown levels 1 rest found (omega arith) (rw e at h))
 
-  pub sequence_by_records : (limits : Allowed) (bytes : List ℕ) (found : List Record) → 1 ≤ limits.bytes → AreAllFindings Framings.Sequence limits bytes found → IsSequenceVerdict limits bytes (whole_of found)
+  pub sequence_by_records : (limits : Allowed) (bytes : List ℕ) (found : List Record) → 1 ≤ limits.bytes → AreAllFindings Framings.Sequence limits bytes found
+      → IsSequenceVerdict limits bytes (whole_of found)
   sequence_by_records limits bytes found least h =
       let is_cut = is_too_long limits bytes in
       let taken = take limits.bytes bytes in

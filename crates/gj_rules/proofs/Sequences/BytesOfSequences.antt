@@ -1,5 +1,6 @@
 -- What each byte of a sequence decides, and what its end does.
-use Rattle.std.proofs.Common.{◌≡◌, ℕ, ◌+◌, ◌-◌, ◌≤◌, Bool, true, false, nat_lt, List, [], ◌∷◌, ◌++◌, length, length-append, take, refl, ap, sym, subst, ◌∙◌, arith}
+use Rattle.std.proofs.Common.{◌≡◌, ℕ, ◌+◌, ◌-◌, ◌≤◌, Bool, true, false, nat_lt, List, [], ◌∷◌, ◌++◌, length, length-append, take, refl, ap, sym, subst, ◌∙◌}
+use Rattle.std.proofs.Common.{arith}
 use Rattle.std.proofs.lemmas.Bool.Decides.{nat_tests}
 use Rattle.std.proofs.Math.Seq.{take-append-add}
 use Rattle.std.proofs.lemmas.List.{take_all}
@@ -12,7 +13,8 @@ use Rattle.gj_json.specs.Text.{IsViableWithin}
 use Rattle.gj_coords.specs.declared.warnings.Warnings.{Warnings}
 use Rattle.gj_coords.specs.Internal.KeptWarnings.{no_warnings, joined}
 use Rattle.gj_rules.specs.declared.verdict.Verdict.TheVariants.{Valid, NotJson}
-use Rattle.gj_rules.specs.Sequence.{separator, has_separator, SequenceRecord, records_from, records_of, shifted_verdict, not_json, if_ended, cut_fault, record_end, own_limits, ends_in_line_feed, IsRecordVerdict, AllValid, is_stray, IsOpenIn, AreOpen, IsUndecided}
+use Rattle.gj_rules.specs.Sequence.{separator, has_separator, SequenceRecord, records_from, records_of, shifted_verdict, not_json, if_ended, cut_fault}
+use Rattle.gj_rules.specs.Sequence.{record_end, own_limits, ends_in_line_feed, IsRecordVerdict, AllValid, is_stray, IsOpenIn, AreOpen, IsUndecided}
 use Rattle.gj_rules.specs.Internal.OpenSequence.{closed}
 use Rattle.gj_rules.proofs.Sequences.RecordCuts.{record_at, cut_open}
 use Rattle.gj_rules.proofs.Sequences.OpenRecords.{stop_short}
@@ -45,7 +47,8 @@ ByByte Depth = Unit {0}
 ByByte Truncated = ⊥
 ByByte Length = ⊥
 
-pub by_byte : (cause : Cause) (levels most place : ℕ) (bytes : List ℕ) → length bytes ≤ most → ((more : List ℕ) → RefusedFor cause (record { depth = levels; bytes = most }) (bytes ++ more) place) → ByByte cause
+pub by_byte : (cause : Cause) (levels most place : ℕ) (bytes : List ℕ) → length bytes ≤ most
+    → ((more : List ℕ) → RefusedFor cause (record { depth = levels; bytes = most }) (bytes ++ more) place) → ByByte cause
 by_byte Syntax levels most place bytes l h = tt
 by_byte Depth levels most place bytes l h = tt
 by_byte Length levels most place bytes l h =
@@ -56,13 +59,17 @@ by_byte Truncated levels most place bytes l h =
     let s = h (0 ∷ []) in
     absurd (omega (arith, r.0, s.0, length-append bytes [], length-append bytes (0 ∷ [])))
 
-own_stop : (levels most n : ℕ) (bytes : List ℕ) (place : ℕ) → Stops (record { depth = levels; bytes = most }) bytes place → Stops (record { depth = levels; bytes = n }) bytes place
+own_stop : (levels most n : ℕ) (bytes : List ℕ) (place : ℕ) → Stops (record { depth = levels; bytes = most }) bytes place
+    → Stops (record { depth = levels; bytes = n }) bytes place
 own_stop levels most n bytes place s = record { good = s.good; byte = s.byte; rest = s.rest; split = s.split; at = s.at; viable = s.viable }
 
-own_by_byte : (cause : Cause) (levels most place : ℕ) (bytes : List ℕ) → ByByte cause → RefusedFor cause (record { depth = levels; bytes = most }) bytes place → RefusedFor cause (own_limits levels bytes) bytes place
+own_by_byte : (cause : Cause) (levels most place : ℕ) (bytes : List ℕ) → ByByte cause → RefusedFor cause (record { depth = levels; bytes = most }) bytes place
+    → RefusedFor cause (own_limits levels bytes) bytes place
 unfolding own_stop
-own_by_byte Syntax levels most place bytes b h = (own_stop levels most (length bytes) bytes place h.0, stop_short (record { depth = levels; bytes = most }) bytes place h.0, h.2)
-own_by_byte Depth levels most place bytes b h = (own_stop levels most (length bytes) bytes place h.0, stop_short (record { depth = levels; bytes = most }) bytes place h.0, h.2, h.3)
+own_by_byte Syntax levels most place bytes b h =
+    (own_stop levels most (length bytes) bytes place h.0, stop_short (record { depth = levels; bytes = most }) bytes place h.0, h.2)
+own_by_byte Depth levels most place bytes b h =
+    (own_stop levels most (length bytes) bytes place h.0, stop_short (record { depth = levels; bytes = most }) bytes place h.0, h.2, h.3)
 own_by_byte Truncated levels most place bytes b h = absurd b
 own_by_byte Length levels most place bytes b h = absurd b
 
@@ -96,7 +103,8 @@ refused_record levels most start bytes more is_cut fault l h =
 
 module _ (none_first : (a : Warnings) → joined no_warnings a ≡ a) (none_last : (a : Warnings) → joined a no_warnings ≡ a)
     (grouping : (a b c : Warnings) → joined (joined a b) c ≡ joined a (joined b c)) where
-  pub one_more : (levels : ℕ) (records : List SequenceRecord) (r : SequenceRecord) (w x : Warnings) → AllValid levels records w → IsRecordVerdict levels r (Valid x) → AllValid levels (records ++ r ∷ []) (joined w x)
+  pub one_more : (levels : ℕ) (records : List SequenceRecord) (r : SequenceRecord) (w x : Warnings) → AllValid levels records w
+      → IsRecordVerdict levels r (Valid x) → AllValid levels (records ++ r ∷ []) (joined w x)
   one_more levels [] r w x h k = (x, no_warnings, k, refl, ap (λ a. joined a x) h ∙ (none_first x ∙ sym (none_last x)))
   one_more levels (s ∷ records) r w x h k =
       (h.0, joined h.1 x, h.2, one_more levels records r h.1 x h.3 k, ap (λ a. joined a x) h.4 ∙ grouping h.0 h.1 x)
@@ -136,7 +144,8 @@ snoc_last (z ∷ xs) (u ∷ ys) x y e =
     both_are : z ≡ u → xs ≡ ys → z ∷ xs ≡ u ∷ ys
     both_are f g = cc
 
-open_in : (levels : ℕ) (records before : List SequenceRecord) (last : SequenceRecord) → records ≡ before ++ last ∷ [] → AreOpen levels records → IsOpenIn levels records
+open_in : (levels : ℕ) (records before : List SequenceRecord) (last : SequenceRecord) → records ≡ before ++ last ∷ [] → AreOpen levels records
+    → IsOpenIn levels records
 open_in levels [] [] last e h = cc
 open_in levels [] (r ∷ before) last e h = cc
 open_in levels (r ∷ more) before last e h = h
@@ -157,14 +166,17 @@ open_last levels records before last e h =
 
 -- ---- bytes of which none has decided
 
-pub undecided : (limits : Allowed) (bytes done given : List ℕ) (w : Warnings) → bytes ≡ done ++ separator ∷ given → length bytes ≤ limits.bytes → is_stray bytes ≡ false → has_separator given ≡ false
+pub undecided : (limits : Allowed) (bytes done given : List ℕ) (w : Warnings) → bytes ≡ done ++ separator ∷ given → length bytes ≤ limits.bytes
+    → is_stray bytes ≡ false → has_separator given ≡ false
     → AllValid limits.depth (closed 0 done) w → IsViableWithin limits.depth given → IsUndecided limits bytes
 undecided limits bytes done given w split fits begun plain valid viable =
-    let e : records_of limits bytes ≡ closed 0 done ++ record_at (length done + 1) given false ∷ [] = fitting limits bytes fits ∙ (ap (records_from false 0) split ∙ cut_open false done given plain) in
+    let e : records_of limits bytes ≡ closed 0 done ++ record_at (length done + 1) given false ∷ [] =
+    fitting limits bytes fits ∙ (ap (records_from false 0) split ∙ cut_open false done given plain) in
     record {
       fits = fits;
       begun = begun;
-      «open» = are_open limits.depth (records_of limits bytes) (record { before = closed 0 done; last = record_at (length done + 1) given false; split = e; warnings = w; valid = valid; viable = viable });
+      «open» = are_open limits.depth (records_of limits bytes)
+          (record { before = closed 0 done; last = record_at (length done + 1) given false; split = e; warnings = w; valid = valid; viable = viable });
     }
 
 pub undecided_none : (limits : Allowed) → IsUndecided limits []

@@ -1,5 +1,6 @@
 -- Which byte decides a sequence, and what it decides.
-use Rattle.std.proofs.Common.{◌≡◌, ℕ, zero, suc, ◌+◌, ◌-◌, ◌<◌, ◌≤◌, Bool, true, false, ◌&&◌, not, nat_lt, if◌then◌else◌, List, [], ◌∷◌, ◌++◌, length, length-append, get_or, take, append_assoc, append-nil, add-zero, refl, ap, sym, subst, ◌∙◌, arith}
+use Rattle.std.proofs.Common.{◌≡◌, ℕ, zero, suc, ◌+◌, ◌-◌, ◌<◌, ◌≤◌, Bool, true, false, ◌&&◌, not, nat_lt, if◌then◌else◌, List, [], ◌∷◌, ◌++◌, length}
+use Rattle.std.proofs.Common.{length-append, get_or, take, append_assoc, append-nil, add-zero, refl, ap, sym, subst, ◌∙◌, arith}
 use Rattle.std.proofs.lemmas.Bool.Decides.{nat_tests}
 use Rattle.std.proofs.Math.Seq.{take-append-add}
 use Rattle.gj_json.specs.declared.fault.Cause.{Cause}
@@ -12,7 +13,9 @@ use Rattle.gj_coords.specs.declared.warnings.Warnings.{Warnings}
 use Rattle.gj_rules.specs.declared.sequence.verdict.SeqVerdict.{SeqVerdict}
 use Rattle.gj_rules.specs.declared.verdict.Verdict.{Verdict}
 use Rattle.gj_rules.specs.declared.verdict.Verdict.TheVariants.{Valid, Broken, NotJson}
-use Rattle.gj_rules.specs.Sequence.{separator, is_separator, begins_with_separator, has_separator, up_to_separator, SequenceRecord, records_from, records_of, shifted_verdict, not_json, if_cut, record_end, own_limits, IsRecordVerdict, is_valid, AllValid, IsFirstFailing, is_stray, IsJudgedBy, IsSequenceVerdict, IsUndecided}
+use Rattle.gj_rules.specs.Sequence.{separator, is_separator, begins_with_separator, has_separator, up_to_separator, SequenceRecord, records_from, records_of}
+use Rattle.gj_rules.specs.Sequence.{shifted_verdict, not_json, if_cut, record_end, own_limits, IsRecordVerdict, is_valid, AllValid, IsFirstFailing, is_stray}
+use Rattle.gj_rules.specs.Sequence.{IsJudgedBy, IsSequenceVerdict, IsUndecided}
 use Rattle.gj_rules.specs.SequenceStands.{IsSettled}
 use Rattle.gj_rules.specs.Internal.OpenSequence.{closed}
 use Rattle.gj_rules.specs.Verdict.{IsVerdict}
@@ -84,12 +87,15 @@ begins_append [] more l h = absurd (omega (arith, l))
 begins_append (byte ∷ given) more l h = first_plain byte given h
 
 pub begun_record : (is_cut : Bool) (place : ℕ) (given more : List ℕ) → 0 < length given → has_separator given ≡ false →
-    records_from is_cut place (separator ∷ (given ++ more)) ≡ record_at (place + 1) (given ++ up_to_separator more) (is_cut && not (has_separator (given ++ more))) ∷ records_from is_cut (place + 1) (given ++ more)
+    records_from is_cut place (separator ∷ (given ++ more)) ≡ record_at (place + 1) (given ++ up_to_separator more)
+    (is_cut && not (has_separator (given ++ more))) ∷ records_from is_cut (place + 1) (given ++ more)
 begun_record is_cut place given more l h =
     if_not (begins_with_separator (given ++ more)) _ _ (begins_append given more l h)
-    ∙ ap (λ bytes. record_at (place + 1) bytes (is_cut && not (has_separator (given ++ more))) ∷ records_from is_cut (place + 1) (given ++ more)) (up_to_plain given more h)
+    ∙ ap (λ bytes. record_at (place + 1) bytes (is_cut && not (has_separator (given ++ more))) ∷ records_from is_cut (place + 1) (given ++ more))
+    (up_to_plain given more h)
 
-skip_plain : (is_cut : Bool) (place : ℕ) (given more : List ℕ) → has_separator given ≡ false → records_from is_cut place (given ++ more) ≡ records_from is_cut (place + length given) more
+skip_plain : (is_cut : Bool) (place : ℕ) (given more : List ℕ) → has_separator given ≡ false
+    → records_from is_cut place (given ++ more) ≡ records_from is_cut (place + length given) more
 skip_plain is_cut place [] more h = ap (λ n. records_from is_cut n more) (sym (add-zero place))
 skip_plain is_cut place (byte ∷ given) more h =
     let e = first_plain byte given h in
@@ -104,7 +110,8 @@ skip_plain is_cut place (byte ∷ given) more h =
     one_on p n = omega arith
 
 -- a separator ends the open record
-pub closed_more : (done given : List ℕ) → 0 < length given → has_separator given ≡ false → closed 0 (done ++ separator ∷ given) ≡ closed 0 done ++ record_at (length done + 1) given false ∷ []
+pub closed_more : (done given : List ℕ) → 0 < length given → has_separator given ≡ false
+    → closed 0 (done ++ separator ∷ given) ≡ closed 0 done ++ record_at (length done + 1) given false ∷ []
 closed_more done given l h =
     let all = done ++ separator ∷ given in
     let zero_on : 0 + length done ≡ length done = omega arith in
@@ -114,7 +121,8 @@ closed_more done given l h =
     ∙ (begun_record false (length done) given (separator ∷ []) l h
     ∙ (ap (λ bytes. record_at (length done + 1) bytes false ∷ records_from false (length done + 1) (given ++ separator ∷ [])) (append-nil given)
     ∙ ap (λ rs. record_at (length done + 1) given false ∷ rs) (skip_plain false (length done + 1) given (separator ∷ []) h))))) in
-    let e = sym whole ∙ (parts ∙ sym (append_assoc (closed 0 done) (record_at (length done + 1) given false ∷ []) (record_at (length done + 1 + length given + 1) [] false ∷ []))) in
+    let e = sym whole ∙ (parts
+    ∙ sym (append_assoc (closed 0 done) (record_at (length done + 1) given false ∷ []) (record_at (length done + 1 + length given + 1) [] false ∷ []))) in
     (snoc_last (closed 0 all) (closed 0 done ++ record_at (length done + 1) given false ∷ []) _ _ e).1
 
 -- a run of separators begins one record
@@ -153,7 +161,8 @@ pub record Known (limits : Allowed) (bytes done given : List ℕ) (w : Warnings)
   pub viable : IsViableWithin limits.depth given
   pub counted : number ≡ length (closed 0 done) + 1
 
-pub known_undecided : (limits : Allowed) (bytes done given : List ℕ) (w : Warnings) (number : ℕ) → Known limits bytes done given w number → IsUndecided limits bytes
+pub known_undecided : (limits : Allowed) (bytes done given : List ℕ) (w : Warnings) (number : ℕ) → Known limits bytes done given w number
+    → IsUndecided limits bytes
 known_undecided limits bytes done given w number k = undecided limits bytes done given w k.split k.fits k.begun k.plain k.valid k.viable
 
 pub known_length : (bytes done given : List ℕ) → bytes ≡ done ++ separator ∷ given → length bytes ≡ length done + 1 + length given
@@ -163,7 +172,8 @@ pub begun_more : (bytes done given more : List ℕ) → bytes ≡ done ++ separa
 begun_more bytes done given more e h = ap (λ bs. is_stray (bs ++ more)) e ∙ (stray_append done given more ∙ (sym (ap is_stray e) ∙ h))
 
 -- a record that is the first to fail
-pub first_failing : (limits : Allowed) (all done : List ℕ) (w : Warnings) (number : ℕ) (r : SequenceRecord) (after : List SequenceRecord) (verdict : Verdict) → is_stray all ≡ false →
+pub first_failing : (limits : Allowed) (all done : List ℕ) (w : Warnings) (number : ℕ) (r : SequenceRecord) (after : List SequenceRecord) (verdict : Verdict)
+    → is_stray all ≡ false →
     AllValid limits.depth (closed 0 done) w → number ≡ length (closed 0 done) + 1 → records_of limits all ≡ closed 0 done ++ r ∷ after →
     IsRecordVerdict limits.depth r verdict → is_valid verdict ≡ false → IsSequenceVerdict limits all (SeqVerdict.Record number verdict)
 first_failing limits all done w number r after verdict begun valid counted split v fails =
@@ -184,31 +194,37 @@ first_failing limits all done w number r after verdict begun valid counted split
 -- ---- the byte behind the last that is allowed
 
 module _ (some_verdict : (limits : Allowed) (bytes : List ℕ) → (verdict : Verdict) × IsVerdict limits bytes verdict) where
-  cut_off : (levels : ℕ) (given : List ℕ) (own : Verdict) → IsViableWithin levels given → IsVerdict (own_limits levels given) given own → if_cut (length given) own ≡ not_json (length given) Length
+  cut_off : (levels : ℕ) (given : List ℕ) (own : Verdict) → IsViableWithin levels given → IsVerdict (own_limits levels given) given own
+      → if_cut (length given) own ≡ not_json (length given) Length
   cut_off levels given (Valid w) viable h = refl
   cut_off levels given (Broken fault) viable h = refl
   cut_off levels given (NotJson fault) viable h = by_cause fault.cause fault.place h
     where
-      by_cause : (cause : Cause) (place : ℕ) → RefusedFor cause (own_limits levels given) given place → if_cut (length given) (not_json place cause) ≡ not_json (length given) Length
+      by_cause : (cause : Cause) (place : ℕ) → RefusedFor cause (own_limits levels given) given place
+          → if_cut (length given) (not_json place cause) ≡ not_json (length given) Length
       by_cause Truncated place r = refl
       by_cause Length place r = refl
       by_cause Syntax place r =
           let P : List ℕ → Type 0 = λ bs. IsViableWithin levels bs in
-          absurd (r.2 (without_levels levels (r.0.good ++ r.0.byte ∷ []) (viable_front levels (r.0.good ++ r.0.byte ∷ []) r.0.rest (subst P (r.0.split ∙ split_next r.0.good r.0.rest r.0.byte) viable))))
+          absurd (r.2 (without_levels levels (r.0.good ++ r.0.byte ∷ [])
+          (viable_front levels (r.0.good ++ r.0.byte ∷ []) r.0.rest (subst P (r.0.split ∙ split_next r.0.good r.0.rest r.0.byte) viable))))
       by_cause Depth place r =
           let P : List ℕ → Type 0 = λ bs. IsViableWithin levels bs in
           absurd (r.3 (viable_front levels (r.0.good ++ r.0.byte ∷ []) r.0.rest (subst P (r.0.split ∙ split_next r.0.good r.0.rest r.0.byte) viable)))
 
-  pub cut_record : (levels start : ℕ) (given : List ℕ) → IsViableWithin levels given → IsRecordVerdict levels (record_at start given true) (not_json (length given + start) Length)
+  pub cut_record : (levels start : ℕ) (given : List ℕ) → IsViableWithin levels given
+      → IsRecordVerdict levels (record_at start given true) (not_json (length given + start) Length)
   cut_record levels start given viable =
       let own = some_verdict (own_limits levels given) given in
       (own.0, own.1, ap (shifted_verdict start) (sym (cut_off levels given own.0 viable own.1)))
 
-  long_records : (limits : Allowed) (bytes done given more : List ℕ) (byte : ℕ) → bytes ≡ done ++ separator ∷ given → has_separator given ≡ false → length bytes ≡ limits.bytes →
+  long_records : (limits : Allowed) (bytes done given more : List ℕ) (byte : ℕ) → bytes ≡ done ++ separator ∷ given → has_separator given ≡ false
+      → length bytes ≡ limits.bytes →
       records_of limits ((bytes ++ byte ∷ []) ++ more) ≡ closed 0 done ++ record_at (length done + 1) given true ∷ []
   long_records limits bytes done given more byte split plain full =
       let longer : length (bytes ++ byte ∷ more) ≡ length bytes + suc (length more) = length-append bytes (byte ∷ more) in
-      let over : nat_lt limits.bytes (length (bytes ++ byte ∷ more)) ≡ true = is_longer limits.bytes (length bytes) (length more) (length (bytes ++ byte ∷ more)) full longer in
+      let over : nat_lt limits.bytes (length (bytes ++ byte ∷ more)) ≡ true =
+      is_longer limits.bytes (length bytes) (length more) (length (bytes ++ byte ∷ more)) full longer in
       let none : limits.bytes - length bytes ≡ 0 = omega (arith, full) in
       ap (records_of limits) (append_assoc bytes (byte ∷ []) more)
       ∙ (going_on limits bytes (byte ∷ more) (omega (arith, full))
@@ -219,7 +235,8 @@ module _ (some_verdict : (limits : Allowed) (bytes : List ℕ) → (verdict : Ve
       is_longer : (limit n m k : ℕ) → n ≡ limit → k ≡ n + suc m → nat_lt limit k ≡ true
       is_longer limit n m k e f = grind (arith, nat_tests)
 
-  pub settled_long : (limits : Allowed) (bytes done given : List ℕ) (w : Warnings) (number byte : ℕ) → Known limits bytes done given w number → length bytes ≡ limits.bytes →
+  pub settled_long : (limits : Allowed) (bytes done given : List ℕ) (w : Warnings) (number byte : ℕ) → Known limits bytes done given w number
+      → length bytes ≡ limits.bytes →
       IsSettled limits (bytes ++ byte ∷ []) limits.bytes (SeqVerdict.Record number (not_json limits.bytes Length))
   settled_long limits bytes done given w number byte k full =
       let l = known_length bytes done given k.split in
@@ -230,9 +247,11 @@ module _ (some_verdict : (limits : Allowed) (bytes : List ℕ) → (verdict : Ve
       record {
         at = record {
           within = omega (arith, more_one, full);
-          before = subst U (sym (ap (λ n. take n (bytes ++ byte ∷ [])) (sym full) ∙ take_front bytes (byte ∷ []))) (known_undecided limits bytes done given w number k);
+          before = subst U (sym (ap (λ n. take n (bytes ++ byte ∷ [])) (sym full) ∙ take_front bytes (byte ∷ [])))
+              (known_undecided limits bytes done given w number k);
           decides = λ u.
-              let all : take (limits.bytes + 1) (bytes ++ byte ∷ []) ≡ bytes ++ byte ∷ [] = ap (λ n. take (n + 1) (bytes ++ byte ∷ [])) (sym full) ∙ take_next bytes [] byte in
+              let all : take (limits.bytes + 1) (bytes ++ byte ∷ []) ≡ bytes ++ byte ∷ [] =
+              ap (λ n. take (n + 1) (bytes ++ byte ∷ [])) (sym full) ∙ take_next bytes [] byte in
               let fits = u.fits in
               let same : length (take (limits.bytes + 1) (bytes ++ byte ∷ [])) ≡ length (bytes ++ byte ∷ []) = ap length all in
               omega (arith, fits, same, more_one, full);
@@ -248,9 +267,12 @@ module _ (some_verdict : (limits : Allowed) (bytes : List ℕ) → (verdict : Ve
 
 -- ---- a separator behind a record that fails
 
-pub settled_failing : (one : (limits : Allowed) (bytes : List ℕ) (first second : Verdict) → IsVerdict limits bytes first → IsVerdict limits bytes second → first ≡ second)
-    (limits : Allowed) (bytes done given : List ℕ) (w : Warnings) (number : ℕ) (verdict : Verdict) → Known limits bytes done given w number → length bytes < limits.bytes → 0 < length given →
-    IsRecordVerdict limits.depth (record_at (length done + 1) given false) verdict → is_valid verdict ≡ false → IsSettled limits (bytes ++ separator ∷ []) (length bytes) (SeqVerdict.Record number verdict)
+pub settled_failing : (one : (limits : Allowed) (bytes : List ℕ) (first second : Verdict) → IsVerdict limits bytes first → IsVerdict limits bytes second
+    → first ≡ second)
+    (limits : Allowed) (bytes done given : List ℕ) (w : Warnings) (number : ℕ) (verdict : Verdict) → Known limits bytes done given w number
+    → length bytes < limits.bytes → 0 < length given →
+    IsRecordVerdict limits.depth (record_at (length done + 1) given false) verdict → is_valid verdict ≡ false
+    → IsSettled limits (bytes ++ separator ∷ []) (length bytes) (SeqVerdict.Record number verdict)
 settled_failing one limits bytes done given w number verdict k short some v fails =
     let more_one : length (bytes ++ separator ∷ []) ≡ length bytes + 1 = length-append bytes (separator ∷ []) in
     let U : List ℕ → Type 0 = λ bs. IsUndecided limits bs in
@@ -270,7 +292,8 @@ settled_failing one limits bytes done given w number verdict k short some v fail
           let room : length (bytes ++ separator ∷ []) ≤ limits.bytes = omega (arith, more_one, short) in
           let more2 = take (limits.bytes - length (bytes ++ separator ∷ [])) more in
           let over = nat_lt limits.bytes (length ((bytes ++ separator ∷ []) ++ more)) in
-          first_failing limits ((bytes ++ separator ∷ []) ++ more) done w number (record_at (length done + 1) given false) (records_from over (0 + length bytes) (separator ∷ more2)) verdict
+          first_failing limits ((bytes ++ separator ∷ []) ++ more) done w number (record_at (length done + 1) given false)
+          (records_from over (0 + length bytes) (separator ∷ more2)) verdict
           (let P : List ℕ → Type 0 = λ bs. is_stray bs ≡ false in
           subst P (sym (append_assoc bytes (separator ∷ []) more)) (begun_more bytes done given (separator ∷ more) k.split k.begun))
           k.valid k.counted
@@ -294,15 +317,18 @@ settled_failing one limits bytes done given w number verdict k short some v fail
 
 -- ---- a byte that the open record refuses
 
-place_short : (cause : Cause) (levels most place : ℕ) (bytes : List ℕ) → ByByte cause → RefusedFor cause (record { depth = levels; bytes = most }) (bytes ++ []) place →
+place_short : (cause : Cause) (levels most place : ℕ) (bytes : List ℕ) → ByByte cause
+    → RefusedFor cause (record { depth = levels; bytes = most }) (bytes ++ []) place →
     (s : Stops (record { depth = levels; bytes = most }) (bytes ++ []) place) × (IsViableWithin levels (s.good ++ s.byte ∷ []) → ⊥)
 place_short Syntax levels most place bytes b h = (h.0, λ v. h.2 (without_levels levels (h.0.good ++ h.0.byte ∷ []) v))
 place_short Depth levels most place bytes b h = (h.0, h.3)
 place_short Truncated levels most place bytes b h = absurd b
 place_short Length levels most place bytes b h = absurd b
 
-pub settled_refused : (limits : Allowed) (most : ℕ) (all done given : List ℕ) (w : Warnings) (number : ℕ) (fault : JsonFault) → all ≡ done ++ separator ∷ given → length all ≤ limits.bytes → limits.bytes ≤ most →
-    is_stray all ≡ false → has_separator given ≡ false → 0 < length given → AllValid limits.depth (closed 0 done) w → number ≡ length (closed 0 done) + 1 → Lasting limits.depth most given fault →
+pub settled_refused : (limits : Allowed) (most : ℕ) (all done given : List ℕ) (w : Warnings) (number : ℕ) (fault : JsonFault) → all ≡ done ++ separator ∷ given
+    → length all ≤ limits.bytes → limits.bytes ≤ most →
+    is_stray all ≡ false → has_separator given ≡ false → 0 < length given → AllValid limits.depth (closed 0 done) w → number ≡ length (closed 0 done) + 1
+    → Lasting limits.depth most given fault →
     IsSettled limits all (fault.place + (length done + 1)) (SeqVerdict.Record number (not_json (fault.place + (length done + 1)) fault.cause))
 settled_refused limits most all done given w number fault split fits wide begun plain some valid counted h =
     let l = known_length all done given split in
@@ -314,8 +340,10 @@ settled_refused limits most all done given w number fault split fits wide begun 
     let U : List ℕ → Type 0 = λ bs. IsUndecided limits bs in
     let V : List ℕ → Type 0 = λ bs. IsViableWithin limits.depth bs in
     let front : take fault.place given ≡ s.good = ap (λ n. take n given) s.at ∙ (ap (take (length s.good)) is ∙ take_front s.good (s.byte ∷ s.rest)) in
-    let front2 : take (fault.place + 1) given ≡ s.good ++ s.byte ∷ [] = ap (λ n. take (n + 1) given) s.at ∙ (ap (take (length s.good + 1)) is ∙ take_next s.good s.rest s.byte) in
-    let to_place : take (fault.place + (length done + 1)) all ≡ done ++ separator ∷ take fault.place given = ap (take (fault.place + (length done + 1))) split ∙ take_in done given fault.place in
+    let front2 : take (fault.place + 1) given ≡ s.good ++ s.byte ∷ [] =
+    ap (λ n. take (n + 1) given) s.at ∙ (ap (take (length s.good + 1)) is ∙ take_next s.good s.rest s.byte) in
+    let to_place : take (fault.place + (length done + 1)) all ≡ done ++ separator ∷ take fault.place given =
+    ap (take (fault.place + (length done + 1))) split ∙ take_in done given fault.place in
     let to_next : take (fault.place + (length done + 1) + 1) all ≡ done ++ separator ∷ take (fault.place + 1) given =
     ap (λ n. take n all) (one_on fault.place (length done)) ∙ (ap (take (fault.place + 1 + (length done + 1))) split ∙ take_in done given (fault.place + 1)) in
     record {
@@ -326,7 +354,8 @@ settled_refused limits most all done given w number fault split fits wide begun 
             (ap is_stray to_place ∙ (stray_same done (take fault.place given) given ∙ (sym (ap is_stray split) ∙ begun)))
             (plain_take fault.place given plain) valid (subst V (sym front) s.viable);
         decides = λ u.
-            let o = still_open limits (take (fault.place + (length done + 1) + 1) all) done (take (fault.place + 1) given) to_next (plain_take (fault.place + 1) given plain) u in
+            let o = still_open limits (take (fault.place + (length done + 1) + 1) all) done (take (fault.place + 1) given) to_next
+            (plain_take (fault.place + 1) given plain) u in
             stop.1 (subst V front2 o.0);
       };
       fails = refl;
@@ -334,14 +363,17 @@ settled_refused limits most all done given w number fault split fits wide begun 
           let more2 = take (limits.bytes - length all) more in
           let over = nat_lt limits.bytes (length (all ++ more)) in
           let zero_on : 0 + length done ≡ length done = omega arith in
-          first_failing limits (all ++ more) done w number (record_at (length done + 1) (given ++ up_to_separator more2) (over && not (has_separator (given ++ more2)))) (records_from over (length done + 1) (given ++ more2))
+          first_failing limits (all ++ more) done w number
+          (record_at (length done + 1) (given ++ up_to_separator more2) (over && not (has_separator (given ++ more2))))
+          (records_from over (length done + 1) (given ++ more2))
           (not_json (fault.place + (length done + 1)) fault.cause)
           (begun_more all done given more split begun) valid counted
           (going_on limits all more fits
           ∙ (ap (λ bs. records_from over 0 (bs ++ more2)) split
           ∙ (ap (records_from over 0) (regroup done given more2)
           ∙ (cut_at over 0 done (given ++ more2)
-          ∙ ap (λ rs. closed 0 done ++ rs) (ap (λ n. records_from over n (separator ∷ (given ++ more2))) zero_on ∙ begun_record over (length done) given more2 some plain)))))
+          ∙ ap (λ rs. closed 0 done ++ rs)
+          (ap (λ n. records_from over n (separator ∷ (given ++ more2))) zero_on ∙ begun_record over (length done) given more2 some plain)))))
           (refused_record limits.depth most (length done + 1) given (up_to_separator more2) (over && not (has_separator (given ++ more2))) fault short h) refl;
     }
   where

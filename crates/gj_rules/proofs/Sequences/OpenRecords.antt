@@ -1,5 +1,6 @@
 -- The bytes of a record, their last one, and the record's verdict.
-use Rattle.std.proofs.Common.{◌≡◌, ℕ, zero, suc, ◌+◌, ◌-◌, ◌<◌, ◌≤◌, Bool, true, false, List, [], ◌∷◌, ◌++◌, length, length-append, get_or, None, refl, ap, sym, ◌∙◌, arith, nat_eq}
+use Rattle.std.proofs.Common.{◌≡◌, ℕ, zero, suc, ◌+◌, ◌-◌, ◌<◌, ◌≤◌, Bool, true, false, List, [], ◌∷◌, ◌++◌, length, length-append, get_or, None, refl, ap, sym}
+use Rattle.std.proofs.Common.{◌∙◌, arith, nat_eq}
 use Rattle.gj_json.specs.declared.fault.Cause.{Cause}
 use Rattle.gj_json.specs.declared.fault.Cause.TheVariants.{Syntax, Truncated, Depth, Length}
 use Rattle.gj_json.specs.Bytes.{line_feed}
@@ -54,21 +55,26 @@ stop_short limits bytes place s =
     let l : length bytes ≡ length s.good + length (s.byte ∷ s.rest) = ap length s.split ∙ length-append s.good (s.byte ∷ s.rest) in
     omega (arith, s.at, l)
 
-own_refusal : (cause : Cause) (levels most : ℕ) (bytes : List ℕ) (place : ℕ) → length bytes ≤ most → RefusedFor cause (record { depth = levels; bytes = most }) bytes place → RefusedFor cause (own_limits levels bytes) bytes place
+own_refusal : (cause : Cause) (levels most : ℕ) (bytes : List ℕ) (place : ℕ) → length bytes ≤ most
+    → RefusedFor cause (record { depth = levels; bytes = most }) bytes place → RefusedFor cause (own_limits levels bytes) bytes place
 unfolding stop_own
 own_refusal Syntax levels most bytes place l h =
-    let s = stop_own (record { depth = levels; bytes = most }) (own_limits levels bytes) bytes place refl h.0 in (s, stop_short (own_limits levels bytes) bytes place s, h.2)
+    let s = stop_own (record { depth = levels; bytes = most }) (own_limits levels bytes) bytes place refl h.0 in
+    (s, stop_short (own_limits levels bytes) bytes place s, h.2)
 own_refusal Depth levels most bytes place l h =
-    let s = stop_own (record { depth = levels; bytes = most }) (own_limits levels bytes) bytes place refl h.0 in (s, stop_short (own_limits levels bytes) bytes place s, h.2, h.3)
+    let s = stop_own (record { depth = levels; bytes = most }) (own_limits levels bytes) bytes place refl h.0 in
+    (s, stop_short (own_limits levels bytes) bytes place s, h.2, h.3)
 own_refusal Length levels most bytes place l h = absurd (omega (arith, l, h.1, stop_short (record { depth = levels; bytes = most }) bytes place h.0))
 own_refusal Truncated levels most bytes place l h = (h.0, omega (arith, h.0), h.2, h.3)
 
-pub own_verdict : (levels most : ℕ) (bytes : List ℕ) (verdict : Verdict) → length bytes ≤ most → IsVerdict (record { depth = levels; bytes = most }) bytes verdict → IsVerdict (own_limits levels bytes) bytes verdict
+pub own_verdict : (levels most : ℕ) (bytes : List ℕ) (verdict : Verdict) → length bytes ≤ most
+    → IsVerdict (record { depth = levels; bytes = most }) bytes verdict → IsVerdict (own_limits levels bytes) bytes verdict
 own_verdict levels most bytes (Valid w) l h = (h.0, (h.1.0, omega arith), h.2, h.3)
 own_verdict levels most bytes (Broken fault) l h = (h.0, (h.1.0, omega arith), h.2)
 own_verdict levels most bytes (NotJson fault) l h = own_refusal fault.cause levels most bytes fault.place l h
 
-pub own_limit : (limits : Allowed) (bytes : List ℕ) (verdict : Verdict) → length bytes ≤ limits.bytes → IsVerdict limits bytes verdict → IsVerdict (own_limits limits.depth bytes) bytes verdict
+pub own_limit : (limits : Allowed) (bytes : List ℕ) (verdict : Verdict) → length bytes ≤ limits.bytes → IsVerdict limits bytes verdict
+    → IsVerdict (own_limits limits.depth bytes) bytes verdict
 own_limit limits bytes verdict l h = own_verdict limits.depth limits.bytes bytes verdict l h
 
 -- ---- places
@@ -79,13 +85,15 @@ refused_within Depth limits bytes place h = omega (arith, stop_short limits byte
 refused_within Length limits bytes place h = omega (arith, stop_short limits bytes place h.0)
 refused_within Truncated limits bytes place h = omega (arith, h.0)
 
-pub ended_within : (ended : Bool) (end n place : ℕ) (verdict : Verdict) → end ≤ n → ((p : ℕ) → TellsPlace p verdict → p ≤ n) → TellsPlace place (if_ended ended end verdict) → place ≤ n
+pub ended_within : (ended : Bool) (end n place : ℕ) (verdict : Verdict) → end ≤ n → ((p : ℕ) → TellsPlace p verdict → p ≤ n)
+    → TellsPlace place (if_ended ended end verdict) → place ≤ n
 ended_within true end n place verdict l h p = h place p
 ended_within false end n place (NotJson fault) l h p = h place p
 ended_within false end n place (Valid w) l h p = omega (arith, p)
 ended_within false end n place (Broken fault) l h p = omega (arith, p)
 
-pub ended_as_within : (framing : Framing) (ending : RecordEnd) (ended : Bool) (end n place : ℕ) (verdict : Verdict) → end ≤ n → ((p : ℕ) → TellsPlace p verdict → p ≤ n)
+pub ended_as_within : (framing : Framing) (ending : RecordEnd) (ended : Bool) (end n place : ℕ) (verdict : Verdict) → end ≤ n
+    → ((p : ℕ) → TellsPlace p verdict → p ≤ n)
     → TellsPlace place (ended_as framing ending ended end verdict) → place ≤ n
 ended_as_within framing Limit ended end n place (Valid w) l h p = omega (arith, l, p)
 ended_as_within framing Limit ended end n place (Broken fault) l h p = omega (arith, l, p)
@@ -102,14 +110,17 @@ ended_as_within Lines Separator ended end n place verdict l h p = h place p
 ended_as_within Lines Input ended end n place verdict l h p = h place p
 
 -- the verdict by what is known of the bytes
-pub told_ended : (framing : Framing) (ending : RecordEnd) (start last end : ℕ) (bytes : List ℕ) (verdict : Verdict) → last ≡ last_byte separator bytes → end ≡ length bytes →
-    shifted_verdict start (ended_as framing ending (nat_eq last line_feed) end verdict) ≡ shifted_verdict start (ended_as framing ending (nat_eq (last_byte separator bytes) line_feed) (length bytes) verdict)
+pub told_ended : (framing : Framing) (ending : RecordEnd) (start last end : ℕ) (bytes : List ℕ) (verdict : Verdict) → last ≡ last_byte separator bytes
+    → end ≡ length bytes →
+    shifted_verdict start (ended_as framing ending (nat_eq last line_feed) end verdict) ≡ shifted_verdict start
+    (ended_as framing ending (nat_eq (last_byte separator bytes) line_feed) (length bytes) verdict)
 told_ended framing ending start last end bytes verdict e f =
     ap (λ x. shifted_verdict start (ended_as framing ending (nat_eq x line_feed) end verdict)) e
     ∙ ap (λ x. shifted_verdict start (ended_as framing ending (nat_eq (last_byte separator bytes) line_feed) x verdict)) f
 
 pub told_as : (start last end n : ℕ) (bytes : List ℕ) (verdict : Verdict) → last ≡ last_byte separator bytes → end ≡ length bytes →
-    shifted_verdict start (if_ended (nat_eq last line_feed) end verdict) ≡ shifted_verdict start (if_ended (nat_eq (last_byte separator bytes) line_feed) (length bytes) verdict)
+    shifted_verdict start (if_ended (nat_eq last line_feed) end verdict) ≡ shifted_verdict start
+    (if_ended (nat_eq (last_byte separator bytes) line_feed) (length bytes) verdict)
 told_as start last end n bytes verdict e f =
     ap (λ x. shifted_verdict start (if_ended (nat_eq x line_feed) end verdict)) e
     ∙ ap (λ x. shifted_verdict start (if_ended (nat_eq (last_byte separator bytes) line_feed) x verdict)) f

@@ -31,9 +31,11 @@ first_told told kind warnings stands = by_count ((kept told kind).count == 0) re
 
 -- the law of what is told of an input
 abbrev pub PlacesWithin : Type 0
-PlacesWithin = (limits : Allowed) (bytes : List ℕ) (judgement : Judgement) (place : ℕ) → IsJudgement limits bytes judgement → IsPlaceIn place judgement → place ≤ length bytes
+PlacesWithin = (limits : Allowed) (bytes : List ℕ) (judgement : Judgement) (place : ℕ) → IsJudgement limits bytes judgement → IsPlaceIn place judgement
+    → place ≤ length bytes
 
-pub told_within : PlacesWithin → (limits : Allowed) (bytes : List ℕ) (verdict : Verdict) (place : ℕ) → IsVerdict limits bytes verdict → TellsPlace place verdict → place ≤ length bytes
+pub told_within : PlacesWithin → (limits : Allowed) (bytes : List ℕ) (verdict : Verdict) (place : ℕ) → IsVerdict limits bytes verdict → TellsPlace place verdict
+    → place ≤ length bytes
 told_within within limits bytes (Valid told) place h p =
     within limits bytes (valid (text_warnings h.0)) place (h.0, h.1, h.2, refl) (p.0, sym (first_told told p.0 (text_warnings h.0) h.3) ∙ p.1)
 told_within within limits bytes (Broken fault) place h p = within limits bytes (broken fault) place h p

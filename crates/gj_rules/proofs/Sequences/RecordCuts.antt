@@ -1,5 +1,6 @@
 -- How an input is cut into records, as it goes on.
-use Rattle.std.proofs.Common.{◌≡◌, ℕ, suc, ◌+◌, Bool, true, false, ◌&&◌, ◌||◌, not, if◌then◌else◌, List, [], ◌∷◌, ◌++◌, length, refl, ap, sym, ◌∙◌, arith, add-zero}
+use Rattle.std.proofs.Common.{◌≡◌, ℕ, suc, ◌+◌, Bool, true, false, ◌&&◌, ◌||◌, not, if◌then◌else◌, List, [], ◌∷◌, ◌++◌, length, refl, ap, sym, ◌∙◌, arith}
+use Rattle.std.proofs.Common.{add-zero}
 use Rattle.gj_rules.specs.Sequence.{separator, is_separator, begins_with_separator, has_separator, up_to_separator, SequenceRecord, records_from}
 use Rattle.gj_rules.specs.Internal.OpenSequence.{closed}
 
@@ -59,7 +60,8 @@ and_not_true true = refl
 and_not_true false = refl
 
 one_closed : (is_cut : Bool) (place byte : ℕ) (more rest : List ℕ) → SequenceRecord
-one_closed is_cut place byte more rest = record_at (place + 1) (up_to_separator (more ++ separator ∷ rest)) (is_cut && not (has_separator (more ++ separator ∷ rest)))
+one_closed is_cut place byte more rest =
+    record_at (place + 1) (up_to_separator (more ++ separator ∷ rest)) (is_cut && not (has_separator (more ++ separator ∷ rest)))
 
 same_closed : (is_cut : Bool) (place : ℕ) (more rest : List ℕ) →
     record_at (place + 1) (up_to_separator (more ++ separator ∷ rest)) (is_cut && not (has_separator (more ++ separator ∷ rest)))
@@ -81,7 +83,8 @@ pub cut_at : (is_cut : Bool) (place : ℕ) (done rest : List ℕ) →
     records_from is_cut place (done ++ separator ∷ rest) ≡ closed place done ++ records_from is_cut (place + length done) (separator ∷ rest)
 cut_at is_cut place [] rest = ap (λ n. records_from is_cut n (separator ∷ rest)) (sym (add-zero place))
 cut_at is_cut place (byte ∷ more) rest =
-    if_same (is_separator byte && not (begins_with_separator (more ++ separator ∷ rest))) (is_separator byte && not (begins_with_separator (more ++ separator ∷ []))) _ _ _ _ _
+    if_same (is_separator byte && not (begins_with_separator (more ++ separator ∷ rest)))
+    (is_separator byte && not (begins_with_separator (more ++ separator ∷ []))) _ _ _ _ _
     (ap (λ b. is_separator byte && not b) (begins_behind more rest []))
     (same_closed is_cut place more rest)
     (cut_at is_cut (place + 1) more rest ∙ ap (λ n. closed (place + 1) more ++ records_from is_cut n (separator ∷ rest)) (one_on place (length more)))
@@ -93,7 +96,8 @@ cut_at is_cut place (byte ∷ more) rest =
 pub last_one : (is_cut : Bool) (place : ℕ) (given : List ℕ) → has_separator given ≡ false →
     records_from is_cut place (separator ∷ given) ≡ record_at (place + 1) given is_cut ∷ []
 last_one is_cut place given h = by_parts (begins_with_separator given) (up_to_separator given) (has_separator given) (records_from is_cut (place + 1) given)
-    (begins_plain given h) (ap up_to_separator (sym (append_nil given)) ∙ (up_to_plain given [] h ∙ append_nil given)) h (none_in_plain is_cut (place + 1) given h)
+    (begins_plain given h) (ap up_to_separator (sym (append_nil given)) ∙ (up_to_plain given [] h ∙ append_nil given)) h
+    (none_in_plain is_cut (place + 1) given h)
   where
     append_nil : (xs : List ℕ) → xs ++ [] ≡ xs
     append_nil [] = refl
@@ -103,7 +107,8 @@ last_one is_cut place given h = by_parts (begins_with_separator given) (up_to_se
         (if true && not b then record_at (place + 1) xs (is_cut && not s) ∷ rs else rs) ≡ record_at (place + 1) given is_cut ∷ []
     by_parts true xs s rs e f g k = cc
     by_parts false xs true rs e f g k = cc
-    by_parts false xs false rs e f g k = ap (λ ys. record_at (place + 1) ys (is_cut && true) ∷ rs) f ∙ (ap (λ c. record_at (place + 1) given c ∷ rs) (and_true is_cut) ∙ ap (λ qs. record_at (place + 1) given is_cut ∷ qs) k)
+    by_parts false xs false rs e f g k = ap (λ ys. record_at (place + 1) ys (is_cut && true) ∷ rs) f
+        ∙ (ap (λ c. record_at (place + 1) given c ∷ rs) (and_true is_cut) ∙ ap (λ qs. record_at (place + 1) given is_cut ∷ qs) k)
       where
         and_true : (c : Bool) → (c && true) ≡ c
         and_true true = refl
@@ -112,7 +117,8 @@ last_one is_cut place given h = by_parts (begins_with_separator given) (up_to_se
 -- all records, the open one last
 pub cut_open : (is_cut : Bool) (done given : List ℕ) → has_separator given ≡ false →
     records_from is_cut 0 (done ++ separator ∷ given) ≡ closed 0 done ++ record_at (length done + 1) given is_cut ∷ []
-cut_open is_cut done given h = cut_at is_cut 0 done given ∙ ap (λ rs. closed 0 done ++ rs) (last_one is_cut (0 + length done) given h ∙ ap (λ n. record_at (n + 1) given is_cut ∷ []) (zero_on (length done)))
+cut_open is_cut done given h = cut_at is_cut 0 done given
+    ∙ ap (λ rs. closed 0 done ++ rs) (last_one is_cut (0 + length done) given h ∙ ap (λ n. record_at (n + 1) given is_cut ∷ []) (zero_on (length done)))
   where
     zero_on : (n : ℕ) → 0 + n ≡ n
     zero_on n = omega arith

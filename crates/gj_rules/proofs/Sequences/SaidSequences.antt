@@ -9,8 +9,10 @@ use Rattle.gj_coords.specs.declared.warnings.Warnings.{Warnings}
 use Rattle.gj_coords.proofs.Lists.ListsStoodFor.{joined_stands}
 use Rattle.gj_coords.proofs.Lists.ShiftedWarnings.{shifted_stands}
 use Rattle.gj_rules.specs.Internal.JudgementLaws.{said, says}
-use Rattle.gj_rules.specs.Sequence.{SequenceRecord, shifted_verdict, not_json, if_ended, cut_fault, if_cut, record_end, ends_in_line_feed, is_valid, IsRecordVerdict, AllValid, IsJudgedBy, SequenceJudgement, all_valid, failing, SequenceSays}
-use Rattle.gj_rules.specs.SequenceJudgement.{shifted_judgement, refused_at, judged_if_ended, cut_refusal, judged_if_cut, judged_end, IsRecordJudgement, is_valid_judgement, AllValidWith, IsJudgedAs}
+use Rattle.gj_rules.specs.Sequence.{SequenceRecord, shifted_verdict, not_json, if_ended, cut_fault, if_cut, record_end, ends_in_line_feed, is_valid}
+use Rattle.gj_rules.specs.Sequence.{IsRecordVerdict, AllValid, IsJudgedBy, SequenceJudgement, all_valid, failing, SequenceSays}
+use Rattle.gj_rules.specs.SequenceJudgement.{shifted_judgement, refused_at, judged_if_ended, cut_refusal, judged_if_cut, judged_end, IsRecordJudgement}
+use Rattle.gj_rules.specs.SequenceJudgement.{is_valid_judgement, AllValidWith, IsJudgedAs}
 use Rattle.gj_rules.specs.Verdict.{Judgement, valid, broken, refused, Says}
 use Rattle.gj_rules.specs.declared.sequence.verdict.SeqVerdict.{SeqVerdict}
 use Rattle.gj_rules.specs.declared.verdict.Verdict.{Verdict}
@@ -44,7 +46,8 @@ valid_alike (valid warnings) = refl
 valid_alike (broken fault) = refl
 valid_alike (refused fault) = refl
 
-listed : (kept : Warnings) (judgement : Judgement) → Valid kept ≡ told judgement → (warnings : List Warning) × (judgement ≡ valid warnings) × (kept ≡ warnings_of warnings)
+listed : (kept : Warnings) (judgement : Judgement) → Valid kept ≡ told judgement → (warnings : List Warning) × (judgement ≡ valid warnings)
+    × (kept ≡ warnings_of warnings)
 listed kept (valid warnings) h = (warnings, refl, cc)
 listed kept (broken fault) h = cc
 listed kept (refused fault) h = cc
@@ -77,10 +80,12 @@ end_told : (is_cut : Bool) (bytes : List ℕ) (judgement : Judgement) → record
 end_told true bytes judgement = cut_told (length bytes) judgement
 end_told false bytes judgement = ended_told (ends_in_line_feed bytes) (length bytes) judgement
 
-record_told : (r : SequenceRecord) (own : Judgement) → shifted_verdict r.start (record_end r.is_cut r.bytes (told own)) ≡ told (shifted_judgement r.start (judged_end r.is_cut r.bytes own))
+record_told : (r : SequenceRecord) (own : Judgement)
+    → shifted_verdict r.start (record_end r.is_cut r.bytes (told own)) ≡ told (shifted_judgement r.start (judged_end r.is_cut r.bytes own))
 record_told r own = ap (shifted_verdict r.start) (end_told r.is_cut r.bytes own) ∙ shifted_told r.start (judged_end r.is_cut r.bytes own)
 
-record_judged : (levels : ℕ) (r : SequenceRecord) (verdict : Verdict) → IsRecordVerdict levels r verdict → (judgement : Judgement) × IsRecordJudgement levels r judgement × (verdict ≡ told judgement)
+record_judged : (levels : ℕ) (r : SequenceRecord) (verdict : Verdict) → IsRecordVerdict levels r verdict → (judgement : Judgement)
+    × IsRecordJudgement levels r judgement × (verdict ≡ told judgement)
 record_judged levels r verdict (own, is, e) =
     let (judgement, of_it, says_it) = said _ r.bytes own is in (
       shifted_judgement r.start (judged_end r.is_cut r.bytes judgement),
@@ -93,18 +98,30 @@ record_verdict levels r judgement (own, is, e) = (told own, says _ r.bytes (told
 
 -- ---- all of them
 
-all_judged : (levels : ℕ) (records : List SequenceRecord) (kept : Warnings) → AllValid levels records kept → (warnings : List Warning) × AllValidWith levels records warnings × (kept ≡ warnings_of warnings)
+all_judged : (levels : ℕ) (records : List SequenceRecord) (kept : Warnings) → AllValid levels records kept → (warnings : List Warning)
+    × AllValidWith levels records warnings × (kept ≡ warnings_of warnings)
 all_judged levels [] kept h = ([], refl, h ∙ sym warnings_of_none)
 all_judged levels (r ∷ more) kept (first, rest, of_first, of_rest, e) =
     let (judgement, is, same) = record_judged levels r (Valid first) of_first in
     let (warnings, valid_with, stands) = listed first judgement same in
-    let (others, are, others_stand) = all_judged levels more rest of_rest in
-    (warnings ++ others, (warnings, others, subst (IsRecordJudgement levels r) valid_with is, are, refl), e ∙ joined_stands first rest warnings others stands others_stand)
+    let (others, are, others_stand) = all_judged levels more rest of_rest in (
+      warnings ++ others,
+      (warnings, others, subst (IsRecordJudgement levels r) valid_with is, are, refl),
+      e
+          ∙ joined_stands first rest warnings others stands others_stand,
+    )
 
-all_verdicts : (levels : ℕ) (records : List SequenceRecord) (warnings : List Warning) → AllValidWith levels records warnings → AllValid levels records (warnings_of warnings)
+all_verdicts : (levels : ℕ) (records : List SequenceRecord) (warnings : List Warning) → AllValidWith levels records warnings
+    → AllValid levels records (warnings_of warnings)
 all_verdicts levels [] warnings h = ap warnings_of h ∙ warnings_of_none
-all_verdicts levels (r ∷ more) warnings (first, rest, of_first, of_rest, e) =
-    (warnings_of first, warnings_of rest, record_verdict levels r (valid first) of_first, all_verdicts levels more rest of_rest, ap warnings_of e ∙ warnings_of-append first rest)
+all_verdicts levels (r ∷ more) warnings (first, rest, of_first, of_rest, e) = (
+  warnings_of first,
+  warnings_of rest,
+  record_verdict levels r (valid first) of_first,
+  all_verdicts levels more rest of_rest,
+  ap warnings_of e
+      ∙ warnings_of-append first rest,
+)
 
 pub sequence_said : (stray : Bool) (levels : ℕ) (records : List SequenceRecord) (verdict : SeqVerdict) → IsJudgedBy stray levels records verdict
     → (judgement : SequenceJudgement) × IsJudgedAs stray levels records judgement × SequenceSays verdict judgement

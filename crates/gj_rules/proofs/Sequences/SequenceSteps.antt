@@ -1,5 +1,6 @@
 -- What a sequence stands for, from step to step.
-use Rattle.std.proofs.Common.{◌≡◌, ◌⊎◌, inl, inr, ⊎_elim, ℕ, zero, suc, ◌+◌, ◌-◌, ◌<◌, ◌≤◌, Bool, true, false, List, [], ◌∷◌, ◌++◌, length, length-append, take, drop, append_assoc, append-nil, Option, Some, None, refl, ap, sym, subst, ◌∙◌, arith}
+use Rattle.std.proofs.Common.{◌≡◌, ◌⊎◌, inl, inr, ⊎_elim, ℕ, zero, suc, ◌+◌, ◌-◌, ◌<◌, ◌≤◌, Bool, true, false, List, [], ◌∷◌, ◌++◌, length, length-append, take}
+use Rattle.std.proofs.Common.{drop, append_assoc, append-nil, Option, Some, None, refl, ap, sym, subst, ◌∙◌, arith}
 use Rattle.std.proofs.lemmas.List.{take_all, length-drop}
 use Rattle.gj_json.specs.declared.fault.JsonFault.{JsonFault}
 use Rattle.gj_json.specs.Limits.{Allowed}
@@ -26,7 +27,8 @@ use Rattle.gj_rules.specs.Internal.OpenRecord.{fault_shifted}
 use Rattle.gj_rules.specs.Sequence.{IsRecordVerdict, IsJudgedBy, is_separator, is_valid, not_json}
 use Rattle.gj_rules.specs.Internal.VerdictParts.{valid_warnings}
 use Rattle.gj_rules.proofs.Sequences.RecordCuts.{record_at, plain-append, cut_open}
-use Rattle.gj_rules.proofs.Sequences.DecidingBytes.{Known, known_undecided, regroup, begun_more, closed_more, closed_again, first_failing, settled_refused, settled_failing, settled_long, settled_stray}
+use Rattle.gj_rules.proofs.Sequences.DecidingBytes.{Known, known_undecided, regroup, begun_more, closed_more, closed_again, first_failing, settled_refused}
+use Rattle.gj_rules.proofs.Sequences.DecidingBytes.{settled_failing, settled_long, settled_stray}
 use Rattle.gj_rules.proofs.Sequences.BytesOfSequences.{undecided_none, fitting, snoc_last, one_more, Lasting}
 
 -- no byte has decided
@@ -72,11 +74,13 @@ known_of s bytes h k = record {
 }
 
 -- what a step decided
-pub decided_stands : (s new : Sequence) (bytes : List ℕ) (place : ℕ) (verdict : SeqVerdict) → new ≡ decided_as s place verdict → IsSettled s.limits bytes place verdict → StandsFor new bytes
+pub decided_stands : (s new : Sequence) (bytes : List ℕ) (place : ℕ) (verdict : SeqVerdict) → new ≡ decided_as s place verdict
+    → IsSettled s.limits bytes place verdict → StandsFor new bytes
 decided_stands s new bytes place verdict e h = let P : Sequence → Type 0 = λ x. StandsFor x bytes in subst P (sym e) h
 
 -- more bytes behind those that decided
-settled_more : (limits : Allowed) (bytes more : List ℕ) (place : ℕ) (verdict : SeqVerdict) → IsSettled limits bytes place verdict → IsSettled limits (bytes ++ more) place verdict
+settled_more : (limits : Allowed) (bytes more : List ℕ) (place : ℕ) (verdict : SeqVerdict) → IsSettled limits bytes place verdict
+    → IsSettled limits (bytes ++ more) place verdict
 settled_more limits bytes more place verdict h =
     let U : List ℕ → Type 0 = λ bs. IsUndecided limits bs in
     let W : List ℕ → Type 0 = λ bs. IsSequenceVerdict limits bs verdict in
@@ -109,7 +113,8 @@ live_undecided s bytes h =
     (λ k. known_undecided s.limits bytes k.done k.given s.warnings s.records (known_of s bytes h k)) (before_or_in s bytes h)
 
 -- an empty record can become a text
-pub empty_viable : (either : (limits : Allowed) (bytes : List ℕ) → ((fault : JsonFault) × IsRefusal limits bytes fault) ⊎ ((text : Text) × IsAdmitted limits text bytes))
+pub empty_viable : (either : (limits : Allowed) (bytes : List ℕ) → ((fault : JsonFault) × IsRefusal limits bytes fault)
+    ⊎ ((text : Text) × IsAdmitted limits text bytes))
     (levels : ℕ) → IsViableWithin levels []
 empty_viable either levels = ⊎_elim (λ r. by_cause r.0.cause r.0.place r.1) (λ a. ([], a.0, a.1.0)) (either (record { depth = levels; bytes = 0 }) [])
   where
@@ -144,7 +149,8 @@ was_failing (NotJson fault) e = refl
 
 -- the record's verdict, at its place behind the separator
 pub placed : (levels : ℕ) (s : Sequence) (bytes : List ℕ) (h : IsLive s bytes) (k : IsIn s bytes) (verdict other : Verdict) → verdict ≡ other
-    → IsRecordVerdict s.record.limits.depth (record_at s.record.start k.given false) verdict → IsRecordVerdict s.limits.depth (record_at (length k.done + 1) k.given false) other
+    → IsRecordVerdict s.record.limits.depth (record_at s.record.start k.given false) verdict
+    → IsRecordVerdict s.limits.depth (record_at (length k.done + 1) k.given false) other
 placed levels s bytes h k verdict other e v =
     let P : Verdict → Type 0 = λ x. IsRecordVerdict s.record.limits.depth (record_at s.record.start k.given false) x in
     let D : ℕ → Type 0 = λ d. IsRecordVerdict d (record_at s.record.start k.given false) other in
@@ -152,8 +158,10 @@ placed levels s bytes h k verdict other e v =
     subst Q k.start (subst D h.depth (subst P e v))
 
 -- bytes that the open record refuses
-pub refused_run : (s : Sequence) (bytes run : List ℕ) (h : IsLive s bytes) (k : IsIn s bytes) (own fault : JsonFault) → 0 < length run → has_separator run ≡ false → s.record.end + length run ≤ s.limits.bytes
-    → s.limits.bytes ≤ s.record.limits.bytes → fault ≡ fault_shifted s.record.start own → Lasting s.record.limits.depth s.record.limits.bytes (k.given ++ run) own
+pub refused_run : (s : Sequence) (bytes run : List ℕ) (h : IsLive s bytes) (k : IsIn s bytes) (own fault : JsonFault) → 0 < length run
+    → has_separator run ≡ false → s.record.end + length run ≤ s.limits.bytes
+    → s.limits.bytes ≤ s.record.limits.bytes → fault ≡ fault_shifted s.record.start own
+    → Lasting s.record.limits.depth s.record.limits.bytes (k.given ++ run) own
     → IsSettled s.limits (bytes ++ run) fault.place (SeqVerdict.Record s.records (NotJson fault))
 refused_run s bytes run h k own fault some plain room wide e lasting =
     let L : ℕ → Type 0 = λ d. Lasting d s.record.limits.bytes (k.given ++ run) own in
@@ -167,24 +175,31 @@ refused_run s bytes run h k own fault some plain room wide e lasting =
     (omega (arith, length-append k.given run, some)) k.valid k.counted (subst L h.depth lasting))
 
 -- a record that fails, and the separator behind it
-pub failing_closed : (one : (limits : Allowed) (bytes : List ℕ) (first second : Verdict) → IsVerdict limits bytes first → IsVerdict limits bytes second → first ≡ second)
-    (s : Sequence) (bytes : List ℕ) (h : IsLive s bytes) (k : IsIn s bytes) (verdict : Verdict) (place : ℕ) → s.record.end < s.limits.bytes → 0 < length k.given → place ≡ s.record.end
-    → IsRecordVerdict s.record.limits.depth (record_at s.record.start k.given false) verdict → is_valid verdict ≡ false → IsSettled s.limits (bytes ++ separator ∷ []) place (SeqVerdict.Record s.records verdict)
+pub failing_closed : (one : (limits : Allowed) (bytes : List ℕ) (first second : Verdict) → IsVerdict limits bytes first → IsVerdict limits bytes second
+    → first ≡ second)
+    (s : Sequence) (bytes : List ℕ) (h : IsLive s bytes) (k : IsIn s bytes) (verdict : Verdict) (place : ℕ) → s.record.end < s.limits.bytes → 0 < length k.given
+    → place ≡ s.record.end
+    → IsRecordVerdict s.record.limits.depth (record_at s.record.start k.given false) verdict → is_valid verdict ≡ false
+    → IsSettled s.limits (bytes ++ separator ∷ []) place (SeqVerdict.Record s.records verdict)
 failing_closed one s bytes h k verdict place short some e v fails =
     let P : ℕ → Type 0 = λ n. IsSettled s.limits (bytes ++ separator ∷ []) n (SeqVerdict.Record s.records verdict) in
     subst P (sym (e ∙ h.taken))
-    (settled_failing one s.limits bytes k.done k.given s.warnings s.records verdict (known_of s bytes h k) (omega (arith, h.taken, short)) some (placed 0 s bytes h k verdict verdict refl v) fails)
+    (settled_failing one s.limits bytes k.done k.given s.warnings s.records verdict (known_of s bytes h k) (omega (arith, h.taken, short)) some
+    (placed 0 s bytes h k verdict verdict refl v) fails)
 
 -- the byte behind the last that is allowed
-pub long_run : (some : (limits : Allowed) (bytes : List ℕ) → (verdict : Verdict) × IsVerdict limits bytes verdict) (s : Sequence) (bytes : List ℕ) (byte place : ℕ) (h : IsLive s bytes) → s.record.end ≡ s.limits.bytes → 1 ≤ s.limits.bytes
+pub long_run : (some : (limits : Allowed) (bytes : List ℕ) → (verdict : Verdict) × IsVerdict limits bytes verdict) (s : Sequence) (bytes : List ℕ)
+    (byte place : ℕ) (h : IsLive s bytes) → s.record.end ≡ s.limits.bytes → 1 ≤ s.limits.bytes
     → place ≡ s.record.end → IsSettled s.limits (bytes ++ byte ∷ []) place (SeqVerdict.Record s.records (not_json place Length))
 long_run some s bytes byte place h full least e =
-    let k : IsIn s bytes = ⊎_elim (λ b. absurd (let l : length bytes ≡ 0 = ap length b.1.none in omega (arith, l, h.taken, full, least))) (λ k. k) (before_or_in s bytes h) in
+    let k : IsIn s bytes =
+    ⊎_elim (λ b. absurd (let l : length bytes ≡ 0 = ap length b.1.none in omega (arith, l, h.taken, full, least))) (λ k. k) (before_or_in s bytes h) in
     let P : ℕ → Type 0 = λ n. IsSettled s.limits (bytes ++ byte ∷ []) n (SeqVerdict.Record s.records (not_json n Length)) in
     subst P (sym (e ∙ full)) (settled_long some s.limits bytes k.done k.given s.warnings s.records byte (known_of s bytes h k) (sym h.taken ∙ full))
 
 -- a byte before the first separator
-pub stray_run : (s : Sequence) (bytes : List ℕ) (byte : ℕ) (h : IsLive s bytes) → s.records ≡ 0 → is_separator byte ≡ false → IsSettled s.limits (bytes ++ byte ∷ []) 0 (SeqVerdict.Record s.records (not_json 0 Syntax))
+pub stray_run : (s : Sequence) (bytes : List ℕ) (byte : ℕ) (h : IsLive s bytes) → s.records ≡ 0 → is_separator byte ≡ false
+    → IsSettled s.limits (bytes ++ byte ∷ []) 0 (SeqVerdict.Record s.records (not_json 0 Syntax))
 stray_run s bytes byte h none e =
     let b = before_of s bytes none h in
     let P : List ℕ → Type 0 = λ bs. IsSettled s.limits (bs ++ byte ∷ []) 0 (SeqVerdict.Record s.records (not_json 0 Syntax)) in
@@ -220,35 +235,43 @@ no_given (byte ∷ given) start end e f = absurd (omega (arith, e, f))
 -- a valid record more
 module _ (none_first : (a : Warnings) → joined no_warnings a ≡ a) (none_last : (a : Warnings) → joined a no_warnings ≡ a)
     (grouping : (a b c : Warnings) → joined (joined a b) c ≡ joined a (joined b c)) where
-  pub more_valid : (s : Sequence) (bytes : List ℕ) (h : IsLive s bytes) (k : IsIn s bytes) (verdict : Verdict) (x w : Warnings) → 0 < length k.given → verdict ≡ Valid x → w ≡ joined s.warnings x
+  pub more_valid : (s : Sequence) (bytes : List ℕ) (h : IsLive s bytes) (k : IsIn s bytes) (verdict : Verdict) (x w : Warnings) → 0 < length k.given
+      → verdict ≡ Valid x → w ≡ joined s.warnings x
       → IsRecordVerdict s.record.limits.depth (record_at s.record.start k.given false) verdict → AllValid s.limits.depth (closed 0 bytes) w
   more_valid s bytes h k verdict x w some is e v =
       let P : List SequenceRecord → Type 0 = λ rs. AllValid s.limits.depth rs w in
       let Q : Warnings → Type 0 = λ y. AllValid s.limits.depth (closed 0 k.done ++ record_at (length k.done + 1) k.given false ∷ []) y in
       subst P (sym (ap (closed 0) k.split ∙ closed_more k.done k.given some k.plain))
-      (subst Q (sym e) (one_more none_first none_last grouping s.limits.depth (closed 0 k.done) (record_at (length k.done + 1) k.given false) s.warnings x k.valid (placed 0 s bytes h k verdict (Valid x) is v)))
+      (subst Q (sym e) (one_more none_first none_last grouping s.limits.depth (closed 0 k.done)
+      (record_at (length k.done + 1) k.given false) s.warnings x k.valid (placed 0 s bytes h k verdict (Valid x) is v)))
 
   -- the end of the input
-  pub ends_valid : (s : Sequence) (bytes : List ℕ) (h : IsLive s bytes) (k : IsIn s bytes) (verdict : Verdict) (x w : Warnings) → verdict ≡ Valid x → w ≡ joined s.warnings x
+  pub ends_valid : (s : Sequence) (bytes : List ℕ) (h : IsLive s bytes) (k : IsIn s bytes) (verdict : Verdict) (x w : Warnings) → verdict ≡ Valid x
+      → w ≡ joined s.warnings x
       → IsRecordVerdict s.record.limits.depth (record_at s.record.start k.given false) verdict → IsSequenceVerdict s.limits bytes (SeqVerdict.Valid s.records w)
   ends_valid s bytes h k verdict x w is e v =
       let r = record_at (length k.done + 1) k.given false in
-      let all : records_of s.limits bytes ≡ closed 0 k.done ++ r ∷ [] = fitting s.limits bytes h.fits ∙ (ap (records_from false 0) k.split ∙ cut_open false k.done k.given k.plain) in
+      let all : records_of s.limits bytes ≡ closed 0 k.done ++ r ∷ [] =
+      fitting s.limits bytes h.fits ∙ (ap (records_from false 0) k.split ∙ cut_open false k.done k.given k.plain) in
       let P : List SequenceRecord → Type 0 = λ rs. AllValid s.limits.depth rs w in
       let Q : Warnings → Type 0 = λ y. AllValid s.limits.depth (closed 0 k.done ++ r ∷ []) y in
       let B : Bool → Type 0 = λ b. IsJudgedBy b s.limits.depth (records_of s.limits bytes) (SeqVerdict.Valid s.records w) in
-      let a = subst P (sym all) (subst Q (sym e) (one_more none_first none_last grouping s.limits.depth (closed 0 k.done) r s.warnings x k.valid (placed 0 s bytes h k verdict (Valid x) is v))) in
+      let a = subst P (sym all)
+      (subst Q (sym e) (one_more none_first none_last grouping s.limits.depth (closed 0 k.done) r s.warnings x k.valid
+      (placed 0 s bytes h k verdict (Valid x) is v))) in
       let n : s.records ≡ length (records_of s.limits bytes) = k.counted ∙ sym (ap length all ∙ length-append (closed 0 k.done) (r ∷ [])) in
       subst B (sym k.begun) (a, n)
 
 pub more_counted : (s : Sequence) (bytes : List ℕ) (k : IsIn s bytes) → 0 < length k.given → s.records + 1 ≡ length (closed 0 bytes) + 1
 more_counted s bytes k some =
     let r = record_at (length k.done + 1) k.given false in
-    let n : length (closed 0 bytes) ≡ length (closed 0 k.done) + 1 = ap (λ bs. length (closed 0 bs)) k.split ∙ (ap length (closed_more k.done k.given some k.plain) ∙ length-append (closed 0 k.done) (r ∷ [])) in
+    let n : length (closed 0 bytes) ≡ length (closed 0 k.done) + 1 =
+    ap (λ bs. length (closed 0 bs)) k.split ∙ (ap length (closed_more k.done k.given some k.plain) ∙ length-append (closed 0 k.done) (r ∷ [])) in
     omega (arith, k.counted, n)
 
 pub ends_failing : (s : Sequence) (bytes : List ℕ) (h : IsLive s bytes) (k : IsIn s bytes) (verdict : Verdict) → is_valid verdict ≡ false
-    → IsRecordVerdict s.record.limits.depth (record_at s.record.start k.given false) verdict → IsSequenceVerdict s.limits bytes (SeqVerdict.Record s.records verdict)
+    → IsRecordVerdict s.record.limits.depth (record_at s.record.start k.given false) verdict
+    → IsSequenceVerdict s.limits bytes (SeqVerdict.Record s.records verdict)
 ends_failing s bytes h k verdict fails v =
     first_failing s.limits bytes k.done s.warnings s.records (record_at (length k.done + 1) k.given false) [] verdict k.begun k.valid k.counted
     (fitting s.limits bytes h.fits ∙ (ap (records_from false 0) k.split ∙ cut_open false k.done k.given k.plain))
@@ -268,7 +291,8 @@ ends_settled s bytes d e h =
 
 -- ---- the open record
 
-pub last_record : (s : Sequence) (bytes : List ℕ) (before : List SequenceRecord) (last : SequenceRecord) (h : IsLive s bytes) (k : IsIn s bytes) → records_of s.limits bytes ≡ before ++ last ∷ [] → k.given ≡ last.bytes
+pub last_record : (s : Sequence) (bytes : List ℕ) (before : List SequenceRecord) (last : SequenceRecord) (h : IsLive s bytes) (k : IsIn s bytes)
+    → records_of s.limits bytes ≡ before ++ last ∷ [] → k.given ≡ last.bytes
 last_record s bytes before last h k e =
     let all = fitting s.limits bytes h.fits ∙ (ap (records_from false 0) k.split ∙ cut_open false k.done k.given k.plain) in
     ap (λ r. r.bytes) (snoc_last (closed 0 k.done) before (record_at (length k.done + 1) k.given false) last (sym all ∙ e)).0
@@ -282,7 +306,8 @@ some_record s bytes h k e =
     not_none [] r f = cc
     not_none (x ∷ xs) r f = cc
 
-pub no_record : (s : Sequence) (bytes : List ℕ) (before : List SequenceRecord) (last : SequenceRecord) → IsLive s bytes → s.records ≡ 0 → records_of s.limits bytes ≡ before ++ last ∷ [] → ⊥
+pub no_record : (s : Sequence) (bytes : List ℕ) (before : List SequenceRecord) (last : SequenceRecord) → IsLive s bytes → s.records ≡ 0
+    → records_of s.limits bytes ≡ before ++ last ∷ [] → ⊥
 no_record s bytes before last h none e =
     let b = before_of s bytes none h in
     let all : records_of s.limits bytes ≡ [] = ap (records_of s.limits) b.none ∙ fitting s.limits [] (omega arith) in
@@ -294,7 +319,8 @@ no_record s bytes before last h none e =
 
 -- ---- what a step leaves
 
-pub settled_stands : (new : Sequence) (limits : Allowed) (bytes : List ℕ) (place : ℕ) (verdict : SeqVerdict) → new.decided ≡ Some (record { place = place; verdict = verdict }) → new.limits ≡ limits → IsSettled limits bytes place verdict → StandsFor new bytes
+pub settled_stands : (new : Sequence) (limits : Allowed) (bytes : List ℕ) (place : ℕ) (verdict : SeqVerdict)
+    → new.decided ≡ Some (record { place = place; verdict = verdict }) → new.limits ≡ limits → IsSettled limits bytes place verdict → StandsFor new bytes
 settled_stands new limits bytes place verdict e f h =
     let P : Option Decision → Type 0 = λ o. StandsBy o new bytes in
     let L : Allowed → Type 0 = λ l. IsSettled l bytes place verdict in
@@ -315,14 +341,16 @@ some_given s bytes k differ = by_given k.given k.stands.counted
 pub fed_undecided : (s : Sequence) (limits : Allowed) (bytes : List ℕ) → s.limits ≡ limits → is_decided s ≡ false → StandsFor s bytes → IsUndecided limits bytes
 fed_undecided s limits bytes e live h = let P : Allowed → Type 0 = λ l. IsUndecided l bytes in subst P e (live_undecided s bytes (live_of s bytes live h))
 
-pub fed_decided : (s : Sequence) (limits : Allowed) (bytes : List ℕ) → s.limits ≡ limits → is_decided s ≡ true → StandsFor s bytes → (place : ℕ) × (verdict : SeqVerdict) × IsSettled limits bytes place verdict
+pub fed_decided : (s : Sequence) (limits : Allowed) (bytes : List ℕ) → s.limits ≡ limits → is_decided s ≡ true → StandsFor s bytes → (place : ℕ)
+    × (verdict : SeqVerdict) × IsSettled limits bytes place verdict
 fed_decided s limits bytes e settled h = by_option s.decided settled h
   where
     by_option : (o : Option Decision) → has_decided o ≡ true → StandsBy o s bytes → (place : ℕ) × (verdict : SeqVerdict) × IsSettled limits bytes place verdict
     by_option None f k = cc
     by_option (Some d) f k = let P : Allowed → Type 0 = λ l. IsSettled l bytes d.place d.verdict in (d.place, d.verdict, subst P e k)
 
-pub fed_answers : (s : Sequence) (limits : Allowed) (bytes : List ℕ) (progress : SeqProgress) → s.limits ≡ limits → says_decided progress ≡ is_decided s → StandsFor s bytes → Answers limits bytes progress
+pub fed_answers : (s : Sequence) (limits : Allowed) (bytes : List ℕ) (progress : SeqProgress) → s.limits ≡ limits → says_decided progress ≡ is_decided s
+    → StandsFor s bytes → Answers limits bytes progress
 fed_answers s limits bytes Progress.Open e f h = fed_undecided s limits bytes e (sym f) h
 fed_answers s limits bytes Progress.Decided e f h = fed_decided s limits bytes e (sym f) h
 
@@ -346,7 +374,8 @@ take_further (x ∷ xs) (suc n) m = ap (λ k. take k (x ∷ xs)) (one_on n m) �
 pub rest_fed : (s : Sequence) (bytes piece : List ℕ) (n : ℕ) → is_decided s ≡ true → StandsFor s (bytes ++ take n piece) → StandsFor s (bytes ++ piece)
 rest_fed s bytes piece n settled h =
     let P : List ℕ → Type 0 = λ bs. StandsFor s bs in
-    subst P (append_assoc bytes (take n piece) (drop n piece) ∙ ap (λ xs. bytes ++ xs) (both piece n)) (stands_on s (bytes ++ take n piece) (drop n piece) settled h)
+    subst P (append_assoc bytes (take n piece) (drop n piece) ∙ ap (λ xs. bytes ++ xs) (both piece n))
+    (stands_on s (bytes ++ take n piece) (drop n piece) settled h)
   where
     both : (xs : List ℕ) (k : ℕ) → take k xs ++ drop k xs ≡ xs
     both xs zero = refl
@@ -354,7 +383,8 @@ rest_fed s bytes piece n settled h =
     both (x ∷ xs) (suc k) = ap (λ ys. x ∷ ys) (both xs k)
 
 -- what a step took of the rest of a piece, behind what was taken before
-pub taken_further : (s : Sequence) (bytes piece : List ℕ) (n m : ℕ) → n ≤ length piece → StandsFor s ((bytes ++ take n piece) ++ take m (take (length piece - n) (drop n piece))) → StandsFor s (bytes ++ take (n + m) piece)
+pub taken_further : (s : Sequence) (bytes piece : List ℕ) (n m : ℕ) → n ≤ length piece
+    → StandsFor s ((bytes ++ take n piece) ++ take m (take (length piece - n) (drop n piece))) → StandsFor s (bytes ++ take (n + m) piece)
 taken_further s bytes piece n m l h =
     let P : List ℕ → Type 0 = λ bs. StandsFor s bs in
     let rest : take (length piece - n) (drop n piece) ≡ drop n piece = take_all (length piece - n) (drop n piece) (omega (arith, length-drop n piece)) in

@@ -100,7 +100,8 @@ pub closed_at : {close start b : ℕ} {bytes : List ℕ} → (bytes ≡ b ∷ []
 closed_at {bytes = bytes} h = let l : length bytes ≡ 1 = ap length h.0 in omega (arith, h.1, l)
 
 mutual
-  chain_value : (v : Tree) (n : ℕ) (bytes : List ℕ) → Spells v n bytes → (m : ℕ) (rest : List Told) → m ≤ n + 1 → Chain (n + length bytes + 1) rest → Chain m (told v ++ rest)
+  chain_value : (v : Tree) (n : ℕ) (bytes : List ℕ) → Spells v n bytes → (m : ℕ) (rest : List Told) → m ≤ n + 1 → Chain (n + length bytes + 1) rest
+      → Chain m (told v ++ rest)
   chain_value (constant which place) n bytes h m rest l r =
       let e : length bytes ≡ length (letters_of which) = ap length h.1 in
       (omega (arith, h.0, constant_long which), chain_from (place + length (letters_of which)) (n + length bytes + 1) rest (omega (arith, h.0, e)) r)
@@ -125,7 +126,8 @@ mutual
             (chain_from _ (n + length bytes + 1) rest (omega (arith, then_length h.1, then_length h.1.after)) r)),
       )
 
-  chain_elements : (es : Tree.Elements) (close n : ℕ) (bytes : List ℕ) → SpellsElements es close n bytes → (m : ℕ) (rest : List Told) → m ≤ n + 1 → Chain (n + length bytes) rest
+  chain_elements : (es : Tree.Elements) (close n : ℕ) (bytes : List ℕ) → SpellsElements es close n bytes → (m : ℕ) (rest : List Told) → m ≤ n + 1
+      → Chain (n + length bytes) rest
       → Chain m (elements_told es ++ plain (close + 1) close What.CloseArray ∷ rest)
   chain_elements end_of_array close n bytes h m rest l r = (omega (arith, h.1), chain_from (close + 1) (n + length bytes) rest (omega (arith, closed_at h)) r)
   chain_elements (element v more) close n bytes h m rest l r =
@@ -134,9 +136,11 @@ mutual
       (chain_more_elements more close _ _ h.after.after (n + length h.first + 1) rest (omega arith)
       (chain_from _ (n + length bytes) rest (omega (arith, then_length h, then_length h.after)) r)))
 
-  chain_more_elements : (es : Tree.Elements) (close n : ℕ) (bytes : List ℕ) → SpellsMoreElements es close n bytes → (m : ℕ) (rest : List Told) → m ≤ n + 1 → Chain (n + length bytes) rest
+  chain_more_elements : (es : Tree.Elements) (close n : ℕ) (bytes : List ℕ) → SpellsMoreElements es close n bytes → (m : ℕ) (rest : List Told) → m ≤ n + 1
+      → Chain (n + length bytes) rest
       → Chain m (elements_told es ++ plain (close + 1) close What.CloseArray ∷ rest)
-  chain_more_elements end_of_array close n bytes h m rest l r = (omega (arith, h.1), chain_from (close + 1) (n + length bytes) rest (omega (arith, closed_at h)) r)
+  chain_more_elements end_of_array close n bytes h m rest l r =
+      (omega (arith, h.1), chain_from (close + 1) (n + length bytes) rest (omega (arith, closed_at h)) r)
   chain_more_elements (element v more) close n bytes h m rest l r =
       let k = h.after.after in
       rw (append_assoc (told v) (elements_told more) (plain (close + 1) close What.CloseArray ∷ rest))
@@ -144,7 +148,8 @@ mutual
       (chain_more_elements more close _ _ k.after.after (n + length h.first + length h.after.first + length k.first + 1) rest (omega arith)
       (chain_from _ (n + length bytes) rest (omega (arith, then_length h, then_length h.after, then_length k, then_length k.after)) r)))
 
-  chain_members : (ms : Members) (close n : ℕ) (bytes : List ℕ) → SpellsMembers ms close n bytes → (m : ℕ) (rest : List Told) → m ≤ n + 1 → Chain (n + length bytes) rest
+  chain_members : (ms : Members) (close n : ℕ) (bytes : List ℕ) → SpellsMembers ms close n bytes → (m : ℕ) (rest : List Told) → m ≤ n + 1
+      → Chain (n + length bytes) rest
       → Chain m (members_told ms ++ plain (close + 1) close What.CloseObject ∷ rest)
   chain_members end_of_object close n bytes h m rest l r = (omega (arith, h.1), chain_from (close + 1) (n + length bytes) rest (omega (arith, closed_at h)) r)
   chain_members (member place name end v more) close n bytes h m rest l r =
@@ -155,12 +160,15 @@ mutual
         rw (append_assoc (told v) (members_told more) (plain (close + 1) close What.CloseObject ∷ rest))
             (chain_value v _ i.first i.before end _ (omega (arith, q.0))
             (chain_more_members more close _ _ i.after.after _ rest (omega arith)
-            (chain_from _ (n + length bytes) rest (omega (arith, then_length h, then_length h.after, then_length k, then_length k.after, then_length i, then_length i.after)) r))),
+            (chain_from _ (n + length bytes) rest
+            (omega (arith, then_length h, then_length h.after, then_length k, then_length k.after, then_length i, then_length i.after)) r))),
       )
 
-  chain_more_members : (ms : Members) (close n : ℕ) (bytes : List ℕ) → SpellsMoreMembers ms close n bytes → (m : ℕ) (rest : List Told) → m ≤ n + 1 → Chain (n + length bytes) rest
+  chain_more_members : (ms : Members) (close n : ℕ) (bytes : List ℕ) → SpellsMoreMembers ms close n bytes → (m : ℕ) (rest : List Told) → m ≤ n + 1
+      → Chain (n + length bytes) rest
       → Chain m (members_told ms ++ plain (close + 1) close What.CloseObject ∷ rest)
-  chain_more_members end_of_object close n bytes h m rest l r = (omega (arith, h.1), chain_from (close + 1) (n + length bytes) rest (omega (arith, closed_at h)) r)
+  chain_more_members end_of_object close n bytes h m rest l r =
+      (omega (arith, h.1), chain_from (close + 1) (n + length bytes) rest (omega (arith, closed_at h)) r)
   chain_more_members (member place name end v more) close n bytes h m rest l r =
       let j = h.after.after in
       let q = quoted_ends place name end j.before in
@@ -170,13 +178,25 @@ mutual
         rw (append_assoc (told v) (members_told more) (plain (close + 1) close What.CloseObject ∷ rest))
             (chain_value v _ i.first i.before end _ (omega (arith, q.0))
             (chain_more_members more close _ _ i.after.after _ rest (omega arith)
-            (chain_from _ (n + length bytes) rest (omega (arith, then_length h, then_length h.after, then_length j, then_length j.after, then_length k, then_length k.after, then_length i, then_length i.after)) r))),
+            (chain_from _ (n + length bytes) rest
+            (omega (
+              arith,
+              then_length h,
+              then_length h.after,
+              then_length j,
+              then_length j.after,
+              then_length k,
+              then_length k.after,
+              then_length i,
+              then_length i.after,
+            )) r))),
       )
 
 chain_told : (v : Tree) (n : ℕ) (bytes : List ℕ) (m : ℕ) → Spells v n bytes → m ≤ n + 1 → Chain m (told v)
 chain_told v n bytes m h l = subst (λ (xs : List Told). Chain m xs) (append-nil (told v)) (chain_value v n bytes h m [] l tt)
 
-chain_marked : (marked : Bool) (v : Tree) (bytes : List ℕ) → Then (SpellsMark marked) (Then White (Then (Spells v) White)) 0 bytes → Chain 0 (mark_told marked ++ told v)
+chain_marked : (marked : Bool) (v : Tree) (bytes : List ℕ) → Then (SpellsMark marked) (Then White (Then (Spells v) White)) 0 bytes
+    → Chain 0 (mark_told marked ++ told v)
 chain_marked true v bytes h =
     let e : length h.first ≡ length mark_bytes = ap length h.before in
     (omega arith, chain_told v _ _ (length mark_bytes) h.after.after.before (omega (arith, e)))

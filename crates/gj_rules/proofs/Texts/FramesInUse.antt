@@ -1,5 +1,6 @@
 -- At each front of a text the frames in use are those of its open objects that have a role.
-use Rattle.std.proofs.Common.{◌≡◌, ℕ, suc, ◌+◌, ◌<◌, ◌≤◌, Bool, true, false, not, ◌&&◌, if◌then◌else◌, nat_le, nat_lt, List, [], ◌∷◌, ◌++◌, map, length, is_some, inl, inr, Option, Some, None, refl, sym, ap, subst, ◌∙◌, arith, append_assoc}
+use Rattle.std.proofs.Common.{◌≡◌, ℕ, suc, ◌+◌, ◌<◌, ◌≤◌, Bool, true, false, not, ◌&&◌, if◌then◌else◌, nat_le, nat_lt, List, [], ◌∷◌, ◌++◌, map, length}
+use Rattle.std.proofs.Common.{is_some, inl, inr, Option, Some, None, refl, sym, ap, subst, ◌∙◌, arith, append_assoc}
 use Rattle.std.proofs.lemmas.Bool.{cases_lt}
 use Rattle.std.proofs.lemmas.Bool.Decides.{nat_tests}
 use Rattle.gj_json.specs.declared.constant.Constant.TheVariants.{Null, True, False}
@@ -33,7 +34,8 @@ use Rattle.gj_rules.specs.Members.{is_known, mentions, same}
 use Rattle.gj_rules.specs.Internal.RulesState.{frames_by}
 use Rattle.gj_rules.specs.Internal.EventSteps.{State, step, run, start, member_of, mode_behind}
 use Rattle.gj_rules.specs.Internal.LabelledEvents.{Told, plain, event_of, at_of, told, elements_told, members_told, mark_told, text_told}
-use Rattle.gj_rules.proofs.Texts.ValuesByEvents.{st, feeding, due_st, behind, behind_idle, mode_listed, IsListed, IsFed, some_told, up, down, frame_role, had_found, due_root}
+use Rattle.gj_rules.proofs.Texts.ValuesByEvents.{st, feeding, due_st, behind, behind_idle, mode_listed, IsListed, IsFed, some_told, up, down, frame_role}
+use Rattle.gj_rules.proofs.Texts.ValuesByEvents.{had_found, due_root}
 use Rattle.gj_rules.proofs.Objects.AllMembers.{Mentions, mentions_step, member_object}
 use Rattle.gj_rules.proofs.Texts.EventOrder.{Late, After, InOrder, order_behind, late_after, late_behind, late_front, late_back, by_late, by_in_time, in_order}
 use Rattle.gj_rules.proofs.Objects.ClosedFrames.{all_closed}
@@ -101,7 +103,8 @@ mutual
       let l = late_front n (told v) (members_told more) h.1 in
       omega (
         arith,
-        late_counted (known_of name) (not (mentions before (known_of name)) && gives r (known_of name)) (judged_in n Role.Geometry v) (list_judged n Role.Part v) (list_judged n Role.Feature v)
+        late_counted (known_of name) (not (mentions before (known_of name)) && gives r (known_of name)) (judged_in n Role.Geometry v)
+            (list_judged n Role.Part v) (list_judged n Role.Feature v)
             (late_value v n Role.Geometry l) (late_list v n Role.Part l) (late_list v n Role.Feature l),
         late_members more n r (known_of name ∷ before) (late_back n (told v) (members_told more) h.1),
       )
@@ -140,26 +143,31 @@ mutual
         λ l. cut_behind n _ (members_told ms ++ last ∷ []) rest (st (suc k) m f o a) c i.0 h l,
       )
 
-  cut_skipped_elements : (es : Tree.Elements) (rest : List Told) (k : ℕ) (m : Mode) (f : Frame) (o : List Frame) (a : Findings) (n c : ℕ) → InOrder (elements_told es ++ rest)
+  cut_skipped_elements : (es : Tree.Elements) (rest : List Told) (k : ℕ) (m : Mode) (f : Frame) (o : List Frame) (a : Findings) (n c : ℕ)
+      → InOrder (elements_told es ++ rest)
       → Cut n rest (st (suc k) m f o a) c → Cut n (elements_told es ++ rest) (st (suc k) m f o a) c
   cut_skipped_elements end_of_array rest k m f o a n c i h = h
   cut_skipped_elements (element v more) rest k m f o a n c i h =
       let j = regroup (told v) (elements_told more) rest i in
       rw (append_assoc (told v) (elements_told more) rest)
-      (cut_skipped v (elements_told more ++ rest) k m f o a n c j (cut_skipped_elements more rest k m f o a n c (order_behind (told v) (elements_told more ++ rest) j) h))
+      (cut_skipped v (elements_told more ++ rest) k m f o a n c j
+      (cut_skipped_elements more rest k m f o a n c (order_behind (told v) (elements_told more ++ rest) j) h))
 
-  cut_skipped_members : (ms : Members) (rest : List Told) (k : ℕ) (m : Mode) (f : Frame) (o : List Frame) (a : Findings) (n c : ℕ) → InOrder (members_told ms ++ rest)
+  cut_skipped_members : (ms : Members) (rest : List Told) (k : ℕ) (m : Mode) (f : Frame) (o : List Frame) (a : Findings) (n c : ℕ)
+      → InOrder (members_told ms ++ rest)
       → Cut n rest (st (suc k) m f o a) c → Cut n (members_told ms ++ rest) (st (suc k) m f o a) c
   cut_skipped_members end_of_object rest k m f o a n c i h = h
   cut_skipped_members (member place name end v more) rest k m f o a n c i h =
       let j = regroup (told v) (members_told more) rest i.1 in (
         λ _. rw (append_assoc (told v) (members_told more) rest)
-            (cut_skipped v (members_told more ++ rest) k m f o a n c j (cut_skipped_members more rest k m f o a n c (order_behind (told v) (members_told more ++ rest) j) h)),
+            (cut_skipped v (members_told more ++ rest) k m f o a n c j
+            (cut_skipped_members more rest k m f o a n c (order_behind (told v) (members_told more ++ rest) j) h)),
         λ l. cut_behind n end (told v ++ members_told more) rest (st (suc k) m f o a) c i.0 h l,
       )
 
 -- the rest of an array or an object that is not looked into
-array_cut : (es : Tree.Elements) (close : ℕ) (rest : List Told) (m : Mode) (f : Frame) (o : List Frame) (a : Findings) (n c : ℕ) → InOrder ((elements_told es ++ plain (close + 1) close What.CloseArray ∷ []) ++ rest)
+array_cut : (es : Tree.Elements) (close : ℕ) (rest : List Told) (m : Mode) (f : Frame) (o : List Frame) (a : Findings) (n c : ℕ)
+    → InOrder ((elements_told es ++ plain (close + 1) close What.CloseArray ∷ []) ++ rest)
     → Cut n rest (st 0 m f o a) c → Cut n ((elements_told es ++ plain (close + 1) close What.CloseArray ∷ []) ++ rest) (st 1 m f o a) c
 array_cut es close rest m f o a n c i h =
     let last : Told = plain (close + 1) close What.CloseArray in
@@ -168,7 +176,8 @@ array_cut es close rest m f o a n c i h =
     rw (append_assoc (elements_told es) (last ∷ []) rest)
     (cut_skipped_elements es (last ∷ rest) 0 m f o a n c j (λ _. h, λ l. cut_behind n _ [] rest (st 0 m f o a) c b.0 h l))
 
-object_cut : (ms : Members) (close : ℕ) (rest : List Told) (m : Mode) (f : Frame) (o : List Frame) (a : Findings) (n c : ℕ) → InOrder ((members_told ms ++ plain (close + 1) close What.CloseObject ∷ []) ++ rest)
+object_cut : (ms : Members) (close : ℕ) (rest : List Told) (m : Mode) (f : Frame) (o : List Frame) (a : Findings) (n c : ℕ)
+    → InOrder ((members_told ms ++ plain (close + 1) close What.CloseObject ∷ []) ++ rest)
     → Cut n rest (st 0 m f o a) c → Cut n ((members_told ms ++ plain (close + 1) close What.CloseObject ∷ []) ++ rest) (st 1 m f o a) c
 object_cut ms close rest m f o a n c i h =
     let last : Told = plain (close + 1) close What.CloseObject in
@@ -179,17 +188,25 @@ object_cut ms close rest m f o a n c i h =
 
 -- ---- what a summary takes
 
-cut_feed : (name : Known) → IsFed name → (v : Tree) (taken : List Event) (x : Told) (xs rest : List Told) (f : Frame) (o : List Frame) (a : Findings) (n c : ℕ) → InOrder ((x ∷ xs) ++ rest)
+cut_feed : (name : Known) → IsFed name → (v : Tree) (taken : List Event) (x : Told) (xs rest : List Told) (f : Frame) (o : List Frame) (a : Findings) (n c : ℕ)
+    → InOrder ((x ∷ xs) ++ rest)
     → Cut n rest (st 0 Names (filled name v f) o a) c → Cut n ((x ∷ xs) ++ rest) (feeding name v taken (map event_of (x ∷ xs)) f o a) c
 cut_feed Coordinates q v taken x [] rest f o a n c i h = (λ _. h, λ l. cut_behind n (at_of x) [] rest (st 0 Names (filled Coordinates v f) o a) c i.0 h l)
-cut_feed Coordinates q v taken x (y ∷ ys) rest f o a n c i h =
-    (λ _. cut_feed Coordinates q v (taken ++ event_of x ∷ []) y ys rest f o a n c i.1 h, λ l. cut_behind n (at_of x) (y ∷ ys) rest (st 0 Names (filled Coordinates v f) o a) c i.0 h l)
+cut_feed Coordinates q v taken x (y ∷ ys) rest f o a n c i h = (
+  λ _. cut_feed Coordinates q v (taken ++ event_of x ∷ []) y ys rest f o a n c i.1 h,
+  λ l. cut_behind n (at_of x) (y ∷ ys) rest
+      (st 0 Names (filled Coordinates v f) o a) c i.0 h l,
+)
 cut_feed Bbox q v taken x [] rest f o a n c i h = (λ _. h, λ l. cut_behind n (at_of x) [] rest (st 0 Names (filled Bbox v f) o a) c i.0 h l)
-cut_feed Bbox q v taken x (y ∷ ys) rest f o a n c i h =
-    (λ _. cut_feed Bbox q v (taken ++ event_of x ∷ []) y ys rest f o a n c i.1 h, λ l. cut_behind n (at_of x) (y ∷ ys) rest (st 0 Names (filled Bbox v f) o a) c i.0 h l)
+cut_feed Bbox q v taken x (y ∷ ys) rest f o a n c i h = (
+  λ _. cut_feed Bbox q v (taken ++ event_of x ∷ []) y ys rest f o a n c i.1 h,
+  λ l. cut_behind n (at_of x) (y ∷ ys) rest
+      (st 0 Names (filled Bbox v f) o a) c i.0 h l,
+)
 cut_feed _ q v taken x xs rest f o a n c i h = absurd q
 
-cut_fed : (name : Known) → IsFed name → (v : Tree) (x : Told) (xs rest : List Told) (f : Frame) (o : List Frame) (a : Findings) (n c : ℕ) → told v ≡ x ∷ xs → InOrder (told v ++ rest)
+cut_fed : (name : Known) → IsFed name → (v : Tree) (x : Told) (xs rest : List Told) (f : Frame) (o : List Frame) (a : Findings) (n c : ℕ) → told v ≡ x ∷ xs
+    → InOrder (told v ++ rest)
     → Cut n rest (st 0 Names (filled name v f) o a) c → Cut n (told v ++ rest) (feeding name v [] (value_events v) f o a) c
 cut_fed name q v x xs rest f o a n c e i h =
     subst (λ (es : List Event). Cut n (told v ++ rest) (feeding name v [] es f o a) c) (told-events v)
@@ -265,7 +282,8 @@ listed_inner Role.Feature q = tt
 listed_inner _ q = absurd q
 
 -- the end of an object that has a role, below another
-cut_close : (r : Role) → IsInner r → (place close : ℕ) (ms : Members) (rest : List Told) (f : Frame) (o : List Frame) (a : Findings) (n c : ℕ) → place + 1 ≤ n → InOrder (plain (close + 1) close What.CloseObject ∷ rest)
+cut_close : (r : Role) → IsInner r → (place close : ℕ) (ms : Members) (rest : List Told) (f : Frame) (o : List Frame) (a : Findings) (n c : ℕ) → place + 1 ≤ n
+    → InOrder (plain (close + 1) close What.CloseObject ∷ rest)
     → Cut n rest (st 0 (mode_behind r) (taken_any (member_of r) (least (faults r (object place ms close))) (kept r (object place ms close)) f) o a) c
     → Cut n (plain (close + 1) close What.CloseObject ∷ rest) (st 0 Names (members_taken ms (blank r place)) (f ∷ o) a) (is_open n place close + c)
 cut_close r q place close ms rest f o a n c p i h =
@@ -276,7 +294,8 @@ cut_close r q place close ms rest f o a n c p i h =
           (subst (λ (x : Role). Cut n rest (behind close x (settled inner) f o a) c) (sym e)
           (subst (λ (s : State). Cut n rest s c) (sym (behind_idle close r (settled inner) f o a))
           (subst (λ (x : Findings). Cut n rest (st 0 (mode_behind r) (taken_in (member_of r) x f) o a) c) (sym (all_closed r place close ms)) h))),
-      λ l. let k = cut_behind n _ [] rest (st 0 (mode_behind r) (taken_any (member_of r) (least (faults r (object place ms close))) (kept r (object place ms close)) f) o a) c i.0 h l in
+      λ l. let k = cut_behind n _ [] rest
+          (st 0 (mode_behind r) (taken_any (member_of r) (least (faults r (object place ms close))) (kept r (object place ms close)) f) o a) c i.0 h l in
           omega (arith, opened n place close p l, k, inner_frames r q o),
     )
 
@@ -298,7 +317,8 @@ cut_list : (es : Tree.Elements) (place close : ℕ) (r : Role) (rest : List Told
     → (InOrder (elements_told es ++ plain (close + 1) close What.CloseArray ∷ rest)
     → Cut n (plain (close + 1) close What.CloseArray ∷ rest) (st 0 (Elements r) (taken_any (member_of r) (least (all_faults r es)) (all_kept r es) f) o a) c
     → Cut n (elements_told es ++ plain (close + 1) close What.CloseArray ∷ rest) (st 0 (Elements r) f o a) (elements_judged n r es + c))
-    → (place + 1 ≤ n → Cut n ((elements_told es ++ plain (close + 1) close What.CloseArray ∷ []) ++ rest) (st 0 (Elements r) f o a) (elements_judged n r es + c))
+    → (place + 1 ≤ n → Cut n ((elements_told es ++ plain (close + 1) close What.CloseArray ∷ []) ++ rest) (st 0 (Elements r) f o a)
+    (elements_judged n r es + c))
     × (n < place + 1 → length o + 1 ≡ elements_judged n r es + c)
 cut_list es place close r rest f o a n c i h g =
     let last : Told = plain (close + 1) close What.CloseArray in
@@ -308,81 +328,123 @@ cut_list es place close r rest f o a n c i h g =
           (g j (λ _. h, λ l. cut_behind n _ [] rest (st 0 Names (taken_any (member_of r) (least (all_faults r es)) (all_kept r es) f) o a) c b.0 h l)),
       λ l. none_before (elements_judged n r es) c (length o + 1)
           (late_elements es n r (late_list_of n (place + 1) (elements_told es) (last ∷ []) rest l i.0))
-          (cut_behind n _ (elements_told es ++ last ∷ []) rest (st 0 Names (taken_any (member_of r) (least (all_faults r es)) (all_kept r es) f) o a) c i.0 h l),
+          (cut_behind n _ (elements_told es ++ last ∷ []) rest
+          (st 0 Names (taken_any (member_of r) (least (all_faults r es)) (all_kept r es) f) o a) c i.0 h l),
     )
 
 mutual
   -- the value of a first member
-  cut_due : (v : Tree) (name : Known) (rest : List Told) (f : Frame) (o : List Frame) (a : Findings) (n c : ℕ) → InOrder (told v ++ rest) → Cut n rest (st 0 Names (filled name v f) o a) c
-      → Cut n (told v ++ rest) (due_st name v f o a) (due_judged name (judged_in n Role.Geometry v) (list_judged n Role.Part v) (list_judged n Role.Feature v) + c)
+  cut_due : (v : Tree) (name : Known) (rest : List Told) (f : Frame) (o : List Frame) (a : Findings) (n c : ℕ) → InOrder (told v ++ rest)
+      → Cut n rest (st 0 Names (filled name v f) o a) c
+      → Cut n (told v ++ rest) (due_st name v f o a)
+      (due_judged name (judged_in n Role.Geometry v) (list_judged n Role.Part v) (list_judged n Role.Feature v) + c)
   cut_due v Coordinates rest f o a n c i h = cut_zero n (told v ++ rest) (due_st Coordinates v f o a) c (cut_value Coordinates tt v rest f o a n c i h)
   cut_due v Bbox rest f o a n c i h = cut_zero n (told v ++ rest) (due_st Bbox v f o a) c (cut_value Bbox tt v rest f o a n c i h)
-  cut_due (constant Null place) name rest f o a n c i h = cut_zero n (told (constant Null place) ++ rest) (due_st name (constant Null place) f o a) c (λ _. h, λ l. cut_behind n _ [] rest (st 0 Names (filled name (constant Null place) f) o a) c i.0 h l)
-  cut_due (constant True place) name rest f o a n c i h = cut_zero n (told (constant True place) ++ rest) (due_st name (constant True place) f o a) c (λ _. h, λ l. cut_behind n _ [] rest (st 0 Names (filled name (constant True place) f) o a) c i.0 h l)
-  cut_due (constant False place) name rest f o a n c i h = cut_zero n (told (constant False place) ++ rest) (due_st name (constant False place) f o a) c (λ _. h, λ l. cut_behind n _ [] rest (st 0 Names (filled name (constant False place) f) o a) c i.0 h l)
-  cut_due (number place literal end) name rest f o a n c i h = cut_zero n (told (number place literal end) ++ rest) (due_st name (number place literal end) f o a) c (λ _. h, λ l. cut_behind n _ [] rest (st 0 Names (filled name (number place literal end) f) o a) c i.0 h l)
-  cut_due (string place content end) name rest f o a n c i h = cut_zero n (told (string place content end) ++ rest) (due_st name (string place content end) f o a) c (λ _. h, λ l. cut_behind n _ [] rest (st 0 Names (filled name (string place content end) f) o a) c i.0 h l)
+  cut_due (constant Null place) name rest f o a n c i h =
+      cut_zero n (told (constant Null place) ++ rest) (due_st name (constant Null place) f o a) c
+      (λ _. h, λ l. cut_behind n _ [] rest (st 0 Names (filled name (constant Null place) f) o a) c i.0 h l)
+  cut_due (constant True place) name rest f o a n c i h =
+      cut_zero n (told (constant True place) ++ rest) (due_st name (constant True place) f o a) c
+      (λ _. h, λ l. cut_behind n _ [] rest (st 0 Names (filled name (constant True place) f) o a) c i.0 h l)
+  cut_due (constant False place) name rest f o a n c i h =
+      cut_zero n (told (constant False place) ++ rest) (due_st name (constant False place) f o a) c
+      (λ _. h, λ l. cut_behind n _ [] rest (st 0 Names (filled name (constant False place) f) o a) c i.0 h l)
+  cut_due (number place literal end) name rest f o a n c i h =
+      cut_zero n (told (number place literal end) ++ rest) (due_st name (number place literal end) f o a) c
+      (λ _. h, λ l. cut_behind n _ [] rest (st 0 Names (filled name (number place literal end) f) o a) c i.0 h l)
+  cut_due (string place content end) name rest f o a n c i h =
+      cut_zero n (told (string place content end) ++ rest) (due_st name (string place content end) f o a) c
+      (λ _. h, λ l. cut_behind n _ [] rest (st 0 Names (filled name (string place content end) f) o a) c i.0 h l)
   cut_due (array place es close) Geometries rest f o a n c i h =
       cut_list es place close Role.Part rest f o a n c i h (λ j k. cut_elements es Role.Part tt (plain (close + 1) close What.CloseArray ∷ rest) f o a n c j k)
   cut_due (array place es close) Features rest f o a n c i h =
-      cut_list es place close Role.Feature rest f o a n c i h (λ j k. cut_elements es Role.Feature tt (plain (close + 1) close What.CloseArray ∷ rest) f o a n c j k)
+      cut_list es place close Role.Feature rest f o a n c i h
+      (λ j k. cut_elements es Role.Feature tt (plain (close + 1) close What.CloseArray ∷ rest) f o a n c j k)
   cut_due (array place es close) name rest f o a n c i h =
       cut_zero n (told (array place es close) ++ rest) (due_st name (array place es close) f o a) c (
         λ _. array_cut es close rest Names (filled name (array place es close) f) o a n c i.1 h,
-        λ l. cut_behind n _ (elements_told es ++ plain (close + 1) close What.CloseArray ∷ []) rest (st 0 Names (filled name (array place es close) f) o a) c i.0 h l,
+        λ l. cut_behind n _ (elements_told es ++ plain (close + 1) close What.CloseArray ∷ []) rest
+            (st 0 Names (filled name (array place es close) f) o a) c i.0 h l,
       )
   cut_due (object place ms close) Geometry rest f o a n c i h =
       let last : Told = plain (close + 1) close What.CloseObject in
       let j = regroup (members_told ms) (last ∷ []) rest i.1 in (
         λ l. rw (append_assoc (members_told ms) (last ∷ []) rest)
-            (subst (λ d. Cut n (members_told ms ++ last ∷ rest) (st 0 Names (blank Role.Geometry place) (f ∷ o) a) d) (before_rest (is_open n place close) (members_judged n Role.Geometry [] ms) c)
-            (cut_members ms (last ∷ rest) (blank Role.Geometry place) (f ∷ o) a n (is_open n place close + c) Role.Geometry [] (blank_mentions Role.Geometry place) refl j
+            (subst (λ d. Cut n (members_told ms ++ last ∷ rest) (st 0 Names (blank Role.Geometry place) (f ∷ o) a) d)
+            (before_rest (is_open n place close) (members_judged n Role.Geometry [] ms) c)
+            (cut_members ms (last ∷ rest) (blank Role.Geometry place) (f ∷ o) a n (is_open n place close + c) Role.Geometry []
+            (blank_mentions Role.Geometry place) refl j
             (cut_close Role.Geometry tt place close ms rest f o a n c l (order_behind (members_told ms) (last ∷ rest) j) h))),
         λ l. none_before (judged_in n Role.Geometry (object place ms close)) c (length o + 1)
-            (late_value (object place ms close) n Role.Geometry (late_front n (told (object place ms close)) rest (l, late_after n _ ((members_told ms ++ last ∷ []) ++ rest) l i.0)))
+            (late_value (object place ms close) n Role.Geometry
+            (late_front n (told (object place ms close)) rest (l, late_after n _ ((members_told ms ++ last ∷ []) ++ rest) l i.0)))
             (cut_behind n _ (members_told ms ++ last ∷ []) rest (st 0 Names (filled Geometry (object place ms close) f) o a) c i.0 h l),
       )
   cut_due (object place ms close) name rest f o a n c i h =
       cut_zero n (told (object place ms close) ++ rest) (due_st name (object place ms close) f o a) c (
         λ _. object_cut ms close rest Names (filled name (object place ms close) f) o a n c i.1 h,
-        λ l. cut_behind n _ (members_told ms ++ plain (close + 1) close What.CloseObject ∷ []) rest (st 0 Names (filled name (object place ms close) f) o a) c i.0 h l,
+        λ l. cut_behind n _ (members_told ms ++ plain (close + 1) close What.CloseObject ∷ []) rest
+            (st 0 Names (filled name (object place ms close) f) o a) c i.0 h l,
       )
 
   -- an element of an array of values with a role
   cut_element : (v : Tree) (r : Role) → IsListed r → (rest : List Told) (f : Frame) (o : List Frame) (a : Findings) (n c : ℕ) → InOrder (told v ++ rest)
-      → Cut n rest (st 0 (Elements r) (taken_any (member_of r) (least (faults r v)) (kept r v) f) o a) c → Cut n (told v ++ rest) (st 0 (Elements r) f o a) (judged_in n r v + c)
-  cut_element (constant Null place) Role.Part q rest f o a n c i h = cut_zero n (told (constant Null place) ++ rest) (st 0 (Elements Role.Part) f o a) c (λ _. h, λ l. cut_behind n _ [] rest (st 0 (Elements Role.Part) (joined (member_of Role.Part) (Some (fault_at place G1)) f) o a) c i.0 h l)
-  cut_element (constant Null place) Role.Feature q rest f o a n c i h = cut_zero n (told (constant Null place) ++ rest) (st 0 (Elements Role.Feature) f o a) c (λ _. h, λ l. cut_behind n _ [] rest (st 0 (Elements Role.Feature) (joined (member_of Role.Feature) (Some (fault_at place G1)) f) o a) c i.0 h l)
+      → Cut n rest (st 0 (Elements r) (taken_any (member_of r) (least (faults r v)) (kept r v) f) o a) c
+      → Cut n (told v ++ rest) (st 0 (Elements r) f o a) (judged_in n r v + c)
+  cut_element (constant Null place) Role.Part q rest f o a n c i h =
+      cut_zero n (told (constant Null place) ++ rest) (st 0 (Elements Role.Part) f o a) c
+      (λ _. h, λ l. cut_behind n _ [] rest (st 0 (Elements Role.Part) (joined (member_of Role.Part) (Some (fault_at place G1)) f) o a) c i.0 h l)
+  cut_element (constant Null place) Role.Feature q rest f o a n c i h =
+      cut_zero n (told (constant Null place) ++ rest) (st 0 (Elements Role.Feature) f o a) c
+      (λ _. h, λ l. cut_behind n _ [] rest (st 0 (Elements Role.Feature) (joined (member_of Role.Feature) (Some (fault_at place G1)) f) o a) c i.0 h l)
   cut_element (constant Null place) _ q rest f o a n c i h = absurd q
-  cut_element (constant True place) r q rest f o a n c i h = cut_zero n (told (constant True place) ++ rest) (st 0 (Elements r) f o a) c (λ _. h, λ l. cut_behind n _ [] rest (st 0 (Elements r) (joined (member_of r) (Some (fault_at place G1)) f) o a) c i.0 h l)
-  cut_element (constant False place) r q rest f o a n c i h = cut_zero n (told (constant False place) ++ rest) (st 0 (Elements r) f o a) c (λ _. h, λ l. cut_behind n _ [] rest (st 0 (Elements r) (joined (member_of r) (Some (fault_at place G1)) f) o a) c i.0 h l)
-  cut_element (number place literal end) r q rest f o a n c i h = cut_zero n (told (number place literal end) ++ rest) (st 0 (Elements r) f o a) c (λ _. h, λ l. cut_behind n _ [] rest (st 0 (Elements r) (joined (member_of r) (Some (fault_at place G1)) f) o a) c i.0 h l)
-  cut_element (string place content end) r q rest f o a n c i h = cut_zero n (told (string place content end) ++ rest) (st 0 (Elements r) f o a) c (λ _. h, λ l. cut_behind n _ [] rest (st 0 (Elements r) (joined (member_of r) (Some (fault_at place G1)) f) o a) c i.0 h l)
+  cut_element (constant True place) r q rest f o a n c i h =
+      cut_zero n (told (constant True place) ++ rest) (st 0 (Elements r) f o a) c
+      (λ _. h, λ l. cut_behind n _ [] rest (st 0 (Elements r) (joined (member_of r) (Some (fault_at place G1)) f) o a) c i.0 h l)
+  cut_element (constant False place) r q rest f o a n c i h =
+      cut_zero n (told (constant False place) ++ rest) (st 0 (Elements r) f o a) c
+      (λ _. h, λ l. cut_behind n _ [] rest (st 0 (Elements r) (joined (member_of r) (Some (fault_at place G1)) f) o a) c i.0 h l)
+  cut_element (number place literal end) r q rest f o a n c i h =
+      cut_zero n (told (number place literal end) ++ rest) (st 0 (Elements r) f o a) c
+      (λ _. h, λ l. cut_behind n _ [] rest (st 0 (Elements r) (joined (member_of r) (Some (fault_at place G1)) f) o a) c i.0 h l)
+  cut_element (string place content end) r q rest f o a n c i h =
+      cut_zero n (told (string place content end) ++ rest) (st 0 (Elements r) f o a) c
+      (λ _. h, λ l. cut_behind n _ [] rest (st 0 (Elements r) (joined (member_of r) (Some (fault_at place G1)) f) o a) c i.0 h l)
   cut_element (array place es close) r q rest f o a n c i h =
       cut_zero n (told (array place es close) ++ rest) (st 0 (Elements r) f o a) c (
         λ _. array_cut es close rest (Elements r) (joined (member_of r) (Some (fault_at place G1)) f) o a n c i.1 h,
-        λ l. cut_behind n _ (elements_told es ++ plain (close + 1) close What.CloseArray ∷ []) rest (st 0 (Elements r) (joined (member_of r) (Some (fault_at place G1)) f) o a) c i.0 h l,
+        λ l. cut_behind n _ (elements_told es ++ plain (close + 1) close What.CloseArray ∷ []) rest
+            (st 0 (Elements r) (joined (member_of r) (Some (fault_at place G1)) f) o a) c i.0 h l,
       )
   cut_element (object place ms close) r q rest f o a n c i h =
       let last : Told = plain (close + 1) close What.CloseObject in
       let j = regroup (members_told ms) (last ∷ []) rest i.1 in (
         λ l. rw (append_assoc (members_told ms) (last ∷ []) rest)
-            (subst (λ d. Cut n (members_told ms ++ last ∷ rest) (st 0 Names (blank r place) (f ∷ o) a) d) (before_rest (is_open n place close) (members_judged n r [] ms) c)
+            (subst (λ d. Cut n (members_told ms ++ last ∷ rest) (st 0 Names (blank r place) (f ∷ o) a) d)
+            (before_rest (is_open n place close) (members_judged n r [] ms) c)
             (cut_members ms (last ∷ rest) (blank r place) (f ∷ o) a n (is_open n place close + c) r [] (blank_mentions r place) refl j
             (cut_close r (listed_inner r q) place close ms rest f o a n c l (order_behind (members_told ms) (last ∷ rest) j)
-            (subst (λ (m : Mode). Cut n rest (st 0 m (taken_any (member_of r) (least (faults r (object place ms close))) (kept r (object place ms close)) f) o a) c) (sym (mode_listed r q)) h)))),
+            (subst (λ (m : Mode). Cut n rest
+            (st 0 m (taken_any (member_of r) (least (faults r (object place ms close))) (kept r (object place ms close)) f) o a) c)
+            (sym (mode_listed r q)) h)))),
         λ l. none_before (judged_in n r (object place ms close)) c (length o + 1)
-            (late_value (object place ms close) n r (late_front n (told (object place ms close)) rest (l, late_after n _ ((members_told ms ++ last ∷ []) ++ rest) l i.0)))
-            (cut_behind n _ (members_told ms ++ last ∷ []) rest (st 0 (Elements r) (taken_any (member_of r) (least (faults r (object place ms close))) (kept r (object place ms close)) f) o a) c i.0 h l),
+            (late_value (object place ms close) n r
+            (late_front n (told (object place ms close)) rest (l, late_after n _ ((members_told ms ++ last ∷ []) ++ rest) l i.0)))
+            (cut_behind n _ (members_told ms ++ last ∷ []) rest
+            (st 0 (Elements r) (taken_any (member_of r) (least (faults r (object place ms close))) (kept r (object place ms close)) f) o a) c i.0 h l),
       )
 
-  cut_elements : (es : Tree.Elements) (r : Role) → IsListed r → (rest : List Told) (f : Frame) (o : List Frame) (a : Findings) (n c : ℕ) → InOrder (elements_told es ++ rest)
-      → Cut n rest (st 0 (Elements r) (taken_any (member_of r) (least (all_faults r es)) (all_kept r es) f) o a) c → Cut n (elements_told es ++ rest) (st 0 (Elements r) f o a) (elements_judged n r es + c)
-  cut_elements end_of_array r q rest f o a n c i h = cut_zero n rest (st 0 (Elements r) f o a) c (subst (λ (g : Frame). Cut n rest (st 0 (Elements r) g o a) c) (taken_none (member_of r) f) h)
+  cut_elements : (es : Tree.Elements) (r : Role) → IsListed r → (rest : List Told) (f : Frame) (o : List Frame) (a : Findings) (n c : ℕ)
+      → InOrder (elements_told es ++ rest)
+      → Cut n rest (st 0 (Elements r) (taken_any (member_of r) (least (all_faults r es)) (all_kept r es) f) o a) c
+      → Cut n (elements_told es ++ rest) (st 0 (Elements r) f o a) (elements_judged n r es + c)
+  cut_elements end_of_array r q rest f o a n c i h =
+      cut_zero n rest (st 0 (Elements r) f o a) c (subst (λ (g : Frame). Cut n rest (st 0 (Elements r) g o a) c) (taken_none (member_of r) f) h)
   cut_elements (element v more) r q rest f o a n c i h =
       let j = regroup (told v) (elements_told more) rest i in
       rw (append_assoc (told v) (elements_told more) rest)
-      (subst (λ d. Cut n (told v ++ (elements_told more ++ rest)) (st 0 (Elements r) f o a) d) (both_before (judged_in n r v) (judged_in n r v) (elements_judged n r more) c refl)
+      (subst (λ d. Cut n (told v ++ (elements_told more ++ rest)) (st 0 (Elements r) f o a) d)
+      (both_before (judged_in n r v) (judged_in n r v) (elements_judged n r more) c refl)
       (cut_element v r q (elements_told more ++ rest) f o a n (elements_judged n r more + c) j
       (cut_elements more r q rest (taken_any (member_of r) (least (faults r v)) (kept r v) f) o a n c (order_behind (told v) (elements_told more ++ rest) j)
       (subst (λ (g : Frame). Cut n rest (st 0 (Elements r) g o a) c)
@@ -390,7 +452,8 @@ mutual
       ∙ sym (taken_twice (member_of r) f (least (faults r v)) (least (all_faults r more)) (kept r v) (all_kept r more) (known_list r q))) h))))
 
   -- the members behind those of the names `before`
-  cut_members : (ms : Members) (rest : List Told) (f : Frame) (o : List Frame) (a : Findings) (n c : ℕ) (r : Role) (before : List Known) → Mentions before f.slots → f.slots.role ≡ r → InOrder (members_told ms ++ rest)
+  cut_members : (ms : Members) (rest : List Told) (f : Frame) (o : List Frame) (a : Findings) (n c : ℕ) (r : Role) (before : List Known)
+      → Mentions before f.slots → f.slots.role ≡ r → InOrder (members_told ms ++ rest)
       → Cut n rest (st 0 Names (members_taken ms f) o a) c → Cut n (members_told ms ++ rest) (st 0 Names f o a) (members_judged n r before ms + c)
   cut_members end_of_object rest f o a n c r before m e i h = cut_zero n rest (st 0 Names f o a) c h
   cut_members (member place name end v more) rest f o a n c r before m e i h =
@@ -410,7 +473,8 @@ mutual
             ∙ due_counted known r (slot_of known f.slots) (mentions before known) g gs fs (m.each known)))
             (cut_due v (due_after known f) (members_told more ++ rest) (named known place f) o a n (more_count + c) j next)),
         λ l. none_before (members_judged n r before (member place name end v more)) c (length o + 1)
-            (late_members (member place name end v more) n r before (l, late_front n (told v ++ members_told more) rest (late_after n end ((told v ++ members_told more) ++ rest) l i.0)))
+            (late_members (member place name end v more) n r before
+            (l, late_front n (told v ++ members_told more) rest (late_after n end ((told v ++ members_told more) ++ rest) l i.0)))
             (cut_behind n end (told v ++ members_told more) rest (st 0 Names (members_taken (member place name end v more) f) o a) c i.0 h l),
       )
 
@@ -422,12 +486,17 @@ cut_root (constant True place) had n i = (λ _. refl, λ l. refl)
 cut_root (constant False place) had n i = (λ _. refl, λ l. refl)
 cut_root (number place literal end) had n i = (λ _. refl, λ l. refl)
 cut_root (string place content end) had n i = (λ _. refl, λ l. refl)
-cut_root (array place es close) had n i =
-    (λ _. cut_skipped_elements es (plain (close + 1) close What.CloseArray ∷ []) 0 Done (blank Role.Root 0) [] (record { fault = Some (fault_at place G1); warned = had }) n 0 i.1 (λ _. refl, λ l. refl), λ l. refl)
+cut_root (array place es close) had n i = (
+  λ _. cut_skipped_elements es (plain (close + 1) close What.CloseArray ∷ []) 0 Done (blank Role.Root 0) []
+      (record { fault = Some (fault_at place G1); warned = had }) n 0 i.1 (λ _. refl, λ l. refl),
+  λ l. refl,
+)
 cut_root (object place ms close) had n i =
     let last : Told = plain (close + 1) close What.CloseObject in (
-      λ l. subst (λ d. Cut n (members_told ms ++ last ∷ []) (st 0 Names (blank Role.Root place) [] (had_found had)) d) (before_none (is_open n place close) (members_judged n Role.Root [] ms))
-          (cut_members ms (last ∷ []) (blank Role.Root place) [] (had_found had) n (is_open n place close) Role.Root [] (blank_mentions Role.Root place) refl i.1
+      λ l. subst (λ d. Cut n (members_told ms ++ last ∷ []) (st 0 Names (blank Role.Root place) [] (had_found had)) d)
+          (before_none (is_open n place close) (members_judged n Role.Root [] ms))
+          (cut_members ms (last ∷ []) (blank Role.Root place) [] (had_found had) n (is_open n place close) Role.Root []
+          (blank_mentions Role.Root place) refl i.1
           (λ k. sym (shut n place close l k), λ k. sym (opened n place close l k))),
       λ l. sym (late_value (object place ms close) n Role.Root (l, late_after n (place + 1) (members_told ms ++ last ∷ []) l i.0)),
     )

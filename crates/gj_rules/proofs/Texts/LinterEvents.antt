@@ -1,5 +1,6 @@
 -- What was told of the bytes of a linter, from call to call.
-use Rattle.std.proofs.Common.{◌≡◌, ℕ, ◌+◌, ◌-◌, ◌^◌, ◌<◌, ◌≤◌, Bool, true, false, if◌then◌else◌, List, [], ◌∷◌, ◌++◌, length, take, Option, Some, None, Result, Ok, Err, refl, sym, ap, subst, ◌∙◌, arith, append_assoc, append-nil, length-append}
+use Rattle.std.proofs.Common.{◌≡◌, ℕ, ◌+◌, ◌-◌, ◌^◌, ◌<◌, ◌≤◌, Bool, true, false, if◌then◌else◌, List, [], ◌∷◌, ◌++◌, length, take, Option, Some, None, Result}
+use Rattle.std.proofs.Common.{Ok, Err, refl, sym, ap, subst, ◌∙◌, arith, append_assoc, append-nil, length-append}
 use Rattle.std.specs.Option.{option_to_list}
 use Rattle.std.proofs.lemmas.List.{take-append-le, length-map}
 use Rattle.std.proofs.Math.Seq.{take-length, take-append-add}
@@ -33,7 +34,8 @@ use Rattle.gj_rules.proofs.Objects.WarningsKept.{text_is}
 -- ---- a piece
 
 -- the events of more bytes were told
-more_told : (Old New : List Event → Type 0) (bytes more taken : List ℕ) (m : ℕ) (k : AreToldOf Old bytes (length bytes)) → Hears New k.events (length bytes) m taken → taken ≡ bytes ++ more → AreToldOf New taken m
+more_told : (Old New : List Event → Type 0) (bytes more taken : List ℕ) (m : ℕ) (k : AreToldOf Old bytes (length bytes))
+    → Hears New k.events (length bytes) m taken → taken ≡ bytes ++ more → AreToldOf New taken m
 more_told Old New bytes more taken m k h e = record {
   events = k.events ++ h.0;
   told = h.1;
@@ -51,40 +53,51 @@ told_all : (Told : List Event → Type 0) (bytes : List ℕ) (n : ℕ) → n ≡
 told_all Told bytes n e k = let j : AreToldOf Told (take (length bytes) bytes) (length bytes) = rw (take-length bytes) k in rw e j
 
 -- where this holds of the events, and so that
-pub told_so : (Old New : List Event → Type 0) (taken : List ℕ) (n : ℕ) → ((events : List Event) → Old events → New events) → AreToldOf Old taken n → AreToldOf New taken n
+pub told_so : (Old New : List Event → Type 0) (taken : List ℕ) (n : ℕ) → ((events : List Event) → Old events → New events) → AreToldOf Old taken n
+    → AreToldOf New taken n
 told_so Old New taken n so k = record { events = k.events; told = so k.events k.told; complete = k.complete }
 
 -- the front of a piece behind the bytes before it
 front : (bytes given : List ℕ) (p : ℕ) → length bytes ≤ p → take p (bytes ++ given) ≡ bytes ++ take (p - length bytes) given
-front bytes given p l = let e : p ≡ length bytes + (p - length bytes) = omega arith in ap (λ n. take n (bytes ++ given)) e ∙ take-append-add bytes given (p - length bytes)
+front bytes given p l = let e : p ≡ length bytes + (p - length bytes) =
+    omega arith in ap (λ n. take n (bytes ++ given)) e ∙ take-append-add bytes given (p - length bytes)
 
 module _ (live_at : (reader : Reader) (bytes : List ℕ) → ReaderStandsFor reader bytes → refusal_of reader ≡ None → offset_of reader ≡ length bytes)
-    (refused : (reader : Reader) (bytes : List ℕ) (fault : JsonFault) → ReaderStandsFor reader bytes → refusal_of reader ≡ Some fault → offset_of reader ≡ fault.place)
+    (refused : (reader : Reader) (bytes : List ℕ) (fault : JsonFault) → ReaderStandsFor reader bytes → refusal_of reader ≡ Some fault
+    → offset_of reader ≡ fault.place)
     (within : (reader : Reader) (bytes : List ℕ) → ReaderStandsFor reader bytes → offset_of reader ≤ length bytes) where
   -- no byte was refused
-  pub fed_ok : (old new : Reader) (Old New : List Event → Type 0) (bytes given : List ℕ) → ReaderStandsFor old bytes → ReaderStandsFor new (bytes ++ given) → refusal_of old ≡ None → refusal_of new ≡ None → AreToldOf Old (take (offset_of old) bytes) (offset_of old)
-      → ((events : List Event) → Old events → Hears New events (length bytes) (length (bytes ++ given)) (bytes ++ given)) → AreToldOf New (take (offset_of new) (bytes ++ given)) (offset_of new)
+  pub fed_ok : (old new : Reader) (Old New : List Event → Type 0) (bytes given : List ℕ) → ReaderStandsFor old bytes → ReaderStandsFor new (bytes ++ given)
+      → refusal_of old ≡ None → refusal_of new ≡ None → AreToldOf Old (take (offset_of old) bytes) (offset_of old)
+      → ((events : List Event) → Old events → Hears New events (length bytes) (length (bytes ++ given)) (bytes ++ given))
+      → AreToldOf New (take (offset_of new) (bytes ++ given)) (offset_of new)
   fed_ok old new Old New bytes given s t live on k hears =
       let j = taken_all Old bytes (offset_of old) (live_at old bytes s live) k in
-      told_all New (bytes ++ given) (offset_of new) (live_at new (bytes ++ given) t on) (more_told Old New bytes given (bytes ++ given) (length (bytes ++ given)) j (hears j.events j.told) refl)
+      told_all New (bytes ++ given) (offset_of new) (live_at new (bytes ++ given) t on)
+      (more_told Old New bytes given (bytes ++ given) (length (bytes ++ given)) j (hears j.events j.told) refl)
 
   -- a byte was
-  pub fed_err : (old new : Reader) (Old New : List Event → Type 0) (bytes given : List ℕ) (fault : JsonFault) → ReaderStandsFor old bytes → ReaderStandsFor new (bytes ++ given) → refusal_of old ≡ None → refusal_of new ≡ Some fault → offset_of old ≤ offset_of new
+  pub fed_err : (old new : Reader) (Old New : List Event → Type 0) (bytes given : List ℕ) (fault : JsonFault) → ReaderStandsFor old bytes
+      → ReaderStandsFor new (bytes ++ given) → refusal_of old ≡ None → refusal_of new ≡ Some fault → offset_of old ≤ offset_of new
       → AreToldOf Old (take (offset_of old) bytes) (offset_of old)
-      → ((events : List Event) → Old events → Hears New events (length bytes) fault.place (take fault.place (bytes ++ given))) → AreToldOf New (take (offset_of new) (bytes ++ given)) (offset_of new)
+      → ((events : List Event) → Old events → Hears New events (length bytes) fault.place (take fault.place (bytes ++ given)))
+      → AreToldOf New (take (offset_of new) (bytes ++ given)) (offset_of new)
   fed_err old new Old New bytes given fault s t live on l k hears =
       let e = live_at old bytes s live in
       let p = refused new (bytes ++ given) fault t on in
       let j = taken_all Old bytes (offset_of old) e k in
-      let m = more_told Old New bytes (take (fault.place - length bytes) given) (take fault.place (bytes ++ given)) fault.place j (hears j.events j.told) (front bytes given fault.place (omega (arith, e, p, l))) in
+      let m = more_told Old New bytes (take (fault.place - length bytes) given) (take fault.place (bytes ++ given)) fault.place j (hears j.events j.told)
+      (front bytes given fault.place (omega (arith, e, p, l))) in
       rw p m
 
   -- one was before
-  pub fed_again : (reader : Reader) (Told : List Event → Type 0) (bytes given : List ℕ) → ReaderStandsFor reader bytes → AreToldOf Told (take (offset_of reader) bytes) (offset_of reader) → AreToldOf Told (take (offset_of reader) (bytes ++ given)) (offset_of reader)
+  pub fed_again : (reader : Reader) (Told : List Event → Type 0) (bytes given : List ℕ) → ReaderStandsFor reader bytes
+      → AreToldOf Told (take (offset_of reader) bytes) (offset_of reader) → AreToldOf Told (take (offset_of reader) (bytes ++ given)) (offset_of reader)
   fed_again reader Told bytes given s k = rw (take-append-le (offset_of reader) bytes given (within reader bytes s)) k
 
 -- a reader that took a piece had refused none
-pub was_live : {A : Type 0} (reader : Reader) (result : Result A JsonFault) (x : A) → ((fault : JsonFault) → refusal_of reader ≡ Some fault → result ≡ Err fault) → result ≡ Ok x → refusal_of reader ≡ None
+pub was_live : {A : Type 0} (reader : Reader) (result : Result A JsonFault) (x : A)
+    → ((fault : JsonFault) → refusal_of reader ≡ Some fault → result ≡ Err fault) → result ≡ Ok x → refusal_of reader ≡ None
 was_live reader result x again e = go (refusal_of reader) refl
   where
     go : (o : Option JsonFault) → refusal_of reader ≡ o → refusal_of reader ≡ None
@@ -105,7 +118,8 @@ none_least : (faults : List Fault) → least faults ≡ None → faults ≡ []
 none_least [] e = refl
 none_least (fault ∷ faults) e = absurd (some_least fault (least faults) e)
 
-pub text_verdict : (limits : Allowed) (bytes : List ℕ) (text : Text) → IsAdmitted limits text bytes → (o : Option Fault) (w : Warnings) → o ≡ least (text_faults text) → w ≡ warnings_of (text_warnings text)
+pub text_verdict : (limits : Allowed) (bytes : List ℕ) (text : Text) → IsAdmitted limits text bytes → (o : Option Fault) (w : Warnings)
+    → o ≡ least (text_faults text) → w ≡ warnings_of (text_warnings text)
     → IsVerdict limits bytes (verdict_of o w)
 text_verdict limits bytes text a None w e f = (text, a, none_least (text_faults text) (sym e), f)
 text_verdict limits bytes text a (Some fault) w e f = (text, a, sym e)
@@ -113,16 +127,23 @@ text_verdict limits bytes text a (Some fault) w e f = (text, a, sym e)
 -- without that of a byte order mark
 pub fewer_of_value : (text : Text) → length (value_events text.value) ≤ length (all_events text)
 fewer_of_value text =
-    rw (length-map (text_events text) (λ x. x.event), length-map (events text.value) (λ x. x.event), length-append (mark_events text.marked) (events text.value)) (omega arith)
+    rw (
+      length-map (text_events text) (λ x. x.event),
+      length-map (events text.value) (λ x. x.event),
+      length-append (mark_events text.marked)
+          (events text.value),
+    ) (omega arith)
 
 -- the verdict of an admitted text whose events were told
-pub end_verdict : {frames : ℕ} (limits : Allowed) (bytes : List ℕ) (Told : List Event → Type 0) (after : FramedRules frames) (last : Option Event) (o : Option Fault) (w : Warnings) → limits.depth ≤ levels_within frames → limits.bytes ≤ 2 ^ 60 → AreToldOf Told bytes (length bytes)
+pub end_verdict : {frames : ℕ} (limits : Allowed) (bytes : List ℕ) (Told : List Event → Type 0) (after : FramedRules frames) (last : Option Event)
+    (o : Option Fault) (w : Warnings) → limits.depth ≤ levels_within frames → limits.bytes ≤ 2 ^ 60 → AreToldOf Told bytes (length bytes)
     → (f : (text : Text) × IsAdmitted limits text bytes × (all_events text ≡ events_by (length bytes) text ++ option_to_list last))
     → ((events : List Event) → Told events → RulesStandFor after (events ++ option_to_list last))
     → ((text : Text) → depth text.value ≤ levels_within frames → RulesStandFor after (all_events text) → o ≡ least (text_faults text))
     → ((text : Text) → depth text.value ≤ levels_within frames → RulesStandFor after (all_events text) → w ≡ text_kept text)
     → ((text : Text) (bytes : List ℕ) → IsText text bytes → length (all_events text) ≤ length bytes)
-    → ((simple : Simple) (value : Tree) → length (value_events value) < 2 ^ 64 → coordinates_kept simple value ≡ warnings_of (coordinates_warnings simple value))
+    → ((simple : Simple) (value : Tree) → length (value_events value) < 2 ^ 64
+    → coordinates_kept simple value ≡ warnings_of (coordinates_warnings simple value))
     → IsVerdict limits bytes (verdict_of o w)
 end_verdict {frames} limits bytes Told after last o w shallow short k f told fault warned few law =
     let text = f.0 in
@@ -134,17 +155,20 @@ end_verdict {frames} limits bytes Told after last o w shallow short k f told fau
     let small : length (value_events text.value) < 2 ^ 64 = omega (arith, few text bytes f.1.0.0, fewer_of_value text, f.1.1) in
     text_verdict limits bytes text f.1 o w (fault text deep heard) (warned text deep heard ∙ text_is (2 ^ 64) law text small)
 
-pub new_told : (reader : Reader) (Told : List Event → Type 0) → offset_of reader ≡ 0 → Told [] → ((text : Text) (rest : List ℕ) → IsText text rest → events_by 0 text ≡ []) → AreToldOf Told (take (offset_of reader) []) (offset_of reader)
+pub new_told : (reader : Reader) (Told : List Event → Type 0) → offset_of reader ≡ 0 → Told []
+    → ((text : Text) (rest : List ℕ) → IsText text rest → events_by 0 text ≡ []) → AreToldOf Told (take (offset_of reader) []) (offset_of reader)
 new_told reader Told e h none = rw e (record { events = []; told = h; complete = none })
 
 -- what a refused piece leaves, whether a byte of it was refused or one before it
 pub fed_refused : ((reader : Reader) (bytes : List ℕ) → ReaderStandsFor reader bytes → refusal_of reader ≡ None → offset_of reader ≡ length bytes)
     → ((reader : Reader) (bytes : List ℕ) (fault : JsonFault) → ReaderStandsFor reader bytes → refusal_of reader ≡ Some fault → offset_of reader ≡ fault.place)
     → ((reader : Reader) (bytes : List ℕ) → ReaderStandsFor reader bytes → offset_of reader ≤ length bytes)
-    → (old new : Reader) (Old New : List Event → Type 0) (bytes given : List ℕ) (fault : JsonFault) → ReaderStandsFor old bytes → ReaderStandsFor new (bytes ++ given) → refusal_of new ≡ Some fault → offset_of old ≤ offset_of new
+    → (old new : Reader) (Old New : List Event → Type 0) (bytes given : List ℕ) (fault : JsonFault) → ReaderStandsFor old bytes
+    → ReaderStandsFor new (bytes ++ given) → refusal_of new ≡ Some fault → offset_of old ≤ offset_of new
     → AreToldOf Old (take (offset_of old) bytes) (offset_of old)
     → ((events : List Event) → refusal_of old ≡ None → Old events → Hears New events (length bytes) fault.place (take fault.place (bytes ++ given)))
-    → ((other : JsonFault) → refusal_of old ≡ Some other → (new ≡ old) × ((events : List Event) → Old events → New events)) → AreToldOf New (take (offset_of new) (bytes ++ given)) (offset_of new)
+    → ((other : JsonFault) → refusal_of old ≡ Some other → (new ≡ old) × ((events : List Event) → Old events → New events))
+    → AreToldOf New (take (offset_of new) (bytes ++ given)) (offset_of new)
 fed_refused live_at refused within old new Old New bytes given fault s t on l k hears again = go (refusal_of old) refl
   where
     go : (o : Option JsonFault) → refusal_of old ≡ o → AreToldOf New (take (offset_of new) (bytes ++ given)) (offset_of new)

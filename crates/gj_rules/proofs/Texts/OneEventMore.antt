@@ -99,8 +99,10 @@ has_room frames x rest feed zero Names f o a e g z = g
 has_room frames x rest feed zero (Elements r) f o a e g z = g
 has_room frames x rest feed zero Done f o a e g z = g
 
-taken_core : {frames : ℕ} (old new : FramedRules frames) (x : Told) (rest : List Told) (feed : Feed) → is_feeding old.skipped old.mode ≡ false → Good frames x rest (with_feed (core_of old) feed)
-    → (old.skipped < most_skipped → (old.skipped ≡ 0 → HasRoom frames (event_of x).what (core_of old).outer) → core_of new ≡ core_step (event_of x) (core_of old)) → Holds new []
+taken_core : {frames : ℕ} (old new : FramedRules frames) (x : Told) (rest : List Told) (feed : Feed) → is_feeding old.skipped old.mode ≡ false
+    → Good frames x rest (with_feed (core_of old) feed)
+    → (old.skipped < most_skipped → (old.skipped ≡ 0 → HasRoom frames (event_of x).what (core_of old).outer)
+    → core_of new ≡ core_step (event_of x) (core_of old)) → Holds new []
     → Stands new (step x (with_feed (core_of old) feed))
 taken_core old new x rest feed e g t h = (
   t (few_skipped _ x rest feed old.skipped old.mode (top_of old) (core_of old).outer (core_of old).answer e g)
@@ -132,10 +134,14 @@ holds_names zero (Elements r) c b es e = cc
 holds_names zero Done c b es e = cc
 holds_names (suc k) m c b es e = tt
 
-fed_core : {frames : ℕ} (old new : FramedRules frames) (x : Told) (v : Tree) (taken later : List Event) (next : Event) → is_feeding old.skipped old.mode ≡ true → Fed old v (taken ++ event_of x ∷ []) later new
+fed_core : {frames : ℕ} (old new : FramedRules frames) (x : Told) (v : Tree) (taken later : List Event) (next : Event) → is_feeding old.skipped old.mode ≡ true
+    → Fed old v (taken ++ event_of x ∷ []) later new
     → Stands new (fed (next ∷ later) (event_of x) v taken (core_of old))
-fed_core old new x v taken [] next e h =
-    (h, holds_names new.skipped new.mode new.coordinates new.bbox [] (ap (λ (c : Core). c.mode) h ∙ ended_names v old.skipped old.mode (top_of old) (core_of old).outer (core_of old).answer e))
+fed_core old new x v taken [] next e h = (
+  h,
+  holds_names new.skipped new.mode new.coordinates new.bbox []
+      (ap (λ (c : Core). c.mode) h ∙ ended_names v old.skipped old.mode (top_of old) (core_of old).outer (core_of old).answer e),
+)
 fed_core old new x v taken (y ∷ ys) next e h = h
 
 pub fits_of : (frames : ℕ) (x : Told) (rest : List Told) (feed : Feed) (k : ℕ) (m : Mode) (f : Frame) (o : List Frame) (a : Findings)
@@ -149,15 +155,19 @@ fits_of frames x rest feed zero (Elements r) f o a e g = cc
 fits_of frames x rest feed zero Done f o a e g = cc
 fits_of frames x rest feed (suc k) m f o a e g = cc
 
-next_is : (x : Told) (rest : List Told) (left later more : List Event) (next : Event) → left ≡ next ∷ later → map event_of (x ∷ rest) ≡ left ++ more → event_of x ≡ next
+next_is : (x : Told) (rest : List Told) (left later more : List Event) (next : Event) → left ≡ next ∷ later → map event_of (x ∷ rest) ≡ left ++ more
+    → event_of x ≡ next
 next_is x rest left later more next e f = let g : event_of x ∷ map event_of rest ≡ next ∷ (later ++ more) = f ∙ ap (λ (es : List Event). es ++ more) e in cc
 
-goes_on : (v : Tree) (taken left later : List Event) (next event : Event) → left ≡ next ∷ later → event ≡ next → taken ++ left ≡ value_events v → (taken ++ event ∷ []) ++ later ≡ value_events v
+goes_on : (v : Tree) (taken left later : List Event) (next event : Event) → left ≡ next ∷ later → event ≡ next → taken ++ left ≡ value_events v
+    → (taken ++ event ∷ []) ++ later ≡ value_events v
 goes_on v taken left later next event e f g =
     append_assoc taken (event ∷ []) later ∙ (ap (λ (y : Event). taken ++ y ∷ later) f ∙ (ap (λ (es : List Event). taken ++ es) (sym e) ∙ g))
 
-feed_core : {frames : ℕ} (old new : FramedRules frames) (x : Told) (rest : List Told) (feed : Feed) → is_feeding old.skipped old.mode ≡ true → Good frames x rest (with_feed (core_of old) feed) → Holds old feed.taken
-    → ((v : Tree) (taken left : List Event) → depth v ≤ most_levels → Holds old taken → (taken ++ event_of x ∷ []) ++ left ≡ value_events v → Fed old v (taken ++ event_of x ∷ []) left new)
+feed_core : {frames : ℕ} (old new : FramedRules frames) (x : Told) (rest : List Told) (feed : Feed) → is_feeding old.skipped old.mode ≡ true
+    → Good frames x rest (with_feed (core_of old) feed) → Holds old feed.taken
+    → ((v : Tree) (taken left : List Event) → depth v ≤ most_levels → Holds old taken → (taken ++ event_of x ∷ []) ++ left ≡ value_events v
+    → Fed old v (taken ++ event_of x ∷ []) left new)
     → Stands new (step x (with_feed (core_of old) feed))
 feed_core old new x rest feed e g h t =
     let k = fits_of _ x rest feed old.skipped old.mode (top_of old) (core_of old).outer (core_of old).answer e g in
@@ -171,47 +181,58 @@ feed_core old new x rest feed e g h t =
 -- ---- a call
 
 -- the state before an event of a text, and what is known of it
-front_stands : {frames : ℕ} (rules : FramedRules frames) (events : List Event) (text : Text) (front rest : List Told) (x : Told) → StandsFor rules events → text_told text ≡ front ++ x ∷ rest → map event_of front ≡ events → depth text.value ≤ levels_within frames
+front_stands : {frames : ℕ} (rules : FramedRules frames) (events : List Event) (text : Text) (front rest : List Told) (x : Told) → StandsFor rules events
+    → text_told text ≡ front ++ x ∷ rest → map event_of front ≡ events → depth text.value ≤ levels_within frames
     → Stands rules (run front start) × Good frames x rest (run front start)
 front_stands {frames} rules events text front rest x h e f d = (
   h text front (x ∷ rest) e f d,
-  (leads_at frames front (x ∷ rest) start (text_found text) (subst (λ (ts : List Told). Leads frames ts start (text_found text)) e (lead_text frames rules.few text d))).0,
+  (leads_at frames front (x ∷ rest) start (text_found text)
+      (subst (λ (ts : List Told). Leads frames ts start (text_found text)) e (lead_text frames rules.few text d))).0,
 )
 
 -- from each state for which the rules may stand, and an event that may come there
 abbrev pub Steps : {frames : ℕ} → FramedRules frames → Event → FramedRules frames → Type 0
 Steps {frames} old event new = (x : Told) (rest : List Told) (s : State) → event_of x ≡ event → Stands old s → Good frames x rest s → Stands new (step x s)
 
-steps_told : {frames : ℕ} (old new : FramedRules frames) (event : Event) (events : List Event) (text : Text) (done rest front : List Told) (x : Told) → Steps old event new → StandsFor old events
-    → text_told text ≡ done ++ rest → depth text.value ≤ levels_within frames → done ≡ front ++ x ∷ [] → map event_of front ≡ events → event_of x ≡ event → Stands new (run done start)
+steps_told : {frames : ℕ} (old new : FramedRules frames) (event : Event) (events : List Event) (text : Text) (done rest front : List Told) (x : Told)
+    → Steps old event new → StandsFor old events
+    → text_told text ≡ done ++ rest → depth text.value ≤ levels_within frames → done ≡ front ++ x ∷ [] → map event_of front ≡ events → event_of x ≡ event
+    → Stands new (run done start)
 steps_told old new event events text done rest front x t h e d p q i =
     let split : text_told text ≡ front ++ x ∷ rest = e ∙ (ap (λ (ts : List Told). ts ++ rest) p ∙ append_assoc front (x ∷ []) rest) in
     let k = front_stands old events text front rest x h split q d in
     subst (λ (s : State). Stands new s) (sym (ap (λ (ts : List Told). run ts start) p ∙ run-last front x start)) (t x rest (run front start) i k.0 k.1)
 
-pub told_on : {frames : ℕ} (old new : FramedRules frames) (event : Event) (events : List Event) → Steps old event new → StandsFor old events → StandsFor new (events ++ event ∷ [])
+pub told_on : {frames : ℕ} (old new : FramedRules frames) (event : Event) (events : List Event) → Steps old event new → StandsFor old events
+    → StandsFor new (events ++ event ∷ [])
 told_on old new event events t h = λ text done rest e f d.
     let k = last_told done events event f in
     steps_told old new event events text done rest k.0 k.1 t h e d k.2 k.3 k.4
 
 -- a state is its core and its feed
-from_core : {frames : ℕ} (old new : FramedRules frames) (x : Told) (s : State) → core_of old ≡ s.core → Stands new (step x (with_feed (core_of old) s.feed)) → Stands new (step x s)
+from_core : {frames : ℕ} (old new : FramedRules frames) (x : Told) (s : State) → core_of old ≡ s.core → Stands new (step x (with_feed (core_of old) s.feed))
+    → Stands new (step x s)
 from_core old new x s e h = subst (λ (c : Core). Stands new (step x (with_feed c s.feed))) e h
 
-pub good_core : {frames : ℕ} (old : FramedRules frames) (x : Told) (rest : List Told) (s : State) → core_of old ≡ s.core → Good frames x rest s → Good frames x rest (with_feed (core_of old) s.feed)
+pub good_core : {frames : ℕ} (old : FramedRules frames) (x : Told) (rest : List Told) (s : State) → core_of old ≡ s.core → Good frames x rest s
+    → Good frames x rest (with_feed (core_of old) s.feed)
 good_core {frames} old x rest s e g = subst (λ (c : Core). Good frames x rest (with_feed c s.feed)) (sym e) g
 
 pub steps_taken : {frames : ℕ} (old new : FramedRules frames) (event : Event) → is_feeding old.skipped old.mode ≡ false
-    → (old.skipped < most_skipped → (old.skipped ≡ 0 → HasRoom frames event.what (core_of old).outer) → core_of new ≡ core_step event (core_of old)) → Holds new [] → Steps old event new
+    → (old.skipped < most_skipped → (old.skipped ≡ 0 → HasRoom frames event.what (core_of old).outer) → core_of new ≡ core_step event (core_of old))
+    → Holds new [] → Steps old event new
 steps_taken {frames} old new event e t h = λ x rest s i k g.
     from_core old new x s k.0 (taken_core old new x rest s.feed e (good_core old x rest s k.0 g)
-    (subst (λ (y : Event). old.skipped < most_skipped → (old.skipped ≡ 0 → HasRoom frames y.what (core_of old).outer) → core_of new ≡ core_step y (core_of old)) (sym i) t) h)
+    (subst (λ (y : Event). old.skipped < most_skipped → (old.skipped ≡ 0 → HasRoom frames y.what (core_of old).outer) → core_of new ≡ core_step y (core_of old))
+    (sym i) t) h)
 
 pub steps_fed : {frames : ℕ} (old new : FramedRules frames) (event : Event) → is_feeding old.skipped old.mode ≡ true
-    → ((v : Tree) (taken left : List Event) → depth v ≤ most_levels → Holds old taken → (taken ++ event ∷ []) ++ left ≡ value_events v → Fed old v (taken ++ event ∷ []) left new) → Steps old event new
+    → ((v : Tree) (taken left : List Event) → depth v ≤ most_levels → Holds old taken → (taken ++ event ∷ []) ++ left ≡ value_events v
+    → Fed old v (taken ++ event ∷ []) left new) → Steps old event new
 steps_fed old new event e t = λ x rest s i k g.
     from_core old new x s k.0 (feed_core old new x rest s.feed e (good_core old x rest s k.0 g) k.1
-    (subst (λ (y : Event). (v : Tree) (taken left : List Event) → depth v ≤ most_levels → Holds old taken → (taken ++ y ∷ []) ++ left ≡ value_events v → Fed old v (taken ++ y ∷ []) left new) (sym i) t))
+    (subst (λ (y : Event). (v : Tree) (taken left : List Event) → depth v ≤ most_levels → Holds old taken → (taken ++ y ∷ []) ++ left ≡ value_events v
+    → Fed old v (taken ++ y ∷ []) left new) (sym i) t))
 
 -- ---- the start and the end
 
@@ -219,16 +240,19 @@ pub started : {frames : ℕ} (rules : FramedRules frames) → core_of rules ≡ 
 started rules e h = λ text done rest f g d.
     subst (λ (ts : List Told). Stands rules (run ts start)) (sym (none_told done g)) (e, h)
 
-pub answered : {frames : ℕ} (rules : FramedRules frames) (text : Text) → depth text.value ≤ levels_within frames → StandsFor rules (all_events text) → found_in rules.answer ≡ text_found text
+pub answered : {frames : ℕ} (rules : FramedRules frames) (text : Text) → depth text.value ≤ levels_within frames → StandsFor rules (all_events text)
+    → found_in rules.answer ≡ text_found text
 answered {frames} rules text d h =
     let whole : text_told text ≡ text_told text ++ [] = sym (append-nil (text_told text)) in
     let k = h text (text_told text) [] whole (text-events text) d in
     ap (λ (c : Core). c.answer) k.0
-    ∙ leads_at frames (text_told text) [] start (text_found text) (subst (λ (ts : List Told). Leads frames ts start (text_found text)) whole (lead_text frames rules.few text d))
+    ∙ leads_at frames (text_told text) [] start (text_found text)
+    (subst (λ (ts : List Told). Leads frames ts start (text_found text)) whole (lead_text frames rules.few text d))
 
 -- ---- the frames in use
 
-pub judged_is : {frames : ℕ} (rules : FramedRules frames) (text : Text) (bytes : List ℕ) (n : ℕ) → IsText text bytes → depth text.value ≤ levels_within frames → StandsFor rules (events_by n text) → frames_by rules.mode (core_of rules).outer ≡ judged_at n text
+pub judged_is : {frames : ℕ} (rules : FramedRules frames) (text : Text) (bytes : List ℕ) (n : ℕ) → IsText text bytes → depth text.value ≤ levels_within frames
+    → StandsFor rules (events_by n text) → frames_by rules.mode (core_of rules).outer ≡ judged_at n text
 judged_is rules text bytes n t d h =
     let front = front_text text bytes n t in
     let e : map event_of front.done ≡ events_by n text = front.complete ∙ ap (λ (xs : List E.Timed). by n xs) (text-timed text) in

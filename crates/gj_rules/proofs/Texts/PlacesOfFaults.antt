@@ -1,5 +1,6 @@
 -- The places that the faults and the warnings of a text tell are places of it.
-use Rattle.std.proofs.Common.{◌≡◌, ℕ, zero, suc, ◌+◌, ◌≤◌, Bool, true, false, if◌then◌else◌, List, [], ◌∷◌, ◌++◌, length, length-append, take, drop, Option, Some, None, is_some, ap, ◌∙◌, subst, arith}
+use Rattle.std.proofs.Common.{◌≡◌, ℕ, zero, suc, ◌+◌, ◌≤◌, Bool, true, false, if◌then◌else◌, List, [], ◌∷◌, ◌++◌, length, length-append, take, drop, Option}
+use Rattle.std.proofs.Common.{Some, None, is_some, ap, ◌∙◌, subst, arith}
 use Rattle.std.specs.List.{AllByRecursion, flat_map}
 use Rattle.gj_json.specs.declared.constant.Constant.{Constant}
 use Rattle.gj_json.specs.declared.constant.Constant.TheVariants.{Null, True, False}
@@ -18,7 +19,8 @@ use Rattle.gj_coords.specs.declared.simple.Simple.{Simple}
 use Rattle.gj_coords.specs.Fault.{fault_at, comes_first, lesser, least}
 use Rattle.gj_coords.specs.Items.{items, elements_of, place_of}
 use Rattle.gj_coords.specs.Box.{is_wrong_length, bbox_faults}
-use Rattle.gj_coords.specs.Shape.{Shape, misshapen, few, held_number, number_or, position, several, list, line, unclosed, ring, or_empty, shape_of, coordinates_faults}
+use Rattle.gj_coords.specs.Shape.{Shape, misshapen, few, held_number, number_or, position, several, list, line, unclosed, ring, or_empty, shape_of}
+use Rattle.gj_coords.specs.Shape.{coordinates_faults}
 use Rattle.gj_rules.specs.declared.role.Role.{Role}
 use Rattle.gj_rules.specs.declared.member_slots.TypeValue.{TypeValue}
 use Rattle.gj_rules.specs.Faults
@@ -63,7 +65,8 @@ mutual
     within_more_elements more close all _ _ (omega (arith, then_length h, then_length h.after)) h.after.after,
   )
 
-  within_more_elements : (es : Elements) (close all n : ℕ) (bytes : List ℕ) → n + length bytes ≤ all → SpellsMoreElements es close n bytes → WithinElements all es
+  within_more_elements : (es : Elements) (close all n : ℕ) (bytes : List ℕ) → n + length bytes ≤ all → SpellsMoreElements es close n bytes
+      → WithinElements all es
   within_more_elements end_of_array close all n bytes l h = tt
   within_more_elements (element v more) close all n bytes l h =
       let k = h.after.after in (
@@ -78,7 +81,8 @@ mutual
       let i = k.after.after in (
         omega (arith, h.before.0),
         within v all _ _ (omega (arith, then_length h, then_length h.after, then_length k, then_length k.after, then_length i)) i.before,
-        within_more_members more close all _ _ (omega (arith, then_length h, then_length h.after, then_length k, then_length k.after, then_length i, then_length i.after)) i.after.after,
+        within_more_members more close all _ _
+            (omega (arith, then_length h, then_length h.after, then_length k, then_length k.after, then_length i, then_length i.after)) i.after.after,
       )
 
   within_more_members : (ms : Members) (close all n : ℕ) (bytes : List ℕ) → n + length bytes ≤ all → SpellsMoreMembers ms close n bytes → WithinMembers all ms
@@ -88,8 +92,20 @@ mutual
       let k = j.after.after in
       let i = k.after.after in (
         omega (arith, j.before.0, then_length h, then_length h.after),
-        within v all _ _ (omega (arith, then_length h, then_length h.after, then_length j, then_length j.after, then_length k, then_length k.after, then_length i)) i.before,
-        within_more_members more close all _ _ (omega (arith, then_length h, then_length h.after, then_length j, then_length j.after, then_length k, then_length k.after, then_length i, then_length i.after)) i.after.after,
+        within v all _ _ (omega
+            (arith, then_length h, then_length h.after, then_length j, then_length j.after, then_length k, then_length k.after, then_length i)) i.before,
+        within_more_members more close all _ _
+            (omega (
+              arith,
+              then_length h,
+              then_length h.after,
+              then_length j,
+              then_length j.after,
+              then_length k,
+              then_length k.after,
+              then_length i,
+              then_length i.after,
+            )) i.after.after,
       )
 
 pub text_within : (text : Text) (bytes : List ℕ) → IsText text bytes → Within (length bytes) text.value
@@ -103,7 +119,8 @@ pub all_append : {A : Type 0} (P : A → Type 0) (xs ys : List A) → AllByRecur
 all_append P [] ys h k = k
 all_append P (x ∷ xs) ys h k = (h.0, all_append P xs ys h.1 k)
 
-pub all_flat : {A B : Type 0} (P : A → Type 0) (Q : B → Type 0) (f : A → List B) → ((x : A) → P x → AllByRecursion Q (f x)) → (xs : List A) → AllByRecursion P xs → AllByRecursion Q (flat_map f xs)
+pub all_flat : {A B : Type 0} (P : A → Type 0) (Q : B → Type 0) (f : A → List B) → ((x : A) → P x → AllByRecursion Q (f x)) → (xs : List A)
+    → AllByRecursion P xs → AllByRecursion Q (flat_map f xs)
 all_flat P Q f one [] h = tt
 all_flat P Q f one (x ∷ xs) h = all_append Q (f x) (flat_map f xs) (one x h.0) (all_flat P Q f one xs h.1)
 
@@ -293,7 +310,8 @@ optional_in : (n : ℕ) (first : Option First) → FirstIn n first → FaultsIn 
 optional_in n None h = tt
 optional_in n (Some first) h = h.2
 
-due_coordinates_in : (n : ℕ) (simple : Simple) (place : ℕ) (first : Option First) → place ≤ n → FirstIn n first → FaultsIn n (Faults.due_coordinates simple place first)
+due_coordinates_in : (n : ℕ) (simple : Simple) (place : ℕ) (first : Option First) → place ≤ n → FirstIn n first
+    → FaultsIn n (Faults.due_coordinates simple place first)
 due_coordinates_in n simple place None l h = (l, tt)
 due_coordinates_in n simple place (Some first) l h = coordinates_in n simple first.value h.1
 
@@ -317,7 +335,8 @@ module _ (n place : ℕ) (repeats : List Fault) (type_value : Option TypeValue) 
   as_type_in Word.Other = tt
 
   chosen_in : (b : Bool) (value : TypeValue) → value.place ≤ n
-      → FaultsIn n (if b then flat_map (λ name. Faults.forbidden (m name)) (forbidden_by value.word) ++ Faults.as_type value.word place m else (record { place = value.place; rule = Rule.G3 }) ∷ [])
+      → FaultsIn n (if b then flat_map (λ name. Faults.forbidden (m name)) (forbidden_by value.word) ++ Faults.as_type value.word place m else
+      (record { place = value.place; rule = Rule.G3 }) ∷ [])
   chosen_in true value k = all_append (InFault n) _ _ (all_forbidden_in (forbidden_by value.word)) (as_type_in value.word)
   chosen_in false value k = (k, tt)
 
@@ -337,7 +356,8 @@ again_in n false b place h = tt
 repeated_in_members : (n : ℕ) (before : List Known) (ms : Members) → WithinMembers n ms → FaultsIn n (repeated before ms)
 repeated_in_members n before end_of_object h = tt
 repeated_in_members n before (member place name end v more) h =
-    all_append (InFault n) _ _ (again_in n (is_known (known_of name)) (mentions before (known_of name)) place h.0) (repeated_in_members n (known_of name ∷ before) more h.2)
+    all_append (InFault n) _ _ (again_in n (is_known (known_of name)) (mentions before (known_of name)) place h.0)
+    (repeated_in_members n (known_of name ∷ before) more h.2)
 
 type_if : (n : ℕ) (b : Bool) (a c : Option TypeValue) → TypeIn n a → TypeIn n c → TypeIn n (if b then a else c)
 type_if n true a c h k = h
@@ -352,7 +372,8 @@ first_type_in n end_of_object h = tt
 first_type_in n (member place name end v more) h =
     type_if n (same TypeName (known_of name)) _ (first_type more) (place_within n v h.1) (first_type_in n more h.2)
 
-selected_in : (n : ℕ) (name : Known) (v : Tree) (geometry geometries features : List Fault) → Within n v → FaultsIn n geometry → FaultsIn n geometries → FaultsIn n features
+selected_in : (n : ℕ) (name : Known) (v : Tree) (geometry geometries features : List Fault) → Within n v → FaultsIn n geometry → FaultsIn n geometries
+    → FaultsIn n features
     → FaultsIn n (Faults.selected name v geometry geometries features)
 selected_in n TypeName v geometry geometries features h a b c = tt
 selected_in n Coordinates v geometry geometries features h a b c = tt
@@ -414,7 +435,8 @@ least_in : (n : ℕ) (faults : List Fault) → FaultsIn n faults → SomeIn n (l
 least_in n [] h = tt
 least_in n (x ∷ xs) h = lesser_in n (Some x) (least xs) h.0 (least_in n xs h.1)
 
-pub least_within : (text : Text) (bytes : List ℕ) (fault : Fault) → IsText text bytes → least (Faults.text_faults text) ≡ Some fault → fault.place ≤ length bytes
+pub least_within : (text : Text) (bytes : List ℕ) (fault : Fault) → IsText text bytes → least (Faults.text_faults text) ≡ Some fault
+    → fault.place ≤ length bytes
 least_within text bytes fault t e =
     let P : Option Fault → Type 0 = λ o. SomeIn (length bytes) o in
     subst P e (least_in (length bytes) (Faults.text_faults text) (faults_in (length bytes) Role.Root text.value (text_within text bytes t)))

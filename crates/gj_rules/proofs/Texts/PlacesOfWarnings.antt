@@ -1,5 +1,6 @@
 -- The places that the warnings of a text tell are places of it.
-use Rattle.std.proofs.Common.{◌≡◌, ℕ, ◌≤◌, Bool, true, false, not, ◌&&◌, if◌then◌else◌, nat_lt, List, [], ◌∷◌, length, take, Option, Some, None, unwrap_or, refl, ap, sym, ◌∙◌, arith}
+use Rattle.std.proofs.Common.{◌≡◌, ℕ, ◌≤◌, Bool, true, false, not, ◌&&◌, if◌then◌else◌, nat_lt, List, [], ◌∷◌, length, take, Option, Some, None, unwrap_or}
+use Rattle.std.proofs.Common.{refl, ap, sym, ◌∙◌, arith}
 use Rattle.std.specs.List.{AllByRecursion, flat_map}
 use Rattle.gj_json.specs.declared.names.Known.{Known}
 use Rattle.gj_json.specs.declared.names.Known.TheVariants.{TypeName, Coordinates, Geometries, Geometry, Properties, Features, Bbox, Id, Crs, Other}
@@ -12,7 +13,8 @@ use Rattle.gj_coords.specs.declared.kind.Kind.TheVariants.{W1, W2, W3, W4, W5, W
 use Rattle.gj_coords.specs.declared.simple.Simple.{Simple}
 use Rattle.gj_coords.specs.Items.{elements_of, place_of}
 use Rattle.gj_coords.specs.BoxWarnings.{south_above_north, bbox_warnings}
-use Rattle.gj_coords.specs.CoordinateWarnings.{Concern, warned_if, is_sound, each, is_precise, number_warnings, sound_position_warnings, position_warnings, ring_warnings, rings_warnings, polygon_warnings, concern_of, or_empty_warning, coordinates_warnings}
+use Rattle.gj_coords.specs.CoordinateWarnings.{Concern, warned_if, is_sound, each, is_precise, number_warnings, sound_position_warnings, position_warnings}
+use Rattle.gj_coords.specs.CoordinateWarnings.{ring_warnings, rings_warnings, polygon_warnings, concern_of, or_empty_warning, coordinates_warnings}
 use Rattle.gj_coords.specs.Ring.{exact_value}
 use Rattle.gj_coords.specs.Shape.{position, ring}
 use Rattle.gj_coords.specs.Warnings.{Warning, same_kind, places_of, least_place, lesser_place, first_of}
@@ -24,7 +26,8 @@ use Rattle.gj_rules.specs.declared.member_slots.TypeValue.{TypeValue}
 use Rattle.gj_rules.specs.Members.{same, first_type}
 use Rattle.gj_rules.specs.Role.{is_allowed}
 use Rattle.gj_rules.specs.TextWarnings
-use Rattle.gj_rules.proofs.Texts.PlacesOfFaults.{Within, WithinElements, WithinMembers, all_append, all_flat, all_if, all_take, elements_within, place_within, text_within}
+use Rattle.gj_rules.proofs.Texts.PlacesOfFaults.{Within, WithinElements, WithinMembers, all_append, all_flat, all_if, all_take, elements_within, place_within}
+use Rattle.gj_rules.proofs.Texts.PlacesOfFaults.{text_within}
 
 abbrev WarningsIn : ℕ → List Warning → Type 0
 WarningsIn n warnings = AllByRecursion (λ warning. warning.place ≤ n) warnings
@@ -63,7 +66,8 @@ ring_in n wrong t h =
 rings_in : (n : ℕ) (ts : List Tree) → AllByRecursion (Within n) ts → WarningsIn n (rings_warnings ts)
 rings_in n [] h = tt
 rings_in n (exterior ∷ holes) h =
-    all_append (InWarning n) (ring_warnings Right exterior) (flat_map (ring_warnings Left) holes) (ring_in n Right exterior h.0) (all_flat (Within n) (InWarning n) (ring_warnings Left) (ring_in n Left) holes h.1)
+    all_append (InWarning n) (ring_warnings Right exterior) (flat_map (ring_warnings Left) holes) (ring_in n Right exterior h.0)
+    (all_flat (Within n) (InWarning n) (ring_warnings Left) (ring_in n Left) holes h.1)
 
 polygon_in : (n : ℕ) → FitsConcern n polygon_warnings
 polygon_in n t h = rings_in n (elements_of t) (elements_within n t h)
@@ -117,26 +121,32 @@ nested_in n Role.Geometry place h = tt
 nested_in n Role.Part place h = (h, tt)
 nested_in n Role.Feature place h = tt
 
-typed_in : (n : ℕ) (word : Word) (role : Role) (place : ℕ) (coordinates : Option Tree) (geometries geometry features : List Warning) → place ≤ n → ValueIn n coordinates
-    → WarningsIn n geometries → WarningsIn n geometry → WarningsIn n features → WarningsIn n (TextWarnings.typed_warnings word role place coordinates geometries geometry features)
+typed_in : (n : ℕ) (word : Word) (role : Role) (place : ℕ) (coordinates : Option Tree) (geometries geometry features : List Warning) → place ≤ n
+    → ValueIn n coordinates
+    → WarningsIn n geometries → WarningsIn n geometry → WarningsIn n features
+    → WarningsIn n (TextWarnings.typed_warnings word role place coordinates geometries geometry features)
 typed_in n Word.Point role place coordinates geometries geometry features l h a b c = simple_in n Simple.Point coordinates h
 typed_in n Word.MultiPoint role place coordinates geometries geometry features l h a b c = simple_in n Simple.MultiPoint coordinates h
 typed_in n Word.LineString role place coordinates geometries geometry features l h a b c = simple_in n Simple.LineString coordinates h
 typed_in n Word.MultiLineString role place coordinates geometries geometry features l h a b c = simple_in n Simple.MultiLineString coordinates h
 typed_in n Word.Polygon role place coordinates geometries geometry features l h a b c = simple_in n Simple.Polygon coordinates h
 typed_in n Word.MultiPolygon role place coordinates geometries geometry features l h a b c = simple_in n Simple.MultiPolygon coordinates h
-typed_in n Word.GeometryCollection role place coordinates geometries geometry features l h a b c = all_append (InWarning n) _ geometries (nested_in n role place l) a
+typed_in n Word.GeometryCollection role place coordinates geometries geometry features l h a b c =
+    all_append (InWarning n) _ geometries (nested_in n role place l) a
 typed_in n Word.Feature role place coordinates geometries geometry features l h a b c = b
 typed_in n Word.FeatureCollection role place coordinates geometries geometry features l h a b c = c
 typed_in n Word.Other role place coordinates geometries geometry features l h a b c = tt
 
-by_type_in : (n : ℕ) (value : Option TypeValue) (role : Role) (place : ℕ) (coordinates : Option Tree) (geometries geometry features : List Warning) → place ≤ n → ValueIn n coordinates
-    → WarningsIn n geometries → WarningsIn n geometry → WarningsIn n features → WarningsIn n (TextWarnings.by_type_warnings value role place coordinates geometries geometry features)
+by_type_in : (n : ℕ) (value : Option TypeValue) (role : Role) (place : ℕ) (coordinates : Option Tree) (geometries geometry features : List Warning) → place ≤ n
+    → ValueIn n coordinates
+    → WarningsIn n geometries → WarningsIn n geometry → WarningsIn n features
+    → WarningsIn n (TextWarnings.by_type_warnings value role place coordinates geometries geometry features)
 by_type_in n None role place coordinates geometries geometry features l h a b c = tt
 by_type_in n (Some value) role place coordinates geometries geometry features l h a b c =
     all_if (InWarning n) (is_allowed role value.word) _ (typed_in n value.word role place coordinates geometries geometry features l h a b c)
 
-selected_in : (n : ℕ) (name : Known) (v : Tree) (geometry geometries features : List Warning) → Within n v → WarningsIn n geometry → WarningsIn n geometries → WarningsIn n features
+selected_in : (n : ℕ) (name : Known) (v : Tree) (geometry geometries features : List Warning) → Within n v → WarningsIn n geometry → WarningsIn n geometries
+    → WarningsIn n features
     → WarningsIn n (TextWarnings.selected_warnings name v geometry geometries features)
 selected_in n TypeName v geometry geometries features h a b c = tt
 selected_in n Coordinates v geometry geometries features h a b c = tt
@@ -193,7 +203,8 @@ text_in text bytes t =
 abbrev PlacesIn : ℕ → List ℕ → Type 0
 PlacesIn n places = AllByRecursion (λ place. place ≤ n) places
 
-one_kind : (n : ℕ) (kind : Kind) (warning : Warning) (more : List Warning) (t : Bool) → same_kind warning.kind kind ≡ t → warning.place ≤ n → PlacesIn n (places_of kind more)
+one_kind : (n : ℕ) (kind : Kind) (warning : Warning) (more : List Warning) (t : Bool) → same_kind warning.kind kind ≡ t → warning.place ≤ n
+    → PlacesIn n (places_of kind more)
     → PlacesIn n (places_of kind (warning ∷ more))
 one_kind n kind warning more true e h k = rw e (h, k)
 one_kind n kind warning more false e h k = rw e k
@@ -210,10 +221,12 @@ least_in : (n : ℕ) (places : List ℕ) → PlacesIn n places → unwrap_or (le
 least_in n [] h = omega arith
 least_in n (x ∷ xs) h = lesser_in n x (least_place xs) h.0 (least_in n xs h.1)
 
-pub warnings_within : (text : Text) (bytes : List ℕ) (warnings : List Warning) (kind : Kind) (place : ℕ) → IsText text bytes → warnings ≡ TextWarnings.text_warnings text
+pub warnings_within : (text : Text) (bytes : List ℕ) (warnings : List Warning) (kind : Kind) (place : ℕ) → IsText text bytes
+    → warnings ≡ TextWarnings.text_warnings text
     → first_of kind warnings ≡ Some place → place ≤ length bytes
 warnings_within text bytes warnings kind place t e f =
     let first : first_of kind (TextWarnings.text_warnings text) ≡ Some place = ap (first_of kind) (sym e) ∙ f in
     let there : unwrap_or (first_of kind (TextWarnings.text_warnings text)) 0 ≡ place = ap (λ o. unwrap_or o 0) first in
-    let least = least_in (length bytes) (places_of kind (TextWarnings.text_warnings text)) (places_in (length bytes) kind (TextWarnings.text_warnings text) (text_in text bytes t)) in
+    let least = least_in (length bytes) (places_of kind (TextWarnings.text_warnings text))
+    (places_in (length bytes) kind (TextWarnings.text_warnings text) (text_in text bytes t)) in
     omega (arith, there, least)

@@ -1,5 +1,6 @@
 -- How many of the open arrays and objects of a text can be objects with a role.
-use Rattle.std.proofs.Common.{◌≡◌, ℕ, ◌+◌, ◌*◌, ◌≤◌, ◌⊎◌, inl, inr, Bool, true, false, not, ◌&&◌, if◌then◌else◌, nat_le, nat_lt, List, [], ◌∷◌, ◌++◌, refl, arith}
+use Rattle.std.proofs.Common.{◌≡◌, ℕ, ◌+◌, ◌*◌, ◌≤◌, ◌⊎◌, inl, inr, Bool, true, false, not, ◌&&◌, if◌then◌else◌, nat_le, nat_lt, List, [], ◌∷◌, ◌++◌, refl}
+use Rattle.std.proofs.Common.{arith}
 use Rattle.std.proofs.lemmas.Bool.{cases_lt}
 use Rattle.std.proofs.lemmas.Bool.Decides.{nat_tests}
 use Rattle.std.specs.List.{AllByRecursion}
@@ -58,7 +59,8 @@ mutual
       omega (
         arith,
         all_open more n r (known_of name ∷ before),
-        counted_most (known_of name) (not (mentions before (known_of name)) && gives r (known_of name)) (judged_in n Role.Geometry v) (list_judged n Role.Part v) (list_judged n Role.Feature v) (open_in n v)
+        counted_most (known_of name) (not (mentions before (known_of name)) && gives r (known_of name)) (judged_in n Role.Geometry v)
+            (list_judged n Role.Part v) (list_judged n Role.Feature v) (open_in n v)
             (value_open v n Role.Geometry) (list_open v n Role.Part) (list_open v n Role.Feature),
       )
 
@@ -92,7 +94,12 @@ mutual
   done_value (array place es close) n r h = refl
   done_value (object place ms close) n r h =
       let l = in_time_back n (members_told ms) (plain (close + 1) close What.CloseObject ∷ []) h.1 in
-      omega (arith, closed_zero n place close l.0, done_members ms n r [] (in_time_front n (members_told ms) (plain (close + 1) close What.CloseObject ∷ []) h.1))
+      omega (
+        arith,
+        closed_zero n place close l.0,
+        done_members ms n r []
+            (in_time_front n (members_told ms) (plain (close + 1) close What.CloseObject ∷ []) h.1),
+      )
 
   done_list : (v : Tree) (n : ℕ) (r : Role) → InTime n (told v) → list_judged n r v ≡ 0
   done_list (constant which place) n r h = refl
@@ -112,7 +119,8 @@ mutual
       let l = in_time_front n (told v) (members_told more) h.1 in
       omega (
         arith,
-        counted_most (known_of name) (not (mentions before (known_of name)) && gives r (known_of name)) (judged_in n Role.Geometry v) (list_judged n Role.Part v) (list_judged n Role.Feature v) 0
+        counted_most (known_of name) (not (mentions before (known_of name)) && gives r (known_of name)) (judged_in n Role.Geometry v)
+            (list_judged n Role.Part v) (list_judged n Role.Feature v) 0
             (omega (arith, done_value v n Role.Geometry l)) (omega (arith, done_list v n Role.Part l)) (omega (arith, done_list v n Role.Feature l)),
         done_members more n r (known_of name ∷ before) (in_time_back n (told v) (members_told more) h.1),
       )
@@ -144,7 +152,8 @@ slack Role.Feature = 1
 slack Role.Geometry = 0
 slack Role.Part = 0
 
-half_counted : (name : Known) (r : Role) (b : Bool) (g gs fs most : ℕ) → 2 * g ≤ most + 1 → 2 * gs ≤ most → 2 * fs ≤ most + 1 → 2 * counted name (not b && gives r name) g gs fs ≤ most + slack r
+half_counted : (name : Known) (r : Role) (b : Bool) (g gs fs most : ℕ) → 2 * g ≤ most + 1 → 2 * gs ≤ most → 2 * fs ≤ most + 1
+    → 2 * counted name (not b && gives r name) g gs fs ≤ most + slack r
 half_counted Geometry r true g gs fs most x y z = omega arith
 half_counted Geometry Role.Root false g gs fs most x y z = x
 half_counted Geometry Role.Feature false g gs fs most x y z = x
@@ -177,7 +186,12 @@ mutual
   half_value (string place content end) n r i = omega arith
   half_value (array place es close) n r i = omega arith
   half_value (object place ms close) n r i =
-      omega (arith, at_most_one (nat_lt place n && nat_le n close), half_members ms n r [] (order_front (members_told ms) (plain (close + 1) close What.CloseObject ∷ []) i.1))
+      omega (
+        arith,
+        at_most_one (nat_lt place n && nat_le n close),
+        half_members ms n r []
+            (order_front (members_told ms) (plain (close + 1) close What.CloseObject ∷ []) i.1),
+      )
 
   half_list : (v : Tree) (n : ℕ) (r : Role) → InOrder (told v) → 2 * list_judged n r v ≤ open_in n v + slack r
   half_list (constant which place) n r i = omega arith
@@ -187,7 +201,11 @@ mutual
   half_list (array place es close) n r i =
       let last : Told = plain (close + 1) close What.CloseArray in
       elim (cases_lt n (place + 1)) [
-        | inl l ↦ omega (arith, late_elements es n r (late_front n (elements_told es) (last ∷ []) (late_after n (place + 1) (elements_told es ++ last ∷ []) l i.0)))
+        | inl l ↦ omega (
+          arith,
+          late_elements es n r
+              (late_front n (elements_told es) (last ∷ []) (late_after n (place + 1) (elements_told es ++ last ∷ []) l i.0)),
+        )
         | inr l ↦ elim (cases_lt n (close + 1)) [
           | inl k ↦ omega (arith, opened n place close l k, half_elements es n r (order_front (elements_told es) (last ∷ []) i.1))
           | inr k ↦ omega (arith, done_elements es n r (in_time_before n (elements_told es) last i.1 k))
@@ -202,7 +220,8 @@ mutual
         | inr l ↦ omega (arith, late_elements more n r l, half_value v n r (order_front (told v) (elements_told more) i))
       ]
 
-  half_members : (ms : Members) (n : ℕ) (r : Role) (before : List Known) → InOrder (members_told ms) → 2 * members_judged n r before ms ≤ members_open n ms + slack r
+  half_members : (ms : Members) (n : ℕ) (r : Role) (before : List Known) → InOrder (members_told ms)
+      → 2 * members_judged n r before ms ≤ members_open n ms + slack r
   half_members end_of_object n r before i = omega arith
   half_members (member place name end v more) n r before i =
       let known : Known = known_of name in
@@ -211,7 +230,8 @@ mutual
         | inl d ↦ omega (
           arith,
           half_members more n r (known ∷ before) (order_behind (told v) (members_told more) i.1),
-          counted_most known (not (mentions before known) && gives r known) (judged_in n Role.Geometry v) (list_judged n Role.Part v) (list_judged n Role.Feature v) 0
+          counted_most known (not (mentions before known) && gives r known) (judged_in n Role.Geometry v) (list_judged n Role.Part v)
+              (list_judged n Role.Feature v) 0
               (omega (arith, done_value v n Role.Geometry d)) (omega (arith, done_list v n Role.Part d)) (omega (arith, done_list v n Role.Feature d)),
         )
         | inr l ↦ omega (

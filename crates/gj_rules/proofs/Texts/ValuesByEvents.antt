@@ -1,6 +1,7 @@
 -- From each state in which a value is due, the value's events lead to what the definitions say of it, and what a call
 -- needs to know of the state holds before each of them.
-use Rattle.std.proofs.Common.{◌≡◌, ℕ, zero, suc, ◌+◌, ◌-◌, ◌*◌, ◌<◌, ◌≤◌, Bool, true, false, if◌then◌else◌, List, [], ◌∷◌, ◌++◌, map, length, Option, Some, None, refl, sym, ap, subst, ◌∙◌, arith, append_assoc}
+use Rattle.std.proofs.Common.{◌≡◌, ℕ, zero, suc, ◌+◌, ◌-◌, ◌*◌, ◌<◌, ◌≤◌, Bool, true, false, if◌then◌else◌, List, [], ◌∷◌, ◌++◌, map, length, Option, Some}
+use Rattle.std.proofs.Common.{None, refl, sym, ap, subst, ◌∙◌, arith, append_assoc}
 use Rattle.std.proofs.lemmas.List.{map-append}
 use Rattle.gj_json.specs.declared.constant.Constant.TheVariants.{Null, True, False}
 use Rattle.gj_json.specs.declared.event.Event.{Event}
@@ -10,7 +11,8 @@ use Rattle.gj_json.specs.declared.event.What.{What}
 use Rattle.gj_json.specs.Events.{value_events}
 use Rattle.gj_json.specs.Names.{known_of}
 use Rattle.gj_json.specs.Tree as Tree
-use Rattle.gj_json.specs.Tree.{Tree, constant, number, string, array, object, end_of_array, element, Members, end_of_object, member, Text, depth, elements_depth, members_depth}
+use Rattle.gj_json.specs.Tree.{Tree, constant, number, string, array, object, end_of_array, element, Members, end_of_object, member, Text, depth}
+use Rattle.gj_json.specs.Tree.{elements_depth, members_depth}
 use Rattle.gj_coords.specs.declared.fault.Fault.{Fault}
 use Rattle.gj_coords.specs.declared.fault.Rule.TheVariants.{G1}
 use Rattle.gj_coords.specs.Fault.{least, fault_at}
@@ -96,7 +98,8 @@ down k = omega arith
 -- ---- what a summary takes
 
 abbrev pub feeding : Known → Tree → List Event → List Event → Frame → List Frame → Findings → State
-feeding name v taken left f o a = record { core = record { skipped = 0; mode = Due name; top = f; outer = o; answer = a }; feed = record { value = v; taken = taken; left = left } }
+feeding name v taken left f o a =
+    record { core = record { skipped = 0; mode = Due name; top = f; outer = o; answer = a }; feed = record { value = v; taken = taken; left = left } }
 
 -- a name whose value a summary takes
 abbrev pub IsFed : Known → Type 0
@@ -106,9 +109,11 @@ IsFed _ = ⊥
 
 fits : (v : Tree) (taken : List Event) (x : Told) (xs rest : List Told) → depth v ≤ most_levels → taken ++ map event_of (x ∷ xs) ≡ value_events v
     → Fits (record { value = v; taken = taken; left = map event_of (x ∷ xs) }) ((x ∷ xs) ++ rest)
-fits v taken x xs rest d e = record { deep = d; next = event_of x; later = map event_of xs; more = map event_of rest; left = refl; split = e; comes = map-append event_of (x ∷ xs) rest }
+fits v taken x xs rest d e =
+    record { deep = d; next = event_of x; later = map event_of xs; more = map event_of rest; left = refl; split = e; comes = map-append event_of (x ∷ xs) rest }
 
-pub one_more : (v : Tree) (taken : List Event) (x : Told) (xs : List Told) → taken ++ map event_of (x ∷ xs) ≡ value_events v → (taken ++ event_of x ∷ []) ++ map event_of xs ≡ value_events v
+pub one_more : (v : Tree) (taken : List Event) (x : Told) (xs : List Told) → taken ++ map event_of (x ∷ xs) ≡ value_events v
+    → (taken ++ event_of x ∷ []) ++ map event_of xs ≡ value_events v
 one_more v taken x xs e = append_assoc taken (event_of x ∷ []) (map event_of xs) ∙ e
 
 -- a value has an event
@@ -183,9 +188,14 @@ frame_role ms f = ap (λ (s : MemberSlots). s.role) (members_shown ms f) ∙ (me
 -- the end of an object that has a role, below another
 abbrev pub behind : ℕ → Role → Findings → Frame → List Frame → Findings → State
 behind close r found f o a =
-    record { core = record { skipped = 0; mode = mode_behind r; top = taken_in (member_of r) found f; outer = o; answer = a }; feed = feed_behind (plain (close + 1) close What.CloseObject) (mode_behind r) }
+    record {
+      core = record { skipped = 0; mode = mode_behind r; top = taken_in (member_of r) found f; outer = o; answer = a };
+      feed =
+          feed_behind (plain (close + 1) close What.CloseObject) (mode_behind r);
+    }
 
-pub behind_idle : (close : ℕ) (r : Role) (found : Findings) (f : Frame) (o : List Frame) (a : Findings) → behind close r found f o a ≡ st 0 (mode_behind r) (taken_in (member_of r) found f) o a
+pub behind_idle : (close : ℕ) (r : Role) (found : Findings) (f : Frame) (o : List Frame) (a : Findings)
+    → behind close r found f o a ≡ st 0 (mode_behind r) (taken_in (member_of r) found f) o a
 behind_idle close Role.Root found f o a = refl
 behind_idle close Role.Geometry found f o a = refl
 behind_idle close Role.Part found f o a = refl
@@ -216,7 +226,8 @@ text_found text = record { fault = least (text_faults text); warned = text_kept 
 
 module _ (frames : ℕ) (few : frames ≤ MOST_FRAMES) where
   mutual
-    skip_value : (v : Tree) (rest : List Told) (k : ℕ) (m : Mode) (f : Frame) (o : List Frame) (a : Findings) (z : State → Type 0) → k + depth v ≤ levels_within frames
+    skip_value : (v : Tree) (rest : List Told) (k : ℕ) (m : Mode) (f : Frame) (o : List Frame) (a : Findings) (z : State → Type 0)
+        → k + depth v ≤ levels_within frames
         → LeadsTo frames rest (st (suc k) m f o a) z → LeadsTo frames (told v ++ rest) (st (suc k) m f o a) z
     skip_value (constant Null place) rest k m f o a z d h = (omega arith, h)
     skip_value (constant True place) rest k m f o a z d h = (omega arith, h)
@@ -238,14 +249,16 @@ module _ (frames : ℕ) (few : frames ≤ MOST_FRAMES) where
           (omega arith, subst (λ n. LeadsTo frames rest (st n m f o a) z) (sym (down k)) h))),
     )
 
-    skip_elements : (es : Tree.Elements) (rest : List Told) (k : ℕ) (m : Mode) (f : Frame) (o : List Frame) (a : Findings) (z : State → Type 0) → k + elements_depth es ≤ levels_within frames
+    skip_elements : (es : Tree.Elements) (rest : List Told) (k : ℕ) (m : Mode) (f : Frame) (o : List Frame) (a : Findings) (z : State → Type 0)
+        → k + elements_depth es ≤ levels_within frames
         → LeadsTo frames rest (st (suc k) m f o a) z → LeadsTo frames (elements_told es ++ rest) (st (suc k) m f o a) z
     skip_elements end_of_array rest k m f o a z d h = h
     skip_elements (element v more) rest k m f o a z d h =
         rw (append_assoc (told v) (elements_told more) rest)
         (skip_value v (elements_told more ++ rest) k m f o a z (omega arith) (skip_elements more rest k m f o a z (omega arith) h))
 
-    skip_members : (ms : Members) (rest : List Told) (k : ℕ) (m : Mode) (f : Frame) (o : List Frame) (a : Findings) (z : State → Type 0) → k + members_depth ms ≤ levels_within frames
+    skip_members : (ms : Members) (rest : List Told) (k : ℕ) (m : Mode) (f : Frame) (o : List Frame) (a : Findings) (z : State → Type 0)
+        → k + members_depth ms ≤ levels_within frames
         → LeadsTo frames rest (st (suc k) m f o a) z → LeadsTo frames (members_told ms ++ rest) (st (suc k) m f o a) z
     skip_members end_of_object rest k m f o a z d h = h
     skip_members (member place name end v more) rest k m f o a z d h = (
@@ -255,19 +268,23 @@ module _ (frames : ℕ) (few : frames ≤ MOST_FRAMES) where
     )
 
   -- the rest of an array or an object that is not looked into
-  array_skipped : (es : Tree.Elements) (close : ℕ) (rest : List Told) (m : Mode) (f : Frame) (o : List Frame) (a : Findings) (z : State → Type 0) → elements_depth es ≤ levels_within frames
+  array_skipped : (es : Tree.Elements) (close : ℕ) (rest : List Told) (m : Mode) (f : Frame) (o : List Frame) (a : Findings) (z : State → Type 0)
+      → elements_depth es ≤ levels_within frames
       → LeadsTo frames rest (st 0 m f o a) z → LeadsTo frames ((elements_told es ++ plain (close + 1) close What.CloseArray ∷ []) ++ rest) (st 1 m f o a) z
   array_skipped es close rest m f o a z d h =
       rw (append_assoc (elements_told es) (plain (close + 1) close What.CloseArray ∷ []) rest)
       (skip_elements es (plain (close + 1) close What.CloseArray ∷ rest) 0 m f o a z (omega arith) (omega arith, h))
 
-  object_skipped : (ms : Members) (close : ℕ) (rest : List Told) (m : Mode) (f : Frame) (o : List Frame) (a : Findings) (z : State → Type 0) → members_depth ms ≤ levels_within frames
+  object_skipped : (ms : Members) (close : ℕ) (rest : List Told) (m : Mode) (f : Frame) (o : List Frame) (a : Findings) (z : State → Type 0)
+      → members_depth ms ≤ levels_within frames
       → LeadsTo frames rest (st 0 m f o a) z → LeadsTo frames ((members_told ms ++ plain (close + 1) close What.CloseObject ∷ []) ++ rest) (st 1 m f o a) z
   object_skipped ms close rest m f o a z d h =
       rw (append_assoc (members_told ms) (plain (close + 1) close What.CloseObject ∷ []) rest)
       (skip_members ms (plain (close + 1) close What.CloseObject ∷ rest) 0 m f o a z (omega arith) (omega arith, h))
 
-  feed_all : (name : Known) → IsFed name → (v : Tree) (taken : List Event) (x : Told) (xs rest : List Told) (f : Frame) (o : List Frame) (a : Findings) (z : State → Type 0) → depth v ≤ levels_within frames → taken ++ map event_of (x ∷ xs) ≡ value_events v
+  feed_all : (name : Known) → IsFed name
+      → (v : Tree) (taken : List Event) (x : Told) (xs rest : List Told) (f : Frame) (o : List Frame) (a : Findings) (z : State → Type 0)
+      → depth v ≤ levels_within frames → taken ++ map event_of (x ∷ xs) ≡ value_events v
       → LeadsTo frames rest (st 0 Names (filled name v f) o a) z → LeadsTo frames ((x ∷ xs) ++ rest) (feeding name v taken (map event_of (x ∷ xs)) f o a) z
   feed_all Coordinates i v taken x [] rest f o a z d e h = (fits v taken x [] rest (omega arith) e, h)
   feed_all Coordinates i v taken x (y ∷ ys) rest f o a z d e h =
@@ -277,14 +294,16 @@ module _ (frames : ℕ) (few : frames ≤ MOST_FRAMES) where
       (fits v taken x (y ∷ ys) rest (omega arith) e, feed_all Bbox i v (taken ++ event_of x ∷ []) y ys rest f o a z d (one_more v taken x (y ∷ ys) e) h)
   feed_all _ i v taken x xs rest f o a z d e h = absurd i
 
-  feed_told : (name : Known) → IsFed name → (v : Tree) (x : Told) (xs rest : List Told) (f : Frame) (o : List Frame) (a : Findings) (z : State → Type 0) → depth v ≤ levels_within frames → told v ≡ x ∷ xs
+  feed_told : (name : Known) → IsFed name → (v : Tree) (x : Told) (xs rest : List Told) (f : Frame) (o : List Frame) (a : Findings) (z : State → Type 0)
+      → depth v ≤ levels_within frames → told v ≡ x ∷ xs
       → LeadsTo frames rest (st 0 Names (filled name v f) o a) z → LeadsTo frames (told v ++ rest) (feeding name v [] (value_events v) f o a) z
   feed_told name i v x xs rest f o a z d e h =
       subst (λ (es : List Event). LeadsTo frames (told v ++ rest) (feeding name v [] es f o a) z) (told-events v)
       (subst (λ (ts : List Told). LeadsTo frames (ts ++ rest) (feeding name v [] (map event_of ts) f o a) z) (sym e)
       (feed_all name i v [] x xs rest f o a z d (ap (λ (ts : List Told). map event_of ts) (sym e) ∙ told-events v) h))
 
-  feed_value : (name : Known) → IsFed name → (v : Tree) (rest : List Told) (f : Frame) (o : List Frame) (a : Findings) (z : State → Type 0) → depth v ≤ levels_within frames
+  feed_value : (name : Known) → IsFed name → (v : Tree) (rest : List Told) (f : Frame) (o : List Frame) (a : Findings) (z : State → Type 0)
+      → depth v ≤ levels_within frames
       → LeadsTo frames rest (st 0 Names (filled name v f) o a) z → LeadsTo frames (told v ++ rest) (feeding name v [] (value_events v) f o a) z
   feed_value name i v rest f o a z d h = let s = some_told v in feed_told name i v s.0 s.1 rest f o a z d s.2 h
 
@@ -303,7 +322,8 @@ module _ (frames : ℕ) (few : frames ≤ MOST_FRAMES) where
   mutual
     -- the value of a first member, in an object at level n
     pub lead_due : (v : Tree) (name : Known) (rest : List Told) (f : Frame) (o : List Frame) (a : Findings) (z : State → Type 0) (n : ℕ) (r : Role)
-        → n + depth v ≤ levels_within frames → IsWithin n o r → f.slots.role ≡ r → MayHold r name → LeadsTo frames rest (st 0 Names (filled name v f) o a) z → LeadsTo frames (told v ++ rest) (due_st name v f o a) z
+        → n + depth v ≤ levels_within frames → IsWithin n o r → f.slots.role ≡ r → MayHold r name → LeadsTo frames rest (st 0 Names (filled name v f) o a) z
+        → LeadsTo frames (told v ++ rest) (due_st name v f o a) z
     lead_due v Coordinates rest f o a z n r d w e m h = feed_value Coordinates tt v rest f o a z (omega arith) h
     lead_due v Bbox rest f o a z n r d w e m h = feed_value Bbox tt v rest f o a z (omega arith) h
     lead_due (constant Null place) name rest f o a z n r d w e m h = (tt, h)
@@ -314,25 +334,31 @@ module _ (frames : ℕ) (few : frames ≤ MOST_FRAMES) where
     lead_due (array place es close) Geometries rest f o a z n r d w e m h = (
       tt,
       rw (append_assoc (elements_told es) (plain (close + 1) close What.CloseArray ∷ []) rest)
-          (lead_elements es Role.Part tt (plain (close + 1) close What.CloseArray ∷ rest) f o a z (n + 1) (omega arith) (omega (arith, credit_small r)) (tt, h)),
+          (lead_elements es Role.Part tt (plain (close + 1) close What.CloseArray ∷ rest) f o a z (n + 1) (omega arith) (omega (arith, credit_small r))
+          (tt, h)),
     )
     lead_due (array place es close) Features rest f o a z n r d w e m h = (
       tt,
       rw (append_assoc (elements_told es) (plain (close + 1) close What.CloseArray ∷ []) rest)
           (lead_elements es Role.Feature tt (plain (close + 1) close What.CloseArray ∷ rest) f o a z (n + 1) (omega arith) (omega (arith, m)) (tt, h)),
     )
-    lead_due (array place es close) name rest f o a z n r d w e m h = (tt, array_skipped es close rest Names (filled name (array place es close) f) o a z (omega arith) h)
+    lead_due (array place es close) name rest f o a z n r d w e m h =
+        (tt, array_skipped es close rest Names (filled name (array place es close) f) o a z (omega arith) h)
     lead_due (object place ms close) Geometry rest f o a z n r d w e m h = (
       omega (arith, credit_small r),
       rw (append_assoc (members_told ms) (plain (close + 1) close What.CloseObject ∷ []) rest)
-          (lead_members ms (plain (close + 1) close What.CloseObject ∷ rest) (blank Role.Geometry place) (f ∷ o) a z (n + 1) Role.Geometry (omega arith) (omega (arith, m)) refl
+          (lead_members ms (plain (close + 1) close What.CloseObject ∷ rest) (blank Role.Geometry place) (f ∷ o) a z (n + 1) Role.Geometry (omega arith)
+          (omega (arith, m)) refl
           (close_below Role.Geometry place close ms rest f o a z h)),
     )
-    lead_due (object place ms close) name rest f o a z n r d w e m h = (omega (arith, credit_small r), object_skipped ms close rest Names (filled name (object place ms close) f) o a z (omega arith) h)
+    lead_due (object place ms close) name rest f o a z n r d w e m h =
+        (omega (arith, credit_small r), object_skipped ms close rest Names (filled name (object place ms close) f) o a z (omega arith) h)
 
     -- an element of an array of values with a role, where the array is at level n
     pub lead_element : (v : Tree) (r : Role) → IsListed r → (rest : List Told) (f : Frame) (o : List Frame) (a : Findings) (z : State → Type 0) (n : ℕ)
-        → n + depth v ≤ levels_within frames → 2 * (length o + 2) ≤ n + 1 + credit r → LeadsTo frames rest (st 0 (Elements r) (taken_any (member_of r) (least (faults r v)) (kept r v) f) o a) z → LeadsTo frames (told v ++ rest) (st 0 (Elements r) f o a) z
+        → n + depth v ≤ levels_within frames → 2 * (length o + 2) ≤ n + 1 + credit r
+        → LeadsTo frames rest (st 0 (Elements r) (taken_any (member_of r) (least (faults r v)) (kept r v) f) o a) z
+        → LeadsTo frames (told v ++ rest) (st 0 (Elements r) f o a) z
     lead_element (constant Null place) Role.Part i rest f o a z n d w h = (tt, h)
     lead_element (constant Null place) Role.Feature i rest f o a z n d w h = (tt, h)
     lead_element (constant Null place) _ i rest f o a z n d w h = absurd i
@@ -340,18 +366,22 @@ module _ (frames : ℕ) (few : frames ≤ MOST_FRAMES) where
     lead_element (constant False place) r i rest f o a z n d w h = (tt, h)
     lead_element (number place literal end) r i rest f o a z n d w h = (tt, h)
     lead_element (string place content end) r i rest f o a z n d w h = (tt, h)
-    lead_element (array place es close) r i rest f o a z n d w h = (tt, array_skipped es close rest (Elements r) (joined (member_of r) (Some (fault_at place G1)) f) o a z (omega arith) h)
+    lead_element (array place es close) r i rest f o a z n d w h =
+        (tt, array_skipped es close rest (Elements r) (joined (member_of r) (Some (fault_at place G1)) f) o a z (omega arith) h)
     lead_element (object place ms close) r i rest f o a z n d w h = (
       omega (arith, credit_small r),
       rw (append_assoc (members_told ms) (plain (close + 1) close What.CloseObject ∷ []) rest)
           (lead_members ms (plain (close + 1) close What.CloseObject ∷ rest) (blank r place) (f ∷ o) a z (n + 1) r (omega arith) (omega arith) refl
           (close_below r place close ms rest f o a z
-          (subst (λ (m : Mode). LeadsTo frames rest (st 0 m (taken_any (member_of r) (least (faults r (object place ms close))) (kept r (object place ms close)) f) o a) z) (sym (mode_listed r i)) h))),
+          (subst (λ (m : Mode). LeadsTo frames rest
+          (st 0 m (taken_any (member_of r) (least (faults r (object place ms close))) (kept r (object place ms close)) f) o a) z)
+          (sym (mode_listed r i)) h))),
     )
 
     lead_elements : (es : Tree.Elements) (r : Role) → IsListed r → (rest : List Told) (f : Frame) (o : List Frame) (a : Findings) (z : State → Type 0) (n : ℕ)
         → n + elements_depth es ≤ levels_within frames → 2 * (length o + 2) ≤ n + 1 + credit r
-        → LeadsTo frames rest (st 0 (Elements r) (taken_any (member_of r) (least (all_faults r es)) (all_kept r es) f) o a) z → LeadsTo frames (elements_told es ++ rest) (st 0 (Elements r) f o a) z
+        → LeadsTo frames rest (st 0 (Elements r) (taken_any (member_of r) (least (all_faults r es)) (all_kept r es) f) o a) z
+        → LeadsTo frames (elements_told es ++ rest) (st 0 (Elements r) f o a) z
     lead_elements end_of_array r i rest f o a z n d w h = subst (λ (g : Frame). LeadsTo frames rest (st 0 (Elements r) g o a) z) (taken_none (member_of r) f) h
     lead_elements (element v more) r i rest f o a z n d w h =
         rw (append_assoc (told v) (elements_told more) rest)
@@ -363,7 +393,8 @@ module _ (frames : ℕ) (few : frames ≤ MOST_FRAMES) where
 
     -- the members of an object at level n
     pub lead_members : (ms : Members) (rest : List Told) (f : Frame) (o : List Frame) (a : Findings) (z : State → Type 0) (n : ℕ) (r : Role)
-        → n + members_depth ms ≤ levels_within frames → IsWithin n o r → f.slots.role ≡ r → LeadsTo frames rest (st 0 Names (members_taken ms f) o a) z → LeadsTo frames (members_told ms ++ rest) (st 0 Names f o a) z
+        → n + members_depth ms ≤ levels_within frames → IsWithin n o r → f.slots.role ≡ r → LeadsTo frames rest (st 0 Names (members_taken ms f) o a) z
+        → LeadsTo frames (members_told ms ++ rest) (st 0 Names f o a) z
     lead_members end_of_object rest f o a z n r d w e h = h
     lead_members (member place name end v more) rest f o a z n r d w e h = (
       tt,
@@ -372,7 +403,8 @@ module _ (frames : ℕ) (few : frames ≤ MOST_FRAMES) where
           ((named_object (known_of name) place f.slots (is_known (known_of name)) (slot_of (known_of name) f.slots)).role ∙ e)
           (subst (λ (q : Role). MayHold r (if is_known (known_of name) then due_known (known_of name) (slot_of (known_of name) f.slots) q else Other)) (sym e)
           (due_holds (known_of name) r (is_known (known_of name)) (uses r (known_of name)) (slot_of (known_of name) f.slots) refl))
-          (lead_members more rest (member_taken place (known_of name) v f) o a z n r (omega arith) w ((member_object (known_of name) place v f.slots).role ∙ e) h)),
+          (lead_members more rest (member_taken place (known_of name) v f) o a z n r (omega arith) w
+          ((member_object (known_of name) place v f.slots).role ∙ e) h)),
     )
 
   lead_root : (v : Tree) (had : Warnings) → depth v ≤ levels_within frames → Leads frames (told v) (due_root had) (found_behind had v)
@@ -382,15 +414,20 @@ module _ (frames : ℕ) (few : frames ≤ MOST_FRAMES) where
   lead_root (number place literal end) had d = (tt, refl)
   lead_root (string place content end) had d = (tt, refl)
   lead_root (array place es close) had d =
-      let found : Findings = found_behind had (array place es close) in
-      (tt, skip_elements es (plain (close + 1) close What.CloseArray ∷ []) 0 Done (blank Role.Root 0) [] found (λ t. t.core.answer ≡ found) (omega arith) (omega arith, refl))
+      let found : Findings = found_behind had (array place es close) in (
+        tt,
+        skip_elements es (plain (close + 1) close What.CloseArray ∷ []) 0 Done (blank Role.Root 0) [] found (λ t. t.core.answer ≡ found) (omega arith)
+            (omega arith, refl),
+      )
   lead_root (object place ms close) had d = (
     omega arith,
-    lead_members ms (plain (close + 1) close What.CloseObject ∷ []) (blank Role.Root place) [] (had_found had) (λ t. t.core.answer ≡ found_behind had (object place ms close)) 1 Role.Root (omega arith) (omega arith) refl
+    lead_members ms (plain (close + 1) close What.CloseObject ∷ []) (blank Role.Root place) [] (had_found had)
+        (λ t. t.core.answer ≡ found_behind had (object place ms close)) 1 Role.Root (omega arith) (omega arith) refl
         (tt, ap (λ (x : Findings). record { fault = x.fault; warned = Noted.joined had x.warned }) (all_closed Role.Root place close ms)),
   )
 
-  lead_marked : (marked : Bool) (v : Tree) → depth v ≤ levels_within frames → Leads frames (mark_told marked ++ told v) start (found_behind (marked_kept marked) v)
+  lead_marked : (marked : Bool) (v : Tree) → depth v ≤ levels_within frames
+      → Leads frames (mark_told marked ++ told v) start (found_behind (marked_kept marked) v)
   lead_marked true v d = (tt, lead_root v (marked_kept true) d)
   lead_marked false v d = lead_root v (marked_kept false) d
 

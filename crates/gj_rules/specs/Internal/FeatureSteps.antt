@@ -161,7 +161,8 @@ is_scalar _ = false
 
 -- an object has ended, in which this is found
 abbrev pub feature_found : Findings → ℕ → FeatureCount → Feature
-feature_found found close c = record { index = c.index; place = c.place; close = Some close; id = c.id; fault = found.fault; warnings = kept_unless found.fault found.warned }
+feature_found found close c =
+    record { index = c.index; place = c.place; close = Some close; id = c.id; fault = found.fault; warnings = kept_unless found.fault found.warned }
 
 -- an element that is no object
 abbrev pub no_feature : ℕ → ℕ → Option ℕ → Feature
@@ -222,7 +223,8 @@ features_in all = map (λ (x : TimedFeature). x.feature) all
 
 -- after these events of a text of fewer than 2^63 events this is the count, and what they tell was told
 abbrev pub FeaturesAre : (List Feature → Type 0) → FeatureCount → List Event → Type 0
-FeaturesAre Told c events = (text : Text) (done rest : List L.Told) → text_told text ≡ done ++ rest → map event_of done ≡ events → depth text.value ≤ most_levels → length (text_told text) < 2 ^ 63
+FeaturesAre Told c events = (text : Text) (done rest : List L.Told) → text_told text ≡ done ++ rest → map event_of done ≡ events
+    → depth text.value ≤ most_levels → length (text_told text) < 2 ^ 63
     → (c ≡ count done start no_count) × Told (features_in (heard done start no_count))
 
 -- rules and a count were told these events, and this holds of what these tell

@@ -58,7 +58,8 @@ shapes_if Shaped.One shapes = alike (one_in shapes)
 shapes_if Shaped.Each shapes = shapes_in shapes
 
 abbrev pub none_present : Present
-none_present = record { type_name = false; coordinates = false; geometries = false; geometry = false; properties = false; features = false; bbox = false; id = false }
+none_present = record
+    { type_name = false; coordinates = false; geometries = false; geometry = false; properties = false; features = false; bbox = false; id = false }
 
 abbrev pub slot_in : Bool → Slot → Option Slot
 slot_in true slot = Some slot

@@ -107,4 +107,5 @@ Feeds old event new =
 
 -- the events were more of the value that a summary takes
 abbrev pub FeedsMany : {frames : ℕ} → FramedRules frames → List Event → FramedRules frames → Type 0
-FeedsMany old events new = (value : Tree) (taken left : List Event) → depth value ≤ most_levels → Holds old taken → (taken ++ events) ++ left ≡ value_events value → Fed old value (taken ++ events) left new
+FeedsMany old events new = (value : Tree) (taken left : List Event) → depth value ≤ most_levels → Holds old taken
+    → (taken ++ events) ++ left ≡ value_events value → Fed old value (taken ++ events) left new

@@ -28,7 +28,15 @@ abbrev pub none_found : Findings
 none_found = record { fault = None; warned = no_warnings }
 
 abbrev pub no_shapes : Shapes
-no_shapes = record { point = none_found; multi_point = none_found; line_string = None; multi_line_string = none_found; polygon = none_found; multi_polygon = none_found }
+no_shapes = record {
+  point = none_found;
+  multi_point = none_found;
+  line_string = None;
+  multi_line_string = none_found;
+  polygon = none_found;
+  multi_polygon =
+      none_found;
+}
 
 abbrev pub shape_for : Simple → Shapes → Option Fault
 shape_for Simple.Point shapes = shapes.point.fault

@@ -17,7 +17,8 @@ impl Frame {
     /// Adds those of a GeometryCollection: of its geometries, and that it is one of another's (RFC 7946, section 3.1.8).
     #[tactic(auto, using(crate::proofs::Objects::WarningsInTurn::and_one))]
     fn warn_collected(&self, warned: &mut Warned)
-        ensures { all_in warned.new ≡ joined (all_in warned.old) (collected self.now.slots.role self.now.slots.place (counted_in self.now.gathered.geometries)) }
+        ensures { all_in warned.new ≡ joined (all_in warned.old)
+            (collected self.now.slots.role self.now.slots.place (counted_in self.now.gathered.geometries)) }
     {
         self.gathered.geometries.add_to(warned);
         match self.slots.role {

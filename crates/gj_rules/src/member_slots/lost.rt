@@ -9,7 +9,8 @@ impl MemberSlots {
     ghost use Rattle.std.specs.Prelude.{is_some};
     ghost use Rattle.gj_rules.specs.Internal.FrameReading.{slots_in};
     ghost use Rattle.gj_rules.specs.Internal.OpenMembers.{slot_of};
-    ghost use Rattle.gj_rules.specs.Internal.LostObjects.{slot_fails, geometry_forbids, simple_fails, collection_fails, feature_forbids, feature_fails, features_forbid, features_fails, fails_as, all_fail, is_lost};
+    ghost use Rattle.gj_rules.specs.Internal.LostObjects.{slot_fails, geometry_forbids, simple_fails, collection_fails, feature_forbids, feature_fails};
+    ghost use Rattle.gj_rules.specs.Internal.LostObjects.{features_forbid, features_fails, fails_as, all_fail, is_lost};
 
     /// It has a member of this name.
     fn has(&self, name: Known) -> bool

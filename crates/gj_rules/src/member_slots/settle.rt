@@ -10,7 +10,8 @@ impl MemberSlots {
     ghost use Rattle.gj_coords.specs.Internal.KeptWarnings.{joined};
     ghost use Rattle.gj_coords.specs.Internal.GatheredWarnings.{all_in};
     ghost use Rattle.gj_rules.specs.Internal.Summaries.{shape_for, warned_for};
-    ghost use Rattle.gj_rules.specs.Internal.OpenMembers.{due_shape, settled, rest_of, as_type, as_simple, geometry_forbids, feature_forbids, feature_dues, features_forbid, due_slot, forbidden_slot, slot_fault};
+    ghost use Rattle.gj_rules.specs.Internal.OpenMembers.{due_shape, settled, rest_of, as_type, as_simple, geometry_forbids, feature_forbids, feature_dues};
+    ghost use Rattle.gj_rules.specs.Internal.OpenMembers.{features_forbid, due_slot, forbidden_slot, slot_fault};
 
     fn due(&self, slot: Option<Slot>, rule: Rule) -> Option<Fault>
         ensures { result ≡ due_slot self.now.place rule slot }

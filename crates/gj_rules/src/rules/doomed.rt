@@ -31,9 +31,11 @@ impl<const FRAMES: usize> FramedRules<FRAMES> {
 
     /// Each text that has these events first has a fault.
     pub fn doomed(&self) -> bool
-        ensures sound { (text : Text) (bytes : List ℕ) (n : ℕ) → IsText text bytes → depth text.value ≤ levels_within FRAMES → StandsFor self.now (events_by n text)
+        ensures sound { (text : Text) (bytes : List ℕ) (n : ℕ) → IsText text bytes → depth text.value ≤ levels_within FRAMES
+            → StandsFor self.now (events_by n text)
             → result ≡ true → text_faults text ≡ [] → ⊥ }
-        ensures early { (text : Text) (bytes : List ℕ) (n : ℕ) → IsText text bytes → depth text.value ≤ levels_within FRAMES → StandsFor self.now (events_by n text)
+        ensures early { (text : Text) (bytes : List ℕ) (n : ℕ) → IsText text bytes → depth text.value ≤ levels_within FRAMES
+            → StandsFor self.now (events_by n text)
             → is_doomed (events_by n text) ≡ true → result ≡ true }
     {
         self.is_lost()

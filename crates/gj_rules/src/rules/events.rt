@@ -34,7 +34,8 @@ impl<const FRAMES: usize> FramedRules<FRAMES> {
     #[inline(never)]
     fn pop(&mut self)
         ensures rests { is_feeding 0 self.new.mode ≡ false }
-        ensures core { core_of self.new ≡ popped (core_of self.old).outer (core_of self.old).top.slots.role (settled (core_of self.old).top) (core_of self.old) }
+        ensures core { core_of self.new ≡ popped (core_of self.old).outer (core_of self.old).top.slots.role (settled (core_of self.old).top)
+            (core_of self.old) }
     {
         if self.is_top_clean() {
             self.pop_clean();
@@ -71,7 +72,8 @@ impl<const FRAMES: usize> FramedRules<FRAMES> {
     #[inline(never)]
     fn pop_found(&mut self)
         ensures rests { is_feeding 0 self.new.mode ≡ false }
-        ensures core { core_of self.new ≡ popped (core_of self.old).outer (core_of self.old).top.slots.role (settled (core_of self.old).top) (core_of self.old) }
+        ensures core { core_of self.new ≡ popped (core_of self.old).outer (core_of self.old).top.slots.role (settled (core_of self.old).top)
+            (core_of self.old) }
     {
         let role = self.role();
         let mut found = Findings::none();

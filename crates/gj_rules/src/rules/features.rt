@@ -68,7 +68,8 @@ impl<const FRAMES: usize> FramedRules<FRAMES> {
         requires skipped { self.old.skipped ≡ 0 }
         requires mode { self.old.mode ≡ Mode.Names }
         requires clean { settled (core_of self.old).top ≡ none_found }
-        ensures { (place : ℕ) (events : List Event) → StandsFor self.old events → StandsFor self.new (events ++ record { place = place; what = W.CloseObject } ∷ []) }
+        ensures { (place : ℕ) (events : List Event) → StandsFor self.old events
+            → StandsFor self.new (events ++ record { place = place; what = W.CloseObject } ∷ []) }
     {
         self.pop_clean();
     }

@@ -170,7 +170,9 @@ impl OpenRecord {
     #[inline]
     pub fn is_clean_as(&self, framing: Framing) -> bool
         ensures { (bytes : List ℕ) → StandsFor self.now bytes → IsTrue result →
-            IsOwnVerdict framing self.now.limits.depth (record { start = self.now.start; bytes = bytes; end = RecordEnd.Separator }) (Verdict.Valid no_warnings) }
+            IsOwnVerdict framing self.now.limits.depth
+            (record { start = self.now.start; bytes = bytes; end = RecordEnd.Separator })
+            (Verdict.Valid no_warnings) }
     {
         match framing {
             Framing::Sequence => self.last == LINE_FEED && self.linter.is_clean(),
@@ -220,7 +222,8 @@ impl OpenRecord {
 
     /// How many of the open objects have a role by their position.
     pub fn judged(&self) -> u16
-        ensures { (bytes rest : List ℕ) (text : Text) → StandsFor self.now bytes → refusal_of self.now.linter ≡ None → IsTextWithin self.now.limits.depth text (bytes ++ rest) →
+        ensures { (bytes rest : List ℕ) (text : Text) → StandsFor self.now bytes → refusal_of self.now.linter ≡ None
+            → IsTextWithin self.now.limits.depth text (bytes ++ rest) →
             result ≡ judged_at (length bytes) text }
     {
         bytes_taken();

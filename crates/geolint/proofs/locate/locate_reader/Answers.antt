@@ -54,10 +54,12 @@ returns-then-place-offset-clause-path g c =
     let front : take wanted piece ≡ take wanted all = taken_again wanted c.in-Ok.count all w.within in
     let within_all : wanted ≤ length all = omega (arith, w.within, c.in-Ok.ensures.bound.0) in
     let taken : length (take wanted all) ≡ wanted = length-take-le wanted all within_all in
-    let exact : wanted ≡ c.args.place - c.loop-count.offset + 1 = c.wanted-wanted.ensures.some (omega (arith, c.if-place-offset.true, c.loop-count.invariant.before)) in
+    let exact : wanted ≡ c.args.place - c.loop-count.offset + 1 =
+    c.wanted-wanted.ensures.some (omega (arith, c.if-place-offset.true, c.loop-count.invariant.before)) in
     let reached : length read + wanted ≡ c.args.place + 1 = omega (arith, exact, count, c.loop-count.invariant.before) in
     let here : length (read ++ take wanted all) ≡ c.args.place + 1 = length-append read (take wanted all) ∙ (ap (λ (n : ℕ). length read + n) taken ∙ reached) in
-    let answer = subst (λ (l : Allowed). IsViableWithin l.depth (read ++ take wanted all) × (length (read ++ take wanted all) ≤ l.bytes)) c.loop-count.invariant.limits
+    let answer = subst (λ (l : Allowed). IsViableWithin l.depth (read ++ take wanted all) × (length (read ++ take wanted all) ≤ l.bytes))
+    c.loop-count.invariant.limits
     (rw (c.in-Ok-feed.is) at (c.feed.ensures.answer read stands)) in
     let taken_all = c.feed.ensures.stands in
     let live = rw (c.in-Ok-feed.is) at c.feed.ensures.refusal in
@@ -79,9 +81,11 @@ within g c =
     let all : List ℕ = c.read_piece.new.piece in
     let taken : length (take c.in-Ok.count all) ≡ c.in-Ok.count = length-take-le c.in-Ok.count all c.in-Ok.ensures.bound.0 in
     let long : length (take c.wanted-wanted.result all) ≡ c.in-Ok.count = ap (λ (n : ℕ). length (take n all)) (all_wanted g c) ∙ taken in
-    let answer = subst (λ (l : Allowed). IsViableWithin l.depth (read ++ take c.wanted-wanted.result all) × (length (read ++ take c.wanted-wanted.result all) ≤ l.bytes)) c.loop-count.invariant.limits
+    let answer = subst (λ (l : Allowed). IsViableWithin l.depth (read ++ take c.wanted-wanted.result all)
+    × (length (read ++ take c.wanted-wanted.result all) ≤ l.bytes)) c.loop-count.invariant.limits
     (rw (c.in-Ok-feed.is) at (c.feed.ensures.answer read stands)) in
-    let here : length (read ++ take c.wanted-wanted.result all) ≡ length read + length (take c.wanted-wanted.result all) = length-append read (take c.wanted-wanted.result all) in
+    let here : length (read ++ take c.wanted-wanted.result all) ≡ length read + length (take c.wanted-wanted.result all) =
+    length-append read (take c.wanted-wanted.result all) in
     omega (arith, here, long, count, answer.1)
 
 pub loop-count-smaller : goal.loop-count-smaller

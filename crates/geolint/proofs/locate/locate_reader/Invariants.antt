@@ -5,7 +5,8 @@ use Rattle.geolint.proofs.locate.locate_reader.Given as goal
 
 abbrev pub invariant-loop-count : goal.invariant-loop-count
 invariant-loop-count g l = record {
-  read : (read : List ℕ) × Consumes (g.S.Source.remaining l.initial.reader) (g.S.Source.remaining l.reader) read × (length read ≡ l.offset) × StandsFor l.locator read;
+  read : (read : List ℕ) × Consumes (g.S.Source.remaining l.initial.reader) (g.S.Source.remaining l.reader) read × (length read ≡ l.offset)
+      × StandsFor l.locator read;
   live : refusal_of l.locator ≡ None;
   limits : limits_of l.locator ≡ l.fn.limits;
   before : l.offset ≤ l.fn.place;

@@ -15,7 +15,8 @@ pub returns-in-Ok-Decided-clause-valid : goal.returns-in-Ok-Decided-clause-valid
 returns-in-Ok-Decided-clause-valid g c =
     let linter = c.read.new.fed in
     let limits = c.new-linter.ensures.limits in
-    quick-decided (StandsFor linter) (limits_of linter) c.args.limits (c.read.ensures.limits ∙ limits) _ _ (rw (c.in-Ok-Decided.field-0-is) at (c.in-Ok-Decided.ensures.ends c.new-linter.ensures.stands limits))
+    quick-decided (StandsFor linter) (limits_of linter) c.args.limits (c.read.ensures.limits ∙ limits) _ _
+    (rw (c.in-Ok-Decided.field-0-is) at (c.in-Ok-Decided.ensures.ends c.new-linter.ensures.stands limits))
 
 pub returns-in-Ok-Open-clause-stops : goal.returns-in-Ok-Open-clause-stops
 returns-in-Ok-Open-clause-stops g c = c.read.ensures.stops c.new-linter.ensures.stands c.new-linter.ensures.limits

@@ -7,7 +7,8 @@ pub returns-in-Ok-clause-verdict : goal.returns-in-Ok-clause-verdict
 returns-in-Ok-clause-verdict g c =
     let sequence = c.read.new.fed in
     let limits = c.new-sequence.ensures.limits in
-    sequence-read c.one_sequence_verdict.ensures.one c.one_sequence_verdict.ensures.said (StandsFor sequence) (limits_of sequence) c.args.limits (c.read.ensures.limits ∙ limits) _ _ c.in-Ok.field-0 _
+    sequence-read c.one_sequence_verdict.ensures.one c.one_sequence_verdict.ensures.said (StandsFor sequence) (limits_of sequence) c.args.limits
+    (c.read.ensures.limits ∙ limits) _ _ c.in-Ok.field-0 _
     (c.in-Ok.ensures.ends c.new-sequence.ensures.stands limits) c.finish.ensures
 
 pub returns-in-Ok-clause-stops : goal.returns-in-Ok-clause-stops

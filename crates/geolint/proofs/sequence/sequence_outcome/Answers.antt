@@ -6,5 +6,6 @@ use Rattle.geolint.proofs.sequence.sequence_outcome.Goals as goal
 
 pub returns-in-Valid : goal.returns-in-Valid
 returns-in-Valid c =
-    for_all_valid (λ judgement. c.outcome_of.result ≡ sequence_outcome c.args.strict judgement) c.args.verdict c.in-Valid.records c.in-Valid.warnings c.in-Valid.is
+    for_all_valid (λ judgement. c.outcome_of.result ≡ sequence_outcome c.args.strict judgement) c.args.verdict c.in-Valid.records c.in-Valid.warnings
+    c.in-Valid.is
     (λ records all stands. c.outcome_of.ensures (valid all) stands)

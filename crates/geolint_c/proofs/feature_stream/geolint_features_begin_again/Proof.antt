@@ -1,5 +1,14 @@
--- `geolint_features_begin_again` meets its contract: a walk of its MIR. The handle is lent for a lifetime that is made for the call of `FeatureHandle::begin_again`, and comes back once it is ended.
-use Rattle.geolint_c.proofs.ExportedCalls.{ !, ℕ, [], ◌∷◌, refl, subst, lit<, w32, MutBor, proved, full_share, sep, emp, ex, ex_i, via, mono_r, id⊢, ftrue, flft, flent, named, Val, vint, vptr, WpFn, fact, fact_i, tables, sem, ‵, raw, ◌⊛◌, some, later, prop, at_ret, ◌$◌, ◌∵◌, qed, done, move, keep, drop, use0, use1, use2, use3, split, join, fsplit, pick, await, regoal, suffices, group, enter, of_opd, lit, bin, addr, stop, no_more, and_then, first, branches, skips, exec, returns, returns_within, alloc_all, pass_all, free_all, look_at, get, through, sets, lands_as, env, lft_new, lft_end, u32, if_non_null, Body, yes, shows, Is, uint_Lawful, uint_Makes, Ptr, RawPtr, block_ptr, null_ptr, lies_at, rawptr_vals, rawptr_Tells, Testable, tests_null, MutRef, mut_vals, mem, plain, nothing, owned, heard, peeks, calls_at, lasts, on_entry, triple_of, on_exit, Stays, walk_of, stay_dropped, Goes-dropped, ends_at, framed, lends_ref, ref_back, by_form, w64, u64, uint_vals, uint_Tells, ptr_val}
+-- `geolint_features_begin_again` meets its contract: a walk of its MIR. The handle is lent for a lifetime that is made for the
+-- call of `FeatureHandle::begin_again`, and comes back once it is ended.
+use Rattle.geolint_c.proofs.ExportedCalls.{ !, ℕ, [], ◌∷◌, refl, subst, lit<, w32, MutBor, proved, full_share, sep, emp, ex, ex_i, via, mono_r, id⊢, ftrue}
+use Rattle.geolint_c.proofs.ExportedCalls.{flft, flent, named, Val, vint, vptr, WpFn, fact, fact_i, tables, sem, ‵, raw, ◌⊛◌, some, later, prop, at_ret, ◌$◌, ◌∵◌}
+use Rattle.geolint_c.proofs.ExportedCalls.{qed, done, move, keep, drop, use0, use1, use2, use3, split, join, fsplit, pick, await, regoal, suffices, group}
+use Rattle.geolint_c.proofs.ExportedCalls.{enter, of_opd, lit, bin, addr, stop, no_more, and_then, first, branches, skips, exec, returns, returns_within}
+use Rattle.geolint_c.proofs.ExportedCalls.{alloc_all, pass_all, free_all, look_at, get, through, sets, lands_as, env, lft_new, lft_end, u32, if_non_null, Body}
+use Rattle.geolint_c.proofs.ExportedCalls.{yes, shows, Is, uint_Lawful, uint_Makes, Ptr, RawPtr, block_ptr, null_ptr, lies_at, rawptr_vals, rawptr_Tells}
+use Rattle.geolint_c.proofs.ExportedCalls.{Testable, tests_null, MutRef, mut_vals, mem, plain, nothing, owned, heard, peeks, calls_at, lasts, on_entry}
+use Rattle.geolint_c.proofs.ExportedCalls.{triple_of, on_exit, Stays, walk_of, stay_dropped, Goes-dropped, ends_at, framed, lends_ref, ref_back, by_form, w64}
+use Rattle.geolint_c.proofs.ExportedCalls.{u64, uint_vals, uint_Tells, ptr_val}
 use Rattle.geolint_c.specs.declared.features.FeatureHandle.{FeatureHandle}
 use Rattle.geolint_c.specs.Features.{IsBegun}
 use Rattle.geolint_c.specs.Handle.{BegunStatus}
@@ -17,8 +26,10 @@ stayed = (stay_dropped _ yes, (stay_dropped _ yes, (stay_dropped _ yes, tt)))
 pub geolint_features_begin_again_spec : {M : Type 1} → statement M
 geolint_features_begin_again_spec 𝓤 𝓛 𝓜 𝓡 wired =
     let c = f.clauses 𝓛 𝓜.mem 𝓡.returns in let W = walk_of 𝓛 f.ended stayed c in let 𝓣 = tables 𝓤 𝓛.H 𝓜 𝓡 𝓡.env in
-    proved 𝓛 f.ended stayed c 𝓜 𝓡
-    (Goes-dropped 𝓛 0 (plain (λ _. RawPtr)) yes (λ κs x w. refl), (Goes-dropped 𝓛 0 (plain (λ _. u32)) yes (λ κs x w. refl), (Goes-dropped 𝓛 0 (plain (λ _. u64)) yes (λ κs x w. refl), tt)))
+    proved 𝓛 f.ended stayed c 𝓜 𝓡 (
+      Goes-dropped 𝓛 0 (plain (λ _. RawPtr)) yes (λ κs x w. refl),
+      (Goes-dropped 𝓛 0 (plain (λ _. u32)) yes (λ κs x w. refl), (Goes-dropped 𝓛 0 (plain (λ _. u64)) yes (λ κs x w. refl), tt)),
+    )
     f.Key.name code.function (code.unfolded 𝓤 𝓛.H 𝓜 𝓡 wired)
     (λ κs. (rawptr_vals, (uint_vals w32, (uint_vals w64, tt)))) (λ κs. (rawptr_Tells, (uint_Tells w32, (uint_Tells w64, tt)))) (λ κs qs bounds a held are.
     let p = a.0 in let d = a.1.0 in let m = a.1.1.0 in
@@ -27,7 +38,8 @@ geolint_features_begin_again_spec 𝓤 𝓛 𝓜 𝓡 wired =
     let Runs = λ (p : Ptr). prop (WpFn 𝓤 𝓛.H 𝓣.C 𝓣.Λ code.function (ptr_val p ∷ vint w32 d ∷ vint w64 m ∷ []) (W.post (y p))) in
     let X = λ (p : Ptr) (v : Val) (st : ℕ). on_exit 𝓛 f.ended stayed κs qs (y p).0.4 v st (y p).0.3 (tt, (tt, (tt, tt))) in
     let Φ = λ (p : Ptr) (st : ℕ) (new : FeatureHandle). sep 𝓤 (sem 𝓛 (if_non_null p (lies_at R full_share p new))) (fact 𝓤 (BegunAt p d m st new)) in
-    let ends = λ (p : Ptr) (v : Val) (st : ℕ) (new : FeatureHandle). via 𝓤 (sep 𝓤 (X p v st) (ex 𝓤 (Φ p st))) (mono_r 𝓤 (X p v st) (ex_i 𝓤 (Φ p st) new)) (ends_at 𝓛 f.ended stayed c (y p) v st (tt, (tt, (tt, tt))) (tt, (tt, (tt, tt)))) in
+    let ends = λ (p : Ptr) (v : Val) (st : ℕ) (new : FeatureHandle). via 𝓤 (sep 𝓤 (X p v st) (ex 𝓤 (Φ p st))) (mono_r 𝓤 (X p v st) (ex_i 𝓤 (Φ p st) new))
+    (ends_at 𝓛 f.ended stayed c (y p) v st (tt, (tt, (tt, tt))) (tt, (tt, (tt, tt)))) in
     qed 𝓛 (raw (on_entry 𝓛 f.signature κs qs a (y p).0.4) ∷ raw (fact 𝓤 (Testable p)) ∷ ‵ (if_non_null p (lies_at R full_share p held)) ∷ []) ∵
     drop ! $ heard ! _ (λ may.
     by_form ! p (λ p. if_non_null p (lies_at R full_share p held))
@@ -51,7 +63,8 @@ geolint_features_begin_again_spec 𝓤 𝓛 𝓜 𝓡 wired =
     (λ t. skips ! $ exec ! 𝓣.C 𝓣.Λ (env code.Mir.locals l) code.Mir.t-4 (at_ret _ (W.post (y (block_ptr b o)))) $
     sets ! (addr ! (through ! refl (stop !))) refl (tt, tt) $
     lft_new ! tt (λ α. move ! (1 ∷ []) $
-    use1 𝓛 (later (some (λ (γ : ℕ). ‵ ((MutRef (named 0) (α ∷ []) R).own_val (record { ref_ptr = (b, o); ghost_name = γ; now = held }) (vptr b o ∷ [])) ⊛ ‵ (flent (α ∷ []) (Body (mem R) b o γ)))))
+    use1 𝓛 (later (some (λ (γ : ℕ). ‵ ((MutRef (named 0) (α ∷ []) R).own_val (record { ref_ptr = (b, o); ghost_name = γ; now = held }) (vptr b o ∷ [])) ⊛ ‵
+    (flent (α ∷ []) (Body (mem R) b o γ)))))
     (lends_ref 𝓛 R (named 0) (α ∷ []) held b o) $ await ! tt $ pick ! (λ γ. split ! $
     -- [the loan; what comes back; the token of α]
     let r : MutBor FeatureHandle = record { ref_ptr = (b, o); ghost_name = γ; now = held } in

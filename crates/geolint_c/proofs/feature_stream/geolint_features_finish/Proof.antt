@@ -1,5 +1,13 @@
--- `geolint_features_finish` meets its contract: a walk of its MIR. The handle is lent for a lifetime that is made for the call of `FeatureHandle::finish`, and comes back once it is ended.
-use Rattle.geolint_c.proofs.ExportedCalls.{◌≡◌, ℕ, [], ◌∷◌, refl, subst, lit<, w32, MutBor, proved, full_share, sep, emp, ex, ex_i, via, mono_r, id⊢, ftrue, flft, flent, named, Val, vptr, WpFn, fact, fact_i, tables, sem, ‵, raw, ◌⊛◌, some, later, prop, at_ret, ◌$◌, ◌∵◌, !, qed, done, move, keep, drop, use0, use1, use2, use3, split, join, fsplit, pick, await, regoal, suffices, group, enter, of_opd, lit, bin, addr, stop, no_more, and_then, first, branches, skips, exec, returns, returns_within, alloc_all, pass_all, free_all, look_at, get, through, sets, lands_as, env, lft_new, lft_end, u32, if_non_null, Body, yes, shows, Is, uint_Makes, uint_vals, Ptr, RawPtr, block_ptr, null_ptr, lies_at, rawptr_vals, rawptr_Tells, Testable, tests_null, MutRef, mut_vals, mem, plain, nothing, owned, heard, peeks, calls_at, lasts, on_entry, triple_of, on_exit, Stays, walk_of, stay_dropped, Goes-dropped, ends_at, framed, lends_ref, ref_back, by_form}
+-- `geolint_features_finish` meets its contract: a walk of its MIR. The handle is lent for a lifetime that is made for the call of
+-- `FeatureHandle::finish`, and comes back once it is ended.
+use Rattle.geolint_c.proofs.ExportedCalls.{◌≡◌, ℕ, [], ◌∷◌, refl, subst, lit<, w32, MutBor, proved, full_share, sep, emp, ex, ex_i, via, mono_r, id⊢, ftrue}
+use Rattle.geolint_c.proofs.ExportedCalls.{flft, flent, named, Val, vptr, WpFn, fact, fact_i, tables, sem, ‵, raw, ◌⊛◌, some, later, prop, at_ret, ◌$◌, ◌∵◌, ! }
+use Rattle.geolint_c.proofs.ExportedCalls.{qed, done, move, keep, drop, use0, use1, use2, use3, split, join, fsplit, pick, await, regoal, suffices, group}
+use Rattle.geolint_c.proofs.ExportedCalls.{enter, of_opd, lit, bin, addr, stop, no_more, and_then, first, branches, skips, exec, returns, returns_within}
+use Rattle.geolint_c.proofs.ExportedCalls.{alloc_all, pass_all, free_all, look_at, get, through, sets, lands_as, env, lft_new, lft_end, u32, if_non_null, Body}
+use Rattle.geolint_c.proofs.ExportedCalls.{yes, shows, Is, uint_Makes, uint_vals, Ptr, RawPtr, block_ptr, null_ptr, lies_at, rawptr_vals, rawptr_Tells}
+use Rattle.geolint_c.proofs.ExportedCalls.{Testable, tests_null, MutRef, mut_vals, mem, plain, nothing, owned, heard, peeks, calls_at, lasts, on_entry}
+use Rattle.geolint_c.proofs.ExportedCalls.{triple_of, on_exit, Stays, walk_of, stay_dropped, Goes-dropped, ends_at, framed, lends_ref, ref_back, by_form}
 use Rattle.geolint_c.specs.declared.features.FeatureHandle.{FeatureHandle}
 use Rattle.geolint_c.specs.Features.{IsFinished}
 use Rattle.geolint_c.specs.FeatureStream.{FinishedAt}
@@ -30,7 +38,8 @@ geolint_features_finish_spec 𝓤 𝓛 𝓜 𝓡 wired =
     let Runs = λ (p : Ptr). prop (WpFn 𝓤 𝓛.H 𝓣.C 𝓣.Λ code.function (rawptr_vals p) (W.post (y p))) in
     let X = λ (p : Ptr) (v : Val) (at : Report). on_exit 𝓛 f.ended stayed κs qs (y p).0.4 v at (y p).0.3 (tt, tt) in
     let Φ = λ (p : Ptr) (at : Report) (new : FeatureHandle). sep 𝓤 (sem 𝓛 (if_non_null p (lies_at R full_share p new))) (fact 𝓤 (FinishedAt p held at new)) in
-    let ends = λ (p : Ptr) (v : Val) (at : Report) (new : FeatureHandle). via 𝓤 (sep 𝓤 (X p v at) (ex 𝓤 (Φ p at))) (mono_r 𝓤 (X p v at) (ex_i 𝓤 (Φ p at) new)) (ends_at 𝓛 f.ended stayed c (y p) v at (tt, tt) (tt, tt)) in
+    let ends = λ (p : Ptr) (v : Val) (at : Report) (new : FeatureHandle). via 𝓤 (sep 𝓤 (X p v at) (ex 𝓤 (Φ p at))) (mono_r 𝓤 (X p v at) (ex_i 𝓤 (Φ p at) new))
+    (ends_at 𝓛 f.ended stayed c (y p) v at (tt, tt) (tt, tt)) in
     qed 𝓛 (raw (on_entry 𝓛 f.signature κs qs a (y p).0.4) ∷ raw (fact 𝓤 (Testable p)) ∷ ‵ (if_non_null p (lies_at R full_share p held)) ∷ []) ∵
     drop ! $ heard ! _ (λ may.
     by_form ! p (λ p. if_non_null p (lies_at R full_share p held))
@@ -62,7 +71,8 @@ geolint_features_finish_spec 𝓤 𝓛 𝓜 𝓡 wired =
     (λ t. skips ! $ exec ! 𝓣.C 𝓣.Λ (env code.Mir.locals l) code.Mir.t-4 (at_ret _ (W.post (y (block_ptr b o)))) $
     sets ! (addr ! (through ! refl (stop !))) refl (tt, tt) $
     lft_new ! tt (λ α. move ! (1 ∷ []) $
-    use1 𝓛 (later (some (λ (γ : ℕ). ‵ ((MutRef (named 0) (α ∷ []) R).own_val (record { ref_ptr = (b, o); ghost_name = γ; now = held }) (vptr b o ∷ [])) ⊛ ‵ (flent (α ∷ []) (Body (mem R) b o γ)))))
+    use1 𝓛 (later (some (λ (γ : ℕ). ‵ ((MutRef (named 0) (α ∷ []) R).own_val (record { ref_ptr = (b, o); ghost_name = γ; now = held }) (vptr b o ∷ [])) ⊛ ‵
+    (flent (α ∷ []) (Body (mem R) b o γ)))))
     (lends_ref 𝓛 R (named 0) (α ∷ []) held b o) $ await ! tt $ pick ! (λ γ. split ! $
     -- [the loan; what comes back; the token of α]
     let r : MutBor FeatureHandle = record { ref_ptr = (b, o); ghost_name = γ; now = held } in

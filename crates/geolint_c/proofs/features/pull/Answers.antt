@@ -18,5 +18,6 @@ returns c = λ limits bytes j more text rest t few.
     let room = j.room text rest t few in
     let l : pulled < (sink_of linter).told = grind (arith, nat_tests) in
     let few_found = c.few_features.ensures text _ (offset_of linter) t.0 in
-    next_found c.sink.result.now found pulled c.get.result.now c.finding_of_feature.result (omega (arith, few_found, linter.reader.within, linter.short)) (c.sink.ensures.told bytes rest text j.stands on few)
+    next_found c.sink.result.now found pulled c.get.result.now c.finding_of_feature.result (omega (arith, few_found, linter.reader.within, linter.short))
+    (c.sink.ensures.told bytes rest text j.stands on few)
     (omega (arith, l, n)) room.1 c.get.ensures c.finding_of_feature.ensures

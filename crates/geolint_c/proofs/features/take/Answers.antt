@@ -1,5 +1,6 @@
 -- What was taken up to the place.
-use Rattle.std.proofs.Common.{◌≡◌, ◌≤◌, ℕ, ◌+◌, ◌-◌, true, false, if◌then◌else◌, List, ◌++◌, length, length-drop, take, drop, append_assoc, sym, ap, subst, ◌∙◌, arith}
+use Rattle.std.proofs.Common.{◌≡◌, ◌≤◌, ℕ, ◌+◌, ◌-◌, true, false, if◌then◌else◌, List, ◌++◌, length, length-drop, take, drop, append_assoc, sym, ap, subst, ◌∙◌}
+use Rattle.std.proofs.Common.{arith}
 use Rattle.std.proofs.lemmas.List.{take_all}
 use Rattle.gj_rules.specs.FeatureFindings.{commas}
 use Rattle.gj_rules.specs.FeatureLinter.{refusal_of}
@@ -12,7 +13,8 @@ use Rattle.geolint_c.proofs.PulledFeatures.{take_more, room_for}
 use Rattle.geolint_c.proofs.features.take.Goals as goal
 
 -- what stands from one place to a later one
-further : (P : List ℕ → Type 0) (bytes piece : List ℕ) (at more : ℕ) → P ((bytes ++ take at piece) ++ take ((at + more) - at) (drop at piece)) → P (bytes ++ take (at + more) piece)
+further : (P : List ℕ → Type 0) (bytes piece : List ℕ) (at more : ℕ) → P ((bytes ++ take at piece) ++ take ((at + more) - at) (drop at piece))
+    → P (bytes ++ take (at + more) piece)
 further P bytes piece at more h =
     let e : (at + more) - at ≡ more = omega arith in
     subst P (append_assoc bytes (take at piece) (take ((at + more) - at) (drop at piece))
@@ -21,7 +23,8 @@ further P bytes piece at more h =
 pub loop-at-init : goal.loop-at-init
 loop-at-init c = record {
   within = omega arith;
-  judges = λ limits bytes j. c.feed_run-shown.ensures.judges c.args.pulled limits bytes j (λ text rest t few. let r = j.room text rest t few in (r.0, omega (arith, r.1)));
+  judges = λ limits bytes j. c.feed_run-shown.ensures.judges c.args.pulled limits bytes j
+      (λ text rest t few. let r = j.room text rest t few in (r.0, omega (arith, r.1)));
   answer = λ limits bytes j. c.feed_run-shown.ensures.answer c.args.pulled limits bytes j;
 }
 
@@ -33,7 +36,8 @@ loop-at-preserved c =
     let run = take ((l.at + c.few_commas.result) - l.at) (drop l.at piece) in
     let part : (l.at + c.few_commas.result) - l.at ≡ c.few_commas.result = omega arith in
     let same = ap (λ n. commas (take n (drop l.at piece))) part in
-    let rest : take (length piece - l.at) (drop l.at piece) ≡ drop l.at piece = take_all (length piece - l.at) (drop l.at piece) (omega (arith, length-drop l.at piece)) in
+    let rest : take (length piece - l.at) (drop l.at piece) ≡ drop l.at piece =
+    take_all (length piece - l.at) (drop l.at piece) (omega (arith, length-drop l.at piece)) in
     let in_rest = ap (λ bs. commas (take c.few_commas.result bs)) rest in
     let short : most_in run ≤ ROOM = (let few = c.few_commas.ensures.few in omega (arith, few, in_rest, same)) in
     let none : tells_more l.linter pulled ≡ false = sym c.tells_more.ensures.value ∙ c.if-tells_more.false in
@@ -42,10 +46,12 @@ loop-at-preserved c =
       judges = λ limits bytes j.
           let k = l.invariant.judges limits bytes j in
           further (λ bs. Judges c.feed_run-shown-in-loop-at.new.linter pulled limits bs) bytes piece l.at c.few_commas.result
-          (c.feed_run-shown-in-loop-at.ensures.judges pulled limits (bytes ++ take l.at piece) k (room_for l.linter pulled limits (bytes ++ take l.at piece) run none c.tells_more.ensures.counted k short));
+          (c.feed_run-shown-in-loop-at.ensures.judges pulled limits (bytes ++ take l.at piece) k
+          (room_for l.linter pulled limits (bytes ++ take l.at piece) run none c.tells_more.ensures.counted k short));
       answer = λ limits bytes j.
           let k = l.invariant.judges limits bytes j in
-          further (λ bs. AnswersBy limits bs (status_of c.feed_run-shown-in-loop-at.result) (refusal_of c.feed_run-shown-in-loop-at.new.linter)) bytes piece l.at c.few_commas.result
+          further (λ bs. AnswersBy limits bs (status_of c.feed_run-shown-in-loop-at.result) (refusal_of c.feed_run-shown-in-loop-at.new.linter)) bytes piece
+          l.at c.few_commas.result
           (c.feed_run-shown-in-loop-at.ensures.answer pulled limits (bytes ++ take l.at piece) k);
     }
 
@@ -57,7 +63,8 @@ returns-then-tells_more c =
     (record {
       within = l.invariant.within;
       judges = l.invariant.judges;
-      answer = λ limits bytes j. subst (λ n. AnswersBy limits (bytes ++ take l.at c.args.piece.now) n (refusal_of l.linter)) (sym c.status_of-early.ensures) (l.invariant.answer limits bytes j);
+      answer = λ limits bytes j. subst (λ n. AnswersBy limits (bytes ++ take l.at c.args.piece.now) n (refusal_of l.linter)) (sym c.status_of-early.ensures)
+          (l.invariant.answer limits bytes j);
       ready = ap (λ b. if b then 1 else 0) (sym more);
       all = λ e. (let f : true ≡ false = sym more ∙ e in cc);
     })
@@ -71,7 +78,8 @@ returns c =
     (record {
       within = l.invariant.within;
       judges = l.invariant.judges;
-      answer = λ limits bytes j. subst (λ n. AnswersBy limits (bytes ++ take l.at piece) n (refusal_of l.linter)) (sym c.status_of-status.ensures) (l.invariant.answer limits bytes j);
+      answer = λ limits bytes j. subst (λ n. AnswersBy limits (bytes ++ take l.at piece) n (refusal_of l.linter)) (sym c.status_of-status.ensures)
+          (l.invariant.answer limits bytes j);
       ready = ap (λ b. if b then 1 else 0) c.tells_more-ready.ensures.value;
       all = λ e. full;
     })

@@ -10,7 +10,8 @@ abbrev pub invariant-loop-at : goal.invariant-loop-at
 invariant-loop-at l = record {
   within : l.at ≤ length l.piece;
   judges : (limits : Allowed) (bytes : List ℕ) → Judges l.fn.linter l.pulled limits bytes → Judges l.linter l.pulled limits (bytes ++ take l.at l.piece);
-  answer : (limits : Allowed) (bytes : List ℕ) → Judges l.fn.linter l.pulled limits bytes → AnswersBy limits (bytes ++ take l.at l.piece) (status_of l.shown) (refusal_of l.linter);
+  answer : (limits : Allowed) (bytes : List ℕ) → Judges l.fn.linter l.pulled limits bytes
+      → AnswersBy limits (bytes ++ take l.at l.piece) (status_of l.shown) (refusal_of l.linter);
 }
 
 abbrev pub decreases-loop-at : goal.decreases-loop-at

@@ -20,4 +20,5 @@ pub returns-in-Err : goal.returns-in-Err
 returns-in-Err c = λ text rest admitted.
     let widest = c.new-reader.ensures.limits ∙ c.usual.ensures in
     let refused = (c.in-Err.ensures.answer [] c.new-reader.ensures.stands).1 rest in
-    absurd (c.one_refusal.ensures.never_both most (c.args.before.now ++ rest) c.in-Err.field-0 text (subst (λ (l : Allowed). IsRefusal l (c.args.before.now ++ rest) c.in-Err.field-0) widest refused) admitted)
+    absurd (c.one_refusal.ensures.never_both most (c.args.before.now ++ rest) c.in-Err.field-0 text
+    (subst (λ (l : Allowed). IsRefusal l (c.args.before.now ++ rest) c.in-Err.field-0) widest refused) admitted)

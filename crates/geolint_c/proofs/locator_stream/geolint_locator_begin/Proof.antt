@@ -1,5 +1,12 @@
 -- `geolint_locator_begin` meets its contract: a walk of its MIR. What `LocatorHandle::begun` gives is written where the host has room for it.
-use Rattle.geolint_c.proofs.ExportedCalls.{None, ℕ, [], ◌∷◌, refl, subst, lit<, w32, w64, proved, full_share, sep, emp, ex, ex_i, via, mono_r, id⊢, ftrue, Val, vint, WpFn, fact, fact_i, tables, sem, ‵, raw, ◌⊛◌, some, later, prop, at_ret, ◌$◌, ◌∵◌, !, qed, done, move, drop, use0, use1, use2, split, join, pick, await, regoal, suffices, group, part_in, init, enter, of_opd, lit, bin, stop, no_more, and_then, assigns, first, branches, skips, exec, returns, returns_within, alloc_all, pass_all, free_all, look_at, get, through, sets, lands_as, env, u32, u64, if_non_null, yes, shows, Is, uint_Lawful, uint_Makes, uint_vals, uint_Tells, Ptr, RawPtr, block_ptr, null_ptr, ptr_val, lies_at, room_at, rawptr_vals, rawptr_Tells, Testable, tests_null, part_at, plain, nothing, owned, heard, peeks, calls_at, lasts, on_entry, triple_of, on_exit, Stays, walk_of, stay_dropped, Goes-dropped, ends_at, framed, by_form}
+use Rattle.geolint_c.proofs.ExportedCalls.{None, ℕ, [], ◌∷◌, refl, subst, lit<, w32, w64, proved, full_share, sep, emp, ex, ex_i, via, mono_r, id⊢, ftrue, Val}
+use Rattle.geolint_c.proofs.ExportedCalls.{vint, WpFn, fact, fact_i, tables, sem, ‵, raw, ◌⊛◌, some, later, prop, at_ret, ◌$◌, ◌∵◌, !, qed, done, move, drop}
+use Rattle.geolint_c.proofs.ExportedCalls.{use0, use1, use2, split, join, pick, await, regoal, suffices, group, part_in, init, enter, of_opd, lit, bin, stop}
+use Rattle.geolint_c.proofs.ExportedCalls.{no_more, and_then, assigns, first, branches, skips, exec, returns, returns_within, alloc_all, pass_all, free_all}
+use Rattle.geolint_c.proofs.ExportedCalls.{look_at, get, through, sets, lands_as, env, u32, u64, if_non_null, yes, shows, Is, uint_Lawful, uint_Makes}
+use Rattle.geolint_c.proofs.ExportedCalls.{uint_vals, uint_Tells, Ptr, RawPtr, block_ptr, null_ptr, ptr_val, lies_at, room_at, rawptr_vals, rawptr_Tells}
+use Rattle.geolint_c.proofs.ExportedCalls.{Testable, tests_null, part_at, plain, nothing, owned, heard, peeks, calls_at, lasts, on_entry, triple_of, on_exit}
+use Rattle.geolint_c.proofs.ExportedCalls.{Stays, walk_of, stay_dropped, Goes-dropped, ends_at, framed, by_form}
 use Rattle.geolint_c.specs.declared.locator.LocatorHandle.{LocatorHandle}
 use Rattle.geolint_c.specs.Locator.{IsBegun}
 use Rattle.geolint_c.specs.Handle.{BegunStatus}
@@ -20,8 +27,10 @@ stayed = (stay_dropped _ yes, (stay_dropped _ yes, (stay_dropped _ yes, tt)))
 pub geolint_locator_begin_spec : {M : Type 1} → statement M
 geolint_locator_begin_spec 𝓤 𝓛 𝓜 𝓡 wired =
     let c = f.clauses 𝓛 𝓜.mem 𝓡.returns in let W = walk_of 𝓛 f.ended stayed c in let 𝓣 = tables 𝓤 𝓛.H 𝓜 𝓡 𝓡.env in
-    proved 𝓛 f.ended stayed c 𝓜 𝓡
-    (Goes-dropped 𝓛 0 (plain (λ _. RawPtr)) yes (λ κs x w. refl), (Goes-dropped 𝓛 0 (plain (λ _. u32)) yes (λ κs x w. refl), (Goes-dropped 𝓛 0 (plain (λ _. u64)) yes (λ κs x w. refl), tt)))
+    proved 𝓛 f.ended stayed c 𝓜 𝓡 (
+      Goes-dropped 𝓛 0 (plain (λ _. RawPtr)) yes (λ κs x w. refl),
+      (Goes-dropped 𝓛 0 (plain (λ _. u32)) yes (λ κs x w. refl), (Goes-dropped 𝓛 0 (plain (λ _. u64)) yes (λ κs x w. refl), tt)),
+    )
     f.Key.name code.function (code.unfolded 𝓤 𝓛.H 𝓜 𝓡 wired)
     (λ κs. (rawptr_vals, (uint_vals w32, (uint_vals w64, tt)))) (λ κs. (rawptr_Tells, (uint_Tells w32, (uint_Tells w64, tt)))) (λ κs qs bounds a ghost are.
     let p = a.0 in let d = a.1.0 in let m = a.1.1.0 in
@@ -30,7 +39,8 @@ geolint_locator_begin_spec 𝓤 𝓛 𝓜 𝓡 wired =
     let Runs = λ (p : Ptr). prop (WpFn 𝓤 𝓛.H 𝓣.C 𝓣.Λ code.function (ptr_val p ∷ vint w32 d ∷ vint w64 m ∷ []) (W.post (y p))) in
     let X = λ (p : Ptr) (v : Val) (st : ℕ). on_exit 𝓛 f.ended stayed κs qs (y p).0.4 v st (y p).0.3 (tt, (tt, (tt, tt))) in
     let Φ = λ (p : Ptr) (st : ℕ) (new : LocatorHandle). sep 𝓤 (sem 𝓛 (if_non_null p (lies_at R full_share p new))) (fact 𝓤 (BegunAt p d m st new)) in
-    let ends = λ (p : Ptr) (v : Val) (st : ℕ) (new : LocatorHandle). via 𝓤 (sep 𝓤 (X p v st) (ex 𝓤 (Φ p st))) (mono_r 𝓤 (X p v st) (ex_i 𝓤 (Φ p st) new)) (ends_at 𝓛 f.ended stayed c (y p) v st (tt, (tt, (tt, tt))) (tt, (tt, (tt, tt)))) in
+    let ends = λ (p : Ptr) (v : Val) (st : ℕ) (new : LocatorHandle). via 𝓤 (sep 𝓤 (X p v st) (ex 𝓤 (Φ p st))) (mono_r 𝓤 (X p v st) (ex_i 𝓤 (Φ p st) new))
+    (ends_at 𝓛 f.ended stayed c (y p) v st (tt, (tt, (tt, tt))) (tt, (tt, (tt, tt)))) in
     let G = triple_of 𝓛 g.signature (g.spec 𝓛 𝓜.mem 𝓡.returns) in
     let z : G.Ghost = ((tt, tt, tt, (d, (m, tt)), (uint_vals w32 d, (uint_vals w64 m, tt))), tt) in
     let S = triple_of 𝓛 s.signature (s.spec 𝓛 𝓜.mem 𝓡.returns) in

@@ -1,5 +1,13 @@
--- `geolint_doomed` meets its contract: a walk of its MIR. The handle is lent for a lifetime that is made for the call of `Handle::doomed`, and comes back once it is ended.
-use Rattle.geolint_c.proofs.ExportedCalls.{◌≡◌, ℕ, [], ◌∷◌, refl, subst, lit<, w32, MutBor, proved, full_share, sep, emp, ex, ex_i, via, mono_r, id⊢, ftrue, flft, flent, named, Val, vint, vptr, WpFn, fact, fact_i, tables, sem, ‵, raw, ◌⊛◌, some, later, prop, at_ret, ◌$◌, ◌∵◌, !, qed, done, move, keep, drop, use0, use1, use2, use3, split, join, fsplit, pick, await, regoal, suffices, group, enter, of_opd, lit, bin, addr, stop, no_more, and_then, first, branches, skips, exec, returns, returns_within, alloc_all, pass_all, free_all, look_at, get, through, sets, lands_as, env, lft_new, lft_end, u32, if_non_null, Body, yes, shows, Is, uint_Lawful, uint_Makes, Ptr, RawPtr, block_ptr, null_ptr, lies_at, rawptr_vals, rawptr_Tells, Testable, tests_null, MutRef, mut_vals, mem, plain, nothing, owned, heard, peeks, calls_at, lasts, on_entry, triple_of, on_exit, Stays, walk_of, stay_dropped, Goes-dropped, ends_at, framed, lends_ref, ref_back, by_form}
+-- `geolint_doomed` meets its contract: a walk of its MIR. The handle is lent for a lifetime that is made for the call of
+-- `Handle::doomed`, and comes back once it is ended.
+use Rattle.geolint_c.proofs.ExportedCalls.{◌≡◌, ℕ, [], ◌∷◌, refl, subst, lit<, w32, MutBor, proved, full_share, sep, emp, ex, ex_i, via, mono_r, id⊢, ftrue}
+use Rattle.geolint_c.proofs.ExportedCalls.{flft, flent, named, Val, vint, vptr, WpFn, fact, fact_i, tables, sem, ‵, raw, ◌⊛◌, some, later, prop, at_ret, ◌$◌}
+use Rattle.geolint_c.proofs.ExportedCalls.{◌∵◌, !, qed, done, move, keep, drop, use0, use1, use2, use3, split, join, fsplit, pick, await, regoal, suffices}
+use Rattle.geolint_c.proofs.ExportedCalls.{group, enter, of_opd, lit, bin, addr, stop, no_more, and_then, first, branches, skips, exec, returns, returns_within}
+use Rattle.geolint_c.proofs.ExportedCalls.{alloc_all, pass_all, free_all, look_at, get, through, sets, lands_as, env, lft_new, lft_end, u32, if_non_null, Body}
+use Rattle.geolint_c.proofs.ExportedCalls.{yes, shows, Is, uint_Lawful, uint_Makes, Ptr, RawPtr, block_ptr, null_ptr, lies_at, rawptr_vals, rawptr_Tells}
+use Rattle.geolint_c.proofs.ExportedCalls.{Testable, tests_null, MutRef, mut_vals, mem, plain, nothing, owned, heard, peeks, calls_at, lasts, on_entry}
+use Rattle.geolint_c.proofs.ExportedCalls.{triple_of, on_exit, Stays, walk_of, stay_dropped, Goes-dropped, ends_at, framed, lends_ref, ref_back, by_form}
 use Rattle.geolint_c.specs.declared.handle.Handle.{Handle}
 use Rattle.geolint_c.specs.Handle.{DoomedSound, DoomedRefused, DoomedEarly, DoomedEnded}
 use Rattle.geolint_c.specs.Stream.{DoomedAt}
@@ -24,7 +32,8 @@ geolint_doomed_spec 𝓤 𝓛 𝓜 𝓡 wired =
     let Runs = λ (p : Ptr). prop (WpFn 𝓤 𝓛.H 𝓣.C 𝓣.Λ code.function (rawptr_vals p) (W.post (y p))) in
     let X = λ (p : Ptr) (v : Val) (at : ℕ). on_exit 𝓛 f.ended stayed κs qs (y p).0.4 v at (y p).0.3 (tt, tt) in
     let Φ = λ (p : Ptr) (at : ℕ) (new : Handle). sep 𝓤 (sem 𝓛 (if_non_null p (lies_at R full_share p new))) (fact 𝓤 (DoomedAt p held at new)) in
-    let ends = λ (p : Ptr) (v : Val) (at : ℕ) (new : Handle). via 𝓤 (sep 𝓤 (X p v at) (ex 𝓤 (Φ p at))) (mono_r 𝓤 (X p v at) (ex_i 𝓤 (Φ p at) new)) (ends_at 𝓛 f.ended stayed c (y p) v at (tt, tt) (tt, tt)) in
+    let ends = λ (p : Ptr) (v : Val) (at : ℕ) (new : Handle). via 𝓤 (sep 𝓤 (X p v at) (ex 𝓤 (Φ p at))) (mono_r 𝓤 (X p v at) (ex_i 𝓤 (Φ p at) new))
+    (ends_at 𝓛 f.ended stayed c (y p) v at (tt, tt) (tt, tt)) in
     qed 𝓛 (raw (on_entry 𝓛 f.signature κs qs a (y p).0.4) ∷ raw (fact 𝓤 (Testable p)) ∷ ‵ (if_non_null p (lies_at R full_share p held)) ∷ []) ∵
     drop ! $ heard ! _ (λ may.
     by_form ! p (λ p. if_non_null p (lies_at R full_share p held))
@@ -46,7 +55,8 @@ geolint_doomed_spec 𝓤 𝓛 𝓜 𝓡 wired =
     (λ t. skips ! $ exec ! 𝓣.C 𝓣.Λ (env code.Mir.locals l) code.Mir.t-4 (at_ret _ (W.post (y (block_ptr b o)))) $
     sets ! (addr ! (through ! refl (stop !))) refl (tt, tt) $
     lft_new ! tt (λ α. move ! (1 ∷ []) $
-    use1 𝓛 (later (some (λ (γ : ℕ). ‵ ((MutRef (named 0) (α ∷ []) R).own_val (record { ref_ptr = (b, o); ghost_name = γ; now = held }) (vptr b o ∷ [])) ⊛ ‵ (flent (α ∷ []) (Body (mem R) b o γ)))))
+    use1 𝓛 (later (some (λ (γ : ℕ). ‵ ((MutRef (named 0) (α ∷ []) R).own_val (record { ref_ptr = (b, o); ghost_name = γ; now = held }) (vptr b o ∷ [])) ⊛ ‵
+    (flent (α ∷ []) (Body (mem R) b o γ)))))
     (lends_ref 𝓛 R (named 0) (α ∷ []) held b o) $ await ! tt $ pick ! (λ γ. split ! $
     -- [the loan; what comes back; the token of α]
     let r : MutBor Handle = record { ref_ptr = (b, o); ghost_name = γ; now = held } in
@@ -59,9 +69,11 @@ geolint_doomed_spec 𝓤 𝓛 𝓜 𝓡 wired =
     (and_then ! (get ! refl) (no_more !)) (λ v.
     use1 𝓛 (later (some (λ (at : ℕ). ((‵ (flft (α ∷ []) full_share) ⊛ ‵ ftrue) ⊛ ‵ (u32.own_val at (v ∷ []))) ⊛
     some (λ (ws : Handle × Unit {0}). ‵ (lasts g.ended z.0.0 z.0.3 ws)
-    ⊛ raw (fact 𝓤 (DoomedSound held at)) ⊛ raw (fact 𝓤 (DoomedRefused held at)) ⊛ raw (fact 𝓤 (DoomedEarly held at)) ⊛ raw (fact 𝓤 (DoomedEnded held at)) ⊛ raw (fact 𝓤 (ws.0 ≡ held)))))) (id⊢ 𝓤 _) $
+    ⊛ raw (fact 𝓤 (DoomedSound held at)) ⊛ raw (fact 𝓤 (DoomedRefused held at)) ⊛ raw (fact 𝓤 (DoomedEarly held at)) ⊛ raw (fact 𝓤 (DoomedEnded held at)) ⊛ raw
+    (fact 𝓤 (ws.0 ≡ held)))))) (id⊢ 𝓤 _) $
     await ! tt $ pick ! (λ at. split ! $ split ! $ split ! $ lft_end ! tt $ move ! (3 ∷ []) $ pick ! (λ ws. split ! $ fsplit ! $ fsplit ! $
-    move ! (3 ∷ []) $ split ! $ heard ! _ (λ sound. split ! $ heard ! _ (λ refused. split ! $ heard ! _ (λ early. split ! $ heard ! _ (λ ended. heard ! _ (λ same.
+    move ! (3 ∷ []) $ split ! $ heard ! _
+    (λ sound. split ! $ heard ! _ (λ refused. split ! $ heard ! _ (λ early. split ! $ heard ! _ (λ ended. heard ! _ (λ same.
     -- [the loan's last value; its borrow; the rest; α is over; nothing; the result; what comes back]
     move ! (3 ∷ 6 ∷ 0 ∷ []) $ use3 𝓛 (later (‵ ((mem R).own_at ws.0 b o))) (ref_back 𝓛 R (α ∷ []) γ ws.0 b o) $ await ! tt $
     move ! (4 ∷ []) $ peeks ! u32 (Is u32) (shows 𝓛 u32) at (v ∷ []) (λ is. lands_as ! refl refl ((uint_Lawful 𝓛 w32).typed at _ is).0 $

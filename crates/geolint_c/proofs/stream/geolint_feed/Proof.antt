@@ -1,5 +1,14 @@
--- `geolint_feed` meets its contract: a walk of its MIR. The handle is lent for a lifetime that is made for the call of `Handle::feed`, and comes back once it is ended.
-use Rattle.geolint_c.proofs.ExportedCalls.{ℕ, [], ◌∷◌, refl, subst, lit<, w32, MutBor, proved, full_share, sep, emp, ex, ex_i, via, mono_r, id⊢, ftrue, flft, flent, named, Val, vint, vptr, WpFn, fact, fact_i, tables, sem, ‵, raw, ◌⊛◌, some, later, prop, at_ret, ◌$◌, ◌∵◌, !, qed, done, move, keep, drop, use0, use1, use2, use3, split, join, fsplit, pick, await, regoal, suffices, group, enter, of_opd, lit, bin, addr, stop, no_more, and_then, first, branches, skips, exec, returns, returns_within, alloc_all, pass_all, free_all, look_at, get, through, sets, lands_as, env, lft_new, lft_end, SliceRefOf, u8, u32, if_non_null, Body, yes, shows, Is, uint_Lawful, uint_Makes, Ptr, RawPtr, block_ptr, null_ptr, ptr_val, lies_at, rawptr_vals, rawptr_Tells, Testable, tests_null, MutRef, mut_vals, mem, ShrSlice, shr_slice_Lawful, shr_slice_vals, shr_slice_Tells, plain, nothing, owned, heard, peeks, calls_at, lasts, triple_of, on_exit, Stays, walk_of, stay_dropped, Goes-dropped, ends_at, framed, lends_ref, ref_back, by_form}
+-- `geolint_feed` meets its contract: a walk of its MIR. The handle is lent for a lifetime that is made for the call of
+-- `Handle::feed`, and comes back once it is ended.
+use Rattle.geolint_c.proofs.ExportedCalls.{ℕ, [], ◌∷◌, refl, subst, lit<, w32, MutBor, proved, full_share, sep, emp, ex, ex_i, via, mono_r, id⊢, ftrue, flft}
+use Rattle.geolint_c.proofs.ExportedCalls.{flent, named, Val, vint, vptr, WpFn, fact, fact_i, tables, sem, ‵, raw, ◌⊛◌, some, later, prop, at_ret, ◌$◌, ◌∵◌, ! }
+use Rattle.geolint_c.proofs.ExportedCalls.{qed, done, move, keep, drop, use0, use1, use2, use3, split, join, fsplit, pick, await, regoal, suffices, group}
+use Rattle.geolint_c.proofs.ExportedCalls.{enter, of_opd, lit, bin, addr, stop, no_more, and_then, first, branches, skips, exec, returns, returns_within}
+use Rattle.geolint_c.proofs.ExportedCalls.{alloc_all, pass_all, free_all, look_at, get, through, sets, lands_as, env, lft_new, lft_end, SliceRefOf, u8, u32}
+use Rattle.geolint_c.proofs.ExportedCalls.{if_non_null, Body, yes, shows, Is, uint_Lawful, uint_Makes, Ptr, RawPtr, block_ptr, null_ptr, ptr_val, lies_at}
+use Rattle.geolint_c.proofs.ExportedCalls.{rawptr_vals, rawptr_Tells, Testable, tests_null, MutRef, mut_vals, mem, ShrSlice, shr_slice_Lawful, shr_slice_vals}
+use Rattle.geolint_c.proofs.ExportedCalls.{shr_slice_Tells, plain, nothing, owned, heard, peeks, calls_at, lasts, triple_of, on_exit, Stays, walk_of}
+use Rattle.geolint_c.proofs.ExportedCalls.{stay_dropped, Goes-dropped, ends_at, framed, lends_ref, ref_back, by_form}
 use Rattle.geolint_c.specs.declared.handle.Handle.{Handle}
 use Rattle.geolint_c.specs.Handle.{FedStands, FedAnswer, FedEnded, FedAgain}
 use Rattle.geolint_c.specs.Stream.{FedAt}
@@ -16,7 +25,10 @@ stayed = (stay_dropped _ yes, (stay_dropped _ yes, tt))
 pub geolint_feed_spec : {M : Type 1} → statement M
 geolint_feed_spec 𝓤 𝓛 𝓜 𝓡 wired =
     let c = f.clauses 𝓛 𝓜.mem 𝓡.returns in let W = walk_of 𝓛 f.ended stayed c in let 𝓣 = tables 𝓤 𝓛.H 𝓜 𝓡 𝓡.env in
-    proved 𝓛 f.ended stayed c 𝓜 𝓡 (Goes-dropped 𝓛 1 (plain (λ _. RawPtr)) yes (λ κs x w. refl), (Goes-dropped 𝓛 1 (SliceRefOf (0 ∷ []) tt (plain (λ _. u8)) (λ _. tt)) yes (λ κs x w. refl), tt))
+    proved 𝓛 f.ended stayed c 𝓜 𝓡 (
+      Goes-dropped 𝓛 1 (plain (λ _. RawPtr)) yes (λ κs x w. refl),
+      (Goes-dropped 𝓛 1 (SliceRefOf (0 ∷ []) tt (plain (λ _. u8)) (λ _. tt)) yes (λ κs x w. refl), tt),
+    )
     f.Key.name code.function (code.unfolded 𝓤 𝓛.H 𝓜 𝓡 wired)
     (λ κs. (rawptr_vals, (shr_slice_vals, tt))) (λ κs. (rawptr_Tells, (shr_slice_Tells (named 0) κs.0 u8, tt))) (λ κs qs bounds a held are.
     let p = a.0 in let x = a.1.0 in let κ = κs.0 in let q = qs.0 in
@@ -25,9 +37,11 @@ geolint_feed_spec 𝓤 𝓛 𝓜 𝓡 wired =
     let Runs = λ (p : Ptr). prop (WpFn 𝓤 𝓛.H 𝓣.C 𝓣.Λ code.function (ptr_val p ∷ shr_slice_vals x) (W.post (y p))) in
     let X = λ (p : Ptr) (v : Val) (st : ℕ). on_exit 𝓛 f.ended stayed κs qs (y p).0.4 v st (y p).0.3 (tt, (tt, tt)) in
     let Φ = λ (p : Ptr) (st : ℕ) (new : Handle). sep 𝓤 (sem 𝓛 (if_non_null p (lies_at R full_share p new))) (fact 𝓤 (FedAt p held x.now st new)) in
-    let ends = λ (p : Ptr) (v : Val) (st : ℕ) (new : Handle). via 𝓤 (sep 𝓤 (X p v st) (ex 𝓤 (Φ p st))) (mono_r 𝓤 (X p v st) (ex_i 𝓤 (Φ p st) new)) (ends_at 𝓛 f.ended stayed c (y p) v st (tt, (tt, tt)) (tt, (tt, tt))) in
+    let ends = λ (p : Ptr) (v : Val) (st : ℕ) (new : Handle). via 𝓤 (sep 𝓤 (X p v st) (ex 𝓤 (Φ p st))) (mono_r 𝓤 (X p v st) (ex_i 𝓤 (Φ p st) new))
+    (ends_at 𝓛 f.ended stayed c (y p) v st (tt, (tt, tt)) (tt, (tt, tt))) in
     let typed = (shr_slice_Lawful 𝓛 (named 0) κ u8).typed x _ are.1.0 in
-    qed 𝓛 (((‵ (flft κ q) ⊛ ‵ ftrue) ⊛ ‵ (RawPtr.own_val p (rawptr_vals p)) ⊛ ‵ Slice ⊛ ‵ ftrue) ∷ raw (fact 𝓤 (Testable p)) ∷ ‵ (if_non_null p (lies_at R full_share p held)) ∷ []) ∵
+    qed 𝓛 (((‵ (flft κ q) ⊛ ‵ ftrue) ⊛ ‵ (RawPtr.own_val p (rawptr_vals p)) ⊛ ‵ Slice ⊛ ‵ ftrue) ∷ raw (fact 𝓤 (Testable p)) ∷ ‵
+    (if_non_null p (lies_at R full_share p held)) ∷ []) ∵
     split ! $ split ! $ move ! (2 ∷ []) $ split ! $ drop ! $ split ! $ keep ! (4 ∷ 5 ∷ 0 ∷ 2 ∷ []) $ heard ! _ (λ may.
     -- [the handle; the piece; the token]
     by_form ! p (λ p. if_non_null p (lies_at R full_share p held))
@@ -49,7 +63,8 @@ geolint_feed_spec 𝓤 𝓛 𝓜 𝓡 wired =
     (λ t. skips ! $ exec ! 𝓣.C 𝓣.Λ (env code.Mir.locals l) code.Mir.t-4 (at_ret _ (W.post (y (block_ptr b o)))) $
     sets ! (addr ! (through ! refl (stop !))) refl (tt, tt) $
     lft_new ! tt (λ α. move ! (1 ∷ []) $
-    use1 𝓛 (later (some (λ (γ : ℕ). ‵ ((MutRef (named 0) (α ∷ []) R).own_val (record { ref_ptr = (b, o); ghost_name = γ; now = held }) (vptr b o ∷ [])) ⊛ ‵ (flent (α ∷ []) (Body (mem R) b o γ)))))
+    use1 𝓛 (later (some (λ (γ : ℕ). ‵ ((MutRef (named 0) (α ∷ []) R).own_val (record { ref_ptr = (b, o); ghost_name = γ; now = held }) (vptr b o ∷ [])) ⊛ ‵
+    (flent (α ∷ []) (Body (mem R) b o γ)))))
     (lends_ref 𝓛 R (named 0) (α ∷ []) held b o) $ await ! tt $ pick ! (λ γ. split ! $
     -- [the loan; what comes back; the token of α; the piece; the token of κ]
     let r : MutBor Handle = record { ref_ptr = (b, o); ghost_name = γ; now = held } in
@@ -62,7 +77,8 @@ geolint_feed_spec 𝓤 𝓛 𝓜 𝓡 wired =
     (and_then ! (get ! refl) (and_then ! (get ! refl) (no_more !))) (λ v.
     use1 𝓛 (later (some (λ (st : ℕ). ((‵ (flft (α ∷ []) full_share) ⊛ ‵ (flft κ q) ⊛ ‵ ftrue) ⊛ ‵ (u32.own_val st (v ∷ []))) ⊛
     some (λ (ws : Handle × (Unit {0} × Unit {0})). ‵ (lasts g.ended z.0.0 z.0.3 ws)
-    ⊛ raw (fact 𝓤 (FedStands held x.now ws.0)) ⊛ raw (fact 𝓤 (FedAnswer held x.now st ws.0)) ⊛ raw (fact 𝓤 (FedEnded held st ws.0)) ⊛ raw (fact 𝓤 (FedAgain held st ws.0)))))) (id⊢ 𝓤 _) $
+    ⊛ raw (fact 𝓤 (FedStands held x.now ws.0)) ⊛ raw (fact 𝓤 (FedAnswer held x.now st ws.0)) ⊛ raw (fact 𝓤 (FedEnded held st ws.0)) ⊛ raw
+    (fact 𝓤 (FedAgain held st ws.0)))))) (id⊢ 𝓤 _) $
     await ! tt $ pick ! (λ st. split ! $ split ! $ split ! $ lft_end ! tt $ move ! (3 ∷ []) $ pick ! (λ ws. split ! $ fsplit ! $ fsplit ! $
     move ! (3 ∷ []) $ split ! $ heard ! _ (λ stands. split ! $ heard ! _ (λ answer. split ! $ heard ! _ (λ ended. heard ! _ (λ again.
     -- [the loan's last value; its borrow; the rest; α is over; the token of κ; the result; what comes back]

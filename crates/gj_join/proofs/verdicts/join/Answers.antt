@@ -15,10 +15,12 @@ SaysIt = (limits : Allowed) (bytes : List ℕ) (verdict : SeqVerdict) → IsSequ
 
 Joins : Type 0
 Joins = (limits : Allowed) (first second : List ℕ) (one other : SequenceJudgement) → ArePartsOf limits first second → IsSequenceJudgement limits first one
-    → IsSequenceJudgement (limits_after limits (length first)) second other → IsSequenceJudgement limits (first ++ second) (joined_judgement (length first) one other)
+    → IsSequenceJudgement (limits_after limits (length first)) second other
+    → IsSequenceJudgement limits (first ++ second) (joined_judgement (length first) one other)
 
 whole : SaysIt → Joins → (first second : SeqVerdict) (end : ℕ) (result : Option SeqVerdict)
-    → IfSome result (λ whole. (one other : SequenceJudgement) → SequenceSays first one → SequenceSays second other → SequenceSays whole (joined_judgement end one other))
+    → IfSome result (λ whole. (one other : SequenceJudgement) → SequenceSays first one → SequenceSays second other
+    → SequenceSays whole (joined_judgement end one other))
     → IfSome result (λ whole. (limits : Allowed) (part rest : List ℕ) → ArePartsOf limits part rest → end ≡ length part → IsSequenceVerdict limits part first
     → IsSequenceVerdict (limits_after limits end) rest second → IsSequenceVerdict limits (part ++ rest) whole)
 unfolding SaysIt Joins
@@ -35,4 +37,5 @@ whole says joins first second end (Some verdict) h = λ limits part rest parts a
 
 pub returns-clause-joined : goal.returns-clause-joined
 unfolding SaysIt Joins
-returns-clause-joined c = whole c.one_sequence_verdict.ensures.said c.joined_judgements.ensures c.args.first c.args.second c.args.end c.said.result c.said.ensures.says
+returns-clause-joined c =
+    whole c.one_sequence_verdict.ensures.said c.joined_judgements.ensures c.args.first c.args.second c.args.end c.said.result c.said.ensures.says

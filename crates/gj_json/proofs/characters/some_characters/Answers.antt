@@ -9,7 +9,9 @@ use Rattle.gj_json.proofs.Pieces.PieceRests.{more_within}
 use Rattle.gj_json.proofs.characters.some_characters.Goals as goal
 
 pub returns-then-piece-eq92-clause-within : goal.returns-then-piece-eq92-clause-within
-returns-then-piece-eq92-clause-within c = more_within c.args.piece.now c.escapes_run-escaped.result c.ascii_run.result c.escapes_run-escaped.ensures.within (rw (c.ascii_run.ensures) (prefix_len-le-length is_plain _))
+returns-then-piece-eq92-clause-within c =
+    more_within c.args.piece.now c.escapes_run-escaped.result c.ascii_run.result c.escapes_run-escaped.ensures.within
+    (rw (c.ascii_run.ensures) (prefix_len-le-length is_plain _))
 
 pub returns-then-piece-eq92-clause-characters : goal.returns-then-piece-eq92-clause-characters
 returns-then-piece-eq92-clause-characters c =
@@ -25,5 +27,6 @@ returns-then-piece-lt128-clause-characters c = plain_characters c.args.piece.now
 
 pub overflow_add-result : goal.overflow_add-result
 overflow_add-result c =
-    let all = more_within c.args.piece.now c.escapes_run-escaped.result c.ascii_run.result c.escapes_run-escaped.ensures.within (rw (c.ascii_run.ensures) (prefix_len-le-length is_plain _)) in
+    let all = more_within c.args.piece.now c.escapes_run-escaped.result c.ascii_run.result c.escapes_run-escaped.ensures.within
+    (rw (c.ascii_run.ensures) (prefix_len-le-length is_plain _)) in
     record { fits = omega (arith, all) }

@@ -7,19 +7,31 @@ pub returns-then-first-le223-clause-character : goal.returns-then-first-le223-cl
 returns-then-first-le223-clause-character c = λ some. two_taken c.args.piece.now (omega arith) (omega arith) (omega arith) (omega arith) (omega arith)
 
 pub returns-then-second-ge160-clause-character : goal.returns-then-second-ge160-clause-character
-returns-then-second-ge160-clause-character c = λ some. three_taken c.args.piece.now (omega arith) (omega arith) (omega arith) (omega arith) (omega arith) (omega arith) (omega arith) (λ e. omega arith) (λ e. omega arith)
+returns-then-second-ge160-clause-character c =
+    λ some. three_taken c.args.piece.now (omega arith) (omega arith) (omega arith) (omega arith) (omega arith) (omega arith) (omega arith) (λ e. omega arith)
+    (λ e. omega arith)
 
 pub returns-then-second-le159-clause-character : goal.returns-then-second-le159-clause-character
-returns-then-second-le159-clause-character c = λ some. three_taken c.args.piece.now (omega arith) (omega arith) (omega arith) (omega arith) (omega arith) (omega arith) (omega arith) (λ e. omega arith) (λ e. omega arith)
+returns-then-second-le159-clause-character c =
+    λ some. three_taken c.args.piece.now (omega arith) (omega arith) (omega arith) (omega arith) (omega arith) (omega arith) (omega arith) (λ e. omega arith)
+    (λ e. omega arith)
 
 pub returns-else-first-2-clause-character : goal.returns-else-first-2-clause-character
-returns-else-first-2-clause-character c = λ some. three_taken c.args.piece.now (omega arith) (omega arith) (omega arith) (omega arith) (omega arith) (omega arith) (omega arith) (λ e. omega arith) (λ e. omega arith)
+returns-else-first-2-clause-character c =
+    λ some. three_taken c.args.piece.now (omega arith) (omega arith) (omega arith) (omega arith) (omega arith) (omega arith) (omega arith) (λ e. omega arith)
+    (λ e. omega arith)
 
 pub returns-then-second-ge144-clause-character : goal.returns-then-second-ge144-clause-character
-returns-then-second-ge144-clause-character c = λ some. four_taken c.args.piece.now (omega arith) (omega arith) (omega arith) (omega arith) (omega arith) (omega arith) (omega arith) (omega arith) (omega arith) (λ e. omega arith) (λ e. omega arith)
+returns-then-second-ge144-clause-character c =
+    λ some. four_taken c.args.piece.now (omega arith) (omega arith) (omega arith) (omega arith) (omega arith) (omega arith) (omega arith) (omega arith)
+    (omega arith) (λ e. omega arith) (λ e. omega arith)
 
 pub returns-then-second-le143-clause-character : goal.returns-then-second-le143-clause-character
-returns-then-second-le143-clause-character c = λ some. four_taken c.args.piece.now (omega arith) (omega arith) (omega arith) (omega arith) (omega arith) (omega arith) (omega arith) (omega arith) (omega arith) (λ e. omega arith) (λ e. omega arith)
+returns-then-second-le143-clause-character c =
+    λ some. four_taken c.args.piece.now (omega arith) (omega arith) (omega arith) (omega arith) (omega arith) (omega arith) (omega arith) (omega arith)
+    (omega arith) (λ e. omega arith) (λ e. omega arith)
 
 pub returns-else-first-4-clause-character : goal.returns-else-first-4-clause-character
-returns-else-first-4-clause-character c = λ some. four_taken c.args.piece.now (omega arith) (omega arith) (omega arith) (omega arith) (omega arith) (omega arith) (omega arith) (omega arith) (omega arith) (λ e. omega arith) (λ e. omega arith)
+returns-else-first-4-clause-character c =
+    λ some. four_taken c.args.piece.now (omega arith) (omega arith) (omega arith) (omega arith) (omega arith) (omega arith) (omega arith) (omega arith)
+    (omega arith) (λ e. omega arith) (λ e. omega arith)

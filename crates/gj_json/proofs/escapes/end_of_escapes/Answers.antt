@@ -11,6 +11,7 @@ returns c =
       on = last.ensures.on;
       within = omega (arith, last.ensures.within, end.ensures.within);
       characters = λ before.
-          escapes_read c.args.piece.now c.args.start end.result last.result end.ensures.none last.ensures.within (omega (arith, last.ensures.within, end.ensures.within)) last.ensures.backslash c.requires.before last.ensures.on
+          escapes_read c.args.piece.now c.args.start end.result last.result end.ensures.none last.ensures.within
+          (omega (arith, last.ensures.within, end.ensures.within)) last.ensures.backslash c.requires.before last.ensures.on
           (c.if-not-is_fresh.ensures refl) c.if-piece-start-ne92.false before;
     }

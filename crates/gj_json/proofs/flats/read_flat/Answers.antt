@@ -9,4 +9,6 @@ returns-clause-flat c = λ some.
     let start = c.args.start in
     let numbers = c.pair_after_bracket.new in
     let pair = c.in-Some.pair in
-    rw (c.drop_third.ensures) (pair_spelled piece start (record { value = numbers.first; place = start + 1 }) (record { value = numbers.second; place = start + 1 + pair.second }) pair.comma pair.second pair.end c.requires.bracket refl refl c.in-Some.ensures)
+    rw (c.drop_third.ensures)
+    (pair_spelled piece start (record { value = numbers.first; place = start + 1 })
+    (record { value = numbers.second; place = start + 1 + pair.second }) pair.comma pair.second pair.end c.requires.bracket refl refl c.in-Some.ensures)

@@ -12,4 +12,5 @@ returns-clause-third c = λ some.
     let within = read.ensures.within (omega arith) in
     let on = read.ensures.on (omega arith) in
     let closing = end_cut piece start last (omega arith) c.if-piece-third-ne93.false in
-    more_cut piece start read.new.number [] (start + last) c.args.at last (last + 1) c.if-piece-at-ne44.false on (omega arith) (omega arith) (read.ensures.item (omega arith)) closing
+    more_cut piece start read.new.number [] (start + last) c.args.at last (last + 1) c.if-piece-at-ne44.false on (omega arith) (omega arith)
+    (read.ensures.item (omega arith)) closing

@@ -9,4 +9,6 @@ pub returns : goal.returns
 returns c =
     let v = c.args.lanes in
     let long = c.fits-lanes.0 in
-    mask_is _ (λ b. not (is_plain b)) v _ (omega arith) c.fits-lanes.1 (either _ _ v (either _ _ v (either _ _ v (zip2_splat equal v 16 34 long) (zip2_splat equal v 16 92 long)) (zip2_splat less v 16 32 long)) (zip2_splat_left less 127 16 v long)) refl
+    mask_is _ (λ b. not (is_plain b)) v _ (omega arith) c.fits-lanes.1
+    (either _ _ v (either _ _ v (either _ _ v (zip2_splat equal v 16 34 long) (zip2_splat equal v 16 92 long)) (zip2_splat less v 16 32 long))
+    (zip2_splat_left less 127 16 v long)) refl

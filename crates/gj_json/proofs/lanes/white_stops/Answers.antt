@@ -20,4 +20,5 @@ returns c =
     let v = c.args.lanes in
     let long = c.fits-lanes.0 in
     let same = looked_up WHITE (λ x. bit_and x 15) v _ long c.fits-lanes.1 (zip2_splat bit_and v 16 15 long) (λ x h. omega (arith, and_le_r x 15)) in
-    mask_is _ (λ b. not (is_white b)) v _ (omega arith) c.fits-lanes.1 (zip2_of_maps differs (λ x. x) (λ x. get_or WHITE (bit_and x 15) 0) v (sym (map-id v)) same) refl
+    mask_is _ (λ b. not (is_white b)) v _ (omega arith) c.fits-lanes.1
+    (zip2_of_maps differs (λ x. x) (λ x. get_or WHITE (bit_and x 15) 0) v (sym (map-id v)) same) refl

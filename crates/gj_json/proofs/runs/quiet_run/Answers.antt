@@ -10,7 +10,8 @@ use Rattle.gj_json.proofs.runs.quiet_run.Goals as goal
 pub returns-in-ValueDue-clause-within : goal.returns-in-ValueDue-clause-within
 returns-in-ValueDue-clause-within c = rw (c.white_run.ensures) (prefix_len-le-length is_white c.args.piece.now)
 
-passes : (mode : Mode) → (mode ≡ ValueDue) ⊎ ((mode ≡ ValueDone) ⊎ ((mode ≡ ArrayOpened) ⊎ ((mode ≡ ObjectOpened) ⊎ ((mode ≡ NameDue) ⊎ (mode ≡ ColonDue))))) → QuietModes.PassesWhite mode
+passes : (mode : Mode) → (mode ≡ ValueDue) ⊎ ((mode ≡ ValueDone) ⊎ ((mode ≡ ArrayOpened) ⊎ ((mode ≡ ObjectOpened) ⊎ ((mode ≡ NameDue) ⊎ (mode ≡ ColonDue)))))
+    → QuietModes.PassesWhite mode
 passes mode (inl e) = rw e tt
 passes mode (inr (inl e)) = rw e tt
 passes mode (inr (inr (inl e))) = rw e tt

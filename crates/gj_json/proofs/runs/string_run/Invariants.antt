@@ -8,7 +8,8 @@ abbrev pub invariant-loop-count : goal.invariant-loop-count
 invariant-loop-count l = record {
   within : l.count ≤ length l.piece;
   state : IsStringState l.here;
-  reads : (characters : List ℕ) × Reads l.initial.here (take l.count l.piece) characters l.here × ((so_far : List ℕ) → Holds l.fn.content so_far → Holds l.content (so_far ++ characters));
+  reads : (characters : List ℕ) × Reads l.initial.here (take l.count l.piece) characters l.here
+      × ((so_far : List ℕ) → Holds l.fn.content so_far → Holds l.content (so_far ++ characters));
 }
 
 abbrev pub decreases-loop-count : goal.decreases-loop-count

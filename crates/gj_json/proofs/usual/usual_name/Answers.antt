@@ -18,7 +18,8 @@ returns-then-eq-clause-usual c = λ some.
 pub returns-then-eq-2-clause-usual : goal.returns-then-eq-2-clause-usual
 unfolding known_of
 returns-then-eq-2-clause-usual c = λ some.
-    by_first (λ piece. IsUsualName piece 10 Geometry) 11 c.args.piece.now c.as_slice-in-103.result.now (codes "\"geometry\":") c.if-eq-2.ensures c.as_slice-in-103.ensures (record {
+    by_first (λ piece. IsUsualName piece 10 Geometry) 11 c.args.piece.now c.as_slice-in-103.result.now
+    (codes "\"geometry\":") c.if-eq-2.ensures c.as_slice-in-103.ensures (record {
       quoted = record { spelled = refl; reads = plain (codes "geometry") };
       known_as = refl;
       colon = refl;
@@ -27,7 +28,8 @@ returns-then-eq-2-clause-usual c = λ some.
 pub returns-then-eq-3-clause-usual : goal.returns-then-eq-3-clause-usual
 unfolding known_of
 returns-then-eq-3-clause-usual c = λ some.
-    by_first (λ piece. IsUsualName piece 13 Coordinates) 14 c.args.piece.now c.as_slice-in-99.result.now (codes "\"coordinates\":") c.if-eq-3.ensures c.as_slice-in-99.ensures (record {
+    by_first (λ piece. IsUsualName piece 13 Coordinates) 14 c.args.piece.now c.as_slice-in-99.result.now
+    (codes "\"coordinates\":") c.if-eq-3.ensures c.as_slice-in-99.ensures (record {
       quoted = record { spelled = refl; reads = plain (codes "coordinates") };
       known_as = refl;
       colon = refl;
@@ -36,7 +38,8 @@ returns-then-eq-3-clause-usual c = λ some.
 pub returns-then-eq-4-clause-usual : goal.returns-then-eq-4-clause-usual
 unfolding known_of
 returns-then-eq-4-clause-usual c = λ some.
-    by_first (λ piece. IsUsualName piece 12 Properties) 13 c.args.piece.now c.as_slice-in-112.result.now (codes "\"properties\":") c.if-eq-4.ensures c.as_slice-in-112.ensures (record {
+    by_first (λ piece. IsUsualName piece 12 Properties) 13 c.args.piece.now c.as_slice-in-112.result.now
+    (codes "\"properties\":") c.if-eq-4.ensures c.as_slice-in-112.ensures (record {
       quoted = record { spelled = refl; reads = plain (codes "properties") };
       known_as = refl;
       colon = refl;

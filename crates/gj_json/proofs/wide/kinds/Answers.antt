@@ -17,5 +17,6 @@ pub returns : goal.returns
 returns c =
     let v = c.args.here in
     let long = c.fits-here.0 in
-    kinds_are c.args.before v c.fits-before.0 long (looked_up LOWER (λ x. bit_and x 15) v _ long c.fits-here.1 (zip2_splat bit_and v 16 15 long) (λ x h. omega (arith, and_le_r x 15)))
+    kinds_are c.args.before v c.fits-before.0 long
+    (looked_up LOWER (λ x. bit_and x 15) v _ long c.fits-here.1 (zip2_splat bit_and v 16 15 long) (λ x h. omega (arith, and_le_r x 15)))
     (looked_up UPPER (λ x. x / 16) v _ long c.fits-here.1 (zip2_splat down v 16 4 long) (λ x h. omega arith))

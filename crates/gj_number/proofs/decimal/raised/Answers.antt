@@ -1,7 +1,8 @@
 use Rattle.std.proofs.Common.{sym, arith}
 use Rattle.gj_number.proofs.Shorts.CutNumbers.{raised_far, raised_above, raised_small, limited_below}
 use Rattle.gj_number.proofs.decimal.raised.Goals as goal
-use Rattle.gj_number.proofs.decimal.raised.Goals.{then-up-ge-CUT_DIGITS-via-then-up-ge-CUT_DIGITS, then-up-ge-CUT_DIGITS-via-else-up-ge-CUT_DIGITS+then-digits-ten_to}
+use Rattle.gj_number.proofs.decimal.raised.Goals.{then-up-ge-CUT_DIGITS-via-then-up-ge-CUT_DIGITS}
+use Rattle.gj_number.proofs.decimal.raised.Goals.{then-up-ge-CUT_DIGITS-via-else-up-ge-CUT_DIGITS+then-digits-ten_to}
 
 pub returns-then-up-ge-CUT_DIGITS-clause-magnitude : goal.returns-then-up-ge-CUT_DIGITS-clause-magnitude
 returns-then-up-ge-CUT_DIGITS-clause-magnitude c = elim c.then-up-ge-CUT_DIGITS.branch [

@@ -14,7 +14,9 @@ appended-requires-else-count-clause-fits c = scaled_below c.args.rest (c.args.co
 pub returns-then-count-more-clause-head : goal.returns-then-count-more-clause-head
 returns-then-count-more-clause-head c =
     let e : min (c.args.count + c.args.more) 19 ≡ min c.args.count 19 + c.args.more = omega arith in
-    rw (c.appended.ensures, e) (digit_below c.args.head (min c.args.count 19) c.args.more c.args.digit c.requires.head (small_digit c.args.digit c.args.more c.requires.digit c.requires.some))
+    rw (c.appended.ensures, e)
+    (digit_below c.args.head (min c.args.count 19) c.args.more c.args.digit c.requires.head
+    (small_digit c.args.digit c.args.more c.requires.digit c.requires.some))
 
 pub returns-then-count-more-clause-kept : goal.returns-then-count-more-clause-kept
 returns-then-count-more-clause-kept c =
@@ -27,7 +29,8 @@ returns-then-count-clause-kept c =
 pub returns-then-count-clause-head : goal.returns-then-count-clause-head
 returns-then-count-clause-head c =
     let e : min (c.args.count + c.args.more) 19 ≡ min c.args.count 19 + (19 - c.args.count) = omega arith in
-    rw (c.appended-then-count.ensures, e) (digit_below c.args.head (min c.args.count 19) (19 - c.args.count) 0 c.requires.head (small_digit 0 (19 - c.args.count) (omega arith) (omega arith)))
+    rw (c.appended-then-count.ensures, e)
+    (digit_below c.args.head (min c.args.count 19) (19 - c.args.count) 0 c.requires.head (small_digit 0 (19 - c.args.count) (omega arith) (omega arith)))
 
 pub returns-then-count-clause-rest : goal.returns-then-count-clause-rest
 returns-then-count-clause-rest c = small_digit c.args.digit (c.args.count + c.args.more - 19) c.requires.digit (omega arith)
@@ -39,4 +42,6 @@ returns-else-count-clause-kept c =
 pub returns-else-count-clause-rest : goal.returns-else-count-clause-rest
 returns-else-count-clause-rest c =
     let e : c.args.count + c.args.more - 19 ≡ c.args.count - 19 + c.args.more = omega arith in
-    rw (c.appended-else-count.ensures, e) (digit_below c.args.rest (c.args.count - 19) c.args.more c.args.digit c.requires.rest (small_digit c.args.digit c.args.more c.requires.digit c.requires.some))
+    rw (c.appended-else-count.ensures, e)
+    (digit_below c.args.rest (c.args.count - 19) c.args.more c.args.digit c.requires.rest
+    (small_digit c.args.digit c.args.more c.requires.digit c.requires.some))

@@ -8,4 +8,5 @@ pub returns : goal.returns
 returns c =
     let v = c.args.lanes in
     let long = c.fits-lanes.0 in
-    ap (λ ms. mask_l ms % 2 ^ 64) (tops_compared w8 leb (replicate 16 10) v ∙ zip2_splat_left leb 10 16 v long) ∙ mask_l-mod (map (leb 10) v) 64 (omega (arith, length-map v (leb 10)))
+    ap (λ ms. mask_l ms % 2 ^ 64) (tops_compared w8 leb (replicate 16 10) v ∙ zip2_splat_left leb 10 16 v long)
+    ∙ mask_l-mod (map (leb 10) v) 64 (omega (arith, length-map v (leb 10)))

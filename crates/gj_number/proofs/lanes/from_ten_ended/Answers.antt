@@ -15,5 +15,6 @@ overflow_add-result c =
 pub returns : goal.returns
 returns c =
     let long : length (map (leb 10) c.args.lanes) ≡ 16 = length-map c.args.lanes (leb 10) ∙ c.fits-lanes.0 in
-    let e : mask_l (map (leb 10) c.args.lanes ++ true ∷ []) ≡ mask_l (map (leb 10) c.args.lanes) + 2 ^ 16 = mask_ended (map (leb 10) c.args.lanes) ∙ ap (λ n. mask_l (map (leb 10) c.args.lanes) + 2 ^ n) long in
+    let e : mask_l (map (leb 10) c.args.lanes ++ true ∷ []) ≡ mask_l (map (leb 10) c.args.lanes) + 2 ^ 16 =
+    mask_ended (map (leb 10) c.args.lanes) ∙ ap (λ n. mask_l (map (leb 10) c.args.lanes) + 2 ^ n) long in
     ap (λ n. n + 65536) c.from_ten.ensures ∙ sym e ∙ ap mask_l (sym (map-append (leb 10) c.args.lanes (10 ∷ [])))

@@ -4,7 +4,8 @@ use Rattle.gj_number.proofs.Shorts.SixteenLanes.{joined_at, fours_joined, second
 use Rattle.gj_number.proofs.lanes.numbers_of.Goals as goal
 
 pub returns-clause-first : goal.returns-clause-first
-returns-clause-first c = ap (λ fs. joined_at (fs ++ c.fours_of-2.result) 0) c.fours_of.ensures ∙ fours_joined c.args.first c.fours_of-2.result c.fits-first.0 c.requires.first
+returns-clause-first c =
+    ap (λ fs. joined_at (fs ++ c.fours_of-2.result) 0) c.fours_of.ensures ∙ fours_joined c.args.first c.fours_of-2.result c.fits-first.0 c.requires.first
 
 pub returns-clause-second : goal.returns-clause-second
 returns-clause-second c =

@@ -19,7 +19,8 @@ moved_to_end-requires c =
 pub number_of-requires : goal.number_of-requires
 number_of-requires c =
     let P : List ℕ → Type 0 = λ xs. Each1 (λ x. x < 10) xs in
-    subst P (sym c.moved_to_end.ensures) (natural_small c.args.piece.now _ c.requires c.type_inv.piece c.lanes_of-lanes.ensures _ c.from_ten-others.ensures c.if-others-eq0.false)
+    subst P (sym c.moved_to_end.ensures)
+    (natural_small c.args.piece.now _ c.requires c.type_inv.piece c.lanes_of-lanes.ensures _ c.from_ten-others.ensures c.if-others-eq0.false)
 
 pub returns-then-piece-natural-ne46-clause-few : goal.returns-then-piece-natural-ne46-clause-few
 returns-then-piece-natural-ne46-clause-few c =
@@ -41,13 +42,16 @@ without_lane-requires c =
 
 pub moved_to_end-requires-2 : goal.moved_to_end-requires-2
 moved_to_end-requires-2 c =
-    let few = both_few c.args.piece.now _ c.requires c.type_inv.piece c.lanes_of-lanes.ensures _ c.from_ten-others.ensures c.if-others-eq0.false c.if-rest-eq0.false in
+    let few = both_few c.args.piece.now _ c.requires c.type_inv.piece c.lanes_of-lanes.ensures _ c.from_ten-others.ensures c.if-others-eq0.false
+    c.if-rest-eq0.false in
     omega arith
 
 pub number_of-requires-2 : goal.number_of-requires-2
 number_of-requires-2 c =
     let P : List ℕ → Type 0 = λ xs. Each1 (λ x. x < 10) xs in
-    subst P (sym (rw c.without_lane.ensures at c.moved_to_end-2.ensures)) (both_small c.args.piece.now _ c.requires c.type_inv.piece c.lanes_of-lanes.ensures _ c.from_ten-others.ensures c.if-others-eq0.false c.if-rest-eq0.false)
+    subst P (sym (rw c.without_lane.ensures at c.moved_to_end-2.ensures))
+    (both_small c.args.piece.now _ c.requires c.type_inv.piece c.lanes_of-lanes.ensures _ c.from_ten-others.ensures c.if-others-eq0.false
+    c.if-rest-eq0.false)
 
 pub returns-clause-few : goal.returns-clause-few
 returns-clause-few c =
@@ -56,7 +60,8 @@ returns-clause-few c =
 pub returns-clause-spells : goal.returns-clause-spells
 returns-clause-spells c =
     both_spell c.args.piece.now _ c.requires c.type_inv.piece c.lanes_of-lanes.ensures _ c.from_ten-others.ensures c.if-others-eq0.false c.if-rest-eq0.false _
-    (c.number_of-2.ensures ∙ ap (fold with_value 0) (rw c.without_lane.ensures at c.moved_to_end-2.ensures)) c.if-piece-natural-ne46.false c.if-fraction-eq0.false
+    (c.number_of-2.ensures ∙ ap (fold with_value 0) (rw c.without_lane.ensures at c.moved_to_end-2.ensures)) c.if-piece-natural-ne46.false
+    c.if-fraction-eq0.false
 
 pub returns-then-piece-natural-ne46-clause-ends : goal.returns-then-piece-natural-ne46-clause-ends
 returns-then-piece-natural-ne46-clause-ends c =

@@ -21,7 +21,8 @@ refused_within Depth limits bytes place h = stop_within limits bytes place h.0
 refused_within Length limits bytes place h = stop_within limits bytes place h.0
 refused_within Truncated limits bytes place h = omega (arith, h.0)
 
-place_within : (limits : Allowed) (bytes : List ℕ) (judgement : Judgement) (place : ℕ) → IsJudgement limits bytes judgement → IsPlaceIn place judgement → place ≤ length bytes
+place_within : (limits : Allowed) (bytes : List ℕ) (judgement : Judgement) (place : ℕ) → IsJudgement limits bytes judgement → IsPlaceIn place judgement
+    → place ≤ length bytes
 place_within limits bytes (valid warnings) place h p = warnings_within h.0 bytes warnings p.0 place h.1.0.0 h.3 p.1
 place_within limits bytes (broken fault) place h p = let l = least_within h.0 bytes fault h.1.0.0 h.2 in omega (arith, p, l)
 place_within limits bytes (refused fault) place h p = let l = refused_within fault.cause limits bytes fault.place h in omega (arith, p, l)

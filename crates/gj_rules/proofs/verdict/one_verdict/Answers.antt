@@ -20,17 +20,21 @@ use Rattle.gj_rules.proofs.Texts.LinterEvents.{text_verdict}
 use Rattle.gj_rules.proofs.verdict.one_verdict.Goals as goal
 
 module _ (one_text : (first second : Text) (bytes : List ℕ) → IsText first bytes → IsText second bytes → first ≡ second)
-    (at_most_one : (limits : Allowed) (bytes : List ℕ) (first second : JsonFault) → IsRefusal limits bytes first → IsRefusal limits bytes second → first ≡ second)
+    (at_most_one : (limits : Allowed) (bytes : List ℕ) (first second : JsonFault) → IsRefusal limits bytes first → IsRefusal limits bytes second
+    → first ≡ second)
     (never_both : (limits : Allowed) (bytes : List ℕ) (fault : JsonFault) (text : Text) → IsRefusal limits bytes fault → IsAdmitted limits text bytes → ⊥) where
   -- the faults of an input are those of its one text
-  least_is : (limits : Allowed) (bytes : List ℕ) (first second : Text) → IsAdmitted limits first bytes → IsAdmitted limits second bytes → least (text_faults first) ≡ least (text_faults second)
+  least_is : (limits : Allowed) (bytes : List ℕ) (first second : Text) → IsAdmitted limits first bytes → IsAdmitted limits second bytes
+      → least (text_faults first) ≡ least (text_faults second)
   least_is limits bytes first second a b = ap (λ (text : Text). least (text_faults text)) (one_text first second bytes a.0.0 b.0.0)
 
   warned_is : (limits : Allowed) (bytes : List ℕ) (first second : Text) (a b : Warnings) → IsAdmitted limits first bytes → IsAdmitted limits second bytes
       → a ≡ warnings_of (text_warnings first) → b ≡ warnings_of (text_warnings second) → a ≡ b
-  warned_is limits bytes first second a b e f g h = g ∙ (ap (λ (text : Text). warnings_of (text_warnings text)) (one_text first second bytes e.0.0 f.0.0) ∙ sym h)
+  warned_is limits bytes first second a b e f g h =
+      g ∙ (ap (λ (text : Text). warnings_of (text_warnings text)) (one_text first second bytes e.0.0 f.0.0) ∙ sym h)
 
-  none_is : (limits : Allowed) (bytes : List ℕ) (first second : Text) (fault : Fault) → IsAdmitted limits first bytes → IsAdmitted limits second bytes → text_faults first ≡ [] → least (text_faults second) ≡ Some fault → ⊥
+  none_is : (limits : Allowed) (bytes : List ℕ) (first second : Text) (fault : Fault) → IsAdmitted limits first bytes → IsAdmitted limits second bytes
+      → text_faults first ≡ [] → least (text_faults second) ≡ Some fault → ⊥
   none_is limits bytes first second fault a b none some =
       let e : least (text_faults first) ≡ None = ap (λ xs. least xs) none in
       let f = sym e ∙ least_is limits bytes first second a b ∙ some in

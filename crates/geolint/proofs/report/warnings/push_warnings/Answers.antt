@@ -15,7 +15,8 @@ loop-kind-preserved c =
     let more = lines-more line kinds c.loop-kind.kind-index W1 c.loop-kind-test.true in
     let start = written_in c.args.room.now in
     record {
-      done = c.push_kind.ensures.line ∙ ap (λ (xs : List ℕ). xs ++ here) c.loop-kind.invariant.done ∙ append_assoc start before here ∙ ap (λ (xs : List ℕ). start ++ xs) (sym more);
+      done = c.push_kind.ensures.line ∙ ap (λ (xs : List ℕ). xs ++ here) c.loop-kind.invariant.done ∙ append_assoc start before here
+          ∙ ap (λ (xs : List ℕ). start ++ xs) (sym more);
       small = omega (arith, c.loop-kind.invariant.small, c.push_kind.ensures.short);
     }
 
@@ -23,4 +24,5 @@ pub returns : goal.returns
 unfolding told_lines
 returns c =
     let end : c.loop-kind.kind-index ≡ length kinds = omega (arith, c.loop-kind-test.false, c.loop-kind.auto.kind-index-end) in
-    subst (λ (i : ℕ). written_in c.loop-kind.room ≡ written_in c.args.room.now ++ flat_map (told_line c.args.warnings.now) (take i kinds)) end c.loop-kind.invariant.done
+    subst (λ (i : ℕ). written_in c.loop-kind.room ≡ written_in c.args.room.now ++ flat_map (told_line c.args.warnings.now) (take i kinds)) end
+    c.loop-kind.invariant.done

@@ -31,12 +31,16 @@ returns-in-Some c =
     let counts : Counted c.in-Some.linter = subst (λ (o : Option Judging). OfLinter o Counted) c.in-Some.is c.is_ready.ensures.counted in
     record {
       stands = λ limits bytes s.
-          let j : Judges c.in-Some.linter self.pulled limits bytes = subst (λ (o : Option Judging). IsJudging o self.pulled limits bytes) c.in-Some.is s.1 in
-          (s.0, subst (λ (o : Option Judging). IsJudging o (self.pulled + 1) limits bytes) (sym c.in-Some.is) (pulled_on c.in-Some.linter self.pulled limits bytes more counts j));
+          let j : Judges c.in-Some.linter self.pulled limits bytes = subst (λ (o : Option Judging). IsJudging o self.pulled limits bytes) c.in-Some.is s.1 in (
+            s.0,
+            subst (λ (o : Option Judging). IsJudging o (self.pulled + 1) limits bytes) (sym c.in-Some.is)
+                (pulled_on c.in-Some.linter self.pulled limits bytes more counts j),
+          );
       finding = λ limits bytes s.
           let j : Judges c.in-Some.linter self.pulled limits bytes = subst (λ (o : Option Judging). IsJudging o self.pulled limits bytes) c.in-Some.is s.1 in
           subst (λ (b : Bool). OfNext self.linter self.pulled b limits bytes c.pull-finding.result) (sym on)
-          (subst (λ (o : Option Judging). OfNext o self.pulled true limits bytes c.pull-finding.result) (sym c.in-Some.is) (c.pull-finding.ensures limits bytes j more));
+          (subst (λ (o : Option Judging). OfNext o self.pulled true limits bytes c.pull-finding.result) (sym c.in-Some.is)
+          (c.pull-finding.ensures limits bytes j more));
       counted = λ e. refl;
       none = λ e. (let f : true ≡ false = sym on ∙ e in cc);
     }

@@ -10,7 +10,8 @@ returns-in-Some c = record {
   step = λ limits bytes s.
       let stands : IsFedTo (Some c.in-Some.locator) limits bytes = subst (λ (o : Option Locator). IsFedTo o limits bytes) c.in-Some.is s in
       subst (λ (o : Option Locator). IsStepIn o bytes c.args.i c.step_in.result) (sym c.in-Some.is)
-      (λ text rest t. subst (λ (steps : List PathStep). Shows (slice_get steps c.args.i) c.step_in.result) (c.path.ensures.path bytes rest text stands.0 t) c.step_in.ensures);
+      (λ text rest t. subst (λ (steps : List PathStep). Shows (slice_get steps c.args.i) c.step_in.result)
+      (c.path.ensures.path bytes rest text stands.0 t) c.step_in.ensures);
   none = λ e. (let f : None ≡ Some c.in-Some.locator = sym e ∙ c.in-Some.is in cc);
   unchanged = refl;
 }

@@ -25,7 +25,8 @@ returns-in-Some c =
     (record {
       within = fed.ensures.within;
       tells = λ framing limits bytes found r s.
-          let j : Judges c.in-Some.records self.last framing limits bytes found = subst (λ (o : Option Records). IsJudging o self.last framing limits bytes found) c.in-Some.is s.1 in
+          let j : Judges c.in-Some.records self.last framing limits bytes found =
+          subst (λ (o : Option Records). IsJudging o self.last framing limits bytes found) c.in-Some.is s.1 in
           let h = fed.ensures.told bytes [] found j.stands j.last_of in
           let all = found ++ h.have.more in
           let on = bytes ++ take fed.result.count c.args.piece.now in
@@ -36,7 +37,9 @@ returns-in-Some c =
                 (subst (λ (l : Allowed). AreFindingsSoFar (framing_under fed.new.self) l on all) (limits_same ∙ j.under) h.have.findings);
             one_or_none = h.one_or_none;
             over = subst (λ n. (n ≡ 1) ↔ (limits.bytes < length on)) (sym c.over_status.ensures)
-                (over_where c.is_over.result (limits.bytes < length on) (subst (λ (l : Allowed). IsTrue c.is_over.result ↔ (l.bytes < length on)) (limits_same ∙ j.under) (c.is_over.ensures.beyond on all h.have.stands)));
+                (over_where c.is_over.result (limits.bytes < length on)
+                (subst (λ (l : Allowed). IsTrue c.is_over.result ↔ (l.bytes < length on)) (limits_same ∙ j.under)
+                (c.is_over.ensures.beyond on all h.have.stands)));
           };
       ready = λ e. refl;
       all = λ e r. fed.ensures.all r;

@@ -15,7 +15,8 @@ returns-in-Some c =
     let self = c.args.self.now in
     record {
       whole = λ framing limits bytes found r s.
-          let j : Judges c.in-Some.records self.last framing limits bytes found = subst (λ (o : Option Records). IsJudging o self.last framing limits bytes found) c.in-Some.is s.1 in
+          let j : Judges c.in-Some.records self.last framing limits bytes found =
+          subst (λ (o : Option Records). IsJudging o self.last framing limits bytes found) c.in-Some.is s.1 in
           let h = c.end-whole.ensures.told bytes [] found j.stands j.last_of in
           let all = found ++ h.have.more in
           record {

@@ -7,7 +7,8 @@ use Rattle.geolint_c.proofs.records.RecordHandle.next.Goals as goal
 pub returns : goal.returns
 returns c = record {
   stands = λ framing limits bytes found s. s;
-  finding = λ r earlier one last. subst (λ (x : Record). IsRecord x c.finding_of_record.result) (c.get.ensures ∙ last earlier one refl) c.finding_of_record.ensures;
+  finding = λ r earlier one last. subst (λ (x : Record). IsRecord x c.finding_of_record.result)
+      (c.get.ensures ∙ last earlier one refl) c.finding_of_record.ensures;
   pulled = refl;
   none = λ e. (let f : true ≡ false = sym c.if-not-self.false ∙ e in cc);
 }

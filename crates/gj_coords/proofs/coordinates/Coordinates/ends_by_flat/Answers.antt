@@ -12,11 +12,16 @@ returns-then-is_second c = record {
       let k : Holds Second s.floor events s.walk = holds_at s.depth Second s.floor events s.walk (c.is_second.ensures c.if-is_second.true) stands.holds in
       record {
         holds = held_at s.depth Second s.floor _ _ (c.is_second.ensures c.if-is_second.true)
-            (rw (c.add_steady.ensures k.1.settled.counted) (second_flat s.floor s.walk events c.args.flat.now k.0 k.1 (c.is_past.ensures c.if-is_past.true), second_still s.floor c.args.flat.now s.walk k.1));
+            (rw (c.add_steady.ensures k.1.settled.counted) (
+              second_flat s.floor s.walk events c.args.flat.now k.0 k.1
+                  (c.is_past.ensures c.if-is_past.true),
+              second_still s.floor c.args.flat.now s.walk k.1,
+            ));
       };
   at_the_end = λ value events rest stands joined room.
       let s = c.args.self.now in
-      steady_goes_on Second s.floor value events rest _ refl (holds_at s.depth Second s.floor events _ (c.is_second.ensures c.if-is_second.true) stands.holds) joined room;
+      steady_goes_on Second s.floor value events rest _ refl
+      (holds_at s.depth Second s.floor events _ (c.is_second.ensures c.if-is_second.true) stands.holds) joined room;
 }
 
 pub returns-then-is_third : goal.returns-then-is_third
@@ -26,11 +31,16 @@ returns-then-is_third c = record {
       let k : Holds Third s.floor events s.walk = holds_at s.depth Third s.floor events s.walk (c.is_third.ensures c.if-is_third.true) stands.holds in
       record {
         holds = held_at s.depth Third s.floor _ _ (c.is_third.ensures c.if-is_third.true)
-            (rw (c.add_steady-then-is_third.ensures k.1.settled.counted) (third_flat s.floor s.walk events c.args.flat.now k.0 k.1 (c.is_past.ensures c.if-is_past.true), third_still s.floor c.args.flat.now s.walk k.1));
+            (rw (c.add_steady-then-is_third.ensures k.1.settled.counted) (
+              third_flat s.floor s.walk events c.args.flat.now k.0 k.1
+                  (c.is_past.ensures c.if-is_past.true),
+              third_still s.floor c.args.flat.now s.walk k.1,
+            ));
       };
   at_the_end = λ value events rest stands joined room.
       let s = c.args.self.now in
-      steady_goes_on Third s.floor value events rest _ refl (holds_at s.depth Third s.floor events _ (c.is_third.ensures c.if-is_third.true) stands.holds) joined room;
+      steady_goes_on Third s.floor value events rest _ refl
+      (holds_at s.depth Third s.floor events _ (c.is_third.ensures c.if-is_third.true) stands.holds) joined room;
 }
 
 pub returns-then-is_first : goal.returns-then-is_first
@@ -40,9 +50,14 @@ returns-then-is_first c = record {
       let k : Holds First s.floor events s.walk = holds_at s.depth First s.floor events s.walk (c.is_first.ensures c.if-is_first.true) stands.holds in
       record {
         holds = held_at s.depth First s.floor _ _ (c.is_first.ensures c.if-is_first.true)
-            (rw (c.add_steady-then-is_first.ensures k.1.settled.counted) (first_flat s.floor s.walk events c.args.flat.now k.0 k.1 (c.is_past.ensures c.if-is_past.true), first_still s.floor c.args.flat.now s.walk k.1));
+            (rw (c.add_steady-then-is_first.ensures k.1.settled.counted) (
+              first_flat s.floor s.walk events c.args.flat.now k.0 k.1
+                  (c.is_past.ensures c.if-is_past.true),
+              first_still s.floor c.args.flat.now s.walk k.1,
+            ));
       };
   at_the_end = λ value events rest stands joined room.
       let s = c.args.self.now in
-      steady_goes_on First s.floor value events rest _ refl (holds_at s.depth First s.floor events _ (c.is_first.ensures c.if-is_first.true) stands.holds) joined room;
+      steady_goes_on First s.floor value events rest _ refl
+      (holds_at s.depth First s.floor events _ (c.is_first.ensures c.if-is_first.true) stands.holds) joined room;
 }

@@ -12,7 +12,8 @@ returns-then-is_whole c = record {
       let s = c.args.self.now in
       c.take.ensures.joined ∙
       ap (joined (all_in c.args.warned.now))
-      (ap all_in c.held_warned.ensures ∙ whole_kept c.args.simple s.walk value (holds_whole s.depth s.floor _ s.walk (sym c.is_whole.ensures ∙ c.if-is_whole.true) stands.holds) room);
+      (ap all_in c.held_warned.ensures
+      ∙ whole_kept c.args.simple s.walk value (holds_whole s.depth s.floor _ s.walk (sym c.is_whole.ensures ∙ c.if-is_whole.true) stands.holds) room);
 }
 
 pub returns-else-is_whole : goal.returns-else-is_whole
@@ -21,5 +22,6 @@ returns-else-is_whole c = record {
       let s = c.args.self.now in
       ap all_in c.warn.ensures ∙
       (taken_is c.args.warned.now (warned_as c.args.simple (walk_machine.answered s.walk)) ∙
-      ap (joined (all_in c.args.warned.now)) (walk_kept c.args.simple s.walk value (holds_walk s.depth s.floor _ s.walk (sym c.is_whole.ensures ∙ c.if-is_whole.false) stands.holds) room));
+      ap (joined (all_in c.args.warned.now))
+      (walk_kept c.args.simple s.walk value (holds_walk s.depth s.floor _ s.walk (sym c.is_whole.ensures ∙ c.if-is_whole.false) stands.holds) room));
 }

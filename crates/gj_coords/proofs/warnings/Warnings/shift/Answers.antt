@@ -30,7 +30,8 @@ loop-kind-preserved c =
     let at : index_of kind ≡ i = index_at i c.loop-kind-test.true in
     let noted : c.kept_shifted-noted.result ≡ value kind =
     c.kept_shifted-noted.ensures ∙ ap (shifted_noted c.args.by) (ap (λ w. kept w kind) c.loop-kind.invariant ∙ not_turned i value a kind at) in
-    c.replace.ensures ∙ (ap (λ w. replaced w kind c.kept_shifted-noted.result) c.loop-kind.invariant ∙ one_turned i value a kind c.kept_shifted-noted.result at noted)
+    c.replace.ensures ∙ (ap (λ w. replaced w kind c.kept_shifted-noted.result) c.loop-kind.invariant
+    ∙ one_turned i value a kind c.kept_shifted-noted.result at noted)
 
 pub returns : goal.returns
 unfolding shifted

@@ -23,4 +23,5 @@ pub returns : goal.returns
 unfolding joined
 returns c =
     c.loop-kind.invariant
-    ∙ all_turned c.loop-kind.kind-index (λ kind. joined_noted (kept c.args.self.now kind) (kept c.args.other.now kind)) c.args.self.now (omega (arith, c.loop-kind-test.false))
+    ∙ all_turned c.loop-kind.kind-index (λ kind. joined_noted (kept c.args.self.now kind) (kept c.args.other.now kind)) c.args.self.now
+    (omega (arith, c.loop-kind-test.false))

@@ -8,6 +8,7 @@ pub returns : goal.returns
 returns g c = record {
   least = λ value stands room.
       ap (λ f. f.fault)
-      (c.answer.ensures ∙ answer_at_end g.R.ValueReader.machine (type_answer g.R.TypeReader.simple) g.met.R.TypeReader.answers c.args.self.now.reader value stands room) ∙
+      (c.answer.ensures ∙ answer_at_end g.R.ValueReader.machine
+      (type_answer g.R.TypeReader.simple) g.met.R.TypeReader.answers c.args.self.now.reader value stands room) ∙
       type_least g.R.TypeReader.simple value;
 }

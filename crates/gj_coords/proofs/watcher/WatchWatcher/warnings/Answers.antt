@@ -12,6 +12,7 @@ returns g c = record {
       c.all.ensures ∙
       (ap (λ f. all_in f.warned)
       (c.answer.ensures ∙
-      answer_at_end g.R.ValueReader.machine (type_answer g.R.TypeReader.simple) g.met.R.TypeReader.answers c.args.self.now.reader value stands (countable value few)) ∙
+      answer_at_end g.R.ValueReader.machine (type_answer g.R.TypeReader.simple) g.met.R.TypeReader.answers c.args.self.now.reader value stands
+      (countable value few)) ∙
       type_warned g.R.TypeReader.simple value (short value few));
 }

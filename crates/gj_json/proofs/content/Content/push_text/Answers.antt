@@ -2,10 +2,12 @@
 use Rattle.std.proofs.Common.{inl, inr, arith}
 use Rattle.gj_json.proofs.Grammar.Utf8Characters.{few_holds, other_text}
 use Rattle.gj_json.proofs.content.Content.push_text.Goals as goal
-use Rattle.gj_json.proofs.content.Content.push_text.Goals.{else-text-le-MOST_LETTERS-via-then-text-le-MOST_LETTERS+else-is_ascii, else-text-le-MOST_LETTERS-via-else-text-le-MOST_LETTERS}
+use Rattle.gj_json.proofs.content.Content.push_text.Goals.{else-text-le-MOST_LETTERS-via-then-text-le-MOST_LETTERS+else-is_ascii}
+use Rattle.gj_json.proofs.content.Content.push_text.Goals.{else-text-le-MOST_LETTERS-via-else-text-le-MOST_LETTERS}
 
 pub returns-then-is_ascii : goal.returns-then-is_ascii
-returns-then-is_ascii c = λ so_far utf8 h. few_holds c.args.text.now c.push_run.new.self so_far utf8 c.if-is_ascii.ensures.cases (λ a. c.push_run.ensures so_far a h)
+returns-then-is_ascii c =
+    λ so_far utf8 h. few_holds c.args.text.now c.push_run.new.self so_far utf8 c.if-is_ascii.ensures.cases (λ a. c.push_run.ensures so_far a h)
 
 pub returns-else-text-le-MOST_LETTERS : goal.returns-else-text-le-MOST_LETTERS
 returns-else-text-le-MOST_LETTERS c = λ so_far utf8 h. elim c.else-text-le-MOST_LETTERS.branch [

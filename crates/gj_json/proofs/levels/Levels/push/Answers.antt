@@ -8,4 +8,5 @@ pub returns-else-self-lt-WORD : goal.returns-else-self-lt-WORD
 unfolding levels_in
 returns-else-self-lt-WORD c =
     let old = c.args.self.now in
-    pushed_full c.args.level c.bit-bit.result old.inner old.count old.full old.outer c.bit-bit.ensures (omega (arith, old.some, c.if-self-lt-WORD.false)) (search rules)
+    pushed_full c.args.level c.bit-bit.result old.inner old.count old.full old.outer c.bit-bit.ensures (omega (arith, old.some, c.if-self-lt-WORD.false))
+    (search rules)

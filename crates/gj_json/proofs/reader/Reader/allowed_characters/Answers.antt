@@ -6,7 +6,8 @@ use Rattle.gj_json.proofs.reader.Reader.allowed_characters.Goals as goal
 
 pub returns-then-piece-room-clause-longest : goal.returns-then-piece-room-clause-longest
 returns-then-piece-room-clause-longest c =
-    longest_all (c.args.self.now.limits.bytes - c.args.self.now.offset) c.whole_characters.result c.args.piece.now (omega (arith, c.if-piece-room.true, c.bytes.ensures.value)) c.whole_characters.ensures
+    longest_all (c.args.self.now.limits.bytes - c.args.self.now.offset) c.whole_characters.result c.args.piece.now
+    (omega (arith, c.if-piece-room.true, c.bytes.ensures.value)) c.whole_characters.ensures
 
 pub returns-else-piece-room-clause-longest : goal.returns-else-piece-room-clause-longest
 returns-else-piece-room-clause-longest c =

@@ -18,7 +18,8 @@ returns-in-Close-clause-feeds c =
     let made : after_move (inner_of (levels_in c.args.self.now.levels)) (class_of (get_or c.args.piece.now 0 0)) ≡ Close c.in-Close.field-0 =
     ap (λ i. after_move i (class_of (get_or c.args.piece.now 0 0))) (sym c.inner.ensures) ∙ sym c.after_value.ensures.value ∙ c.in-Close.is in
     rw (c.skip.ensures.count)
-    (closed_level c.args.floor c.args.self.now c.skip.new.self c.args.piece.now c.in-Close.field-0 c.requires.some c.requires.live c.requires.done c.requires.room made c.requires.above
+    (closed_level c.args.floor c.args.self.now c.skip.new.self c.args.piece.now c.in-Close.field-0 c.requires.some c.requires.live c.requires.done
+    c.requires.room made c.requires.above
     (record { limits = p.limits; fault = p.fault; offset = p.offset; mode_is = p.mode_is; levels_are = ap levels_in p.levels ∙ c.pop.ensures }))
 
 pub returns-in_default-clause-feeds : goal.returns-in_default-clause-feeds

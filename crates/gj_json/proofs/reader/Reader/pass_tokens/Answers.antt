@@ -26,7 +26,8 @@ returns-then-count-eq0-clause-feeds c =
     let t = c.pass_token-count in
     let e : c.loop-at.at + t.result ≡ c.loop-at.at = omega (arith, c.if-count-eq0.true) in
     let P : ℕ → Type 0 = λ n. FeedsWithin c.args.floor c.args.self.now t.new.self (take n c.args.piece.now) in
-    subst P e (both_within c.args.floor c.args.self.now c.loop-at.self t.new.self c.args.piece.now c.loop-at.at t.result c.loop-at.invariant.fed t.ensures.feeds)
+    subst P e (both_within c.args.floor c.args.self.now c.loop-at.self t.new.self c.args.piece.now c.loop-at.at t.result c.loop-at.invariant.fed
+    t.ensures.feeds)
 
 pub returns-then-len-floor-clause-feeds : goal.returns-then-len-floor-clause-feeds
 returns-then-len-floor-clause-feeds c = c.loop-at.invariant.fed

@@ -10,7 +10,8 @@ pub returns-in-StringOn-clause-skips : goal.returns-in-StringOn-clause-skips
 returns-in-StringOn-clause-skips c =
     let run = c.string_run-run.result in
     let read = c.string_run-run.ensures.reads in
-    rw (c.skip.ensures.count) (text_skips c.args.self.now _ c.skip.new.self (take run.count c.args.piece.now) read.0 run.count c.in-StringOn.state run.state (StringOn run.state)
+    rw (c.skip.ensures.count)
+    (text_skips c.args.self.now _ c.skip.new.self (take run.count c.args.piece.now) read.0 run.count c.in-StringOn.state run.state (StringOn run.state)
     (record { limits = refl; fault = refl; start = refl; offset = refl; mode = refl; levels = refl })
     (length-take-le run.count c.args.piece.now c.string_run-run.ensures.within) c.skip.ensures.passed (inl (c.in-StringOn.is, refl)) read.1 read.2)
 
@@ -18,9 +19,12 @@ pub returns-in-NameOn-clause-skips : goal.returns-in-NameOn-clause-skips
 returns-in-NameOn-clause-skips c =
     let run = c.string_run-run-in-NameOn.result in
     let read = c.string_run-run-in-NameOn.ensures.reads in
-    rw (c.skip-in-NameOn.ensures.count) (text_skips c.args.self.now _ c.skip-in-NameOn.new.self (take run.count c.args.piece.now) read.0 run.count c.in-NameOn.state run.state (NameOn run.state)
+    rw (c.skip-in-NameOn.ensures.count)
+    (text_skips c.args.self.now _ c.skip-in-NameOn.new.self (take run.count c.args.piece.now) read.0 run.count c.in-NameOn.state run.state
+    (NameOn run.state)
     (record { limits = refl; fault = refl; start = refl; offset = refl; mode = refl; levels = refl })
-    (length-take-le run.count c.args.piece.now c.string_run-run-in-NameOn.ensures.within) c.skip-in-NameOn.ensures.passed (inr (c.in-NameOn.is, refl)) read.1 read.2)
+    (length-take-le run.count c.args.piece.now c.string_run-run-in-NameOn.ensures.within) c.skip-in-NameOn.ensures.passed
+    (inr (c.in-NameOn.is, refl)) read.1 read.2)
 
 pub returns-in_default : goal.returns-in_default
 returns-in_default c =
@@ -28,6 +32,9 @@ returns-in_default c =
     let mode = c.args.self.now.mode in
     record {
       within = rw (c.skip-in_default.ensures.count) c.quiet_run.ensures.within;
-      skips = rw (c.skip-in_default.ensures.count) (leads_skips c.args.self.now c.skip-in_default.new.self (take n c.args.piece.now) n mode (length-take-le n c.args.piece.now c.quiet_run.ensures.within) c.skip-in_default.ensures.passed
-          (quiet_leads mode (take n c.args.piece.now) c.quiet_run.ensures.quiet) (other_mode mode c.in_default.not-NumberOn) (no_text mode c.in_default.not-StringOn c.in_default.not-NameOn));
+      skips = rw (c.skip-in_default.ensures.count)
+          (leads_skips c.args.self.now c.skip-in_default.new.self (take n c.args.piece.now) n mode
+          (length-take-le n c.args.piece.now c.quiet_run.ensures.within) c.skip-in_default.ensures.passed
+          (quiet_leads mode (take n c.args.piece.now) c.quiet_run.ensures.quiet) (other_mode mode c.in_default.not-NumberOn)
+          (no_text mode c.in_default.not-StringOn c.in_default.not-NameOn));
     }

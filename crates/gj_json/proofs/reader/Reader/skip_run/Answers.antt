@@ -9,10 +9,12 @@ use Rattle.gj_json.proofs.Grammar.Utf8Characters.{front_utf8, front_unescaped, f
 use Rattle.gj_json.proofs.reader.Reader.skip_run.Goals as goal
 
 pub returns-then-not-is_between-clause-longest : goal.returns-then-not-is_between-clause-longest
-returns-then-not-is_between-clause-longest c = λ bytes live h viable. absurd (not_viable_elsewhere c.args.self.now bytes live h (sym c.is_between.ensures ∙ c.if-not-is_between.true) viable)
+returns-then-not-is_between-clause-longest c =
+    λ bytes live h viable. absurd (not_viable_elsewhere c.args.self.now bytes live h (sym c.is_between.ensures ∙ c.if-not-is_between.true) viable)
 
 pub returns-clause-elsewhere : goal.returns-clause-elsewhere
-returns-clause-elsewhere c = λ bytes live h never. absurd (never (viable_between c.args.self.now bytes live h (sym c.is_between.ensures ∙ c.if-not-is_between.false)))
+returns-clause-elsewhere c =
+    λ bytes live h never. absurd (never (viable_between c.args.self.now bytes live h (sym c.is_between.ensures ∙ c.if-not-is_between.false)))
 
 skips : (c : goal.After-skip) → Skips c.args.self.now c.skip.new.self (take c.skip.result c.args.piece.now)
 skips c =
@@ -24,7 +26,8 @@ skips c =
     let utf8 = front_utf8 piece m n (omega arith) longest in
     rw (c.skip.ensures.count) (run_skips old _ c.skip.new.self (take n piece) n old.mode refl (sym c.is_between.ensures ∙ c.if-not-is_between.false)
     (length-take-le n piece (front_within piece m n (omega arith) longest))
-    (record { limits = refl; fault = refl; levels = refl; start = refl; offset = refl; mode = refl }) c.skip.ensures.passed utf8 (front_unescaped piece m n (omega arith) longest)
+    (record { limits = refl; fault = refl; levels = refl; start = refl; offset = refl; mode = refl }) c.skip.ensures.passed utf8
+    (front_unescaped piece m n (omega arith) longest)
     (λ so_far h. c.push_text.ensures so_far utf8 h))
 
 room : (c : goal.After-skip) → c.args.self.now.offset + length (take c.skip.result c.args.piece.now) ≤ c.args.self.now.limits.bytes
@@ -44,6 +47,8 @@ returns-clause-silent c = λ bytes live h.
     let given = take c.skip.result c.args.piece.now in
     let m = min (plain_run_of c.args.piece.now) (old.limits.bytes - old.offset) in
     let n : length given ≡ c.skip.result =
-    rw (c.skip.ensures.count) (length-take-le c.allowed_characters-count.result c.args.piece.now (front_within c.args.piece.now m c.allowed_characters-count.result (omega arith) c.allowed_characters-count.ensures.longest)) in
+    rw (c.skip.ensures.count)
+    (length-take-le c.allowed_characters-count.result c.args.piece.now
+    (front_within c.args.piece.now m c.allowed_characters-count.result (omega arith) c.allowed_characters-count.ensures.longest)) in
     let P : ℕ → Type 0 = λ k. Completed (length bytes) (length bytes + k) (bytes ++ given) [] in
     subst P n (skipped_silent old c.skip.new.self given bytes live (room c) (skips c) h)

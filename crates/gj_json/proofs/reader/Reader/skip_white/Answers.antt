@@ -9,5 +9,8 @@ pub returns-in_default-clause-skips : goal.returns-in_default-clause-skips
 returns-in_default-clause-skips c =
     let n = c.quiet_run.result in
     let mode = c.args.self.now.mode in
-    rw (c.skip.ensures.count) (leads_skips c.args.self.now c.skip.new.self (take n c.args.piece.now) n mode (length-take-le n c.args.piece.now c.quiet_run.ensures.within) c.skip.ensures.passed
-    (quiet_leads mode (take n c.args.piece.now) c.quiet_run.ensures.quiet) (other_mode mode c.in_default.not-NumberOn) (no_text mode c.in_default.not-StringOn c.in_default.not-NameOn))
+    rw (c.skip.ensures.count)
+    (leads_skips c.args.self.now c.skip.new.self (take n c.args.piece.now) n mode
+    (length-take-le n c.args.piece.now c.quiet_run.ensures.within) c.skip.ensures.passed
+    (quiet_leads mode (take n c.args.piece.now) c.quiet_run.ensures.quiet) (other_mode mode c.in_default.not-NumberOn)
+    (no_text mode c.in_default.not-StringOn c.in_default.not-NameOn))

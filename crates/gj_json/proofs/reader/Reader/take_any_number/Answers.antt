@@ -4,7 +4,8 @@ use Rattle.gj_json.proofs.reader.Reader.take_any_number.Goals as goal
 
 pub end_number-requires-clause-number : goal.end_number-requires-clause-number
 end_number-requires-clause-number g c =
-    (c.may_end.ensures.number (take c.push_piece-count.result c.args.piece.now) (c.push_piece-count.ensures.stands [] c.new-literal.ensures.stands)).0 c.if-not-may_end.false
+    (c.may_end.ensures.number (take c.push_piece-count.result c.args.piece.now) (c.push_piece-count.ensures.stands [] c.new-literal.ensures.stands)).0
+    c.if-not-may_end.false
 
 pub end_number-requires-clause-value : goal.end_number-requires-clause-value
 end_number-requires-clause-value g c =

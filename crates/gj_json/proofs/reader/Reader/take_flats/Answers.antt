@@ -26,7 +26,9 @@ pub returns-in_default-clause-feeds : goal.returns-in_default-clause-feeds
 returns-in_default-clause-feeds g c =
     let none = c.take_flat.ensures.nothing c.in_default.is in
     let e : c.loop-at.at + 0 ≡ c.loop-at.at = omega arith in
-    let P : ℕ → Type 0 = λ n. FeedsAll (g.S.EventSink.heard c.args.sink.now) (g.S.EventSink.heard c.take_flat.new.sink) c.args.self.now c.take_flat.new.self (take n c.args.piece.now) in
+    let P : ℕ → Type 0 =
+    λ n. FeedsAll (g.S.EventSink.heard c.args.sink.now) (g.S.EventSink.heard c.take_flat.new.sink) c.args.self.now c.take_flat.new.self
+    (take n c.args.piece.now) in
     subst P e
     (CallsInTurn.piece_all c.args.self.now c.loop-at.self c.take_flat.new.self c.args.piece.now c.loop-at.at 0 c.loop-at.invariant.fed none)
 

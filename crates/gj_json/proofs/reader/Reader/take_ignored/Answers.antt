@@ -12,7 +12,9 @@ returns-clause-feeds g c =
     let floor = c.len-open.result - c.ignored-ignored.result in
     let m : above floor old ≡ g.S.EventSink.ignores c.args.sink.now = omega (arith, c.len-open.ensures.value, c.ignored-ignored.ensures) in
     let n : c.len.result - floor ≡ above floor new = omega (arith, c.len.ensures.value) in
-    ignored_by (g.S.EventSink.heard c.args.sink.now) (g.S.EventSink.heard c.pass.new.self) (above floor old) (above floor new) old new c.args.piece.now c.take_within-taken.result
+    ignored_by (g.S.EventSink.heard c.args.sink.now) (g.S.EventSink.heard c.pass.new.self) (above floor old)
+    (above floor new) old new c.args.piece.now c.take_within-taken.result
     (λ events inner h l.
     let k : Leaves (above floor old) inner (c.len.result - floor) = subst (λ x. Leaves (above floor old) inner x) (sym n) l in
-    c.pass.ensures events inner (omega (arith, c.ignored-ignored.ensures)) h (subst (λ x. Leaves x inner (c.len.result - floor)) m k)) c.take_within-taken.ensures.feeds
+    c.pass.ensures events inner (omega (arith, c.ignored-ignored.ensures)) h (subst (λ x. Leaves x inner (c.len.result - floor)) m k))
+    c.take_within-taken.ensures.feeds

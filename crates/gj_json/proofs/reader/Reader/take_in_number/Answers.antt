@@ -23,7 +23,8 @@ returns-in-Goes g c = record {
       begins = λ state t f h. let x = rw (c.requires.number) at t in cc;
     },
   );
-  applied = StepsAlike.goes c.args.self.now _ c.go.new.self c.args.byte c.requires.number (record { limits = refl; fault = refl; start = refl; offset = refl; mode = refl; levels = refl }) c.go.ensures.passes;
+  applied = StepsAlike.goes c.args.self.now _ c.go.new.self c.args.byte c.requires.number
+      (record { limits = refl; fault = refl; start = refl; offset = refl; mode = refl; levels = refl }) c.go.ensures.passes;
   told = λ events h. (let e = StepsAlike.goes_tells c.args.self.now None c.args.byte c.requires.number in rw (e, append-nil) h);
 }
 
@@ -32,7 +33,8 @@ returns-then-may_end g c = record {
   turn = Ends;
   value = c.value-value.result;
   says = record {
-    turns = λ bytes m k. (λ f. c.push.ensures.refused bytes k c.in-Ends.is f, (c.may_end.ensures.number bytes (rw (c.push.ensures.kept c.in-Ends.is) k)).0 c.if-may_end.true);
+    turns = λ bytes m k.
+        (λ f. c.push.ensures.refused bytes k c.in-Ends.is f, (c.may_end.ensures.number bytes (rw (c.push.ensures.kept c.in-Ends.is) k)).0 c.if-may_end.true);
     values = λ e bytes m k n. c.value-value.ensures.value bytes (rw (c.push.ensures.kept c.in-Ends.is) k) n;
   };
   goes = λ made e. (
@@ -45,7 +47,8 @@ returns-then-may_end g c = record {
       begins = λ state t f h. let x = rw (c.requires.number) at t in cc;
     },
   );
-  applied = StepsAlike.applied c.args.self.now _ c.take_after_number.new.self (move_by c.args.self.now Ends c.args.byte) c.take_after_number.result (record { limits = refl; fault = refl; start = refl; offset = refl; mode = refl; levels = refl }) c.take_after_number.ensures.applied;
+  applied = StepsAlike.applied c.args.self.now _ c.take_after_number.new.self (move_by c.args.self.now Ends c.args.byte) c.take_after_number.result
+      (record { limits = refl; fault = refl; start = refl; offset = refl; mode = refl; levels = refl }) c.take_after_number.ensures.applied;
   told = λ events h. rw (StepsAlike.ends_tells c.args.self.now c.value-value.result c.args.byte c.requires.number) (c.take_after_number.ensures.heard events h);
 }
 
@@ -54,10 +57,13 @@ returns-else-may_end g c = record {
   turn = Refuses;
   value = None;
   says = record {
-    turns = λ bytes m k. (λ f. c.push.ensures.refused bytes k c.in-Ends.is f, λ n. let t = (c.may_end.ensures.number bytes (rw (c.push.ensures.kept c.in-Ends.is) k)).1 n in cc);
+    turns = λ bytes m k.
+        (λ f. c.push.ensures.refused bytes k c.in-Ends.is f, λ n. let t = (c.may_end.ensures.number bytes (rw (c.push.ensures.kept c.in-Ends.is) k)).1 n in cc);
     values = λ e bytes m k n. cc;
   };
   goes = λ made e. cc;
-  applied = StepsAlike.refused c.args.self.now _ c.refuse.new.self c.args.byte (Err c.refuse.result) c.requires.number (record { limits = refl; fault = refl; start = refl; offset = refl; mode = refl; levels = refl }) (record { fault = c.refuse.result; answer = refl; refused = c.refuse.ensures.refused });
+  applied = StepsAlike.refused c.args.self.now _ c.refuse.new.self c.args.byte (Err c.refuse.result) c.requires.number
+      (record { limits = refl; fault = refl; start = refl; offset = refl; mode = refl; levels = refl })
+      (record { fault = c.refuse.result; answer = refl; refused = c.refuse.ensures.refused });
   told = λ events h. rw append-nil h;
 }

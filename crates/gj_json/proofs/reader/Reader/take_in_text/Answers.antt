@@ -38,7 +38,8 @@ returns-in-Reads g c =
       );
       applied = StepsAlike.reads old _ c.go.new.self c.args.between c.args.state Ends c.args.byte c.in-Reads.character c.requires.text move
           (record { limits = refl; fault = refl; start = refl; offset = refl; mode = refl; levels = refl }) c.go.ensures.passes;
-      told = λ events h. let e = StepsAlike.reads_tells old c.args.between c.args.state Ends None c.args.byte c.in-Reads.character c.requires.text move in rw (e, append-nil) h;
+      told = λ events h. let e =
+          StepsAlike.reads_tells old c.args.between c.args.state Ends None c.args.byte c.in-Reads.character c.requires.text move in rw (e, append-nil) h;
     }
 
 pub returns-in_default : goal.returns-in_default
@@ -61,7 +62,8 @@ returns-in_default g c =
           goes = λ state next more so_far t f k.
               let same : state ≡ c.args.state = (let x = sym t ∙ from.text in cc) in
               let P : StringState → Type 0 = λ s. string_next s c.args.byte ≡ string_goes more next in
-              let e : more ≡ [] = StepsAlike.no_more (string_next c.args.state c.args.byte) more next (subst P same f) (λ d r. c.in_default.not-Reads d (c.next_string.ensures.value ∙ r)) in
+              let e : more ≡ [] = StepsAlike.no_more (string_next c.args.state c.args.byte) more next (subst P same f)
+              (λ d r. c.in_default.not-Reads d (c.next_string.ensures.value ∙ r)) in
               rw (c.take_other.ensures.content, e, append-nil) k;
           begins = λ state m t f. let x = sym t ∙ from.text in cc;
         },

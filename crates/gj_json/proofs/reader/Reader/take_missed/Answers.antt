@@ -7,11 +7,13 @@ use Rattle.gj_json.proofs.reader.Reader.take_missed.Goals.{else-count-gt0-via-th
 
 pub returns-then-tell_closed-clause-feeds : goal.returns-then-tell_closed-clause-feeds
 returns-then-tell_closed-clause-feeds g c =
-    all_as {before = g.S.EventSink.heard c.args.sink.now} {after = g.S.EventSink.heard c.tell_closed.new.self} 1 0 c.args.self.now c.take_innermost-count.new.self (take c.take_innermost-count.result c.args.piece.now)
+    all_as {before = g.S.EventSink.heard c.args.sink.now} {after = g.S.EventSink.heard c.tell_closed.new.self} 1 0 c.args.self.now
+    c.take_innermost-count.new.self (take c.take_innermost-count.result c.args.piece.now)
     (λ events inner h l. c.if-tell_closed.ensures.heard refl events inner h l) (c.take_innermost-count.ensures.feeds (omega (arith, c.if-count-gt0.true)))
 
 pub returns-clause-feeds : goal.returns-clause-feeds
 returns-clause-feeds g c = elim c.else-count-gt0.branch [
-  | else-count-gt0-via-then-count-gt0+else-tell_closed w ↦ rw (w.sink-is, w.tell_closed.ensures.same w.if-tell_closed.false) (feeds_nothing {heard = g.S.EventSink.heard c.args.sink.now} c.args.self.now c.requires.live)
+  | else-count-gt0-via-then-count-gt0+else-tell_closed w ↦ rw (w.sink-is, w.tell_closed.ensures.same w.if-tell_closed.false)
+      (feeds_nothing {heard = g.S.EventSink.heard c.args.sink.now} c.args.self.now c.requires.live)
   | else-count-gt0-via-else-count-gt0 w ↦ rw (w.sink-is) (feeds_nothing {heard = g.S.EventSink.heard c.args.sink.now} c.args.self.now c.requires.live)
 ]

@@ -20,5 +20,6 @@ returns-clause-feeds g c =
     ap (λ xs. get_or xs 0 0) (rest_of piece n) ∙ get_or-drop n piece 0 0 ∙ ap (λ i. get_or piece i 0) z ∙ usual.colon in
     let colon = c.space_end-colon.result in
     let leads = first_colon_cut rest colon (omega arith) first c.space_end-colon.ensures.on c.space_end-colon.ensures.within c.space_end-colon.ensures.white in
-    rw (c.skip.ensures.count) (named_taken c.args.self.now c.skip.new.self piece n colon c.requires.live c.requires.due c.requires.room (omega arith) (cut piece 1 (n - 1))
+    rw (c.skip.ensures.count)
+    (named_taken c.args.self.now c.skip.new.self piece n colon c.requires.live c.requires.due c.requires.room (omega arith) (cut piece 1 (n - 1))
     usual.quoted c.space_end-colon.ensures.within leads c.skip.ensures.passed (λ events h. rw (usual.known_as) (c.tell.ensures events h)))

@@ -19,7 +19,9 @@ loop-at-preserved g c =
     let next = at + c.in-Ok-take_if_opened.count in
     let count = c.take_if_missed-at.result in
     record {
-      within = more_within piece next count (more_within piece at c.in-Ok-take_if_opened.count (more_within piece c.loop-at.at c.in-Ok-take_some.count c.loop-at.invariant.within within.1) also) c.take_if_missed-at.ensures.within;
+      within = more_within piece next count
+          (more_within piece at c.in-Ok-take_if_opened.count (more_within piece c.loop-at.at c.in-Ok-take_some.count c.loop-at.invariant.within within.1) also)
+          c.take_if_missed-at.ensures.within;
       fed = CallsInTurn.piece_all c.args.self.now c.take_if_opened.new.self c.take_if_missed-at.new.self piece next count more
           (CallsInTurn.rest_all c.take_if_opened.new.self c.take_if_missed-at.new.self piece next count c.take_if_missed-at.ensures.feeds);
     }
@@ -28,7 +30,8 @@ pub returns-in-Err-take_some : goal.returns-in-Err-take_some
 returns-in-Err-take_some g c =
     let fed = rw (c.in-Err-take_some.is) at c.take_some.ensures.feeds in
     record {
-      feeds = CallsInTurn.piece_to c.args.self.now c.loop-at.self c.take_some.new.self c.args.piece.now c.loop-at.at c.in-Err-take_some.fault c.loop-at.invariant.fed
+      feeds = CallsInTurn.piece_to c.args.self.now c.loop-at.self c.take_some.new.self c.args.piece.now c.loop-at.at c.in-Err-take_some.fault
+          c.loop-at.invariant.fed
           (CallsInTurn.rest_to c.loop-at.self c.take_some.new.self c.args.piece.now c.loop-at.at c.in-Err-take_some.fault fed);
     }
 

@@ -7,5 +7,8 @@ use Rattle.gj_json.proofs.reader.Reader.take_plain_name.Goals as goal
 pub returns-clause-feeds : goal.returns-clause-feeds
 returns-clause-feeds g c =
     let n = c.plain_quoted_run-name.result in
-    rw (c.skip.ensures.count) (named_taken c.args.self.now c.skip.new.self c.args.piece.now n c.colon_run-colon.result c.requires.live c.requires.due c.requires.room c.plain_quoted_run-name.ensures.within (cut c.args.piece.now 1 (n - 1))
-    (c.plain_quoted_run-name.ensures.quoted (omega arith)) c.colon_run-colon.ensures.within (c.colon_run-colon.ensures.leads (omega arith)) c.skip.ensures.passed (λ events h. rw (← c.name_of.ensures) (c.tell.ensures events h)))
+    rw (c.skip.ensures.count)
+    (named_taken c.args.self.now c.skip.new.self c.args.piece.now n c.colon_run-colon.result c.requires.live c.requires.due c.requires.room
+    c.plain_quoted_run-name.ensures.within (cut c.args.piece.now 1 (n - 1))
+    (c.plain_quoted_run-name.ensures.quoted (omega arith)) c.colon_run-colon.ensures.within
+    (c.colon_run-colon.ensures.leads (omega arith)) c.skip.ensures.passed (λ events h. rw (← c.name_of.ensures) (c.tell.ensures events h)))

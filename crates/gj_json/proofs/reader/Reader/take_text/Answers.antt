@@ -8,5 +8,7 @@ pub returns-clause-feeds : goal.returns-clause-feeds
 returns-clause-feeds g c =
     let n = c.usual_text-usual.result.count in
     let usual = c.usual_text-usual.ensures.usual (omega arith) in
-    rw (c.skip.ensures.count) (text_taken c.args.self.now c.skip.new.self c.args.piece.now n c.requires.live c.requires.due c.requires.room c.usual_text-usual.ensures.within c.skip.ensures.passed (cut c.args.piece.now 1 (n - 1))
+    rw (c.skip.ensures.count)
+    (text_taken c.args.self.now c.skip.new.self c.args.piece.now n c.requires.live c.requires.due c.requires.room c.usual_text-usual.ensures.within
+    c.skip.ensures.passed (cut c.args.piece.now 1 (n - 1))
     usual.quoted (λ events h. rw (usual.known_as) (c.tell.ensures events h)))

@@ -16,7 +16,8 @@ new-requires c =
     let few : d.count ≤ 30 = omega (arith, c.if-self-gt-MOST_DIGITS.false) in
     rw (c.whole.ensures, to_z-of_z w16 p fits)
     (decimal_limits c.args.negative x.negative (kept_of d) d.count d.pending d.places x.magnitude p few
-    (kept_below d.head d.rest d.count d.head_bounded d.rest_bounded) (last_is d.head d.rest d.count c.if-self-eq0.false few d.stripped) (sym c.power.ensures ∙ c.in-Some.is))
+    (kept_below d.head d.rest d.count d.head_bounded d.rest_bounded) (last_is d.head d.rest d.count c.if-self-eq0.false few d.stripped)
+    (sym c.power.ensures ∙ c.in-Some.is))
 
 pub returns-then-self-eq0 : goal.returns-then-self-eq0
 returns-then-self-eq0 c most whole fraction written old small magnitude =
@@ -30,7 +31,8 @@ returns-then-self-gt-MOST_DIGITS c most whole fraction written old small magnitu
     let d = c.args.self.now in
     let x = c.args.exponent in
     let far : (30 < d.count) ⊎ (1000 < x.magnitude) = elim c.then-self-gt-MOST_DIGITS.either [ inl many ↦ inl many | inr large ↦ inr large.1 ] in
-    far_not_held c.args.negative x.negative (kept_of d) d.count d.pending d.places whole fraction x.magnitude old most written small magnitude c.if-self-eq0.false far
+    far_not_held c.args.negative x.negative
+    (kept_of d) d.count d.pending d.places whole fraction x.magnitude old most written small magnitude c.if-self-eq0.false far
 
 pub returns-in-None : goal.returns-in-None
 returns-in-None c most whole fraction written old small magnitude =

@@ -13,10 +13,12 @@ overflow_add-self c = let h = head_small c.args.self.now.head c.args.self.now.co
 
 -- where all of the first digits are kept and there is room for one more
 pub overflow_mul-self-then-self-lt-MOST_DIGITS : goal.overflow_mul-self-then-self-lt-MOST_DIGITS
-overflow_mul-self-then-self-lt-MOST_DIGITS c = let h = rest_small c.args.self.now.rest c.args.self.now.count c.args.self.now.rest_bounded c.if-self-lt-MOST_DIGITS.true in omega arith
+overflow_mul-self-then-self-lt-MOST_DIGITS c = let h =
+    rest_small c.args.self.now.rest c.args.self.now.count c.args.self.now.rest_bounded c.if-self-lt-MOST_DIGITS.true in omega arith
 
 pub overflow_add-self-then-self-lt-MOST_DIGITS : goal.overflow_add-self-then-self-lt-MOST_DIGITS
-overflow_add-self-then-self-lt-MOST_DIGITS c = let h = rest_small c.args.self.now.rest c.args.self.now.count c.args.self.now.rest_bounded c.if-self-lt-MOST_DIGITS.true in omega arith
+overflow_add-self-then-self-lt-MOST_DIGITS c = let h =
+    rest_small c.args.self.now.rest c.args.self.now.count c.args.self.now.rest_bounded c.if-self-lt-MOST_DIGITS.true in omega arith
 
 pub invariant_of-self-then-self-lt-MOST_DIGITS : goal.invariant_of-self-then-self-lt-MOST_DIGITS
 invariant_of-self-then-self-lt-MOST_DIGITS c =
@@ -33,7 +35,8 @@ invariant_of-self-then-self-lt-MOST_DIGITS c =
       count_bounded = omega arith;
       places_bounded = d.places_bounded;
       pending_bounded = d.pending_bounded;
-      stripped = last_of d.head (d.rest * 10 + c.args.digit) (d.count + 1) (kept_number d.head d.rest d.count) 0 c.args.digit c.requires.nonzero c.requires.digit (kept_second d.head d.rest d.count 1 c.args.digit many);
+      stripped = last_of d.head (d.rest * 10 + c.args.digit) (d.count + 1)
+          (kept_number d.head d.rest d.count) 0 c.args.digit c.requires.nonzero c.requires.digit (kept_second d.head d.rest d.count 1 c.args.digit many);
     }
 
 pub returns-then-self-lt-MOST_DIGITS-clause-kept : goal.returns-then-self-lt-MOST_DIGITS-clause-kept

@@ -10,4 +10,5 @@ returns-clause-keeps c whole old =
     let s = c.stripped-stripped.result in
     let e = c.stripped-stripped.ensures in
     let P : ℕ → Type 0 = λ kept. HasDigits kept s.count s.zeros 0 whole 0 in
-    subst P (sym (kept_small s.head 0 s.count (omega arith) (ten_above_zero (s.count - 19)))) (run_kept r.all r.total s.head s.count s.zeros whole e.all e.total r.room e.last e.bounded old.0 old.1)
+    subst P (sym (kept_small s.head 0 s.count (omega arith) (ten_above_zero (s.count - 19))))
+    (run_kept r.all r.total s.head s.count s.zeros whole e.all e.total r.room e.last e.bounded old.0 old.1)

@@ -15,4 +15,5 @@ returns-then-self-eq-FAR-clause-fraction c whole fraction old =
     let d = c.args.self.now in
     let n = c.digit_run.result in
     let many : length (take n c.args.piece.now) ≡ n = length-take-le n c.args.piece.now c.digit_run.ensures.length in
-    passed_fraction (kept_of d) d.count d.pending d.places whole fraction (fraction + n) (take n c.args.piece.now) (omega arith) (omega arith) c.digit_run.ensures.digits old
+    passed_fraction (kept_of d) d.count d.pending d.places whole fraction (fraction + n) (take n c.args.piece.now) (omega arith)
+    (omega arith) c.digit_run.ensures.digits old

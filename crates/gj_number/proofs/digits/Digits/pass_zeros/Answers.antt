@@ -10,4 +10,5 @@ returns-clause-keeps c whole fraction old =
     let d = c.args.self.now in
     let n = c.zero_run.result in
     let many : length (take n c.args.piece.now) ≡ n = length-take-le n c.args.piece.now c.zero_run.ensures.length in
-    passed_zeros (kept_of d) d.count d.pending d.places whole fraction (fraction + n) (take n c.args.piece.now) (omega arith) (omega arith) c.zero_run.ensures.digits c.zero_run.ensures.zeros old
+    passed_zeros (kept_of d) d.count d.pending d.places whole fraction (fraction + n) (take n c.args.piece.now) (omega arith)
+    (omega arith) c.zero_run.ensures.digits c.zero_run.ensures.zeros old

@@ -7,7 +7,9 @@ pub returns-then-digit-ne0 : goal.returns-then-digit-ne0
 returns-then-digit-ne0 c whole fraction old =
     let d = c.args.self.now in
     let n = c.keep.new.self in
-    rw (c.keep.ensures.places) (keep_fraction (kept_of d) d.count d.pending d.places whole fraction c.args.digit (kept_of n) n.count n.pending c.if-digit-ne0.true c.requires c.if-self-lt-MOST_PLACES.true c.keep.ensures.kept old)
+    rw (c.keep.ensures.places)
+    (keep_fraction (kept_of d) d.count d.pending d.places whole fraction c.args.digit
+    (kept_of n) n.count n.pending c.if-digit-ne0.true c.requires c.if-self-lt-MOST_PLACES.true c.keep.ensures.kept old)
 
 pub returns-then-self-ne0 : goal.returns-then-self-ne0
 returns-then-self-ne0 c whole fraction old =
@@ -18,7 +20,11 @@ returns-then-self-ne0 c whole fraction old =
 pub returns-then-digit-ne0-2 : goal.returns-then-digit-ne0-2
 returns-then-digit-ne0-2 c whole fraction old =
     let d = c.args.self.now in
-    inr (inr (c.mark_far.ensures.far, past_fraction (kept_of d) d.count d.pending d.places whole fraction c.args.digit c.if-digit-ne0-2.true c.requires c.if-self-lt-MOST_PLACES.false old))
+    inr (inr (
+      c.mark_far.ensures.far,
+      past_fraction
+          (kept_of d) d.count d.pending d.places whole fraction c.args.digit c.if-digit-ne0-2.true c.requires c.if-self-lt-MOST_PLACES.false old,
+    ))
 
 pub returns-else-self-ne0 : goal.returns-else-self-ne0
 returns-else-self-ne0 c whole fraction old =

@@ -7,7 +7,9 @@ pub returns-then-digit-ne0 : goal.returns-then-digit-ne0
 returns-then-digit-ne0 c whole old =
     let d = c.args.self.now in
     let n = c.keep.new.self in
-    rw (c.keep.ensures.places) (keep_natural (kept_of d) d.count d.pending d.places whole c.args.digit (kept_of n) n.count n.pending c.if-digit-ne0.true c.requires c.keep.ensures.kept old)
+    rw (c.keep.ensures.places)
+    (keep_natural (kept_of d) d.count d.pending d.places whole c.args.digit
+    (kept_of n) n.count n.pending c.if-digit-ne0.true c.requires c.keep.ensures.kept old)
 
 pub returns-then-self-gt0 : goal.returns-then-self-gt0
 returns-then-self-gt0 c whole old = rw (c.if-digit-ne0.false) (c.add_zero.ensures whole old)

@@ -15,7 +15,8 @@ loop-taken-preserved c =
       keeps = (λ whole fraction old.
           let e : fraction + i + 1 ≡ fraction + (i + 1) = omega arith in
           let P : ℕ → Type 0 = λ n. Keeps c.push_fraction.new.self (fold with_digit whole (take (i + 1) piece)) n in
-          subst P e (rw (fold_more with_digit whole piece i 0 c.loop-taken-test.true) (c.push_fraction.ensures (fold with_digit whole (take i piece)) (fraction + i) (c.loop-taken.invariant.keeps whole fraction old))));
+          subst P e (rw (fold_more with_digit whole piece i 0 c.loop-taken-test.true)
+          (c.push_fraction.ensures (fold with_digit whole (take i piece)) (fraction + i) (c.loop-taken.invariant.keeps whole fraction old))));
     }
 
 pub returns-clause-digits : goal.returns-clause-digits

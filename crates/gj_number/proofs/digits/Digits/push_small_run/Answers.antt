@@ -23,7 +23,8 @@ returns-clause-keeps c whole fraction old =
     let nothing = nothing_of (kept_of d) d.count d.pending d.places whole fraction c.requires old in
     let front = fold with_digit whole (take zeros piece) in
     let none : front ≡ 0 = ap (λ w. fold with_digit w (take zeros piece)) nothing.whole_is ∙ c.zeros_in_front-zeros.ensures.zeros in
-    let next = c.push_first_run.ensures.keeps front (fraction + zeros) (inl (zeros_more (kept_of d) d.count d.pending d.places whole fraction zeros front _ nothing none (omega arith))) in
+    let next = c.push_first_run.ensures.keeps front (fraction + zeros)
+    (inl (zeros_more (kept_of d) d.count d.pending d.places whole fraction zeros front _ nothing none (omega arith))) in
     let Rest : List ℕ → Type 0 = λ xs. Keeps c.push_first_run.new.self (fold with_digit front (take n xs)) (fraction + zeros + n) in
     let Whole : ℕ → Type 0 = λ w. Keeps c.push_first_run.new.self w (fraction + zeros + n) in
     let Places : ℕ → Type 0 = λ k. Keeps c.push_first_run.new.self (fold with_digit whole (take (zeros + n) piece)) k in

@@ -7,4 +7,5 @@ pub returns : goal.returns
 returns c whole old =
     let d = c.args.self.now in
     let r = c.new.result in
-    kept_run (kept_of d) d.head d.count d.pending r.all r.total whole (kept_small d.head d.rest d.count (omega arith) d.rest_bounded) c.new.ensures.all c.new.ensures.total old
+    kept_run (kept_of d) d.head d.count d.pending r.all r.total whole
+    (kept_small d.head d.rest d.count (omega arith) d.rest_bounded) c.new.ensures.all c.new.ensures.total old

@@ -40,7 +40,8 @@ returns-then-not-push_digit-clause-all c bytes h below digit begins =
     let i = c.loop-at.at in
     let more = take_more piece i 0 c.loop-at-test.true in
     let P : List ℕ → Type 0 = λ xs. BeginsNumber xs in
-    c.push_digit.ensures.refused (bytes ++ take i piece) (c.loop-at.invariant.stands bytes h) c.if-not-push_digit.true digit (subst P (sym (one_more bytes piece i more)) begins)
+    c.push_digit.ensures.refused (bytes ++ take i piece) (c.loop-at.invariant.stands bytes h) c.if-not-push_digit.true digit
+    (subst P (sym (one_more bytes piece i more)) begins)
 
 pub returns-then-not-push_digit-clause-begins : goal.returns-then-not-push_digit-clause-begins
 returns-then-not-push_digit-clause-begins c = λ bytes h. stands_begin c.push_digit.new.self bytes h

@@ -10,12 +10,20 @@ pub returns-in-Zero-clause-stands : goal.returns-in-Zero-clause-stands
 unfolding StandsFor
 returns-in-Zero-clause-stands c bytes h =
     let piece = c.args.piece.now in
-    let goes : next_of c.args.self.now.state (class_of (get_or piece 0 0)) ≡ Some AfterZero = search rules in
-    (taken AfterZero (get_or piece 0 0) h.0, reaches_first bytes piece h.0 AfterZero (grind (arith, nat_tests)) h.1 (rw (← h.2.state) goes), c.take.ensures h.0 h.2)
+    let goes : next_of c.args.self.now.state (class_of (get_or piece 0 0)) ≡ Some AfterZero = search rules in (
+      taken AfterZero (get_or piece 0 0) h.0,
+      reaches_first bytes piece h.0 AfterZero (grind (arith, nat_tests)) h.1
+          (rw (← h.2.state) goes),
+      c.take.ensures h.0 h.2,
+    )
 
 pub returns-in-NonZero-clause-stands : goal.returns-in-NonZero-clause-stands
 unfolding StandsFor
 returns-in-NonZero-clause-stands c bytes h =
     let piece = c.args.piece.now in
-    let goes : next_of c.args.self.now.state (class_of (get_or piece 0 0)) ≡ Some InNatural = search rules in
-    (taken InNatural (get_or piece 0 0) h.0, reaches_first bytes piece h.0 InNatural (grind (arith, nat_tests)) h.1 (rw (← h.2.state) goes), c.take-in-NonZero.ensures h.0 h.2)
+    let goes : next_of c.args.self.now.state (class_of (get_or piece 0 0)) ≡ Some InNatural = search rules in (
+      taken InNatural (get_or piece 0 0) h.0,
+      reaches_first bytes piece h.0 InNatural (grind (arith, nat_tests)) h.1
+          (rw (← h.2.state) goes),
+      c.take-in-NonZero.ensures h.0 h.2,
+    )

@@ -12,7 +12,8 @@ loop-at-init c =
     let i = c.push_first-first.result in
     record {
       length = run_within piece i c.push_plain.result c.push_first-first.ensures.length c.push_plain.ensures.length;
-      stands = (λ bytes h. run_stands bytes piece i c.push_plain.result c.push_first-first.new.self c.push_plain.new.self c.push_plain.ensures.stands (c.push_first-first.ensures.stands bytes h));
+      stands = (λ bytes h. run_stands bytes piece i c.push_plain.result c.push_first-first.new.self c.push_plain.new.self c.push_plain.ensures.stands
+          (c.push_first-first.ensures.stands bytes h));
     }
 
 pub loop-at-preserved : goal.loop-at-preserved
@@ -25,7 +26,8 @@ loop-at-preserved c =
       length = run_within piece (i + 1) n less c.push_digits-at.ensures.length;
       stands = (λ bytes h.
           let One : List ℕ → Type 0 = λ xs. StandsFor c.push.new.self xs in
-          let one = subst One (one_more bytes piece i (take_more piece i 0 c.loop-at-test.true)) (c.push.ensures.stands (bytes ++ take i piece) (c.loop-at.invariant.stands bytes h) c.in-Goes.is) in
+          let one = subst One (one_more bytes piece i (take_more piece i 0 c.loop-at-test.true))
+          (c.push.ensures.stands (bytes ++ take i piece) (c.loop-at.invariant.stands bytes h) c.in-Goes.is) in
           run_stands bytes piece (i + 1) n c.push.new.self c.push_digits-at.new.self c.push_digits-at.ensures.stands one);
     }
 
@@ -40,7 +42,8 @@ returns-in-Ends-clause-all c = λ bytes h below begins.
     let piece = c.args.piece.now in
     let at = c.loop-at.at in
     let P : List ℕ → Type 0 = λ xs. BeginsNumber xs in
-    c.push.ensures.refused (bytes ++ take at piece) (c.loop-at.invariant.stands bytes h) c.in-Ends.is (subst P (sym (one_more bytes piece at (take_more piece at 0 below))) begins)
+    c.push.ensures.refused (bytes ++ take at piece) (c.loop-at.invariant.stands bytes h) c.in-Ends.is
+    (subst P (sym (one_more bytes piece at (take_more piece at 0 below))) begins)
 
 pub returns-else-may_stand-clause-begins : goal.returns-else-may_stand-clause-begins
 returns-else-may_stand-clause-begins c = λ bytes h. stands_begin c.loop-at.self bytes h
@@ -50,7 +53,8 @@ returns-else-may_stand-clause-all c = λ bytes h below begins.
     let piece = c.args.piece.now in
     let at = c.loop-at.at in
     let P : List ℕ → Type 0 = λ xs. BeginsNumber xs in
-    stands_last c.loop-at.self (bytes ++ take at piece) _ (c.may_stand.ensures.class c.if-may_stand.false) (c.loop-at.invariant.stands bytes h) (subst P (sym (one_more bytes piece at (take_more piece at 0 below))) begins)
+    stands_last c.loop-at.self (bytes ++ take at piece) _ (c.may_stand.ensures.class c.if-may_stand.false) (c.loop-at.invariant.stands bytes h)
+    (subst P (sym (one_more bytes piece at (take_more piece at 0 below))) begins)
 
 pub returns-after-loop-at-clause-begins : goal.returns-after-loop-at-clause-begins
 returns-after-loop-at-clause-begins c = λ bytes h. stands_begin c.loop-at.self bytes h

@@ -52,7 +52,8 @@ returns-else-plain-eq0-clause-stands c bytes h =
     let mid : Scan = record h.0 { whole = fold with_digit h.0.whole digits } in
     let next : Scan = record mid { state = InFraction; whole = fold with_digit mid.whole fraction; fraction = mid.fraction + length fraction } in
     let to_mid = reaches_on start h.0 mid bytes digits h.1 (natural_on h.0 digits state plain.ensures.digits) in
-    let to_next = reaches_on start mid next (bytes ++ digits) (decimal_point ∷ fraction) to_mid (point_on mid fraction state (omega arith) plain.ensures.fraction_digits) in
+    let to_next = reaches_on start mid next (bytes ++ digits) (decimal_point ∷ fraction) to_mid
+    (point_on mid fraction state (omega arith) plain.ensures.fraction_digits) in
     let P : List ℕ → Type 0 = λ xs. Reaches start xs next in
     let places : h.0.fraction + length fraction ≡ m = omega arith in (
       next,
@@ -74,7 +75,8 @@ returns-in-AfterZero-clause-stands c bytes h =
     let some : 0 < length piece = grind (arith, nat_tests) in
     let state = sym h.2.state ∙ c.in-AfterZero.is in
     let mid : Scan = record h.0 { state = AfterPoint } in
-    let goes : next_of h.0.state (class_of (get_or piece 0 0)) ≡ Some AfterPoint = rw (state, c.if-piece-eq46.true, class_is Point decimal_point refl (λ n. cc)) refl in
+    let goes : next_of h.0.state (class_of (get_or piece 0 0)) ≡ Some AfterPoint =
+    rw (state, c.if-piece-eq46.true, class_is Point decimal_point refl (λ n. cc)) refl in
     run_stands bytes piece 1 c.push_run.result _ c.push_run.new.self c.push_run.ensures.stands (
       mid,
       reaches_first bytes piece h.0 AfterPoint some h.1 goes,

@@ -3,7 +3,8 @@ use Rattle.gj_number.specs.Internal.NumberMachine.{Scan, class_of, next_of, take
 use Rattle.gj_number.specs.Literal.{KeepsScan}
 use Rattle.gj_number.specs.declared.literal.Literal.{Literal}
 use Rattle.gj_number.specs.declared.state.State.{State}
-use Rattle.gj_number.specs.declared.state.State.TheVariants.{Start, AfterMinus, AfterZero, InNatural, AfterPoint, InFraction, AfterLetter, AfterSign, InExponent}
+use Rattle.gj_number.specs.declared.state.State.TheVariants.{Start, AfterMinus, AfterZero, InNatural, AfterPoint, InFraction, AfterLetter, AfterSign}
+use Rattle.gj_number.specs.declared.state.State.TheVariants.{InExponent}
 use Rattle.gj_number.proofs.Grammar.StateMoves.{digit_into, before_fraction_from}
 use Rattle.gj_number.proofs.literal.Literal.take.Goals as goal
 
@@ -51,18 +52,57 @@ returns-in-InFraction c scan k =
     })
 
 -- a byte that no part of the number keeps
-other : (literal : Literal) (state : State) (byte : ℕ) (scan : Scan) → next_of literal.state (class_of byte) ≡ Some state → (state ≡ AfterMinus → ⊥) → (state ≡ InNatural → ⊥) → (state ≡ InFraction → ⊥) → (state ≡ AfterSign → ⊥) → (state ≡ InExponent → ⊥)
-    → KeepsScan literal scan → KeepsScan (record { digits = literal.digits; exponent = literal.exponent; state = state; negative = literal.negative }) (taken state byte scan)
+other : (literal : Literal) (state : State) (byte : ℕ) (scan : Scan) → next_of literal.state (class_of byte) ≡ Some state → (state ≡ AfterMinus → ⊥)
+    → (state ≡ InNatural → ⊥) → (state ≡ InFraction → ⊥) → (state ≡ AfterSign → ⊥) → (state ≡ InExponent → ⊥)
+    → KeepsScan literal scan
+    → KeepsScan (record { digits = literal.digits; exponent = literal.exponent; state = state; negative = literal.negative }) (taken state byte scan)
 other literal AfterMinus byte scan e a b d f g k = absurd (a refl)
 other literal InNatural byte scan e a b d f g k = absurd (b refl)
 other literal InFraction byte scan e a b d f g k = absurd (d refl)
 other literal AfterSign byte scan e a b d f g k = absurd (f refl)
 other literal InExponent byte scan e a b d f g k = absurd (g refl)
-other literal Start byte scan e a b d f g k = record { state = refl; negative = k.negative; digits = k.digits; exponent_negative = k.exponent_negative; exponent = k.exponent; before_fraction = λ t. k.before_fraction (before_fraction_from scan.state Start (class_of byte) (rw (k.state) at e) t) }
-other literal AfterZero byte scan e a b d f g k = record { state = refl; negative = k.negative; digits = k.digits; exponent_negative = k.exponent_negative; exponent = k.exponent; before_fraction = λ t. k.before_fraction (before_fraction_from scan.state AfterZero (class_of byte) (rw (k.state) at e) t) }
-other literal AfterPoint byte scan e a b d f g k = record { state = refl; negative = k.negative; digits = k.digits; exponent_negative = k.exponent_negative; exponent = k.exponent; before_fraction = λ t. k.before_fraction (before_fraction_from scan.state AfterPoint (class_of byte) (rw (k.state) at e) t) }
-other literal AfterLetter byte scan e a b d f g k = record { state = refl; negative = k.negative; digits = k.digits; exponent_negative = k.exponent_negative; exponent = k.exponent; before_fraction = λ t. k.before_fraction (before_fraction_from scan.state AfterLetter (class_of byte) (rw (k.state) at e) t) }
+other literal Start byte scan e a b d f g k =
+    record {
+      state = refl;
+      negative = k.negative;
+      digits = k.digits;
+      exponent_negative = k.exponent_negative;
+      exponent = k.exponent;
+      before_fraction =
+          λ t. k.before_fraction (before_fraction_from scan.state Start (class_of byte) (rw (k.state) at e) t);
+    }
+other literal AfterZero byte scan e a b d f g k =
+    record {
+      state = refl;
+      negative = k.negative;
+      digits = k.digits;
+      exponent_negative = k.exponent_negative;
+      exponent = k.exponent;
+      before_fraction =
+          λ t. k.before_fraction (before_fraction_from scan.state AfterZero (class_of byte) (rw (k.state) at e) t);
+    }
+other literal AfterPoint byte scan e a b d f g k =
+    record {
+      state = refl;
+      negative = k.negative;
+      digits = k.digits;
+      exponent_negative = k.exponent_negative;
+      exponent = k.exponent;
+      before_fraction =
+          λ t. k.before_fraction (before_fraction_from scan.state AfterPoint (class_of byte) (rw (k.state) at e) t);
+    }
+other literal AfterLetter byte scan e a b d f g k =
+    record {
+      state = refl;
+      negative = k.negative;
+      digits = k.digits;
+      exponent_negative = k.exponent_negative;
+      exponent = k.exponent;
+      before_fraction =
+          λ t. k.before_fraction (before_fraction_from scan.state AfterLetter (class_of byte) (rw (k.state) at e) t);
+    }
 
 pub returns-in_default : goal.returns-in_default
 returns-in_default c scan k =
-    other c.args.self.now c.args.state c.args.byte scan c.requires c.in_default.not-AfterMinus c.in_default.not-InNatural c.in_default.not-InFraction c.in_default.not-AfterSign c.in_default.not-InExponent k
+    other c.args.self.now c.args.state c.args.byte scan c.requires c.in_default.not-AfterMinus c.in_default.not-InNatural c.in_default.not-InFraction
+    c.in_default.not-AfterSign c.in_default.not-InExponent k

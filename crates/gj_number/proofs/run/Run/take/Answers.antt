@@ -14,7 +14,8 @@ loop-taken-preserved c =
     record {
       digits = All-more IsDigit front i 0 c.loop-taken-test.true c.loop-taken.invariant.digits c.if-not-is_ascii_digit.ensures.cases;
       total = omega arith;
-      keeps = (λ whole old. rw (fold_more with_digit whole front i 0 c.loop-taken-test.true) (c.push.ensures.keeps (fold with_digit whole (take i front)) (c.loop-taken.invariant.keeps whole old)));
+      keeps = (λ whole old. rw (fold_more with_digit whole front i 0 c.loop-taken-test.true)
+          (c.push.ensures.keeps (fold with_digit whole (take i front)) (c.loop-taken.invariant.keeps whole old)));
     }
 
 pub returns-then-not-is_ascii_digit-clause-keeps : goal.returns-then-not-is_ascii_digit-clause-keeps

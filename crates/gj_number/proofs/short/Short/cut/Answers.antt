@@ -8,4 +8,5 @@ pub returns-in-Some : goal.returns-in-Some
 returns-in-Some c =
     let s = c.args.self in
     let fits : SFits w64 c.with_sign.result = search rules in
-    rw (to_z-of_z w64 c.with_sign.result fits) (ap Some c.with_sign.ensures ∙ cut_some s.negative s.digits s.places c.in-Some.magnitude s.small (sym c.cut_magnitude.ensures.magnitude ∙ c.in-Some.is))
+    rw (to_z-of_z w64 c.with_sign.result fits)
+    (ap Some c.with_sign.ensures ∙ cut_some s.negative s.digits s.places c.in-Some.magnitude s.small (sym c.cut_magnitude.ensures.magnitude ∙ c.in-Some.is))

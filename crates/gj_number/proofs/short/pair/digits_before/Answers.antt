@@ -9,7 +9,8 @@ use Rattle.gj_number.proofs.Shorts.PiecePrefixes.{rest_is}
 use Rattle.gj_number.proofs.Shorts.NumberPrefixes.{sign_at, sign_length, one_of, short_small, short_plain}
 use Rattle.gj_number.proofs.Shorts.PointedNumbers.{slice_pointed, usual_one, usual_length}
 use Rattle.gj_number.proofs.short.pair.digits_before.Goals as goal
-use Rattle.gj_number.proofs.short.pair.digits_before.Goals.{else-piece-first-eq48-via-then-piece-first-eq48+else-found-gt1, else-piece-first-eq48-via-else-piece-first-eq48}
+use Rattle.gj_number.proofs.short.pair.digits_before.Goals.{else-piece-first-eq48-via-then-piece-first-eq48+else-found-gt1}
+use Rattle.gj_number.proofs.short.pair.digits_before.Goals.{else-piece-first-eq48-via-else-piece-first-eq48}
 
 pub returns-clause-small : goal.returns-clause-small
 returns-clause-small c =
@@ -25,7 +26,9 @@ returns-clause-small c =
       | else-piece-first-eq48-via-then-piece-first-eq48+else-found-gt1 w ↦ (let some = c.in-Some.ensures.some in let h = w.if-found-gt1.false in omega arith)
       | else-piece-first-eq48-via-else-piece-first-eq48 w ↦ absurd (w.if-piece-first-eq48.false z)
     ] in
-    let s = short_small piece negative first found.natural found.fraction bytes value (sign_at piece negative c.requires.sign (omega arith)) (subst P (rest_is piece first) c.in-Some.ensures.spells) c.in-Some.ensures.some (one_of piece first found.natural lead) c.in-Some.ensures.few (omega arith) in
+    let s = short_small piece negative first found.natural found.fraction bytes value (sign_at piece negative c.requires.sign (omega arith))
+    (subst P (rest_is piece first) c.in-Some.ensures.spells) c.in-Some.ensures.some (one_of piece first found.natural lead) c.in-Some.ensures.few
+    (omega arith) in
     s.1
 
 pub returns-clause-spells : goal.returns-clause-spells
@@ -42,7 +45,9 @@ returns-clause-spells c =
       | else-piece-first-eq48-via-then-piece-first-eq48+else-found-gt1 w ↦ (let some = c.in-Some.ensures.some in let h = w.if-found-gt1.false in omega arith)
       | else-piece-first-eq48-via-else-piece-first-eq48 w ↦ absurd (w.if-piece-first-eq48.false z)
     ] in
-    short_plain piece negative first found.natural found.fraction bytes value (sign_at piece negative c.requires.sign (omega arith)) (subst P (rest_is piece first) c.in-Some.ensures.spells) c.in-Some.ensures.some (one_of piece first found.natural lead) c.in-Some.ensures.few (omega arith)
+    short_plain piece negative first found.natural found.fraction bytes value (sign_at piece negative c.requires.sign (omega arith))
+    (subst P (rest_is piece first) c.in-Some.ensures.spells) c.in-Some.ensures.some (one_of piece first found.natural lead) c.in-Some.ensures.few
+    (omega arith)
 
 pub returns-in_default-clause-taken : goal.returns-in_default-clause-taken
 returns-in_default-clause-taken c = λ n u. c.in_default.ensures.taken _ _ (slice_pointed c.args.piece.now c.args.negative n c.args.after c.requires.sign u)
@@ -55,7 +60,8 @@ returns-then-found-gt1-clause-taken c = λ n u.
     let k : first ≤ 1 = sign_length negative in
     let found = c.in-Some.found in
     let is = c.in-Some.ensures in
-    let one = usual_one piece negative n c.args.after c.requires.sign u found.natural found.fraction _ _ is.spells is.point is.ends is.few (omega (arith, length-drop first piece, length-take (length piece - first) (drop first piece))) c.if-piece-first-eq48.true in
+    let one = usual_one piece negative n c.args.after c.requires.sign u found.natural found.fraction _ _ is.spells is.point is.ends is.few
+    (omega (arith, length-drop first piece, length-take (length piece - first) (drop first piece))) c.if-piece-first-eq48.true in
     absurd (omega (arith, c.if-found-gt1.true))
 
 pub returns-then-piece-length-clause-taken : goal.returns-then-piece-length-clause-taken
@@ -66,7 +72,10 @@ returns-then-piece-length-clause-taken c = λ n u.
     let k : first ≤ 1 = sign_length negative in
     let found = c.in-Some.found in
     let is = c.in-Some.ensures in
-    absurd (c.if-piece-length.true (ap (λ i. get_or piece i 0) (usual_length piece negative n c.args.after c.requires.sign u found.natural found.fraction _ _ is.spells is.point is.ends is.few (omega (arith, length-drop first piece, length-take (length piece - first) (drop first piece)))) ∙ u.ends))
+    absurd (c.if-piece-length.true
+    (ap (λ i. get_or piece i 0)
+    (usual_length piece negative n c.args.after c.requires.sign u found.natural found.fraction _ _ is.spells is.point is.ends is.few
+    (omega (arith, length-drop first piece, length-take (length piece - first) (drop first piece)))) ∙ u.ends))
 
 pub returns-clause-whole : goal.returns-clause-whole
 returns-clause-whole c = λ n u.
@@ -76,4 +85,5 @@ returns-clause-whole c = λ n u.
     let k : first ≤ 1 = sign_length negative in
     let found = c.in-Some.found in
     let is = c.in-Some.ensures in
-    usual_length piece negative n c.args.after c.requires.sign u found.natural found.fraction _ _ is.spells is.point is.ends is.few (omega (arith, length-drop first piece, length-take (length piece - first) (drop first piece)))
+    usual_length piece negative n c.args.after c.requires.sign u found.natural found.fraction _ _ is.spells is.point is.ends is.few
+    (omega (arith, length-drop first piece, length-take (length piece - first) (drop first piece)))

@@ -7,5 +7,7 @@ pub returns : goal.returns
 returns c =
     let piece = c.args.piece.now in
     let pair = c.in-Some.pair in
-    let P : List ℕ → Type 0 = λ xs. StartsWithPair (xs ++ drop (length piece) (replicate 40 0)) (exact_of c.read_pair.new.first) (exact_of c.read_pair.new.second) pair.comma pair.second pair.end in
+    let P : List ℕ → Type 0 =
+    λ xs. StartsWithPair (xs ++ drop (length piece) (replicate 40 0)) (exact_of c.read_pair.new.first)
+    (exact_of c.read_pair.new.second) pair.comma pair.second pair.end in
     pair_there piece _ _ _ _ _ _ c.if-pair-piece.false (subst P c.copy_from_slice.ensures.after c.in-Some.ensures.numbers)

@@ -25,8 +25,11 @@ returns-clause-numbers c =
     let Small : ℕ → Type 0 = λ d. d < 10 ^ 18 in
     let first = sym c.numbers_of-value.ensures.first in
     let second = sym c.numbers_of-value.ensures.second in
-    pair_front piece negative minus values.0 one.places one.length values.1 other.places other.length at (subst P first c.in-Some.ensures.spells) (subst Small first c.in-Some.ensures.small) c.in-Some.ensures.places (let l = c.in-Some.ensures.few in omega arith)
-    c.in-Some.ensures.after at_is (let l = c.in-Some.ensures.few in let m = c.in-Some-digits_before.ensures.few in omega (arith, k, at_is)) (subst Q second c.in-Some-digits_before.ensures.spells) (subst Small second c.in-Some-digits_before.ensures.small) c.in-Some-digits_before.ensures.places c.in-Some-digits_before.ensures.after
+    pair_front piece negative minus values.0 one.places one.length values.1 other.places other.length at (subst P first c.in-Some.ensures.spells)
+    (subst Small first c.in-Some.ensures.small) c.in-Some.ensures.places (let l = c.in-Some.ensures.few in omega arith)
+    c.in-Some.ensures.after at_is (let l = c.in-Some.ensures.few in let m = c.in-Some-digits_before.ensures.few in omega (arith, k, at_is))
+    (subst Q second c.in-Some-digits_before.ensures.spells)
+    (subst Small second c.in-Some-digits_before.ensures.small) c.in-Some-digits_before.ensures.places c.in-Some-digits_before.ensures.after
 
 pub returns-in_default-clause-taken : goal.returns-in_default-clause-taken
 returns-in_default-clause-taken c = λ u. c.in_default.ensures.taken u.comma_at u.one
@@ -38,7 +41,8 @@ returns-in_default-digits_before-clause-taken c = λ u.
     let at = c.after_comma-at.result in
     let at_is = c.after_comma-at.ensures in
     let there : one.length ≡ u.comma_at = c.in-Some.ensures.whole u.comma_at u.one in
-    let second : at ≡ u.second_at = at_is ∙ ap (λ n. n + 1 + bool_byte (get_or piece (n + 1) 0 == space)) there ∙ second_is piece u.comma_at u.second_at u.length_other close_bracket u.between u.other in
+    let second : at ≡ u.second_at = at_is ∙ ap (λ n. n + 1 + bool_byte (get_or piece (n + 1) 0 == space)) there
+    ∙ second_is piece u.comma_at u.second_at u.length_other close_bracket u.between u.other in
     let P : List ℕ → Type 0 = λ xs. StartsUsual xs u.length_other close_bracket in
     let Q : ℕ → Type 0 = λ n. StartsUsual (drop n piece) u.length_other close_bracket in
     c.in_default-digits_before.ensures.taken u.length_other (subst P (sym (rest_is piece at)) (subst Q (sym second) u.other))

@@ -35,7 +35,8 @@ pub first_run-rest-requires-clause-room : goal.first_run-rest-requires-clause-ro
 first_run-rest-requires-clause-room c =
     let natural = c.args.natural in
     let count = c.first_digits-count.result.0 in
-    let below = joined_below natural.value natural.count count c.first_digits-count.result.1 c.args.piece.now c.requires.below c.first_digits-count.ensures.spells in
+    let below = joined_below natural.value natural.count count c.first_digits-count.result.1 c.args.piece.now c.requires.below
+    c.first_digits-count.ensures.spells in
     scaled_below _ (natural.count + count) (18 - 16 - natural.count) 18 (rw (c.ten_to.ensures) below) (omega arith)
 
 pub returns : goal.returns
@@ -50,7 +51,8 @@ returns c =
     record {
       spells =
           let P : ℕ → Type 0 = λ k. SpellsOn piece natural.value k (natural.value * 10 ^ n + c.first_digits-count.result.1) in
-          spells_more piece natural.value 16 m _ _ (rw (c.ten_to.ensures) (subst P sixteen (joined_spells _ _ _ _ c.first_digits-count.ensures.spells))) (spells_rest piece 16 _ m _ rest.ensures.spells);
+          spells_more piece natural.value 16 m _ _ (rw (c.ten_to.ensures) (subst P sixteen (joined_spells _ _ _ _ c.first_digits-count.ensures.spells)))
+          (spells_rest piece 16 _ m _ rest.ensures.spells);
       few = omega arith;
       small = rest.ensures.small;
       whole = λ count r few.

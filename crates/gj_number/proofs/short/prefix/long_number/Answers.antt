@@ -35,7 +35,8 @@ returns-then-piece-end-ne46-clause-plain c = λ positive.
     let natural = c.first_run-natural in
     let n = natural.result.count in
     let may = c.is_natural.ensures.0 c.if-not-is_natural.false in
-    whole_plain piece negative first n natural.result.value (sign_at piece negative c.requires.sign (omega arith)) (spells_rest piece first 0 n _ natural.ensures.spells) may.0 (one_of piece first n may.1)
+    whole_plain piece negative first n natural.result.value (sign_at piece negative c.requires.sign (omega arith))
+    (spells_rest piece first 0 n _ natural.ensures.spells) may.0 (one_of piece first n may.1)
 
 pub returns-then-piece-end-ne46-clause-taken : goal.returns-then-piece-end-ne46-clause-taken
 returns-then-piece-end-ne46-clause-taken c = λ count o.
@@ -72,7 +73,8 @@ returns-then-fraction-eq0-clause-taken c = λ count o.
     absurd (omega (arith, c.if-fraction-eq0.true))
 
 pub returns-clause-few : goal.returns-clause-few
-returns-clause-few c = let k = sign_length c.args.negative in let f = c.first_run-natural.ensures.few in let g = c.fraction_run-fraction.ensures.few in omega arith
+returns-clause-few c = let k = sign_length c.args.negative in let f = c.first_run-natural.ensures.few in let g =
+    c.fraction_run-fraction.ensures.few in omega arith
 
 pub returns-clause-plain : goal.returns-clause-plain
 returns-clause-plain c = λ positive.
@@ -87,7 +89,8 @@ returns-clause-plain c = λ positive.
     let m = fraction.result.count in
     let some = may.0 in
     let few : n ≤ 18 = natural.ensures.few in
-    point_plain piece negative first n natural.result.value (sign_at piece negative c.requires.sign (omega arith)) (spells_rest piece first 0 n _ natural.ensures.spells) some (one_of piece first n may.1)
+    point_plain piece negative first n natural.result.value (sign_at piece negative c.requires.sign (omega arith))
+    (spells_rest piece first 0 n _ natural.ensures.spells) some (one_of piece first n may.1)
     m fraction.result.value c.if-piece-end-ne46.false (spells_rest piece (first + n + 1) _ m _ fraction.ensures.spells) (omega arith) (omega arith)
 
 pub returns-clause-taken : goal.returns-clause-taken

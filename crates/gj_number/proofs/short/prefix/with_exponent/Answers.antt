@@ -18,6 +18,9 @@ returns c = λ some.
     let is = c.in-Some.ensures in
     let small = few_written _ _ _ written.ensures.spells written.ensures.few in
     let P : Bool → Type 0 = λ b. StartsWithNumber piece (short_value b moved.digits moved.places) (first + written.result.count) in
-    subst P (sym is.sign) (exponent_front piece old.negative old.digits old.places c.args.end c.requires.plain sign.result.count first written.result.count written.result.value sign.result.negative (omega arith)
-    (c.is_letter.ensures.0 c.if-not-is_letter.false) sign.ensures.few sign.ensures.sign refl (spells_rest piece first 0 _ _ written.ensures.spells) (omega arith)
+    subst P (sym is.sign)
+    (exponent_front piece old.negative old.digits old.places c.args.end c.requires.plain sign.result.count first written.result.count written.result.value
+    sign.result.negative (omega arith)
+    (c.is_letter.ensures.0 c.if-not-is_letter.false) sign.ensures.few sign.ensures.sign refl (spells_rest piece first 0 _ _ written.ensures.spells)
+    (omega arith)
     is.up moved.digits moved.places is.digits moved.small moved.few (omega arith) is.power (omega arith) (c.if-may_stand.ensures.class refl))

@@ -9,5 +9,6 @@ unfolding StandsFor
 returns-clause-stands g c =
     let rules = c.begin_again.new.self in (
       c.new-self.ensures.stands,
-      new_told c.new-self.result (Stand (g.S.FeatureSink.told rules.sink) rules.rules rules.count) c.new-self.ensures.offset c.begin_again.ensures c.new-self.ensures.events,
+      new_told c.new-self.result
+          (Stand (g.S.FeatureSink.told rules.sink) rules.rules rules.count) c.new-self.ensures.offset c.begin_again.ensures c.new-self.ensures.events,
     )

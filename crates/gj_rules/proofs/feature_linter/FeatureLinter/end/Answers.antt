@@ -22,7 +22,8 @@ returns-in-Ok-clause-verdict g c = λ bytes h.
     let k = LinterEvents.taken_all Old bytes _ (c.bytes_taken.ensures.«open» self.reader bytes h.0 live) h.1 in
     rw (c.verdict_of.ensures)
     (LinterEvents.end_verdict _ bytes Old c.rules-rules.result.now c.in-Ok.last c.fault.result c.warnings.result self.shallow self.short k f
-    (λ events s. c.rules-rules.ensures _ (c.tell_last.ensures events s)) c.fault.ensures c.warnings.ensures.kept c.few_events.ensures c.kept_warnings.ensures.short)
+    (λ events s. c.rules-rules.ensures _ (c.tell_last.ensures events s)) c.fault.ensures c.warnings.ensures.kept c.few_events.ensures
+    c.kept_warnings.ensures.short)
 
 pub returns-in-Ok-clause-told : goal.returns-in-Ok-clause-told
 unfolding StandsFor
@@ -51,4 +52,5 @@ returns-in-Err-clause-verdict g c = λ bytes h. rw (c.in-Err.is) at (c.finish.en
 
 pub returns-in-Err-clause-told : goal.returns-in-Err-clause-told
 unfolding StandsFor
-returns-in-Err-clause-told g c = λ bytes text h a. absurd (c.one_refusal.ensures.never_both _ bytes c.in-Err.fault text (rw (c.in-Err.is) at (c.finish.ensures.answer bytes h.0)) a)
+returns-in-Err-clause-told g c =
+    λ bytes text h a. absurd (c.one_refusal.ensures.never_both _ bytes c.in-Err.fault text (rw (c.in-Err.is) at (c.finish.ensures.answer bytes h.0)) a)

@@ -16,7 +16,8 @@ returns-in-Ok-clause-stands g c = λ bytes h.
     let stands = c.feed.ensures.stands bytes h.0 in
     let on = rw (c.in-Ok.is) at c.feed.ensures.refusal in (
       stands,
-      LinterEvents.fed_ok laws.«open» laws.refused laws.within old.reader c.feed.new.self (Stand (Told old.rules.sink) old.rules.rules old.rules.count) (Stand (Told new.sink) new.rules new.count) bytes c.args.piece.now h.0 stands live on h.1
+      LinterEvents.fed_ok laws.«open» laws.refused laws.within old.reader c.feed.new.self (Stand (Told old.rules.sink) old.rules.rules old.rules.count)
+          (Stand (Told new.sink) new.rules new.count) bytes c.args.piece.now h.0 stands live on h.1
           (λ events told. let k = c.feed.ensures.heard bytes events live h.0 told in rw (c.in-Ok.is) at k),
     )
 
@@ -30,9 +31,11 @@ returns-in-Err-clause-stands g c = λ bytes h.
     let stands = c.feed.ensures.stands bytes h.0 in
     let on = rw (c.in-Err.is) at c.feed.ensures.refusal in (
       stands,
-      LinterEvents.fed_refused laws.«open» laws.refused laws.within old.reader c.feed.new.self (Stand (Told old.rules.sink) old.rules.rules old.rules.count) (Stand (Told new.sink) new.rules new.count) bytes c.args.piece.now c.in-Err.fault h.0 stands on c.feed.ensures.on h.1
+      LinterEvents.fed_refused laws.«open» laws.refused laws.within old.reader c.feed.new.self (Stand (Told old.rules.sink) old.rules.rules old.rules.count)
+          (Stand (Told new.sink) new.rules new.count) bytes c.args.piece.now c.in-Err.fault h.0 stands on c.feed.ensures.on h.1
           (λ events live told. let k = c.feed.ensures.heard bytes events live h.0 told in rw (c.in-Err.is) at k)
-          (λ fault e. let a = c.feed.ensures.again fault e in (a.0, λ events told. subst (λ all. Stand (Told all.sink) all.rules all.count events) (sym a.1) told)),
+          (λ fault e. let a = c.feed.ensures.again fault e in
+          (a.0, λ events told. subst (λ all. Stand (Told all.sink) all.rules all.count events) (sym a.1) told)),
     )
 
 pub returns-in-Ok-clause-answer : goal.returns-in-Ok-clause-answer

@@ -8,5 +8,6 @@ pub returns-clause-stands : goal.returns-clause-stands
 unfolding StandsFor
 returns-clause-stands g c = λ h. (
   c.new-2.ensures.stands,
-  new_told c.new-2.result (Stand (g.S.FeatureSink.told c.new.result.sink) c.new.result.rules c.new.result.count) c.new-2.ensures.offset (c.new.ensures.stands h) c.new-2.ensures.events,
+  new_told c.new-2.result (Stand (g.S.FeatureSink.told c.new.result.sink) c.new.result.rules c.new.result.count) c.new-2.ensures.offset
+      (c.new.ensures.stands h) c.new-2.ensures.events,
 )

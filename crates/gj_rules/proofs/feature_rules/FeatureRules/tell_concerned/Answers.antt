@@ -10,7 +10,9 @@ returns-in-Some g c = λ events h.
     let old = c.args.self.now in
     let event = c.args.event in (
       c.tell.ensures events h.0,
-      told_more (g.S.FeatureSink.told old.sink) (g.S.FeatureSink.told c.tell_feature.new.self) old.rules old.count c.next-self.result event events c.feature_told-told.result c.feature_told-told.ensures
+      told_more (g.S.FeatureSink.told old.sink)
+          (g.S.FeatureSink.told c.tell_feature.new.self) old.rules old.count c.next-self.result event events c.feature_told-told.result
+          c.feature_told-told.ensures
           (λ i j. c.next-self.ensures i j ∙ ap (λ b. count_at old.count.inner event.what event.place b old.count) c.starts_features.ensures)
           (λ fs k. subst (g.S.FeatureSink.told c.tell_feature.new.self) (ap (λ o. fs ++ option_to_list o) (sym c.in-Some.is)) (c.tell_feature.ensures fs k)) h,
     )
@@ -20,7 +22,8 @@ returns-in_default g c = λ events h.
     let old = c.args.self.now in
     let event = c.args.event in (
       c.tell.ensures events h.0,
-      told_more (g.S.FeatureSink.told old.sink) (g.S.FeatureSink.told old.sink) old.rules old.count c.next-self.result event events c.feature_told-told.result c.feature_told-told.ensures
+      told_more (g.S.FeatureSink.told old.sink)
+          (g.S.FeatureSink.told old.sink) old.rules old.count c.next-self.result event events c.feature_told-told.result c.feature_told-told.ensures
           (λ i j. c.next-self.ensures i j ∙ ap (λ b. count_at old.count.inner event.what event.place b old.count) c.starts_features.ensures)
           (λ fs k. subst (g.S.FeatureSink.told old.sink) (sym (append-nil fs) ∙ ap (λ o. fs ++ option_to_list o) (sym c.in_default.is)) k) h,
     )

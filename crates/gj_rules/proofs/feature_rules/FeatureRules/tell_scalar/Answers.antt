@@ -14,6 +14,7 @@ returns-then-is_at_id g c = λ events h.
       c.tell.ensures events h.0,
       told_more (g.S.FeatureSink.told old.sink) (g.S.FeatureSink.told old.sink) old.rules old.count c.begin_id.new.self _ events None
           (sym (id_untold old.count _ c.args.event.place (core_of old.rules).top c.requires.scalar none element))
-          (λ i j. c.begin_id.ensures ∙ sym (begins_id old.count _ c.args.event.place (starts_at old.rules.skipped old.rules.mode) c.requires.scalar none element))
+          (λ i j. c.begin_id.ensures
+          ∙ sym (begins_id old.count _ c.args.event.place (starts_at old.rules.skipped old.rules.mode) c.requires.scalar none element))
           (λ fs k. subst (g.S.FeatureSink.told old.sink) (sym (append-nil fs)) k) h,
     )

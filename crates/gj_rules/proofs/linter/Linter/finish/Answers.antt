@@ -15,7 +15,9 @@ returns-in-Ok-None-clause-verdict c = λ bytes h.
     let f = rw none at (c.finish.ensures.answer bytes h.0) in
     let k = LinterEvents.taken_all (RulesStandFor self.rules) bytes _ (c.bytes_taken.ensures.«open» self.reader bytes h.0 live) h.1 in
     let P : List Event → Type 0 = λ events. RulesStandFor self.rules events in
-    rw (c.verdict_of.ensures) (LinterEvents.end_verdict _ bytes (RulesStandFor self.rules) self.rules None c.fault.result c.warnings.result self.shallow self.short k f (λ events s. subst P (sym (append-nil events)) s) c.fault.ensures c.warnings.ensures.kept c.few_events.ensures c.kept_warnings.ensures.short)
+    rw (c.verdict_of.ensures)
+    (LinterEvents.end_verdict _ bytes (RulesStandFor self.rules) self.rules None c.fault.result c.warnings.result self.shallow self.short k f
+    (λ events s. subst P (sym (append-nil events)) s) c.fault.ensures c.warnings.ensures.kept c.few_events.ensures c.kept_warnings.ensures.short)
 
 pub returns-in-Err-clause-verdict : goal.returns-in-Err-clause-verdict
 unfolding StandsFor

@@ -24,8 +24,10 @@ returns-then-is_whole c = λ bytes h clean.
     let P : List Event → Type 0 = λ events. RulesStandFor self.rules events in
     let found = self.rules.answer in
     let v : IsVerdict (limits_of self) bytes (verdict_of found.fault (all_in found.warned)) =
-    LinterEvents.end_verdict _ bytes (RulesStandFor self.rules) self.rules None found.fault (all_in found.warned) self.shallow self.short k f (λ events s. subst P (sym (append-nil events)) s)
-    (λ text d s. ap (λ (x : Findings). x.fault) (answered self.rules text d s)) (λ text d s. ap (λ (x : Findings). x.warned) (answered self.rules text d s)) c.few_events.ensures c.kept_warnings.ensures.short in
+    LinterEvents.end_verdict _ bytes (RulesStandFor self.rules) self.rules None found.fault (all_in found.warned) self.shallow self.short k f
+    (λ events s. subst P (sym (append-nil events)) s)
+    (λ text d s. ap (λ (x : Findings). x.fault) (answered self.rules text d s))
+    (λ text d s. ap (λ (x : Findings). x.warned) (answered self.rules text d s)) c.few_events.ensures c.kept_warnings.ensures.short in
     let w = rw (c.is_clean.ensures.fault clean) at v in
     let none : text_warnings w.0 ≡ [] = (empty_is (all_in found.warned) (text_warnings w.0) w.3).0 (c.is_clean.ensures.warned clean) in
     (w.0, w.1, w.2, rw none (sym warnings_of_none))

@@ -15,5 +15,6 @@ returns-then-counts_at_end g c = record {
 pub returns : goal.returns
 returns g c = record {
   told = λ bytes before found s t.
-      finished_none (g.S.RecordSink.told c.args.sink.now) c.args.self.now bytes before found (λ e. sym (c.counts_at_end.ensures.live e) ∙ c.if-counts_at_end.false) s t;
+      finished_none (g.S.RecordSink.told c.args.sink.now) c.args.self.now bytes before found
+      (λ e. sym (c.counts_at_end.ensures.live e) ∙ c.if-counts_at_end.false) s t;
 }

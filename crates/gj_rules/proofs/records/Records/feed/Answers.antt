@@ -16,14 +16,17 @@ loop-at-init g c = record {
 
 pub returns-then-self-clause-told : goal.returns-then-self-clause-told
 returns-then-self-clause-told g c = λ bytes before found s t.
-    over_rest (g.S.RecordSink.told c.loop-at.sink) c.loop-at.self bytes c.args.piece.now c.loop-at.at before found c.if-self.true (c.loop-at.invariant.told bytes before found s t)
+    over_rest (g.S.RecordSink.told c.loop-at.sink) c.loop-at.self bytes c.args.piece.now c.loop-at.at before found c.if-self.true
+    (c.loop-at.invariant.told bytes before found s t)
 
 pub loop-at-preserved : goal.loop-at-preserved
 loop-at-preserved g c = record {
   within = search rules;
   told = λ bytes before found s t.
-      further (g.S.RecordSink.told c.take-at.new.sink) c.take-at.new.self bytes c.args.piece.now c.loop-at.at c.take-at.result.count before found c.loop-at.invariant.within
-      (then_told (g.S.RecordSink.told c.loop-at.sink) (g.S.RecordSink.told c.take-at.new.sink) c.loop-at.self c.take-at.new.self (bytes ++ take c.loop-at.at c.args.piece.now) _ before found
+      further (g.S.RecordSink.told c.take-at.new.sink) c.take-at.new.self bytes c.args.piece.now c.loop-at.at c.take-at.result.count before found
+      c.loop-at.invariant.within
+      (then_told (g.S.RecordSink.told c.loop-at.sink) (g.S.RecordSink.told c.take-at.new.sink) c.loop-at.self c.take-at.new.self
+      (bytes ++ take c.loop-at.at c.args.piece.now) _ before found
       (c.loop-at.invariant.told bytes before found s t)
       (λ all h u. (c.take-at.ensures.told (bytes ++ take c.loop-at.at c.args.piece.now) before all h u).have));
   keeps = kept_on c.args.self.now c.loop-at.self c.take-at.new.self c.loop-at.invariant.keeps c.take-at.ensures.keeps;

@@ -30,10 +30,13 @@ returns-after-loop-at-clause-told g c = λ bytes before found s t.
 pub returns-then-taken-clause-told : goal.returns-then-taken-clause-told
 returns-then-taken-clause-told g c = λ bytes before found s t.
     let told = g.S.RecordSink.told c.take-taken.new.sink in
-    let B : Bool → Type 0 = λ b. HaveToldIf b told c.take-taken.new.self (bytes ++ take (c.loop-at.at + c.take-taken.result.count) c.args.piece.now) before found in
+    let B : Bool → Type 0 =
+    λ b. HaveToldIf b told c.take-taken.new.self (bytes ++ take (c.loop-at.at + c.take-taken.result.count) c.args.piece.now) before found in
     subst B c.if-taken.true
-    (further_at (λ bs. HaveToldIf c.take-taken.result.told told c.take-taken.new.self bs before found) bytes c.args.piece.now c.loop-at.at c.take-taken.result.count c.loop-at.invariant.within
-    (then_if c.take-taken.result.told (g.S.RecordSink.told c.loop-at.sink) told c.loop-at.self c.take-taken.new.self (bytes ++ take c.loop-at.at c.args.piece.now) _ before found
+    (further_at (λ bs. HaveToldIf c.take-taken.result.told told c.take-taken.new.self bs before found) bytes c.args.piece.now c.loop-at.at
+    c.take-taken.result.count c.loop-at.invariant.within
+    (then_if c.take-taken.result.told (g.S.RecordSink.told c.loop-at.sink) told c.loop-at.self c.take-taken.new.self
+    (bytes ++ take c.loop-at.at c.args.piece.now) _ before found
     (c.loop-at.invariant.told bytes before found s t)
     (λ all h u. c.take-taken.ensures.told (bytes ++ take c.loop-at.at c.args.piece.now) before all h u)))
 
@@ -42,10 +45,13 @@ loop-at-preserved g c = record {
   within = search rules;
   told = λ bytes before found s t.
       let told = g.S.RecordSink.told c.take-taken.new.sink in
-      let B : Bool → Type 0 = λ b. HaveToldIf b told c.take-taken.new.self (bytes ++ take (c.loop-at.at + c.take-taken.result.count) c.args.piece.now) before found in
+      let B : Bool → Type 0 =
+      λ b. HaveToldIf b told c.take-taken.new.self (bytes ++ take (c.loop-at.at + c.take-taken.result.count) c.args.piece.now) before found in
       subst B c.if-taken.false
-      (further_at (λ bs. HaveToldIf c.take-taken.result.told told c.take-taken.new.self bs before found) bytes c.args.piece.now c.loop-at.at c.take-taken.result.count c.loop-at.invariant.within
-      (then_if c.take-taken.result.told (g.S.RecordSink.told c.loop-at.sink) told c.loop-at.self c.take-taken.new.self (bytes ++ take c.loop-at.at c.args.piece.now) _ before found
+      (further_at (λ bs. HaveToldIf c.take-taken.result.told told c.take-taken.new.self bs before found) bytes c.args.piece.now c.loop-at.at
+      c.take-taken.result.count c.loop-at.invariant.within
+      (then_if c.take-taken.result.told (g.S.RecordSink.told c.loop-at.sink) told c.loop-at.self c.take-taken.new.self
+      (bytes ++ take c.loop-at.at c.args.piece.now) _ before found
       (c.loop-at.invariant.told bytes before found s t)
       (λ all h u. c.take-taken.ensures.told (bytes ++ take c.loop-at.at c.args.piece.now) before all h u)));
   keeps = kept_on c.args.self.now c.loop-at.self c.take-taken.new.self c.loop-at.invariant.keeps c.take-taken.ensures.keeps;

@@ -10,7 +10,8 @@ returns-in-Record-clause-lasting c = λ bytes more found stands decided.
     (λ live. ap is_valid_sequence (sym (whole_so_far c.args.self.now bytes found stands) ∙ c.in-Record.is))
 
 pub returns-in-Valid-clause-lasting : goal.returns-in-Valid-clause-lasting
-returns-in-Valid-clause-lasting c = λ bytes more found stands over. decided_lasts c.one_verdict.ensures.some c.args.self.now bytes more found stands (λ live. absurd (cc))
+returns-in-Valid-clause-lasting c =
+    λ bytes more found stands over. decided_lasts c.one_verdict.ensures.some c.args.self.now bytes more found stands (λ live. absurd (cc))
 
 pub returns-in-Valid-clause-valid : goal.returns-in-Valid-clause-valid
 returns-in-Valid-clause-valid c = λ bytes found stands live. ap is_valid_sequence (sym (whole_so_far c.args.self.now bytes found stands) ∙ c.in-Valid.is)

@@ -10,9 +10,11 @@ returns-then-offset-bytes-clause-told g c = λ bytes before found s t.
     let rest = c.args.rest.now in
     let h = open_of self bytes found c.requires.live s in
     let full = c.if-offset-bytes.true ∙ c.bytes.ensures.value in
-    over_next (g.S.RecordSink.told c.args.sink.now) (g.S.RecordSink.told c.tell_open.new.sink) self c.tell_open.new.self _ bytes (take 1 rest) (get_or rest 0 0) c.end-offset.result before found h
+    over_next (g.S.RecordSink.told c.args.sink.now) (g.S.RecordSink.told c.tell_open.new.sink) self c.tell_open.new.self _ bytes (take 1 rest)
+    (get_or rest 0 0) c.end-offset.result before found h
     c.tell_open.ensures full (sym c.end-offset.ensures.value ∙ full) (take_one rest c.requires.some) refl refl refl refl refl t
 
 pub returns-clause-told : goal.returns-clause-told
 returns-clause-told g c = λ bytes before found s t.
-    none_if (g.S.RecordSink.told c.args.sink.now) c.take_run.new.self (bytes ++ take c.run_before-run.result c.args.rest.now) before found (c.take_run.ensures.stands bytes found s) t
+    none_if (g.S.RecordSink.told c.args.sink.now) c.take_run.new.self (bytes ++ take c.run_before-run.result c.args.rest.now) before found
+    (c.take_run.ensures.stands bytes found s) t

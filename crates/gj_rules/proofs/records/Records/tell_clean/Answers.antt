@@ -21,8 +21,11 @@ returns g c =
           place = c.start.ensures;
           end = c.end.ensures.value ∙ sym h.counted;
           verdict = (
-              let P : Warnings → Type 0 = λ w. IsNumberedVerdict self.framing self.record.limits.depth self.number (part_at self.record.start given Separator) (Verdict.Valid w) in
-              subst P (sym c.none.ensures.exact) (numbered_own self.framing self.record.limits.depth self.number (part_at self.record.start given Separator) _ c.requires.numbered (c.requires.clean given h)));
+              let P : Warnings → Type 0 =
+              λ w. IsNumberedVerdict self.framing self.record.limits.depth self.number (part_at self.record.start given Separator) (Verdict.Valid w) in
+              subst P (sym c.none.ensures.exact)
+              (numbered_own self.framing self.record.limits.depth self.number (part_at self.record.start given Separator) _ c.requires.numbered
+              (c.requires.clean given h)));
         },
         c.count.ensures found refl (ap (λ (w : Warnings). Verdict.Valid w) c.none.ensures.exact),
         c.tell_record.ensures records t,

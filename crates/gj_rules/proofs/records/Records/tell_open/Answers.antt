@@ -12,7 +12,13 @@ returns g c =
     record {
       tells = λ given records h t. (
         found,
-        record { number = refl; place = c.start-place.ensures; end = c.end-end_place.ensures.value ∙ sym h.counted; verdict = c.close-verdict.ensures.verdict given h },
+        record {
+          number = refl;
+          place = c.start-place.ensures;
+          end = c.end-end_place.ensures.value ∙ sym h.counted;
+          verdict =
+              c.close-verdict.ensures.verdict given h;
+        },
         c.after-self.ensures ∙ ap (λ v. after v found) c.close-verdict.ensures.whole,
         c.tell_record.ensures records t,
       );

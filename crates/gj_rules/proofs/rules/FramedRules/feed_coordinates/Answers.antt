@@ -4,7 +4,8 @@ use Rattle.gj_rules.proofs.rules.FramedRules.feed_coordinates.Goals as goal
 
 pub returns-else-done : goal.returns-else-done
 returns-else-done g c = λ v taken left d h e.
-    not_whole c.args.self.now _ v taken (c.args.event.now ∷ []) left c.done.result c.requires.skipped c.requires.mode c.requires.skipped c.requires.mode refl (c.take.ensures.stands taken) c.if-done.false
+    not_whole c.args.self.now _ v taken (c.args.event.now ∷ []) left c.done.result c.requires.skipped c.requires.mode c.requires.skipped c.requires.mode refl
+    (c.take.ensures.stands taken) c.if-done.false
     (λ s. c.done.ensures.at_the_end v (taken ++ c.args.event.now ∷ []) left s e (omega arith)) h
 
 pub returns-then-done : goal.returns-then-done

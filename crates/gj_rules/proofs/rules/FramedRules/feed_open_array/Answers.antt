@@ -7,7 +7,8 @@ use Rattle.gj_rules.proofs.rules.FramedRules.feed_open_array.Goals as goal
 pub returns-else-done : goal.returns-else-done
 returns-else-done g c = λ v taken left d h e.
     let last = event_at c.args.place What.OpenArray ∷ [] in
-    not_whole c.args.self.now _ v taken last left c.done.result c.requires.skipped c.requires.mode c.requires.skipped c.requires.mode refl (c.open_array.ensures.stands taken) c.if-done.false
+    not_whole c.args.self.now _ v taken last left c.done.result c.requires.skipped c.requires.mode c.requires.skipped c.requires.mode refl
+    (c.open_array.ensures.stands taken) c.if-done.false
     (λ s. c.done.ensures.at_the_end v (taken ++ last) left s e (omega arith)) h
 
 pub returns-then-done : goal.returns-then-done

@@ -11,6 +11,11 @@ pub returns-then-self-gt0-clause-core : goal.returns-then-self-gt0-clause-core
 returns-then-self-gt0-clause-core g c =
     let rules = c.args.self.now in
     let s : Core = core_of rules in
-    ap (λ (m : Mode). record s { mode = m; top = frame_in (slice_index_or rules.frames (rules.around - 1) no_frame); outer = map frame_in (reverse (take (rules.around - 1) rules.frames)) })
+    ap (λ (m : Mode). record s {
+      mode = m;
+      top = frame_in (slice_index_or rules.frames (rules.around - 1) no_frame);
+      outer =
+          map frame_in (reverse (take (rules.around - 1) rules.frames));
+    })
     (c.behind-self.ensures ∙ ap mode_behind c.role-role.ensures)
     ∙ left_clean s.top.slots.role s rules.frames rules.around (omega arith) (omega arith)

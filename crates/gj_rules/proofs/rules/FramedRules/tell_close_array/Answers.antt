@@ -6,5 +6,6 @@ use Rattle.gj_rules.proofs.rules.FramedRules.tell_close_array.Goals as goal
 pub returns-then-is_in_coordinates : goal.returns-then-is_in_coordinates
 returns-then-is_in_coordinates g c = λ events h.
     let old = c.args.self.now in
-    let feeds : is_feeding old.skipped old.mode ≡ true = rw (c.is_in_coordinates.ensures.skipped c.if-is_in_coordinates.true, c.is_in_coordinates.ensures.mode c.if-is_in_coordinates.true) refl in
+    let feeds : is_feeding old.skipped old.mode ≡ true =
+    rw (c.is_in_coordinates.ensures.skipped c.if-is_in_coordinates.true, c.is_in_coordinates.ensures.mode c.if-is_in_coordinates.true) refl in
     told_on old c.feed_close_array.new.self _ events (steps_fed old c.feed_close_array.new.self _ feeds c.feed_close_array.ensures) h

@@ -8,5 +8,6 @@ pub returns-then-is_in_coordinates : goal.returns-then-is_in_coordinates
 returns-then-is_in_coordinates g c = λ events h.
     let flat = c.args.flat.now in
     let old = c.args.self.now in
-    let feeds : is_feeding old.skipped old.mode ≡ true = rw (c.is_in_coordinates.ensures.skipped c.if-is_in_coordinates.true, c.is_in_coordinates.ensures.mode c.if-is_in_coordinates.true) refl in
+    let feeds : is_feeding old.skipped old.mode ≡ true =
+    rw (c.is_in_coordinates.ensures.skipped c.if-is_in_coordinates.true, c.is_in_coordinates.ensures.mode c.if-is_in_coordinates.true) refl in
     told_flat old c.feed_flat.new.self flat.place (numbers_of flat) flat.close feeds c.feed_flat.ensures events h

@@ -7,7 +7,9 @@ use Rattle.gj_rules.specs.Linter.{refusal_of}
 use Rattle.gj_rules.specs.Internal.OpenRecord.{StandsFor as RecordStandsFor}
 use Rattle.gj_rules.specs.Sequence.{separator}
 use Rattle.gj_rules.proofs.Sequences.DecidingBytes.{begun_more}
-use Rattle.gj_rules.proofs.Sequences.SequenceSteps.{live_of, before_or_in, at_in, live_stands, settled_stands, empty_viable, first_begun, first_valid, first_counted, run_valid, run_counted, no_given, in_some, some_given, was_valid, was_failing, more_valid, more_counted, failing_closed}
+use Rattle.gj_rules.proofs.Sequences.SequenceSteps.{live_of, before_or_in, at_in, live_stands, settled_stands, empty_viable, first_begun, first_valid}
+use Rattle.gj_rules.proofs.Sequences.SequenceSteps.{first_counted, run_valid, run_counted, no_given, in_some, some_given, was_valid, was_failing, more_valid}
+use Rattle.gj_rules.proofs.Sequences.SequenceSteps.{more_counted, failing_closed}
 use Rattle.gj_rules.proofs.sequence.Sequence.separate.Goals as goal
 
 pub returns-then-is_empty-clause-stands : goal.returns-then-is_empty-clause-stands
@@ -72,7 +74,8 @@ returns-then-is_clean-clause-stands c = λ bytes s.
         start = omega (arith, c.begin_again.ensures.start, c.end-place.ensures.value, h.taken);
         stands = c.begin_again.ensures.stands;
         viable = empty_viable c.one_refusal.ensures.either self.limits.depth;
-        valid = more_valid laws.none_first laws.none_last laws.grouping self bytes h k (Verdict.Valid no_warnings) no_warnings self.warnings some refl (sym (laws.none_last self.warnings))
+        valid = more_valid laws.none_first laws.none_last laws.grouping self bytes h k (Verdict.Valid no_warnings) no_warnings self.warnings some refl
+            (sym (laws.none_last self.warnings))
             (c.is_clean.ensures k.given k.stands c.if-is_clean.true);
         counted = more_counted self bytes k some;
       });
@@ -102,7 +105,8 @@ returns-in-Some-clause-stands c = λ bytes s.
         start = omega (arith, c.close-verdict.ensures.start, c.end-place.ensures.value, h.taken);
         stands = c.close-verdict.ensures.stands;
         viable = empty_viable c.one_refusal.ensures.either self.limits.depth;
-        valid = more_valid laws.none_first laws.none_last laws.grouping self bytes h k c.close-verdict.result c.in-Some.warnings _ some is c.join-self.ensures.exact
+        valid = more_valid laws.none_first laws.none_last laws.grouping self bytes h k c.close-verdict.result c.in-Some.warnings _ some is
+            c.join-self.ensures.exact
             (c.close-verdict.ensures.verdict k.given k.stands);
         counted = more_counted self bytes k some;
       });
@@ -116,5 +120,6 @@ returns-in-None-clause-stands c = λ bytes s.
     let k = in_some self bytes h differ in
     settled_stands c.decide.new.self self.limits (bytes ++ separator ∷ []) c.end-place.result (SeqVerdict.Record self.records c.close-verdict.result)
     (ap (λ x. x.decided) c.decide.ensures) (ap (λ x. x.limits) c.decide.ensures)
-    (failing_closed c.one_verdict.ensures.one self bytes h k c.close-verdict.result c.end-place.result c.requires.room (some_given self bytes k differ) c.end-place.ensures.value
+    (failing_closed c.one_verdict.ensures.one self bytes h k c.close-verdict.result c.end-place.result c.requires.room
+    (some_given self bytes k differ) c.end-place.ensures.value
     (c.close-verdict.ensures.verdict k.given k.stands) (was_failing c.close-verdict.result (sym c.valid_warnings.ensures ∙ c.in-None.is)))

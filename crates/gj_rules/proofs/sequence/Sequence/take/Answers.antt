@@ -18,5 +18,6 @@ returns-then-offset-bytes-clause-stands c = λ bytes s.
     settled_stands c.refuse.new.self self.limits (bytes ++ take 1 rest) c.end-offset.result verdict
     (ap (λ x. x.decided) c.refuse.ensures) (ap (λ x. x.limits) c.refuse.ensures)
     (subst P (sym (take_one rest c.requires.some))
-    (long_run c.one_verdict.ensures.some self bytes (get_or rest 0 0) c.end-offset.result h (sym c.end-offset.ensures.value ∙ (c.if-offset-bytes.true ∙ c.bytes.ensures.value))
+    (long_run c.one_verdict.ensures.some self bytes (get_or rest 0 0) c.end-offset.result h
+    (sym c.end-offset.ensures.value ∙ (c.if-offset-bytes.true ∙ c.bytes.ensures.value))
     c.bytes.ensures.allowed.some_byte c.end-offset.ensures.value))

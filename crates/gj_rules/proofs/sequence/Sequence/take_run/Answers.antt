@@ -48,4 +48,5 @@ returns-in-Refused-clause-stands c = λ bytes s.
     let a = subst A c.in-Refused.is (c.feed.ensures.answer k.given k.stands) in
     settled_stands c.decide.new.self self.limits (bytes ++ run) c.in-Refused.fault.place (SeqVerdict.Record self.records (NotJson c.in-Refused.fault))
     (ap (λ x. x.decided) c.decide.ensures) (ap (λ x. x.limits) c.decide.ensures)
-    (refused_run self bytes run h k a.0 c.in-Refused.fault c.requires.some c.requires.plain c.requires.room (omega (arith, self.record.wide, c.bytes-most.ensures.allowed.most_bytes)) a.1 a.2)
+    (refused_run self bytes run h k a.0 c.in-Refused.fault c.requires.some c.requires.plain c.requires.room
+    (omega (arith, self.record.wide, c.bytes-most.ensures.allowed.most_bytes)) a.1 a.2)

@@ -6,6 +6,7 @@ use Rattle.name_lists.proofs.names.Names.next_into.Given as goal
 
 abbrev pub invariant-loop : goal.invariant-loop
 invariant-loop g l = record {
-  begun : (begun : List ℕ) × HasBegun l.fn.self.name_end begun l.counter (left_of g.R.Read.remaining l.initial.self) (left_of g.R.Read.remaining l.self) × (l.name.items ≡ given begun) × (l.has_nul ≡ has_nul begun);
+  begun : (begun : List ℕ) × HasBegun l.fn.self.name_end begun l.counter (left_of g.R.Read.remaining l.initial.self) (left_of g.R.Read.remaining l.self)
+      × (l.name.items ≡ given begun) × (l.has_nul ≡ has_nul begun);
   end : l.self.name_end ≡ l.fn.self.name_end;
 }

@@ -15,7 +15,8 @@ shifted-verdict-requires c = λ place p.
     let self = c.args.self.now in
     ∥∥₁_elim self.fed le_prop (λ f.
     let h = c.finish_and_begin-verdict.ensures.verdict f.0 f.1 in
-    let within = ended_as_within c.args.framing c.args.ending _ (self.end - self.start) (length f.0) place c.finish_and_begin-verdict.result (omega (arith, f.2))
+    let within = ended_as_within c.args.framing c.args.ending _ (self.end - self.start) (length f.0) place c.finish_and_begin-verdict.result
+    (omega (arith, f.2))
     (λ q i. told_within c.places_within.ensures (limits_of self.linter) f.0 c.finish_and_begin-verdict.result q h i)
     (rw (c.ended_as-own.ensures) at p) in
     omega (arith, within, f.2, self.within))
@@ -36,7 +37,9 @@ returns-clause-verdict c = λ bytes h.
       c.finish_and_begin-verdict.result,
       own_limit self.limits bytes c.finish_and_begin-verdict.result (omega (arith, h.counted, self.within, self.wide)) w,
       c.shifted-verdict.ensures
-          ∙ (ap (shifted_verdict self.start) c.ended_as-own.ensures ∙ told_ended c.args.framing c.args.ending self.start self.last (self.end - self.start) bytes c.finish_and_begin-verdict.result h.last (omega (arith, h.counted))),
+          ∙ (ap (shifted_verdict self.start) c.ended_as-own.ensures
+          ∙ told_ended c.args.framing c.args.ending self.start self.last (self.end - self.start) bytes c.finish_and_begin-verdict.result h.last
+          (omega (arith, h.counted))),
     )
 
 pub returns-clause-stands : goal.returns-clause-stands

@@ -22,7 +22,8 @@ returns-then-self-eq-LINE_FEED c = λ bytes h clean.
     subst F (sym c.in-Sequence.is) (
       own,
       own_limit self.limits bytes own (omega (arith, h.counted, self.within, self.wide)) w,
-      ap (λ (x : Warnings). Verdict.Valid x) (sym (none_shifted self.start)) ∙ told_as self.start 10 (length bytes) 0 bytes own (sym c.if-self-eq-LINE_FEED.true ∙ h.last) refl,
+      ap (λ (x : Warnings). Verdict.Valid x) (sym (none_shifted self.start))
+          ∙ told_as self.start 10 (length bytes) 0 bytes own (sym c.if-self-eq-LINE_FEED.true ∙ h.last) refl,
     )
 
 pub returns-in-Lines : goal.returns-in-Lines

@@ -15,4 +15,5 @@ returns c = λ bytes rest text h live t.
     let L : Allowed → Type 0 = λ l. IsTextWithin l.depth text (bytes ++ rest) in
     let P : ℕ → Type 0 = λ n. IsTextWithin (limits_of linter).depth text (take n bytes ++ rest) in
     let Q : List ℕ → Type 0 = λ bs. IsTextWithin (limits_of linter).depth text (bs ++ rest) in
-    c.judged.ensures.«open» bytes rest text h.linter (subst P (sym e) (subst Q (sym (take-length bytes)) (subst L (sym h.under) t))) ∙ ap (λ n. judged_at n text) e
+    c.judged.ensures.«open» bytes rest text h.linter (subst P (sym e) (subst Q (sym (take-length bytes)) (subst L (sym h.under) t)))
+    ∙ ap (λ n. judged_at n text) e
