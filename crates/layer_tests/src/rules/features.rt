@@ -2,7 +2,7 @@
 
 use gj_coords::{Fault, Kind, Rule, Warnings};
 use gj_json::{Cause, JsonFault, Limits, Reader};
-use gj_rules::{Feature, FeatureLinter, FeatureRules, FeatureSink, Linter, Verdict};
+use gj_rules::{CleanFeature, Feature, FeatureLinter, FeatureRules, FeatureSink, Linter, Verdict};
 use std::process::Abort;
 
 /// More than any row has.
@@ -263,5 +263,22 @@ fn rules_that_tell_features(rt: HostRuntime) {
     assert!(rt;
         rules.rules().fault() == Some(fault),
         "the type of the root is missing"
+    );
+}
+
+/// A sink that only knows features is told of a clean one all the same.
+#[test]
+fn clean_feature(rt: HostRuntime) {
+    let mut sink = FirstFeatures::new();
+    sink.tell_clean(&CleanFeature {
+        index: 3,
+        place: 50,
+        close: 90,
+        id: Some(70),
+    });
+    assert!(rt; sink.count == 1, "one feature");
+    assert!(rt;
+        sink.features[0] == Some(fine(3, 50, 90, Some(70))),
+        "it has no fault and no warning"
     );
 }
