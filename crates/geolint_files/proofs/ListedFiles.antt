@@ -1,16 +1,20 @@
 -- A run that has told lines of the features of its last file.
 use Rattle.std.proofs.Common.{arith, zero, suc, ◌≡◌, ◌<◌, ◌≤◌, ◌+◌, ◌-◌, ◌++◌, ◌∷◌, [], List, ℕ, length, take, get_or, refl, sym, subst, ap, ◌∙◌, append_assoc, append-nil}
-use Rattle.std.specs.Prelude.{Bool, map, Option, Some, None}
+use Rattle.std.specs.Prelude.{Bool, map, Option, Some, None, Vec}
+use Rattle.std.specs.declared.alloc.Global.{Global}
 use Rattle.std.specs.Io.KnownBytes.{Appends, Keeps}
 use Rattle.std.proofs.KnownBytes.{Appends-trans, Appends-kept, Keeps-refl}
 use Rattle.std.proofs.lemmas.List.{map-append, take_more, take_all}
 use Rattle.geolint_report.specs.declared.every.listing.Asked.{Asked}
 use Rattle.geolint_report.specs.declared.every.listing.Note.{Note}
+use Rattle.geolint_report.specs.declared.every.tally.Tally.{Tally}
 use Rattle.geolint_report.specs.declared.judge.Finding.{Finding}
 use Rattle.geolint_report.specs.declared.judge.Reading.{Reading}
 use Rattle.geolint_report.specs.declared.report.Report.{Report}
 use Rattle.report_forms.specs.declared.every.entry.Entry.{Entry}
+use Rattle.geolint_report.specs.Tallies.{IsTotal}
 use Rattle.report_forms.specs.declared.formats.lines.Style.{Style}
+use Rattle.report_forms.specs.declared.formats.sarif.Log.{Log}
 use Rattle.report_forms.specs.declared.options.Every.{Every}
 use Rattle.report_forms.specs.declared.options.Options.{Options}
 use Rattle.report_forms.specs.declared.summary.Summary.{Summary}
@@ -21,7 +25,8 @@ use Rattle.geolint_files.specs.Outcome.{worst}
 use Rattle.geolint_files.specs.Internal.RunState.{HasTold, TellsFile, TellsLines, SameTold}
 use Rattle.geolint_files.specs.Listed.{asked_in, asked_by}
 use Rattle.geolint_files.specs.Listed.{IsEntryOf, AreEntriesOf, AreLinesOf, others_of, asked_when}
-use Rattle.geolint_files.specs.Run.{ToldFile, judged, listed, FeatureLine, feature_line, others_line, finding_in, outcome_in, Written, AddsFile, AddsFiles, AddsLine, AddsLines, AddsListed, begun}
+use Rattle.geolint_files.proofs.ToldFiles.{tallies-append, tallies-none}
+use Rattle.geolint_files.specs.Run.{ToldFile, judged, listed, FeatureLine, feature_line, others_line, finding_in, tallies_in, outcome_in, Written, AddsFile, AddsFiles, AddsLine, AddsLines, AddsListed, begun}
 
 -- ---- what is written
 
@@ -31,9 +36,9 @@ AddsLines-more options style [] more a b c none adds = subst (λ (before : Writt
 AddsLines-more options style (first ∷ rest) more a b c (middle, here, others) adds = (middle, here, AddsLines-more options style rest more middle b c others adds)
 
 -- the last file has these lines more
-AddsFiles-lines : (options : Options) (style : Style) (files : List ToldFile) (report : Report) (before lines : List FeatureLine) (a b c : Written)
-    → AddsFiles options style (files ++ listed report before ∷ []) a b → AddsLines options style lines b c → AddsFiles options style (files ++ listed report (before ++ lines) ∷ []) a c
-AddsFiles-lines options style [] report before lines a b c (middle, adds, none) more = (
+AddsFiles-lines : (options : Options) (style : Style) (files : List ToldFile) (report : Report) (tally : Tally) (before lines : List FeatureLine) (a b c : Written)
+    → AddsFiles options style (files ++ listed report before tally ∷ []) a b → AddsLines options style lines b c → AddsFiles options style (files ++ listed report (before ++ lines) tally ∷ []) a c
+AddsFiles-lines options style [] report tally before lines a b c (middle, adds, none) more = (
   c,
   record {
     asked = adds.asked;
@@ -43,13 +48,13 @@ AddsFiles-lines options style [] report before lines a b c (middle, adds, none) 
   },
   refl,
 )
-AddsFiles-lines options style (first ∷ rest) report before lines a b c (middle, here, others) more = (middle, here, AddsFiles-lines options style rest report before lines middle b c others more)
+AddsFiles-lines options style (first ∷ rest) report tally before lines a b c (middle, here, others) more = (middle, here, AddsFiles-lines options style rest report tally before lines middle b c others more)
 
 -- a file that was judged is one of which no feature is told yet
-AddsFiles-as : (options : Options) (style : Style) (files : List ToldFile) (report : Report) (a b : Written) → (options.every ≡ Every.Nothing → ⊥)
-    → AddsFiles options style (files ++ judged report ∷ []) a b → AddsFiles options style (files ++ listed report [] ∷ []) a b
-AddsFiles-as options style [] report a b asked (middle, adds, none) = (middle, record { asked = asked; middle = middle; report_told = adds; lines_told = refl }, none)
-AddsFiles-as options style (first ∷ rest) report a b asked (middle, here, others) = (middle, here, AddsFiles-as options style rest report middle b asked others)
+AddsFiles-as : (options : Options) (style : Style) (files : List ToldFile) (report : Report) (tally : Tally) (a b : Written) → (options.every ≡ Every.Nothing → ⊥)
+    → AddsFiles options style (files ++ judged report ∷ []) a b → AddsFiles options style (files ++ listed report [] tally ∷ []) a b
+AddsFiles-as options style [] report tally a b asked (middle, adds, none) = (middle, record { asked = asked; middle = middle; report_told = adds; lines_told = refl }, none)
+AddsFiles-as options style (first ∷ rest) report tally a b asked (middle, here, others) = (middle, here, AddsFiles-as options style rest report tally middle b asked others)
 
 -- ---- what is counted
 
@@ -61,6 +66,21 @@ outcomes-are options files one other same =
 findings-are : (files : List ToldFile) (one other : ToldFile) → finding_in one ≡ finding_in other → map finding_in (files ++ one ∷ []) ≡ map finding_in (files ++ other ∷ [])
 findings-are files one other same =
     map-append finding_in files (one ∷ []) ∙ (ap (λ (f : Option Finding). map finding_in files ++ f ∷ []) same ∙ sym (map-append finding_in files (other ∷ [])))
+
+tallies-are : (files : List ToldFile) (one other : ToldFile) → tallies_in (one ∷ []) ≡ tallies_in (other ∷ []) → tallies_in (files ++ one ∷ []) ≡ tallies_in (files ++ other ∷ [])
+tallies-are files one other same =
+    tallies-append files (one ∷ []) ∙ (ap (λ (tallies : List Tally). tallies_in files ++ tallies) same ∙ sym (tallies-append files (other ∷ [])))
+
+-- a call counted the features or the records of a file
+pub record HasCounted {W : Type 0} (tally : Tally) (old new : Run W) : Type 0 where
+  pub options : new.options ≡ old.options
+  pub style : new.style ≡ old.style
+  pub outcome : new.outcome ≡ old.outcome
+  pub summary : new.summary ≡ old.summary
+  pub out : new.out ≡ old.out
+  pub log : new.log ≡ old.log
+  pub line : new.line ≡ old.line
+  pub adds : (tallies : List Tally) → IsTotal old.tally tallies → IsTotal new.tally (tallies ++ tally ∷ [])
 
 -- ---- a call that told lines
 
@@ -85,16 +105,18 @@ AddsLine-at options given style asked line before after is_first unread options_
 
 pub TellsLines-of : {W : Type 0} (contents : W → Option (List ℕ)) (line : FeatureLine) (old new : Run W) → AddsOneLine contents line old new → TellsLines contents (line ∷ []) old new
 TellsLines-of contents line old new one = record {
-  tells = λ held options style files report before has.
+  tells = λ held options style files report before tally has.
       let written = has.written in
       record {
         options_are = one.same.options ∙ has.options_are;
         style_is = one.same.style ∙ has.style_is;
-        outcome = one.same.outcome ∙ (has.outcome ∙ outcomes-are options files (listed report before) (listed report (before ++ line ∷ [])) refl);
-        summary = subst (λ (summary : Summary). Counts summary (map finding_in (files ++ listed report (before ++ line ∷ []) ∷ []))) (sym one.same.summary)
-            (subst (Counts old.summary) (findings-are files (listed report before) (listed report (before ++ line ∷ [])) refl) has.summary);
+        outcome = one.same.outcome ∙ (has.outcome ∙ outcomes-are options files (listed report before tally) (listed report (before ++ line ∷ []) tally) refl);
+        summary = subst (λ (summary : Summary). Counts summary (map finding_in (files ++ listed report (before ++ line ∷ []) tally ∷ []))) (sym one.same.summary)
+            (subst (Counts old.summary) (findings-are files (listed report before tally) (listed report (before ++ line ∷ []) tally) refl) has.summary);
+        tally = subst (λ (now : Tally). IsTotal now (tallies_in (files ++ listed report (before ++ line ∷ []) tally ∷ []))) (sym one.same.tally)
+            (subst (IsTotal old.tally) (tallies-are files (listed report before tally) (listed report (before ++ line ∷ []) tally) refl) has.tally);
         written = record { bytes = written.bytes ++ one.told; is_first = new.log.is_first; unread = new.log.unread.items };
-        files_told = AddsFiles-lines options style files report before (line ∷ []) (begun options.format) written _ has.files_told
+        files_told = AddsFiles-lines options style files report tally before (line ∷ []) (begun options.format) written _ has.files_told
             (_, AddsLine-at options old.options style old.style line written _ old.log.is_first old.log.unread.items has.options_are has.style_is has.first has.unread (one.adds written.bytes), refl);
         out = Appends-trans held (contents old.out) (contents new.out) written.bytes one.told has.out (one.out has.line);
         first = refl;
@@ -106,9 +128,9 @@ TellsLines-of contents line old new one = record {
 pub TellsLines-then : {W : Type 0} (contents : W → Option (List ℕ)) (lines more : List FeatureLine) (old middle new : Run W)
     → TellsLines contents lines old middle → TellsLines contents more middle new → TellsLines contents (lines ++ more) old new
 TellsLines-then contents lines more old middle new first second = record {
-  tells = λ held options style files report before has.
-      subst (λ (all : List FeatureLine). HasTold contents held options style (files ++ listed report all ∷ []) new) (append_assoc before lines more)
-      (second.tells held options style files report (before ++ lines) (first.tells held options style files report before has));
+  tells = λ held options style files report before tally has.
+      subst (λ (all : List FeatureLine). HasTold contents held options style (files ++ listed report all tally ∷ []) new) (append_assoc before lines more)
+      (second.tells held options style files report (before ++ lines) tally (first.tells held options style files report before tally has));
 }
 
 -- a call that wrote nothing
@@ -125,6 +147,7 @@ HasTold-shown contents held options style files old new shown has = record {
   style_is = shown.same.style ∙ has.style_is;
   outcome = shown.same.outcome ∙ has.outcome;
   summary = subst (λ (summary : Summary). Counts summary (map finding_in files)) (sym shown.same.summary) has.summary;
+  tally = subst (λ (tally : Tally). IsTotal tally (tallies_in files)) (sym shown.same.tally) has.tally;
   written = has.written;
   files_told = has.files_told;
   out = Appends-kept _ _ _ has.written.bytes has.out shown.out;
@@ -135,35 +158,40 @@ HasTold-shown contents held options style files old new shown has = record {
 
 pub TellsLines-none : {W : Type 0} (contents : W → Option (List ℕ)) (old new : Run W) → IsShown contents old new → TellsLines contents [] old new
 TellsLines-none contents old new shown = record {
-  tells = λ held options style files report before has.
-      subst (λ (all : List FeatureLine). HasTold contents held options style (files ++ listed report all ∷ []) new) (sym (append-nil before))
-      (HasTold-shown contents held options style (files ++ listed report before ∷ []) old new shown has);
+  tells = λ held options style files report before tally has.
+      subst (λ (all : List FeatureLine). HasTold contents held options style (files ++ listed report all tally ∷ []) new) (sym (append-nil before))
+      (HasTold-shown contents held options style (files ++ listed report before tally ∷ []) old new shown has);
 }
 
 pub TellsLines-shown : {W : Type 0} (contents : W → Option (List ℕ)) (lines : List FeatureLine) (old middle new : Run W)
     → TellsLines contents lines old middle → IsShown contents middle new → TellsLines contents lines old new
 TellsLines-shown contents lines old middle new tells shown = record {
-  tells = λ held options style files report before has.
-      HasTold-shown contents held options style (files ++ listed report (before ++ lines) ∷ []) middle new shown (tells.tells held options style files report before has);
+  tells = λ held options style files report before tally has.
+      HasTold-shown contents held options style (files ++ listed report (before ++ lines) tally ∷ []) middle new shown (tells.tells held options style files report before tally has);
 }
 
--- a file was told, and then lines of its features
-pub TellsFile-listed : {W : Type 0} (contents : W → Option (List ℕ)) (report : Report) (lines : List FeatureLine) (old middle new : Run W)
-    → (old.options.every ≡ Every.Nothing → ⊥) → TellsFile contents (judged report) old middle → TellsLines contents lines middle new → TellsFile contents (listed report lines) old new
-TellsFile-listed contents report lines old middle new asked first second = record {
+-- a file was told, its features were counted, and then lines of them were told
+pub TellsFile-listed : {W : Type 0} (contents : W → Option (List ℕ)) (report : Report) (lines : List FeatureLine) (tally : Tally) (old middle counted new : Run W)
+    → (old.options.every ≡ Every.Nothing → ⊥) → TellsFile contents (judged report) old middle → HasCounted tally middle counted → TellsLines contents lines counted new
+    → TellsFile contents (listed report lines tally) old new
+TellsFile-listed contents report lines tally old middle counted new asked first counts second = record {
   tells = λ held options style files has.
       let then = first.tells held options style files has in
-      second.tells held options style files report [] (record {
-        options_are = then.options_are;
-        style_is = then.style_is;
-        outcome = then.outcome ∙ outcomes-are options files (judged report) (listed report []) refl;
-        summary = subst (Counts middle.summary) (findings-are files (judged report) (listed report []) refl) then.summary;
+      let all = files ++ listed report [] tally ∷ [] in
+      second.tells held options style files report [] tally (record {
+        options_are = counts.options ∙ then.options_are;
+        style_is = counts.style ∙ then.style_is;
+        outcome = counts.outcome ∙ (then.outcome ∙ outcomes-are options files (judged report) (listed report [] tally) refl);
+        summary = subst (λ (summary : Summary). Counts summary (map finding_in all)) (sym counts.summary)
+            (subst (Counts middle.summary) (findings-are files (judged report) (listed report [] tally) refl) then.summary);
+        tally = subst (IsTotal counted.tally) (sym (tallies-append files (listed report [] tally ∷ [])))
+            (counts.adds (tallies_in files) (subst (IsTotal middle.tally) (tallies-none files (judged report) refl) then.tally));
         written = then.written;
-        files_told = AddsFiles-as options style files report (begun options.format) then.written (λ none. asked (ap (λ (o : Options). o.every) has.options_are ∙ none)) then.files_told;
-        out = then.out;
-        first = then.first;
-        unread = then.unread;
-        line = then.line;
+        files_told = AddsFiles-as options style files report tally (begun options.format) then.written (λ none. asked (ap (λ (o : Options). o.every) has.options_are ∙ none)) then.files_told;
+        out = subst (λ out. Appends held (contents out) then.written.bytes) (sym counts.out) then.out;
+        first = ap (λ (log : Log). log.is_first) counts.log ∙ then.first;
+        unread = ap (λ (log : Log). log.unread.items) counts.log ∙ then.unread;
+        line = ap (λ (line : Vec ℕ Global). line.items) counts.line ∙ then.line;
       });
 }
 
@@ -179,7 +207,7 @@ AreEntriesOf-more Right name (one ∷ more) (first ∷ rest) note line (here, ot
 -- nothing is told yet
 pub none-told : {W : Type 0} (contents : W → Option (List ℕ)) (Right : Entry → Type 0) (name : List ℕ) (run : Run W)
     → (lines : List FeatureLine) × AreEntriesOf Right name [] lines × TellsLines contents lines run run
-none-told contents Right name run = ([], tt, TellsLines-none contents run run (record { same = record { options = refl; style = refl; outcome = refl; summary = refl }; log = refl; line = refl; out = Keeps-refl (contents run.out) }))
+none-told contents Right name run = ([], tt, TellsLines-none contents run run (record { same = record { options = refl; style = refl; outcome = refl; summary = refl; tally = refl }; log = refl; line = refl; out = Keeps-refl (contents run.out) }))
 
 -- a note more is told
 pub more-told : {W : Type 0} (contents : W → Option (List ℕ)) (Right : Entry → Type 0) (name : List ℕ) (notes : List Note) (i : ℕ) (d : Note) (line : FeatureLine) (old middle new : Run W) → i < length notes
@@ -211,8 +239,8 @@ whole-told contents Right name notes i old new whole (lines, are, tells) = (line
 -- the call begins where nothing of what is told has changed
 pub TellsLines-after : {W : Type 0} (contents : W → Option (List ℕ)) (lines : List FeatureLine) (old middle new : Run W) → IsShown contents old middle → TellsLines contents lines middle new → TellsLines contents lines old new
 TellsLines-after contents lines old middle new shown tells = record {
-  tells = λ held options style files report before has.
-      tells.tells held options style files report before (HasTold-shown contents held options style (files ++ listed report before ∷ []) old middle shown has);
+  tells = λ held options style files report before tally has.
+      tells.tells held options style files report before tally (HasTold-shown contents held options style (files ++ listed report before tally ∷ []) old middle shown has);
 }
 
 -- what is asked of the features of a file is asked at all

@@ -6,9 +6,11 @@ use Rattle.std.specs.Io.KnownBytes.{Appends, Keeps}
 use Rattle.std.specs.Result.{OnOk}
 use Rattle.std.proofs.KnownBytes.{Appends-trans}
 use Rattle.std.proofs.lemmas.List.{map-append}
+use Rattle.geolint_report.specs.declared.every.tally.Tally.{Tally}
 use Rattle.geolint_report.specs.declared.judge.Finding.{Finding}
 use Rattle.geolint_report.specs.declared.report.Report.{Report}
 use Rattle.geolint_report.specs.declared.sites.Sites.{Sites}
+use Rattle.geolint_report.specs.Tallies.{IsTotal}
 use Rattle.report_forms.specs.declared.formats.lines.Style.{Style}
 use Rattle.report_forms.specs.declared.formats.sarif.Log.{Log}
 use Rattle.report_forms.specs.declared.options.Options.{Options}
@@ -18,7 +20,7 @@ use Rattle.geolint_files.specs.declared.outcome.Outcome.{Outcome}
 use Rattle.geolint_files.specs.declared.run.Run.{Run}
 use Rattle.geolint_files.specs.Outcome.{worst}
 use Rattle.geolint_files.specs.Internal.RunState.{HasTold, TellsFile, TellsFiles, Unchanged}
-use Rattle.geolint_files.specs.Run.{ToldFile, judged, finding_in, outcome_in, Written, AddsFile, AddsFiles, begun}
+use Rattle.geolint_files.specs.Run.{ToldFile, judged, not_read, listed, finding_in, tallies_in, outcome_in, Written, AddsFile, AddsFiles, begun}
 
 pub on_ok : {T E P : Type 0} (r : Result T E) → P → OnOk r P
 on_ok (Ok value) holds = holds
@@ -35,12 +37,26 @@ AddsFiles-more : (options : Options) (style : Style) (files : List ToldFile) (fi
 AddsFiles-more options style [] file a b c none adds = (c, subst (λ (before : Written). AddsFile options style file before c) none adds, refl)
 AddsFiles-more options style (first ∷ more) file a b c (middle, here, rest) adds = (middle, here, AddsFiles-more options style more file middle b c rest adds)
 
+-- ---- what is counted of features and records
+
+pub tallies-append : (files more : List ToldFile) → tallies_in (files ++ more) ≡ tallies_in files ++ tallies_in more
+tallies-append [] more = refl
+tallies-append (judged report ∷ files) more = tallies-append files more
+tallies-append (not_read name reason ∷ files) more = tallies-append files more
+tallies-append (listed report lines tally ∷ files) more = ap (λ (tallies : List Tally). tally ∷ tallies) (tallies-append files more)
+
+-- a file more, of which nothing is counted
+pub tallies-none : (files : List ToldFile) (file : ToldFile) → tallies_in (file ∷ []) ≡ [] → tallies_in (files ++ file ∷ []) ≡ tallies_in files
+tallies-none files file none = tallies-append files (file ∷ []) ∙ (ap (λ (tallies : List Tally). tallies_in files ++ tallies) none ∙ append-nil (tallies_in files))
+
 -- what a call did that told a file: to the counts, and to what is written
 pub record AddsOne {W : Type 0} (contents : W → Option (List ℕ)) (file : ToldFile) (old new : Run W) : Type 0 where
   pub options : new.options ≡ old.options
   pub style : new.style ≡ old.style
   pub outcome : (outcomes : List Outcome) → old.outcome ≡ worst outcomes → new.outcome ≡ worst (outcomes ++ outcome_in old.options file ∷ [])
   pub summary : (files : List (Option Finding)) → Counts old.summary files → Counts new.summary (files ++ finding_in file ∷ [])
+  pub tally : new.tally ≡ old.tally
+  pub none : tallies_in (file ∷ []) ≡ []
   pub told : List ℕ
   pub out : old.line.items ≡ [] → Appends (contents old.out) (contents new.out) told
   pub line : new.line.items ≡ []
@@ -68,6 +84,7 @@ TellsFile-of contents file old new one = record {
         outcome = subst (λ (given : Options). new.outcome ≡ worst (outcomes ++ outcome_in given file ∷ [])) has.options_are (one.outcome outcomes has.outcome)
             ∙ ap worst (sym (map-append (outcome_in options) files (file ∷ [])));
         summary = subst (Counts new.summary) (sym (map-append finding_in files (file ∷ []))) (one.summary (map finding_in files) has.summary);
+        tally = subst (IsTotal new.tally) (sym (tallies-none files file one.none)) (subst (λ (tally : Tally). IsTotal tally (tallies_in files)) (sym one.tally) has.tally);
         written = record { bytes = before.bytes ++ one.told; is_first = new.log.is_first; unread = new.log.unread.items };
         files_told = AddsFiles-more options style files file (begun options.format) before _ has.files_told
             (AddsFile-at options old.options style old.style file before _ old.log.is_first old.log.unread.items has.options_are has.style_is has.first has.unread (one.adds before.bytes));
@@ -87,6 +104,7 @@ HasTold-moved contents held options style files old new same has = record {
   style_is = same.same.style ∙ has.style_is;
   outcome = same.same.outcome ∙ has.outcome;
   summary = subst (λ (summary : Summary). Counts summary (map finding_in files)) (sym same.same.summary) has.summary;
+  tally = subst (λ (tally : Tally). IsTotal tally (tallies_in files)) (sym same.same.tally) has.tally;
   written = has.written;
   files_told = has.files_told;
   out = subst (λ out. Appends held (contents out) has.written.bytes) (sym same.out) has.out;
@@ -124,7 +142,7 @@ TellsFiles-then contents old middle new first second = record {
 }
 
 pub unchanged : {W : Type 0} (run : Run W) → Unchanged run run
-unchanged run = record { same = record { options = refl; style = refl; outcome = refl; summary = refl }; out = refl; log = refl; line = refl }
+unchanged run = record { same = record { options = refl; style = refl; outcome = refl; summary = refl; tally = refl }; out = refl; log = refl; line = refl }
 
 -- a file was told with the sites that were sought
 pub sought-told : {W : Type 0} {contents : W → Option (List ℕ)} {report : Report} {old new : Run W} (name : List ℕ) (finding : Finding) (Sought : Sites → Type 0)

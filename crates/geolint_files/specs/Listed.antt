@@ -6,6 +6,7 @@ use Rattle.gj_rules.specs.declared.records.framing.Framing.{Framing}
 use Rattle.report_forms.specs.declared.every.entry.Entry.{Entry}
 use Rattle.geolint_report.specs.declared.every.listing.Asked.{Asked}
 use Rattle.geolint_report.specs.declared.every.listing.Note.{Note}
+use Rattle.geolint_report.specs.declared.every.tally.Tally.{Tally}
 use Rattle.geolint_report.specs.declared.judge.Reading.{Reading}
 use Rattle.report_forms.specs.declared.options.Every.{Every}
 use Rattle.report_forms.specs.declared.options.Options.{Options}
@@ -59,10 +60,10 @@ pub record AreLinesOf (Right : Entry → Type 0) (name : List ℕ) (notes : List
   pub are : AreEntriesOf Right name notes entries
   pub all : lines ≡ entries ++ others_of name (count - length notes)
 
--- the lines of the features or the records of a source that had these bytes
-abbrev pub AreListed : (Entry → Type 0) → Option Framing → Asked → Allowed → List ℕ → Option (List ℕ) → List FeatureLine → Type 0
-AreListed Right framing asked limits name had lines =
-    (notes : List Note) × (count : ℕ) × AreNotesBy framing asked notes count limits had × AreLinesOf Right name notes count lines
+-- the lines of the features or the records of a source that had these bytes, and what is counted of them
+abbrev pub AreListed : (Entry → Type 0) → Option Framing → Asked → Allowed → List ℕ → Option (List ℕ) → List FeatureLine → Tally → Type 0
+AreListed Right framing asked limits name had lines tally =
+    (notes : List Note) × (count : ℕ) × AreNotesBy framing asked notes count tally limits had × AreLinesOf Right name notes count lines
 
 -- ---- a source that is read once
 
@@ -72,9 +73,9 @@ IsUnplaced entry = (entry.mark ≡ None) × (entry.id.now ≡ [])
 
 -- what is told of a source that had these bytes; where its features are not told, as of a file of which only the report is asked
 abbrev pub IsListedOnce : Reading → Asked → Allowed → List ℕ → Option (List ℕ) → (failed now_failed : ℕ) → ToldFile → Type 0
-IsListedOnce reading asked limits name had failed now_failed (listed report lines) =
+IsListedOnce reading asked limits name had failed now_failed (listed report lines tally) =
     (report.name.now ≡ name) × (report.sites ≡ None) × (now_failed ≡ failed) × ((left : Option (List ℕ)) × Finds reading limits had left report.finding)
-    × AreListed IsUnplaced (framing_in reading) asked limits name had lines
+    × AreListed IsUnplaced (framing_in reading) asked limits name had lines tally
 IsListedOnce reading asked limits name had failed now_failed file = IsToldOnce reading limits name had failed now_failed file
 
 -- ---- a source that is read again
@@ -85,7 +86,7 @@ IsPlaced framing text entry = IfSome entry.mark (λ mark. IsMarkBy framing text 
 
 -- `text` are the bytes of the source from the first one on
 abbrev pub IsListedTwice : Reading → Asked → Allowed → List ℕ → Option (List ℕ) → Option (List ℕ) → (failed now_failed : ℕ) → ToldFile → Type 0
-IsListedTwice reading asked limits name had text failed now_failed (listed report lines) =
+IsListedTwice reading asked limits name had text failed now_failed (listed report lines tally) =
     (report.name.now ≡ name) × ((left : Option (List ℕ)) × Finds reading limits had left report.finding)
-    × ((middle : ℕ) × HasSites reading limits text failed middle report) × AreListed (IsPlaced (framing_in reading) text) (framing_in reading) asked limits name had lines
+    × ((middle : ℕ) × HasSites reading limits text failed middle report) × AreListed (IsPlaced (framing_in reading) text) (framing_in reading) asked limits name had lines tally
 IsListedTwice reading asked limits name had text failed now_failed file = IsToldTwice reading limits name had text failed now_failed file

@@ -1,6 +1,7 @@
 -- What a run tells: of each file in turn its report and the lines of its features, at the end a summary, and the worst of the outcomes.
 use Rattle.std.specs.Prelude.{◌≡◌, ℕ, Bool, true, false, if◌then◌else◌, List, [], ◌∷◌, ◌++◌, map, Option, Some, None}
 use Rattle.std.specs.Io.KnownBytes.{Appends}
+use Rattle.geolint_report.specs.declared.every.tally.Tally.{Tally}
 use Rattle.geolint_report.specs.declared.judge.Finding.{Finding}
 use Rattle.geolint_report.specs.declared.report.Report.{Report}
 use Rattle.report_forms.specs.declared.every.entry.Entry.{Entry}
@@ -12,6 +13,7 @@ use Rattle.report_forms.specs.Passing.{passes}
 use Rattle.report_forms.specs.Forms.{IsReport, IsUnreadReport, KeepsUnread, first_after}
 use Rattle.report_forms.specs.Forms.Features.{IsEntry, IsMore, first_behind}
 use Rattle.report_forms.specs.Forms.Sarif.{sarif_begin, sarif_end}
+use Rattle.report_forms.specs.Items.{items_summary}
 use Rattle.report_forms.specs.Summary.{summary_of}
 use Rattle.geolint_files.specs.declared.outcome.Outcome.{Outcome}
 use Rattle.geolint_files.specs.declared.outcome.Outcome.TheVariants.{Unread}
@@ -22,22 +24,28 @@ pub data FeatureLine : Type 0 where
   feature_line : (entry : Entry) → FeatureLine
   others_line : (name : List ℕ) → (count : ℕ) → FeatureLine
 
--- a file of which a report is told, or one that could not be opened or read, for this reason, or one of which the features are told too
+-- a file of which a report is told, or one that could not be opened or read, for this reason, or one of which the features are told and counted too
 pub data ToldFile : Type 0 where
   judged : (report : Report) → ToldFile
   not_read : (name reason : List ℕ) → ToldFile
-  listed : (report : Report) → (lines : List FeatureLine) → ToldFile
+  listed : (report : Report) → (lines : List FeatureLine) → (tally : Tally) → ToldFile
 
 -- what a summary counts
 abbrev pub finding_in : ToldFile → Option Finding
 finding_in (judged report) = Some report.finding
 finding_in (not_read name reason) = None
-finding_in (listed report lines) = Some report.finding
+finding_in (listed report lines tally) = Some report.finding
 
 abbrev pub outcome_in : Options → ToldFile → Outcome
 outcome_in options (judged report) = outcome_of (passes options.strict options.allowed report.finding)
 outcome_in options (not_read name reason) = Unread
-outcome_in options (listed report lines) = outcome_of (passes options.strict options.allowed report.finding)
+outcome_in options (listed report lines tally) = outcome_of (passes options.strict options.allowed report.finding)
+
+-- what is counted of the features or records of files, where they are told
+abbrev pub tallies_in : List ToldFile → List Tally
+tallies_in [] = []
+tallies_in (listed report lines tally ∷ more) = tally ∷ tallies_in more
+tallies_in (file ∷ more) = tallies_in more
 
 -- the outcome of a run that told these files
 abbrev pub worst_of : Options → List ToldFile → Outcome
@@ -93,7 +101,7 @@ pub record AddsListed (options : Options) (style : Style) (report : Report) (lin
 abbrev pub AddsFile : Options → Style → ToldFile → Written → Written → Type 0
 AddsFile options style (judged report) before after = AddsReport options style report before after
 AddsFile options style (not_read name reason) before after = AddsUnread options name reason before after
-AddsFile options style (listed report lines) before after = AddsListed options style report lines before after
+AddsFile options style (listed report lines tally) before after = AddsListed options style report lines before after
 
 -- what files add, one after the other
 abbrev pub AddsFiles : Options → Style → List ToldFile → Written → Written → Type 0
@@ -119,8 +127,16 @@ has_summary Format.Text summary = summary
 has_summary Format.Lines summary = summary
 has_summary format summary = false
 
+-- features and records are counted where they are told
+abbrev pub items_in : Every → List ToldFile → List ℕ
+items_in Every.Nothing files = []
+items_in every files = items_summary (tallies_in files)
+
+abbrev pub whole_summary : Every → List ToldFile → List ℕ
+whole_summary every files = summary_of (map finding_in files) ++ items_in every files
+
 abbrev pub summary_in : Options → List ToldFile → List ℕ
-summary_in options files = if has_summary options.format options.summary then summary_of (map finding_in files) else []
+summary_in options files = if has_summary options.format options.summary then whole_summary options.every files else []
 
 -- the whole report of these files
 pub record IsWholeReport (options : Options) (style : Style) (files : List ToldFile) (bytes : List ℕ) : Type 0 where

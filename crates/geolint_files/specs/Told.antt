@@ -40,11 +40,11 @@ abbrev pub IsToldOnce : Reading → Allowed → List ℕ → Option (List ℕ) �
 IsToldOnce reading limits name had failed now_failed (judged report) =
     (report.name.now ≡ name) × (report.sites ≡ None) × (report.hint ≡ None) × (now_failed ≡ failed) × ((left : Option (List ℕ)) × Finds reading limits had left report.finding)
 IsToldOnce reading limits name had failed now_failed (not_read told reason) = (told ≡ name) × (now_failed ≡ u64_saturate (failed + 1))
-IsToldOnce reading limits name had failed now_failed (listed report lines) = ⊥
+IsToldOnce reading limits name had failed now_failed (listed report lines tally) = ⊥
 
 -- the same of one that is read again: `text` are its bytes from the first one on
 abbrev pub IsToldTwice : Reading → Allowed → List ℕ → Option (List ℕ) → Option (List ℕ) → (failed now_failed : ℕ) → ToldFile → Type 0
 IsToldTwice reading limits name had text failed now_failed (judged report) =
     (report.name.now ≡ name) × ((left : Option (List ℕ)) × Finds reading limits had left report.finding) × HasSites reading limits text failed now_failed report
 IsToldTwice reading limits name had text failed now_failed (not_read told reason) = (told ≡ name) × (now_failed ≡ u64_saturate (failed + 1))
-IsToldTwice reading limits name had text failed now_failed (listed report lines) = ⊥
+IsToldTwice reading limits name had text failed now_failed (listed report lines tally) = ⊥

@@ -1,8 +1,10 @@
 //! Judges what the words name, file by file, and tells each.
-ghost use Rattle.std.specs.Prelude.{◌≡◌, [], IfOk, OnOk, true, false};
+ghost use Rattle.std.specs.Prelude.{◌≡◌, [], List, map, IfOk, OnOk, true, false};
 ghost use Rattle.std.specs.List.{list_any};
+ghost use Rattle.geolint_report.specs.Line.{Adds};
+ghost use Rattle.geolint_report.specs.Tallies.{IsTotal};
 ghost use Rattle.report_forms.specs.FileCounts.{Counts};
-ghost use Rattle.geolint_files.specs.Run.{IsRun};
+ghost use Rattle.geolint_files.specs.Run.{ToldFile, IsRun, finding_in, tallies_in, whole_summary};
 ghost use Rattle.geolint_files.specs.Walk.{first_named, is_input, is_input_path, takes_input_twice};
 
 mod features;
@@ -11,6 +13,7 @@ use crate::files::{Spelled, is_lost_link, is_memory, look_up, reason, spell};
 use crate::outcome::Outcome;
 use crate::walk::{Others, Pending, Walk, framing_of, is_taken};
 use crate::words::Order;
+use geolint_report::every::tally::Tally;
 use geolint_report::found::{Found, found_at};
 use geolint_report::hints::find_hint;
 use geolint_report::judge::{Finding, Reading, judge};
@@ -25,7 +28,8 @@ use name_lists::{Listed, NameEnd, Names};
 use report_forms::formats::lines::Style;
 use report_forms::formats::sarif::Log;
 use report_forms::formats::{github, json, lines, put_unread_line, text};
-use report_forms::options::{Format, Options};
+use report_forms::items::put_items;
+use report_forms::options::{Every, Format, Options};
 use report_forms::summary::Summary;
 use std::alloc::AllocError;
 use std::fs::{File, Metadata};
@@ -161,6 +165,8 @@ struct Run<'a, W> {
     log: Log,
     progress: Meter,
     summary: Summary,
+    /// Of the features and records of all files.
+    tally: Tally,
     outcome: Outcome,
 }
 
@@ -183,13 +189,14 @@ impl<'a, W: Write + Drop> Run<'a, W> {
     ghost use Rattle.geolint_report.specs.declared.report.Report.{Report};
     ghost use Rattle.geolint_report.specs.Line.{Adds};
     ghost use Rattle.geolint_report.specs.Sought.{AreSought};
+    ghost use Rattle.geolint_report.specs.Tallies.{IsTotal};
     ghost use Rattle.report_forms.specs.declared.formats.lines.Style.{Style};
     ghost use Rattle.report_forms.specs.declared.options.Options.{Options};
     ghost use Rattle.report_forms.specs.Passing.{passes};
     ghost use Rattle.report_forms.specs.Forms.{TellsReport, TellsUnread, KeepsInLog, first_after};
     ghost use Rattle.report_forms.specs.FileCounts.{Counts};
     ghost use Rattle.geolint_files.specs.Internal.RunState.{HasTold, IsFresh, TellsFile, TellsFiles, SameTold, Unchanged};
-    ghost use Rattle.geolint_files.specs.Run.{ToldFile, judged, not_read, finding_in, IsWholeReport, end_of, summary_in};
+    ghost use Rattle.geolint_files.specs.Run.{ToldFile, judged, not_read, finding_in, tallies_in, IsWholeReport, end_of, summary_in};
     ghost use Rattle.geolint_files.specs.Told.{reading_of, framing_by, IsToldOnce, IsToldTwice, HasSites};
 
     fn new(
@@ -215,6 +222,7 @@ impl<'a, W: Write + Drop> Run<'a, W> {
             log: Log::new(rt.alloc()),
             progress: Meter::new(rt.clone()?),
             summary: Summary::new(),
+            tally: Tally::none(),
             outcome: Outcome::Pass,
         })
     }
@@ -283,11 +291,16 @@ impl<'a, W: Write + Drop> Run<'a, W> {
     /// Tells the summary, where it is asked for.
     fn tell_summary(&mut self) -> Result<(), Failure>
         ensures outcome { self.new.outcome ≡ self.old.outcome }
-        ensures told { OnOk result ((files : List ToldFile) → Counts self.old.summary (map finding_in files) → self.old.line.items ≡ []
+        ensures told { OnOk result ((files : List ToldFile) → Counts self.old.summary (map finding_in files) → IsTotal self.old.tally (tallies_in files) → self.old.line.items ≡ []
             → Appends (W.contents self.old.out) (W.contents self.new.out) (summary_in self.old.options files)) }
     {
         if self.options.summary {
-            self.summary.put(&mut self.line)?;
+            put_summary(
+                &self.summary,
+                &self.tally,
+                self.options.every,
+                &mut self.line,
+            )?;
             match self.options.format {
                 Format::Text | Format::Lines => self.write()?,
                 _ => self.rt.stderr().write_all(self.line.as_slice())?,
@@ -709,6 +722,23 @@ impl<'a, W: Write + Drop> Run<'a, W> {
             self.out.flush()?;
         }
         Ok(())
+    }
+}
+
+/// Puts the summary of files, and of their features and records where these are told.
+fn put_summary(
+    summary: &Summary,
+    tally: &Tally,
+    every: Every,
+    line: &mut Vec<u8>,
+) -> Result<(), AllocError>
+    ensures { (files : List ToldFile) → Counts summary.now (map finding_in files) → IsTotal tally.now (tallies_in files)
+        → OnOk result (Adds line.old line.new (whole_summary every files)) }
+{
+    summary.put(line)?;
+    match every {
+        Every::Nothing => Ok(()),
+        _ => put_items(tally, line),
     }
 }
 

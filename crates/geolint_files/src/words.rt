@@ -148,7 +148,9 @@ fn with_report<'a>(alloc: Global, command: Command<'a>) -> Result<Command<'a>, A
     let command = command.arg(format)?;
     let summary = Arg::new(alloc, "summary")
         .long("summary")
-        .help("Say at the end how many files are what, and the rules by count")
+        .help(
+            "Say at the end how many files are what, and the rules by count; with --every also the features",
+        )
         .action(ArgAction::SetTrue);
     let command = command.arg(summary)?;
     with_features(alloc, command)

@@ -19,7 +19,8 @@ use Rattle.geolint_report.specs.declared.judge.Finding.{Finding}
 use Rattle.geolint_report.specs.declared.every.listing.Note.{Note}
 use Rattle.geolint_report.specs.declared.every.listing.Asked.{Asked}
 use Rattle.geolint_report.specs.declared.every.listing.Listing.{Listing}
-use Rattle.geolint_report.specs.Every.{feature_notes, notes_of, notes_of_records, Keeps, KeepsNotes, Lists, ListsIn, ListsBy, ListsFor, AreNotesIn, AreNotesBy}
+use Rattle.geolint_report.specs.declared.every.tally.Tally.{Tally}
+use Rattle.geolint_report.specs.Every.{feature_notes, notes_of, notes_of_records, Keeps, KeepsOf, KeepsNotes, Lists, ListsIn, ListsBy, ListsFor, AreFirst, AreNotesAll, AreNotesIn, AreNotesBy}
 
 -- there is room for one more
 pub take-longer : {A : Type 0} (room : ℕ) (all : List A) (x : A) → length (take room all) < room → take room (all ++ x ∷ []) ≡ take room all ++ x ∷ []
@@ -43,18 +44,26 @@ notes_of-more with_warnings features feature =
 
 -- ---- before the first feature
 
-pub KeepsNotes-none : (listing : Listing) → Keeps listing [] → KeepsNotes listing []
+pub KeepsNotes-none : (listing : Listing) → Keeps listing [] → listing.tally.items ≡ 0 → KeepsNotes listing []
 unfolding notes_of
-KeepsNotes-none listing keeps = keeps
+KeepsNotes-none listing keeps none = record { keeps = keeps; items_are = none }
 
 -- ---- a feature more
 
-pub KeepsNotes-more : (old new : Listing) (features : List Feature) (feature : Feature) → new.asked ≡ old.asked
+-- one more is counted
+pub items-more : {A : Type 0} (old new : Listing) (xs : List A) (x : A) → new.tally.items ≡ u64_saturate (old.tally.items + 1) → old.tally.items ≡ u64_saturate (length xs)
+    → new.tally.items ≡ u64_saturate (length (xs ++ x ∷ []))
+items-more old new xs x adds were = omega (arith, adds, were, length-append xs (x ∷ []))
+
+pub KeepsNotes-more : (old new : Listing) (features : List Feature) (feature : Feature) → new.asked ≡ old.asked → new.tally.items ≡ u64_saturate (old.tally.items + 1)
     → ((all : List Note) → Keeps old all → Keeps new (all ++ feature_notes old.asked.with_warnings feature)) → KeepsNotes old features → KeepsNotes new (features ++ feature ∷ [])
-KeepsNotes-more old new features feature asked adds keeps =
+KeepsNotes-more old new features feature asked counted adds before =
     let all = notes_of old.asked.with_warnings features in
-    subst (λ (a : Asked). Keeps new (notes_of a.with_warnings (features ++ feature ∷ []))) (sym asked)
-    (subst (λ (ys : List Note). Keeps new ys) (sym (notes_of-more old.asked.with_warnings features feature)) (adds all keeps))
+    record {
+      keeps = subst (λ (a : Asked). Keeps new (notes_of a.with_warnings (features ++ feature ∷ []))) (sym asked)
+          (subst (λ (ys : List Note). Keeps new ys) (sym (notes_of-more old.asked.with_warnings features feature)) (adds all before.keeps));
+      items_are = items-more old new features feature counted before.items_are;
+    }
 
 -- ---- a feature in which nothing is found
 
@@ -63,10 +72,13 @@ unfolding no_warnings
 no_notes true clean = refl
 no_notes false clean = refl
 
-pub KeepsNotes-clean : (listing : Listing) (features : List Feature) (clean : CleanFeature) → KeepsNotes listing features → KeepsNotes listing (features ++ feature_of clean ∷ [])
-KeepsNotes-clean listing features clean keeps =
-    KeepsNotes-more listing listing features (feature_of clean) refl
-    (λ all kept. subst (λ (ys : List Note). Keeps listing (all ++ ys)) (sym (no_notes listing.asked.with_warnings clean)) (subst (λ (ys : List Note). Keeps listing ys) (sym (append-nil all)) kept)) keeps
+pub KeepsNotes-clean : (old new : Listing) (features : List Feature) (clean : CleanFeature) → new.asked ≡ old.asked
+    → new.tally.items ≡ u64_saturate (old.tally.items + 1) → ((all : List Note) → Keeps old all → Keeps new all)
+    → KeepsNotes old features → KeepsNotes new (features ++ feature_of clean ∷ [])
+KeepsNotes-clean old new features clean asked counted still keeps =
+    KeepsNotes-more old new features (feature_of clean) asked counted
+    (λ all kept. subst (λ (ys : List Note). Keeps new (all ++ ys)) (sym (no_notes old.asked.with_warnings clean))
+    (subst (λ (ys : List Note). Keeps new ys) (sym (append-nil all)) (still all kept))) keeps
 
 -- ---- when the input has ended
 
@@ -92,10 +104,18 @@ Lists-refused verdict fault limits old listing is = subst (λ (v : Verdict). Lis
 
 -- ---- what is told of them
 
-pub AreNotes-of : (framing : Option Framing) (finding : Finding) (listing : Listing) (asked : Asked) (notes : List Note) (count : ℕ) (limits : Allowed) (had : Option (List ℕ)) → listing.asked ≡ asked
-    → ((all : List Note) → Keeps listing all → (notes ≡ take listing.asked.room all) × (count ≡ u64_saturate (length all)))
-    → ListsFor framing finding limits had listing → ((fault : JsonFault) → finding ≡ Finding.Text (NotJson fault) → ⊥) → AreNotesBy framing asked notes count limits had
-AreNotes-of framing finding listing asked notes count limits had same kept lists is_json = by-bytes had (of-json finding lists is_json)
+-- what is told of a listing that kept these notes and counted so many features or records
+all-of : (listing : Listing) (asked : Asked) (notes : List Note) (count : ℕ) (tally : Tally) (of : Asked → List Note) (items : ℕ) → listing.asked ≡ asked → tally ≡ listing.tally
+    → ((all : List Note) → Keeps listing all → AreFirst listing.asked notes count all) → KeepsOf listing (of listing.asked) items → AreNotesAll asked notes count tally (of asked) items
+all-of listing asked notes count tally of items same counts kept before =
+    subst (λ (a : Asked). AreNotesAll a notes count tally (of a) items) same
+    (subst (λ (t : Tally). AreNotesAll listing.asked notes count t (of listing.asked) items) (sym counts)
+    (record { are_first = kept (of listing.asked) before.keeps; tallied = before.keeps.tally; items_are = before.items_are }))
+
+pub AreNotes-of : (framing : Option Framing) (finding : Finding) (listing : Listing) (asked : Asked) (notes : List Note) (count : ℕ) (tally : Tally) (limits : Allowed) (had : Option (List ℕ)) → listing.asked ≡ asked
+    → tally ≡ listing.tally → ((all : List Note) → Keeps listing all → AreFirst listing.asked notes count all)
+    → ListsFor framing finding limits had listing → ((fault : JsonFault) → finding ≡ Finding.Text (NotJson fault) → ⊥) → AreNotesBy framing asked notes count tally limits had
+AreNotes-of framing finding listing asked notes count tally limits had same counts kept lists is_json = by-bytes had (of-json finding lists is_json)
   where
     of-json : (finding : Finding) → ListsFor framing finding limits had listing → ((fault : JsonFault) → finding ≡ Finding.Text (NotJson fault) → ⊥) → ListsBy framing limits had listing
     of-json (Finding.Text (NotJson fault)) lists is_json = absurd (is_json fault refl)
@@ -104,28 +124,20 @@ AreNotes-of framing finding listing asked notes count limits had same kept lists
     of-json (Finding.Sequence verdict) lists is_json = lists
     of-json Finding.NotValid lists is_json = lists
 
-    by-framing : (framing : Option Framing) (bytes : List ℕ) → ListsIn framing limits bytes listing → AreNotesIn framing asked notes count limits bytes
+    by-framing : (framing : Option Framing) (bytes : List ℕ) → ListsIn framing limits bytes listing → AreNotesIn framing asked notes count tally limits bytes
     by-framing None bytes lists = λ text admitted.
-        let (features, keeps, say) = lists text admitted in
-        let (first, counted) = kept (notes_of listing.asked.with_warnings features) keeps in (
+        let (features, keeps, say) = lists text admitted in (
           features,
-          record {
-            first = first ∙ ap (λ (a : Asked). take a.room (notes_of a.with_warnings features)) same;
-            count_is = counted ∙ ap (λ (a : Asked). u64_saturate (length (notes_of a.with_warnings features))) same;
-          },
+          all-of listing asked notes count tally (λ (a : Asked). notes_of a.with_warnings features) (length features) same counts kept keeps,
           say,
         )
-    by-framing (Some framing) bytes (found, are, keeps) =
-        let (first, counted) = kept (notes_of_records listing.asked.with_warnings found) keeps in (
-          found,
-          are,
-          record {
-            first = first ∙ ap (λ (a : Asked). take a.room (notes_of_records a.with_warnings found)) same;
-            count_is = counted ∙ ap (λ (a : Asked). u64_saturate (length (notes_of_records a.with_warnings found))) same;
-          },
-        )
+    by-framing (Some framing) bytes (found, are, keeps) = (
+      found,
+      are,
+      all-of listing asked notes count tally (λ (a : Asked). notes_of_records a.with_warnings found) (length found) same counts kept keeps,
+    )
 
-    by-bytes : (had : Option (List ℕ)) → ListsBy framing limits had listing → AreNotesBy framing asked notes count limits had
+    by-bytes : (had : Option (List ℕ)) → ListsBy framing limits had listing → AreNotesBy framing asked notes count tally limits had
     by-bytes None lists = tt
     by-bytes (Some bytes) lists = by-framing framing bytes lists
 

@@ -1,7 +1,8 @@
 -- Lemmas on the notes of records that are kept.
-use Rattle.std.proofs.Common.{arith, ◌≡◌, ◌<◌, ◌≤◌, ℕ, ◌++◌, ◌∷◌, [], List, Bool, true, false, ap, sym, ◌∙◌, subst, append-nil, inl, inr}
+use Rattle.std.proofs.Common.{arith, ◌≡◌, ◌<◌, ◌≤◌, ℕ, ◌+◌, ◌++◌, ◌∷◌, [], List, Bool, true, false, ap, sym, ◌∙◌, subst, append-nil, inl, inr}
 use Rattle.std.proofs.lemmas.Bool.{cases_lt}
 use Rattle.std.proofs.lemmas.List.Concat.{flat_map-append}
+use Rattle.std.specs.Io.Iter.{u64_saturate}
 use Rattle.std.specs.Io.KnownBytes.{Consumes, IsAtEnd}
 use Rattle.std.specs.List.{flat_map}
 use Rattle.std.specs.Prelude.{Option, Some, None}
@@ -16,6 +17,7 @@ use Rattle.geolint_report.specs.declared.every.listing.Listing.{Listing}
 use Rattle.geolint_report.specs.declared.every.listing.Note.{Note}
 use Rattle.geolint_report.specs.Every.{Keeps, record_notes, notes_of_records, KeepsRecords, ListsRecords, ListsBy}
 use Rattle.geolint_report.specs.Judged.{JudgesBy}
+use Rattle.geolint_report.proofs.KeptNotes.{items-more}
 
 -- the notes of one record more
 notes-more : (with_warnings : Bool) (records : List Record) (found : Record)
@@ -25,16 +27,19 @@ notes-more with_warnings records found =
     flat_map-append (record_notes with_warnings) records (found ∷ [])
     ∙ ap (λ (ys : List Note). flat_map (record_notes with_warnings) records ++ ys) (append-nil (record_notes with_warnings found))
 
-pub KeepsRecords-none : (listing : Listing) → Keeps listing [] → KeepsRecords listing []
+pub KeepsRecords-none : (listing : Listing) → Keeps listing [] → listing.tally.items ≡ 0 → KeepsRecords listing []
 unfolding notes_of_records
-KeepsRecords-none listing keeps = keeps
+KeepsRecords-none listing keeps none = record { keeps = keeps; items_are = none }
 
-pub KeepsRecords-more : (old new : Listing) (records : List Record) (found : Record) → new.asked ≡ old.asked
+pub KeepsRecords-more : (old new : Listing) (records : List Record) (found : Record) → new.asked ≡ old.asked → new.tally.items ≡ u64_saturate (old.tally.items + 1)
     → ((all : List Note) → Keeps old all → Keeps new (all ++ record_notes old.asked.with_warnings found)) → KeepsRecords old records → KeepsRecords new (records ++ found ∷ [])
-KeepsRecords-more old new records found asked adds keeps =
+KeepsRecords-more old new records found asked counted adds before =
     let all = notes_of_records old.asked.with_warnings records in
-    subst (λ (a : Asked). Keeps new (notes_of_records a.with_warnings (records ++ found ∷ []))) (sym asked)
-    (subst (λ (ys : List Note). Keeps new ys) (sym (notes-more old.asked.with_warnings records found)) (adds all keeps))
+    record {
+      keeps = subst (λ (a : Asked). Keeps new (notes_of_records a.with_warnings (records ++ found ∷ []))) (sym asked)
+          (subst (λ (ys : List Note). Keeps new ys) (sym (notes-more old.asked.with_warnings records found)) (adds all before.keeps));
+      items_are = items-more old new records found counted before.items_are;
+    }
 
 -- ---- when the input has ended
 

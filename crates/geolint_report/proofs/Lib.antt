@@ -10,6 +10,8 @@ mod TextPlaces
 mod KeptExcerpts
 mod ReportedSites
 mod PlacesInOrder
+pub mod CodeSlots
+mod TalliedNotes
 mod KeptNotes
 mod KeptRecords
 mod CursorPlaces

@@ -22,10 +22,12 @@ use Rattle.geolint_report.specs.declared.every.listing.Asked.{Asked}
 use Rattle.geolint_report.specs.declared.every.listing.Item.{Item}
 use Rattle.geolint_report.specs.declared.every.listing.Listing.{Listing}
 use Rattle.geolint_report.specs.declared.every.listing.Note.{Note}
+use Rattle.geolint_report.specs.declared.every.tally.Tally.{Tally}
 use Rattle.geolint_report.specs.declared.judge.Finding.{Finding}
 use Rattle.geolint_report.specs.declared.report.Told.{Told}
 use Rattle.geolint_report.specs.declared.texts.Code.{Code}
 use Rattle.geolint_report.specs.Report.{warning_of}
+use Rattle.geolint_report.specs.Tallies.{Tallies}
 
 -- ---- the notes
 
@@ -85,13 +87,19 @@ notes_of_records with_warnings records = flat_map (record_notes with_warnings) r
 
 pub record Keeps (listing : Listing) (all : List Note) : Type 0 where
   pub count : listing.count ≡ u64_saturate (length all)
+  pub tally : Tallies listing.tally all
   pub notes : listing.has_failed ≡ false → listing.notes.items ≡ take listing.asked.room all
 
+-- and it counted so many features or records
+pub record KeepsOf (listing : Listing) (all : List Note) (items : ℕ) : Type 0 where
+  pub keeps : Keeps listing all
+  pub items_are : listing.tally.items ≡ u64_saturate items
+
 abbrev pub KeepsNotes : Listing → List Feature → Type 0
-KeepsNotes listing features = Keeps listing (notes_of listing.asked.with_warnings features)
+KeepsNotes listing features = KeepsOf listing (notes_of listing.asked.with_warnings features) (length features)
 
 abbrev pub KeepsRecords : Listing → List Record → Type 0
-KeepsRecords listing records = Keeps listing (notes_of_records listing.asked.with_warnings records)
+KeepsRecords listing records = KeepsOf listing (notes_of_records listing.asked.with_warnings records) (length records)
 
 -- it was told the features of each text that these bytes are
 abbrev pub Lists : Allowed → List ℕ → Listing → Type 0
@@ -116,32 +124,38 @@ abbrev pub ListsFor : Option Framing → Finding → Allowed → Option (List �
 ListsFor framing (Finding.Text (NotJson fault)) limits had listing = ⊤
 ListsFor framing finding limits had listing = ListsBy framing limits had listing
 
--- ---- what is told of a file: the first notes, and how many others there are
+-- ---- what is told of a file: the first notes, how many others there are, and what is counted
 
 pub record AreFirst (asked : Asked) (notes : List Note) (count : ℕ) (all : List Note) : Type 0 where
   pub first : notes ≡ take asked.room all
   pub count_is : count ≡ u64_saturate (length all)
 
-abbrev pub AreFirstNotes : Asked → List Note → ℕ → List Feature → Type 0
-AreFirstNotes asked notes count features = AreFirst asked notes count (notes_of asked.with_warnings features)
+-- of so many features or records, all of whose notes these are
+pub record AreNotesAll (asked : Asked) (notes : List Note) (count : ℕ) (tally : Tally) (all : List Note) (items : ℕ) : Type 0 where
+  pub are_first : AreFirst asked notes count all
+  pub tallied : Tallies tally all
+  pub items_are : tally.items ≡ u64_saturate items
+
+abbrev pub AreFirstNotes : Asked → List Note → ℕ → Tally → List Feature → Type 0
+AreFirstNotes asked notes count tally features = AreNotesAll asked notes count tally (notes_of asked.with_warnings features) (length features)
 
 -- on the features of a text
-abbrev pub AreNotesOf : Asked → List Note → ℕ → Allowed → List ℕ → Type 0
-AreNotesOf asked notes count limits bytes = (text : Text) → IsAdmitted limits text bytes → TellFindings (AreFirstNotes asked notes count) (feature_findings text)
+abbrev pub AreNotesOf : Asked → List Note → ℕ → Tally → Allowed → List ℕ → Type 0
+AreNotesOf asked notes count tally limits bytes = (text : Text) → IsAdmitted limits text bytes → TellFindings (AreFirstNotes asked notes count tally) (feature_findings text)
 
 -- on the records of these bytes
-abbrev pub AreNotesOfRecords : Framing → Asked → List Note → ℕ → Allowed → List ℕ → Type 0
-AreNotesOfRecords framing asked notes count limits bytes =
-    (found : List Record) × AreAllFindings framing limits bytes found × AreFirst asked notes count (notes_of_records asked.with_warnings found)
+abbrev pub AreNotesOfRecords : Framing → Asked → List Note → ℕ → Tally → Allowed → List ℕ → Type 0
+AreNotesOfRecords framing asked notes count tally limits bytes =
+    (found : List Record) × AreAllFindings framing limits bytes found × AreNotesAll asked notes count tally (notes_of_records asked.with_warnings found) (length found)
 
-abbrev pub AreNotesIn : Option Framing → Asked → List Note → ℕ → Allowed → List ℕ → Type 0
-AreNotesIn None asked notes count limits bytes = AreNotesOf asked notes count limits bytes
-AreNotesIn (Some framing) asked notes count limits bytes = AreNotesOfRecords framing asked notes count limits bytes
+abbrev pub AreNotesIn : Option Framing → Asked → List Note → ℕ → Tally → Allowed → List ℕ → Type 0
+AreNotesIn None asked notes count tally limits bytes = AreNotesOf asked notes count tally limits bytes
+AreNotesIn (Some framing) asked notes count tally limits bytes = AreNotesOfRecords framing asked notes count tally limits bytes
 
 -- the same, where the reader told its bytes
-abbrev pub AreNotesBy : Option Framing → Asked → List Note → ℕ → Allowed → Option (List ℕ) → Type 0
-AreNotesBy framing asked notes count limits None = ⊤
-AreNotesBy framing asked notes count limits (Some bytes) = AreNotesIn framing asked notes count limits bytes
+abbrev pub AreNotesBy : Option Framing → Asked → List Note → ℕ → Tally → Allowed → Option (List ℕ) → Type 0
+AreNotesBy framing asked notes count tally limits None = ⊤
+AreNotesBy framing asked notes count tally limits (Some bytes) = AreNotesIn framing asked notes count tally limits bytes
 
 -- ---- reads from a place
 

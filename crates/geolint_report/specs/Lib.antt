@@ -1,5 +1,6 @@
 pub mod Line
 pub mod Texts
+pub mod Slots
 pub mod Judged
 pub mod ReadingLoop
 pub mod Fed
@@ -9,6 +10,7 @@ pub mod Found
 pub mod Report
 pub mod Sought
 pub mod Items
+pub mod Tallies
 pub mod Every
 pub mod Marks
 pub mod Cursors

@@ -5,4 +5,5 @@ pub mod id;
 pub mod listing;
 pub mod reading;
 pub mod records;
+pub mod tally;
 pub mod text_path;

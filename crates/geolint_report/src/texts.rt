@@ -4,7 +4,7 @@ ghost use Rattle.gj_coords.specs.Internal.KeptWarnings.{first_in};
 ghost use Rattle.geolint_report.specs.Texts.{cause_number};
 
 use crate::line::{put, put_all};
-use gj_coords::{Kind, Rule, Warnings};
+use gj_coords::{KINDS, Kind, Rule, Warnings};
 use gj_json::Cause;
 use itoa::Buffer;
 use std::alloc::AllocError;
@@ -37,6 +37,9 @@ pub const RULES: [Rule; 21] = [
 /// The causes in the order of their numbers.
 pub const CAUSES: [Cause; 4] = [Cause::Syntax, Cause::Truncated, Cause::Depth, Cause::Length];
 
+/// How many rules, kinds of warning and causes there are.
+pub const CODES: usize = RULES.len() + KINDS.len() + CAUSES.len();
+
 /// The code and the text of what is told of a file.
 #[derive(Clone, Copy, PartialEq, Eq)]
 pub enum Code {
@@ -50,6 +53,7 @@ pub enum Code {
 impl Code {
     ghost use Rattle.std.specs.Prelude.{◌≡◌, OnOk};
     ghost use Rattle.geolint_report.specs.Line.{Adds};
+    ghost use Rattle.geolint_report.specs.Slots.{slot_of};
     ghost use Rattle.geolint_report.specs.Texts.{code_letter, code_number, code_text, code_name};
 
     fn letter(self) -> &'static [u8]
@@ -71,6 +75,19 @@ impl Code {
             Code::Kind(kind) => kind.number(),
             Code::Cause(cause) => cause_number(cause),
             Code::NotValid => 0,
+        }
+    }
+
+    /// Where its count lies among those of all codes.
+    pub fn slot(self) -> usize
+        ensures { result ≡ slot_of self }
+    {
+        let number = (self.number() as usize).saturating_sub(1);
+        match self {
+            Code::Rule(_) => number,
+            Code::Kind(_) => number + RULES.len(),
+            Code::Cause(_) => number + RULES.len() + KINDS.len(),
+            Code::NotValid => usize::MAX,
         }
     }
 

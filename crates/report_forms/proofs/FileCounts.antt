@@ -25,95 +25,12 @@ use Rattle.geolint_report.specs.Finding.{fault_of, warnings_of}
 use Rattle.geolint_report.specs.declared.texts.Code.{Code}
 use Rattle.geolint_report.specs.Texts.{is_cause, cause_number, code_number}
 use Rattle.report_forms.specs.declared.summary.Summary.{Summary}
-use Rattle.report_forms.specs.Counts.{same, is_valid, is_warned, is_broken, is_refused, is_not_valid, warns, tells}
-use Rattle.report_forms.specs.declared.summary.TheConstants.{CODES}
-use Rattle.report_forms.specs.FileCounts.{slot_of, Counts}
-use Rattle.report_forms.specs.Internal.AddedFiles.{more, Adds}
-
-rule-range : (rule : Rule) → (1 ≤ number_of rule) × (number_of rule ≤ 21)
-rule-range G1 = (omega arith, omega arith)
-rule-range G2 = (omega arith, omega arith)
-rule-range G3 = (omega arith, omega arith)
-rule-range G4 = (omega arith, omega arith)
-rule-range G5 = (omega arith, omega arith)
-rule-range G6 = (omega arith, omega arith)
-rule-range G7 = (omega arith, omega arith)
-rule-range G8 = (omega arith, omega arith)
-rule-range G9 = (omega arith, omega arith)
-rule-range G10 = (omega arith, omega arith)
-rule-range G11 = (omega arith, omega arith)
-rule-range G12 = (omega arith, omega arith)
-rule-range G13 = (omega arith, omega arith)
-rule-range G14 = (omega arith, omega arith)
-rule-range G15 = (omega arith, omega arith)
-rule-range G16 = (omega arith, omega arith)
-rule-range G17 = (omega arith, omega arith)
-rule-range G18 = (omega arith, omega arith)
-rule-range G19 = (omega arith, omega arith)
-rule-range G20 = (omega arith, omega arith)
-rule-range G21 = (omega arith, omega arith)
-
-cause-range : (cause : Cause) → (1 ≤ cause_number cause) × (cause_number cause ≤ 4)
-cause-range Syntax = (omega arith, omega arith)
-cause-range Truncated = (omega arith, omega arith)
-cause-range Depth = (omega arith, omega arith)
-cause-range Length = (omega arith, omega arith)
-
--- each rule, kind and cause has a count
-pub rule-slot : (rule : Rule) → slot_of (Code.Rule rule) < CODES
-rule-slot rule = let w = rule-range rule in omega (arith, w.0, w.1)
-
-pub kind-slot : (kind : Kind) → slot_of (Code.Kind kind) < CODES
-kind-slot kind = let w = kind_range kind in omega (arith, w.0, w.1)
-
-pub cause-slot : (cause : Cause) → slot_of (Code.Cause cause) < CODES
-cause-slot cause = let w = cause-range cause in omega (arith, w.0, w.1)
-
-below : (m n : ℕ) → m ≤ n → nat_le m n ≡ true
-below m n less = grind (arith, nat_tests, less)
-
-above : (m n : ℕ) → n < m → nat_le m n ≡ false
-above m n more = grind (arith, nat_tests, more)
-
-lessened : (m n : ℕ) → 1 ≤ m → 1 ≤ n → nat_eq m n ≡ nat_eq (m - 1) (n - 1)
-lessened m n positive also = grind (arith, nat_tests, positive, also)
-
-shifted : (m n k : ℕ) → nat_eq m n ≡ nat_eq (m + k) (n + k)
-shifted m n k = grind (arith, nat_tests)
-
-differ : (m n : ℕ) → m < n → false ≡ nat_eq m n
-differ m n less = grind (arith, nat_tests, less)
-
-differ-back : (m n : ℕ) → n < m → false ≡ nat_eq m n
-differ-back m n less = grind (arith, nat_tests, less)
-
--- codes that have a count are the same where their counts lie together
-pub same-slot : (a b : Code) → slot_of a < CODES → same a b ≡ nat_eq (slot_of a) (slot_of b)
-same-slot (Code.Rule r) (Code.Rule q) small = lessened (number_of r) (number_of q) (rule-range r).0 (rule-range q).0
-same-slot (Code.Rule r) (Code.Kind k) small = let w = rule-range r in differ _ _ (omega (arith, w.0, w.1))
-same-slot (Code.Rule r) (Code.Cause k) small = let w = rule-range r in differ _ _ (omega (arith, w.0, w.1))
-same-slot (Code.Rule r) Code.NotValid small = differ _ _ (omega (arith, small))
-same-slot (Code.Kind k) (Code.Rule r) small = let w = rule-range r in differ-back _ _ (omega (arith, w.0, w.1))
-same-slot (Code.Kind k) (Code.Kind j) small = lessened (kind_number k) (kind_number j) (kind_range k).0 (kind_range j).0 ∙ shifted (kind_number k - 1) (kind_number j - 1) 21
-same-slot (Code.Kind k) (Code.Cause c) small = let w = kind_range k in differ _ _ (omega (arith, w.0, w.1))
-same-slot (Code.Kind k) Code.NotValid small = differ _ _ (omega (arith, small))
-same-slot (Code.Cause c) (Code.Rule r) small = let w = rule-range r in differ-back _ _ (omega (arith, w.0, w.1))
-same-slot (Code.Cause c) (Code.Kind k) small = let w = kind_range k in differ-back _ _ (omega (arith, w.0, w.1))
-same-slot (Code.Cause c) (Code.Cause d) small = lessened (cause_number c) (cause_number d) (cause-range c).0 (cause-range d).0 ∙ shifted (cause_number c - 1) (cause_number d - 1) (21 + length kinds)
-same-slot (Code.Cause c) Code.NotValid small = differ _ _ (omega (arith, small))
-same-slot Code.NotValid b small = absurd (omega (arith, small))
-
-pub same-none : (a b : Code) → slot_of a < CODES → CODES ≤ slot_of b → same a b ≡ false
-same-none a b small none = same-slot a b small ∙ sym (differ (slot_of a) (slot_of b) (omega (arith, small, none)))
-
--- one more at the place of a code
-pub counted-at : (counts : List ℕ) (a b : Code) (v : ℕ) → slot_of a < CODES → slot_of b < length counts → v ≡ more true (get_or counts (slot_of b) 0)
-    → get_or (set counts (slot_of b) v) (slot_of a) 0 ≡ more (same a b) (get_or counts (slot_of a) 0)
-counted-at counts a b v small within is = elim (eqb_tells (slot_of a) (slot_of b)) [
-  | inl e ↦ (ap (λ (n : ℕ). get_or (set counts (slot_of b) v) n 0) e.1 ∙ (get_or-set_same counts (slot_of b) v 0 within ∙ (is ∙ ap (λ (n : ℕ). more true (get_or counts n 0)) (sym e.1)))
-      ∙ ap (λ (t : Bool). more t (get_or counts (slot_of a) 0)) (sym (same-slot a b small ∙ e.0)))
-  | inr e ↦ (get_or-set_other counts (slot_of b) (slot_of a) v 0 e.1 ∙ ap (λ (t : Bool). more t (get_or counts (slot_of a) 0)) (sym (same-slot a b small ∙ e.0)))
-]
+use Rattle.report_forms.specs.Counts.{is_valid, is_warned, is_broken, is_refused, is_not_valid, warns, tells}
+use Rattle.geolint_report.specs.declared.texts.TheConstants.{CODES}
+use Rattle.geolint_report.specs.Slots.{same, slot_of, more}
+use Rattle.geolint_report.proofs.CodeSlots.{below, above, more-counted}
+use Rattle.report_forms.specs.FileCounts.{Counts}
+use Rattle.report_forms.specs.Internal.AddedFiles.{Adds}
 
 -- ---- the kinds of warning in turn
 
@@ -218,16 +135,6 @@ no-cause (Code.Cause cause) none = absurd (none cause refl)
 no-cause Code.NotValid none = refl
 
 -- ---- one file more
-
-more-saturates : (b : Bool) (n : ℕ) → more b (u64_saturate n) ≡ u64_saturate (n + cond b 1 0)
-more-saturates true n = omega arith
-more-saturates false n = omega arith
-
-pub more-counted : {X : Type 0} (test : X → Bool) (xs : List X) (x : X) (b : Bool) (old new : ℕ) → test x ≡ b → old ≡ u64_saturate (count_by test xs) → new ≡ more b old
-    → new ≡ u64_saturate (count_by test (xs ++ x ∷ []))
-more-counted test xs x b old new is counted here =
-    here ∙ (ap (λ (n : ℕ). more b n) counted ∙ (more-saturates b (count_by test xs)
-    ∙ ap u64_saturate (ap (λ (t : Bool). count_by test xs + cond t 1 0) (sym is) ∙ sym (sum_by_push (λ (y : _). cond (test y) 1 0) xs x))))
 
 pub Counts-more : (old new : Summary) (files : List (Option Finding)) (file : Option Finding) (valid warned broken refused not_valid : Bool) (told : Code → Bool)
     → Counts old files → Adds old new valid warned broken refused not_valid told → is_none file ≡ false

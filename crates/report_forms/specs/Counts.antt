@@ -1,14 +1,13 @@
 -- What the counts of a summary count: the files of a list that are of a kind, and those of which a code is told.
-use Rattle.std.specs.Prelude.{Bool, false, not, ◌&&◌, ◌||◌, Option, Some, None, is_some, is_none, nat_eq}
-use Rattle.gj_coords.specs.Fault.{number_of}
+use Rattle.std.specs.Prelude.{Bool, false, not, ◌&&◌, ◌||◌, Option, Some, None, is_some, is_none}
 use Rattle.gj_coords.specs.Internal.KeptWarnings.{first_in, none_in}
-use Rattle.gj_coords.specs.Warnings.{kind_number}
 use Rattle.gj_coords.specs.declared.warnings.Warnings.{Warnings}
 use Rattle.geolint_report.specs.declared.judge.Finding.{Finding}
 use Rattle.geolint_report.specs.declared.report.Told.{Told}
 use Rattle.geolint_report.specs.declared.texts.Code.{Code}
 use Rattle.geolint_report.specs.Finding.{fault_of, warnings_of}
-use Rattle.geolint_report.specs.Texts.{is_cause, cause_number}
+use Rattle.geolint_report.specs.Slots.{same}
+use Rattle.geolint_report.specs.Texts.{is_cause}
 
 -- ---- a file is what it was found to be, or none where it was not read
 
@@ -44,12 +43,6 @@ is_not_valid (Some finding) = is_none (fault_of finding) && is_none (warnings_of
 is_not_valid None = false
 
 -- ---- a code is told of a file
-
-abbrev pub same : Code → Code → Bool
-same (Code.Rule first) (Code.Rule second) = nat_eq (number_of first) (number_of second)
-same (Code.Kind first) (Code.Kind second) = nat_eq (kind_number first) (kind_number second)
-same (Code.Cause first) (Code.Cause second) = nat_eq (cause_number first) (cause_number second)
-same first second = false
 
 abbrev pub warns : Code → Warnings → Bool
 warns (Code.Kind kind) warnings = is_some (first_in kind warnings)

@@ -2,6 +2,8 @@ pub mod Names
 pub mod Passing
 pub mod Counts
 pub mod FileCounts
+pub mod CodeLines
 pub mod Summary
+pub mod Items
 pub mod Forms
 pub mod Internal

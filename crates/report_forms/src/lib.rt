@@ -2,10 +2,13 @@
 //!
 //! Each form appends what it says of a file to the bytes of a line. What these bytes are, the definitions of `specs/Forms/`
 //! say: `put_report` of each form in [`formats`] adds the report of a file, `put_entry` of each in [`every`] the line on a
-//! feature, and [`Summary`](summary::Summary) counts files as `specs/Counts.antt` says.
+//! feature, [`Summary`](summary::Summary) counts files as `specs/Counts.antt` says, and
+//! [`put_items`](items::put_items) adds what is counted of their features and records.
 #![tactic(auto)]
 
+mod code_lines;
 pub mod every;
 pub mod formats;
+pub mod items;
 pub mod options;
 pub mod summary;

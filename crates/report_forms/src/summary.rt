@@ -1,19 +1,15 @@
 //! How many files are what.
-ghost use Rattle.std.specs.Prelude.{◌≡◌, OnOk};
+ghost use Rattle.std.specs.Prelude.{OnOk};
 ghost use Rattle.geolint_report.specs.Line.{Adds as Appends};
-ghost use Rattle.report_forms.specs.declared.summary.TheConstants.{CODES};
-ghost use Rattle.report_forms.specs.FileCounts.{slot_of};
-ghost use Rattle.report_forms.specs.Summary.{and_not_valid, spaces_before, in_eight_places, count_line, count_line_if};
+ghost use Rattle.report_forms.specs.Summary.{and_not_valid};
 
+use crate::code_lines::put_codes;
 use geolint_report::judge::Finding;
 use geolint_report::line::{put, put_all, put_number};
-use geolint_report::texts::{CAUSES, Code, RULES, has};
+use geolint_report::texts::{CODES, Code, has};
 use gj_coords::{KINDS, Warnings};
 use itoa::Buffer;
 use std::alloc::AllocError;
-
-/// How many codes are counted.
-const CODES: usize = RULES.len() + KINDS.len() + CAUSES.len();
 
 /// The counts of a run.
 #[derive(Drop)]
@@ -29,16 +25,15 @@ pub struct Summary {
 }
 
 impl Summary {
-    ghost use Rattle.std.specs.Prelude.{◌≡◌, ◌<◌, ◌++◌, ◌∷◌, [], List, Option, Some, None, true, false, not};
-    ghost use Rattle.std.specs.List.{count_by};
-    ghost use Rattle.std.specs.Io.Iter.{u64_saturate};
+    ghost use Rattle.std.specs.Prelude.{◌≡◌, ◌++◌, ◌∷◌, [], List, Option, Some, None, true, false, not};
     ghost use Rattle.gj_coords.specs.Internal.KeptWarnings.{none_in};
     ghost use Rattle.geolint_report.specs.declared.judge.Finding.{Finding};
+    ghost use Rattle.geolint_report.specs.Slots.{same};
     ghost use Rattle.geolint_report.specs.Texts.{is_cause};
-    ghost use Rattle.report_forms.specs.Counts.{same, warns, tells};
-    ghost use Rattle.report_forms.specs.FileCounts.{Counts, slot_of};
+    ghost use Rattle.report_forms.specs.Counts.{warns};
+    ghost use Rattle.report_forms.specs.FileCounts.{Counts};
     ghost use Rattle.report_forms.specs.Internal.AddedFiles.{Adds};
-    ghost use Rattle.report_forms.specs.Summary.{files_line, code_line, rule_lines, kind_lines, cause_lines, summary_of};
+    ghost use Rattle.report_forms.specs.Summary.{files_line, summary_of};
 
     pub fn new() -> Summary
         ensures { Counts result [] }
@@ -115,18 +110,10 @@ impl Summary {
     fn count(&mut self, code: Code)
         ensures { Adds self.old self.new false false false false false (λ other. same other code) }
     {
-        let slot = slot(code);
+        let slot = code.slot();
         if slot < CODES {
             self.counts[slot] = self.counts[slot].saturating_add(1);
         }
-    }
-
-    /// Of how many files this is told.
-    fn of(&self, code: Code) -> u64
-        ensures { slot_of code < CODES → (files : List (Option Finding)) → Counts self.now files → result ≡ u64_saturate (count_by (tells code) files) }
-    {
-        let slot = slot(code);
-        if slot < CODES { self.counts[slot] } else { 0 }
     }
 
     /// Puts the counts, and how many files each rule is told of.
@@ -134,9 +121,7 @@ impl Summary {
         ensures { (files : List (Option Finding)) → Counts self.now files → OnOk result (Appends line.old line.new (summary_of files)) }
     {
         self.put_files(line)?;
-        self.put_rules(line)?;
-        self.put_kinds(line)?;
-        self.put_causes(line)
+        put_codes(&self.counts, line)
     }
 
     fn put_files(&self, line: &mut Vec<u8>) -> Result<(), AllocError>
@@ -155,39 +140,6 @@ impl Summary {
         put_and_not_valid(self.not_valid, line)?;
         put(line, b"\n")
     }
-
-    fn put_rules(&self, line: &mut Vec<u8>) -> Result<(), AllocError>
-        ensures { (files : List (Option Finding)) → Counts self.now files → OnOk result (Appends line.old line.new (rule_lines files)) }
-    {
-        for rule in &RULES {
-            self.put_count(Code::Rule(*rule), line)?;
-        }
-        Ok(())
-    }
-
-    fn put_kinds(&self, line: &mut Vec<u8>) -> Result<(), AllocError>
-        ensures { (files : List (Option Finding)) → Counts self.now files → OnOk result (Appends line.old line.new (kind_lines files)) }
-    {
-        for kind in &KINDS {
-            self.put_count(Code::Kind(*kind), line)?;
-        }
-        Ok(())
-    }
-
-    fn put_causes(&self, line: &mut Vec<u8>) -> Result<(), AllocError>
-        ensures { (files : List (Option Finding)) → Counts self.now files → OnOk result (Appends line.old line.new (cause_lines files)) }
-    {
-        for cause in &CAUSES {
-            self.put_count(Code::Cause(*cause), line)?;
-        }
-        Ok(())
-    }
-
-    fn put_count(&self, code: Code, line: &mut Vec<u8>) -> Result<(), AllocError>
-        ensures { slot_of code < CODES → (files : List (Option Finding)) → Counts self.now files → OnOk result (Appends line.old line.new (code_line files code)) }
-    {
-        put_count_if(code, self.of(code), line)
-    }
 }
 
 fn put_and_not_valid(count: u64, line: &mut Vec<u8>) -> Result<(), AllocError>
@@ -201,57 +153,5 @@ fn put_and_not_valid(count: u64, line: &mut Vec<u8>) -> Result<(), AllocError>
         )
     } else {
         Ok(())
-    }
-}
-
-/// The line of a code, where it is told of a file.
-fn put_count_if(code: Code, count: u64, line: &mut Vec<u8>) -> Result<(), AllocError>
-    ensures { OnOk result (Appends line.old line.new (count_line_if code count)) }
-{
-    if count == 0 {
-        Ok(())
-    } else {
-        put_count_line(code, count, line)
-    }
-}
-
-fn put_count_line(code: Code, count: u64, line: &mut Vec<u8>) -> Result<(), AllocError>
-    ensures { OnOk result (Appends line.old line.new (count_line code count)) }
-{
-    put_in_eight_places(count, line)?;
-    put(line, b" ")?;
-    code.put_name(line)?;
-    put(line, b": ")?;
-    code.put_text(line)?;
-    put(line, b"\n")
-}
-
-#[tactic(auto, unfolding(crate::specs::Summary::in_eight_places))]
-fn put_in_eight_places(number: u64, line: &mut Vec<u8>) -> Result<(), AllocError>
-    ensures { OnOk result (Appends line.old line.new (in_eight_places number)) }
-{
-    let mut room = Buffer::new();
-    let digits = room.format(number).as_bytes();
-    put_all(line, &[spaces_before(digits.len()), digits])
-}
-
-/// The spaces before so many digits, for eight places.
-fn spaces_before(digits: usize) -> &'static [u8]
-    ensures { result.now ≡ spaces_before digits }
-{
-    let spaces: &[u8] = b"        ";
-    &spaces[..8usize.saturating_sub(digits)]
-}
-
-/// Where the count of a code lies.
-fn slot(code: Code) -> usize
-    ensures { result ≡ slot_of code }
-{
-    let number = (code.number() as usize).saturating_sub(1);
-    match code {
-        Code::Rule(_) => number,
-        Code::Kind(_) => number + RULES.len(),
-        Code::Cause(_) => number + RULES.len() + KINDS.len(),
-        Code::NotValid => usize::MAX,
     }
 }

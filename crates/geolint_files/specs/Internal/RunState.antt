@@ -1,13 +1,15 @@
 -- Which files a run has told.
 use Rattle.std.specs.Prelude.{◌≡◌, ℕ, true, List, [], ◌∷◌, ◌++◌, map, Option}
 use Rattle.std.specs.Io.KnownBytes.{Appends, Keeps}
+use Rattle.geolint_report.specs.declared.every.tally.Tally.{Tally}
 use Rattle.geolint_report.specs.declared.report.Report.{Report}
+use Rattle.geolint_report.specs.Tallies.{IsTotal}
 use Rattle.report_forms.specs.declared.formats.lines.Style.{Style}
 use Rattle.report_forms.specs.declared.options.Options.{Options}
 use Rattle.report_forms.specs.FileCounts.{Counts}
 use Rattle.geolint_files.specs.declared.run.Run.{Run}
 use Rattle.geolint_files.specs.Outcome.{worst}
-use Rattle.geolint_files.specs.Run.{ToldFile, listed, FeatureLine, finding_in, worst_of, Written, AddsFiles, begun}
+use Rattle.geolint_files.specs.Run.{ToldFile, listed, FeatureLine, finding_in, tallies_in, worst_of, Written, AddsFiles, begun}
 
 -- `held` is what the writer had before the run, and `contents` what a writer has
 pub record HasTold {W : Type 0} (contents : W → Option (List ℕ)) (held : Option (List ℕ)) (options : Options) (style : Style) (files : List ToldFile) (run : Run W) : Type 0 where
@@ -15,6 +17,7 @@ pub record HasTold {W : Type 0} (contents : W → Option (List ℕ)) (held : Opt
   pub style_is : run.style ≡ style
   pub outcome : run.outcome ≡ worst_of options files
   pub summary : Counts run.summary (map finding_in files)
+  pub tally : IsTotal run.tally (tallies_in files)
   pub written : Written
   pub files_told : AddsFiles options style files (begun options.format) written
   pub out : Appends held (contents run.out) written.bytes
@@ -26,6 +29,7 @@ pub record HasTold {W : Type 0} (contents : W → Option (List ℕ)) (held : Opt
 pub record IsFresh {W : Type 0} (contents : W → Option (List ℕ)) (held : Option (List ℕ)) (run : Run W) : Type 0 where
   pub outcome : run.outcome ≡ worst []
   pub summary : Counts run.summary []
+  pub tally : IsTotal run.tally []
   pub out : Keeps held (contents run.out)
   pub first : run.log.is_first ≡ true
   pub unread : run.log.unread.items ≡ []
@@ -39,7 +43,8 @@ pub record TellsFile {W : Type 0} (contents : W → Option (List ℕ)) (file : T
 -- a call told more lines of the features of the last file
 pub record TellsLines {W : Type 0} (contents : W → Option (List ℕ)) (lines : List FeatureLine) (old new : Run W) : Type 0 where
   pub tells : (held : Option (List ℕ)) (options : Options) (style : Style) (files : List ToldFile) (report : Report) (before : List FeatureLine)
-      → HasTold contents held options style (files ++ listed report before ∷ []) old → HasTold contents held options style (files ++ listed report (before ++ lines) ∷ []) new
+      (tally : Tally) → HasTold contents held options style (files ++ listed report before tally ∷ []) old
+      → HasTold contents held options style (files ++ listed report (before ++ lines) tally ∷ []) new
 
 -- it told some more, or none
 pub record TellsFiles {W : Type 0} (contents : W → Option (List ℕ)) (old new : Run W) : Type 0 where
@@ -52,6 +57,7 @@ pub record SameTold {W : Type 0} (old new : Run W) : Type 0 where
   pub style : new.style ≡ old.style
   pub outcome : new.outcome ≡ old.outcome
   pub summary : new.summary ≡ old.summary
+  pub tally : new.tally ≡ old.tally
 
 -- it changed nothing of that
 pub record Unchanged {W : Type 0} (old new : Run W) : Type 0 where

@@ -118,9 +118,10 @@ impl<'a, W: Write + Drop> Run<'a, W> {
               passes = passes self.old.options.strict self.old.options.allowed finding;
               found = None;
               hint = None;
-            }) lines) self.old self.new) }
+            }) lines notes.now.tally) self.old self.new) }
     {
         self.tell(name, finding, None)?;
+        self.tally.add(&notes.tally);
         self.tell_unplaced(name, notes)
     }
 
@@ -176,9 +177,10 @@ impl<'a, W: Write + Drop> Run<'a, W> {
         ensures { (self.old.options.every ≡ Every.Nothing → ⊥) → OnOk result ((report : Report) × (report.name.now ≡ name.now) × (report.finding ≡ finding)
             × ((middle : ℕ) × HasSites reading self.old.options.limits (S.text source.old) (S.failed_reads source.old) middle report)
             × ((lines : List FeatureLine) × AreLinesOf (IsPlaced (framing_in reading) (S.text source.old)) name.now notes.now.notes.items notes.now.count lines
-            × TellsFile W.contents (listed report lines) self.old self.new)) }
+            × TellsFile W.contents (listed report lines notes.now.tally) self.old self.new)) }
     {
         self.tell_found(name, finding, source, reading)?;
+        self.tally.add(&notes.tally);
         self.tell_placed(name, source, reading.framing(), notes)
     }
 

@@ -4,6 +4,7 @@ ghost use Rattle.gj_json.specs.Limits.{Allowed};
 ghost use Rattle.gj_rules.specs.declared.records.framing.Framing.{Framing};
 ghost use Rattle.geolint_report.specs.Every.{ListsFor, AreNotesBy, item_of};
 
+use crate::every::tally::Tally;
 use crate::judge::Finding;
 use crate::report::{Told, warning};
 use crate::texts::Code;
@@ -75,15 +76,18 @@ pub struct Listing {
     notes: Vec<Note>,
     /// How many notes there were, with those that are not kept.
     count: u64,
+    /// Of all features or records, and of all notes.
+    tally: Tally,
     /// The memory did not suffice for one.
     has_failed: bool,
 }
 
-/// The notes of a file that were asked for, and how many it has.
+/// The notes of a file that were asked for, how many it has, and what is counted of its features or records.
 #[derive(Drop)]
 pub struct Notes {
     pub notes: Vec<Note>,
     pub count: u64,
+    pub tally: Tally,
 }
 
 /// The notes of a file that were asked for: none of what is no JSON text.
@@ -93,7 +97,7 @@ pub fn notes_for(
     asked: Asked,
 ) -> Result<Option<Notes>, AllocError>
     ensures { IfOk result (λ found. IfSome found (λ notes. (framing : Option Framing) (limits : Allowed) (had : Option (List ℕ)) → ListsFor framing finding limits had listing
-        → AreNotesBy framing asked notes.notes.items notes.count limits had)) }
+        → AreNotesBy framing asked notes.notes.items notes.count notes.tally limits had)) }
 {
     match finding {
         Finding::Text(Verdict::NotJson(_)) => Ok(None),
@@ -105,19 +109,21 @@ pub fn notes_for(
 }
 
 impl Listing {
-    ghost use Rattle.std.specs.Prelude.{◌≡◌, ◌++◌, ◌∷◌, [], List, IfOk, length, take, true, false};
+    ghost use Rattle.std.specs.Prelude.{◌≡◌, ◌+◌, ◌++◌, ◌∷◌, [], List, IfOk, take, true, false};
     ghost use Rattle.std.specs.Io.Iter.{u64_saturate};
     ghost use Rattle.geolint_report.specs.declared.every.listing.Note.{Note};
-    ghost use Rattle.geolint_report.specs.Every.{Keeps, note_of, fault_note, refusal_note, warning_notes, kind_notes, record_notes};
+    ghost use Rattle.geolint_report.specs.Every.{Keeps, AreFirst, note_of, fault_note, refusal_note, warning_notes, kind_notes, record_notes};
 
     pub fn new(alloc: Global, asked: Asked) -> Listing
         ensures asked { result.asked ≡ asked }
         ensures keeps { Keeps result [] }
+        ensures items { result.tally.items ≡ 0 }
     {
         Listing {
             asked,
             notes: Vec::new(alloc),
             count: 0,
+            tally: Tally::none(),
             has_failed: false,
         }
     }
@@ -125,7 +131,8 @@ impl Listing {
     /// The notes, where they are those that were asked for and all of these could be kept.
     pub fn into_notes(self, asked: Asked) -> Result<Notes, AllocError>
         ensures asked { IfOk result (λ notes. self.asked ≡ asked) }
-        ensures notes { IfOk result (λ notes. (all : List Note) → Keeps self all → (notes.notes.items ≡ take self.asked.room all) × (notes.count ≡ u64_saturate (length all))) }
+        ensures notes { IfOk result (λ notes. (all : List Note) → Keeps self all → AreFirst self.asked notes.notes.items notes.count all) }
+        ensures tally { IfOk result (λ notes. notes.tally ≡ self.tally) }
     {
         if self.has_failed || self.asked != asked {
             return Err(AllocError);
@@ -133,15 +140,27 @@ impl Listing {
         Ok(Notes {
             notes: self.notes,
             count: self.count,
+            tally: self.tally,
         })
+    }
+
+    /// Counts a feature or a record, of which something is noted or nothing.
+    fn add_item(&mut self)
+        ensures keeps { (all : List Note) → Keeps self.old all → Keeps self.new all }
+        ensures asked { self.new.asked ≡ self.old.asked }
+        ensures items { self.new.tally.items ≡ u64_saturate (self.old.tally.items + 1) }
+    {
+        self.tally.add_item();
     }
 
     fn add(&mut self, note: Note)
         ensures keeps { (all : List Note) → Keeps self.old all → Keeps self.new (all ++ note ∷ []) }
         ensures asked { self.new.asked ≡ self.old.asked }
+        ensures items { self.new.tally.items ≡ self.old.tally.items }
     {
         self.keep_within(note);
         self.count = self.count.saturating_add(1);
+        self.tally.add_note(note);
     }
 
     /// Keeps a note, where there is room.
@@ -149,6 +168,7 @@ impl Listing {
         ensures kept { (all : List Note) → (self.old.has_failed ≡ false → self.old.notes.items ≡ take self.old.asked.room all)
             → self.new.has_failed ≡ false → self.new.notes.items ≡ take self.old.asked.room (all ++ note ∷ []) }
         ensures asked { self.new.asked ≡ self.old.asked }
+        ensures tally { self.new.tally ≡ self.old.tally }
         ensures count { self.new.count ≡ self.old.count }
     {
         if (self.notes.len() as u64) < self.asked.room {
@@ -159,6 +179,7 @@ impl Listing {
     fn keep(&mut self, note: Note)
         ensures kept { self.new.has_failed ≡ false → (self.old.has_failed ≡ false) × (self.new.notes.items ≡ self.old.notes.items ++ note ∷ []) }
         ensures asked { self.new.asked ≡ self.old.asked }
+        ensures tally { self.new.tally ≡ self.old.tally }
         ensures count { self.new.count ≡ self.old.count }
     {
         if self.notes.push(note).is_err() {
@@ -169,6 +190,7 @@ impl Listing {
     fn add_told(&mut self, item: Item, told: Told)
         ensures keeps { (all : List Note) → Keeps self.old all → Keeps self.new (all ++ note_of item told ∷ []) }
         ensures asked { self.new.asked ≡ self.old.asked }
+        ensures items { self.new.tally.items ≡ self.old.tally.items }
     {
         self.add(Note { item, told });
     }
@@ -176,6 +198,7 @@ impl Listing {
     fn add_fault(&mut self, item: Item, fault: Fault)
         ensures keeps { (all : List Note) → Keeps self.old all → Keeps self.new (all ++ fault_note item fault ∷ []) }
         ensures asked { self.new.asked ≡ self.old.asked }
+        ensures items { self.new.tally.items ≡ self.old.tally.items }
     {
         self.add_told(
             item,
@@ -189,6 +212,7 @@ impl Listing {
     fn add_refusal(&mut self, item: Item, fault: JsonFault)
         ensures keeps { (all : List Note) → Keeps self.old all → Keeps self.new (all ++ refusal_note item fault ∷ []) }
         ensures asked { self.new.asked ≡ self.old.asked }
+        ensures items { self.new.tally.items ≡ self.old.tally.items }
     {
         self.add_told(
             item,
@@ -202,6 +226,7 @@ impl Listing {
     fn add_warnings(&mut self, item: Item, warnings: &Warnings)
         ensures keeps { (all : List Note) → Keeps self.old all → Keeps self.new (all ++ warning_notes self.old.asked.with_warnings item warnings.now) }
         ensures asked { self.new.asked ≡ self.old.asked }
+        ensures items { self.new.tally.items ≡ self.old.tally.items }
     {
         if self.asked.with_warnings {
             self.add_kinds(item, warnings);
@@ -211,6 +236,7 @@ impl Listing {
     fn add_kinds(&mut self, item: Item, warnings: &Warnings)
         ensures keeps { (all : List Note) → Keeps self.old all → Keeps self.new (all ++ warning_notes true item warnings.now) }
         ensures asked { self.new.asked ≡ self.old.asked }
+        ensures items { self.new.tally.items ≡ self.old.tally.items }
     {
         for kind in &KINDS {
             self.add_kind(item, warnings, *kind);
@@ -220,6 +246,7 @@ impl Listing {
     fn add_kind(&mut self, item: Item, warnings: &Warnings, kind: Kind)
         ensures keeps { (all : List Note) → Keeps self.old all → Keeps self.new (all ++ kind_notes item warnings.now kind) }
         ensures asked { self.new.asked ≡ self.old.asked }
+        ensures items { self.new.tally.items ≡ self.old.tally.items }
     {
         if let Some((told, _)) = warning(kind, warnings) {
             self.add_told(item, told);
@@ -230,6 +257,7 @@ impl Listing {
     fn add_record(&mut self, found: &Record)
         ensures keeps { (all : List Note) → Keeps self.old all → Keeps self.new (all ++ record_notes self.old.asked.with_warnings found.now) }
         ensures asked { self.new.asked ≡ self.old.asked }
+        ensures items { self.new.tally.items ≡ self.old.tally.items }
     {
         let item = Item::Record(found.number);
         match found.verdict {
@@ -255,6 +283,7 @@ impl FeatureSink for Listing {
     ghost told = { λ listing features. KeepsNotes listing features };
 
     fn tell_feature(&mut self, feature: &Feature) {
+        self.add_item();
         let item = item_of(feature);
         match feature.fault {
             Some(fault) => self.add_fault(item, fault),
@@ -264,7 +293,9 @@ impl FeatureSink for Listing {
 
     // Nothing is noted of it, as of most.
     #[inline(always)]
-    fn tell_clean(&mut self, _clean: &CleanFeature) {}
+    fn tell_clean(&mut self, _clean: &CleanFeature) {
+        self.add_item();
+    }
 }
 
 impl RecordSink for Listing {
@@ -273,6 +304,7 @@ impl RecordSink for Listing {
     ghost told = { λ listing records. KeepsRecords listing records };
 
     fn tell_record(&mut self, found: &Record) {
+        self.add_item();
         self.add_record(found);
     }
 }

@@ -23,7 +23,7 @@ use Rattle.report_forms.specs.declared.options.Kinds.{Kinds}
 use Rattle.report_forms.specs.Forms.Messages.{and_record, and_times, level_of, path_text}
 use Rattle.report_forms.specs.Names.{digit_in}
 use Rattle.report_forms.specs.Passing.{fails}
-use Rattle.report_forms.specs.Summary.{rules, causes}
+use Rattle.report_forms.specs.CodeLines.{rules, causes}
 
 -- ---- a reference to a file
 

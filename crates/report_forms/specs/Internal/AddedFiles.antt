@@ -1,15 +1,9 @@
 -- What one file more adds to a summary.
-use Rattle.std.specs.Prelude.{◌≡◌, ◌<◌, ◌+◌, ℕ, Bool, true, false, get_or}
-use Rattle.std.specs.Io.Iter.{u64_saturate}
+use Rattle.std.specs.Prelude.{◌≡◌, ◌<◌, Bool, get_or}
 use Rattle.geolint_report.specs.declared.texts.Code.{Code}
+use Rattle.geolint_report.specs.declared.texts.TheConstants.{CODES}
+use Rattle.geolint_report.specs.Slots.{slot_of, more}
 use Rattle.report_forms.specs.declared.summary.Summary.{Summary}
-use Rattle.report_forms.specs.declared.summary.TheConstants.{CODES}
-use Rattle.report_forms.specs.FileCounts.{slot_of}
-
--- a count after one file more
-abbrev pub more : Bool → ℕ → ℕ
-more true count = u64_saturate (count + 1)
-more false count = count
 
 -- one file more of these kinds, of which these codes are told
 pub record Adds (old new : Summary) (valid warned broken refused not_valid : Bool) (told : Code → Bool) : Type 0 where

@@ -50,6 +50,28 @@ class Note:
 
 
 @dataclass
+class Tally:
+    """How many features there are, how many are broken, and of how many each code is reported."""
+
+    features: int = 0
+    broken: int = 0
+    codes: dict[str, int] = field(default_factory=dict)
+    texts: dict[str, str] = field(default_factory=dict)
+
+    def note(self, note: Note) -> None:
+        self.broken += note.kind is None
+        self.codes[note.code] = self.codes.get(note.code, 0) + 1
+        self.texts[note.code] = note.text
+
+    def add(self, other: Tally) -> None:
+        self.features += other.features
+        self.broken += other.broken
+        for code, count in other.codes.items():
+            self.codes[code] = self.codes.get(code, 0) + count
+        self.texts.update(other.texts)
+
+
+@dataclass
 class Found:
     """What a file is. `verdict` is None where it is only known not to be valid."""
 
@@ -61,6 +83,7 @@ class Found:
     starts: dict[int, int] = field(default_factory=dict)
     notes: list[Note] = field(default_factory=list)
     note_count: int = 0
+    tally: Tally = field(default_factory=Tally)
     spots: dict[int, Place] = field(default_factory=dict)
     excerpt: Optional[tuple[bytes, bytes]] = None
     # How many arrays and objects are open before the place, of a text that is not JSON; of others any number but 0.
@@ -98,15 +121,18 @@ def _notes_of(finding: Finding, every: str) -> Iterator[Note]:
 def _with_features(name: bytes, file: Any, asked: Asked) -> Found:
     room, count = min(asked.most or MOST_HELD, MOST_HELD), 0
     notes: list[Note] = []
+    tally = Tally()
     found = features(file, max_bytes=asked.max_bytes)
     for finding in found:
+        tally.features += 1
         for note in _notes_of(finding, asked.every or ""):
             count += 1
+            tally.note(note)
             if len(notes) < room:
                 notes.append(note)
     if found.verdict is not None and found.verdict.name == "not JSON":
-        count, notes = 0, []
-    return Found(name, found.verdict, notes=notes, note_count=count)
+        count, notes, tally = 0, [], Tally()
+    return Found(name, found.verdict, notes=notes, note_count=count, tally=tally)
 
 
 def _of_records(name: bytes, file: Any, asked: Asked, framing: str) -> Found:

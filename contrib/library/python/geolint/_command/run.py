@@ -10,7 +10,7 @@ from dataclasses import dataclass, field
 from typing import Any, Iterator, Optional
 
 from . import forms
-from .files import Asked, Found, read, read_file
+from .files import Asked, Found, Tally, read, read_file
 
 CODES = [*(f"G{n}" for n in range(1, 22)), *(f"W{n}" for n in range(1, 10)), *(f"J{n}" for n in range(1, 5))]
 _NO_INPUT = "a list cannot name standard input; ./- is a file of that name"
@@ -33,17 +33,20 @@ class Order:
 
 @dataclass
 class Summary:
-    """How many files are what, and how many files each code is reported of."""
+    """How many files are what, and of how many each code is reported; the same of features, where they are reported."""
 
+    has_features: bool
     files: dict[str, int] = field(default_factory=dict)
     codes: dict[str, int] = field(default_factory=dict)
     texts: dict[str, str] = field(default_factory=dict)
+    features: Tally = field(default_factory=Tally)
 
     def add(self, found: Found) -> None:
         self.add_file("valid with warnings" if found.verdict and found.verdict.warnings else found.word)
         for it in forms.told(found):
             self.codes[it.code] = self.codes.get(it.code, 0) + 1
             self.texts[it.code] = it.text
+        self.features.add(found.tally)
 
     def add_file(self, word: str) -> None:
         self.files[word] = self.files.get(word, 0) + 1
@@ -52,8 +55,16 @@ class Summary:
         words = ["valid", "valid with warnings", "broken", "not JSON", "not read"]
         words += ["not valid"] if "not valid" in self.files else []
         first = ", ".join(f"{self.files.get(word, 0)} {word}" for word in words)
-        counts = (f"{self.codes[code]:8} {code}: {self.texts[code]}\n" for code in CODES if code in self.codes)
-        return f"{first}\n{''.join(counts)}"
+        whole = f"{first}\n{_counts(self.codes, self.texts)}"
+        if self.has_features:
+            tally = self.features
+            whole += f"{tally.features} features or records, {tally.broken} broken\n{_counts(tally.codes, tally.texts)}"
+        return whole
+
+
+def _counts(codes: dict[str, int], texts: dict[str, str]) -> str:
+    """A line for each code that is counted."""
+    return "".join(f"{codes[code]:8} {code}: {texts[code]}\n" for code in CODES if code in codes)
 
 
 def framing_of(name: bytes) -> Optional[str]:
@@ -85,7 +96,7 @@ class Run:
         self.order, self.out = order, out
         self.colour = out.isatty() and not os.environ.get("NO_COLOR")
         self.is_terminal = out.isatty()
-        self.summary = Summary()
+        self.summary = Summary(bool(order.asked.every))
         self.status = 0
         self.others: list[bytes] = []
         self.other_count = 0

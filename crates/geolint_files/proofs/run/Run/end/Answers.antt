@@ -2,10 +2,12 @@ use Rattle.std.proofs.Common.{refl, ap, sym, ◌∙◌, subst, ◌++◌, ◌≡�
 use Rattle.std.specs.Prelude.{map}
 use Rattle.std.specs.Io.KnownBytes.{Appends}
 use Rattle.std.proofs.KnownBytes.{Appends-trans, Appends-kept}
+use Rattle.geolint_report.specs.declared.every.tally.Tally.{Tally}
+use Rattle.geolint_report.specs.Tallies.{IsTotal}
 use Rattle.report_forms.specs.declared.options.Options.{Options}
 use Rattle.report_forms.specs.declared.summary.Summary.{Summary}
 use Rattle.report_forms.specs.FileCounts.{Counts}
-use Rattle.geolint_files.specs.Run.{finding_in, end_of, summary_in}
+use Rattle.geolint_files.specs.Run.{finding_in, tallies_in, end_of, summary_in}
 use Rattle.geolint_files.proofs.run.Run.end.Goals as goal
 
 pub returns-clause-told : goal.returns-clause-told
@@ -23,10 +25,11 @@ returns-clause-told g c = λ held options style files has.
     subst (Appends (contents old.out) (contents wrote.out)) line
     (subst (λ (out : g.row.W.Denot). Appends (contents out) (contents wrote.out) c.put_end.new.self.line.items) c.put_end.ensures.out c.in_ok-write.ensures.out) in
     let counts = subst (λ (counted : Summary). Counts counted (map finding_in files)) (sym (c.write.ensures.same.summary ∙ c.put_end.ensures.same.summary)) has.summary in
+    let tallied = subst (λ (tally : Tally). IsTotal tally (tallies_in files)) (sym (c.write.ensures.same.tally ∙ c.put_end.ensures.same.tally)) has.tally in
     let summed : Appends (contents wrote.out) (contents told.out) summary =
     subst (λ (given : Options). Appends (contents wrote.out) (contents told.out) (summary_in given files))
     (c.write.ensures.same.options ∙ c.put_end.ensures.same.options ∙ has.options_are)
-    (c.in_ok-tell_summary.ensures.told files counts c.in_ok-write.ensures.line) in (
+    (c.in_ok-tell_summary.ensures.told files counts tallied c.in_ok-write.ensures.line) in (
       has.written.bytes ++ (end ++ summary),
       record { written = has.written; files_told = has.files_told; whole = refl },
       Appends-kept held (contents told.out) _ _

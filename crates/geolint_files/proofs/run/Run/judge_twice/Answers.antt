@@ -26,7 +26,7 @@ returns-in-Ok g c =
     (subst (λ (failed : ℕ). HasSites c.reading-reading.result limits (g.S.Source.text c.judge.new.reader) failed (failed_reads after) report) c.in-Ok.ensures.failed sites)) in (
       judged report,
       (name, (left, found), with_sites),
-      TellsFile-after g.W.Write.contents _ old _ c.tell_found.new.self (record { same = record { options = refl; style = refl; outcome = refl; summary = refl }; out = refl; log = refl; line = refl }) tells,
+      TellsFile-after g.W.Write.contents _ old _ c.tell_found.new.self (record { same = record { options = refl; style = refl; outcome = refl; summary = refl; tally = refl }; out = refl; log = refl; line = refl }) tells,
     )) c.tell_found.ensures.told
 
 pub returns-in-Err : goal.returns-in-Err
@@ -34,5 +34,5 @@ returns-in-Err g c =
     on_ok_weaker c.tell_unread.result (λ told. (
       not_read c.args.name.now told.0,
       (refl, c.in-Err.ensures.failed),
-      TellsFile-after g.W.Write.contents _ c.args.self.now _ c.tell_unread.new.self (record { same = record { options = refl; style = refl; outcome = refl; summary = refl }; out = refl; log = refl; line = refl }) told.1,
+      TellsFile-after g.W.Write.contents _ c.args.self.now _ c.tell_unread.new.self (record { same = record { options = refl; style = refl; outcome = refl; summary = refl; tally = refl }; out = refl; log = refl; line = refl }) told.1,
     )) c.tell_unread.ensures.told

@@ -29,10 +29,10 @@ returns-in-Some g c =
     let report : Report = record { name = c.args.name; finding = finding; sites = None; passes = passes old.options.strict old.options.allowed finding; found = None; hint = None } in
     on_ok_weaker c.list_unplaced.result (λ told.
     let (lines, are, tells) = told in (
-      listed report lines,
-      subst (λ (r : Reading). IsListedOnce r c.args.asked limits c.args.name.now had failed (g.S.Source.failed_reads c.judge_every.new.reader) (listed report lines)) c.reading-reading.ensures
+      listed report lines notes.tally,
+      subst (λ (r : Reading). IsListedOnce r c.args.asked limits c.args.name.now had failed (g.S.Source.failed_reads c.judge_every.new.reader) (listed report lines notes.tally)) c.reading-reading.ensures
           (refl, refl, c.in-Ok.ensures.failed, (left, c.in-Ok.ensures.found slow), (notes.notes.items, notes.count, kept (framing_in reading) limits had c.in-Ok.ensures.listed, are)),
-      TellsFile-after g.W.Write.contents _ old _ c.list_unplaced.new.self (record { same = record { options = refl; style = refl; outcome = refl; summary = refl }; out = refl; log = refl; line = refl }) tells,
+      TellsFile-after g.W.Write.contents _ old _ c.list_unplaced.new.self (record { same = record { options = refl; style = refl; outcome = refl; summary = refl; tally = refl }; out = refl; log = refl; line = refl }) tells,
     )) (c.list_unplaced.ensures asked)
 
 pub returns-in-None : goal.returns-in-None
@@ -50,7 +50,7 @@ returns-in-None g c =
       judged report,
       subst (λ (r : Reading). IsListedOnce r c.args.asked limits c.args.name.now had failed (g.S.Source.failed_reads c.judge_every.new.reader) (judged report)) c.reading-reading.ensures
           (refl, refl, refl, c.in-Ok.ensures.failed, (left, c.in-Ok.ensures.found slow)),
-      TellsFile-after g.W.Write.contents _ old _ c.tell.new.self (record { same = record { options = refl; style = refl; outcome = refl; summary = refl }; out = refl; log = refl; line = refl }) told,
+      TellsFile-after g.W.Write.contents _ old _ c.tell.new.self (record { same = record { options = refl; style = refl; outcome = refl; summary = refl; tally = refl }; out = refl; log = refl; line = refl }) told,
     )) c.tell.ensures
 
 pub returns-in-Err : goal.returns-in-Err
@@ -58,5 +58,5 @@ returns-in-Err g c =
     on_ok_weaker c.tell_unread.result (λ told. (
       not_read c.args.name.now told.0,
       (refl, c.in-Err.ensures.failed),
-      TellsFile-after g.W.Write.contents _ c.args.self.now _ c.tell_unread.new.self (record { same = record { options = refl; style = refl; outcome = refl; summary = refl }; out = refl; log = refl; line = refl }) told.1,
+      TellsFile-after g.W.Write.contents _ c.args.self.now _ c.tell_unread.new.self (record { same = record { options = refl; style = refl; outcome = refl; summary = refl; tally = refl }; out = refl; log = refl; line = refl }) told.1,
     )) c.tell_unread.ensures.told

@@ -19,5 +19,5 @@ returns g c = λ asked.
       name,
       finding,
       (g.S.Source.failed_reads c.tell_found.new.source, sites),
-      (lines, placed, TellsFile-listed g.W.Write.contents report lines c.args.self.now c.tell_found.new.self c.tell_placed.new.self asked tells more),
+      (lines, placed, TellsFile-listed g.W.Write.contents report lines notes.tally c.args.self.now c.tell_found.new.self _ c.tell_placed.new.self asked tells (record { options = refl; style = refl; outcome = refl; summary = refl; out = refl; log = refl; line = refl; adds = c.add.ensures }) more),
     )) c.tell_placed.ensures

@@ -30,10 +30,10 @@ returns-in-Some g c =
     let with_text = subst (λ (t : Option (List ℕ)). HasSites reading limits t (g.S.Source.failed_reads c.judge_every.new.reader) middle report) text sites in
     let with_sites = subst (λ (n : ℕ). HasSites reading limits (g.S.Source.text c.args.source.now) n middle report) c.in-Ok.ensures.failed with_text in
     let placed = subst (λ (t : Option (List ℕ)). AreLinesOf (IsPlaced (framing_in reading) t) c.args.name.now notes.notes.items notes.count lines) text are in (
-      listed report lines,
-      subst (λ (r : Reading). IsListedTwice r c.args.asked limits c.args.name.now had (g.S.Source.text c.args.source.now) (g.S.Source.failed_reads c.args.source.now) (g.S.Source.failed_reads c.list_placed.new.source) (listed report lines)) c.reading-reading.ensures
+      listed report lines notes.tally,
+      subst (λ (r : Reading). IsListedTwice r c.args.asked limits c.args.name.now had (g.S.Source.text c.args.source.now) (g.S.Source.failed_reads c.args.source.now) (g.S.Source.failed_reads c.list_placed.new.source) (listed report lines notes.tally)) c.reading-reading.ensures
           (name, (left, found), (middle, with_sites), (notes.notes.items, notes.count, kept (framing_in reading) limits had c.in-Ok.ensures.listed, placed)),
-      TellsFile-after g.W.Write.contents _ old _ c.list_placed.new.self (record { same = record { options = refl; style = refl; outcome = refl; summary = refl }; out = refl; log = refl; line = refl }) tells,
+      TellsFile-after g.W.Write.contents _ old _ c.list_placed.new.self (record { same = record { options = refl; style = refl; outcome = refl; summary = refl; tally = refl }; out = refl; log = refl; line = refl }) tells,
     )) (c.list_placed.ensures asked)
 
 pub returns-in-None : goal.returns-in-None
@@ -54,7 +54,7 @@ returns-in-None g c =
       judged report,
       subst (λ (r : Reading). IsListedTwice r c.args.asked limits c.args.name.now had (g.S.Source.text c.args.source.now) (failed_reads c.args.source.now) (failed_reads after) (judged report)) c.reading-reading.ensures
           (name, (left, found), with_sites),
-      TellsFile-after g.W.Write.contents _ old _ c.tell_found.new.self (record { same = record { options = refl; style = refl; outcome = refl; summary = refl }; out = refl; log = refl; line = refl }) tells,
+      TellsFile-after g.W.Write.contents _ old _ c.tell_found.new.self (record { same = record { options = refl; style = refl; outcome = refl; summary = refl; tally = refl }; out = refl; log = refl; line = refl }) tells,
     )) c.tell_found.ensures.told
 
 pub returns-in-Err : goal.returns-in-Err
@@ -62,5 +62,5 @@ returns-in-Err g c =
     on_ok_weaker c.tell_unread.result (λ told. (
       not_read c.args.name.now told.0,
       (refl, c.in-Err.ensures.failed),
-      TellsFile-after g.W.Write.contents _ c.args.self.now _ c.tell_unread.new.self (record { same = record { options = refl; style = refl; outcome = refl; summary = refl }; out = refl; log = refl; line = refl }) told.1,
+      TellsFile-after g.W.Write.contents _ c.args.self.now _ c.tell_unread.new.self (record { same = record { options = refl; style = refl; outcome = refl; summary = refl; tally = refl }; out = refl; log = refl; line = refl }) told.1,
     )) c.tell_unread.ensures.told

@@ -19,6 +19,7 @@ returns g c =
         style = c.write.ensures.same.style ∙ c.put_more.ensures.same.style;
         outcome = c.write.ensures.same.outcome ∙ c.put_more.ensures.same.outcome;
         summary = c.write.ensures.same.summary ∙ c.put_more.ensures.same.summary;
+        tally = c.write.ensures.same.tally ∙ c.put_more.ensures.same.tally;
       };
       told = told;
       out = λ none. subst (Appends (contents old.out) (contents new.out)) (added ∙ ap (λ (line : List ℕ). line ++ told) none)

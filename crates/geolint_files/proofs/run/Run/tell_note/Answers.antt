@@ -18,6 +18,7 @@ returns g c =
         style = c.write.ensures.same.style ∙ c.put_entry.ensures.same.style;
         outcome = c.write.ensures.same.outcome ∙ c.put_entry.ensures.same.outcome;
         summary = c.write.ensures.same.summary ∙ c.put_entry.ensures.same.summary;
+        tally = c.write.ensures.same.tally ∙ c.put_entry.ensures.same.tally;
       };
       told = told;
       out = λ none. subst (Appends (contents old.out) (contents new.out)) (added ∙ ap (λ (line : List ℕ). line ++ told) none)

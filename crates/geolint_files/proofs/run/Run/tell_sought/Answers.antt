@@ -12,5 +12,5 @@ returns-clause-told g c =
     on_ok_weaker c.tell_with_hint.result (λ told.
     sought-told c.args.name.now finding
     (AreSought finding c.args.reading old.options.limits (g.S.Source.text c.args.source.now) (failed_reads c.args.source.now) (failed_reads c.find_sites-sites.new.source))
-    (TellsFile-after g.W.Write.contents _ old _ c.tell_with_hint.new.self (record { same = record { options = refl; style = refl; outcome = refl; summary = refl }; out = refl; log = refl; line = refl }) told)
+    (TellsFile-after g.W.Write.contents _ old _ c.tell_with_hint.new.self (record { same = record { options = refl; style = refl; outcome = refl; summary = refl; tally = refl }; out = refl; log = refl; line = refl }) told)
     refl refl c.find_sites-sites.ensures.sought) c.tell_with_hint.ensures

@@ -28,6 +28,8 @@ returns-clause-told g c =
         outcome = λ outcomes is. c.show.ensures.same.outcome ∙ c.write.ensures.same.outcome ∙ c.put_unread.ensures.same.outcome ∙ c.add.ensures outcomes is;
         summary = λ files counts. subst (λ (s : Summary). Counts s (files ++ None ∷ []))
             (sym (c.show.ensures.same.summary ∙ c.write.ensures.same.summary ∙ c.put_unread.ensures.same.summary)) (c.add_unread.ensures files counts);
+        tally = c.show.ensures.same.tally ∙ c.write.ensures.same.tally ∙ c.put_unread.ensures.same.tally;
+        none = refl;
         told = told;
         out = λ none. Appends-kept _ _ _ told
             (kept-Appends _ _ _ told c.flush.ensures.bytes

@@ -27,6 +27,8 @@ returns g c =
           ∙ ap (λ (o : Outcome). worst (outcomes ++ o ∷ [])) (c.of.ensures ∙ ap outcome_of c.passes-passes.ensures);
       summary = λ files counts. subst (λ (s : Summary). Counts s (files ++ Some c.args.finding ∷ []))
           (sym (c.show.ensures.same.summary ∙ c.write.ensures.same.summary ∙ c.put.ensures.same.summary)) (c.add_file.ensures files counts);
+      tally = c.show.ensures.same.tally ∙ c.write.ensures.same.tally ∙ c.put.ensures.same.tally;
+      none = refl;
       told = told;
       out = λ none. Appends-kept _ _ _ told
           (subst (Appends (contents old.out) (contents c.write.new.self.out)) (added ∙ ap (λ (line : List ℕ). line ++ told) none)
@@ -35,6 +37,8 @@ returns g c =
       line = ap (λ (line : Vec ℕ Global). line.items) c.show.ensures.line ∙ c.in_ok-write.ensures.line;
       adds = λ bytes. record {
         passes = refl;
+        tally = c.show.ensures.same.tally ∙ c.write.ensures.same.tally ∙ c.put.ensures.same.tally;
+        none = refl;
         told = told;
         is_report = subst (λ (p : Bool). IsReport old.options.format old.style old.log.is_first (report p) old.options.strict old.options.allowed told) c.passes-passes.ensures is_report;
         bytes = refl;

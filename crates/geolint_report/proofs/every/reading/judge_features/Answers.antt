@@ -56,7 +56,7 @@ within g c =
 
 pub loop-error-init : goal.loop-error-init
 loop-error-init g c = record {
-  read = ([], Consumes-nil _, refl, c.new-linter.ensures.stands (KeepsNotes-none _ c.new.ensures.keeps));
+  read = ([], Consumes-nil _, refl, c.new-linter.ensures.stands (KeepsNotes-none _ c.new.ensures.keeps c.new.ensures.items));
   limits = c.new-linter.ensures.limits;
   unfailed = refl;
   text = refl;

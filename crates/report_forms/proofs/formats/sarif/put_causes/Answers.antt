@@ -4,7 +4,7 @@ use Rattle.gj_json.specs.declared.fault.Cause.{Cause}
 use Rattle.gj_json.specs.declared.fault.Cause.TheVariants.{Syntax}
 use Rattle.geolint_report.specs.declared.texts.Code.{Code}
 use Rattle.report_forms.specs.Forms.Sarif.{rule_and_break, sarif_causes}
-use Rattle.report_forms.specs.Summary.{causes}
+use Rattle.report_forms.specs.CodeLines.{causes}
 use Rattle.report_forms.proofs.JoinedElements.{one-more}
 use Rattle.report_forms.proofs.formats.sarif.put_causes.Goals as goal
 

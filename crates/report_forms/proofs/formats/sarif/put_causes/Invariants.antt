@@ -3,7 +3,7 @@ use Rattle.std.specs.List.{flat_map}
 use Rattle.gj_json.specs.declared.fault.Cause.{Cause}
 use Rattle.geolint_report.specs.declared.texts.Code.{Code}
 use Rattle.report_forms.specs.Forms.Sarif.{rule_and_break}
-use Rattle.report_forms.specs.Summary.{causes}
+use Rattle.report_forms.specs.CodeLines.{causes}
 use Rattle.report_forms.proofs.formats.sarif.put_causes.Given as goal
 
 -- the causes before this one are there

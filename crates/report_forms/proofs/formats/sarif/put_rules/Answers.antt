@@ -4,7 +4,7 @@ use Rattle.gj_coords.specs.declared.fault.Rule.{Rule}
 use Rattle.gj_coords.specs.declared.fault.Rule.TheVariants.{G1}
 use Rattle.geolint_report.specs.declared.texts.Code.{Code}
 use Rattle.report_forms.specs.Forms.Sarif.{rule_and_break, sarif_rules}
-use Rattle.report_forms.specs.Summary.{rules}
+use Rattle.report_forms.specs.CodeLines.{rules}
 use Rattle.report_forms.proofs.JoinedElements.{one-more}
 use Rattle.report_forms.proofs.formats.sarif.put_rules.Goals as goal
 

@@ -3,7 +3,7 @@ use Rattle.std.specs.List.{flat_map}
 use Rattle.gj_coords.specs.declared.fault.Rule.{Rule}
 use Rattle.geolint_report.specs.declared.texts.Code.{Code}
 use Rattle.report_forms.specs.Forms.Sarif.{rule_and_break}
-use Rattle.report_forms.specs.Summary.{rules}
+use Rattle.report_forms.specs.CodeLines.{rules}
 use Rattle.report_forms.proofs.formats.sarif.put_rules.Given as goal
 
 -- the rules before this one are there

@@ -2,7 +2,7 @@ use Rattle.std.proofs.Common.{sym, ap, subst, ◌≡◌, ◌∙◌, Bool, true, 
 use Rattle.geolint_report.specs.declared.texts.Code.{Code}
 use Rattle.geolint_report.specs.Texts.{is_cause}
 use Rattle.report_forms.specs.declared.summary.Summary.{Summary}
-use Rattle.report_forms.specs.Counts.{same}
+use Rattle.geolint_report.specs.Slots.{same}
 use Rattle.report_forms.specs.Internal.AddedFiles.{Adds}
 use Rattle.report_forms.proofs.FileCounts.{Adds-after, no-cause}
 use Rattle.report_forms.proofs.summary.Summary.add_fault.Goals as goal

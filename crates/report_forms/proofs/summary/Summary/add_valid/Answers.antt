@@ -3,8 +3,9 @@ use Rattle.gj_coords.specs.Internal.KeptWarnings.{none_in}
 use Rattle.geolint_report.specs.declared.texts.Code.{Code}
 use Rattle.report_forms.specs.declared.summary.Summary.{Summary}
 use Rattle.report_forms.specs.Counts.{warns}
-use Rattle.report_forms.specs.Internal.AddedFiles.{Adds, more}
-use Rattle.report_forms.specs.FileCounts.{slot_of}
+use Rattle.geolint_report.specs.Slots.{more}
+use Rattle.report_forms.specs.Internal.AddedFiles.{Adds}
+use Rattle.geolint_report.specs.Slots.{slot_of}
 use Rattle.report_forms.proofs.FileCounts.{until, until-none, until-all, Adds-kind, Adds-none, kinds-at, Adds-after}
 use Rattle.report_forms.proofs.summary.Summary.add_valid.Goals as goal
 use Rattle.report_forms.proofs.summary.Summary.add_valid.Goals.{then-is_empty, else-is_empty, then-has, else-has}

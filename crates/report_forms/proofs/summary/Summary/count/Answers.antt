@@ -1,7 +1,7 @@
 use Rattle.std.proofs.Common.{arith, refl, sym, ap, ◌≡◌, ◌<◌, ◌∙◌, ℕ, Bool, true, get_or, length, set}
-use Rattle.report_forms.specs.Internal.AddedFiles.{more}
-use Rattle.report_forms.specs.FileCounts.{slot_of}
-use Rattle.report_forms.proofs.FileCounts.{counted-at, same-none}
+use Rattle.geolint_report.specs.Slots.{more}
+use Rattle.geolint_report.specs.Slots.{slot_of}
+use Rattle.geolint_report.proofs.CodeSlots.{counted-at, same-none}
 use Rattle.report_forms.proofs.summary.Summary.count.Goals as goal
 
 pub returns-then-slot-lt-CODES : goal.returns-then-slot-lt-CODES

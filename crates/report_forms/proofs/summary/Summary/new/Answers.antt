@@ -1,7 +1,7 @@
 -- No file has come, and each count is 0.
 use Rattle.std.proofs.Common.{ℕ, refl}
 use Rattle.std.proofs.lemmas.List.{get_or-replicate}
-use Rattle.report_forms.specs.FileCounts.{slot_of}
+use Rattle.geolint_report.specs.Slots.{slot_of}
 use Rattle.report_forms.proofs.summary.Summary.new.Goals as goal
 
 pub returns : goal.returns

@@ -11,6 +11,7 @@ pub loop-kind-init : goal.loop-kind-init
 loop-kind-init c = record {
   keeps = λ all keeps. subst (λ (ys : List Note). Keeps c.args.self.now ys) (sym (append-nil all)) keeps;
   asked = refl;
+  items = refl;
 }
 
 pub loop-kind-preserved : goal.loop-kind-preserved
@@ -24,6 +25,7 @@ loop-kind-preserved c =
       keeps = λ all keeps. subst (λ (ys : List Note). Keeps c.add_kind.new.self ys) (append_assoc all before here ∙ ap (λ (ys : List Note). all ++ ys) (sym more))
           (c.add_kind.ensures.keeps (all ++ before) (c.loop-kind.invariant.keeps all keeps));
       asked = c.add_kind.ensures.asked ∙ c.loop-kind.invariant.asked;
+      items = c.add_kind.ensures.items ∙ c.loop-kind.invariant.items;
     }
 
 pub returns-clause-keeps : goal.returns-clause-keeps

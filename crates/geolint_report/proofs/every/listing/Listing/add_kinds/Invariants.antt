@@ -9,4 +9,5 @@ abbrev pub invariant-loop-kind : goal.invariant-loop-kind
 invariant-loop-kind l = record {
   keeps : (all : List Note) → Keeps l.initial.self all → Keeps l.self (all ++ flat_map (kind_notes l.item l.warnings) (take l.kind-index kinds));
   asked : l.self.asked ≡ l.initial.self.asked;
+  items : l.self.tally.items ≡ l.initial.self.tally.items;
 }

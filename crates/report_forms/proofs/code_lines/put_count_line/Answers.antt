@@ -1,8 +1,8 @@
 use Rattle.std.proofs.Common.{ℕ, List, ◌++◌, codes}
 use Rattle.geolint_report.specs.Texts.{code_name, code_text}
-use Rattle.report_forms.specs.Summary.{in_eight_places, count_line}
+use Rattle.report_forms.specs.CodeLines.{in_eight_places, count_line}
 use Rattle.report_forms.proofs.JoinedElements.{behind}
-use Rattle.report_forms.proofs.summary.put_count_line.Goals as goal
+use Rattle.report_forms.proofs.code_lines.put_count_line.Goals as goal
 
 pub returns : goal.returns
 unfolding count_line

@@ -1,0 +1,12 @@
+use Rattle.std.proofs.Common.{take, ◌++◌, ◌≡◌, ℕ}
+use Rattle.std.specs.List.{flat_map}
+use Rattle.gj_json.specs.declared.fault.Cause.{Cause}
+use Rattle.geolint_report.specs.declared.texts.Code.{Code}
+use Rattle.report_forms.specs.CodeLines.{AreCounts, causes, code_line}
+use Rattle.report_forms.proofs.code_lines.put_causes.Given as goal
+
+-- the lines of those before this one are there
+abbrev pub invariant-loop-cause : goal.invariant-loop-cause
+invariant-loop-cause l = record {
+  done : (count : Code → ℕ) → AreCounts l.counts count → l.line.items ≡ l.initial.line.items ++ flat_map (λ (cause : Cause). code_line count (Code.Cause cause)) (take l.cause-index causes);
+}

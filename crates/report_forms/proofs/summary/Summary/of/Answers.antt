@@ -1,8 +1,0 @@
-use Rattle.std.proofs.Common.{arith, ap, ◌∙◌, ℕ, get_or}
-use Rattle.report_forms.proofs.summary.Summary.of.Goals as goal
-
-pub returns-then-slot-lt-CODES : goal.returns-then-slot-lt-CODES
-returns-then-slot-lt-CODES c = λ small files counts. ap (λ (n : ℕ). get_or c.args.self.now.counts n 0) c.slot-slot.ensures ∙ counts.codes c.args.code small
-
-pub returns-else-slot-lt-CODES : goal.returns-else-slot-lt-CODES
-returns-else-slot-lt-CODES c = λ small files counts. absurd (omega (arith, small, c.slot-slot.ensures, c.if-slot-lt-CODES.false))

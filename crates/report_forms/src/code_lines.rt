@@ -1,0 +1,102 @@
+//! The lines of a summary about rules, kinds of warning and causes: one for each that is counted.
+ghost use Rattle.std.specs.Prelude.{◌≡◌, ◌<◌, ℕ, OnOk};
+ghost use Rattle.geolint_report.specs.declared.texts.Code.{Code};
+ghost use Rattle.geolint_report.specs.declared.texts.TheConstants.{CODES};
+ghost use Rattle.geolint_report.specs.Line.{Adds};
+ghost use Rattle.geolint_report.specs.Slots.{slot_of};
+ghost use Rattle.report_forms.specs.CodeLines.{AreCounts, code_lines, rule_lines, kind_lines, cause_lines, code_line, count_line, count_line_if, in_eight_places, spaces_before};
+
+use geolint_report::line::{put, put_all};
+use geolint_report::texts::{CAUSES, CODES, Code, RULES};
+use gj_coords::KINDS;
+use itoa::Buffer;
+use std::alloc::AllocError;
+
+/// Puts the line of each code whose count is not 0.
+pub fn put_codes(counts: &[u64; CODES], line: &mut Vec<u8>) -> Result<(), AllocError>
+    ensures { (count : Code → ℕ) → AreCounts counts.now count → OnOk result (Adds line.old line.new (code_lines count)) }
+{
+    put_rules(counts, line)?;
+    put_kinds(counts, line)?;
+    put_causes(counts, line)
+}
+
+fn put_rules(counts: &[u64; CODES], line: &mut Vec<u8>) -> Result<(), AllocError>
+    ensures { (count : Code → ℕ) → AreCounts counts.now count → OnOk result (Adds line.old line.new (rule_lines count)) }
+{
+    for rule in &RULES {
+        put_code(Code::Rule(*rule), counts, line)?;
+    }
+    Ok(())
+}
+
+fn put_kinds(counts: &[u64; CODES], line: &mut Vec<u8>) -> Result<(), AllocError>
+    ensures { (count : Code → ℕ) → AreCounts counts.now count → OnOk result (Adds line.old line.new (kind_lines count)) }
+{
+    for kind in &KINDS {
+        put_code(Code::Kind(*kind), counts, line)?;
+    }
+    Ok(())
+}
+
+fn put_causes(counts: &[u64; CODES], line: &mut Vec<u8>) -> Result<(), AllocError>
+    ensures { (count : Code → ℕ) → AreCounts counts.now count → OnOk result (Adds line.old line.new (cause_lines count)) }
+{
+    for cause in &CAUSES {
+        put_code(Code::Cause(*cause), counts, line)?;
+    }
+    Ok(())
+}
+
+fn put_code(code: Code, counts: &[u64; CODES], line: &mut Vec<u8>) -> Result<(), AllocError>
+    ensures { slot_of code < CODES → (count : Code → ℕ) → AreCounts counts.now count → OnOk result (Adds line.old line.new (code_line count code)) }
+{
+    put_count_if(code, count_of(code, counts), line)
+}
+
+/// The count of a code.
+fn count_of(code: Code, counts: &[u64; CODES]) -> u64
+    ensures { slot_of code < CODES → (count : Code → ℕ) → AreCounts counts.now count → result ≡ count code }
+{
+    let slot = code.slot();
+    if slot < CODES { counts[slot] } else { 0 }
+}
+
+/// The line of a code, where it is told at all.
+fn put_count_if(code: Code, count: u64, line: &mut Vec<u8>) -> Result<(), AllocError>
+    ensures { OnOk result (Adds line.old line.new (count_line_if code count)) }
+{
+    if count == 0 {
+        Ok(())
+    } else {
+        put_count_line(code, count, line)
+    }
+}
+
+fn put_count_line(code: Code, count: u64, line: &mut Vec<u8>) -> Result<(), AllocError>
+    ensures { OnOk result (Adds line.old line.new (count_line code count)) }
+{
+    put_in_eight_places(count, line)?;
+    put(line, b" ")?;
+    code.put_name(line)?;
+    put(line, b": ")?;
+    code.put_text(line)?;
+    put(line, b"\n")
+}
+
+#[tactic(auto, unfolding(crate::specs::CodeLines::in_eight_places))]
+fn put_in_eight_places(number: u64, line: &mut Vec<u8>) -> Result<(), AllocError>
+    ensures { OnOk result (Adds line.old line.new (in_eight_places number)) }
+{
+    let mut room = Buffer::new();
+    let digits = room.format(number).as_bytes();
+    put_all(line, &[spaces_before(digits.len()), digits])
+}
+
+/// The spaces before so many digits, for eight places.
+fn spaces_before(digits: usize) -> &'static [u8]
+    ensures { result.now ≡ spaces_before digits }
+{
+    let spaces: &[u8] = b"        ";
+    &spaces[..8usize.saturating_sub(digits)]
+}
