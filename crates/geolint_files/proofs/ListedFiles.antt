@@ -1,5 +1,6 @@
 -- A run that has told lines of the features of its last file.
-use Rattle.std.proofs.Common.{arith, zero, suc, ◌≡◌, ◌<◌, ◌≤◌, ◌+◌, ◌-◌, ◌++◌, ◌∷◌, [], List, ℕ, length, take, get_or, refl, sym, subst, ap, ◌∙◌, append_assoc, append-nil}
+use Rattle.std.proofs.Common.{arith, zero, suc, ◌≡◌, ◌<◌, ◌≤◌, ◌+◌, ◌-◌, ◌++◌, ◌∷◌, [], List, ℕ, length, take, get_or, refl, sym, subst, ap, ◌∙◌, append_assoc}
+use Rattle.std.proofs.Common.{append-nil}
 use Rattle.std.specs.Prelude.{Bool, map, Option, Some, None, Vec}
 use Rattle.std.specs.declared.alloc.Global.{Global}
 use Rattle.std.specs.Io.KnownBytes.{Appends, Keeps}
@@ -26,48 +27,60 @@ use Rattle.geolint_files.specs.Internal.RunState.{HasTold, TellsFile, TellsLines
 use Rattle.geolint_files.specs.Listed.{asked_in, asked_by}
 use Rattle.geolint_files.specs.Listed.{IsEntryOf, AreEntriesOf, AreLinesOf, others_of, asked_when}
 use Rattle.geolint_files.proofs.ToldFiles.{tallies-append, tallies-none}
-use Rattle.geolint_files.specs.Run.{ToldFile, judged, listed, FeatureLine, feature_line, others_line, finding_in, tallies_in, outcome_in, Written, AddsFile, AddsFiles, AddsLine, AddsLines, AddsListed, begun}
+use Rattle.geolint_files.specs.Run.{ToldFile, judged, listed, FeatureLine, feature_line, others_line, finding_in, tallies_in, outcome_in, Written, AddsFile}
+use Rattle.geolint_files.specs.Run.{AddsFiles, AddsLine, AddsLines, AddsListed, begun}
 
 -- ---- what is written
 
 AddsLines-more : (options : Options) (style : Style) (lines more : List FeatureLine) (a b c : Written)
     → AddsLines options style lines a b → AddsLines options style more b c → AddsLines options style (lines ++ more) a c
 AddsLines-more options style [] more a b c none adds = subst (λ (before : Written). AddsLines options style more before c) none adds
-AddsLines-more options style (first ∷ rest) more a b c (middle, here, others) adds = (middle, here, AddsLines-more options style rest more middle b c others adds)
+AddsLines-more options style (first ∷ rest) more a b c (middle, here, others) adds =
+    (middle, here, AddsLines-more options style rest more middle b c others adds)
 
 -- the last file has these lines more
-AddsFiles-lines : (options : Options) (style : Style) (files : List ToldFile) (report : Report) (tally : Tally) (before lines : List FeatureLine) (a b c : Written)
-    → AddsFiles options style (files ++ listed report before tally ∷ []) a b → AddsLines options style lines b c → AddsFiles options style (files ++ listed report (before ++ lines) tally ∷ []) a c
+AddsFiles-lines : (options : Options) (style : Style) (files : List ToldFile) (report : Report) (tally : Tally) (before lines : List FeatureLine)
+    (a b c : Written)
+    → AddsFiles options style (files ++ listed report before tally ∷ []) a b → AddsLines options style lines b c
+    → AddsFiles options style (files ++ listed report (before ++ lines) tally ∷ []) a c
 AddsFiles-lines options style [] report tally before lines a b c (middle, adds, none) more = (
   c,
   record {
     asked = adds.asked;
     middle = adds.middle;
     report_told = adds.report_told;
-    lines_told = AddsLines-more options style before lines adds.middle middle c adds.lines_told (subst (λ (w : Written). AddsLines options style lines w c) none more);
+    lines_told = AddsLines-more options style before lines adds.middle middle c adds.lines_told
+        (subst (λ (w : Written). AddsLines options style lines w c) none more);
   },
   refl,
 )
-AddsFiles-lines options style (first ∷ rest) report tally before lines a b c (middle, here, others) more = (middle, here, AddsFiles-lines options style rest report tally before lines middle b c others more)
+AddsFiles-lines options style (first ∷ rest) report tally before lines a b c (middle, here, others) more =
+    (middle, here, AddsFiles-lines options style rest report tally before lines middle b c others more)
 
 -- a file that was judged is one of which no feature is told yet
-AddsFiles-as : (options : Options) (style : Style) (files : List ToldFile) (report : Report) (tally : Tally) (a b : Written) → (options.every ≡ Every.Nothing → ⊥)
+AddsFiles-as : (options : Options) (style : Style) (files : List ToldFile) (report : Report) (tally : Tally) (a b : Written)
+    → (options.every ≡ Every.Nothing → ⊥)
     → AddsFiles options style (files ++ judged report ∷ []) a b → AddsFiles options style (files ++ listed report [] tally ∷ []) a b
-AddsFiles-as options style [] report tally a b asked (middle, adds, none) = (middle, record { asked = asked; middle = middle; report_told = adds; lines_told = refl }, none)
-AddsFiles-as options style (first ∷ rest) report tally a b asked (middle, here, others) = (middle, here, AddsFiles-as options style rest report tally middle b asked others)
+AddsFiles-as options style [] report tally a b asked (middle, adds, none) =
+    (middle, record { asked = asked; middle = middle; report_told = adds; lines_told = refl }, none)
+AddsFiles-as options style (first ∷ rest) report tally a b asked (middle, here, others) =
+    (middle, here, AddsFiles-as options style rest report tally middle b asked others)
 
 -- ---- what is counted
 
 outcomes-are : (options : Options) (files : List ToldFile) (one other : ToldFile) → outcome_in options one ≡ outcome_in options other
     → worst (map (outcome_in options) (files ++ one ∷ [])) ≡ worst (map (outcome_in options) (files ++ other ∷ []))
 outcomes-are options files one other same =
-    ap worst (map-append (outcome_in options) files (one ∷ []) ∙ (ap (λ (o : Outcome). map (outcome_in options) files ++ o ∷ []) same ∙ sym (map-append (outcome_in options) files (other ∷ []))))
+    ap worst (map-append (outcome_in options) files (one ∷ [])
+    ∙ (ap (λ (o : Outcome). map (outcome_in options) files ++ o ∷ []) same ∙ sym (map-append (outcome_in options) files (other ∷ []))))
 
-findings-are : (files : List ToldFile) (one other : ToldFile) → finding_in one ≡ finding_in other → map finding_in (files ++ one ∷ []) ≡ map finding_in (files ++ other ∷ [])
+findings-are : (files : List ToldFile) (one other : ToldFile) → finding_in one ≡ finding_in other
+    → map finding_in (files ++ one ∷ []) ≡ map finding_in (files ++ other ∷ [])
 findings-are files one other same =
     map-append finding_in files (one ∷ []) ∙ (ap (λ (f : Option Finding). map finding_in files ++ f ∷ []) same ∙ sym (map-append finding_in files (other ∷ [])))
 
-tallies-are : (files : List ToldFile) (one other : ToldFile) → tallies_in (one ∷ []) ≡ tallies_in (other ∷ []) → tallies_in (files ++ one ∷ []) ≡ tallies_in (files ++ other ∷ [])
+tallies-are : (files : List ToldFile) (one other : ToldFile) → tallies_in (one ∷ []) ≡ tallies_in (other ∷ [])
+    → tallies_in (files ++ one ∷ []) ≡ tallies_in (files ++ other ∷ [])
 tallies-are files one other same =
     tallies-append files (one ∷ []) ∙ (ap (λ (tallies : List Tally). tallies_in files ++ tallies) same ∙ sym (tallies-append files (other ∷ [])))
 
@@ -103,7 +116,8 @@ AddsLine-at options given style asked line before after is_first unread options_
     (subst (λ (f : Bool). AddsLine given asked line (record { bytes = before.bytes; is_first = f; unread = before.unread }) after) first
     (subst (λ (u : List ℕ). AddsLine given asked line (record { bytes = before.bytes; is_first = is_first; unread = u }) after) unread_is adds)))
 
-pub TellsLines-of : {W : Type 0} (contents : W → Option (List ℕ)) (line : FeatureLine) (old new : Run W) → AddsOneLine contents line old new → TellsLines contents (line ∷ []) old new
+pub TellsLines-of : {W : Type 0} (contents : W → Option (List ℕ)) (line : FeatureLine) (old new : Run W) → AddsOneLine contents line old new
+    → TellsLines contents (line ∷ []) old new
 TellsLines-of contents line old new one = record {
   tells = λ held options style files report before tally has.
       let written = has.written in
@@ -111,13 +125,18 @@ TellsLines-of contents line old new one = record {
         options_are = one.same.options ∙ has.options_are;
         style_is = one.same.style ∙ has.style_is;
         outcome = one.same.outcome ∙ (has.outcome ∙ outcomes-are options files (listed report before tally) (listed report (before ++ line ∷ []) tally) refl);
-        summary = subst (λ (summary : Summary). Counts summary (map finding_in (files ++ listed report (before ++ line ∷ []) tally ∷ []))) (sym one.same.summary)
+        summary = subst (λ (summary : Summary). Counts summary (map finding_in (files ++ listed report (before ++ line ∷ []) tally ∷ [])))
+            (sym one.same.summary)
             (subst (Counts old.summary) (findings-are files (listed report before tally) (listed report (before ++ line ∷ []) tally) refl) has.summary);
         tally = subst (λ (now : Tally). IsTotal now (tallies_in (files ++ listed report (before ++ line ∷ []) tally ∷ []))) (sym one.same.tally)
             (subst (IsTotal old.tally) (tallies-are files (listed report before tally) (listed report (before ++ line ∷ []) tally) refl) has.tally);
         written = record { bytes = written.bytes ++ one.told; is_first = new.log.is_first; unread = new.log.unread.items };
-        files_told = AddsFiles-lines options style files report tally before (line ∷ []) (begun options.format) written _ has.files_told
-            (_, AddsLine-at options old.options style old.style line written _ old.log.is_first old.log.unread.items has.options_are has.style_is has.first has.unread (one.adds written.bytes), refl);
+        files_told = AddsFiles-lines options style files report tally before (line ∷ []) (begun options.format) written _ has.files_told (
+          _,
+          AddsLine-at options old.options style old.style line written _ old.log.is_first old.log.unread.items has.options_are has.style_is has.first
+              has.unread (one.adds written.bytes),
+          refl,
+        );
         out = Appends-trans held (contents old.out) (contents new.out) written.bytes one.told has.out (one.out has.line);
         first = refl;
         unread = refl;
@@ -140,7 +159,8 @@ pub record IsShown {W : Type 0} (contents : W → Option (List ℕ)) (old new : 
   pub line : new.line ≡ old.line
   pub out : Keeps (contents old.out) (contents new.out)
 
-HasTold-shown : {W : Type 0} (contents : W → Option (List ℕ)) (held : Option (List ℕ)) (options : Options) (style : Style) (files : List ToldFile) (old new : Run W)
+HasTold-shown : {W : Type 0} (contents : W → Option (List ℕ)) (held : Option (List ℕ)) (options : Options) (style : Style) (files : List ToldFile)
+    (old new : Run W)
     → IsShown contents old new → HasTold contents held options style files old → HasTold contents held options style files new
 HasTold-shown contents held options style files old new shown has = record {
   options_are = shown.same.options ∙ has.options_are;
@@ -167,12 +187,15 @@ pub TellsLines-shown : {W : Type 0} (contents : W → Option (List ℕ)) (lines 
     → TellsLines contents lines old middle → IsShown contents middle new → TellsLines contents lines old new
 TellsLines-shown contents lines old middle new tells shown = record {
   tells = λ held options style files report before tally has.
-      HasTold-shown contents held options style (files ++ listed report (before ++ lines) tally ∷ []) middle new shown (tells.tells held options style files report before tally has);
+      HasTold-shown contents held options style (files ++ listed report (before ++ lines) tally ∷ []) middle new shown
+      (tells.tells held options style files report before tally has);
 }
 
 -- a file was told, its features were counted, and then lines of them were told
-pub TellsFile-listed : {W : Type 0} (contents : W → Option (List ℕ)) (report : Report) (lines : List FeatureLine) (tally : Tally) (old middle counted new : Run W)
-    → (old.options.every ≡ Every.Nothing → ⊥) → TellsFile contents (judged report) old middle → HasCounted tally middle counted → TellsLines contents lines counted new
+pub TellsFile-listed : {W : Type 0} (contents : W → Option (List ℕ)) (report : Report) (lines : List FeatureLine) (tally : Tally)
+    (old middle counted new : Run W)
+    → (old.options.every ≡ Every.Nothing → ⊥) → TellsFile contents (judged report) old middle → HasCounted tally middle counted
+    → TellsLines contents lines counted new
     → TellsFile contents (listed report lines tally) old new
 TellsFile-listed contents report lines tally old middle counted new asked first counts second = record {
   tells = λ held options style files has.
@@ -187,7 +210,8 @@ TellsFile-listed contents report lines tally old middle counted new asked first 
         tally = subst (IsTotal counted.tally) (sym (tallies-append files (listed report [] tally ∷ [])))
             (counts.adds (tallies_in files) (subst (IsTotal middle.tally) (tallies-none files (judged report) refl) then.tally));
         written = then.written;
-        files_told = AddsFiles-as options style files report tally (begun options.format) then.written (λ none. asked (ap (λ (o : Options). o.every) has.options_are ∙ none)) then.files_told;
+        files_told = AddsFiles-as options style files report tally (begun options.format) then.written
+            (λ none. asked (ap (λ (o : Options). o.every) has.options_are ∙ none)) then.files_told;
         out = subst (λ out. Appends held (contents out) then.written.bytes) (sym counts.out) then.out;
         first = ap (λ (log : Log). log.is_first) counts.log ∙ then.first;
         unread = ap (λ (log : Log). log.unread.items) counts.log ∙ then.unread;
@@ -207,16 +231,29 @@ AreEntriesOf-more Right name (one ∷ more) (first ∷ rest) note line (here, ot
 -- nothing is told yet
 pub none-told : {W : Type 0} (contents : W → Option (List ℕ)) (Right : Entry → Type 0) (name : List ℕ) (run : Run W)
     → (lines : List FeatureLine) × AreEntriesOf Right name [] lines × TellsLines contents lines run run
-none-told contents Right name run = ([], tt, TellsLines-none contents run run (record { same = record { options = refl; style = refl; outcome = refl; summary = refl; tally = refl }; log = refl; line = refl; out = Keeps-refl (contents run.out) }))
+none-told contents Right name run = (
+  [],
+  tt,
+  TellsLines-none contents run run
+      (record {
+        same = record { options = refl; style = refl; outcome = refl; summary = refl; tally = refl };
+        log = refl;
+        line = refl;
+        out =
+            Keeps-refl (contents run.out);
+      }),
+)
 
 -- a note more is told
-pub more-told : {W : Type 0} (contents : W → Option (List ℕ)) (Right : Entry → Type 0) (name : List ℕ) (notes : List Note) (i : ℕ) (d : Note) (line : FeatureLine) (old middle new : Run W) → i < length notes
+pub more-told : {W : Type 0} (contents : W → Option (List ℕ)) (Right : Entry → Type 0) (name : List ℕ) (notes : List Note) (i : ℕ) (d : Note)
+    (line : FeatureLine) (old middle new : Run W) → i < length notes
     → (lines : List FeatureLine) × AreEntriesOf Right name (take i notes) lines × TellsLines contents lines old middle
     → IsEntryOf Right name (get_or notes i d) line → TellsLines contents (line ∷ []) middle new
     → (lines : List FeatureLine) × AreEntriesOf Right name (take (i + 1) notes) lines × TellsLines contents lines old new
 more-told contents Right name notes i d line old middle new within (lines, are, tells) is told = (
   lines ++ line ∷ [],
-  subst (λ (ns : List Note). AreEntriesOf Right name ns (lines ++ line ∷ [])) (sym (take_more notes i d within)) (AreEntriesOf-more Right name (take i notes) lines (get_or notes i d) line are is),
+  subst (λ (ns : List Note). AreEntriesOf Right name ns (lines ++ line ∷ [])) (sym (take_more notes i d within))
+      (AreEntriesOf-more Right name (take i notes) lines (get_or notes i d) line are is),
   TellsLines-then contents lines (line ∷ []) old middle new tells told,
 )
 
@@ -231,20 +268,25 @@ all-told contents Right name notes count old middle new (lines, are, tells) othe
   TellsLines-then contents lines (others_of name (count - length notes)) old middle new tells others,
 )
 
-pub whole-told : {W : Type 0} (contents : W → Option (List ℕ)) (Right : Entry → Type 0) (name : List ℕ) (notes : List Note) (i : ℕ) (old new : Run W) → length notes ≤ i
+pub whole-told : {W : Type 0} (contents : W → Option (List ℕ)) (Right : Entry → Type 0) (name : List ℕ) (notes : List Note) (i : ℕ) (old new : Run W)
+    → length notes ≤ i
     → (lines : List FeatureLine) × AreEntriesOf Right name (take i notes) lines × TellsLines contents lines old new
     → (lines : List FeatureLine) × AreEntriesOf Right name notes lines × TellsLines contents lines old new
-whole-told contents Right name notes i old new whole (lines, are, tells) = (lines, subst (λ (ns : List Note). AreEntriesOf Right name ns lines) (take_all i notes whole) are, tells)
+whole-told contents Right name notes i old new whole (lines, are, tells) =
+    (lines, subst (λ (ns : List Note). AreEntriesOf Right name ns lines) (take_all i notes whole) are, tells)
 
 -- the call begins where nothing of what is told has changed
-pub TellsLines-after : {W : Type 0} (contents : W → Option (List ℕ)) (lines : List FeatureLine) (old middle new : Run W) → IsShown contents old middle → TellsLines contents lines middle new → TellsLines contents lines old new
+pub TellsLines-after : {W : Type 0} (contents : W → Option (List ℕ)) (lines : List FeatureLine) (old middle new : Run W) → IsShown contents old middle
+    → TellsLines contents lines middle new → TellsLines contents lines old new
 TellsLines-after contents lines old middle new shown tells = record {
   tells = λ held options style files report before tally has.
-      tells.tells held options style files report before tally (HasTold-shown contents held options style (files ++ listed report before tally ∷ []) old middle shown has);
+      tells.tells held options style files report before tally
+      (HasTold-shown contents held options style (files ++ listed report before tally ∷ []) old middle shown has);
 }
 
 -- what is asked of the features of a file is asked at all
-pub asked-every : (options : Options) (reading : Reading) (asked : Asked) → asked_when reading (asked_in options) ≡ Some asked → options.every ≡ Every.Nothing → ⊥
+pub asked-every : (options : Options) (reading : Reading) (asked : Asked) → asked_when reading (asked_in options) ≡ Some asked → options.every ≡ Every.Nothing
+    → ⊥
 asked-every options reading asked is nothing = by-reading reading (asked_in options) is (ap (λ (every : Every). asked_by every options.most) nothing)
   where
     no-none : (asked : Asked) → None ≡ Some asked → ⊥
@@ -268,7 +310,8 @@ others_of-some name zero some = absurd (omega (arith, some))
 others_of-some name (suc count) some = refl
 
 -- the same, where the notes are gone through by another name
-pub more-told-in : {W : Type 0} (contents : W → Option (List ℕ)) (Right : Entry → Type 0) (name : List ℕ) (items notes : List Note) (i : ℕ) (d : Note) (line : FeatureLine) (old middle new : Run W) → items ≡ notes
+pub more-told-in : {W : Type 0} (contents : W → Option (List ℕ)) (Right : Entry → Type 0) (name : List ℕ) (items notes : List Note) (i : ℕ) (d : Note)
+    (line : FeatureLine) (old middle new : Run W) → items ≡ notes
     → i < length items → (lines : List FeatureLine) × AreEntriesOf Right name (take i notes) lines × TellsLines contents lines old middle
     → IsEntryOf Right name (get_or items i d) line → TellsLines contents (line ∷ []) middle new
     → (lines : List FeatureLine) × AreEntriesOf Right name (take (i + 1) notes) lines × TellsLines contents lines old new

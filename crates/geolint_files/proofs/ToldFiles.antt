@@ -47,7 +47,8 @@ tallies-append (listed report lines tally ∷ files) more = ap (λ (tallies : Li
 
 -- a file more, of which nothing is counted
 pub tallies-none : (files : List ToldFile) (file : ToldFile) → tallies_in (file ∷ []) ≡ [] → tallies_in (files ++ file ∷ []) ≡ tallies_in files
-tallies-none files file none = tallies-append files (file ∷ []) ∙ (ap (λ (tallies : List Tally). tallies_in files ++ tallies) none ∙ append-nil (tallies_in files))
+tallies-none files file none =
+    tallies-append files (file ∷ []) ∙ (ap (λ (tallies : List Tally). tallies_in files ++ tallies) none ∙ append-nil (tallies_in files))
 
 -- what a call did that told a file: to the counts, and to what is written
 pub record AddsOne {W : Type 0} (contents : W → Option (List ℕ)) (file : ToldFile) (old new : Run W) : Type 0 where
@@ -73,7 +74,8 @@ AddsFile-at options given style asked file before after is_first unread options_
     (subst (λ (f : Bool). AddsFile given asked file (record { bytes = before.bytes; is_first = f; unread = before.unread }) after) first
     (subst (λ (u : List ℕ). AddsFile given asked file (record { bytes = before.bytes; is_first = is_first; unread = u }) after) unread_is adds)))
 
-pub TellsFile-of : {W : Type 0} (contents : W → Option (List ℕ)) (file : ToldFile) (old new : Run W) → AddsOne contents file old new → TellsFile contents file old new
+pub TellsFile-of : {W : Type 0} (contents : W → Option (List ℕ)) (file : ToldFile) (old new : Run W) → AddsOne contents file old new
+    → TellsFile contents file old new
 TellsFile-of contents file old new one = record {
   tells = λ held options style files has.
       let before = has.written in
@@ -84,10 +86,12 @@ TellsFile-of contents file old new one = record {
         outcome = subst (λ (given : Options). new.outcome ≡ worst (outcomes ++ outcome_in given file ∷ [])) has.options_are (one.outcome outcomes has.outcome)
             ∙ ap worst (sym (map-append (outcome_in options) files (file ∷ [])));
         summary = subst (Counts new.summary) (sym (map-append finding_in files (file ∷ []))) (one.summary (map finding_in files) has.summary);
-        tally = subst (IsTotal new.tally) (sym (tallies-none files file one.none)) (subst (λ (tally : Tally). IsTotal tally (tallies_in files)) (sym one.tally) has.tally);
+        tally = subst (IsTotal new.tally) (sym (tallies-none files file one.none))
+            (subst (λ (tally : Tally). IsTotal tally (tallies_in files)) (sym one.tally) has.tally);
         written = record { bytes = before.bytes ++ one.told; is_first = new.log.is_first; unread = new.log.unread.items };
         files_told = AddsFiles-more options style files file (begun options.format) before _ has.files_told
-            (AddsFile-at options old.options style old.style file before _ old.log.is_first old.log.unread.items has.options_are has.style_is has.first has.unread (one.adds before.bytes));
+            (AddsFile-at options old.options style old.style file before _ old.log.is_first old.log.unread.items has.options_are has.style_is has.first
+            has.unread (one.adds before.bytes));
         out = Appends-trans held (contents old.out) (contents new.out) before.bytes one.told has.out (one.out has.line);
         first = refl;
         unread = refl;
@@ -97,7 +101,8 @@ TellsFile-of contents file old new one = record {
 
 -- ---- some more
 
-pub HasTold-moved : {W : Type 0} (contents : W → Option (List ℕ)) (held : Option (List ℕ)) (options : Options) (style : Style) (files : List ToldFile) (old new : Run W)
+pub HasTold-moved : {W : Type 0} (contents : W → Option (List ℕ)) (held : Option (List ℕ)) (options : Options) (style : Style) (files : List ToldFile)
+    (old new : Run W)
     → Unchanged old new → HasTold contents held options style files old → HasTold contents held options style files new
 HasTold-moved contents held options style files old new same has = record {
   options_are = same.same.options ∙ has.options_are;
@@ -125,11 +130,13 @@ pub TellsFiles-none : {W : Type 0} (contents : W → Option (List ℕ)) (old new
 TellsFiles-none contents old new same = record {
   tells = λ held options style files has. (
     [],
-    subst (λ (all : List ToldFile). HasTold contents held options style all new) (sym (append-nil files)) (HasTold-moved contents held options style files old new same has),
+    subst (λ (all : List ToldFile). HasTold contents held options style all new) (sym (append-nil files))
+        (HasTold-moved contents held options style files old new same has),
   );
 }
 
-pub TellsFiles-one : {W : Type 0} (contents : W → Option (List ℕ)) (file : ToldFile) (old new : Run W) → TellsFile contents file old new → TellsFiles contents old new
+pub TellsFiles-one : {W : Type 0} (contents : W → Option (List ℕ)) (file : ToldFile) (old new : Run W) → TellsFile contents file old new
+    → TellsFiles contents old new
 TellsFiles-one contents file old new told = record { tells = λ held options style files has. (file ∷ [], told.tells held options style files has) }
 
 pub TellsFiles-then : {W : Type 0} (contents : W → Option (List ℕ)) (old middle new : Run W)
@@ -145,7 +152,9 @@ pub unchanged : {W : Type 0} (run : Run W) → Unchanged run run
 unchanged run = record { same = record { options = refl; style = refl; outcome = refl; summary = refl; tally = refl }; out = refl; log = refl; line = refl }
 
 -- a file was told with the sites that were sought
-pub sought-told : {W : Type 0} {contents : W → Option (List ℕ)} {report : Report} {old new : Run W} (name : List ℕ) (finding : Finding) (Sought : Sites → Type 0)
+pub sought-told : {W : Type 0} {contents : W → Option (List ℕ)} {report : Report} {old new : Run W} (name : List ℕ) (finding : Finding)
+    (Sought : Sites → Type 0)
     → TellsFile contents (judged report) old new → report.name.now ≡ name → report.finding ≡ finding → IsSomeAnd report.sites (λ sites. Sought sites.now)
-    → (told : Report) × (told.name.now ≡ name) × (told.finding ≡ finding) × IsSomeAnd told.sites (λ sites. Sought sites.now) × TellsFile contents (judged told) old new
+    → (told : Report) × (told.name.now ≡ name) × (told.finding ≡ finding) × IsSomeAnd told.sites (λ sites. Sought sites.now)
+    × TellsFile contents (judged told) old new
 sought-told {report = report} name finding Sought tells name_is finding_is sought = (report, name_is, finding_is, sought, tells)

@@ -88,5 +88,6 @@ IsPlaced framing text entry = IfSome entry.mark (λ mark. IsMarkBy framing text 
 abbrev pub IsListedTwice : Reading → Asked → Allowed → List ℕ → Option (List ℕ) → Option (List ℕ) → (failed now_failed : ℕ) → ToldFile → Type 0
 IsListedTwice reading asked limits name had text failed now_failed (listed report lines tally) =
     (report.name.now ≡ name) × ((left : Option (List ℕ)) × Finds reading limits had left report.finding)
-    × ((middle : ℕ) × HasSites reading limits text failed middle report) × AreListed (IsPlaced (framing_in reading) text) (framing_in reading) asked limits name had lines tally
+    × ((middle : ℕ) × HasSites reading limits text failed middle report)
+    × AreListed (IsPlaced (framing_in reading) text) (framing_in reading) asked limits name had lines tally
 IsListedTwice reading asked limits name had text failed now_failed file = IsToldTwice reading limits name had text failed now_failed file

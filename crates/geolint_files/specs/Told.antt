@@ -29,7 +29,8 @@ reading_of options name = reading_by (framing_by options.framing name) options.q
 
 -- the source is read again exactly where a place is told
 abbrev pub HasSitesIf : Bool → Reading → Allowed → Option (List ℕ) → (failed now_failed : ℕ) → Report → Type 0
-HasSitesIf true reading limits text failed now_failed report = IsSomeAnd report.sites (λ sites. AreSought report.finding reading limits text failed now_failed sites.now)
+HasSitesIf true reading limits text failed now_failed report =
+    IsSomeAnd report.sites (λ sites. AreSought report.finding reading limits text failed now_failed sites.now)
 HasSitesIf false reading limits text failed now_failed report = (report.sites ≡ None) × (now_failed ≡ failed)
 
 abbrev pub HasSites : Reading → Allowed → Option (List ℕ) → (failed now_failed : ℕ) → Report → Type 0
@@ -38,7 +39,8 @@ HasSites reading limits text failed now_failed report = HasSitesIf (has_places r
 -- what is told of a source that had these bytes: what they are found to be, or that a read failed
 abbrev pub IsToldOnce : Reading → Allowed → List ℕ → Option (List ℕ) → (failed now_failed : ℕ) → ToldFile → Type 0
 IsToldOnce reading limits name had failed now_failed (judged report) =
-    (report.name.now ≡ name) × (report.sites ≡ None) × (report.hint ≡ None) × (now_failed ≡ failed) × ((left : Option (List ℕ)) × Finds reading limits had left report.finding)
+    (report.name.now ≡ name) × (report.sites ≡ None) × (report.hint ≡ None) × (now_failed ≡ failed)
+    × ((left : Option (List ℕ)) × Finds reading limits had left report.finding)
 IsToldOnce reading limits name had failed now_failed (not_read told reason) = (told ≡ name) × (now_failed ≡ u64_saturate (failed + 1))
 IsToldOnce reading limits name had failed now_failed (listed report lines tally) = ⊥
 

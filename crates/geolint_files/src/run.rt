@@ -229,7 +229,8 @@ impl<'a, W: Write + Drop> Run<'a, W> {
 
     /// Writes what comes before the first file.
     fn begin(&mut self) -> Result<(), Failure>
-        ensures { OnOk result ((held : Option (List ℕ)) → IsFresh W.contents held self.old → HasTold W.contents held self.old.options self.old.style [] self.new) }
+        ensures { OnOk result
+            ((held : Option (List ℕ)) → IsFresh W.contents held self.old → HasTold W.contents held self.old.options self.old.style [] self.new) }
     {
         if self.options.format == Format::Sarif {
             self.log.begin(&mut self.line)?;
@@ -265,7 +266,8 @@ impl<'a, W: Write + Drop> Run<'a, W> {
     /// Writes what follows the last file.
     fn end(&mut self) -> Result<(), Failure>
         ensures outcome { self.new.outcome ≡ self.old.outcome }
-        ensures told { OnOk result ((held : Option (List ℕ)) (options : Options) (style : Style) (files : List ToldFile) → HasTold W.contents held options style files self.old
+        ensures told { OnOk result
+            ((held : Option (List ℕ)) (options : Options) (style : Style) (files : List ToldFile) → HasTold W.contents held options style files self.old
             → (bytes : List ℕ) × IsWholeReport options style files bytes × Appends held (W.contents self.new.out) bytes) }
     {
         self.progress.clear();
@@ -291,7 +293,8 @@ impl<'a, W: Write + Drop> Run<'a, W> {
     /// Tells the summary, where it is asked for.
     fn tell_summary(&mut self) -> Result<(), Failure>
         ensures outcome { self.new.outcome ≡ self.old.outcome }
-        ensures told { OnOk result ((files : List ToldFile) → Counts self.old.summary (map finding_in files) → IsTotal self.old.tally (tallies_in files) → self.old.line.items ≡ []
+        ensures told { OnOk result
+            ((files : List ToldFile) → Counts self.old.summary (map finding_in files) → IsTotal self.old.tally (tallies_in files) → self.old.line.items ≡ []
             → Appends (W.contents self.old.out) (W.contents self.new.out) (summary_in self.old.options files)) }
     {
         if self.options.summary {
@@ -524,7 +527,8 @@ impl<'a, W: Write + Drop> Run<'a, W> {
     /// Tells what a source has. No line is known of its places.
     fn judge_once<S: Source>(&mut self, name: &[u8], source: &mut S) -> Result<(), Failure>
         ensures { OnOk result ((file : ToldFile)
-            × IsToldOnce (reading_of self.old.options name.now) self.old.options.limits name.now (S.remaining source.old) (S.failed_reads source.old) (S.failed_reads source.new) file
+            × IsToldOnce (reading_of self.old.options name.now) self.old.options.limits name.now (S.remaining source.old) (S.failed_reads source.old)
+            (S.failed_reads source.new) file
             × TellsFile W.contents file self.old self.new) }
     {
         let reading = self.reading(name);
@@ -544,7 +548,8 @@ impl<'a, W: Write + Drop> Run<'a, W> {
     /// Tells what a source has, and reads it again for the lines of that.
     fn judge_twice<S: Rewind>(&mut self, name: &[u8], source: &mut S) -> Result<(), Failure>
         ensures { OnOk result ((file : ToldFile)
-            × IsToldTwice (reading_of self.old.options name.now) self.old.options.limits name.now (S.remaining source.old) (S.text source.old) (S.failed_reads source.old) (S.failed_reads source.new) file
+            × IsToldTwice (reading_of self.old.options name.now) self.old.options.limits name.now (S.remaining source.old) (S.text source.old)
+            (S.failed_reads source.old) (S.failed_reads source.new) file
             × TellsFile W.contents file self.old self.new) }
     {
         let reading = self.reading(name);
@@ -594,7 +599,8 @@ impl<'a, W: Write + Drop> Run<'a, W> {
     ) -> Result<(), Failure>
         ensures text { S.text source.new ≡ S.text source.old }
         ensures told { OnOk result ((report : Report) × (report.name.now ≡ name.now) × (report.finding ≡ finding)
-            × IsSomeAnd report.sites (λ sites. AreSought finding reading self.old.options.limits (S.text source.old) (S.failed_reads source.old) (S.failed_reads source.new) sites.now)
+            × IsSomeAnd report.sites
+            (λ sites. AreSought finding reading self.old.options.limits (S.text source.old) (S.failed_reads source.old) (S.failed_reads source.new) sites.now)
             × TellsFile W.contents (judged report) self.old self.new) }
     {
         let sites = find_sites(
@@ -662,8 +668,11 @@ impl<'a, W: Write + Drop> Run<'a, W> {
     fn put(&mut self, report: &Report<'_>) -> Result<(), AllocError>
         ensures same { SameTold self.old self.new }
         ensures out { self.new.out ≡ self.old.out }
-        ensures told { OnOk result (TellsReport self.old.options.format self.old.style self.old.log.is_first report.now self.old.options.strict self.old.options.allowed self.old.line self.new.line) }
-        ensures first { OnOk result (self.new.log.is_first ≡ first_after self.old.options.format self.old.log.is_first report.now self.old.options.strict self.old.options.allowed) }
+        ensures told { OnOk result
+            (TellsReport self.old.options.format self.old.style self.old.log.is_first report.now self.old.options.strict self.old.options.allowed self.old.line
+            self.new.line) }
+        ensures first { OnOk result
+            (self.new.log.is_first ≡ first_after self.old.options.format self.old.log.is_first report.now self.old.options.strict self.old.options.allowed) }
         ensures unread { self.new.log.unread ≡ self.old.log.unread }
     {
         let alloc = self.rt.alloc();

@@ -1,6 +1,7 @@
 -- Lemmas on where the count of a code lies, and on counts with one more.
 use Rattle.std.specs.Prelude.{cond}
-use Rattle.std.proofs.Common.{arith, refl, nat_le, ◌≢◌, inl, inr, set, length, ◌≡◌, ◌≤◌, ◌<◌, ◌+◌, ◌-◌, ℕ, Bool, true, false, List, [], ◌∷◌, ◌++◌, get_or, ap, sym, ◌∙◌, nat_eq}
+use Rattle.std.proofs.Common.{arith, refl, nat_le, ◌≢◌, inl, inr, set, length, ◌≡◌, ◌≤◌, ◌<◌, ◌+◌, ◌-◌, ℕ, Bool, true, false, List, [], ◌∷◌, ◌++◌, get_or, ap}
+use Rattle.std.proofs.Common.{sym, ◌∙◌, nat_eq}
 use Rattle.std.specs.Io.Iter.{u64_saturate}
 use Rattle.std.specs.List.{count_by}
 use Rattle.std.proofs.lemmas.Bool.Decides.{nat_tests, eqb_tells}
@@ -83,12 +84,14 @@ same-slot (Code.Rule r) (Code.Kind k) small = let w = rule-range r in differ _ _
 same-slot (Code.Rule r) (Code.Cause k) small = let w = rule-range r in differ _ _ (omega (arith, w.0, w.1))
 same-slot (Code.Rule r) Code.NotValid small = differ _ _ (omega (arith, small))
 same-slot (Code.Kind k) (Code.Rule r) small = let w = rule-range r in differ-back _ _ (omega (arith, w.0, w.1))
-same-slot (Code.Kind k) (Code.Kind j) small = lessened (kind_number k) (kind_number j) (kind_range k).0 (kind_range j).0 ∙ shifted (kind_number k - 1) (kind_number j - 1) 21
+same-slot (Code.Kind k) (Code.Kind j) small =
+    lessened (kind_number k) (kind_number j) (kind_range k).0 (kind_range j).0 ∙ shifted (kind_number k - 1) (kind_number j - 1) 21
 same-slot (Code.Kind k) (Code.Cause c) small = let w = kind_range k in differ _ _ (omega (arith, w.0, w.1))
 same-slot (Code.Kind k) Code.NotValid small = differ _ _ (omega (arith, small))
 same-slot (Code.Cause c) (Code.Rule r) small = let w = rule-range r in differ-back _ _ (omega (arith, w.0, w.1))
 same-slot (Code.Cause c) (Code.Kind k) small = let w = kind_range k in differ-back _ _ (omega (arith, w.0, w.1))
-same-slot (Code.Cause c) (Code.Cause d) small = lessened (cause_number c) (cause_number d) (cause-range c).0 (cause-range d).0 ∙ shifted (cause_number c - 1) (cause_number d - 1) (21 + length kinds)
+same-slot (Code.Cause c) (Code.Cause d) small =
+    lessened (cause_number c) (cause_number d) (cause-range c).0 (cause-range d).0 ∙ shifted (cause_number c - 1) (cause_number d - 1) (21 + length kinds)
 same-slot (Code.Cause c) Code.NotValid small = differ _ _ (omega (arith, small))
 same-slot Code.NotValid b small = absurd (omega (arith, small))
 
@@ -99,9 +102,11 @@ same-none a b small none = same-slot a b small ∙ sym (differ (slot_of a) (slot
 pub counted-at : (counts : List ℕ) (a b : Code) (v : ℕ) → slot_of a < CODES → slot_of b < length counts → v ≡ more true (get_or counts (slot_of b) 0)
     → get_or (set counts (slot_of b) v) (slot_of a) 0 ≡ more (same a b) (get_or counts (slot_of a) 0)
 counted-at counts a b v small within is = elim (eqb_tells (slot_of a) (slot_of b)) [
-  | inl e ↦ (ap (λ (n : ℕ). get_or (set counts (slot_of b) v) n 0) e.1 ∙ (get_or-set_same counts (slot_of b) v 0 within ∙ (is ∙ ap (λ (n : ℕ). more true (get_or counts n 0)) (sym e.1)))
+  | inl e ↦ (ap (λ (n : ℕ). get_or (set counts (slot_of b) v) n 0) e.1
+      ∙ (get_or-set_same counts (slot_of b) v 0 within ∙ (is ∙ ap (λ (n : ℕ). more true (get_or counts n 0)) (sym e.1)))
       ∙ ap (λ (t : Bool). more t (get_or counts (slot_of a) 0)) (sym (same-slot a b small ∙ e.0)))
-  | inr e ↦ (get_or-set_other counts (slot_of b) (slot_of a) v 0 e.1 ∙ ap (λ (t : Bool). more t (get_or counts (slot_of a) 0)) (sym (same-slot a b small ∙ e.0)))
+  | inr e ↦ (get_or-set_other counts (slot_of b) (slot_of a) v 0 e.1
+      ∙ ap (λ (t : Bool). more t (get_or counts (slot_of a) 0)) (sym (same-slot a b small ∙ e.0)))
 ]
 
 -- ---- one more
@@ -110,7 +115,8 @@ pub more-saturates : (b : Bool) (n : ℕ) → more b (u64_saturate n) ≡ u64_sa
 more-saturates true n = omega arith
 more-saturates false n = omega arith
 
-pub more-counted : {X : Type 0} (test : X → Bool) (xs : List X) (x : X) (b : Bool) (old new : ℕ) → test x ≡ b → old ≡ u64_saturate (count_by test xs) → new ≡ more b old
+pub more-counted : {X : Type 0} (test : X → Bool) (xs : List X) (x : X) (b : Bool) (old new : ℕ) → test x ≡ b → old ≡ u64_saturate (count_by test xs)
+    → new ≡ more b old
     → new ≡ u64_saturate (count_by test (xs ++ x ∷ []))
 more-counted test xs x b old new is counted here =
     here ∙ (ap (λ (n : ℕ). more b n) counted ∙ (more-saturates b (count_by test xs)

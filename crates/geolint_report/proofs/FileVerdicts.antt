@@ -44,7 +44,8 @@ Judges-lasting Is limits (Some all) (Some rest) read verdict took lasts =
     }
 
 -- the verdict of what was read is that of all that begins so
-stays : {V : Type 0} (Is : Allowed → List ℕ → V → Type 0) → ((limits : Allowed) (bytes : List ℕ) (first second : V) → Is limits bytes first → Is limits bytes second → first ≡ second)
+stays : {V : Type 0} (Is : Allowed → List ℕ → V → Type 0)
+    → ((limits : Allowed) (bytes : List ℕ) (first second : V) → Is limits bytes first → Is limits bytes second → first ≡ second)
     → (limits : Allowed) (read : List ℕ) (settled verdict : V) → ((more : List ℕ) → Is limits (read ++ more) settled) → Is limits read verdict
     → (more : List ℕ) → Is limits (read ++ more) verdict
 stays Is one limits read settled verdict lasting is more =
@@ -52,17 +53,23 @@ stays Is one limits read settled verdict lasting is more =
     subst (Is limits (read ++ more)) (one limits read settled verdict here is) (lasting more)
 
 -- what was fed is right, and what decides it lasts
-judges-here : {V : Type 0} (Is : Allowed → List ℕ → V → Type 0) → ((limits : Allowed) (bytes : List ℕ) (first second : V) → Is limits bytes first → Is limits bytes second → first ≡ second)
+judges-here : {V : Type 0} (Is : Allowed → List ℕ → V → Type 0)
+    → ((limits : Allowed) (bytes : List ℕ) (first second : V) → Is limits bytes first → Is limits bytes second → first ≡ second)
     → (Stands Decides : List ℕ → Type 0) (limits : Allowed) (old new : Option (List ℕ)) (stage : Stage) (verdict : V) → Ends Stands Decides old new stage
-    → ((read : List ℕ) → Stands read → Is limits read verdict) → ((read : List ℕ) → Decides read → (settled : V) × ((more : List ℕ) → Is limits (read ++ more) settled))
+    → ((read : List ℕ) → Stands read → Is limits read verdict)
+    → ((read : List ℕ) → Decides read → (settled : V) × ((more : List ℕ) → Is limits (read ++ more) settled))
     → JudgesBy Is limits old new verdict
-judges-here Is one Stands Decides limits old new Open verdict (read, took, stands, ended) is lasts = Judges-end Is limits old new read verdict took ended (is read stands)
+judges-here Is one Stands Decides limits old new Open verdict (read, took, stands, ended) is lasts =
+    Judges-end Is limits old new read verdict took ended (is read stands)
 judges-here Is one Stands Decides limits old new Decided verdict (read, took, stands, decided) is lasts =
     Judges-lasting Is limits old new read verdict took (stays Is one limits read (lasts read decided).0 verdict (lasts read decided).1 (is read stands))
 
-pub Judges-fed : {V : Type 0} (Is : Allowed → List ℕ → V → Type 0) → ((limits : Allowed) (bytes : List ℕ) (first second : V) → Is limits bytes first → Is limits bytes second → first ≡ second)
-    → (Stands Decides : List ℕ → Type 0) (here limits : Allowed) → here ≡ limits → (old new : Option (List ℕ)) (stage : Stage) (verdict : V) → Ends Stands Decides old new stage
-    → ((read : List ℕ) → Stands read → Is here read verdict) → ((read : List ℕ) → Decides read → (settled : V) × ((more : List ℕ) → Is here (read ++ more) settled))
+pub Judges-fed : {V : Type 0} (Is : Allowed → List ℕ → V → Type 0)
+    → ((limits : Allowed) (bytes : List ℕ) (first second : V) → Is limits bytes first → Is limits bytes second → first ≡ second)
+    → (Stands Decides : List ℕ → Type 0) (here limits : Allowed) → here ≡ limits → (old new : Option (List ℕ)) (stage : Stage) (verdict : V)
+    → Ends Stands Decides old new stage
+    → ((read : List ℕ) → Stands read → Is here read verdict)
+    → ((read : List ℕ) → Decides read → (settled : V) × ((more : List ℕ) → Is here (read ++ more) settled))
     → JudgesBy Is limits old new verdict
 Judges-fed Is one Stands Decides here limits same old new stage verdict ends is lasts =
     subst (λ (l : Allowed). JudgesBy Is l old new verdict) same (judges-here Is one Stands Decides here old new stage verdict ends is lasts)

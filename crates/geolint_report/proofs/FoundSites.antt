@@ -1,5 +1,6 @@
 -- Lemmas on what a second reading finds.
-use Rattle.std.proofs.Common.{arith, rules, refl, ◌≡◌, ◌≤◌, ◌<◌, ℕ, zero, suc, ◌+◌, ◌-◌, ◌++◌, ◌∷◌, [], List, length, take, drop, set, get_or, ap, sym, ◌∙◌, subst, true, false, append-nil, length-append, Option, Some, None}
+use Rattle.std.proofs.Common.{arith, rules, refl, ◌≡◌, ◌≤◌, ◌<◌, ℕ, zero, suc, ◌+◌, ◌-◌, ◌++◌, ◌∷◌, [], List, length, take, drop, set, get_or, ap, sym, ◌∙◌}
+use Rattle.std.proofs.Common.{subst, true, false, append-nil, length-append, Option, Some, None}
 use Rattle.std.specs.Io.Iter.{u64_saturate}
 use Rattle.std.specs.Io.KnownBytes.{Consumes}
 use Rattle.std.proofs.lemmas.List.{take_all, take-append-le, take_at}
@@ -22,7 +23,8 @@ each-set P (s ∷ ss) (suc i) site all is zero other within = all zero other (om
 each-set P (s ∷ ss) (suc i) site all is (suc k) other within =
     each-set P ss i site (λ j o w. all (suc j) o (omega (arith, w))) is k other (omega (arith, within))
 
-pub right-set : (text : List ℕ) (sites : List Site) (i : ℕ) (site : Site) → AreRight text sites → IsSpot text site.place site.spot → AreRight text (set sites i site)
+pub right-set : (text : List ℕ) (sites : List Site) (i : ℕ) (site : Site) → AreRight text sites → IsSpot text site.place site.spot
+    → AreRight text (set sites i site)
 right-set text sites i site right is = each-set (λ (s : Site). s.is_found ≡ true → IsSpot text s.place s.spot) sites i site right (λ found. is)
 
 pub right-sought : (text : List ℕ) (sites : List Site) (i : ℕ) (site : Site) → AreRight text sites → site.is_found ≡ false → AreRight text (set sites i site)
@@ -45,7 +47,8 @@ pub AreRight-longer : (text more : List ℕ) (sites : List Site) → AreRight te
 AreRight-longer text more sites right = λ i other within found. IsSpot-longer text more _ _ (right i other within found)
 
 -- the place behind the bytes that are counted
-pub IsSpot-counted : (text counted rest : List ℕ) (place : ℕ) (lines : Lines) (spot : Spot) → place ≡ length (text ++ counted) → StandsFor lines (text ++ counted)
+pub IsSpot-counted : (text counted rest : List ℕ) (place : ℕ) (lines : Lines) (spot : Spot) → place ≡ length (text ++ counted)
+    → StandsFor lines (text ++ counted)
     → spot.line ≡ lines.line → spot.column ≡ lines.column → IsSpot ((text ++ counted) ++ rest) place spot
 IsSpot-counted text counted rest place lines spot here stands line column =
     let sum = length-append (text ++ counted) rest in
@@ -56,13 +59,15 @@ IsSpot-counted text counted rest place lines spot here stands line column =
       column = column ∙ stands.column ∙ ap (λ (ys : List ℕ). u64_saturate (column_of ys)) (sym same);
     }
 
-pub Spot-is : (text counted : List ℕ) (n place : ℕ) (lines : Lines) (spot : Spot) (rest : List ℕ) → length counted ≡ n → place ≡ length text + n → StandsFor lines (text ++ counted)
+pub Spot-is : (text counted : List ℕ) (n place : ℕ) (lines : Lines) (spot : Spot) (rest : List ℕ) → length counted ≡ n → place ≡ length text + n
+    → StandsFor lines (text ++ counted)
     → spot.line ≡ lines.line → spot.column ≡ lines.column → IsSpot ((text ++ counted) ++ rest) place spot
 Spot-is text counted n place lines spot rest long here stands line column =
     let sum = length-append text counted in
     IsSpot-counted text counted rest place lines spot (omega (arith, sum, long, here)) stands line column
 
-pub IsSpot-end : (text : List ℕ) (place : ℕ) (lines : Lines) (spot : Spot) → place ≡ length text → StandsFor lines text → spot.line ≡ lines.line → spot.column ≡ lines.column → IsSpot text place spot
+pub IsSpot-end : (text : List ℕ) (place : ℕ) (lines : Lines) (spot : Spot) → place ≡ length text → StandsFor lines text → spot.line ≡ lines.line
+    → spot.column ≡ lines.column → IsSpot text place spot
 IsSpot-end text place lines spot here stands line column =
     let same : take place text ≡ text = take_all place text (omega (arith, here)) in
     record {
@@ -104,6 +109,7 @@ RightBy-read None b read sites took right = tt
 RightBy-read (Some all) None read sites took right = absurd took
 RightBy-read (Some all) (Some rest) read sites took right = subst (λ (bytes : List ℕ). AreRight bytes sites) (sym took) (AreRight-longer read rest sites right)
 
-pub RightBy-reached : (a b : Option (List ℕ)) (read : List ℕ) (finder : Finder) (sites : Sites) → Consumes a b read → Reaches finder sites read [] → RightBy a sites.sites
+pub RightBy-reached : (a b : Option (List ℕ)) (read : List ℕ) (finder : Finder) (sites : Sites) → Consumes a b read → Reaches finder sites read []
+    → RightBy a sites.sites
 RightBy-reached a b read finder sites took reaches =
     RightBy-read a b read sites.sites took (subst (λ (bytes : List ℕ). AreRight bytes sites.sites) (append-nil read) reaches.right)

@@ -1,5 +1,6 @@
 -- Lemmas on the excerpt that a second reading keeps.
-use Rattle.std.proofs.Common.{arith, refl, inl, inr, ◌≡◌, ◌≤◌, ◌<◌, ◌⊎◌, ℕ, ◌+◌, ◌-◌, ◌^◌, ◌++◌, ◌∷◌, [], List, length, take, drop, get_or, ap, sym, ◌∙◌, subst, false, append-nil, length-append, Option, Some, None}
+use Rattle.std.proofs.Common.{arith, refl, inl, inr, ◌≡◌, ◌≤◌, ◌<◌, ◌⊎◌, ℕ, ◌+◌, ◌-◌, ◌^◌, ◌++◌, ◌∷◌, [], List, length, take, drop, get_or, ap, sym, ◌∙◌, subst}
+use Rattle.std.proofs.Common.{false, append-nil, length-append, Option, Some, None}
 use Rattle.std.specs.Io.KnownBytes.{Consumes, IsAtEnd}
 use Rattle.std.proofs.lemmas.Bool.{cases_lt}
 use Rattle.std.proofs.lemmas.List.{take_all, drop_all, take-append-le, drop-append-le, get_or-map}
@@ -31,7 +32,8 @@ IsAt-more old new place bytes more is fed =
     record {
       within = omega (arith, within, length-append bytes more);
       keeps = subst (λ (before : List ℕ). KeepsLine new before (drop place (bytes ++ more))) (sym (take-append-le place bytes more within))
-          (subst (λ (after : List ℕ). KeepsLine new (take place bytes) after) (sym (drop-append-le place bytes more within)) (fed (take place bytes) (drop place bytes) is.keeps));
+          (subst (λ (after : List ℕ). KeepsLine new (take place bytes) after) (sym (drop-append-le place bytes more within))
+          (fed (take place bytes) (drop place bytes) is.keeps));
     }
 
 -- ---- the last place
@@ -46,17 +48,21 @@ sought-last sites before place e last = ap (λ (places : List ℕ). get_or place
 sought-long : (sites : Sites) (before : List ℕ) (place : ℕ) → sought sites ≡ before ++ place ∷ [] → length (sought sites) ≡ length before + 1
 sought-long sites before place last = ap (λ (places : List ℕ). length places) last ∙ length-append before (place ∷ [])
 
-counted-last : (sites : Sites) (before : List ℕ) (place : ℕ) → sites.count ≤ length sites.sites → sought sites ≡ before ++ place ∷ [] → sites.count ≡ length before + 1
+counted-last : (sites : Sites) (before : List ℕ) (place : ℕ) → sites.count ≤ length sites.sites → sought sites ≡ before ++ place ∷ []
+    → sites.count ≡ length before + 1
 counted-last sites before place stored last = omega (arith, stored, sought-long sites before place last, sought-length sites)
 
-place-last : (sites : Sites) (before : List ℕ) (place : ℕ) → sites.count ≤ length sites.sites → sought sites ≡ before ++ place ∷ [] → (get_or sites.sites (sites.count - 1) no_site).place ≡ place
+place-last : (sites : Sites) (before : List ℕ) (place : ℕ) → sites.count ≤ length sites.sites → sought sites ≡ before ++ place ∷ []
+    → (get_or sites.sites (sites.count - 1) no_site).place ≡ place
 place-last sites before place stored last =
     let counted = counted-last sites before place stored last in
     let index : sites.count - 1 ≡ length before = omega (arith, counted) in
     ap (λ (k : ℕ). (get_or sites.sites k no_site).place) index
-    ∙ (sym (sought-at sites (length before) place no_site (omega (arith, counted)) (omega (arith, counted, stored))) ∙ sought-last sites before place place last)
+    ∙ (sym (sought-at sites (length before) place no_site (omega (arith, counted)) (omega (arith, counted, stored)))
+    ∙ sought-last sites before place place last)
 
-settled-place : (old new : Sites) (i k : ℕ) (other : Site) → Settles old new i → k < length new.sites → (get_or new.sites k other).place ≡ (get_or old.sites k other).place
+settled-place : (old new : Sites) (i k : ℕ) (other : Site) → Settles old new i → k < length new.sites
+    → (get_or new.sites k other).place ≡ (get_or old.sites k other).place
 settled-place old new i k other settles within =
     sym (get_or-map (λ (s : Site). s.place) new.sites k other 0 within)
     ∙ (ap (λ (places : List ℕ). get_or places k 0) settles.places
@@ -77,12 +83,15 @@ Shows-piece finder sites text piece none shows =
     record {
       stored = shows.stored;
       before = λ fewer. subst (λ (ys : List ℕ). KeepsLine sites.excerpt (text ++ ys) []) same (shows.before fewer);
-      behind = λ other some reached. subst (λ (ys : List ℕ). IsAt sites.excerpt (get_or sites.sites (sites.count - 1) other).place (text ++ ys)) same (shows.behind other some reached);
+      behind = λ other some reached. subst (λ (ys : List ℕ). IsAt sites.excerpt (get_or sites.sites (sites.count - 1) other).place (text ++ ys)) same
+          (shows.behind other some reached);
     }
 
 -- the next place is found
-pub Shows-settled : (finder new : Finder) (old sites : Sites) (text piece : List ℕ) (other : Site) → Shows finder old text piece → Settles old sites finder.next → new.next ≡ finder.next + 1
-    → finder.next < old.count → (get_or old.sites finder.next other).place ≡ length (text ++ take new.counted piece) → KeepsLine sites.excerpt (text ++ take new.counted piece) []
+pub Shows-settled : (finder new : Finder) (old sites : Sites) (text piece : List ℕ) (other : Site) → Shows finder old text piece → Settles old sites finder.next
+    → new.next ≡ finder.next + 1
+    → finder.next < old.count → (get_or old.sites finder.next other).place ≡ length (text ++ take new.counted piece)
+    → KeepsLine sites.excerpt (text ++ take new.counted piece) []
     → Shows new sites text piece
 Shows-settled finder new old sites text piece other shows settles next counted here keeps = record {
   stored = omega (arith, stored, long, settles.count);
@@ -93,7 +102,8 @@ Shows-settled finder new old sites text piece other shows settles next counted h
       let place : (get_or sites.sites (sites.count - 1) d).place ≡ length (text ++ take new.counted piece) =
       ap (λ (k : ℕ). (get_or sites.sites k d).place) index
       ∙ (sym (get_or-map (λ (s : Site). s.place) sites.sites finder.next d 0 within)
-      ∙ (get_or-map (λ (s : Site). s.place) sites.sites finder.next other 0 within ∙ (settled-place old sites finder.next finder.next other settles within ∙ here))) in
+      ∙ (get_or-map (λ (s : Site). s.place) sites.sites finder.next other 0 within
+      ∙ (settled-place old sites finder.next finder.next other settles within ∙ here))) in
       IsAt-here sites.excerpt _ _ place keeps;
 }
   where
@@ -119,21 +129,24 @@ excerpt-behind finder sites text more shows reached whole = λ before place last
     longer.keeps
 
 -- the last place is not before the end
-excerpt-before : (finder : Finder) (sites : Sites) (text : List ℕ) → Shows finder sites text [] → Seeks finder sites (length text) → finder.next < sites.count → IsExcerpt text sites
+excerpt-before : (finder : Finder) (sites : Sites) (text : List ℕ) → Shows finder sites text [] → Seeks finder sites (length text) → finder.next < sites.count
+    → IsExcerpt text sites
 excerpt-before finder sites text shows seeks fewer = λ before place last within short.
     let counted = counted-last sites before place shows.stored last in
     let long = sought-long sites before place last in
     let here = sought-last sites before place place last in
     let ahead = seeks.ahead (length before) place (omega (arith, counted, fewer)) (omega (arith, long)) (omega (arith, here, within, short)) in
     let bytes : text ++ take finder.counted [] ≡ text = ap (λ (ys : List ℕ). text ++ ys) (take_all finder.counted [] (omega arith)) ∙ append-nil text in
-    let is = IsAt-here sites.excerpt place text (omega (arith, ahead, here, within)) (subst (λ (ys : List ℕ). KeepsLine sites.excerpt ys []) bytes (shows.before fewer)) in
+    let is = IsAt-here sites.excerpt place text (omega (arith, ahead, here, within))
+    (subst (λ (ys : List ℕ). KeepsLine sites.excerpt ys []) bytes (shows.before fewer)) in
     is.keeps
 
 pub excerpt-end : (finder : Finder) (sites : Sites) (text : List ℕ) → Shows finder sites text [] → Seeks finder sites (length text) → IsExcerpt text sites
 excerpt-end finder sites text shows seeks = elim (cases_lt finder.next sites.count) [
   | inl fewer ↦ excerpt-before finder sites text shows seeks fewer
   | inr reached ↦ subst (λ (bytes : List ℕ). IsExcerpt bytes sites) (append-nil text)
-      (excerpt-behind finder sites text [] shows reached (λ before after keeps. subst (λ (ys : List ℕ). KeepsLine sites.excerpt before ys) (sym (append-nil after)) keeps))
+      (excerpt-behind finder sites text [] shows reached
+      (λ before after keeps. subst (λ (ys : List ℕ). KeepsLine sites.excerpt before ys) (sym (append-nil after)) keeps))
 ]
 
 -- where nothing but the found changes
@@ -143,15 +156,18 @@ excerpt-same old new text excerpt same around = λ before place last within shor
 
 -- ---- where the reader told its bytes
 
-pub ExcerptBy-whole : (a b : Option (List ℕ)) (read : List ℕ) (finder : Finder) (sites : Sites) → Consumes a b read → Shows finder sites read [] → sites.count ≤ finder.next
+pub ExcerptBy-whole : (a b : Option (List ℕ)) (read : List ℕ) (finder : Finder) (sites : Sites) → Consumes a b read → Shows finder sites read []
+    → sites.count ≤ finder.next
     → ((before after more : List ℕ) → KeepsLine sites.excerpt before after → KeepsLine sites.excerpt before (after ++ more)) → ExcerptBy a sites
 ExcerptBy-whole None b read finder sites took shows reached whole = tt
 ExcerptBy-whole (Some all) None read finder sites took shows reached whole = absurd took
 ExcerptBy-whole (Some all) (Some rest) read finder sites took shows reached whole =
-    subst (λ (bytes : List ℕ). IsExcerpt bytes sites) (sym took) (excerpt-behind finder sites read rest shows reached (λ before after keeps. whole before after rest keeps))
+    subst (λ (bytes : List ℕ). IsExcerpt bytes sites) (sym took)
+    (excerpt-behind finder sites read rest shows reached (λ before after keeps. whole before after rest keeps))
 
 -- at the end, or behind as many bytes as a u64 counts
-pub ExcerptBy-read : (a b : Option (List ℕ)) (read : List ℕ) (sites : Sites) → Consumes a b read → IsAtEnd b ⊎ (2 ^ 64 - 1 ≤ length read) → IsExcerpt read sites → ExcerptBy a sites
+pub ExcerptBy-read : (a b : Option (List ℕ)) (read : List ℕ) (sites : Sites) → Consumes a b read → IsAtEnd b ⊎ (2 ^ 64 - 1 ≤ length read) → IsExcerpt read sites
+    → ExcerptBy a sites
 ExcerptBy-read None b read sites took ended around = tt
 ExcerptBy-read (Some all) None read sites took ended around = absurd took
 ExcerptBy-read (Some all) (Some rest) read sites took (inl ended) around =

@@ -1,5 +1,6 @@
 -- Lemmas on the notes that are kept.
-use Rattle.std.proofs.Common.{arith, refl, true, false, ◌≡◌, ◌<◌, ◌≤◌, ℕ, ◌+◌, ◌++◌, ◌∷◌, [], List, Bool, ap, sym, ◌∙◌, subst, length, take, append-nil, length-append, get_or}
+use Rattle.std.proofs.Common.{arith, refl, true, false, ◌≡◌, ◌<◌, ◌≤◌, ℕ, ◌+◌, ◌++◌, ◌∷◌, [], List, Bool, ap, sym, ◌∙◌, subst, length, take, append-nil}
+use Rattle.std.proofs.Common.{length-append, get_or}
 use Rattle.std.proofs.lemmas.List.{length-take, take-append-le, take_all, take_more}
 use Rattle.std.proofs.lemmas.List.Concat.{flat_map-append}
 use Rattle.std.specs.Io.Iter.{u64_saturate}
@@ -20,7 +21,8 @@ use Rattle.geolint_report.specs.declared.every.listing.Note.{Note}
 use Rattle.geolint_report.specs.declared.every.listing.Asked.{Asked}
 use Rattle.geolint_report.specs.declared.every.listing.Listing.{Listing}
 use Rattle.geolint_report.specs.declared.every.tally.Tally.{Tally}
-use Rattle.geolint_report.specs.Every.{feature_notes, notes_of, notes_of_records, Keeps, KeepsOf, KeepsNotes, Lists, ListsIn, ListsBy, ListsFor, AreFirst, AreNotesAll, AreNotesIn, AreNotesBy}
+use Rattle.geolint_report.specs.Every.{feature_notes, notes_of, notes_of_records, Keeps, KeepsOf, KeepsNotes, Lists, ListsIn, ListsBy, ListsFor, AreFirst}
+use Rattle.geolint_report.specs.Every.{AreNotesAll, AreNotesIn, AreNotesBy}
 
 -- there is room for one more
 pub take-longer : {A : Type 0} (room : ℕ) (all : List A) (x : A) → length (take room all) < room → take room (all ++ x ∷ []) ≡ take room all ++ x ∷ []
@@ -40,7 +42,8 @@ pub notes_of-more : (with_warnings : Bool) (features : List Feature) (feature : 
     → notes_of with_warnings (features ++ feature ∷ []) ≡ notes_of with_warnings features ++ feature_notes with_warnings feature
 unfolding notes_of
 notes_of-more with_warnings features feature =
-    flat_map-append (feature_notes with_warnings) features (feature ∷ []) ∙ ap (λ (ys : List Note). flat_map (feature_notes with_warnings) features ++ ys) (append-nil (feature_notes with_warnings feature))
+    flat_map-append (feature_notes with_warnings) features (feature ∷ [])
+    ∙ ap (λ (ys : List Note). flat_map (feature_notes with_warnings) features ++ ys) (append-nil (feature_notes with_warnings feature))
 
 -- ---- before the first feature
 
@@ -51,12 +54,15 @@ KeepsNotes-none listing keeps none = record { keeps = keeps; items_are = none }
 -- ---- a feature more
 
 -- one more is counted
-pub items-more : {A : Type 0} (old new : Listing) (xs : List A) (x : A) → new.tally.items ≡ u64_saturate (old.tally.items + 1) → old.tally.items ≡ u64_saturate (length xs)
+pub items-more : {A : Type 0} (old new : Listing) (xs : List A) (x : A) → new.tally.items ≡ u64_saturate (old.tally.items + 1)
+    → old.tally.items ≡ u64_saturate (length xs)
     → new.tally.items ≡ u64_saturate (length (xs ++ x ∷ []))
 items-more old new xs x adds were = omega (arith, adds, were, length-append xs (x ∷ []))
 
-pub KeepsNotes-more : (old new : Listing) (features : List Feature) (feature : Feature) → new.asked ≡ old.asked → new.tally.items ≡ u64_saturate (old.tally.items + 1)
-    → ((all : List Note) → Keeps old all → Keeps new (all ++ feature_notes old.asked.with_warnings feature)) → KeepsNotes old features → KeepsNotes new (features ++ feature ∷ [])
+pub KeepsNotes-more : (old new : Listing) (features : List Feature) (feature : Feature) → new.asked ≡ old.asked
+    → new.tally.items ≡ u64_saturate (old.tally.items + 1)
+    → ((all : List Note) → Keeps old all → Keeps new (all ++ feature_notes old.asked.with_warnings feature)) → KeepsNotes old features
+    → KeepsNotes new (features ++ feature ∷ [])
 KeepsNotes-more old new features feature asked counted adds before =
     let all = notes_of old.asked.with_warnings features in
     record {
@@ -83,12 +89,14 @@ KeepsNotes-clean old new features clean asked counted still keeps =
 -- ---- when the input has ended
 
 -- of any verdict, since of what is no JSON nothing is said
-pub ListsFor-text : (verdict : Verdict) (limits : Allowed) (had : Option (List ℕ)) (listing : Listing) → ListsBy None limits had listing → ListsFor None (Finding.Text verdict) limits had listing
+pub ListsFor-text : (verdict : Verdict) (limits : Allowed) (had : Option (List ℕ)) (listing : Listing) → ListsBy None limits had listing
+    → ListsFor None (Finding.Text verdict) limits had listing
 ListsFor-text (NotJson fault) limits had listing by = tt
 ListsFor-text (Valid warnings) limits had listing by = by
 ListsFor-text (Broken fault) limits had listing by = by
 
-pub Lists-end : (verdict : Verdict) (here limits : Allowed) (old new : Option (List ℕ)) (read : List ℕ) (listing : Listing) → here ≡ limits → Consumes old new read → IsAtEnd new
+pub Lists-end : (verdict : Verdict) (here limits : Allowed) (old new : Option (List ℕ)) (read : List ℕ) (listing : Listing) → here ≡ limits
+    → Consumes old new read → IsAtEnd new
     → Lists here read listing → ListsFor None (Finding.Text verdict) limits old listing
 Lists-end verdict here limits old new read listing same took ended lists = ListsFor-text verdict limits old listing (at-end old new took ended)
   where
@@ -99,25 +107,31 @@ Lists-end verdict here limits old new read listing same took ended lists = Lists
         let is : all ≡ read = took ∙ (ap (λ (ys : List ℕ). read ++ ys) ended ∙ append-nil read) in
         subst (λ (bytes : List ℕ). Lists limits bytes listing) (sym is) (subst (λ (l : Allowed). Lists l read listing) same lists)
 
-pub Lists-refused : (verdict : Verdict) (fault : JsonFault) (limits : Allowed) (old : Option (List ℕ)) (listing : Listing) → verdict ≡ NotJson fault → ListsFor None (Finding.Text verdict) limits old listing
+pub Lists-refused : (verdict : Verdict) (fault : JsonFault) (limits : Allowed) (old : Option (List ℕ)) (listing : Listing) → verdict ≡ NotJson fault
+    → ListsFor None (Finding.Text verdict) limits old listing
 Lists-refused verdict fault limits old listing is = subst (λ (v : Verdict). ListsFor None (Finding.Text v) limits old listing) (sym is) tt
 
 -- ---- what is told of them
 
 -- what is told of a listing that kept these notes and counted so many features or records
-all-of : (listing : Listing) (asked : Asked) (notes : List Note) (count : ℕ) (tally : Tally) (of : Asked → List Note) (items : ℕ) → listing.asked ≡ asked → tally ≡ listing.tally
-    → ((all : List Note) → Keeps listing all → AreFirst listing.asked notes count all) → KeepsOf listing (of listing.asked) items → AreNotesAll asked notes count tally (of asked) items
+all-of : (listing : Listing) (asked : Asked) (notes : List Note) (count : ℕ) (tally : Tally) (of : Asked → List Note) (items : ℕ) → listing.asked ≡ asked
+    → tally ≡ listing.tally
+    → ((all : List Note) → Keeps listing all → AreFirst listing.asked notes count all) → KeepsOf listing (of listing.asked) items
+    → AreNotesAll asked notes count tally (of asked) items
 all-of listing asked notes count tally of items same counts kept before =
     subst (λ (a : Asked). AreNotesAll a notes count tally (of a) items) same
     (subst (λ (t : Tally). AreNotesAll listing.asked notes count t (of listing.asked) items) (sym counts)
     (record { are_first = kept (of listing.asked) before.keeps; tallied = before.keeps.tally; items_are = before.items_are }))
 
-pub AreNotes-of : (framing : Option Framing) (finding : Finding) (listing : Listing) (asked : Asked) (notes : List Note) (count : ℕ) (tally : Tally) (limits : Allowed) (had : Option (List ℕ)) → listing.asked ≡ asked
+pub AreNotes-of : (framing : Option Framing) (finding : Finding) (listing : Listing) (asked : Asked) (notes : List Note) (count : ℕ) (tally : Tally)
+    (limits : Allowed) (had : Option (List ℕ)) → listing.asked ≡ asked
     → tally ≡ listing.tally → ((all : List Note) → Keeps listing all → AreFirst listing.asked notes count all)
-    → ListsFor framing finding limits had listing → ((fault : JsonFault) → finding ≡ Finding.Text (NotJson fault) → ⊥) → AreNotesBy framing asked notes count tally limits had
+    → ListsFor framing finding limits had listing → ((fault : JsonFault) → finding ≡ Finding.Text (NotJson fault) → ⊥)
+    → AreNotesBy framing asked notes count tally limits had
 AreNotes-of framing finding listing asked notes count tally limits had same counts kept lists is_json = by-bytes had (of-json finding lists is_json)
   where
-    of-json : (finding : Finding) → ListsFor framing finding limits had listing → ((fault : JsonFault) → finding ≡ Finding.Text (NotJson fault) → ⊥) → ListsBy framing limits had listing
+    of-json : (finding : Finding) → ListsFor framing finding limits had listing → ((fault : JsonFault) → finding ≡ Finding.Text (NotJson fault) → ⊥)
+        → ListsBy framing limits had listing
     of-json (Finding.Text (NotJson fault)) lists is_json = absurd (is_json fault refl)
     of-json (Finding.Text (Valid warnings)) lists is_json = lists
     of-json (Finding.Text (Broken fault)) lists is_json = lists
@@ -145,4 +159,5 @@ AreNotes-of framing finding listing asked notes count tally limits had same coun
 pub parts-more : {A B : Type 0} (part : A → List B) (xs : List A) (i : ℕ) (d : A) → i < length xs
     → flat_map part (take (i + 1) xs) ≡ flat_map part (take i xs) ++ part (get_or xs i d)
 parts-more {A = A} {B = B} part xs i d within =
-    ap (λ (ys : List A). flat_map part ys) (take_more xs i d within) ∙ (flat_map-append part (take i xs) (get_or xs i d ∷ []) ∙ ap (λ (ys : List B). flat_map part (take i xs) ++ ys) (append-nil (part (get_or xs i d))))
+    ap (λ (ys : List A). flat_map part ys) (take_more xs i d within)
+    ∙ (flat_map-append part (take i xs) (get_or xs i d ∷ []) ∙ ap (λ (ys : List B). flat_map part (take i xs) ++ ys) (append-nil (part (get_or xs i d))))

@@ -31,8 +31,10 @@ pub KeepsRecords-none : (listing : Listing) → Keeps listing [] → listing.tal
 unfolding notes_of_records
 KeepsRecords-none listing keeps none = record { keeps = keeps; items_are = none }
 
-pub KeepsRecords-more : (old new : Listing) (records : List Record) (found : Record) → new.asked ≡ old.asked → new.tally.items ≡ u64_saturate (old.tally.items + 1)
-    → ((all : List Note) → Keeps old all → Keeps new (all ++ record_notes old.asked.with_warnings found)) → KeepsRecords old records → KeepsRecords new (records ++ found ∷ [])
+pub KeepsRecords-more : (old new : Listing) (records : List Record) (found : Record) → new.asked ≡ old.asked
+    → new.tally.items ≡ u64_saturate (old.tally.items + 1)
+    → ((all : List Note) → Keeps old all → Keeps new (all ++ record_notes old.asked.with_warnings found)) → KeepsRecords old records
+    → KeepsRecords new (records ++ found ∷ [])
 KeepsRecords-more old new records found asked counted adds before =
     let all = notes_of_records old.asked.with_warnings records in
     record {
@@ -43,13 +45,15 @@ KeepsRecords-more old new records found asked counted adds before =
 
 -- ---- when the input has ended
 
-pub listed-of : (listing : Listing) (kind framing : Framing) (here limits : Allowed) (bytes : List ℕ) (found : List Record) (verdict : SeqVerdict) → kind ≡ framing → here ≡ limits
+pub listed-of : (listing : Listing) (kind framing : Framing) (here limits : Allowed) (bytes : List ℕ) (found : List Record) (verdict : SeqVerdict)
+    → kind ≡ framing → here ≡ limits
     → HaveToldAll (KeepsRecords listing) kind here bytes [] found verdict → ListsRecords framing limits bytes listing
 listed-of listing kind framing here limits bytes found verdict kinds same all =
     subst (λ (l : Allowed). ListsRecords framing l bytes listing) same
     (subst (λ (f : Framing). ListsRecords f here bytes listing) kinds (found ++ all.more, all.findings, all.heard))
 
-pub verdict-of : (listing : Listing) (kind framing : Framing) (here limits : Allowed) (bytes : List ℕ) (found : List Record) (verdict : SeqVerdict) → kind ≡ framing → here ≡ limits
+pub verdict-of : (listing : Listing) (kind framing : Framing) (here limits : Allowed) (bytes : List ℕ) (found : List Record) (verdict : SeqVerdict)
+    → kind ≡ framing → here ≡ limits
     → HaveToldAll (KeepsRecords listing) kind here bytes [] found verdict → IsWholeVerdict framing limits bytes verdict
 verdict-of listing kind framing here limits bytes found verdict kinds same all =
     subst (λ (l : Allowed). IsWholeVerdict framing l bytes verdict) same

@@ -23,7 +23,8 @@ given_more begin here there offset count grown before below =
     ]
 
 -- a count of reads, one read later
-pub one_read : (begin here there offset : ℕ) (read : List ℕ) → length read ≡ offset → there ≡ u64_saturate (here + 1) → here ≤ begin + offset → there ≤ begin + (length read + 1)
+pub one_read : (begin here there offset : ℕ) (read : List ℕ) → length read ≡ offset → there ≡ u64_saturate (here + 1) → here ≤ begin + offset
+    → there ≤ begin + (length read + 1)
 one_read begin here there offset read count grown before =
     elim (cases_lt (here + 1) (2 ^ 64 - 1)) [
       | inl within ↦
@@ -35,7 +36,8 @@ one_read begin here there offset read count grown before =
     ]
 
 -- the last read gave these bytes, or none
-pub stops : (ShowNone : Allowed → List ℕ → Type 0) (room : ℕ) (limits : Allowed) (old new : Option (List ℕ)) (before last : List ℕ) (reads now_read : ℕ) → Consumes old new (before ++ last)
+pub stops : (ShowNone : Allowed → List ℕ → Type 0) (room : ℕ) (limits : Allowed) (old new : Option (List ℕ)) (before last : List ℕ) (reads now_read : ℕ)
+    → Consumes old new (before ++ last)
     → (before ≡ []) ⊎ ShowNone limits before → now_read ≤ reads + (length before + 1) → length last ≤ room → StopsBy ShowNone room limits old new reads now_read
 stops ShowNone room limits None new before last reads now_read took clean few short = (before, last, took, tt)
 stops ShowNone room limits (Some all) None before last reads now_read took clean few short = absurd took

@@ -1,5 +1,6 @@
 -- Lemmas on the places of a finding, in the order in which they are sought.
-use Rattle.std.proofs.Common.{arith, refl, ap, sym, subst, ◌∙◌, ◌≡◌, ◌<◌, ◌≤◌, ◌-◌, ◌^◌, ℕ, zero, suc, Bool, true, false, List, [], ◌∷◌, length, get_or, take, length-take, Option, Some, None, inl, inr}
+use Rattle.std.proofs.Common.{arith, refl, ap, sym, subst, ◌∙◌, ◌≡◌, ◌<◌, ◌≤◌, ◌-◌, ◌^◌, ℕ, zero, suc, Bool, true, false, List, [], ◌∷◌, length, get_or, take}
+use Rattle.std.proofs.Common.{length-take, Option, Some, None, inl, inr}
 use Rattle.std.specs.Prelude.{cond, unwrap_or}
 use Rattle.std.specs.List.{Contains, filter}
 use Rattle.std.specs.List.Sorted.{IsPermutation}
@@ -82,7 +83,8 @@ some-first (Some x) place is passes = ap Some is
 some-first None place is passes = absurd (not-last (ap is_sought is ∙ passes))
 
 -- the places of a list, sorted, of which the greatest u64 is not sought
-pub each_place : (warnings : Warnings) (places sorted : List ℕ) → length places ≡ 10 → ((k : ℕ) → k < 9 → get_or places k 0 ≡ first_or_none (get_or kinds k W1) warnings)
+pub each_place : (warnings : Warnings) (places sorted : List ℕ) → length places ≡ 10
+    → ((k : ℕ) → k < 9 → get_or places k 0 ≡ first_or_none (get_or kinds k W1) warnings)
     → IsPermutation places sorted → (place : ℕ) → IsFirstPlace warnings place → place < 2 ^ 64 - 1 → Contains (filter is_sought sorted) place
 each_place warnings places sorted ten firsts permuted place told below =
     let k = index_of told.0 in
@@ -93,7 +95,8 @@ each_place warnings places sorted ten firsts permuted place told below =
     let there = Contains-permutation places sorted place permuted here in
     filter-keeps is_sought sorted there.0 place there.1 there.2 (is-sought place below)
 
-at-place : (warnings : Warnings) (places : List ℕ) (place : ℕ) → length places ≡ 10 → ((k : ℕ) → k < 9 → get_or places k 0 ≡ first_or_none (get_or kinds k W1) warnings)
+at-place : (warnings : Warnings) (places : List ℕ) (place : ℕ) → length places ≡ 10
+    → ((k : ℕ) → k < 9 → get_or places k 0 ≡ first_or_none (get_or kinds k W1) warnings)
     → get_or places 9 0 ≡ 2 ^ 64 - 1 → is_sought place ≡ true → (k : ℕ) → k < length places → get_or places k place ≡ place → IsFirstPlace warnings place
 at-place warnings places place ten firsts last passes k within is =
     let here : get_or places k 0 ≡ place = get_or_default places k 0 place within ∙ is in
@@ -105,7 +108,8 @@ at-place warnings places place ten firsts last passes k within is =
           absurd (not-last (ap is_sought greatest ∙ passes))
     ]
 
-pub only_places : (warnings : Warnings) (places sorted : List ℕ) → length places ≡ 10 → ((k : ℕ) → k < 9 → get_or places k 0 ≡ first_or_none (get_or kinds k W1) warnings)
+pub only_places : (warnings : Warnings) (places sorted : List ℕ) → length places ≡ 10
+    → ((k : ℕ) → k < 9 → get_or places k 0 ≡ first_or_none (get_or kinds k W1) warnings)
     → get_or places 9 0 ≡ 2 ^ 64 - 1 → IsPermutation places sorted → (place : ℕ) → Contains (filter is_sought sorted) place → IsFirstPlace warnings place
 only_places warnings places sorted ten firsts last permuted place told =
     let kept = filter-kept is_sought sorted told.0 place told.1 told.2 in

@@ -1,5 +1,6 @@
 -- Lemmas on the places that a second reading seeks.
-use Rattle.std.proofs.Common.{arith, refl, ◌≡◌, ◌≤◌, ◌<◌, ◌⊎◌, inl, inr, min, zero, suc, add-one, ℕ, ◌+◌, ◌-◌, ◌^◌, ◌++◌, ◌∷◌, [], List, length, take, map, set, get_or, ap, sym, ◌∙◌, subst, true, false, append-nil, Option, Some, None}
+use Rattle.std.proofs.Common.{arith, refl, ◌≡◌, ◌≤◌, ◌<◌, ◌⊎◌, inl, inr, min, zero, suc, add-one, ℕ, ◌+◌, ◌-◌, ◌^◌, ◌++◌, ◌∷◌, [], List, length, take, map, set}
+use Rattle.std.proofs.Common.{get_or, ap, sym, ◌∙◌, subst, true, false, append-nil, Option, Some, None}
 use Rattle.std.specs.Io.KnownBytes.{Consumes, IsAtEnd}
 use Rattle.std.specs.List.{Contains, list_any}
 use Rattle.std.specs.List.Sorted.{IsNonDecreasing}
@@ -17,12 +18,14 @@ use Rattle.geolint_report.specs.Internal.SecondReading.{Seeks, Settles}
 no_site : Site
 no_site = record { place = 0; spot = record { line = 0; column = 0 }; path = None; is_found = false }
 
-pub sought-at : (sites : Sites) (i e : ℕ) (other : Site) → i < sites.count → i < length sites.sites → get_or (sought sites) i e ≡ (get_or sites.sites i other).place
+pub sought-at : (sites : Sites) (i e : ℕ) (other : Site) → i < sites.count → i < length sites.sites
+    → get_or (sought sites) i e ≡ (get_or sites.sites i other).place
 sought-at sites i e other counted within =
     get_or-take sites.count (map (λ (s : Site). s.place) sites.sites) i e counted ∙ get_or-map (λ (s : Site). s.place) sites.sites i other e within
 
 pub sought-length : (sites : Sites) → length (sought sites) ≡ min sites.count (length sites.sites)
-sought-length sites = length-take sites.count (map (λ (s : Site). s.place) sites.sites) ∙ ap (λ (n : ℕ). min sites.count n) (length-map sites.sites (λ (s : Site). s.place))
+sought-length sites =
+    length-take sites.count (map (λ (s : Site). s.place) sites.sites) ∙ ap (λ (n : ℕ). min sites.count n) (length-map sites.sites (λ (s : Site). s.place))
 
 pub sought-counted : (sites : Sites) (i : ℕ) → i < length (sought sites) → i < sites.count
 sought-counted sites i within = omega (arith, within, sought-length sites)
@@ -52,7 +55,8 @@ sought-more sites site place room is =
 
 -- ---- one place is settled
 
-found-set : (sites : List Site) (i k : ℕ) (site other : Site) → site.is_found ≡ true → k < length sites → (get_or sites k other).is_found ≡ true → (get_or (set sites i site) k other).is_found ≡ true
+found-set : (sites : List Site) (i k : ℕ) (site other : Site) → site.is_found ≡ true → k < length sites → (get_or sites k other).is_found ≡ true
+    → (get_or (set sites i site) k other).is_found ≡ true
 found-set sites i k site other found within before = elim (cases_lt k i) [
   | inl less ↦ rw (get_or-set_other sites i k site other (omega (arith, less))) before
   | inr more ↦ elim (cases_lt i k) [
@@ -70,18 +74,21 @@ Settles-set old i site other same found = record {
   places = map-set_same (λ (s : Site). s.place) old.sites i site other same;
   here = λ d within. let stored : i < length old.sites = omega (arith, within, length-set old.sites i site) in
       ap (λ (s : Site). s.is_found) (get_or-set_same old.sites i site d stored) ∙ found;
-  kept = λ k d within before. let stored : k < length old.sites = omega (arith, within, length-set old.sites i site) in found-set old.sites i k site d found stored before;
+  kept = λ k d within before. let stored : k < length old.sites =
+      omega (arith, within, length-set old.sites i site) in found-set old.sites i k site d found stored before;
 }
 
 pub sought-settled : (old new : Sites) (i : ℕ) → Settles old new i → sought new ≡ sought old
-sought-settled old new i settles = ap (λ (n : ℕ). take n (map (λ (s : Site). s.place) new.sites)) settles.count ∙ ap (λ (places : List ℕ). take old.count places) settles.places
+sought-settled old new i settles =
+    ap (λ (n : ℕ). take n (map (λ (s : Site). s.place) new.sites)) settles.count ∙ ap (λ (places : List ℕ). take old.count places) settles.places
 
 pub settled-length : (old new : Sites) (i : ℕ) → Settles old new i → length new.sites ≡ length old.sites
 settled-length old new i settles =
     sym (length-map new.sites (λ (s : Site). s.place)) ∙ (ap (λ (places : List ℕ). length places) settles.places ∙ length-map old.sites (λ (s : Site). s.place))
 
 -- the next place is found, and the later ones are not before it
-pub Seeks-settled : (finder new : Finder) (old sites : Sites) (passed now : ℕ) → Seeks finder old passed → Settles old sites finder.next → new.next ≡ finder.next + 1
+pub Seeks-settled : (finder new : Finder) (old sites : Sites) (passed now : ℕ) → Seeks finder old passed → Settles old sites finder.next
+    → new.next ≡ finder.next + 1
     → ((k e : ℕ) → finder.next < k → k < length (sought old) → now ≤ get_or (sought old) k e) → Seeks new sites now
 Seeks-settled finder new old sites passed now seeks settles next behind = record {
   found = λ k other before within. elim (cases_lt k finder.next) [
@@ -101,7 +108,8 @@ Seeks-settled finder new old sites passed now seeks settles next behind = record
 
 -- where the next place is behind so many bytes, each later one is
 pub Seeks-passed : (finder : Finder) (sites : Sites) (passed now : ℕ) (other : Site) → IsNonDecreasing (sought sites) → Seeks finder sites passed
-    → ((get_or sites.sites finder.next other).place < 2 ^ 64 - 1 → passed ≤ (get_or sites.sites finder.next other).place → now ≤ (get_or sites.sites finder.next other).place)
+    → ((get_or sites.sites finder.next other).place < 2 ^ 64 - 1 → passed ≤ (get_or sites.sites finder.next other).place
+    → now ≤ (get_or sites.sites finder.next other).place)
     → Seeks finder sites now
 Seeks-passed finder sites passed now other ordered seeks next = record {
   found = seeks.found;
@@ -123,31 +131,38 @@ Seeks-begins finder sites none = record {
   ahead = λ k e after within below. omega arith;
 }
 
-is-found : (sites : List Site) (i : ℕ) (other : Site) (place : ℕ) → i < length sites → (get_or sites i other).is_found ≡ true → (get_or sites i other).place ≡ place → list_any (is_found_at place) sites ≡ true
+is-found : (sites : List Site) (i : ℕ) (other : Site) (place : ℕ) → i < length sites → (get_or sites i other).is_found ≡ true
+    → (get_or sites i other).place ≡ place → list_any (is_found_at place) sites ≡ true
 is-found sites i other place within found here = list_any_at (is_found_at place) sites i other within (grind (arith, nat_tests, found, here))
 
-found-sought : (finder : Finder) (sites : Sites) (passed place k : ℕ) → Seeks finder sites passed → k < length (sought sites) → get_or (sought sites) k place ≡ place → k < finder.next
+found-sought : (finder : Finder) (sites : Sites) (passed place k : ℕ) → Seeks finder sites passed → k < length (sought sites)
+    → get_or (sought sites) k place ≡ place → k < finder.next
     → list_any (is_found_at place) sites.sites ≡ true
 found-sought finder sites passed place k seeks within is before =
     let stored = sought-stored sites k within in
-    is-found sites.sites k no_site place stored (seeks.found k no_site before stored) (sym (sought-at sites k place no_site (sought-counted sites k within) stored) ∙ is)
+    is-found sites.sites k no_site place stored (seeks.found k no_site before stored)
+    (sym (sought-at sites k place no_site (sought-counted sites k within) stored) ∙ is)
 
-pub found-before : (finder : Finder) (sites : Sites) (passed place : ℕ) → Seeks finder sites passed → Contains (sought sites) place → place < passed → place < 2 ^ 64 - 1
+pub found-before : (finder : Finder) (sites : Sites) (passed place : ℕ) → Seeks finder sites passed → Contains (sought sites) place → place < passed
+    → place < 2 ^ 64 - 1
     → list_any (is_found_at place) sites.sites ≡ true
 found-before finder sites passed place seeks (k, within, is) before small = elim (cases_lt k finder.next) [
   | inl less ↦ found-sought finder sites passed place k seeks within is less
   | inr more ↦ (let ahead = seeks.ahead k place more within (omega (arith, is, small)) in absurd (omega (arith, ahead, is, before)))
 ]
 
-pub AllFound-reached : (finder : Finder) (sites : Sites) (passed : ℕ) (text : List ℕ) → Seeks finder sites passed → sites.count ≤ finder.next → AllFound text sites
+pub AllFound-reached : (finder : Finder) (sites : Sites) (passed : ℕ) (text : List ℕ) → Seeks finder sites passed → sites.count ≤ finder.next
+    → AllFound text sites
 AllFound-reached finder sites passed text seeks reached = λ place (k, within, is) in_text small.
     found-sought finder sites passed place k seeks within is (omega (arith, reached, sought-counted sites k within))
 
-pub AllFound-stored : (finder : Finder) (sites : Sites) (passed : ℕ) (text : List ℕ) → Seeks finder sites passed → length sites.sites ≤ finder.next → AllFound text sites
+pub AllFound-stored : (finder : Finder) (sites : Sites) (passed : ℕ) (text : List ℕ) → Seeks finder sites passed → length sites.sites ≤ finder.next
+    → AllFound text sites
 AllFound-stored finder sites passed text seeks stored = λ place (k, within, is) in_text small.
     found-sought finder sites passed place k seeks within is (omega (arith, stored, sought-stored sites k within))
 
-pub AllFound-unstored : (finder : Finder) (old sites : Sites) (passed : ℕ) (text : List ℕ) → Seeks finder old passed → Settles old sites finder.next → length old.sites ≤ finder.next → AllFound text sites
+pub AllFound-unstored : (finder : Finder) (old sites : Sites) (passed : ℕ) (text : List ℕ) → Seeks finder old passed → Settles old sites finder.next
+    → length old.sites ≤ finder.next → AllFound text sites
 AllFound-unstored finder old sites passed text seeks settles stored = λ place (k, within, is) in_text small.
     let kept : k < length sites.sites = sought-stored sites k within in
     let before : k < length old.sites = omega (arith, kept, settled-length old sites finder.next settles) in
@@ -155,13 +170,16 @@ AllFound-unstored finder old sites passed text seeks settles stored = λ place (
     (sym (sought-at sites k place no_site (sought-counted sites k within) kept) ∙ is)
 
 pub AllFound-passed : (finder : Finder) (sites : Sites) (text : List ℕ) (passed : ℕ) → Seeks finder sites passed → length text < passed → AllFound text sites
-AllFound-passed finder sites text passed seeks long = λ place contained within small. found-before finder sites passed place seeks contained (omega (arith, within, long)) small
+AllFound-passed finder sites text passed seeks long =
+    λ place contained within small. found-before finder sites passed place seeks contained (omega (arith, within, long)) small
 
 pub AllFound-long : (finder : Finder) (sites : Sites) (text : List ℕ) → Seeks finder sites (length text) → 2 ^ 64 - 1 ≤ length text → AllFound text sites
-AllFound-long finder sites text seeks long = λ place contained within small. found-before finder sites (length text) place seeks contained (omega (arith, small, long)) small
+AllFound-long finder sites text seeks long =
+    λ place contained within small. found-before finder sites (length text) place seeks contained (omega (arith, small, long)) small
 
 -- the next place is the end of the text
-pub AllFound-settled : (finder : Finder) (old sites : Sites) (text : List ℕ) (other : Site) → IsNonDecreasing (sought old) → Seeks finder old (length text) → Settles old sites finder.next
+pub AllFound-settled : (finder : Finder) (old sites : Sites) (text : List ℕ) (other : Site) → IsNonDecreasing (sought old) → Seeks finder old (length text)
+    → Settles old sites finder.next
     → finder.next < old.count → finder.next < length old.sites → (get_or old.sites finder.next other).place ≡ length text → AllFound text sites
 AllFound-settled finder old sites text other ordered seeks settles counted stored here = λ place contained within small. elim (cases_lt place (length text)) [
   | inl before ↦ found-before more sites (length text) place after contained before small
@@ -187,12 +205,14 @@ AllFound-settled finder old sites text other ordered seeks settles counted store
 
 -- ---- where the reader told its bytes
 
-pub FoundBy-reached : (a : Option (List ℕ)) (finder : Finder) (sites : Sites) (passed : ℕ) → Seeks finder sites passed → sites.count ≤ finder.next → FoundBy a sites
+pub FoundBy-reached : (a : Option (List ℕ)) (finder : Finder) (sites : Sites) (passed : ℕ) → Seeks finder sites passed → sites.count ≤ finder.next
+    → FoundBy a sites
 FoundBy-reached None finder sites passed seeks reached = tt
 FoundBy-reached (Some text) finder sites passed seeks reached = AllFound-reached finder sites passed text seeks reached
 
 -- at the end, or behind as many bytes as a u64 counts
-pub FoundBy-read : (a b : Option (List ℕ)) (read : List ℕ) (sites : Sites) → Consumes a b read → IsAtEnd b ⊎ (2 ^ 64 - 1 ≤ length read) → AllFound read sites → FoundBy a sites
+pub FoundBy-read : (a b : Option (List ℕ)) (read : List ℕ) (sites : Sites) → Consumes a b read → IsAtEnd b ⊎ (2 ^ 64 - 1 ≤ length read) → AllFound read sites
+    → FoundBy a sites
 FoundBy-read None b read sites took ended found = tt
 FoundBy-read (Some all) None read sites took ended found = absurd took
 FoundBy-read (Some all) (Some rest) read sites took (inl ended) found =

@@ -1,5 +1,6 @@
 -- The places of a text, or of a record: the bytes up to one can go on.
-use Rattle.std.proofs.Common.{arith, refl, inl, inr, ◌⊎◌, ◌≡◌, ◌≤◌, ◌<◌, ◌||◌, ◌&&◌, ℕ, zero, suc, ◌+◌, ◌-◌, ◌^◌, ◌∷◌, [], List, Bool, length, take, drop, get_or, ap, sym, ◌∙◌, subst, true, false, not, if◌then◌else◌, length-take-le, Option, Some, None}
+use Rattle.std.proofs.Common.{arith, refl, inl, inr, ◌⊎◌, ◌≡◌, ◌≤◌, ◌<◌, ◌||◌, ◌&&◌, ℕ, zero, suc, ◌+◌, ◌-◌, ◌^◌, ◌∷◌, [], List, Bool, length, take, drop}
+use Rattle.std.proofs.Common.{get_or, ap, sym, ◌∙◌, subst, true, false, not, if◌then◌else◌, length-take-le, Option, Some, None}
 use Rattle.std.specs.List.{Contains}
 use Rattle.std.proofs.lemmas.Bool.Decides.{nat_tests}
 use Rattle.std.proofs.lemmas.List.{take-append-drop, take-take, length-take}
@@ -11,14 +12,19 @@ use Rattle.gj_rules.specs.declared.records.framing.Framing.TheVariants.{Sequence
 use Rattle.gj_rules.specs.declared.records.framing.RecordEnd.{RecordEnd}
 use Rattle.gj_rules.specs.declared.records.framing.RecordEnd.TheVariants.{Separator, Input, Limit}
 use Rattle.gj_rules.specs.Records.{Part, part_at, parts_from, parts_of, with_first, is_too_long}
-use Rattle.gj_rules.specs.Sequence.{is_separator as is_RS, has_separator as has_RS, begins_with_separator, up_to_separator, SequenceRecord, records_from, records_of}
+use Rattle.gj_rules.specs.Sequence.{is_separator as is_RS, has_separator as has_RS, begins_with_separator, up_to_separator, SequenceRecord, records_from}
+use Rattle.gj_rules.specs.Sequence.{records_of}
 use Rattle.geolint_report.specs.declared.sites.Site.{Site}
 use Rattle.geolint_report.specs.Sites.{is_separator, has_separator, last_record, CanGoOn, IsUnderWay, IsInText, ToldBy, ToldInTextsBy}
 
 -- some bytes of a text can go on
-CanGoOn-take : (limits : Allowed) (bytes : List ℕ) (n : ℕ) (text : Text) → IsTextWithin limits.depth text bytes → n ≤ length bytes → n ≤ limits.bytes → CanGoOn limits (take n bytes)
-CanGoOn-take limits bytes n text is within fits =
-    ((drop n bytes, text, subst (λ (ys : List ℕ). IsTextWithin limits.depth text ys) (sym (take-append-drop n bytes)) is), omega (arith, length-take-le n bytes within, fits))
+CanGoOn-take : (limits : Allowed) (bytes : List ℕ) (n : ℕ) (text : Text) → IsTextWithin limits.depth text bytes → n ≤ length bytes → n ≤ limits.bytes
+    → CanGoOn limits (take n bytes)
+CanGoOn-take limits bytes n text is within fits = (
+  (drop n bytes, text, subst (λ (ys : List ℕ). IsTextWithin limits.depth text ys) (sym (take-append-drop n bytes)) is),
+  omega
+      (arith, length-take-le n bytes within, fits),
+)
 
 -- ---- parts
 
@@ -57,7 +63,8 @@ module _ (framing : Framing) where
       → ((k : ℕ) → k ≤ length (up_to framing more) → has_separator framing (take k more) ≡ false) → has_separator framing (take n (byte ∷ more)) ≡ false
   plain-by b byte zero more is within rest = refl
   plain-by true byte (suc n) more is within rest = absurd (omega (arith, within))
-  plain-by false byte (suc n) more is within rest = or-false (is_separator framing byte) (has_separator framing (take n more)) is (rest n (omega (arith, within)))
+  plain-by false byte (suc n) more is within rest =
+      or-false (is_separator framing byte) (has_separator framing (take n more)) is (rest n (omega (arith, within)))
 
   plain-front : (bytes : List ℕ) (n : ℕ) → n ≤ length (up_to framing bytes) → has_separator framing (take n bytes) ≡ false
   plain-front [] zero within = refl
@@ -100,7 +107,8 @@ module _ (framing : Framing) where
   ends-later : (byte from start n : ℕ) (more own : List ℕ) → EndsIn framing more (from + 1) start n own → EndsIn framing (byte ∷ more) from start n own
   ends-later byte from start n more own ends =
       let later = ends.before + n in
-      let begun : has_separator framing (byte ∷ take later more) ≡ true = or-true (is_separator framing byte) (has_separator framing (take later more)) ends.begun in
+      let begun : has_separator framing (byte ∷ take later more) ≡ true =
+      or-true (is_separator framing byte) (has_separator framing (take later more)) ends.begun in
       let sum : ends.before + 1 + n ≡ suc later = omega arith in
       let reach : take (ends.before + 1 + n) (byte ∷ more) ≡ byte ∷ take later more = ap (λ (k : ℕ). take k (byte ∷ more)) sum in
       let within = ends.within in
@@ -144,7 +152,8 @@ record-ends is_cut from (byte ∷ more) r n (k, within, is) fits =
       | inr later ↦ ends-later Sequence byte from r.start n more r.bytes (record-ends is_cut (from + 1) more r n later fits)
     ]
 
-place-in-record : (limits : Allowed) (bytes : List ℕ) (place : ℕ) (r : SequenceRecord) (text : Text) → IsAllowed limits.depth limits.bytes → Contains (records_of limits bytes) r
+place-in-record : (limits : Allowed) (bytes : List ℕ) (place : ℕ) (r : SequenceRecord) (text : Text) → IsAllowed limits.depth limits.bytes
+    → Contains (records_of limits bytes) r
     → IsTextWithin limits.depth text r.bytes → r.start ≤ place → place < r.start + length r.bytes → IsUnderWay limits (Some Sequence) (take (place + 1) bytes)
 place-in-record limits bytes place r text allowed contained is begun within =
     let n = place + 1 - r.start in
@@ -176,7 +185,8 @@ record Parted (framing : Framing) (last : RecordEnd) (from : ℕ) (bytes : List 
 
 module _ (framing : Framing) (last : RecordEnd) where
   part-ends : (byte from : ℕ) (more : List ℕ) (parted : Parted framing last (from + 1) more) (part : Part) (n k : ℕ) → is_separator framing byte ≡ true
-      → k < length (parted.first ∷ parted.rest) → get_or (parted.first ∷ parted.rest) k part ≡ part → n ≤ length part.bytes → EndsIn framing (byte ∷ more) from part.start n part.bytes
+      → k < length (parted.first ∷ parted.rest) → get_or (parted.first ∷ parted.rest) k part ≡ part → n ≤ length part.bytes
+      → EndsIn framing (byte ∷ more) from part.start n part.bytes
   part-ends byte from more parted part n zero is within same fits =
       let own : up_to framing more ≡ part.bytes = sym parted.holds ∙ ap (λ (p : Part). p.bytes) same in
       let start : from + 1 ≡ part.start = sym parted.begins ∙ ap (λ (p : Part). p.start) same in
@@ -186,11 +196,13 @@ module _ (framing : Framing) (last : RecordEnd) where
   part-ends byte from more parted part n (suc k) is within same fits =
       ends-later framing byte from part.start n more part.bytes (parted.later part n (k, omega (arith, within), same) fits)
 
-  parted-by : (b : Bool) (byte from : ℕ) (more : List ℕ) → is_separator framing byte ≡ b → Parted framing last (from + 1) more → Parted framing last from (byte ∷ more)
+  parted-by : (b : Bool) (byte from : ℕ) (more : List ℕ) → is_separator framing byte ≡ b → Parted framing last (from + 1) more
+      → Parted framing last from (byte ∷ more)
   parted-by true byte from more is parted = record {
     first = part_at from [] Separator;
     rest = parts_from framing last (from + 1) more;
-    are = ap (λ (b : Bool). if b then part_at from [] Separator ∷ parts_from framing last (from + 1) more else with_first from byte (parts_from framing last (from + 1) more)) is;
+    are = ap (λ (b : Bool). if b then part_at from [] Separator ∷ parts_from framing last (from + 1) more else with_first from byte
+        (parts_from framing last (from + 1) more)) is;
     begins = refl;
     holds = ap (λ (b : Bool). if b then [] else byte ∷ up_to framing more) (sym is);
     later = λ part n contained fits.
@@ -200,7 +212,8 @@ module _ (framing : Framing) (last : RecordEnd) where
   parted-by false byte from more is parted = record {
     first = part_at from (byte ∷ parted.first.bytes) parted.first.end;
     rest = parted.rest;
-    are = ap (λ (b : Bool). if b then part_at from [] Separator ∷ parts_from framing last (from + 1) more else with_first from byte (parts_from framing last (from + 1) more)) is
+    are = ap (λ (b : Bool). if b then part_at from [] Separator ∷ parts_from framing last (from + 1) more else with_first from byte
+        (parts_from framing last (from + 1) more)) is
         ∙ ap (λ (parts : List Part). with_first from byte parts) parted.are;
     begins = refl;
     holds = ap (λ (ys : List ℕ). byte ∷ ys) parted.holds ∙ ap (λ (b : Bool). if b then [] else byte ∷ up_to framing more) (sym is);
@@ -244,13 +257,15 @@ later-line bytes own start n ends =
       ends = ap (λ (k : ℕ). last_record Lines (take k bytes)) reach ∙ ends.ends;
     }
 
-line-by : (last : RecordEnd) (bytes : List ℕ) (line : Part) (n k : ℕ) (h : Parted Lines last 0 bytes) → k < length (h.first ∷ h.rest) → get_or (h.first ∷ h.rest) k line ≡ line
+line-by : (last : RecordEnd) (bytes : List ℕ) (line : Part) (n k : ℕ) (h : Parted Lines last 0 bytes) → k < length (h.first ∷ h.rest)
+    → get_or (h.first ∷ h.rest) k line ≡ line
     → n ≤ length line.bytes → LineEnds bytes line.start n line.bytes
 line-by last bytes line n zero h within same fits =
     first-line bytes line.bytes line.start n (ap (λ (p : Part). p.start) (sym same) ∙ h.begins) (ap (λ (p : Part). p.bytes) (sym same) ∙ h.holds) fits
 line-by last bytes line n (suc k) h within same fits = later-line bytes line.bytes line.start n (h.later line n (k, omega (arith, within), same) fits)
 
-line-ends : (last : RecordEnd) (bytes : List ℕ) (line : Part) (n : ℕ) → Contains (parts_from Lines last 0 bytes) line → n ≤ length line.bytes → LineEnds bytes line.start n line.bytes
+line-ends : (last : RecordEnd) (bytes : List ℕ) (line : Part) (n : ℕ) → Contains (parts_from Lines last 0 bytes) line → n ≤ length line.bytes
+    → LineEnds bytes line.start n line.bytes
 line-ends last bytes line n contained fits =
     let h = parted Lines last 0 bytes in
     let (k, within, same) = subst (λ (parts : List Part). Contains parts line) h.are contained in
@@ -261,23 +276,28 @@ line-of : (limits : Allowed) (bytes : List ℕ) (line : Part) (n : ℕ) → Cont
     → LineEnds bytes line.start n line.bytes × (line.start + n ≤ limits.bytes)
 line-of limits bytes line n contained fits = by_test (is_too_long limits bytes) refl contained
   where
-    by_test : (b : Bool) → is_too_long limits bytes ≡ b → Contains (if b then parts_from Lines Limit 0 (take limits.bytes bytes) else parts_from Lines Input 0 bytes) line
+    by_test : (b : Bool) → is_too_long limits bytes ≡ b
+        → Contains (if b then parts_from Lines Limit 0 (take limits.bytes bytes) else parts_from Lines Input 0 bytes) line
         → LineEnds bytes line.start n line.bytes × (line.start + n ≤ limits.bytes)
     by_test true is within =
         let ends = line-ends Limit (take limits.bytes bytes) line n within fits in
         let inside = ends.within in
         let long = length-take limits.bytes bytes in
         let short : line.start + n ≤ limits.bytes = omega (arith, inside, long) in
-        let stored : line.start + n ≤ length bytes = omega (arith, inside, long) in
-        (record { within = stored; ends = ap (λ (ys : List ℕ). last_record Lines ys) (sym (take-take (line.start + n) limits.bytes bytes short)) ∙ ends.ends }, short)
+        let stored : line.start + n ≤ length bytes = omega (arith, inside, long) in (
+          record { within = stored; ends = ap (λ (ys : List ℕ). last_record Lines ys) (sym (take-take (line.start + n) limits.bytes bytes short)) ∙ ends.ends },
+          short,
+        )
     by_test false is within =
         let ends = line-ends Input bytes line n within fits in
         let inside = ends.within in
         let most : length bytes ≤ limits.bytes = grind (arith, nat_tests) in
         (ends, omega (arith, inside, most))
 
-place-in-line : (limits : Allowed) (bytes : List ℕ) (place : ℕ) (line : Part) (text : Text) → IsAllowed limits.depth limits.bytes → Contains (parts_of Lines limits bytes) line
-    → IsTextWithin limits.depth text line.bytes → line.start ≤ place → place < line.start + length line.bytes → IsUnderWay limits (Some Lines) (take (place + 1) bytes)
+place-in-line : (limits : Allowed) (bytes : List ℕ) (place : ℕ) (line : Part) (text : Text) → IsAllowed limits.depth limits.bytes
+    → Contains (parts_of Lines limits bytes) line
+    → IsTextWithin limits.depth text line.bytes → line.start ≤ place → place < line.start + length line.bytes
+    → IsUnderWay limits (Some Lines) (take (place + 1) bytes)
 place-in-line limits bytes place line text allowed contained is begun within =
     let n = place + 1 - line.start in
     let fits : n ≤ length line.bytes = omega (arith, begun, within) in
@@ -292,11 +312,15 @@ place-in-line limits bytes place line text allowed contained is begun within =
 
 -- ---- texts
 
-UnderWay-in : (limits : Allowed) (framing : Option Framing) (bytes : List ℕ) (place : ℕ) → IsAllowed limits.depth limits.bytes → IsInText limits framing bytes place
+UnderWay-in : (limits : Allowed) (framing : Option Framing) (bytes : List ℕ) (place : ℕ) → IsAllowed limits.depth limits.bytes
+    → IsInText limits framing bytes place
     → IsUnderWay limits framing (take (place + 1) bytes)
-UnderWay-in limits None bytes place allowed (text, (is, fits), within) = (refl, CanGoOn-take limits bytes (place + 1) text is (omega (arith, within)) (omega (arith, within, fits)))
-UnderWay-in limits (Some Sequence) bytes place allowed (r, text, contained, is, begun, within) = place-in-record limits bytes place r text allowed contained is begun within
-UnderWay-in limits (Some Lines) bytes place allowed (line, text, contained, is, begun, within) = place-in-line limits bytes place line text allowed contained is begun within
+UnderWay-in limits None bytes place allowed (text, (is, fits), within) =
+    (refl, CanGoOn-take limits bytes (place + 1) text is (omega (arith, within)) (omega (arith, within, fits)))
+UnderWay-in limits (Some Sequence) bytes place allowed (r, text, contained, is, begun, within) =
+    place-in-record limits bytes place r text allowed contained is begun within
+UnderWay-in limits (Some Lines) bytes place allowed (line, text, contained, is, begun, within) =
+    place-in-line limits bytes place line text allowed contained is begun within
 
 length-in-text : (limits : Allowed) (framing : Option Framing) (bytes : List ℕ) (place : ℕ) → IsInText limits framing bytes place → place < length bytes
 length-in-text limits None bytes place (text, is, within) = within
@@ -311,7 +335,8 @@ length-in-text limits (Some Lines) bytes place (line, text, contained, is, begun
     let inside = ends.within in
     omega (arith, within, inside)
 
-pub ToldInTexts-by : (limits : Allowed) (framing : Option Framing) (a : Option (List ℕ)) (sites : List Site) → IsAllowed limits.depth limits.bytes → ToldBy limits framing a sites
+pub ToldInTexts-by : (limits : Allowed) (framing : Option Framing) (a : Option (List ℕ)) (sites : List Site) → IsAllowed limits.depth limits.bytes
+    → ToldBy limits framing a sites
     → ToldInTextsBy limits framing a sites
 ToldInTexts-by limits framing None sites allowed told = tt
 ToldInTexts-by limits framing (Some bytes) sites allowed told = λ i other stored found is.

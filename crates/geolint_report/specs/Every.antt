@@ -141,12 +141,14 @@ AreFirstNotes asked notes count tally features = AreNotesAll asked notes count t
 
 -- on the features of a text
 abbrev pub AreNotesOf : Asked → List Note → ℕ → Tally → Allowed → List ℕ → Type 0
-AreNotesOf asked notes count tally limits bytes = (text : Text) → IsAdmitted limits text bytes → TellFindings (AreFirstNotes asked notes count tally) (feature_findings text)
+AreNotesOf asked notes count tally limits bytes =
+    (text : Text) → IsAdmitted limits text bytes → TellFindings (AreFirstNotes asked notes count tally) (feature_findings text)
 
 -- on the records of these bytes
 abbrev pub AreNotesOfRecords : Framing → Asked → List Note → ℕ → Tally → Allowed → List ℕ → Type 0
 AreNotesOfRecords framing asked notes count tally limits bytes =
-    (found : List Record) × AreAllFindings framing limits bytes found × AreNotesAll asked notes count tally (notes_of_records asked.with_warnings found) (length found)
+    (found : List Record) × AreAllFindings framing limits bytes found
+    × AreNotesAll asked notes count tally (notes_of_records asked.with_warnings found) (length found)
 
 abbrev pub AreNotesIn : Option Framing → Asked → List Note → ℕ → Tally → Allowed → List ℕ → Type 0
 AreNotesIn None asked notes count tally limits bytes = AreNotesOf asked notes count tally limits bytes

@@ -1,5 +1,6 @@
 -- The lines, columns and paths of places that a second reading finds.
-use Rattle.std.specs.Prelude.{◌≡◌, ◌<◌, ◌≤◌, ◌+◌, ◌-◌, ◌^◌, ℕ, List, [], ◌∷◌, ◌++◌, length, take, drop, map, get_or, Bool, true, false, ◌&&◌, ◌||◌, nat_eq, if◌then◌else◌, Option, Some, None, IsSome, ⊤}
+use Rattle.std.specs.Prelude.{◌≡◌, ◌<◌, ◌≤◌, ◌+◌, ◌-◌, ◌^◌, ℕ, List, [], ◌∷◌, ◌++◌, length, take, drop, map, get_or, Bool, true, false, ◌&&◌, ◌||◌, nat_eq}
+use Rattle.std.specs.Prelude.{if◌then◌else◌, Option, Some, None, IsSome, ⊤}
 use Rattle.std.specs.List.{Contains, list_any}
 use Rattle.std.specs.Io.Iter.{u64_saturate}
 use Rattle.gj_json.specs.Limits.{Allowed}
@@ -26,7 +27,8 @@ pub record IsSpot (text : List ℕ) (place : ℕ) (spot : Spot) : Type 0 where
 
 -- each place that was found stands there
 abbrev pub AreRight : List ℕ → List Site → Type 0
-AreRight text sites = (i : ℕ) (other : Site) → i < length sites → (get_or sites i other).is_found ≡ true → IsSpot text (get_or sites i other).place (get_or sites i other).spot
+AreRight text sites =
+    (i : ℕ) (other : Site) → i < length sites → (get_or sites i other).is_found ≡ true → IsSpot text (get_or sites i other).place (get_or sites i other).spot
 
 -- the same, where the reader told its bytes
 abbrev pub RightBy : Option (List ℕ) → List Site → Type 0
@@ -63,7 +65,8 @@ LeadsTo framing bytes place (Some path) = (place < length bytes) × IsPathOf (te
 
 abbrev pub ArePaths : Option Framing → List ℕ → List Site → Type 0
 ArePaths framing bytes sites =
-    (i : ℕ) (other : Site) → i < length sites → (get_or sites i other).is_found ≡ true → LeadsTo framing bytes (get_or sites i other).place (get_or sites i other).path
+    (i : ℕ) (other : Site) → i < length sites → (get_or sites i other).is_found ≡ true
+    → LeadsTo framing bytes (get_or sites i other).place (get_or sites i other).path
 
 -- the same, where the reader told its bytes
 abbrev pub PathsBy : Option Framing → Option (List ℕ) → List Site → Type 0
@@ -98,7 +101,8 @@ IsTold limits framing bytes place path = place < length bytes → IsUnderWay lim
 -- that of each place that was found
 abbrev pub AreTold : Allowed → Option Framing → List ℕ → List Site → Type 0
 AreTold limits framing bytes sites =
-    (i : ℕ) (other : Site) → i < length sites → (get_or sites i other).is_found ≡ true → IsTold limits framing bytes (get_or sites i other).place (get_or sites i other).path
+    (i : ℕ) (other : Site) → i < length sites → (get_or sites i other).is_found ≡ true
+    → IsTold limits framing bytes (get_or sites i other).place (get_or sites i other).path
 
 -- the same, where the reader told its bytes
 abbrev pub ToldBy : Allowed → Option Framing → Option (List ℕ) → List Site → Type 0
@@ -108,7 +112,8 @@ ToldBy limits framing (Some bytes) sites = AreTold limits framing bytes sites
 -- the place of a byte of a text: of the file, or of one of its records
 abbrev pub IsInText : Allowed → Option Framing → List ℕ → ℕ → Type 0
 IsInText limits (Some Sequence) bytes place =
-    (r : SequenceRecord) × (text : Text) × Contains (records_of limits bytes) r × IsTextWithin limits.depth text r.bytes × (r.start ≤ place) × (place < r.start + length r.bytes)
+    (r : SequenceRecord) × (text : Text) × Contains (records_of limits bytes) r × IsTextWithin limits.depth text r.bytes × (r.start ≤ place)
+    × (place < r.start + length r.bytes)
 IsInText limits (Some Lines) bytes place =
     (line : Part) × (text : Text) × Contains (parts_of Lines limits bytes) line × IsTextWithin limits.depth text line.bytes × (line.start ≤ place)
     × (place < line.start + length line.bytes)
@@ -117,7 +122,8 @@ IsInText limits None bytes place = (text : Text) × IsAdmitted limits text bytes
 -- each place of a text that was found is told
 abbrev pub AreToldInTexts : Allowed → Option Framing → List ℕ → List Site → Type 0
 AreToldInTexts limits framing bytes sites =
-    (i : ℕ) (other : Site) → i < length sites → (get_or sites i other).is_found ≡ true → IsInText limits framing bytes (get_or sites i other).place → IsSome (get_or sites i other).path
+    (i : ℕ) (other : Site) → i < length sites → (get_or sites i other).is_found ≡ true → IsInText limits framing bytes (get_or sites i other).place
+    → IsSome (get_or sites i other).path
 
 -- the same, where the reader told its bytes
 abbrev pub ToldInTextsBy : Allowed → Option Framing → Option (List ℕ) → List Site → Type 0
@@ -154,7 +160,8 @@ IsUnread sites = Keeps sites.excerpt [] [] × (sites.count ≤ length sites.site
 
 -- the excerpt is that of the last place, where that is in the text or at its end, as far as a u64 goes
 abbrev pub IsExcerpt : List ℕ → Sites → Type 0
-IsExcerpt text sites = (before : List ℕ) (place : ℕ) → sought sites ≡ before ++ place ∷ [] → place ≤ length text → length text < 2 ^ 64 - 1 → Keeps sites.excerpt (take place text) (drop place text)
+IsExcerpt text sites = (before : List ℕ) (place : ℕ) → sought sites ≡ before ++ place ∷ [] → place ≤ length text → length text < 2 ^ 64 - 1
+    → Keeps sites.excerpt (take place text) (drop place text)
 
 -- the same, where the reader told its bytes
 abbrev pub ExcerptBy : Option (List ℕ) → Sites → Type 0

@@ -59,14 +59,16 @@ pub struct Sites {
 }
 
 impl Sites {
-    ghost use Rattle.std.specs.Prelude.{◌≡◌, ◌<◌, ◌≤◌, ◌+◌, ◌-◌, ◌^◌, ◌++◌, ◌∷◌, [], ℕ, List, Option, length, IfSome, MatchOption, None, Some, OnOk, get_or, true, false};
+    ghost use Rattle.std.specs.Prelude.{◌≡◌, ◌<◌, ◌≤◌, ◌+◌, ◌-◌, ◌^◌, ◌++◌, ◌∷◌, [], ℕ, List, Option, length, IfSome, MatchOption, None, Some, OnOk, get_or};
+    ghost use Rattle.std.specs.Prelude.{true, false};
     ghost use Rattle.gj_rules.specs.declared.records.framing.Framing.{Framing};
     ghost use Rattle.std.specs.Option.{IsNone};
     ghost use Rattle.std.specs.List.{Contains};
     ghost use Rattle.std.specs.List.Sorted.{IsNonDecreasing};
     ghost use Rattle.gj_json.specs.Limits.{Allowed};
     ghost use Rattle.geolint_report.specs.declared.sites.Site.{Site};
-    ghost use Rattle.geolint_report.specs.Sites.{IsSpot, AreRight, RightBy, LeadsTo, ArePaths, PathsBy, IsTold, AreTold, ToldBy, ToldInTextsBy, NoneFound, sought, AllFound, FoundBy, IsUnread, ExcerptBy};
+    ghost use Rattle.geolint_report.specs.Sites.{IsSpot, AreRight, RightBy, LeadsTo, ArePaths, PathsBy, IsTold, AreTold, ToldBy, ToldInTextsBy, NoneFound};
+    ghost use Rattle.geolint_report.specs.Sites.{sought, AllFound, FoundBy, IsUnread, ExcerptBy};
     ghost use Rattle.geolint_report.specs.Internal.SecondReading.{Reaches, Follows, Tells, AreWithin, Shows, Seeks, Settles};
     ghost use Rattle.geolint_report.specs.Judged.{CountsFailure};
     ghost use Rattle.geolint_report.specs.Report.{site_in};
@@ -109,9 +111,11 @@ impl Sites {
 
     /// Where the place stands, if it was found.
     pub fn at(&self, place: u64) -> Option<&Site>
-        ensures missed { IsNone result → (text : List ℕ) → AllFound text self.now → Contains (sought self.now) place → place < 2 ^ 64 - 1 → length text < place }
+        ensures missed { IsNone result → (text : List ℕ) → AllFound text self.now → Contains (sought self.now) place → place < 2 ^ 64 - 1
+            → length text < place }
         ensures spot { IfSome result (λ site. (site.now.place ≡ place) × ((text : List ℕ) → AreRight text self.now.sites → IsSpot text place site.now.spot)) }
-        ensures path { IfSome result (λ site. (framing : Option Framing) (text : List ℕ) → ArePaths framing text self.now.sites → LeadsTo framing text place site.now.path) }
+        ensures path { IfSome result
+            (λ site. (framing : Option Framing) (text : List ℕ) → ArePaths framing text self.now.sites → LeadsTo framing text place site.now.path) }
         ensures told { IfSome result (λ site. (limits : Allowed) (framing : Option Framing) (text : List ℕ) → AreTold limits framing text self.now.sites
             → IsTold limits framing text place site.now.path) }
         ensures first { MatchOption result (site_in place self.now.sites ≡ None) (λ site. site_in place self.now.sites ≡ Some site.now) }
@@ -137,7 +141,8 @@ impl Sites {
         ensures told { NoneFound self.old.sites → ToldBy limits framing (S.remaining reader.old) self.new.sites }
         ensures texts { NoneFound self.old.sites → ToldInTextsBy limits framing (S.remaining reader.old) self.new.sites }
         ensures found { AreRight [] self.old.sites → IsNonDecreasing (sought self.old) → OnOk result (FoundBy (S.remaining reader.old) self.new) }
-        ensures excerpt { IsUnread self.old → AreRight [] self.old.sites → IsNonDecreasing (sought self.old) → OnOk result (ExcerptBy (S.remaining reader.old) self.new) }
+        ensures excerpt { IsUnread self.old → AreRight [] self.old.sites → IsNonDecreasing (sought self.old)
+            → OnOk result (ExcerptBy (S.remaining reader.old) self.new) }
         ensures sought { sought self.new ≡ sought self.old }
         ensures text { S.text reader.new ≡ S.text reader.old }
         ensures failed { CountsFailure (S.failed_reads reader.old) (S.failed_reads reader.new) result }
@@ -165,11 +170,13 @@ impl Sites {
         ensures reaches { (text : List ℕ) → Reaches finder.old self.old text [] → Reaches finder.new self.new (text ++ piece.now) [] }
         ensures follows { (framing : Option Framing) (text : List ℕ) → Reaches finder.old self.old text [] → Follows framing finder.old self.old text []
             → Follows framing finder.new self.new (text ++ piece.now) [] }
-        ensures tells { (limits : Allowed) (framing : Option Framing) (text : List ℕ) → Reaches finder.old self.old text [] → Follows framing finder.old self.old text []
+        ensures tells { (limits : Allowed) (framing : Option Framing) (text : List ℕ) → Reaches finder.old self.old text []
+            → Follows framing finder.old self.old text []
             → Tells limits framing finder.old self.old text [] → Tells limits framing finder.new self.new (text ++ piece.now) [] }
         ensures seeks { (text : List ℕ) → Reaches finder.old self.old text [] → IsNonDecreasing (sought self.old)
             → Seeks finder.old self.old (length text) → Seeks finder.new self.new (length (text ++ piece.now)) }
-        ensures shows { (text : List ℕ) → Reaches finder.old self.old text [] → Shows finder.old self.old text [] → Shows finder.new self.new (text ++ piece.now) [] }
+        ensures shows { (text : List ℕ) → Reaches finder.old self.old text [] → Shows finder.old self.old text []
+            → Shows finder.new self.new (text ++ piece.now) [] }
         ensures sought { sought self.new ≡ sought self.old }
     {
         while self.reach(finder, piece) {}
@@ -179,11 +186,14 @@ impl Sites {
     /// Takes the bytes up to the next place, where it is among these: whether it is.
     fn reach(&mut self, finder: &mut Finder, piece: &[u8]) -> bool
         ensures reaches { (text : List ℕ) → Reaches finder.old self.old text piece.now → Reaches finder.new self.new text piece.now }
-        ensures follows { (framing : Option Framing) (text : List ℕ) → Reaches finder.old self.old text piece.now → Follows framing finder.old self.old text piece.now
+        ensures follows { (framing : Option Framing) (text : List ℕ) → Reaches finder.old self.old text piece.now
+            → Follows framing finder.old self.old text piece.now
             → Follows framing finder.new self.new text piece.now }
-        ensures tells { (limits : Allowed) (framing : Option Framing) (text : List ℕ) → Reaches finder.old self.old text piece.now → Follows framing finder.old self.old text piece.now
+        ensures tells { (limits : Allowed) (framing : Option Framing) (text : List ℕ) → Reaches finder.old self.old text piece.now
+            → Follows framing finder.old self.old text piece.now
             → Tells limits framing finder.old self.old text piece.now → Tells limits framing finder.new self.new text piece.now }
-        ensures shows { (text : List ℕ) → Reaches finder.old self.old text piece.now → Shows finder.old self.old text piece.now → Shows finder.new self.new text piece.now }
+        ensures shows { (text : List ℕ) → Reaches finder.old self.old text piece.now → Shows finder.old self.old text piece.now
+            → Shows finder.new self.new text piece.now }
         ensures reached { result ≡ true → (text : List ℕ) → Reaches finder.old self.old text piece.now → IsNonDecreasing (sought self.old)
             → Seeks finder.old self.old (length text + finder.old.counted) → Seeks finder.new self.new (length text + finder.new.counted) }
         ensures passed { result ≡ false → (text : List ℕ) → Reaches finder.old self.old text piece.now → IsNonDecreasing (sought self.old)
@@ -217,7 +227,8 @@ impl Sites {
     /// Takes the rest of the bytes.
     fn pass(&mut self, finder: &mut Finder, piece: &[u8])
         ensures reaches { (text : List ℕ) → Reaches finder.old self.old text piece.now → Reaches finder.new self.new (text ++ piece.now) [] }
-        ensures follows { (framing : Option Framing) (text : List ℕ) → Follows framing finder.old self.old text piece.now → Follows framing finder.new self.new (text ++ piece.now) [] }
+        ensures follows { (framing : Option Framing) (text : List ℕ) → Follows framing finder.old self.old text piece.now
+            → Follows framing finder.new self.new (text ++ piece.now) [] }
         ensures tells { (limits : Allowed) (framing : Option Framing) (text : List ℕ) → Follows framing finder.old self.old text piece.now
             → Tells limits framing finder.old self.old text piece.now → Tells limits framing finder.new self.new (text ++ piece.now) [] }
         ensures shows { (text : List ℕ) → Shows finder.old self.old text piece.now → Shows finder.new self.new (text ++ piece.now) [] }
@@ -241,7 +252,8 @@ impl Sites {
     fn end(&mut self, finder: &Finder)
         ensures right { (text : List ℕ) → Reaches finder.now self.old text [] → AreRight text self.new.sites }
         ensures paths { (framing : Option Framing) (text : List ℕ) → ArePaths framing text self.old.sites → ArePaths framing text self.new.sites }
-        ensures told { (limits : Allowed) (framing : Option Framing) (text : List ℕ) → Reaches finder.now self.old text [] → AreTold limits framing text self.old.sites
+        ensures told { (limits : Allowed) (framing : Option Framing) (text : List ℕ) → Reaches finder.now self.old text []
+            → AreTold limits framing text self.old.sites
             → AreTold limits framing text self.new.sites }
         ensures long { (text : List ℕ) → Reaches finder.now self.old text [] → 2 ^ 64 - 1 ≤ length text → self.new.sites ≡ self.old.sites }
         ensures found { (text : List ℕ) → Reaches finder.now self.old text [] → IsNonDecreasing (sought self.old)
@@ -261,12 +273,15 @@ impl Sites {
 
     fn settle(&mut self, i: usize, spot: Spot, path: Option<Path>)
         requires { i < 10 }
-        ensures right { (text : List ℕ) (other : Site) → AreRight text self.old.sites → IsSpot text (get_or self.old.sites i other).place spot → AreRight text self.new.sites }
-        ensures paths { (framing : Option Framing) (text : List ℕ) (other : Site) → ArePaths framing text self.old.sites → LeadsTo framing text (get_or self.old.sites i other).place path
+        ensures right { (text : List ℕ) (other : Site) → AreRight text self.old.sites → IsSpot text (get_or self.old.sites i other).place spot
+            → AreRight text self.new.sites }
+        ensures paths { (framing : Option Framing) (text : List ℕ) (other : Site) → ArePaths framing text self.old.sites
+            → LeadsTo framing text (get_or self.old.sites i other).place path
             → ArePaths framing text self.new.sites }
         ensures told { (limits : Allowed) (framing : Option Framing) (text : List ℕ) (other : Site) → AreTold limits framing text self.old.sites
             → IsTold limits framing text (get_or self.old.sites i other).place path → AreTold limits framing text self.new.sites }
-        ensures within { (text : List ℕ) (other : Site) → AreWithin text self.old.sites → (get_or self.old.sites i other).place < length text → AreWithin text self.new.sites }
+        ensures within { (text : List ℕ) (other : Site) → AreWithin text self.old.sites → (get_or self.old.sites i other).place < length text
+            → AreWithin text self.new.sites }
         ensures settles { Settles self.old self.new i }
         ensures excerpt { self.new.excerpt ≡ self.old.excerpt }
     {
@@ -384,7 +399,8 @@ impl Finder {
     fn locate_in_record(&mut self, bytes: &[u8], framing: Framing)
         ensures same { IsLocated self.old self.new }
         ensures stands { (text : List ℕ) → self.old.framing ≡ Some framing → StandsIn self.old text → StandsIn self.new (text ++ bytes.now) }
-        ensures keeps { (text : List ℕ) → self.old.framing ≡ Some framing → StandsIn self.old text → KeepsIn self.old text → KeepsIn self.new (text ++ bytes.now) }
+        ensures keeps { (text : List ℕ) → self.old.framing ≡ Some framing → StandsIn self.old text → KeepsIn self.old text
+            → KeepsIn self.new (text ++ bytes.now) }
         ensures located { self.new.located ≡ self.old.located }
     {
         match memrchr(framing.separator(), bytes) {

@@ -1,5 +1,6 @@
 -- Where the elements of an array stand in a text, and what follows each.
-use Rattle.std.proofs.Common.{◌≡◌, ℕ, ◌+◌, ◌≤◌, ◌⊎◌, inl, inr, max, Bool, true, false, if◌then◌else◌, List, [], ◌∷◌, ◌++◌, length, Option, Some, refl, sym, ap, subst, ◌∙◌, arith, append_assoc}
+use Rattle.std.proofs.Common.{◌≡◌, ℕ, ◌+◌, ◌≤◌, ◌⊎◌, inl, inr, max, Bool, true, false, if◌then◌else◌, List, [], ◌∷◌, ◌++◌, length, Option, Some, refl, sym, ap}
+use Rattle.std.proofs.Common.{subst, ◌∙◌, arith, append_assoc}
 use Rattle.std.proofs.lemmas.List.{length-append, append-nil}
 use Rattle.std.specs.List.{AllByRecursion}
 use Rattle.gj_json.specs.declared.names.Known.TheVariants.{Features}
@@ -8,7 +9,8 @@ use Rattle.gj_json.specs.Grammar.{Then, White, Exactly, Spells, SpellsElements, 
 use Rattle.gj_json.specs.Names.{known_of}
 use Rattle.gj_json.specs.Text.{IsText}
 use Rattle.gj_json.specs.Tree as Tree
-use Rattle.gj_json.specs.Tree.{Tree, constant, number, string, array, object, end_of_array, element, Members, end_of_object, member, Text, depth, elements_depth, members_depth}
+use Rattle.gj_json.specs.Tree.{Tree, constant, number, string, array, object, end_of_array, element, Members, end_of_object, member, Text, depth}
+use Rattle.gj_json.specs.Tree.{elements_depth, members_depth}
 use Rattle.gj_coords.specs.Items.{items, elements_of}
 use Rattle.gj_rules.specs.Members.{same}
 use Rattle.gj_rules.specs.TextWarnings.{first_value}
@@ -57,9 +59,11 @@ in_part v n bytes first part last e s = record {
     counted : (n a b c : ℕ) → c ≡ a + b → n + a + b ≡ n + c
     counted n a b c e = omega (arith, e)
 
-element_in_part : (v : Tree) (n : ℕ) (bytes first part last : List ℕ) → bytes ≡ first ++ (part ++ last) → IsElementIn v (n + length first) part → IsElementIn v n bytes
+element_in_part : (v : Tree) (n : ℕ) (bytes first part last : List ℕ) → bytes ≡ first ++ (part ++ last) → IsElementIn v (n + length first) part
+    → IsElementIn v n bytes
 unfolding in_part
-element_in_part v n bytes first part last e s = record { stands = in_part v n bytes first part last e s.stands; followed = still_followed s.stands.after last s.followed }
+element_in_part v n bytes first part last e s =
+    record { stands = in_part v n bytes first part last e s.stands; followed = still_followed s.stands.after last s.followed }
 
 -- in the bytes after some
 element_after : (v : Tree) (n : ℕ) (bytes first rest : List ℕ) → bytes ≡ first ++ rest → IsElementIn v (n + length first) rest → IsElementIn v n bytes
@@ -77,8 +81,10 @@ each P Q f (v ∷ vs) h = (f v h.0, each P Q f vs h.1)
 abbrev AreElementsIn : List Tree → ℕ → List ℕ → Type 0
 AreElementsIn vs n bytes = AllByRecursion (λ v. IsElementIn v n bytes) vs
 
-elements_after : (vs : List Tree) (n : ℕ) (bytes first rest : List ℕ) → bytes ≡ first ++ rest → AreElementsIn vs (n + length first) rest → AreElementsIn vs n bytes
-elements_after vs n bytes first rest e h = each (λ v. IsElementIn v (n + length first) rest) (λ v. IsElementIn v n bytes) (λ v s. element_after v n bytes first rest e s) vs h
+elements_after : (vs : List Tree) (n : ℕ) (bytes first rest : List ℕ) → bytes ≡ first ++ rest → AreElementsIn vs (n + length first) rest
+    → AreElementsIn vs n bytes
+elements_after vs n bytes first rest e h =
+    each (λ v. IsElementIn v (n + length first) rest) (λ v. IsElementIn v n bytes) (λ v s. element_after v n bytes first rest e s) vs h
 
 -- ---- the elements of an array
 
@@ -94,7 +100,8 @@ white_follow es close n bytes h = go h.first h.joined h.before
     go (b ∷ ws) e w = subst IsFollowed (sym e) (inl w.0)
 
 -- an element at the front
-front_element : (v : Tree) (es : Tree.Elements) (close n : ℕ) (bytes : List ℕ) → Then (Spells v) (Then White (SpellsMoreElements es close)) n bytes → IsElementIn v n bytes
+front_element : (v : Tree) (es : Tree.Elements) (close n : ℕ) (bytes : List ℕ) → Then (Spells v) (Then White (SpellsMoreElements es close)) n bytes
+    → IsElementIn v n bytes
 front_element v es close n bytes h = record {
   stands = record { before = []; own = h.first; after = h.rest; joined = h.joined; spelled = subst (λ m. Spells v m h.first) (no_more n) h.before };
   followed = white_follow es close (n + length h.first) h.rest h.after;
@@ -109,7 +116,8 @@ mutual
   elements_in (element v more) close n bytes h = (
     front_element v more close n bytes h,
     elements_after (items more) n bytes h.first h.rest h.joined
-        (elements_after (items more) (n + length h.first) h.rest h.after.first h.after.rest h.after.joined (more_elements_in more close _ h.after.rest h.after.after)),
+        (elements_after (items more) (n + length h.first) h.rest h.after.first h.after.rest h.after.joined
+        (more_elements_in more close _ h.after.rest h.after.after)),
   )
 
   more_elements_in : (es : Tree.Elements) (close n : ℕ) (bytes : List ℕ) → SpellsMoreElements es close n bytes → AreElementsIn (items es) n bytes
@@ -126,7 +134,8 @@ mutual
 array_in : (place : ℕ) (es : Tree.Elements) (close n : ℕ) (bytes : List ℕ) → Spells (array place es close) n bytes → AreElementsIn (items es) n bytes
 array_in place es close n bytes h =
     elements_after (items es) n bytes h.1.first h.1.rest h.1.joined
-    (elements_after (items es) (n + length h.1.first) h.1.rest h.1.after.first h.1.after.rest h.1.after.joined (elements_in es close _ h.1.after.rest h.1.after.after))
+    (elements_after (items es) (n + length h.1.first) h.1.rest h.1.after.first h.1.after.rest h.1.after.joined
+    (elements_in es close _ h.1.after.rest h.1.after.after))
 
 value_in : (v : Tree) (n : ℕ) (bytes : List ℕ) → Spells v n bytes → AreElementsIn (elements_of v) n bytes
 value_in (array place es close) n bytes h = array_in place es close n bytes h
@@ -141,18 +150,21 @@ value_in (object place members close) n bytes h = tt
 abbrev AreFeaturesIn : Option Tree → ℕ → List ℕ → Type 0
 AreFeaturesIn found n bytes = AreElementsIn (elements_if found) n bytes
 
-features_after : (found : Option Tree) (n : ℕ) (bytes first rest : List ℕ) → bytes ≡ first ++ rest → AreFeaturesIn found (n + length first) rest → AreFeaturesIn found n bytes
+features_after : (found : Option Tree) (n : ℕ) (bytes first rest : List ℕ) → bytes ≡ first ++ rest → AreFeaturesIn found (n + length first) rest
+    → AreFeaturesIn found n bytes
 features_after found n bytes first rest e h = elements_after (elements_if found) n bytes first rest e h
 
 front_value : (v : Tree) (B : ℕ → List ℕ → Type 0) (n : ℕ) (bytes : List ℕ) → Then (Spells v) B n bytes → AreElementsIn (elements_of v) n bytes
 front_value v B n bytes h =
     each (λ w. IsElementIn w n h.first) (λ w. IsElementIn w n bytes)
-    (λ w s. element_in_part w n bytes [] h.first h.rest h.joined (subst (λ m. IsElementIn w m h.first) (no_more n) s)) (elements_of v) (value_in v n h.first h.before)
+    (λ w s. element_in_part w n bytes [] h.first h.rest h.joined (subst (λ m. IsElementIn w m h.first) (no_more n) s)) (elements_of v)
+    (value_in v n h.first h.before)
   where
     no_more : (n : ℕ) → n ≡ n + length {A = ℕ} []
     no_more n = omega arith
 
-either : (t : Bool) (v : Tree) (o : Option Tree) (n : ℕ) (bytes : List ℕ) → AreElementsIn (elements_of v) n bytes → AreFeaturesIn o n bytes → AreFeaturesIn (if t then Some v else o) n bytes
+either : (t : Bool) (v : Tree) (o : Option Tree) (n : ℕ) (bytes : List ℕ) → AreElementsIn (elements_of v) n bytes → AreFeaturesIn o n bytes
+    → AreFeaturesIn (if t then Some v else o) n bytes
 either true v o n bytes h k = h
 either false v o n bytes h k = k
 
@@ -170,25 +182,29 @@ member_in name v more close n bytes first rest others e h =
     (either (same Features (known_of name)) v (first_value Features more) _ h.after.after.rest
     (front_value v (Then White (SpellsMoreMembers more close)) _ h.after.after.rest h.after.after.after)
     (features_after (first_value Features more) _ h.after.after.rest h.after.after.after.first h.after.after.after.rest h.after.after.after.joined
-    (features_after (first_value Features more) _ h.after.after.after.rest h.after.after.after.after.first h.after.after.after.after.rest h.after.after.after.after.joined
+    (features_after (first_value Features more) _ h.after.after.after.rest h.after.after.after.after.first h.after.after.after.after.rest
+    h.after.after.after.after.joined
     (others _ h.after.after.after.after.rest h.after.after.after.after.after)))))))
 
 mutual
   members_in : (ms : Members) (close n : ℕ) (bytes : List ℕ) → SpellsMembers ms close n bytes → AreFeaturesIn (first_value Features ms) n bytes
   members_in end_of_object close n bytes h = tt
-  members_in (member place name end v more) close n bytes h = member_in name v more close n bytes h.first h.rest (λ m b. more_members_in more close m b) h.joined h.after
+  members_in (member place name end v more) close n bytes h =
+      member_in name v more close n bytes h.first h.rest (λ m b. more_members_in more close m b) h.joined h.after
 
   more_members_in : (ms : Members) (close n : ℕ) (bytes : List ℕ) → SpellsMoreMembers ms close n bytes → AreFeaturesIn (first_value Features ms) n bytes
   more_members_in end_of_object close n bytes h = tt
   more_members_in (member place name end v more) close n bytes h =
       features_after (first_value Features (member place name end v more)) n bytes h.first h.rest h.joined
       (features_after (first_value Features (member place name end v more)) (n + length h.first) h.rest h.after.first h.after.rest h.after.joined
-      (member_in name v more close _ h.after.rest h.after.after.first h.after.after.rest (λ m b. more_members_in more close m b) h.after.after.joined h.after.after.after))
+      (member_in name v more close _ h.after.rest h.after.after.first h.after.after.rest
+      (λ m b. more_members_in more close m b) h.after.after.joined h.after.after.after))
 
 root_in : (v : Tree) (n : ℕ) (bytes : List ℕ) → Spells v n bytes → AreElementsIn (features_of v) n bytes
 root_in (object place members close) n bytes h =
     features_after (first_value Features members) n bytes h.1.first h.1.rest h.1.joined
-    (features_after (first_value Features members) (n + length h.1.first) h.1.rest h.1.after.first h.1.after.rest h.1.after.joined (members_in members close _ h.1.after.rest h.1.after.after))
+    (features_after (first_value Features members) (n + length h.1.first) h.1.rest h.1.after.first h.1.after.rest h.1.after.joined
+    (members_in members close _ h.1.after.rest h.1.after.after))
 root_in (array place es close) n bytes h = tt
 root_in (constant which place) n bytes h = tt
 root_in (number place literal end) n bytes h = tt
@@ -202,7 +218,8 @@ features_in text bytes h =
     elements_after vs 0 bytes h.first h.rest h.joined
     (elements_after vs (0 + length h.first) h.rest h.after.first h.after.rest h.after.joined
     (each (λ w. IsElementIn w _ k.first) (λ w. IsElementIn w _ h.after.rest)
-    (λ w s. element_in_part w _ h.after.rest [] k.first k.rest k.joined (subst (λ m. IsElementIn w m k.first) (no_more _) s)) vs (root_in text.value _ k.first k.before)))
+    (λ w s. element_in_part w _ h.after.rest [] k.first k.rest k.joined (subst (λ m. IsElementIn w m k.first) (no_more _) s)) vs
+    (root_in text.value _ k.first k.before)))
   where
     no_more : (n : ℕ) → n ≡ n + length {A = ℕ} []
     no_more n = omega arith
@@ -217,7 +234,8 @@ deeper vs m n l h = each (λ v. depth v ≤ m) (λ v. depth v ≤ n) (λ v k. om
 
 items_within : (es : Tree.Elements) → AreWithin (items es) (elements_depth es)
 items_within end_of_array = tt
-items_within (element v more) = (left (depth v) (elements_depth more), deeper (items more) (elements_depth more) _ (right (depth v) (elements_depth more)) (items_within more))
+items_within (element v more) =
+    (left (depth v) (elements_depth more), deeper (items more) (elements_depth more) _ (right (depth v) (elements_depth more)) (items_within more))
   where
     left : (a b : ℕ) → a ≤ max a b
     left a b = omega arith
@@ -244,13 +262,15 @@ found_within (member place name end v more) =
     right : (a b : ℕ) → b ≤ max a b
     right a b = omega arith
 
-    by_test : (t : Bool) → AreWithin (elements_of v) (max (depth v) (members_depth more)) → AreWithin (elements_if (first_value Features more)) (max (depth v) (members_depth more)) →
+    by_test : (t : Bool) → AreWithin (elements_of v) (max (depth v) (members_depth more))
+        → AreWithin (elements_if (first_value Features more)) (max (depth v) (members_depth more)) →
         AreWithin (elements_if (if t then Some v else first_value Features more)) (max (depth v) (members_depth more))
     by_test true h k = h
     by_test false h k = k
 
 pub features_within : (v : Tree) → AllByRecursion (λ w. depth w ≤ depth v) (features_of v)
-features_within (object place members close) = deeper (elements_if (first_value Features members)) (members_depth members) _ (omega arith) (found_within members)
+features_within (object place members close) =
+    deeper (elements_if (first_value Features members)) (members_depth members) _ (omega arith) (found_within members)
 features_within (array place es close) = tt
 features_within (constant which place) = tt
 features_within (number place literal end) = tt

@@ -18,7 +18,8 @@ use Rattle.gj_coords.specs.Shape.{coordinates_faults}
 use Rattle.gj_rules.specs.declared.member_slots.TypeValue.{TypeValue}
 use Rattle.gj_rules.specs.declared.role.Role.{Role}
 use Rattle.gj_rules.specs.Members.{one, same, type_of, first_type, is_known, mentions, forbidden_by, again, repeated}
-use Rattle.gj_rules.specs.Faults.{properties_faults, id_faults, constant_faults, First, FirstMembers, forbidden, due, optional, due_coordinates, as_type, by_type, object_faults, selected, faults, listed, all_faults, first}
+use Rattle.gj_rules.specs.Faults.{properties_faults, id_faults, constant_faults, First, FirstMembers, forbidden, due, optional, due_coordinates, as_type}
+use Rattle.gj_rules.specs.Faults.{by_type, object_faults, selected, faults, listed, all_faults, first}
 use Rattle.gj_rules.specs.Role.{is_allowed}
 use Rattle.gj_split.proofs.MovedTrees.{moved, moved_elements, moved_members}
 use Rattle.gj_split.proofs.MovedShapes.{SameCount, both_count, coordinates_count, bbox_count}
@@ -56,7 +57,8 @@ Alike f None None = Unit {0}
 Alike f (Some a) (Some b) = (a.value ≡ moved f b.value) × SameCount a.faults b.faults
 Alike f _ _ = ⊥
 
-either_alike : (f : ℕ → ℕ) (t : Bool) (x y : First) (xs ys : Option First) → Alike f (Some x) (Some y) → Alike f xs ys → Alike f (if t then Some x else xs) (if t then Some y else ys)
+either_alike : (f : ℕ → ℕ) (t : Bool) (x y : First) (xs ys : Option First) → Alike f (Some x) (Some y) → Alike f xs ys
+    → Alike f (if t then Some x else xs) (if t then Some y else ys)
 either_alike f true x y xs ys h k = h
 either_alike f false x y xs ys h k = k
 
@@ -78,7 +80,8 @@ optional_count f (Some a) (Some b) h = h.1
 optional_count f None (Some b) h = absurd h
 optional_count f (Some a) None h = absurd h
 
-coordinates_due_count : (f : ℕ → ℕ) (simple : Simple) (p q : ℕ) (a b : Option First) → Alike f a b → SameCount (due_coordinates simple p a) (due_coordinates simple q b)
+coordinates_due_count : (f : ℕ → ℕ) (simple : Simple) (p q : ℕ) (a b : Option First) → Alike f a b
+    → SameCount (due_coordinates simple p a) (due_coordinates simple q b)
 coordinates_due_count f simple p q None None h = refl
 coordinates_due_count f simple p q (Some a) (Some b) h = ap (λ v. length (coordinates_faults simple v)) h.0 ∙ coordinates_count f simple b.value
 coordinates_due_count f simple p q None (Some b) h = absurd h
@@ -87,9 +90,11 @@ coordinates_due_count f simple p q (Some a) None h = absurd h
 each_forbidden : (f : ℕ → ℕ) (m o : FirstMembers) → ((name : Known) → Alike f (m name) (o name)) → (names : List Known) →
     SameCount (flat_map (λ name. forbidden (m name)) names) (flat_map (λ name. forbidden (o name)) names)
 each_forbidden f m o h [] = refl
-each_forbidden f m o h (name ∷ names) = both_count (forbidden (m name)) _ (forbidden (o name)) _ (forbidden_count f (m name) (o name) (h name)) (each_forbidden f m o h names)
+each_forbidden f m o h (name ∷ names) =
+    both_count (forbidden (m name)) _ (forbidden (o name)) _ (forbidden_count f (m name) (o name) (h name)) (each_forbidden f m o h names)
 
-type_count : (f : ℕ → ℕ) (word : Word) (p q : ℕ) (m o : FirstMembers) → ((name : Known) → Alike f (m name) (o name)) → SameCount (as_type word p m) (as_type word q o)
+type_count : (f : ℕ → ℕ) (word : Word) (p q : ℕ) (m o : FirstMembers) → ((name : Known) → Alike f (m name) (o name))
+    → SameCount (as_type word p m) (as_type word q o)
 type_count f Word.Point p q m o h = coordinates_due_count f Simple.Point p q (m Coordinates) (o Coordinates) (h Coordinates)
 type_count f Word.MultiPoint p q m o h = coordinates_due_count f Simple.MultiPoint p q (m Coordinates) (o Coordinates) (h Coordinates)
 type_count f Word.LineString p q m o h = coordinates_due_count f Simple.LineString p q (m Coordinates) (o Coordinates) (h Coordinates)
@@ -126,10 +131,12 @@ same_type f (object place members close) = refl
 
 first_moved_type : (f : ℕ → ℕ) (ms : Members) → first_type (moved_members f ms) ≡ moved_type f (first_type ms)
 first_moved_type f end_of_object = refl
-first_moved_type f (member place name end v more) = by_test (same TypeName (known_of name)) (first_type (moved_members f more)) (first_type more) (first_moved_type f more)
+first_moved_type f (member place name end v more) =
+    by_test (same TypeName (known_of name)) (first_type (moved_members f more)) (first_type more) (first_moved_type f more)
   where
     by_test : (t : Bool) (xs ys : Option TypeValue) → xs ≡ moved_type f ys →
-        (if t then Some (record { place = place_of (moved f v); word = type_of (moved f v) }) else xs) ≡ moved_type f (if t then Some (record { place = place_of v; word = type_of v }) else ys)
+        (if t then Some (record { place = place_of (moved f v); word = type_of (moved f v) }) else xs) ≡ moved_type f
+        (if t then Some (record { place = place_of v; word = type_of v }) else ys)
     by_test true xs ys e = rw (moved_place f v, same_type f v) refl
     by_test false xs ys e = e
 
@@ -141,14 +148,16 @@ again_count false b p q = refl
 repeated_count : (f : ℕ → ℕ) (before : List Known) (ms : Members) → SameCount (repeated before (moved_members f ms)) (repeated before ms)
 repeated_count f before end_of_object = refl
 repeated_count f before (member place name end v more) =
-    both_count (again (is_known (known_of name)) (mentions before (known_of name)) (f place)) _ (again (is_known (known_of name)) (mentions before (known_of name)) place) _
+    both_count (again (is_known (known_of name)) (mentions before (known_of name)) (f place)) _
+    (again (is_known (known_of name)) (mentions before (known_of name)) place) _
     (again_count (is_known (known_of name)) (mentions before (known_of name)) (f place) place) (repeated_count f (known_of name ∷ before) more)
 
 by_type_count : (f : ℕ → ℕ) (t : Option TypeValue) (role : Role) (p q : ℕ) (m o : FirstMembers) → ((name : Known) → Alike f (m name) (o name)) →
     SameCount (by_type (moved_type f t) role p m) (by_type t role q o)
 by_type_count f None role p q m o h = refl
 by_type_count f (Some value) role p q m o h =
-    if_count (is_allowed role value.word) _ _ _ _ (both_count (flat_map (λ name. forbidden (m name)) (forbidden_by value.word)) _ (flat_map (λ name. forbidden (o name)) (forbidden_by value.word)) _
+    if_count (is_allowed role value.word) _ _ _ _
+    (both_count (flat_map (λ name. forbidden (m name)) (forbidden_by value.word)) _ (flat_map (λ name. forbidden (o name)) (forbidden_by value.word)) _
     (each_forbidden f m o h (forbidden_by value.word)) (type_count f value.word p q m o h))
   where
     if_count : (t : Bool) (xs ys : List Fault) (place other : ℕ) → SameCount xs ys → SameCount (if t then xs else one place G3) (if t then ys else one other G3)
@@ -156,7 +165,8 @@ by_type_count f (Some value) role p q m o h =
     if_count false xs ys place other e = refl
 
 object_count : (f : ℕ → ℕ) (role : Role) (p q : ℕ) (ms : Members) (m o : FirstMembers) → ((name : Known) → Alike f (m name) (o name)) →
-    SameCount (object_faults role p (repeated [] (moved_members f ms)) (first_type (moved_members f ms)) m) (object_faults role q (repeated [] ms) (first_type ms) o)
+    SameCount (object_faults role p (repeated [] (moved_members f ms)) (first_type (moved_members f ms)) m)
+    (object_faults role q (repeated [] ms) (first_type ms) o)
 object_count f role p q ms m o h =
     both_count (repeated [] (moved_members f ms)) _ (repeated [] ms) _ (repeated_count f [] ms)
     (both_count (optional (m Bbox)) _ (optional (o Bbox)) _ (optional_count f (m Bbox) (o Bbox) (h Bbox))
@@ -180,7 +190,8 @@ selected_count f Other v us bs cs xs ys zs e g h = refl
 mutual
   pub faults_count : (f : ℕ → ℕ) (role : Role) (v : Tree) → SameCount (faults role (moved f v)) (faults role v)
   faults_count f role (object place members close) =
-      object_count f role (f place) place members (λ name. first name (moved_members f members)) (λ name. first name members) (λ name. first_alike f name members)
+      object_count f role (f place) place members (λ name. first name (moved_members f members)) (λ name. first name members)
+      (λ name. first_alike f name members)
   faults_count f role (constant which place) = constant_count which role (f place) place
   faults_count f role (number place literal end) = refl
   faults_count f role (string place content end) = refl
@@ -214,7 +225,8 @@ none_counted : (xs ys : List Fault) → SameCount xs ys → ys ≡ [] → xs ≡
 none_counted [] ys e h = refl
 none_counted (x ∷ xs) ys e h = let l : length ys ≡ 0 = ap length h in cc
 
-allowed_text : (word : Word) (xs : List Fault) (place : ℕ) → (if is_allowed Role.Feature word then xs else one place G3) ≡ [] → (if is_allowed Role.Root word then xs else one place G3) ≡ []
+allowed_text : (word : Word) (xs : List Fault) (place : ℕ) → (if is_allowed Role.Feature word then xs else one place G3) ≡ []
+    → (if is_allowed Role.Root word then xs else one place G3) ≡ []
 allowed_text Word.Feature xs place e = e
 allowed_text Word.Point xs place e = cc
 allowed_text Word.MultiPoint xs place e = cc
@@ -230,7 +242,8 @@ typed_text : (t : Option TypeValue) (place : ℕ) (m : FirstMembers) → by_type
 typed_text None place m e = e
 typed_text (Some value) place m e = allowed_text value.word _ value.place e
 
-object_text : (place : ℕ) (repeats : List Fault) (t : Option TypeValue) (m : FirstMembers) → object_faults Role.Feature place repeats t m ≡ [] → object_faults Role.Root place repeats t m ≡ []
+object_text : (place : ℕ) (repeats : List Fault) (t : Option TypeValue) (m : FirstMembers) → object_faults Role.Feature place repeats t m ≡ []
+    → object_faults Role.Root place repeats t m ≡ []
 object_text place repeats t m e =
     let p = no_parts repeats (optional (m Bbox) ++ by_type t Role.Feature place m) e in
     let q = no_parts (optional (m Bbox)) (by_type t Role.Feature place m) p.1 in

@@ -1,5 +1,6 @@
 -- Values of `coordinates` and of `bbox` have as many faults wherever they stand.
-use Rattle.std.proofs.Common.{◌≡◌, ℕ, ◌+◌, Bool, true, false, ◌&&◌, not, if◌then◌else◌, nat_lt, List, [], ◌∷◌, ◌++◌, length, length-append, map, take, drop, is_some, refl, sym, ap, ◌∙◌}
+use Rattle.std.proofs.Common.{◌≡◌, ℕ, ◌+◌, Bool, true, false, ◌&&◌, not, if◌then◌else◌, nat_lt, List, [], ◌∷◌, ◌++◌, length, length-append, map, take, drop}
+use Rattle.std.proofs.Common.{is_some, refl, sym, ap, ◌∙◌}
 use Rattle.std.specs.List.{flat_map}
 use Rattle.std.proofs.lemmas.List.{length-map, take-map, drop-map}
 use Rattle.std.specs.Option.{option_eq}
@@ -51,9 +52,11 @@ pub each_count : (f : ℕ → ℕ) (shape : Shape) → Steady f shape → (vs : 
 each_count f shape h [] = refl
 each_count f shape h (v ∷ vs) = both_count (shape (moved f v)) (flat_map shape (map (moved f) vs)) (shape v) (flat_map shape vs) (h v) (each_count f shape h vs)
 
-few_count : (f : ℕ → ℕ) (needed : ℕ) (rule : Rule) (place other : ℕ) (vs : List Tree) → SameCount (few needed rule place (map (moved f) vs)) (few needed rule other vs)
+few_count : (f : ℕ → ℕ) (needed : ℕ) (rule : Rule) (place other : ℕ) (vs : List Tree)
+    → SameCount (few needed rule place (map (moved f) vs)) (few needed rule other vs)
 few_count f needed rule place other vs =
-    one_if (nat_lt (length (map (moved f) vs)) needed) (nat_lt (length vs) needed) (fault_at place rule) (fault_at other rule) (ap (λ n. nat_lt n needed) (length-map vs (moved f)))
+    one_if (nat_lt (length (map (moved f) vs)) needed) (nat_lt (length vs) needed) (fault_at place rule) (fault_at other rule)
+    (ap (λ n. nat_lt n needed) (length-map vs (moved f)))
 
 -- ---- positions
 
@@ -85,7 +88,8 @@ items_count f place other vs =
     (ap (λ ts. length (flat_map (number_or G11) ts)) (drop-map (moved f) 3 vs) ∙ each_count f (number_or G11) (number_count f G11) (drop 3 vs)))
 
 position_count : (f : ℕ → ℕ) → Steady f position
-position_count f (array place elements close) = ap (λ vs. length (position_of (f place) vs)) (moved_items f elements) ∙ items_count f (f place) place (items elements)
+position_count f (array place elements close) =
+    ap (λ vs. length (position_of (f place) vs)) (moved_items f elements) ∙ items_count f (f place) place (items elements)
 position_count f (constant which place) = refl
 position_count f (number place literal end) = refl
 position_count f (string place content end) = refl

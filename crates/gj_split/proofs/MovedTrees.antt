@@ -1,6 +1,7 @@
 -- A value by its bytes alone: its tree, with each place from the start of the value.
 use Rattle.std.proofs.Common.{◌≡◌, ℕ, ◌+◌, ◌-◌, List, length, refl, ap, subst, arith}
-use Rattle.gj_json.specs.Tree.{Tree, constant, number, string, array, object, Elements, end_of_array, element, Members, end_of_object, member, depth, elements_depth, members_depth}
+use Rattle.gj_json.specs.Tree.{Tree, constant, number, string, array, object, Elements, end_of_array, element, Members, end_of_object, member, depth}
+use Rattle.gj_json.specs.Tree.{elements_depth, members_depth}
 use Rattle.gj_json.specs.Bytes.{close_bracket, close_brace}
 use Rattle.gj_json.specs.Grammar.{Then, White, Exactly, Closes, Quoted, Spells, SpellsElements, SpellsMoreElements, SpellsMembers, SpellsMoreMembers}
 
@@ -61,11 +62,13 @@ then_back {B = B} k n bytes f g h = record {
     grouped a b c = omega arith
 
 -- bytes that hold no place
-any_back : {A B D : ℕ → List ℕ → Type 0} (k n : ℕ) (bytes : List ℕ) → ((m : ℕ) (b : List ℕ) → A (k + m) b → A m b) → ((m : ℕ) (b : List ℕ) → B (k + m) b → D m b)
+any_back : {A B D : ℕ → List ℕ → Type 0} (k n : ℕ) (bytes : List ℕ) → ((m : ℕ) (b : List ℕ) → A (k + m) b → A m b)
+    → ((m : ℕ) (b : List ℕ) → B (k + m) b → D m b)
     → Then A B (k + n) bytes → Then A D n bytes
 any_back {A} {B} {D} k n bytes f g h = then_back {A = A} {B = B} {C = A} {D = D} k n bytes (f n) g h
 
-white_back : {B D : ℕ → List ℕ → Type 0} (k n : ℕ) (bytes : List ℕ) → ((m : ℕ) (b : List ℕ) → B (k + m) b → D m b) → Then White B (k + n) bytes → Then White D n bytes
+white_back : {B D : ℕ → List ℕ → Type 0} (k n : ℕ) (bytes : List ℕ) → ((m : ℕ) (b : List ℕ) → B (k + m) b → D m b) → Then White B (k + n) bytes
+    → Then White D n bytes
 white_back {B} {D} k n bytes g h = then_back {A = White} {B = B} {C = White} {D = D} k n bytes (λ b x. x) g h
 
 byte_back : {letters : List ℕ} {B D : ℕ → List ℕ → Type 0} (k n : ℕ) (bytes : List ℕ) → ((m : ℕ) (b : List ℕ) → B (k + m) b → D m b)
@@ -75,7 +78,8 @@ byte_back {letters} {B} {D} k n bytes g h = then_back {A = Exactly letters} {B =
 closes_back : (b k close n : ℕ) (bytes : List ℕ) → Closes b close (k + n) bytes → Closes b (back k close) n bytes
 closes_back b k close n bytes h = (h.0, back_to k n close h.1)
 
-quoted_back : (k place : ℕ) (content : List ℕ) (end n : ℕ) (bytes : List ℕ) → Quoted place content end (k + n) bytes → Quoted (back k place) content (back k end) n bytes
+quoted_back : (k place : ℕ) (content : List ℕ) (end n : ℕ) (bytes : List ℕ) → Quoted place content end (k + n) bytes
+    → Quoted (back k place) content (back k end) n bytes
 quoted_back k place content end n bytes h =
     (back_to k n place h.0, byte_back k n bytes (λ m b. then_back k m b (λ c x. x) (λ p c. byte_back k p c (λ q d x. (x.0, back_to k q end x.1)))) h.1)
 
@@ -89,23 +93,31 @@ mutual
   spelled_back k (object place members close) n bytes h =
       (back_to k n place h.0, byte_back k n bytes (λ m b. white_back k m b (λ p c. members_back k members close p c)) h.1)
 
-  elements_back : (k : ℕ) (es : Elements) (close n : ℕ) (bytes : List ℕ) → SpellsElements es close (k + n) bytes → SpellsElements (moved_elements (back k) es) (back k close) n bytes
+  elements_back : (k : ℕ) (es : Elements) (close n : ℕ) (bytes : List ℕ) → SpellsElements es close (k + n) bytes
+      → SpellsElements (moved_elements (back k) es) (back k close) n bytes
   elements_back k end_of_array close n bytes h = closes_back close_bracket k close n bytes h
-  elements_back k (element value more) close n bytes h = then_back k n bytes (λ y. spelled_back k value n y) (λ m b. white_back k m b (λ p c. more_elements_back k more close p c)) h
+  elements_back k (element value more) close n bytes h =
+      then_back k n bytes (λ y. spelled_back k value n y) (λ m b. white_back k m b (λ p c. more_elements_back k more close p c)) h
 
-  more_elements_back : (k : ℕ) (es : Elements) (close n : ℕ) (bytes : List ℕ) → SpellsMoreElements es close (k + n) bytes → SpellsMoreElements (moved_elements (back k) es) (back k close) n bytes
+  more_elements_back : (k : ℕ) (es : Elements) (close n : ℕ) (bytes : List ℕ) → SpellsMoreElements es close (k + n) bytes
+      → SpellsMoreElements (moved_elements (back k) es) (back k close) n bytes
   more_elements_back k end_of_array close n bytes h = closes_back close_bracket k close n bytes h
   more_elements_back k (element value more) close n bytes h =
-      byte_back k n bytes (λ m b. white_back k m b (λ p c. then_back k p c (λ y. spelled_back k value p y) (λ q d. white_back k q d (λ r e. more_elements_back k more close r e)))) h
+      byte_back k n bytes (λ m b. white_back k m b
+      (λ p c. then_back k p c (λ y. spelled_back k value p y) (λ q d. white_back k q d (λ r e. more_elements_back k more close r e)))) h
 
-  members_back : (k : ℕ) (ms : Members) (close n : ℕ) (bytes : List ℕ) → SpellsMembers ms close (k + n) bytes → SpellsMembers (moved_members (back k) ms) (back k close) n bytes
+  members_back : (k : ℕ) (ms : Members) (close n : ℕ) (bytes : List ℕ) → SpellsMembers ms close (k + n) bytes
+      → SpellsMembers (moved_members (back k) ms) (back k close) n bytes
   members_back k end_of_object close n bytes h = closes_back close_brace k close n bytes h
   members_back k (member place name end value more) close n bytes h =
-      then_back k n bytes (λ b. quoted_back k place name end n b) (λ m b. white_back k m b (λ p c. byte_back k p c (λ q d. white_back k q d (λ r e. then_back k r e (λ y. spelled_back k value r y)
+      then_back k n bytes (λ b. quoted_back k place name end n b)
+      (λ m b. white_back k m b (λ p c. byte_back k p c (λ q d. white_back k q d (λ r e. then_back k r e (λ y. spelled_back k value r y)
       (λ s f. white_back k s f (λ t g. more_members_back k more close t g)))))) h
 
-  more_members_back : (k : ℕ) (ms : Members) (close n : ℕ) (bytes : List ℕ) → SpellsMoreMembers ms close (k + n) bytes → SpellsMoreMembers (moved_members (back k) ms) (back k close) n bytes
+  more_members_back : (k : ℕ) (ms : Members) (close n : ℕ) (bytes : List ℕ) → SpellsMoreMembers ms close (k + n) bytes
+      → SpellsMoreMembers (moved_members (back k) ms) (back k close) n bytes
   more_members_back k end_of_object close n bytes h = closes_back close_brace k close n bytes h
   more_members_back k (member place name end value more) close n bytes h =
-      byte_back k n bytes (λ m b. white_back k m b (λ p c. then_back k p c (λ d. quoted_back k place name end p d) (λ q d. white_back k q d (λ r e. byte_back k r e (λ s f. white_back k s f
+      byte_back k n bytes (λ m b. white_back k m b
+      (λ p c. then_back k p c (λ d. quoted_back k place name end p d) (λ q d. white_back k q d (λ r e. byte_back k r e (λ s f. white_back k s f
       (λ t g. then_back k t g (λ y. spelled_back k value t y) (λ u i. white_back k u i (λ w j. more_members_back k more close w j)))))))) h

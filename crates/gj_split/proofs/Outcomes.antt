@@ -4,14 +4,16 @@ use Rattle.std.proofs.Common.{◌≡◌, Result, Ok, Err, IfOk, OnOk, IsErr, sub
 abbrev ok_of : (T E : Type 0) → T → Result T E
 ok_of T E value = Ok value
 
-pub ok_gives : {T E : Type 0} (outcome : Result T E) (given : T) (N : Type 0) (P : T → Type 0) → IfOk outcome (λ v. N × (ok_of T E given ≡ ok_of T E v)) → P given → IfOk outcome P
+pub ok_gives : {T E : Type 0} (outcome : Result T E) (given : T) (N : Type 0) (P : T → Type 0) → IfOk outcome (λ v. N × (ok_of T E given ≡ ok_of T E v))
+    → P given → IfOk outcome P
 ok_gives {T} {E} (Ok v) given N P h p = subst P (same given v h.1) p
   where
     same : (a b : T) → ok_of T E a ≡ ok_of T E b → a ≡ b
     same a b e = cc
 ok_gives (Err x) given N P h p = tt
 
-pub ok_on : {T E : Type 0} (outcome : Result T E) (given : T) (N : Type 0) (X : Type 0) → IfOk outcome (λ v. N × (ok_of T E given ≡ ok_of T E v)) → (N → X) → OnOk outcome X
+pub ok_on : {T E : Type 0} (outcome : Result T E) (given : T) (N : Type 0) (X : Type 0) → IfOk outcome (λ v. N × (ok_of T E given ≡ ok_of T E v)) → (N → X)
+    → OnOk outcome X
 ok_on (Ok v) given N X h f = f h.0
 ok_on (Err x) given N X h f = tt
 
@@ -27,7 +29,8 @@ pub on_map : {T E : Type 0} (outcome : Result T E) (X Y : Type 0) → OnOk outco
 on_map (Ok v) X Y h f = f h
 on_map (Err x) X Y h f = tt
 
-pub ok_both : {T E F : Type 0} (outcome : Result T E) (P : T → Type 0) (R : F → Type 0) (Q : F → T → Type 0) (Z : T → Type 0) → IfOk outcome P → ((f : F) → R f → IfOk outcome (Q f))
+pub ok_both : {T E F : Type 0} (outcome : Result T E) (P : T → Type 0) (R : F → Type 0) (Q : F → T → Type 0) (Z : T → Type 0) → IfOk outcome P
+    → ((f : F) → R f → IfOk outcome (Q f))
     → ((v : T) → P v → ((f : F) → R f → Q f v) → Z v) → IfOk outcome Z
 ok_both (Ok v) P R Q Z p q z = z v p q
 ok_both (Err x) P R Q Z p q z = tt

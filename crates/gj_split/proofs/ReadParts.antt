@@ -1,10 +1,12 @@
 -- What a read at a place gives of a text.
-use Rattle.std.proofs.Common.{◌≡◌, ℕ, ◌+◌, ◌-◌, ◌≤◌, ◌<◌, max, min, List, ◌++◌, length, take, drop, Option, Some, None, Ok, sym, ap, subst, ◌∙◌, arith, take-take, take-add, drop-drop, length-take-le, length-take, length-drop}
+use Rattle.std.proofs.Common.{◌≡◌, ℕ, ◌+◌, ◌-◌, ◌≤◌, ◌<◌, max, min, List, ◌++◌, length, take, drop, Option, Some, None, Ok, sym, ap, subst, ◌∙◌, arith}
+use Rattle.std.proofs.Common.{take-take, take-add, drop-drop, length-take-le, length-take, length-drop}
 use Rattle.std.proofs.lemmas.List.{take-append-drop}
 use Rattle.gj_split.specs.Ranges.{StandsAt, ReadsFrom}
 use Rattle.gj_split.specs.Split.{bytes_between}
 
-pub part_read : (E : Type 0) (known : Option (List ℕ)) (place n : ℕ) (piece bytes : List ℕ) → ReadsFrom {E = E} known place (Ok n) piece → known ≡ Some bytes → StandsAt bytes place (take n piece)
+pub part_read : (E : Type 0) (known : Option (List ℕ)) (place n : ℕ) (piece bytes : List ℕ) → ReadsFrom {E = E} known place (Ok n) piece → known ≡ Some bytes
+    → StandsAt bytes place (take n piece)
 part_read E None place n piece bytes h e = cc
 part_read E (Some known) place n piece bytes h e = subst (λ xs. StandsAt xs place (take n piece)) (some_is known bytes e) h.0
   where
@@ -31,17 +33,20 @@ more_between place at due n piece bytes l m k h =
 -- the rest of the text after what was read
 pub read_and_rest : (at : ℕ) (part bytes : List ℕ) → StandsAt bytes at part → drop at bytes ≡ part ++ drop (at + length part) bytes
 read_and_rest at part bytes h =
-    sym (take-append-drop (length part) (drop at bytes)) ∙ (ap (λ xs. xs ++ drop (length part) (drop at bytes)) (sym h) ∙ ap (λ xs. part ++ xs) (drop-drop (length part) at bytes))
+    sym (take-append-drop (length part) (drop at bytes))
+    ∙ (ap (λ xs. xs ++ drop (length part) (drop at bytes)) (sym h) ∙ ap (λ xs. part ++ xs) (drop-drop (length part) at bytes))
 
 -- up to no further place there are no bytes
-pub none_between : (place at end : ℕ) (bytes : List ℕ) → place ≤ at → end ≤ at → at ≤ max place end → bytes_between place at bytes ≡ bytes_between place end bytes
+pub none_between : (place at end : ℕ) (bytes : List ℕ) → place ≤ at → end ≤ at → at ≤ max place end
+    → bytes_between place at bytes ≡ bytes_between place end bytes
 none_between place at end bytes l m k = ap (λ j. take j (drop place bytes)) (same place at end l m k)
   where
     same : (p a e : ℕ) → p ≤ a → e ≤ a → a ≤ max p e → a - p ≡ e - p
     same p a e l m k = omega (arith, l, m, k)
 
 -- where no byte came the text has ended
-pub ended_there : (E : Type 0) (known : Option (List ℕ)) (at n : ℕ) (piece bytes : List ℕ) → ReadsFrom {E = E} known at (Ok n) piece → known ≡ Some bytes → n ≡ 0 → 0 < length piece → length bytes ≤ at
+pub ended_there : (E : Type 0) (known : Option (List ℕ)) (at n : ℕ) (piece bytes : List ℕ) → ReadsFrom {E = E} known at (Ok n) piece → known ≡ Some bytes
+    → n ≡ 0 → 0 < length piece → length bytes ≤ at
 ended_there E None at n piece bytes h e z l = cc
 ended_there E (Some known) at n piece bytes h e z l = let s : known ≡ bytes = cc in subst (λ xs. length xs ≤ at) s (h.1 z l)
 

@@ -31,7 +31,8 @@ pub length_on : (place at count : ℕ) (first scan next : Scan) (part bytes : Li
     → ((rest : List ℕ) → scan_length scan (part ++ rest) ≡ count + rest_length next rest)
     → place + scan_length first (drop place bytes) ≡ at + count + rest_length next (drop (at + length part) bytes)
 length_on place at count first scan next part bytes h e f =
-    e ∙ (ap (λ xs. at + scan_length scan xs) (read_and_rest at part bytes h) ∙ (ap (λ n. at + n) (f (drop (at + length part) bytes)) ∙ grouped at count (rest_length next (drop (at + length part) bytes))))
+    e ∙ (ap (λ xs. at + scan_length scan xs) (read_and_rest at part bytes h)
+    ∙ (ap (λ n. at + n) (f (drop (at + length part) bytes)) ∙ grouped at count (rest_length next (drop (at + length part) bytes))))
   where
     grouped : (a b c : ℕ) → a + (b + c) ≡ a + b + c
     grouped a b c = omega arith

@@ -13,7 +13,8 @@ use Rattle.gj_coords.specs.Fault.{least}
 use Rattle.gj_coords.specs.Internal.KeptWarnings.{no_warnings, joined, shifted}
 use Rattle.gj_coords.specs.declared.warnings.Warnings.{Warnings}
 use Rattle.gj_rules.specs.Faults.{text_faults}
-use Rattle.gj_rules.specs.Sequence.{separator, is_separator, begins_with_separator, up_to_separator, SequenceRecord, records_from, records_of, last_byte, ends_in_line_feed, own_limits, IsRecordVerdict, AllValid, is_stray}
+use Rattle.gj_rules.specs.Sequence.{separator, is_separator, begins_with_separator, up_to_separator, SequenceRecord, records_from, records_of, last_byte}
+use Rattle.gj_rules.specs.Sequence.{ends_in_line_feed, own_limits, IsRecordVerdict, AllValid, is_stray}
 use Rattle.gj_rules.specs.Verdict.{IsVerdict}
 use Rattle.gj_rules.specs.declared.verdict.Verdict.{Verdict}
 use Rattle.gj_rules.specs.declared.verdict.Verdict.TheVariants.{Valid, Broken, NotJson}
@@ -70,7 +71,8 @@ line_long [] = omega arith
 line_long (b ∷ own) = omega arith
 
 first_record : (place : ℕ) (line rest : List ℕ) → 0 < length line → AreInText line → up_to_separator rest ≡ [] →
-    records_from false place (separator ∷ (line ++ rest)) ≡ record { start = place + 1; bytes = line; is_cut = false } ∷ records_from false (place + 1 + length line) rest
+    records_from false place (separator ∷ (line ++ rest)) ≡ record { start = place + 1; bytes = line; is_cut = false } ∷ records_from false
+    (place + 1 + length line) rest
 first_record place line rest l h e =
     let b = begins_plain line rest l h in
     let u = up_to_plain line rest h ∙ (ap (λ xs. line ++ xs) e ∙ append-nil line) in
@@ -98,7 +100,8 @@ line_ends own = rw (last_of_line separator own) refl
 module _ (some : (limits : Allowed) (bytes : List ℕ) → (verdict : Verdict) × IsVerdict limits bytes verdict)
     (one_text : (first second : Text) (bytes : List ℕ) → IsText first bytes → IsText second bytes → first ≡ second)
     (never_both : (limits : Allowed) (bytes : List ℕ) (fault : JsonFault) (text : Text) → IsRefusal limits bytes fault → IsAdmitted limits text bytes → ⊥) where
-  valid_verdict : (limits : Allowed) (text : Text) (bytes : List ℕ) → IsAdmitted limits text bytes → text_faults text ≡ [] → (warnings : Warnings) × IsVerdict limits bytes (Valid warnings)
+  valid_verdict : (limits : Allowed) (text : Text) (bytes : List ℕ) → IsAdmitted limits text bytes → text_faults text ≡ [] → (warnings : Warnings)
+      × IsVerdict limits bytes (Valid warnings)
   valid_verdict limits text bytes h e = let v = some limits bytes in by_verdict v.0 v.1
     where
       by_verdict : (verdict : Verdict) → IsVerdict limits bytes verdict → (warnings : Warnings) × IsVerdict limits bytes (Valid warnings)
@@ -109,12 +112,15 @@ module _ (some : (limits : Allowed) (bytes : List ℕ) → (verdict : Verdict) �
           cc
       by_verdict (NotJson fault) k = absurd (never_both limits bytes fault text k h)
 
-  valid_record : (levels place : ℕ) (own : List ℕ) → IsSoundAlone levels own → (warnings : Warnings) × IsRecordVerdict levels (record_at place own) (Valid warnings)
+  valid_record : (levels place : ℕ) (own : List ℕ) → IsSoundAlone levels own → (warnings : Warnings)
+      × IsRecordVerdict levels (record_at place own) (Valid warnings)
   valid_record levels place own h =
-      let v = valid_verdict (own_limits levels (line_of own)) h.alone.text (line_of own) (h.alone.spelled (line_feed ∷ []) (inr (inr (inl refl)), tt), omega arith) h.sound in
+      let v = valid_verdict (own_limits levels (line_of own)) h.alone.text (line_of own)
+      (h.alone.spelled (line_feed ∷ []) (inr (inr (inl refl)), tt), omega arith) h.sound in
       (shifted v.0 (place + 1), (Valid v.0, v.1, rw (line_ends own) refl))
 
-  all_valid : (levels place : ℕ) (texts : List (List ℕ)) → AllByRecursion (IsSoundAlone levels) texts → (warnings : Warnings) × AllValid levels (records_at place texts) warnings
+  all_valid : (levels place : ℕ) (texts : List (List ℕ)) → AllByRecursion (IsSoundAlone levels) texts → (warnings : Warnings)
+      × AllValid levels (records_at place texts) warnings
   all_valid levels place [] h = (no_warnings, refl)
   all_valid levels place (own ∷ more) h =
       let v = valid_record levels place own h.0 in
@@ -132,7 +138,8 @@ module _ (some : (limits : Allowed) (bytes : List ℕ) → (verdict : Verdict) �
   whole : (limits : Allowed) (bytes : List ℕ) → length bytes ≤ limits.bytes → records_of limits bytes ≡ records_from false 0 bytes
   whole limits bytes l = rw (le-ltb limits.bytes (length bytes) l, take_all limits.bytes bytes l) refl
 
-  pub valid_sequence : (levels : ℕ) (texts : List (List ℕ)) → AllByRecursion (IsSoundAlone levels) texts → IsValidSequence levels (length texts) (sequence_of texts)
+  pub valid_sequence : (levels : ℕ) (texts : List (List ℕ)) → AllByRecursion (IsSoundAlone levels) texts
+      → IsValidSequence levels (length texts) (sequence_of texts)
   valid_sequence levels texts h most l =
       let limits : Allowed = record { depth = levels; bytes = most } in
       let v = all_valid levels 0 texts h in

@@ -11,7 +11,8 @@ use Rattle.gj_json.specs.declared.constant.Constant.{Constant}
 use Rattle.gj_json.specs.declared.constant.Constant.TheVariants.{Null, True, False}
 use Rattle.gj_json.specs.Bytes.{open_bracket, open_brace, comma, colon, quote, close_bracket, close_brace, IsWhite}
 use Rattle.gj_json.specs.Characters.{escape_of, hex_of, IsUtf8, SpellsCharacter, SpellsContent}
-use Rattle.gj_json.specs.Grammar.{Then, White, Exactly, Closes, Quoted, Spells, SpellsElements, SpellsMoreElements, SpellsMembers, SpellsMoreMembers, letters_of}
+use Rattle.gj_json.specs.Grammar.{Then, White, Exactly, Closes, Quoted, Spells, SpellsElements, SpellsMoreElements, SpellsMembers, SpellsMoreMembers}
+use Rattle.gj_json.specs.Grammar.{letters_of}
 use Rattle.gj_rules.specs.FeatureFindings.{end_of}
 use Rattle.gj_rules.specs.Sequence.{separator}
 use Rattle.gj_json.specs.Tree.{Tree, constant, number, string, array, object, Elements, end_of_array, element, Members, end_of_object, member, place_of}
@@ -109,7 +110,10 @@ character_in : (c : ℕ) (bytes : List ℕ) → SpellsCharacter c bytes → AreI
 character_in c bytes (inl h) = subst AreInText (sym h.1) ((λ f. omega (arith, h.0.0, f)), tt)
 character_in c bytes (inr (inl h)) = subst AreInText (sym h.1) ((no_separator_byte _ refl), (escape_in h.0 c h.2, tt))
 character_in c bytes (inr (inr (inl h))) =
-    subst AreInText (sym h.8) ((no_separator_byte _ refl), ((no_separator_byte _ refl), (hex_in h.0 h.4 h.9, (hex_in h.1 h.5 h.10, (hex_in h.2 h.6 h.11, (hex_in h.3 h.7 h.12, tt))))))
+    subst AreInText (sym h.8) (
+      (no_separator_byte _ refl),
+      ((no_separator_byte _ refl), (hex_in h.0 h.4 h.9, (hex_in h.1 h.5 h.10, (hex_in h.2 h.6 h.11, (hex_in h.3 h.7 h.12, tt))))),
+    )
 character_in c bytes (inr (inr (inr h))) = all-map IsHigh InText (λ b l f. omega (arith, l, f)) bytes (high_all c bytes h)
 
 content_in : (content bytes : List ℕ) → SpellsContent content bytes → AreInText bytes
@@ -136,13 +140,15 @@ white_in b (inr (inr (inr e))) = λ f. omega (arith, e, f)
 abbrev pub EndsAt : ℕ → ℕ → List ℕ → Type 0
 EndsAt end n bytes = (end ≡ n + length bytes) × AreInText bytes
 
-then_ends : {A B : ℕ → List ℕ → Type 0} (end n : ℕ) (bytes : List ℕ) → ((b : List ℕ) → A n b → AreInText b) → ((m : ℕ) (b : List ℕ) → B m b → EndsAt end m b) → Then A B n bytes → EndsAt end n bytes
+then_ends : {A B : ℕ → List ℕ → Type 0} (end n : ℕ) (bytes : List ℕ) → ((b : List ℕ) → A n b → AreInText b) → ((m : ℕ) (b : List ℕ) → B m b → EndsAt end m b)
+    → Then A B n bytes → EndsAt end n bytes
 then_ends {B = B} end n bytes f g h =
     let k = g (n + length h.first) h.rest h.after in
     let l : length bytes ≡ length h.first + length h.rest = ap length h.joined ∙ length-append h.first h.rest in
     (omega (arith, k.0, l), subst AreInText (sym h.joined) (all-append InText h.first h.rest (f h.first h.before) k.1))
 
-white_ends : {B : ℕ → List ℕ → Type 0} (end n : ℕ) (bytes : List ℕ) → ((m : ℕ) (b : List ℕ) → B m b → EndsAt end m b) → Then White B n bytes → EndsAt end n bytes
+white_ends : {B : ℕ → List ℕ → Type 0} (end n : ℕ) (bytes : List ℕ) → ((m : ℕ) (b : List ℕ) → B m b → EndsAt end m b) → Then White B n bytes
+    → EndsAt end n bytes
 white_ends {B} end n bytes g h = then_ends {A = White} {B = B} end n bytes (λ b w. all-map IsWhite InText white_in b w) g h
 
 byte_ends : {B : ℕ → List ℕ → Type 0} (letter end n : ℕ) (bytes : List ℕ) → (letter ≡ separator → ⊥) → ((m : ℕ) (b : List ℕ) → B m b → EndsAt end m b)
@@ -157,13 +163,17 @@ closes_ends letter close n bytes no_separator h =
 
 quoted_ends : (place : ℕ) (content : List ℕ) (end n : ℕ) (bytes : List ℕ) → Quoted place content end n bytes → EndsAt end n bytes
 quoted_ends place content end n bytes h =
-    byte_ends quote end n bytes (no_separator_byte _ refl) (λ m b. then_ends end m b (λ c x. content_in content c x) (λ p c. byte_ends quote end p c (no_separator_byte _ refl)
+    byte_ends quote end n bytes (no_separator_byte _ refl)
+    (λ m b. then_ends end m b (λ c x. content_in content c x) (λ p c. byte_ends quote end p c (no_separator_byte _ refl)
     (λ q d x. let l : length d ≡ 0 = ap length x.0 in (omega (arith, x.1, l), subst AreInText (sym x.0) tt)))) h.1
 
 letters_in : (which : Constant) → AreInText (letters_of which)
 letters_in Null = ((no_separator_byte _ refl), ((no_separator_byte _ refl), ((no_separator_byte _ refl), ((no_separator_byte _ refl), tt))))
 letters_in True = ((no_separator_byte _ refl), ((no_separator_byte _ refl), ((no_separator_byte _ refl), ((no_separator_byte _ refl), tt))))
-letters_in False = ((no_separator_byte _ refl), ((no_separator_byte _ refl), ((no_separator_byte _ refl), ((no_separator_byte _ refl), ((no_separator_byte _ refl), tt)))))
+letters_in False = (
+  (no_separator_byte _ refl),
+  ((no_separator_byte _ refl), ((no_separator_byte _ refl), ((no_separator_byte _ refl), ((no_separator_byte _ refl), tt)))),
+)
 
 mutual
   pub value_ends : (v : Tree) (n : ℕ) (bytes : List ℕ) → Spells v n bytes → EndsAt (end_of v) n bytes
@@ -185,20 +195,27 @@ mutual
   more_elements_end : (es : Elements) (close n : ℕ) (bytes : List ℕ) → SpellsMoreElements es close n bytes → EndsAt (close + 1) n bytes
   more_elements_end end_of_array close n bytes h = closes_ends close_bracket close n bytes (no_separator_byte _ refl) h
   more_elements_end (element value more) close n bytes h =
-      byte_ends comma (close + 1) n bytes (no_separator_byte _ refl) (λ m b. white_ends (close + 1) m b (λ p c. then_ends (close + 1) p c (λ d x. (value_ends value p d x).1)
+      byte_ends comma (close + 1) n bytes (no_separator_byte _ refl)
+      (λ m b. white_ends (close + 1) m b (λ p c. then_ends (close + 1) p c (λ d x. (value_ends value p d x).1)
       (λ q d. white_ends (close + 1) q d (λ r e. more_elements_end more close r e)))) h
 
   members_end : (ms : Members) (close n : ℕ) (bytes : List ℕ) → SpellsMembers ms close n bytes → EndsAt (close + 1) n bytes
   members_end end_of_object close n bytes h = closes_ends close_brace close n bytes (no_separator_byte _ refl) h
   members_end (member place name end value more) close n bytes h =
-      then_ends (close + 1) n bytes (λ b x. (quoted_ends place name end n b x).1) (λ m b. white_ends (close + 1) m b (λ p c. byte_ends colon (close + 1) p c (no_separator_byte _ refl)
-      (λ q d. white_ends (close + 1) q d (λ r e. then_ends (close + 1) r e (λ y x. (value_ends value r y x).1) (λ s f. white_ends (close + 1) s f (λ t g. more_members_end more close t g)))))) h
+      then_ends (close + 1) n bytes (λ b x. (quoted_ends place name end n b x).1)
+      (λ m b. white_ends (close + 1) m b (λ p c. byte_ends colon (close + 1) p c (no_separator_byte _ refl)
+      (λ q d. white_ends (close + 1) q d
+      (λ r e. then_ends (close + 1) r e (λ y x. (value_ends value r y x).1) (λ s f. white_ends (close + 1) s f (λ t g. more_members_end more close t g))))))
+      h
 
   more_members_end : (ms : Members) (close n : ℕ) (bytes : List ℕ) → SpellsMoreMembers ms close n bytes → EndsAt (close + 1) n bytes
   more_members_end end_of_object close n bytes h = closes_ends close_brace close n bytes (no_separator_byte _ refl) h
   more_members_end (member place name end value more) close n bytes h =
-      byte_ends comma (close + 1) n bytes (no_separator_byte _ refl) (λ m b. white_ends (close + 1) m b (λ p c. then_ends (close + 1) p c (λ y x. (quoted_ends place name end p y x).1)
-      (λ q d. white_ends (close + 1) q d (λ r e. byte_ends colon (close + 1) r e (no_separator_byte _ refl) (λ s f. white_ends (close + 1) s f (λ t g. then_ends (close + 1) t g (λ y x. (value_ends value t y x).1)
+      byte_ends comma (close + 1) n bytes (no_separator_byte _ refl)
+      (λ m b. white_ends (close + 1) m b (λ p c. then_ends (close + 1) p c (λ y x. (quoted_ends place name end p y x).1)
+      (λ q d. white_ends (close + 1) q d
+      (λ r e. byte_ends colon (close + 1) r e (no_separator_byte _ refl)
+      (λ s f. white_ends (close + 1) s f (λ t g. then_ends (close + 1) t g (λ y x. (value_ends value t y x).1)
       (λ u i. white_ends (close + 1) u i (λ w j. more_members_end more close w j)))))))) h
 
 -- and it begins at the first of them

@@ -11,7 +11,8 @@ use Rattle.gj_coords.specs.Fault.{least}
 use Rattle.gj_rules.specs.declared.role.Role.{Role}
 use Rattle.gj_rules.specs.Faults.{faults, text_faults}
 use Rattle.gj_rules.specs.FeatureFindings.{FeatureFinding, end_of, findings_from, features_of}
-use Rattle.gj_split.specs.Split.{bytes_between, feature_bytes, with_feature, split_findings, split_of, IsMerged, none_left, from_first, from_second, IsJson, IsValidAlone}
+use Rattle.gj_split.specs.Split.{bytes_between, feature_bytes, with_feature, split_findings, split_of, IsMerged, none_left, from_first, from_second, IsJson}
+use Rattle.gj_split.specs.Split.{IsValidAlone}
 use Rattle.gj_split.proofs.ElementBytes.{StandsIn, IsElementIn, features_in, features_within}
 use Rattle.gj_split.proofs.MovedFaults.{sound_moved, none_least}
 use Rattle.gj_split.proofs.MovedTrees.{moved, back, same_depth, spelled_back}
@@ -85,7 +86,8 @@ is_alone v levels n own l h = record {
 value_alone : (v : Tree) (levels : ℕ) (bytes : List ℕ) → depth v ≤ levels → StandsIn v 0 bytes → IsAlone levels (bytes_between (place_of v) (end_of v) bytes)
 value_alone v levels bytes l s = subst (IsAlone levels) (sym (own_bytes v bytes s)) (is_alone v levels _ s.own l s.spelled)
 
-sound_alone : (v : Tree) (levels : ℕ) (bytes : List ℕ) → depth v ≤ levels → StandsIn v 0 bytes → least (faults Role.Feature v) ≡ None → IsSoundAlone levels (bytes_between (place_of v) (end_of v) bytes)
+sound_alone : (v : Tree) (levels : ℕ) (bytes : List ℕ) → depth v ≤ levels → StandsIn v 0 bytes → least (faults Role.Feature v) ≡ None
+    → IsSoundAlone levels (bytes_between (place_of v) (end_of v) bytes)
 sound_alone v levels bytes l s e =
     subst (IsSoundAlone levels) (sym (own_bytes v bytes s))
     (record { alone = is_alone v levels _ s.own l s.spelled; sound = sound_moved (back (0 + length s.before)) v (none_least (faults Role.Feature v) e) })
@@ -98,16 +100,20 @@ AreIn vs bytes = AllByRecursion (λ v. IsElementIn v 0 bytes) vs
 abbrev AreWithin : List Tree → ℕ → Type 0
 AreWithin vs levels = AllByRecursion (λ v. depth v ≤ levels) vs
 
-valid_from : (levels index : ℕ) (vs : List Tree) (bytes : List ℕ) → AreIn vs bytes → AreWithin vs levels → AllByRecursion (IsSoundAlone levels) (split_findings bytes (findings_from index vs)).valid
+valid_from : (levels index : ℕ) (vs : List Tree) (bytes : List ℕ) → AreIn vs bytes → AreWithin vs levels
+    → AllByRecursion (IsSoundAlone levels) (split_findings bytes (findings_from index vs)).valid
 valid_from levels index [] bytes h l = tt
 valid_from levels index (v ∷ vs) bytes h l = by_fault (least (faults Role.Feature v)) refl (valid_from levels (index + 1) vs bytes h.1 l.1)
   where
-    by_fault : (o : Option Fault) → least (faults Role.Feature v) ≡ o → AllByRecursion (IsSoundAlone levels) (split_findings bytes (findings_from (index + 1) vs)).valid →
-        AllByRecursion (IsSoundAlone levels) (with_feature o (bytes_between (place_of v) (end_of v) bytes) (split_findings bytes (findings_from (index + 1) vs))).valid
+    by_fault : (o : Option Fault) → least (faults Role.Feature v) ≡ o
+        → AllByRecursion (IsSoundAlone levels) (split_findings bytes (findings_from (index + 1) vs)).valid →
+        AllByRecursion (IsSoundAlone levels)
+        (with_feature o (bytes_between (place_of v) (end_of v) bytes) (split_findings bytes (findings_from (index + 1) vs))).valid
     by_fault None e k = (sound_alone v levels bytes l.0 h.0.stands e, k)
     by_fault (Some fault) e k = k
 
-texts_from : (levels index : ℕ) (vs : List Tree) (bytes : List ℕ) → AreIn vs bytes → AreWithin vs levels → AllByRecursion (λ f. IsAlone levels (feature_bytes bytes f)) (findings_from index vs)
+texts_from : (levels index : ℕ) (vs : List Tree) (bytes : List ℕ) → AreIn vs bytes → AreWithin vs levels
+    → AllByRecursion (λ f. IsAlone levels (feature_bytes bytes f)) (findings_from index vs)
 texts_from levels index [] bytes h l = tt
 texts_from levels index (v ∷ vs) bytes h l = (value_alone v levels bytes l.0 h.0.stands, texts_from levels (index + 1) vs bytes h.1 l.1)
 
@@ -118,10 +124,12 @@ within levels v l = go (features_of v) (features_within v)
     go [] h = tt
     go (w ∷ ws) h = (omega (arith, h.0, l), go ws h.1)
 
-pub valid_alone : (levels : ℕ) (text : Text) (bytes : List ℕ) → IsTextWithin levels text bytes → AllByRecursion (IsSoundAlone levels) (split_of bytes text).valid
+pub valid_alone : (levels : ℕ) (text : Text) (bytes : List ℕ) → IsTextWithin levels text bytes
+    → AllByRecursion (IsSoundAlone levels) (split_of bytes text).valid
 valid_alone levels text bytes h = valid_from levels 0 (features_of text.value) bytes (features_in text bytes h.0) (within levels text.value h.1)
 
-pub all_alone : (levels : ℕ) (text : Text) (bytes : List ℕ) → IsTextWithin levels text bytes → AllByRecursion (λ f. IsAlone levels (feature_bytes bytes f)) (findings_from 0 (features_of text.value))
+pub all_alone : (levels : ℕ) (text : Text) (bytes : List ℕ) → IsTextWithin levels text bytes
+    → AllByRecursion (λ f. IsAlone levels (feature_bytes bytes f)) (findings_from 0 (features_of text.value))
 all_alone levels text bytes h = texts_from levels 0 (features_of text.value) bytes (features_in text bytes h.0) (within levels text.value h.1)
 
 -- ---- what a caller is told
@@ -138,12 +146,14 @@ pub json_by_itself : (levels : ℕ) (bytes : List ℕ) (findings : List FeatureF
 json_by_itself levels bytes [] h = tt
 json_by_itself levels bytes (f ∷ more) h = (is_json levels (feature_bytes bytes f) h.0, json_by_itself levels bytes more h.1)
 
-pub merged : (bytes : List ℕ) (findings : List FeatureFinding) → IsMerged (split_findings bytes findings).valid (split_findings bytes findings).broken (map (feature_bytes bytes) findings)
+pub merged : (bytes : List ℕ) (findings : List FeatureFinding)
+    → IsMerged (split_findings bytes findings).valid (split_findings bytes findings).broken (map (feature_bytes bytes) findings)
 merged bytes [] = none_left
 merged bytes (f ∷ more) = by_fault f.fault (merged bytes more)
   where
     by_fault : (o : Option Fault) → IsMerged (split_findings bytes more).valid (split_findings bytes more).broken (map (feature_bytes bytes) more) →
-        IsMerged (with_feature o (feature_bytes bytes f) (split_findings bytes more)).valid (with_feature o (feature_bytes bytes f) (split_findings bytes more)).broken
+        IsMerged (with_feature o (feature_bytes bytes f) (split_findings bytes more)).valid
+        (with_feature o (feature_bytes bytes f) (split_findings bytes more)).broken
         (feature_bytes bytes f ∷ map (feature_bytes bytes) more)
     by_fault None h = from_first (feature_bytes bytes f) h
     by_fault (Some fault) h = from_second (feature_bytes bytes f) h

@@ -1,5 +1,6 @@
 -- What was told of the features of a text, where each ends, is what is found in them.
-use Rattle.std.proofs.Common.{◌≡◌, ℕ, suc, ◌+◌, ◌≤◌, ◌<◌, inl, inr, Bool, true, false, ◌||◌, ◌==◌, if◌then◌else◌, eqb, List, [], ◌∷◌, ◌++◌, length, drop, Option, Some, None, refl, sym, ap, subst, ◌∙◌, arith, append_assoc, length-append}
+use Rattle.std.proofs.Common.{◌≡◌, ℕ, suc, ◌+◌, ◌≤◌, ◌<◌, inl, inr, Bool, true, false, ◌||◌, ◌==◌, if◌then◌else◌, eqb, List, [], ◌∷◌, ◌++◌, length, drop}
+use Rattle.std.proofs.Common.{Option, Some, None, refl, sym, ap, subst, ◌∙◌, arith, append_assoc, length-append}
 use Rattle.std.proofs.lemmas.Bool.{ne_eqb}
 use Rattle.std.specs.List.{AllByRecursion}
 use Rattle.gj_number.specs.Bytes.{IsNumberByte}
@@ -42,16 +43,21 @@ running_counts Scan.Closed n e = cc
 running_counts Scan.Past n e = cc
 
 -- one byte, and then others
-byte_passes : (scan next last : Scan) (b : ℕ) (bytes : List ℕ) → scan_next scan b ≡ next → is_running next ≡ true → Passes next bytes last → Passes scan (b ∷ bytes) last
+byte_passes : (scan next last : Scan) (b : ℕ) (bytes : List ℕ) → scan_next scan b ≡ next → is_running next ≡ true → Passes next bytes last
+    → Passes scan (b ∷ bytes) last
 byte_passes scan next last b bytes e r h = λ rest.
-    ap (λ s. count_after s (scan_length s (bytes ++ rest))) e ∙ (running_counts next (scan_length next (bytes ++ rest)) r ∙ counted (length bytes) (scan_length last rest) (scan_length next (bytes ++ rest)) (h rest))
+    ap (λ s. count_after s (scan_length s (bytes ++ rest))) e
+    ∙ (running_counts next (scan_length next (bytes ++ rest)) r
+    ∙ counted (length bytes) (scan_length last rest) (scan_length next (bytes ++ rest)) (h rest))
   where
     counted : (a b c : ℕ) → c ≡ a + b → suc c ≡ suc a + b
     counted a b c e = omega (arith, e)
 
 both_pass : (scan next last : Scan) (xs ys : List ℕ) → Passes scan xs next → Passes next ys last → Passes scan (xs ++ ys) last
 both_pass scan next last xs ys h k = λ rest.
-    ap (λ zs. scan_length scan zs) (append_assoc xs ys rest) ∙ (h (ys ++ rest) ∙ counted (length xs) (length ys) (scan_length last rest) (scan_length next (ys ++ rest)) (length (xs ++ ys)) (k rest) (length-append xs ys))
+    ap (λ zs. scan_length scan zs) (append_assoc xs ys rest)
+    ∙ (h (ys ++ rest) ∙ counted (length xs) (length ys) (scan_length last rest) (scan_length next (ys ++ rest)) (length (xs ++ ys)) (k rest)
+    (length-append xs ys))
   where
     counted : (a b c d e : ℕ) → d ≡ b + c → e ≡ a + b → a + d ≡ e + c
     counted a b c d e f g = omega (arith, f, g)
@@ -77,7 +83,8 @@ below b c l m = ne_eqb b c (λ e. omega (arith, l, m, e))
 goes_on : (b : ℕ) → IsNumberByte b → ends_word b ≡ false
 goes_on b h =
     let n = number_bounds b h in
-    or_none _ _ (below b 32 n.0 (omega arith)) (or_none _ _ (below b 9 n.0 (omega arith)) (or_none _ _ (below b 10 n.0 (omega arith)) (or_none _ _ (below b 13 n.0 (omega arith))
+    or_none _ _ (below b 32 n.0 (omega arith))
+    (or_none _ _ (below b 9 n.0 (omega arith)) (or_none _ _ (below b 10 n.0 (omega arith)) (or_none _ _ (below b 13 n.0 (omega arith))
     (or_none _ _ (ne_eqb b 44 n.1) (ne_eqb b 93 n.2)))))
 
 word_on : (b : ℕ) → IsNumberByte b → scan_next Scan.Word b ≡ Scan.Word
@@ -141,7 +148,8 @@ text_passes [] h = none_pass Scan.Text
 text_passes (b ∷ bytes) h = byte_passes Scan.Text Scan.Text Scan.Text b bytes (text_on b h.0.0 h.0.1) refl (text_passes bytes h.1)
 
 escape_passes : (b : ℕ) (bytes : List ℕ) → Passes Scan.Text bytes Scan.Text → Passes Scan.Text (backslash ∷ b ∷ bytes) Scan.Text
-escape_passes b bytes h = byte_passes Scan.Text Scan.Escape Scan.Text backslash (b ∷ bytes) refl refl (byte_passes Scan.Escape Scan.Text Scan.Text b bytes refl refl h)
+escape_passes b bytes h =
+    byte_passes Scan.Text Scan.Escape Scan.Text backslash (b ∷ bytes) refl refl (byte_passes Scan.Escape Scan.Text Scan.Text b bytes refl refl h)
 
 hex_apart : (b d : ℕ) → hex_of b ≡ Some d → (b ≡ quote → ⊥) × (b ≡ backslash → ⊥)
 unfolding hex_of
@@ -163,15 +171,18 @@ character_passes c bytes (inr (inr (inr h))) = text_passes bytes (high_apart byt
 content_passes : (content bytes : List ℕ) → SpellsContent content bytes → Passes Scan.Text bytes Scan.Text
 content_passes [] bytes h = subst (λ xs. Passes Scan.Text xs Scan.Text) (sym h) (none_pass Scan.Text)
 content_passes (c ∷ content) bytes h =
-    subst (λ xs. Passes Scan.Text xs Scan.Text) (sym h.2) (both_pass Scan.Text Scan.Text Scan.Text h.0 h.1 (character_passes c h.0 h.3) (content_passes content h.1 h.4))
+    subst (λ xs. Passes Scan.Text xs Scan.Text) (sym h.2)
+    (both_pass Scan.Text Scan.Text Scan.Text h.0 h.1 (character_passes c h.0 h.3) (content_passes content h.1 h.4))
 
-quoted_length : (inner after : List ℕ) → Passes Scan.Text inner Scan.Text → scan_length Scan.Start ((quote ∷ (inner ++ quote ∷ [])) ++ after) ≡ length (quote ∷ (inner ++ quote ∷ []))
+quoted_length : (inner after : List ℕ) → Passes Scan.Text inner Scan.Text
+    → scan_length Scan.Start ((quote ∷ (inner ++ quote ∷ [])) ++ after) ≡ length (quote ∷ (inner ++ quote ∷ []))
 quoted_length inner after h =
     ap suc (ap (λ xs. scan_length Scan.Text xs) (append_assoc inner (quote ∷ []) after) ∙ (h (quote ∷ after) ∙ sym (length-append inner (quote ∷ []))))
 
 -- ---- a value that is no array and no object
 
-scalar_length : (v : Tree) (n : ℕ) (own after : List ℕ) → Spells v n own → IsFollowed after → is_flat (own ++ after) ≡ true → scan_length Scan.Start (own ++ after) ≡ length own
+scalar_length : (v : Tree) (n : ℕ) (own after : List ℕ) → Spells v n own → IsFollowed after → is_flat (own ++ after) ≡ true
+    → scan_length Scan.Start (own ++ after) ≡ length own
 scalar_length (constant which place) n own after h f e = rw (h.1) (letters_length which after f)
 scalar_length (number place literal end) n own after h f e =
     let own_is : own ≡ literal = h.2.joined ∙ (ap (λ xs. h.2.first ++ xs) h.2.after.0 ∙ (append_nil h.2.first ∙ h.2.before)) in
@@ -185,7 +196,10 @@ scalar_length (string place content end) n own after h f e =
     let inner = q.after.first in
     let last : q.after.after.rest ≡ [] = q.after.after.after.0 in
     let own_is : own ≡ quote ∷ (inner ++ quote ∷ []) =
-    q.joined ∙ (ap (λ xs. xs ++ q.rest) q.before ∙ ap (λ xs. quote ∷ xs) (q.after.joined ∙ ap (λ xs. inner ++ xs) (q.after.after.joined ∙ (ap (λ xs. xs ++ q.after.after.rest) q.after.after.before ∙ ap (λ xs. quote ∷ xs) last)))) in
+    q.joined ∙ (ap (λ xs. xs ++ q.rest) q.before
+    ∙ ap (λ xs. quote ∷ xs)
+    (q.after.joined ∙ ap (λ xs. inner ++ xs)
+    (q.after.after.joined ∙ (ap (λ xs. xs ++ q.after.after.rest) q.after.after.before ∙ ap (λ xs. quote ∷ xs) last)))) in
     rw own_is (quoted_length inner after (content_passes content inner q.after.before))
 scalar_length (array place elements close) n own after h f e =
     let b : is_flat (own ++ after) ≡ false = rw (h.1.joined ∙ ap (λ xs. xs ++ h.1.rest) h.1.before) refl in
@@ -211,13 +225,15 @@ end_says (number place literal end) = tt
 end_says (string place content end) = tt
 
 -- a feature that was told ends where the feature does
-end_is : (v : Tree) (bytes : List ℕ) (close : Option ℕ) → IsElementIn v 0 bytes → SaysEnd close (end_of v) → IsEndKnown (place_of v) close bytes → end_told (place_of v) close bytes ≡ end_of v
+end_is : (v : Tree) (bytes : List ℕ) (close : Option ℕ) → IsElementIn v 0 bytes → SaysEnd close (end_of v) → IsEndKnown (place_of v) close bytes
+    → end_told (place_of v) close bytes ≡ end_of v
 end_is v bytes (Some close) s e k = e
 end_is v bytes None s e k =
     let t = s.stands in
     let place = value_begins v _ t.own t.spelled in
     let end = (value_ends v _ t.own t.spelled).0 in
-    let rest : drop (place_of v) bytes ≡ t.own ++ t.after = ap (λ n. drop n bytes) (at_front place) ∙ (ap (λ xs. drop (length t.before) xs) t.joined ∙ cut_after t.before (t.own ++ t.after)) in
+    let rest : drop (place_of v) bytes ≡ t.own ++ t.after =
+    ap (λ n. drop n bytes) (at_front place) ∙ (ap (λ xs. drop (length t.before) xs) t.joined ∙ cut_after t.before (t.own ++ t.after)) in
     let flat : is_flat (t.own ++ t.after) ≡ true = subst (λ xs. is_flat xs ≡ true) rest k in
     counted (place_of v) (length t.before) (length t.own) (scan_length Scan.Start (drop (place_of v) bytes)) (end_of v) place end
     (ap (scan_length Scan.Start) rest ∙ scalar_length v _ t.own t.after t.spelled s.followed flat)
@@ -228,14 +244,17 @@ end_is v bytes None s e k =
     counted : (p a b s e : ℕ) → p ≡ 0 + a → e ≡ 0 + a + b → s ≡ b → p + s ≡ e
     counted p a b s e f g h = omega (arith, f, g, h)
 
-told_own : (index : ℕ) (v : Tree) (bytes : List ℕ) (feature : Feature) → IsElementIn v 0 bytes → SaysFinding feature (finding_of index v) → EndsKnown bytes feature →
+told_own : (index : ℕ) (v : Tree) (bytes : List ℕ) (feature : Feature) → IsElementIn v 0 bytes → SaysFinding feature (finding_of index v)
+    → EndsKnown bytes feature →
     told_bytes bytes feature ≡ bytes_between (place_of v) (end_of v) bytes
 told_own index v bytes feature s h k =
     let place : feature.place ≡ place_of v = h.1 in
     let known : IsEndKnown (place_of v) feature.close bytes = subst (λ p. IsEndKnown p feature.close bytes) place k in
-    ap (λ p. bytes_between p (end_told p feature.close bytes) bytes) place ∙ ap (λ e. bytes_between (place_of v) e bytes) (end_is v bytes feature.close s (subst (λ o. SaysEnd o (end_of v)) (sym h.2) (end_says v)) known)
+    ap (λ p. bytes_between p (end_told p feature.close bytes) bytes) place
+    ∙ ap (λ e. bytes_between (place_of v) e bytes) (end_is v bytes feature.close s (subst (λ o. SaysEnd o (end_of v)) (sym h.2) (end_says v)) known)
 
-told_from : (index : ℕ) (vs : List Tree) (bytes : List ℕ) (features : List Feature) → AllByRecursion (λ v. IsElementIn v 0 bytes) vs → SayFindings features (findings_from index vs) →
+told_from : (index : ℕ) (vs : List Tree) (bytes : List ℕ) (features : List Feature) → AllByRecursion (λ v. IsElementIn v 0 bytes) vs
+    → SayFindings features (findings_from index vs) →
     AllByRecursion (EndsKnown bytes) features → told_split bytes features ≡ split_findings bytes (findings_from index vs)
 told_from index [] bytes [] s h k = refl
 told_from index [] bytes (f ∷ features) s h k = absurd h
@@ -243,14 +262,19 @@ told_from index (v ∷ vs) bytes [] s h k = absurd h
 told_from index (v ∷ vs) bytes (f ∷ features) s h k =
     ap (λ own. with_feature f.fault own (told_split bytes features)) (told_own index v bytes f s.0 h.0 k.0)
     ∙ (ap (λ fault. with_feature fault (bytes_between (place_of v) (end_of v) bytes) (told_split bytes features)) h.0.4
-    ∙ ap (λ parts. with_feature (finding_of index v).fault (bytes_between (place_of v) (end_of v) bytes) parts) (told_from (index + 1) vs bytes features s.1 h.1 k.1))
+    ∙ ap (λ parts. with_feature (finding_of index v).fault (bytes_between (place_of v) (end_of v) bytes) parts)
+    (told_from (index + 1) vs bytes features s.1 h.1 k.1))
 
-pub told_is : (text : Text) (bytes : List ℕ) (features : List Feature) → IsText text bytes → SayFindings features (feature_findings text) → AllByRecursion (EndsKnown bytes) features →
+pub told_is : (text : Text) (bytes : List ℕ) (features : List Feature) → IsText text bytes → SayFindings features (feature_findings text)
+    → AllByRecursion (EndsKnown bytes) features →
     told_split bytes features ≡ split_of bytes text
 told_is text bytes features t h k = told_from 0 (features_of text.value) bytes features (features_in text bytes t) h k
 
 -- where nothing has stopped it, the writers hold what the definition sets apart
-pub held_apart : {A : Type 0} (known : Option (List ℕ)) (stop : Option A) (valid broken : Option (List ℕ)) (counts : Counts) (features : List Feature) (bytes : List ℕ) (text : Text) → stop ≡ None → known ≡ Some bytes
-    → Holds known stop valid broken counts features → IsText text bytes → SayFindings features (feature_findings text) → AreHeld (split_of bytes text) valid broken counts
-held_apart known None valid broken counts features bytes text e k h t s = let told = h bytes k in subst (λ parts. AreHeld parts valid broken counts) (told_is text bytes features t s told.ended) told.held
+pub held_apart : {A : Type 0} (known : Option (List ℕ)) (stop : Option A) (valid broken : Option (List ℕ)) (counts : Counts) (features : List Feature)
+    (bytes : List ℕ) (text : Text) → stop ≡ None → known ≡ Some bytes
+    → Holds known stop valid broken counts features → IsText text bytes → SayFindings features (feature_findings text)
+    → AreHeld (split_of bytes text) valid broken counts
+held_apart known None valid broken counts features bytes text e k h t s = let told =
+    h bytes k in subst (λ parts. AreHeld parts valid broken counts) (told_is text bytes features t s told.ended) told.held
 held_apart known (Some stop) valid broken counts features bytes text e k h t s = cc

@@ -20,10 +20,13 @@ module _ {S : Type 0} (Told : S → List Feature → Type 0) (linter : FeatureLi
       → ((fault : JsonFault) → refusal_of linter ≡ Some fault → verdict ≡ Verdict.NotJson fault) → IsRead Told linter bytes → IsVerdict limits bytes verdict
   verdict_read verdict bytes h r read = subst (λ (l : Allowed). IsVerdict l bytes verdict) same (by_end (refusal_of linter) refl read.end)
     where
-      by_end : (o : Option JsonFault) → refusal_of linter ≡ o → IsEndAfter (limits_of linter) read.taken read.rest o → IsVerdict (limits_of linter) bytes verdict
-      by_end None e k = subst (λ xs. IsVerdict (limits_of linter) xs verdict) (nothing_after bytes read.taken read.rest read.joined k) (h read.taken read.stands)
+      by_end : (o : Option JsonFault) → refusal_of linter ≡ o → IsEndAfter (limits_of linter) read.taken read.rest o
+          → IsVerdict (limits_of linter) bytes verdict
+      by_end None e k = subst (λ xs. IsVerdict (limits_of linter) xs verdict) (nothing_after bytes read.taken read.rest read.joined k)
+          (h read.taken read.stands)
       by_end (Some fault) e k =
-          subst (λ w. IsVerdict (limits_of linter) bytes w) (sym (r fault e)) (subst (λ xs. IsRefusal (limits_of linter) xs fault) (sym read.joined) (k read.rest))
+          subst (λ w. IsVerdict (limits_of linter) bytes w) (sym (r fault e))
+          (subst (λ xs. IsRefusal (limits_of linter) xs fault) (sym read.joined) (k read.rest))
 
   -- an admitted text is not refused, so that the linter stands for all of it
   pub whole_read : ((limits : Allowed) (bytes : List ℕ) (fault : JsonFault) (text : Text) → IsRefusal limits bytes fault → IsAdmitted limits text bytes → ⊥) →
@@ -32,4 +35,5 @@ module _ {S : Type 0} (Told : S → List Feature → Type 0) (linter : FeatureLi
     where
       by_end : (o : Option JsonFault) → IsEndAfter (limits_of linter) read.taken read.rest o → StandsFor Told linter bytes
       by_end None k = subst (λ xs. StandsFor Told linter xs) (nothing_after bytes read.taken read.rest read.joined k) read.stands
-      by_end (Some fault) k = absurd (never_both (limits_of linter) bytes fault text (subst (λ xs. IsRefusal (limits_of linter) xs fault) (sym read.joined) (k read.rest)) a)
+      by_end (Some fault) k =
+          absurd (never_both (limits_of linter) bytes fault text (subst (λ xs. IsRefusal (limits_of linter) xs fault) (sym read.joined) (k read.rest)) a)

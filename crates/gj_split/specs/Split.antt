@@ -78,4 +78,5 @@ IsValidAlone levels own = IsValidWith (record { depth = levels; bytes = length o
 -- the bytes are a valid sequence of so many records, under each limit on its bytes that they keep
 abbrev pub IsValidSequence : ℕ → ℕ → List ℕ → Type 0
 IsValidSequence levels count bytes =
-    (most : ℕ) → length bytes ≤ most → (warnings : Warnings) × IsSequenceVerdict (record { depth = levels; bytes = most }) bytes (SeqVerdict.Valid count warnings)
+    (most : ℕ) → length bytes ≤ most → (warnings : Warnings)
+    × IsSequenceVerdict (record { depth = levels; bytes = most }) bytes (SeqVerdict.Valid count warnings)

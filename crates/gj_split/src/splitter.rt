@@ -99,7 +99,8 @@ impl<'a, R: Ranges, V: Write, B: Write, L: BrokenList> Splitter<'a, R, V, B, L> 
         ensures stop { self.new.stop ≡ self.old.stop }
         ensures held { OnOk result ((features : List Feature) → self.old.stop ≡ None →
             Holds R.text self.old.stop (V.contents self.old.outputs.valid) (B.contents self.old.outputs.broken) self.old.counts features →
-            Holds R.text self.new.stop (V.contents self.new.outputs.valid) (B.contents self.new.outputs.broken) self.new.counts (features ++ feature.now ∷ [])) }
+            Holds R.text self.new.stop (V.contents self.new.outputs.valid) (B.contents self.new.outputs.broken)
+            self.new.counts (features ++ feature.now ∷ [])) }
     {
         match feature.fault {
             None => {

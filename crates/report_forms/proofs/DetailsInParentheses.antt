@@ -16,7 +16,8 @@ or-false : (b : Bool) → (b || false) ≡ b
 or-false true = refl
 or-false false = refl
 
-details-more : (is_open : Bool) (xs ys : List (List ℕ)) → next_details is_open (xs ++ ys) ≡ next_details is_open xs ++ next_details (is_open || has_details xs) ys
+details-more : (is_open : Bool) (xs ys : List (List ℕ))
+    → next_details is_open (xs ++ ys) ≡ next_details is_open xs ++ next_details (is_open || has_details xs) ys
 details-more is_open [] ys = ap (λ (b : Bool). next_details b ys) (sym (or-false is_open))
 details-more is_open (x ∷ xs) ys =
     ap (λ (bytes : List ℕ). separator is_open ++ (x ++ bytes)) (flat_map-append (λ (item : List ℕ). codes ", " ++ item) xs ys)
@@ -46,7 +47,8 @@ closed-more is_open xs ys =
     ∙ ap (λ (b : Bool). next_details is_open xs ++ (next_details (is_open || has_details xs) ys ++ end b)) (or-has is_open xs ys))
 
 -- four kinds of details, one behind the other
-pub four_details : (ws xs ys zs : List (List ℕ)) (a b c d : Bool) → a ≡ has_details ws → b ≡ (a || has_details xs) → c ≡ (b || has_details ys) → d ≡ (c || has_details zs)
+pub four_details : (ws xs ys zs : List (List ℕ)) (a b c d : Bool) → a ≡ has_details ws → b ≡ (a || has_details xs) → c ≡ (b || has_details ys)
+    → d ≡ (c || has_details zs)
     → in_parentheses (ws ++ (xs ++ (ys ++ zs))) ≡ next_details false ws ++ (next_details a xs ++ (next_details b ys ++ (next_details c zs ++ end d)))
 four_details ws xs ys zs a b c d is-a is-b is-c is-d =
     let all-b = is-b ∙ ap (λ (x : Bool). x || has_details xs) is-a in

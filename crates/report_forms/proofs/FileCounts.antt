@@ -1,6 +1,7 @@
 -- Lemmas on the counts of files.
 use Rattle.std.specs.Prelude.{is_none, cond, is_some}
-use Rattle.std.proofs.Common.{arith, refl, not, ◌||◌, ◌&&◌, nat_le, ◌≢◌, inl, inr, set, length, map, ◌≡◌, ◌≤◌, ◌<◌, ◌+◌, ◌-◌, ℕ, Bool, true, false, List, [], ◌∷◌, ◌++◌, Option, Some, None, get_or, ap, sym, ◌∙◌, nat_eq}
+use Rattle.std.proofs.Common.{arith, refl, not, ◌||◌, ◌&&◌, nat_le, ◌≢◌, inl, inr, set, length, map, ◌≡◌, ◌≤◌, ◌<◌, ◌+◌, ◌-◌, ℕ, Bool, true, false, List, []}
+use Rattle.std.proofs.Common.{◌∷◌, ◌++◌, Option, Some, None, get_or, ap, sym, ◌∙◌, nat_eq}
 use Rattle.std.specs.Io.Iter.{u64_saturate}
 use Rattle.std.specs.List.{count_by}
 use Rattle.std.proofs.lemmas.Bool.Decides.{nat_tests, eqb_tells}
@@ -46,13 +47,15 @@ pub until-none : (warnings : Warnings) (code : Code) → until 0 warnings code �
 until-none warnings (Code.Rule rule) = and-false (nat_le (number_of rule) 0)
 until-none warnings (Code.Cause cause) = and-false (nat_le (cause_number cause) 0)
 until-none warnings Code.NotValid = refl
-until-none warnings (Code.Kind kind) = ap (λ (b : Bool). b && is_some (first_in kind warnings)) (above (kind_number kind) 0 (omega (arith, (kind_range kind).0)))
+until-none warnings (Code.Kind kind) =
+    ap (λ (b : Bool). b && is_some (first_in kind warnings)) (above (kind_number kind) 0 (omega (arith, (kind_range kind).0)))
 
 pub until-all : (i : ℕ) (warnings : Warnings) (code : Code) → length kinds ≤ i → until i warnings code ≡ warns code warnings
 until-all i warnings (Code.Rule rule) all = and-false (nat_le (number_of rule) i)
 until-all i warnings (Code.Cause cause) all = and-false (nat_le (cause_number cause) i)
 until-all i warnings Code.NotValid all = and-false (nat_le 0 i)
-until-all i warnings (Code.Kind kind) all = ap (λ (b : Bool). b && is_some (first_in kind warnings)) (below (kind_number kind) i (omega (arith, all, (kind_range kind).1)))
+until-all i warnings (Code.Kind kind) all =
+    ap (λ (b : Bool). b && is_some (first_in kind warnings)) (below (kind_number kind) i (omega (arith, all, (kind_range kind).1)))
 
 later : (m i : ℕ) → m ≢ i + 1 → nat_le m (i + 1) ≡ nat_le m i
 later m i other = grind (arith, nat_tests, other)
@@ -67,12 +70,14 @@ until-more i kind warnings (Code.Kind j) n here has = elim (eqb_tells (kind_numb
       let told : is_some (first_in j warnings) ≡ true = ap (λ (k : Kind). is_some (first_in k warnings)) is ∙ has in
       ap (λ (t : Bool). more t (more (nat_le (kind_number j) i && is_some (first_in j warnings)) n)) e.0
       ∙ (ap (λ (t : Bool). more true (more (t && is_some (first_in j warnings)) n)) (above (kind_number j) i (omega (arith, e.1, here)))
-      ∙ sym (ap (λ (t : Bool). more (t && is_some (first_in j warnings)) n) (below (kind_number j) (i + 1) (omega (arith, e.1, here))) ∙ ap (λ (t : Bool). more t n) told)))
+      ∙ sym (ap (λ (t : Bool). more (t && is_some (first_in j warnings)) n) (below (kind_number j) (i + 1) (omega (arith, e.1, here)))
+      ∙ ap (λ (t : Bool). more t n) told)))
   | inr e ↦ (ap (λ (t : Bool). more t (more (nat_le (kind_number j) i && is_some (first_in j warnings)) n)) e.0
       ∙ ap (λ (t : Bool). more (t && is_some (first_in j warnings)) n) (sym (later (kind_number j) i (λ same. e.1 (same ∙ sym here)))))
 ]
 
-pub until-same : (i : ℕ) (kind : Kind) (warnings : Warnings) (other : Code) → kind_number kind ≡ i + 1 → is_some (first_in kind warnings) ≡ false → until (i + 1) warnings other ≡ until i warnings other
+pub until-same : (i : ℕ) (kind : Kind) (warnings : Warnings) (other : Code) → kind_number kind ≡ i + 1 → is_some (first_in kind warnings) ≡ false
+    → until (i + 1) warnings other ≡ until i warnings other
 until-same i kind warnings (Code.Rule rule) here has = and-false (nat_le (number_of rule) (i + 1)) ∙ sym (and-false (nat_le (number_of rule) i))
 until-same i kind warnings (Code.Cause cause) here has = and-false (nat_le (cause_number cause) (i + 1)) ∙ sym (and-false (nat_le (cause_number cause) i))
 until-same i kind warnings Code.NotValid here has = and-false (nat_le 0 (i + 1)) ∙ sym (and-false (nat_le 0 i))
@@ -90,7 +95,8 @@ kinds-at i d within =
     sym (get_or-map kind_number kinds i d 0 within) ∙ (number ∙ omega arith)
 
 pub Adds-kind : (old mid new : Summary) (i : ℕ) (kind : Kind) (warnings : Warnings) → kind_number kind ≡ i + 1 → is_some (first_in kind warnings) ≡ true
-    → Adds old mid false false false false false (until i warnings) → Adds mid new false false false false false (λ other. same other (Code.Kind kind)) → Adds old new false false false false false (until (i + 1) warnings)
+    → Adds old mid false false false false false (until i warnings) → Adds mid new false false false false false (λ other. same other (Code.Kind kind))
+    → Adds old new false false false false false (until (i + 1) warnings)
 Adds-kind old mid new i kind warnings here has before adds = record {
   valid_is = adds.valid_is ∙ before.valid_is;
   warned_is = adds.warned_is ∙ before.warned_is;
@@ -111,12 +117,15 @@ Adds-none old mid i kind warnings here has before = record {
   refused_is = before.refused_is;
   not_valid_is = before.not_valid_is;
   unread_is = before.unread_is;
-  codes_are = λ code small. before.codes_are code small ∙ ap (λ (t : Bool). more t (get_or old.counts (slot_of code) 0)) (sym (until-same i kind warnings code here has));
+  codes_are = λ code small. before.codes_are code small
+      ∙ ap (λ (t : Bool). more t (get_or old.counts (slot_of code) 0)) (sym (until-same i kind warnings code here has));
 }
 
 -- a file is of a kind, and then codes of it are told
-pub Adds-after : (old mid new : Summary) (valid warned broken refused : Bool) (told : Code → Bool) → mid.valid ≡ more valid old.valid → mid.warned ≡ more warned old.warned
-    → mid.broken ≡ more broken old.broken → mid.refused ≡ more refused old.refused → mid.not_valid ≡ old.not_valid → mid.unread ≡ old.unread → mid.counts ≡ old.counts
+pub Adds-after : (old mid new : Summary) (valid warned broken refused : Bool) (told : Code → Bool) → mid.valid ≡ more valid old.valid
+    → mid.warned ≡ more warned old.warned
+    → mid.broken ≡ more broken old.broken → mid.refused ≡ more refused old.refused → mid.not_valid ≡ old.not_valid → mid.unread ≡ old.unread
+    → mid.counts ≡ old.counts
     → Adds mid new false false false false false told → Adds old new valid warned broken refused false told
 Adds-after old mid new valid warned broken refused told v w b r n u c adds = record {
   valid_is = adds.valid_is ∙ v;
@@ -136,9 +145,11 @@ no-cause Code.NotValid none = refl
 
 -- ---- one file more
 
-pub Counts-more : (old new : Summary) (files : List (Option Finding)) (file : Option Finding) (valid warned broken refused not_valid : Bool) (told : Code → Bool)
+pub Counts-more : (old new : Summary) (files : List (Option Finding)) (file : Option Finding) (valid warned broken refused not_valid : Bool)
+    (told : Code → Bool)
     → Counts old files → Adds old new valid warned broken refused not_valid told → is_none file ≡ false
-    → is_valid file ≡ valid → is_warned file ≡ warned → is_broken file ≡ broken → is_refused file ≡ refused → is_not_valid file ≡ not_valid → ((code : Code) → tells code file ≡ told code)
+    → is_valid file ≡ valid → is_warned file ≡ warned → is_broken file ≡ broken → is_refused file ≡ refused → is_not_valid file ≡ not_valid
+    → ((code : Code) → tells code file ≡ told code)
     → Counts new (files ++ file ∷ [])
 Counts-more old new files file valid warned broken refused not_valid told counts adds read v w b r n t = record {
   valid = more-counted is_valid files file valid old.valid new.valid v counts.valid adds.valid_is;
@@ -147,7 +158,8 @@ Counts-more old new files file valid warned broken refused not_valid told counts
   refused = more-counted is_refused files file refused old.refused new.refused r counts.refused adds.refused_is;
   not_valid = more-counted is_not_valid files file not_valid old.not_valid new.not_valid n counts.not_valid adds.not_valid_is;
   unread = more-counted (λ (f : Option Finding). is_none f) files file false old.unread new.unread read counts.unread adds.unread_is;
-  codes = λ code small. more-counted (tells code) files file (told code) (get_or old.counts (slot_of code) 0) (get_or new.counts (slot_of code) 0) (t code) (counts.codes code small) (adds.codes_are code small);
+  codes = λ code small. more-counted (tells code) files file (told code) (get_or old.counts (slot_of code) 0) (get_or new.counts (slot_of code) 0) (t code)
+      (counts.codes code small) (adds.codes_are code small);
 }
 
 or-false : (b : Bool) → (b || false) ≡ b
@@ -170,13 +182,15 @@ Counts-fault old new files finding told is counts adds =
     Counts-more old new files (Some finding) false false (not (is_cause told.code)) (is_cause told.code) false (λ other. same other told.code) counts adds refl
     (rw none refl) (rw none refl) (rw is refl) (rw is refl) (rw is refl) (λ code. rw (is, none) (or-false (same code told.code)))
 
-pub Counts-valid : (old new : Summary) (files : List (Option Finding)) (finding : Finding) (warnings : Warnings) → fault_of finding ≡ None → warnings_of finding ≡ Some warnings → Counts old files
+pub Counts-valid : (old new : Summary) (files : List (Option Finding)) (finding : Finding) (warnings : Warnings) → fault_of finding ≡ None
+    → warnings_of finding ≡ Some warnings → Counts old files
     → Adds old new (none_in warnings) (not (none_in warnings)) false false false (λ code. warns code warnings) → Counts new (files ++ Some finding ∷ [])
 Counts-valid old new files finding warnings none is counts adds =
     Counts-more old new files (Some finding) (none_in warnings) (not (none_in warnings)) false false false (λ code. warns code warnings) counts adds refl
     (rw is refl) (rw is refl) (rw none refl) (rw none refl) (rw (none, is) refl) (λ code. rw (none, is) refl)
 
-pub Counts-not_valid : (old new : Summary) (files : List (Option Finding)) (finding : Finding) → fault_of finding ≡ None → warnings_of finding ≡ None → Counts old files
+pub Counts-not_valid : (old new : Summary) (files : List (Option Finding)) (finding : Finding) → fault_of finding ≡ None → warnings_of finding ≡ None
+    → Counts old files
     → Adds old new false false false false true (λ code. false) → Counts new (files ++ Some finding ∷ [])
 Counts-not_valid old new files finding none is counts adds =
     Counts-more old new files (Some finding) false false false false true (λ code. false) counts adds refl
@@ -191,5 +205,6 @@ Counts-unread old files unread is counts = record {
   refused = more-counted is_refused files None false old.refused old.refused refl counts.refused refl;
   not_valid = more-counted is_not_valid files None false old.not_valid old.not_valid refl counts.not_valid refl;
   unread = more-counted (λ (f : Option Finding). is_none f) files None true old.unread unread refl counts.unread is;
-  codes = λ code small. more-counted (tells code) files None false (get_or old.counts (slot_of code) 0) (get_or old.counts (slot_of code) 0) refl (counts.codes code small) refl;
+  codes = λ code small. more-counted (tells code) files None false (get_or old.counts (slot_of code) 0) (get_or old.counts (slot_of code) 0) refl
+      (counts.codes code small) refl;
 }

@@ -8,10 +8,12 @@ use Rattle.std.proofs.lemmas.List.Concat.{flat_map-append}
 pub lines-more : {A : Type 0} (line : A → List ℕ) (xs : List A) (i : ℕ) (d : A) → i < length xs
     → flat_map line (take (i + 1) xs) ≡ flat_map line (take i xs) ++ line (get_or xs i d)
 lines-more {A = A} line xs i d within =
-    ap (λ (ys : List A). flat_map line ys) (take_more xs i d within) ∙ (flat_map-append line (take i xs) (get_or xs i d ∷ []) ∙ ap (λ (ys : List ℕ). flat_map line (take i xs) ++ ys) (append-nil (line (get_or xs i d))))
+    ap (λ (ys : List A). flat_map line ys) (take_more xs i d within)
+    ∙ (flat_map-append line (take i xs) (get_or xs i d ∷ []) ∙ ap (λ (ys : List ℕ). flat_map line (take i xs) ++ ys) (append-nil (line (get_or xs i d))))
 
 -- what a last call appends stands behind what was appended before it
-pub behind : {T E : Type 0} (r : Result T E) (start middle new first last : List ℕ) → middle ≡ start ++ first → OnOk r (new ≡ middle ++ last) → OnOk r (new ≡ start ++ (first ++ last))
+pub behind : {T E : Type 0} (r : Result T E) (start middle new first last : List ℕ) → middle ≡ start ++ first → OnOk r (new ≡ middle ++ last)
+    → OnOk r (new ≡ start ++ (first ++ last))
 behind (Ok x) start middle new first last before is = is ∙ (ap (λ (ys : List ℕ). ys ++ last) before ∙ append_assoc start first last)
 behind (Err x) start middle new first last before is = is
 
@@ -26,4 +28,5 @@ one-more {A = A} line xs i d start middle new within before is =
 pub parts-more : {A B : Type 0} (part : A → List B) (xs : List A) (i : ℕ) (d : A) → i < length xs
     → flat_map part (take (i + 1) xs) ≡ flat_map part (take i xs) ++ part (get_or xs i d)
 parts-more {A = A} {B = B} part xs i d within =
-    ap (λ (ys : List A). flat_map part ys) (take_more xs i d within) ∙ (flat_map-append part (take i xs) (get_or xs i d ∷ []) ∙ ap (λ (ys : List B). flat_map part (take i xs) ++ ys) (append-nil (part (get_or xs i d))))
+    ap (λ (ys : List A). flat_map part ys) (take_more xs i d within)
+    ∙ (flat_map-append part (take i xs) (get_or xs i d ∷ []) ∙ ap (λ (ys : List B). flat_map part (take i xs) ++ ys) (append-nil (part (get_or xs i d))))

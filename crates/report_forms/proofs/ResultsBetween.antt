@@ -9,7 +9,8 @@ next-behind : (ys : List (List ℕ)) → next_results false ys ≡ behind_breaks
 next-behind [] = refl
 next-behind (y ∷ ys) = sym (append_assoc (codes ",\n") y (behind_breaks ys))
 
-pub results-more : (is_first : Bool) (xs ys : List (List ℕ)) → next_results is_first (xs ++ ys) ≡ next_results is_first xs ++ next_results (is_first && is_none_yet xs) ys
+pub results-more : (is_first : Bool) (xs ys : List (List ℕ))
+    → next_results is_first (xs ++ ys) ≡ next_results is_first xs ++ next_results (is_first && is_none_yet xs) ys
 results-more is_first [] ys = ap (λ (b : Bool). next_results b ys) (still-first is_first)
 results-more is_first (x ∷ xs) ys =
     ap (λ (bytes : List ℕ). break_unless is_first ++ (x ++ bytes)) (flat_map-append (λ (item : List ℕ). codes ",\n" ++ item) xs ys)

@@ -26,13 +26,16 @@ use Rattle.report_forms.specs.Internal.WrittenCommas.{is_none_yet}
 -- the report of a file that was judged; in a log the first result has no comma before it
 abbrev pub IsReport : Format → Style → Bool → Report → Bool → Kinds → List ℕ → Type 0
 IsReport Format.Text style is_first report strict allowed bytes = bytes ≡ text_told report
-IsReport Format.Lines style is_first report strict allowed bytes = (lines : List ℕ) × AreLines style report (fault_of report.finding) lines × (bytes ≡ lines ++ (lines_found report.found ++ lines_hint report.hint))
-IsReport Format.Json style is_first report strict allowed bytes = (name found : List ℕ) × SpellsString report.name.now name × IsJsonFound report.found found × (bytes ≡ json_line name found report)
+IsReport Format.Lines style is_first report strict allowed bytes =
+    (lines : List ℕ) × AreLines style report (fault_of report.finding) lines × (bytes ≡ lines ++ (lines_found report.found ++ lines_hint report.hint))
+IsReport Format.Json style is_first report strict allowed bytes =
+    (name found : List ℕ) × SpellsString report.name.now name × IsJsonFound report.found found × (bytes ≡ json_line name found report)
 IsReport Format.Github style is_first report strict allowed bytes = bytes ≡ github_told report strict allowed
 IsReport Format.Sarif style is_first report strict allowed bytes = bytes ≡ next_results is_first (sarif_told report strict allowed)
 
 abbrev pub TellsReport : Format → Style → Bool → Report → Bool → Kinds → Vec ℕ Global → Vec ℕ Global → Type 0
-TellsReport format style is_first report strict allowed old new = (bytes : List ℕ) × IsReport format style is_first report strict allowed bytes × Adds old new bytes
+TellsReport format style is_first report strict allowed old new =
+    (bytes : List ℕ) × IsReport format style is_first report strict allowed bytes × Adds old new bytes
 
 -- whether a log has no result yet, once that file is told
 abbrev pub first_after : Format → Bool → Report → Bool → Kinds → Bool

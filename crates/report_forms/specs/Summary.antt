@@ -28,7 +28,8 @@ files_line files =
     ++ (codes " broken, "
     ++ (decimal (counted is_refused files)
     ++ (codes " not JSON, "
-    ++ (decimal (counted (λ (file : Option Finding). is_none file) files) ++ (codes " not read" ++ (and_not_valid (counted is_not_valid files) ++ codes "\n"))))))))))
+    ++ (decimal (counted (λ (file : Option Finding). is_none file) files)
+    ++ (codes " not read" ++ (and_not_valid (counted is_not_valid files) ++ codes "\n"))))))))))
 
 -- ---- the whole
 

@@ -4,7 +4,8 @@ ghost use Rattle.geolint_report.specs.declared.texts.Code.{Code};
 ghost use Rattle.geolint_report.specs.declared.texts.TheConstants.{CODES};
 ghost use Rattle.geolint_report.specs.Line.{Adds};
 ghost use Rattle.geolint_report.specs.Slots.{slot_of};
-ghost use Rattle.report_forms.specs.CodeLines.{AreCounts, code_lines, rule_lines, kind_lines, cause_lines, code_line, count_line, count_line_if, in_eight_places, spaces_before};
+ghost use Rattle.report_forms.specs.CodeLines.{AreCounts, code_lines, rule_lines, kind_lines, cause_lines, code_line, count_line, count_line_if};
+ghost use Rattle.report_forms.specs.CodeLines.{in_eight_places, spaces_before};
 
 use geolint_report::line::{put, put_all};
 use geolint_report::texts::{CAUSES, CODES, Code, RULES};

@@ -12,7 +12,8 @@ use Rattle.geolint_files.specs.Outcome.{worst}
 use Rattle.geolint_files.specs.Run.{ToldFile, listed, FeatureLine, finding_in, tallies_in, worst_of, Written, AddsFiles, begun}
 
 -- `held` is what the writer had before the run, and `contents` what a writer has
-pub record HasTold {W : Type 0} (contents : W → Option (List ℕ)) (held : Option (List ℕ)) (options : Options) (style : Style) (files : List ToldFile) (run : Run W) : Type 0 where
+pub record HasTold {W : Type 0} (contents : W → Option (List ℕ)) (held : Option (List ℕ)) (options : Options) (style : Style) (files : List ToldFile)
+    (run : Run W) : Type 0 where
   pub options_are : run.options ≡ options
   pub style_is : run.style ≡ style
   pub outcome : run.outcome ≡ worst_of options files

@@ -87,7 +87,8 @@ impl<'a, W: Write + Drop> Run<'a, W> {
     ) -> Result<(), Failure>
         requires { asked_for self.now.options name.now ≡ Some asked }
         ensures { OnOk result ((file : ToldFile)
-            × IsListedOnce (reading_of self.old.options name.now) asked self.old.options.limits name.now (S.remaining source.old) (S.failed_reads source.old) (S.failed_reads source.new) file
+            × IsListedOnce (reading_of self.old.options name.now) asked self.old.options.limits name.now (S.remaining source.old) (S.failed_reads source.old)
+            (S.failed_reads source.new) file
             × TellsFile W.contents file self.old self.new) }
     {
         let reading = self.reading(name);
@@ -110,7 +111,8 @@ impl<'a, W: Write + Drop> Run<'a, W> {
 
     /// Tells a file that was judged, and then notes, of whose places nothing is known.
     fn list_unplaced(&mut self, name: &[u8], finding: Finding, notes: &Notes) -> Result<(), Failure>
-        ensures { (self.old.options.every ≡ Every.Nothing → ⊥) → OnOk result ((lines : List FeatureLine) × AreLinesOf IsUnplaced name.now notes.now.notes.items notes.now.count lines
+        ensures { (self.old.options.every ≡ Every.Nothing → ⊥)
+            → OnOk result ((lines : List FeatureLine) × AreLinesOf IsUnplaced name.now notes.now.notes.items notes.now.count lines
             × TellsFile W.contents (listed (record {
               name = name.entry;
               finding = finding;
@@ -127,7 +129,9 @@ impl<'a, W: Write + Drop> Run<'a, W> {
 
     /// Tells notes, of whose places nothing is known.
     fn tell_unplaced(&mut self, name: &[u8], notes: &Notes) -> Result<(), Failure>
-        ensures { OnOk result ((lines : List FeatureLine) × AreLinesOf IsUnplaced name.now notes.now.notes.items notes.now.count lines × TellsLines W.contents lines self.old self.new) }
+        ensures { OnOk result
+            ((lines : List FeatureLine) × AreLinesOf IsUnplaced name.now notes.now.notes.items notes.now.count lines
+            × TellsLines W.contents lines self.old self.new) }
     {
         for note in &notes.notes {
             self.tell_note(name, *note, None, b"")?;
@@ -144,7 +148,8 @@ impl<'a, W: Write + Drop> Run<'a, W> {
     ) -> Result<(), Failure>
         requires { asked_for self.now.options name.now ≡ Some asked }
         ensures { OnOk result ((file : ToldFile)
-            × IsListedTwice (reading_of self.old.options name.now) asked self.old.options.limits name.now (S.remaining source.old) (S.text source.old) (S.failed_reads source.old) (S.failed_reads source.new) file
+            × IsListedTwice (reading_of self.old.options name.now) asked self.old.options.limits name.now (S.remaining source.old) (S.text source.old)
+            (S.failed_reads source.old) (S.failed_reads source.new) file
             × TellsFile W.contents file self.old self.new) }
     {
         let reading = self.reading(name);
@@ -193,7 +198,9 @@ impl<'a, W: Write + Drop> Run<'a, W> {
         framing: Option<Framing>,
         notes: &Notes,
     ) -> Result<(), Failure>
-        ensures { OnOk result ((lines : List FeatureLine) × AreLinesOf (IsPlaced framing (S.text source.old)) name.now notes.now.notes.items notes.now.count lines × TellsLines W.contents lines self.old self.new) }
+        ensures { OnOk result
+            ((lines : List FeatureLine) × AreLinesOf (IsPlaced framing (S.text source.old)) name.now notes.now.notes.items notes.now.count lines
+            × TellsLines W.contents lines self.old self.new) }
     {
         let mut cursors = Cursors::new(self.options.limits, framing);
         for note in &notes.notes {
@@ -227,7 +234,8 @@ impl<'a, W: Write + Drop> Run<'a, W> {
         mark: Option<Mark>,
         id: &[u8],
     ) -> Result<(), Failure>
-        ensures { OnOk result (TellsLines W.contents (feature_line (record { name = name.entry; note = note; mark = mark; id = id.entry }) ∷ []) self.old self.new) }
+        ensures { OnOk result
+            (TellsLines W.contents (feature_line (record { name = name.entry; note = note; mark = mark; id = id.entry }) ∷ []) self.old self.new) }
     {
         let entry = Entry {
             name,
@@ -243,7 +251,9 @@ impl<'a, W: Write + Drop> Run<'a, W> {
     fn put_entry(&mut self, entry: &Entry<'_>) -> Result<(), AllocError>
         ensures same { SameTold self.old self.new }
         ensures out { self.new.out ≡ self.old.out }
-        ensures told { OnOk result (TellsEntry self.old.options.format self.old.style self.old.log.is_first entry.now self.old.options.strict self.old.options.allowed self.old.line self.new.line) }
+        ensures told { OnOk result
+            (TellsEntry self.old.options.format self.old.style self.old.log.is_first entry.now self.old.options.strict self.old.options.allowed self.old.line
+            self.new.line) }
         ensures first { OnOk result (self.new.log.is_first ≡ first_behind self.old.options.format self.old.log.is_first) }
         ensures unread { self.new.log.unread ≡ self.old.log.unread }
     {
@@ -307,7 +317,8 @@ fn others(notes: &Notes) -> u64
 /// Where a place stands: nothing where a read fails.
 fn find<S: Rewind>(cursors: &mut Cursors, source: &mut S, note: &Note) -> Option<Mark>
     ensures stand { (framing : Option Framing) → StandBy framing (S.text source.old) cursors.old → StandBy framing (S.text source.old) cursors.new }
-    ensures mark { (framing : Option Framing) → StandBy framing (S.text source.old) cursors.old → IfSome result (λ mark. IsMarkBy framing (S.text source.old) note.now.told.place mark) }
+    ensures mark { (framing : Option Framing) → StandBy framing (S.text source.old) cursors.old
+        → IfSome result (λ mark. IsMarkBy framing (S.text source.old) note.now.told.place mark) }
     ensures text { S.text source.new ≡ S.text source.old }
 {
     match cursors.go_to(source, note) {

@@ -41,7 +41,8 @@ Keeps limits finder front = CanGoOn limits front → (finder.is_lost ≡ false) 
 
 -- while the text that these bytes of the file end in can go on
 abbrev pub KeepsIn : Finder → List ℕ → Type 0
-KeepsIn finder front = IsUnderWay finder.limits finder.framing front → (finder.is_lost ≡ false) × (Locator.limits_of finder.locator ≡ text_limits finder.framing finder.limits)
+KeepsIn finder front =
+    IsUnderWay finder.limits finder.framing front → (finder.is_lost ≡ false) × (Locator.limits_of finder.locator ≡ text_limits finder.framing finder.limits)
 
 -- each place that was found is one of a byte
 abbrev pub AreWithin : List ℕ → List Site → Type 0
@@ -66,7 +67,8 @@ pub record IsLocated (old new : Finder) : Type 0 where
 -- the places before the next were found, and the others are not among so many bytes from the start
 pub record Seeks (finder : Finder) (sites : Sites) (passed : ℕ) : Type 0 where
   pub found : (k : ℕ) (other : Site) → k < finder.next → k < length sites.sites → (get_or sites.sites k other).is_found ≡ true
-  pub ahead : (k : ℕ) (other : ℕ) → finder.next ≤ k → k < length (sought sites) → get_or (sought sites) k other < 2 ^ 64 - 1 → passed ≤ get_or (sought sites) k other
+  pub ahead : (k : ℕ) (other : ℕ) → finder.next ≤ k → k < length (sought sites) → get_or (sought sites) k other < 2 ^ 64 - 1
+      → passed ≤ get_or (sought sites) k other
 
 -- the excerpt is that of a place in these bytes
 pub record IsAt (excerpt : Excerpt) (place : ℕ) (bytes : List ℕ) : Type 0 where
@@ -77,7 +79,8 @@ pub record IsAt (excerpt : Excerpt) (place : ℕ) (bytes : List ℕ) : Type 0 wh
 pub record Shows (finder : Finder) (sites : Sites) (text piece : List ℕ) : Type 0 where
   pub stored : sites.count ≤ length sites.sites
   pub before : finder.next < sites.count → KeepsLine sites.excerpt (text ++ take finder.counted piece) []
-  pub behind : (other : Site) → 0 < sites.count → sites.count ≤ finder.next → IsAt sites.excerpt (get_or sites.sites (sites.count - 1) other).place (text ++ take finder.counted piece)
+  pub behind : (other : Site) → 0 < sites.count → sites.count ≤ finder.next
+      → IsAt sites.excerpt (get_or sites.sites (sites.count - 1) other).place (text ++ take finder.counted piece)
 
 -- one place is found, and nothing else changes
 pub record Settles (old new : Sites) (i : ℕ) : Type 0 where

@@ -93,7 +93,8 @@ impl Cursor {
     /// Where a place stands: none for one that is neither before a byte of the file nor at its end. A place that it has passed makes it begin anew.
     pub fn go_to<S: Rewind>(&mut self, source: &mut S, place: u64) -> io::Result<Option<Mark>>
         ensures stands { StandsBy (S.text source.old) self.old → StandsBy (S.text source.old) self.new }
-        ensures mark { StandsBy (S.text source.old) self.old → IfOk result (λ found. IfSome found (λ mark. IsMarkBy self.old.text_path.framing (S.text source.old) place mark)) }
+        ensures mark { StandsBy (S.text source.old) self.old
+            → IfOk result (λ found. IfSome found (λ mark. IsMarkBy self.old.text_path.framing (S.text source.old) place mark)) }
         ensures text { S.text source.new ≡ S.text source.old }
         ensures failed { CountsFailure (S.failed_reads source.old) (S.failed_reads source.new) result }
         ensures framing { self.new.text_path.framing ≡ self.old.text_path.framing }
@@ -186,7 +187,8 @@ impl Cursor {
 
     /// Keeps the place at the end of the file. No byte is there, so it has no path.
     fn keep_end(&mut self, place: u64)
-        ensures last { (mark : Mark) × (self.new.last ≡ Some mark) × (mark.place ≡ place) × (mark.spot.line ≡ self.old.lines.line) × (mark.spot.column ≡ self.old.lines.column)
+        ensures last { (mark : Mark) × (self.new.last ≡ Some mark) × (mark.place ≡ place) × (mark.spot.line ≡ self.old.lines.line)
+            × (mark.spot.column ≡ self.old.lines.column)
             × (mark.path ≡ None) }
         ensures passed { self.new.passed ≡ self.old.passed }
         ensures lines { self.new.lines ≡ self.old.lines }
@@ -202,7 +204,8 @@ impl Cursor {
     /// Keeps the place before a byte, and passes this.
     fn keep(&mut self, place: u64, byte: &[u8])
         ensures passed { (front : List ℕ) → Passed self.old front → Passed self.new (front ++ byte.now) }
-        ensures last { (mark : Mark) × (self.new.last ≡ Some mark) × (mark.place ≡ place) × (mark.spot.line ≡ self.old.lines.line) × (mark.spot.column ≡ self.old.lines.column)
+        ensures last { (mark : Mark) × (self.new.last ≡ Some mark) × (mark.place ≡ place) × (mark.spot.line ≡ self.old.lines.line)
+            × (mark.spot.column ≡ self.old.lines.column)
             × ((front : List ℕ) → Passed self.new front → IfSome mark.path (λ path. IsPathOf (text_of self.new.text_path.framing front) path)) }
         ensures count { self.old.passed + length byte.now < 2 ^ 64 → self.new.passed ≡ self.old.passed + length byte.now }
         ensures framing { self.new.text_path.framing ≡ self.old.text_path.framing }

@@ -96,7 +96,8 @@ pub fn notes_for(
     listing: Listing,
     asked: Asked,
 ) -> Result<Option<Notes>, AllocError>
-    ensures { IfOk result (λ found. IfSome found (λ notes. (framing : Option Framing) (limits : Allowed) (had : Option (List ℕ)) → ListsFor framing finding limits had listing
+    ensures { IfOk result
+        (λ found. IfSome found (λ notes. (framing : Option Framing) (limits : Allowed) (had : Option (List ℕ)) → ListsFor framing finding limits had listing
         → AreNotesBy framing asked notes.notes.items notes.count notes.tally limits had)) }
 {
     match finding {

@@ -38,7 +38,8 @@ json_path None = codes ",\"json_path\":null"
 unfoldable pub json_told : Told → Option Spot → Option Path → List ℕ
 json_told told spot path =
     codes ",\"rule\":\""
-    ++ (code_name told.code ++ (codes "\",\"text\":\"" ++ (code_text told.code ++ (codes "\",\"offset\":" ++ (decimal told.place ++ (json_spot spot ++ json_path path))))))
+    ++ (code_name told.code
+    ++ (codes "\",\"text\":\"" ++ (code_text told.code ++ (codes "\",\"offset\":" ++ (decimal told.place ++ (json_spot spot ++ json_path path))))))
 
 -- the members for the file; the first has its name as a string
 unfoldable pub json_head : List ℕ → Finding → Bool → List ℕ

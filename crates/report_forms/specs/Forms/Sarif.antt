@@ -165,7 +165,8 @@ sarif_rule code level =
     ++ (id_of code
     ++ (codes "\",\"shortDescription\":{\"text\":\""
     ++ (code_text code
-    ++ (codes "\"},\"help\":{\"text\":\"docs/rules.md, " ++ (section_of code ++ (codes "\"},\"defaultConfiguration\":{\"level\":\"" ++ (level ++ codes "\"}}")))))))
+    ++ (codes "\"},\"help\":{\"text\":\"docs/rules.md, "
+    ++ (section_of code ++ (codes "\"},\"defaultConfiguration\":{\"level\":\"" ++ (level ++ codes "\"}}")))))))
 
 abbrev pub rule_and_break : Code → List ℕ
 rule_and_break code = sarif_rule code (codes "error") ++ codes ",\n"
@@ -191,4 +192,5 @@ sarif_begin =
 -- what comes behind the last: whether each file was read, and those that were not
 unfoldable pub sarif_end : List ℕ → List ℕ
 sarif_end unread =
-    codes "],\"invocations\":[{\"executionSuccessful\":" ++ (truth (is_nothing unread) ++ (codes ",\"toolExecutionNotifications\":[" ++ (unread ++ codes "]}]}]}\n")))
+    codes "],\"invocations\":[{\"executionSuccessful\":"
+    ++ (truth (is_nothing unread) ++ (codes ",\"toolExecutionNotifications\":[" ++ (unread ++ codes "]}]}]}\n")))

@@ -16,7 +16,8 @@ use std::alloc::{AllocError, Global};
 
 /// Puts the line of a feature or a record.
 pub fn put_entry(alloc: Global, entry: &Entry<'_>, line: &mut Vec<u8>) -> Result<(), AllocError>
-    ensures { OnOk result ((name id : List ℕ) × SpellsString entry.now.name.now name × SpellsString entry.now.id.now id × Adds line.old line.new (json_entry name id entry.now)) }
+    ensures { OnOk result
+        ((name id : List ℕ) × SpellsString entry.now.name.now name × SpellsString entry.now.id.now id × Adds line.old line.new (json_entry name id entry.now)) }
 {
     let name = json_string(alloc, entry.name)?;
     let id = json_string(alloc, entry.id)?;

@@ -2,7 +2,8 @@
 ghost use Rattle.std.specs.Prelude.{◌≡◌, ℕ, List, OnOk};
 ghost use Rattle.gj_places.specs.Strings.{SpellsString};
 ghost use Rattle.geolint_report.specs.Line.{Adds};
-ghost use Rattle.report_forms.specs.Forms.Features.{sarif_entry, sarif_text, sarif_place, sarif_region, sarif_properties, sarif_more, level_in, spot_at, path_at};
+ghost use Rattle.report_forms.specs.Forms.Features.{sarif_entry, sarif_text, sarif_place, sarif_region, sarif_properties, sarif_more, level_in, spot_at};
+ghost use Rattle.report_forms.specs.Forms.Features.{path_at};
 ghost use Rattle.report_forms.specs.Forms.Sarif.{region_start_of, logical_location_of};
 
 use crate::every::entry::{Entry, note_fails, path_at, spot_at};
@@ -62,7 +63,9 @@ fn put_entry(
     options: &Options,
     line: &mut Vec<u8>,
 ) -> Result<(), AllocError>
-    ensures { OnOk result ((id : List ℕ) × SpellsString entry.now.id.now id × Adds line.old line.new (sarif_entry (level_in options.now.strict options.now.allowed entry.now) id entry.now)) }
+    ensures { OnOk result
+        ((id : List ℕ) × SpellsString entry.now.id.now id
+        × Adds line.old line.new (sarif_entry (level_in options.now.strict options.now.allowed entry.now) id entry.now)) }
 {
     let id = json_string(alloc, entry.id)?;
     put_result(

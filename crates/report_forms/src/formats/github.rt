@@ -3,7 +3,8 @@ ghost use Rattle.std.specs.Prelude.{◌≡◌, OnOk};
 ghost use Rattle.std.specs.List.{flat_map};
 ghost use Rattle.geolint_report.specs.Finding.{warnings_of};
 ghost use Rattle.geolint_report.specs.Line.{Adds};
-ghost use Rattle.report_forms.specs.Forms.Github.{escaped_in_message, escaped_in_property, github_file, github_spot, github_mark, github_message, github_command, github_warning, github_warnings, github_not_valid, github_rest, github_told, github_unread};
+ghost use Rattle.report_forms.specs.Forms.Github.{escaped_in_message, escaped_in_property, github_file, github_spot, github_mark, github_message};
+ghost use Rattle.report_forms.specs.Forms.Github.{github_command, github_warning, github_warnings, github_not_valid, github_rest, github_told, github_unread};
 
 use crate::formats::{level, put_and_path, put_and_record, put_and_times, put_name};
 use crate::options::Options;

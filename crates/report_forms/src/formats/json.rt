@@ -5,7 +5,9 @@ ghost use Rattle.gj_json.specs.Path.{steps_of};
 ghost use Rattle.gj_places.specs.Strings.{SpellsString};
 ghost use Rattle.geolint_report.specs.Finding.{word_of, record_of, records_of, fault_of, warnings_of};
 ghost use Rattle.geolint_report.specs.Line.{Adds, optional_number};
-ghost use Rattle.report_forms.specs.Forms.Json.{json_spot, json_path, json_path_string, json_told, json_head, json_nothing, json_placed, json_fault, IsJsonFound, json_hint, json_hint_text, json_object, json_kind, json_warnings, json_warnings_of, json_line, json_unread};
+ghost use Rattle.report_forms.specs.Forms.Json.{json_spot, json_path, json_path_string, json_told, json_head, json_nothing, json_placed, json_fault};
+ghost use Rattle.report_forms.specs.Forms.Json.{IsJsonFound, json_hint, json_hint_text, json_object, json_kind, json_warnings, json_warnings_of, json_line};
+ghost use Rattle.report_forms.specs.Forms.Json.{json_unread};
 ghost use Rattle.report_forms.specs.Internal.WrittenCommas.{is_none_yet, next_items, comma_unless};
 
 use crate::formats::put_path;

@@ -6,7 +6,10 @@ ghost use Rattle.geolint_report.specs.Finding.{record_of};
 ghost use Rattle.geolint_report.specs.Line.{Adds};
 ghost use Rattle.geolint_report.specs.Report.{spot_of};
 ghost use Rattle.report_forms.specs.Forms.Messages.{and_record};
-ghost use Rattle.report_forms.specs.Forms.Sarif.{is_plain_in_uri, percent_of, in_uri, scheme_of, uri_of, id_of, sarif_message, location, region_start, region_start_of, region, region_if, logical_location, logical_location_of, sarif_result, break_unless, sarif_unread, name_and_text, explained, section_of, sarif_rule, rule_and_break, break_and_warning, sarif_rules, sarif_causes, sarif_kinds};
+ghost use Rattle.report_forms.specs.Forms.Sarif.{is_plain_in_uri, percent_of, in_uri, scheme_of, uri_of, id_of, sarif_message, location, region_start};
+ghost use Rattle.report_forms.specs.Forms.Sarif.{region_start_of, region, region_if, logical_location, logical_location_of, sarif_result, break_unless};
+ghost use Rattle.report_forms.specs.Forms.Sarif.{sarif_unread, name_and_text, explained, section_of, sarif_rule, rule_and_break, break_and_warning};
+ghost use Rattle.report_forms.specs.Forms.Sarif.{sarif_rules, sarif_causes, sarif_kinds};
 
 use crate::formats::{digit_in, level, put_and_record, put_and_times, put_path};
 use crate::options::Options;
@@ -33,7 +36,8 @@ impl Log {
     ghost use Rattle.gj_places.specs.Strings.{SpellsString};
     ghost use Rattle.geolint_report.specs.Finding.{warnings_of};
     ghost use Rattle.geolint_report.specs.Line.{Adds};
-    ghost use Rattle.report_forms.specs.Forms.Sarif.{sarif_result, break_unless, sarif_kind, sarif_warnings, sarif_rest, sarif_told, next_results, next_unread, sarif_begin, sarif_end, is_nothing};
+    ghost use Rattle.report_forms.specs.Forms.Sarif.{sarif_result, break_unless, sarif_kind, sarif_warnings, sarif_rest, sarif_told, next_results, next_unread};
+    ghost use Rattle.report_forms.specs.Forms.Sarif.{sarif_begin, sarif_end, is_nothing};
     ghost use Rattle.report_forms.specs.Internal.WrittenCommas.{is_none_yet};
 
     pub fn new(alloc: Global) -> Log
@@ -84,8 +88,12 @@ impl Log {
         options: &Options,
         line: &mut Vec<u8>,
     ) -> Result<(), AllocError>
-        ensures bytes { OnOk result (Adds line.old line.new (next_results self.old.is_first (sarif_rest report.now options.now.strict options.now.allowed (warnings_of report.now.finding)))) }
-        ensures first { OnOk result (self.new.is_first ≡ (self.old.is_first && is_none_yet (sarif_rest report.now options.now.strict options.now.allowed (warnings_of report.now.finding)))) }
+        ensures bytes { OnOk result
+            (Adds line.old line.new
+            (next_results self.old.is_first (sarif_rest report.now options.now.strict options.now.allowed (warnings_of report.now.finding)))) }
+        ensures first { OnOk result
+            (self.new.is_first ≡ (self.old.is_first && is_none_yet
+            (sarif_rest report.now options.now.strict options.now.allowed (warnings_of report.now.finding)))) }
         ensures unread { self.new.unread ≡ self.old.unread }
     {
         match report.finding.warnings() {
@@ -107,8 +115,10 @@ impl Log {
         warnings: &Warnings,
         line: &mut Vec<u8>,
     ) -> Result<(), AllocError>
-        ensures bytes { OnOk result (Adds line.old line.new (next_results self.old.is_first (sarif_warnings report.now options.now.strict options.now.allowed warnings.now))) }
-        ensures first { OnOk result (self.new.is_first ≡ (self.old.is_first && is_none_yet (sarif_warnings report.now options.now.strict options.now.allowed warnings.now))) }
+        ensures bytes { OnOk result
+            (Adds line.old line.new (next_results self.old.is_first (sarif_warnings report.now options.now.strict options.now.allowed warnings.now))) }
+        ensures first { OnOk result
+            (self.new.is_first ≡ (self.old.is_first && is_none_yet (sarif_warnings report.now options.now.strict options.now.allowed warnings.now))) }
         ensures unread { self.new.unread ≡ self.old.unread }
     {
         for kind in &KINDS {
@@ -126,8 +136,10 @@ impl Log {
         kind: Kind,
         line: &mut Vec<u8>,
     ) -> Result<(), AllocError>
-        ensures bytes { OnOk result (Adds line.old line.new (next_results self.old.is_first (sarif_kind report.now options.now.strict options.now.allowed warnings.now kind))) }
-        ensures first { OnOk result (self.new.is_first ≡ (self.old.is_first && is_none_yet (sarif_kind report.now options.now.strict options.now.allowed warnings.now kind))) }
+        ensures bytes { OnOk result
+            (Adds line.old line.new (next_results self.old.is_first (sarif_kind report.now options.now.strict options.now.allowed warnings.now kind))) }
+        ensures first { OnOk result
+            (self.new.is_first ≡ (self.old.is_first && is_none_yet (sarif_kind report.now options.now.strict options.now.allowed warnings.now kind))) }
         ensures unread { self.new.unread ≡ self.old.unread }
     {
         match warning(kind, warnings) {
@@ -172,7 +184,8 @@ impl Log {
         name: &[u8],
         reason: &str,
     ) -> Result<(), AllocError>
-        ensures kept { OnOk result ((why : List ℕ) × SpellsString reason.now why × Adds self.old.unread self.new.unread (next_unread self.old.unread.items name.now why)) }
+        ensures kept { OnOk result
+            ((why : List ℕ) × SpellsString reason.now why × Adds self.old.unread self.new.unread (next_unread self.old.unread.items name.now why)) }
         ensures first { self.new.is_first ≡ self.old.is_first }
     {
         let why = json_string(alloc, reason.as_bytes())?;

@@ -3,7 +3,8 @@ ghost use Rattle.std.specs.Prelude.{OnOk, codes};
 ghost use Rattle.gj_json.specs.Path.{steps_of};
 ghost use Rattle.geolint_report.specs.Finding.{fault_of, warnings_of, record_of, records_of};
 ghost use Rattle.geolint_report.specs.Line.{Adds};
-ghost use Rattle.report_forms.specs.Forms.Text.{number_line, path_line, path_line_of, broken, broken_or_refused, text_fault, text_warning, text_kind, text_warnings, text_valid, text_rest, text_found, text_told};
+ghost use Rattle.report_forms.specs.Forms.Text.{number_line, path_line, path_line_of, broken, broken_or_refused, text_fault, text_warning, text_kind};
+ghost use Rattle.report_forms.specs.Forms.Text.{text_warnings, text_valid, text_rest, text_found, text_told};
 
 use crate::formats::{put_name, put_path};
 use geolint_report::judge::Finding;

@@ -1,7 +1,8 @@
 -- `geolint_records_begin_again` meets its contract: a walk of its MIR. The handle is lent for a lifetime that is made for the
 -- call of `RecordHandle::begin_again`, and comes back once it is ended.
 use Rattle.geolint_c.proofs.ExportedCalls.{ !, ℕ, [], ◌∷◌, refl, subst, lit<, w32, MutBor, proved, full_share, sep, emp, ex, ex_i, via, mono_r, id⊢, ftrue}
-use Rattle.geolint_c.proofs.ExportedCalls.{flft, flent, named, Val, vint, vptr, WpFn, fact, fact_i, tables, sem, ‵, raw, ◌⊛◌, some, later, prop, at_ret, ◌$◌, ◌∵◌}
+use Rattle.geolint_c.proofs.ExportedCalls.{flft, flent, named, Val, vint, vptr, WpFn, fact, fact_i, tables, sem, ‵, raw, ◌⊛◌, some, later, prop, at_ret, ◌$◌}
+use Rattle.geolint_c.proofs.ExportedCalls.{◌∵◌}
 use Rattle.geolint_c.proofs.ExportedCalls.{qed, done, move, keep, drop, use0, use1, use2, use3, split, join, fsplit, pick, await, regoal, suffices, group}
 use Rattle.geolint_c.proofs.ExportedCalls.{enter, of_opd, lit, bin, addr, stop, no_more, and_then, first, branches, skips, exec, returns, returns_within}
 use Rattle.geolint_c.proofs.ExportedCalls.{alloc_all, pass_all, free_all, look_at, get, through, sets, lands_as, env, lft_new, lft_end, u32, if_non_null, Body}

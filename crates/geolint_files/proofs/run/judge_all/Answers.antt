@@ -15,7 +15,8 @@ returns g c =
     let (bytes, whole, out) = c.in_ok-end.ensures.told held run.options run.style files told in
     record {
       files = files;
-      some = λ none. c.lacks_files.ensures (subst (λ (all : List ToldFile). Counts c.judge_order.new.self.summary (map finding_in all)) none told.summary) c.if-lacks_files.false;
+      some = λ none. c.lacks_files.ensures
+          (subst (λ (all : List ToldFile). Counts c.judge_order.new.self.summary (map finding_in all)) none told.summary) c.if-lacks_files.false;
       style = run.style;
       bytes = bytes;
       whole = subst (λ (options : Options). IsWholeReport options run.style files bytes) c.in_ok-run.ensures.options whole;

@@ -27,4 +27,5 @@ returns-in_default c = λ files counts tally.
     let items : List ℕ = items_summary (tallies_in files) in
     on_ok_weaker c.put_items.result (λ told.
     told ∙ (ap (λ (ys : List ℕ). ys ++ items) (c.in_ok-put.ensures (map finding_in files) counts)
-    ∙ (append_assoc start summary items ∙ ap (λ (ys : List ℕ). start ++ (summary ++ ys)) (sym (items-are c.args.every files c.in_default.not-Nothing))))) (c.put_items.ensures (tallies_in files) tally)
+    ∙ (append_assoc start summary items ∙ ap (λ (ys : List ℕ). start ++ (summary ++ ys)) (sym (items-are c.args.every files c.in_default.not-Nothing)))))
+    (c.put_items.ensures (tallies_in files) tally)

@@ -11,6 +11,8 @@ pub returns-in-Ok-clause-verdict : goal.returns-in-Ok-clause-verdict
 returns-in-Ok-clause-verdict g c =
     let lines = c.read.new.fed in
     let limits = c.new-lines.ensures.limits in
-    Judges-fed (IsWholeVerdict Lines) (one-whole c.one_finding.ensures.one) (AreLines lines) (AreDecidedLines (limits_of lines)) (limits_of lines) c.args.limits (c.read.ensures.limits ∙ limits) _ _ c.in-Ok.field-0 _
+    Judges-fed (IsWholeVerdict Lines) (one-whole c.one_finding.ensures.one) (AreLines lines) (AreDecidedLines (limits_of lines)) (limits_of lines) c.args.limits
+    (c.read.ensures.limits ∙ limits) _ _ c.in-Ok.field-0 _
     (c.in-Ok.ensures.ends (([], c.new-lines.ensures.stands), c.new-lines.ensures.framing) limits)
-    (λ read stands. let ((found, told), kind) = stands in whole-told _ _ _ _ read found _ kind refl (c.finish.ensures.told read [] found told tt)) (λ read decided. decided)
+    (λ read stands. let ((found, told), kind) = stands in whole-told _ _ _ _ read found _ kind refl (c.finish.ensures.told read [] found told tt))
+    (λ read decided. decided)

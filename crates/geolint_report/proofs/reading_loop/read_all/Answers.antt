@@ -22,15 +22,20 @@ loop-error-preserved g c =
     let fed = Consumes-trans _ _ _ read piece took c.in-Ok.ensures.bytes.0 in
     let piece_length : length piece ≡ c.in-Ok.count = length-take-le c.in-Ok.count c.read_piece.new.piece c.in-Ok.ensures.bound.0 in
     let counted : length (read ++ piece) ≡ c.loop-error.offset + c.in-Ok.count = omega (arith, count, piece_length, length-append read piece) in
-    let few : g.P.Pieces.reads c.read_piece.new.source ≤ g.P.Pieces.reads c.args.source.now + (length read + 1) = one_read _ _ _ _ read count c.read_piece.ensures.reads c.loop-error.invariant.few in
+    let few : g.P.Pieces.reads c.read_piece.new.source ≤ g.P.Pieces.reads c.args.source.now + (length read + 1) =
+    one_read _ _ _ _ read count c.read_piece.ensures.reads c.loop-error.invariant.few in
     record {
       read = (
         read ++ piece,
         fed,
         counted,
         λ begins same.
-            let stands = (follows begins same).0 in
-            (c.feed.ensures.stands read stands, inr (subst (λ (limits : Allowed). g.F.Feeds.undecided limits (read ++ piece)) (c.loop-error.invariant.limits ∙ same) (c.in-Open.ensures.open refl read stands))),
+            let stands = (follows begins same).0 in (
+              c.feed.ensures.stands read stands,
+              inr
+                  (subst (λ (limits : Allowed). g.F.Feeds.undecided limits (read ++ piece)) (c.loop-error.invariant.limits ∙ same)
+                  (c.in-Open.ensures.open refl read stands)),
+            ),
       );
       limits = c.feed.ensures.limits ∙ c.loop-error.invariant.limits;
       within = omega (arith, c.if-offset-most.false);

@@ -10,11 +10,13 @@ use Rattle.geolint_report.proofs.report.warned_places.Goals as goal
 pub returns-clause-all : goal.returns-clause-all
 returns-clause-all c = λ place told below.
     subst (λ (ys : List ℕ). Contains ys place) (sym c.sites_at.ensures.sought)
-    (each_place c.args.warnings.now c.first_places-places.result _ c.first_places-places.ensures.ten c.first_places-places.ensures.kinds c.sort_unstable.ensures.permutation place told below)
+    (each_place c.args.warnings.now c.first_places-places.result _ c.first_places-places.ensures.ten c.first_places-places.ensures.kinds
+    c.sort_unstable.ensures.permutation place told below)
 
 pub returns-clause-only : goal.returns-clause-only
 returns-clause-only c = λ place told.
-    only_places c.args.warnings.now c.first_places-places.result _ c.first_places-places.ensures.ten c.first_places-places.ensures.kinds c.first_places-places.ensures.last
+    only_places c.args.warnings.now c.first_places-places.result _ c.first_places-places.ensures.ten c.first_places-places.ensures.kinds
+    c.first_places-places.ensures.last
     c.sort_unstable.ensures.permutation place (subst (λ (ys : List ℕ). Contains ys place) c.sites_at.ensures.sought told)
 
 pub returns-clause-ordered : goal.returns-clause-ordered

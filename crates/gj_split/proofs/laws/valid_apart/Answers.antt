@@ -8,4 +8,5 @@ returns-clause-alone c = λ limits text bytes h. valid_by_itself limits.depth (s
 
 pub returns-clause-sequence : goal.returns-clause-sequence
 returns-clause-sequence c = λ limits text bytes h.
-    valid_sequence c.one_verdict.ensures.some c.one_text.ensures c.one_refusal.ensures.never_both limits.depth (split_of bytes text).valid (valid_alone limits.depth text bytes h.0)
+    valid_sequence c.one_verdict.ensures.some c.one_text.ensures c.one_refusal.ensures.never_both limits.depth (split_of bytes text).valid
+    (valid_alone limits.depth text bytes h.0)

@@ -23,13 +23,15 @@ returns-in-Ok-eq0-clause-limits g c = c.loop-turn.invariant.limits
 pub returns-in-Ok-eq0-clause-read : goal.returns-in-Ok-eq0-clause-read
 returns-in-Ok-eq0-clause-read g c = λ e bytes k s.
     let room : 0 < length c.read_at.new.piece = search rules in
-    let over : length bytes ≤ c.loop-turn.at = ended_there _ g.R.Ranges.text c.loop-turn.at c.in-Ok-eq0.field-0 c.read_at.new.piece bytes c.in-Ok-eq0.ensures.bytes k c.in-Ok-eq0.field-0-test room in
+    let over : length bytes ≤ c.loop-turn.at =
+    ended_there _ g.R.Ranges.text c.loop-turn.at c.in-Ok-eq0.field-0 c.read_at.new.piece bytes c.in-Ok-eq0.ensures.bytes k c.in-Ok-eq0.field-0-test room in
     record {
       taken = take c.loop-turn.at bytes;
       rest = drop c.loop-turn.at bytes;
       joined = sym (take-append-drop c.loop-turn.at bytes);
       stands = (c.loop-turn.invariant.read bytes k s).1;
-      end = subst (λ o. IsEndAfter (limits_of c.loop-turn.linter) (take c.loop-turn.at bytes) (drop c.loop-turn.at bytes) o) (sym c.loop-turn.invariant.running) (drop_of_length-le bytes over);
+      end = subst (λ o. IsEndAfter (limits_of c.loop-turn.linter) (take c.loop-turn.at bytes) (drop c.loop-turn.at bytes) o) (sym c.loop-turn.invariant.running)
+          (drop_of_length-le bytes over);
     }
 
 pub returns-in-None-clause-limits : goal.returns-in-None-clause-limits
@@ -44,7 +46,8 @@ returns-in-Refused-clause-limits g c = c.feed.ensures.limits ∙ c.loop-turn.inv
 pub returns-in-Refused-clause-read : goal.returns-in-Refused-clause-read
 returns-in-Refused-clause-read g c = λ e bytes k s.
     let next : c.in-Some.next ≡ c.loop-turn.at + c.in-Ok.count = c.in-Some.ensures.1 in
-    let part : StandsAt bytes c.loop-turn.at (take c.in-Ok.count c.read_at.new.piece) = part_read _ g.R.Ranges.text c.loop-turn.at c.in-Ok.count c.read_at.new.piece bytes c.in-Ok.ensures.bytes k in
+    let part : StandsAt bytes c.loop-turn.at (take c.in-Ok.count c.read_at.new.piece) =
+    part_read _ g.R.Ranges.text c.loop-turn.at c.in-Ok.count c.read_at.new.piece bytes c.in-Ok.ensures.bytes k in
     let fed = fed_more c.loop-turn.at c.in-Ok.count c.read_at.new.piece bytes c.in-Ok.ensures.bound.0 part ∙ ap (λ n. take n bytes) (sym next) in
     let stands = (c.loop-turn.invariant.read bytes k s).1 in
     record {
@@ -54,7 +57,8 @@ returns-in-Refused-clause-read g c = λ e bytes k s.
       stands = subst (λ xs. StandsFor g.S.FeatureSink.told c.feed.new.self xs) fed (c.feed.ensures.stands (take c.loop-turn.at bytes) stands);
       end = subst (λ o. IsEndAfter (limits_of c.feed.new.self) (take c.in-Some.next bytes) (drop c.in-Some.next bytes) o) (sym c.in-Refused.ensures.refusal)
           (subst (λ (l : Allowed). (more : List ℕ) → IsRefusal l (take c.in-Some.next bytes ++ more) c.in-Refused._fault) (sym c.feed.ensures.limits)
-          (subst (λ xs. (more : List ℕ) → IsRefusal (limits_of c.loop-turn.linter) (xs ++ more) c.in-Refused._fault) fed (c.in-Refused.ensures.answer (take c.loop-turn.at bytes) stands)));
+          (subst (λ xs. (more : List ℕ) → IsRefusal (limits_of c.loop-turn.linter) (xs ++ more) c.in-Refused._fault) fed
+          (c.in-Refused.ensures.answer (take c.loop-turn.at bytes) stands)));
     }
 
 pub returns-then-has_stopped-clause-limits : goal.returns-then-has_stopped-clause-limits
@@ -70,7 +74,8 @@ loop-turn-preserved g c =
       limits = c.feed.ensures.limits ∙ c.loop-turn.invariant.limits;
       running = c.in-Open.ensures.refusal;
       read = λ bytes k s.
-          let part : StandsAt bytes c.loop-turn.at (take c.in-Ok.count c.read_at.new.piece) = part_read _ g.R.Ranges.text c.loop-turn.at c.in-Ok.count c.read_at.new.piece bytes c.in-Ok.ensures.bytes k in
+          let part : StandsAt bytes c.loop-turn.at (take c.in-Ok.count c.read_at.new.piece) =
+          part_read _ g.R.Ranges.text c.loop-turn.at c.in-Ok.count c.read_at.new.piece bytes c.in-Ok.ensures.bytes k in
           let fed = fed_more c.loop-turn.at c.in-Ok.count c.read_at.new.piece bytes c.in-Ok.ensures.bound.0 part ∙ ap (λ n. take n bytes) (sym next) in
           let before = c.loop-turn.invariant.read bytes k s in (
             subst (λ n. n ≤ length bytes) (sym next) (within_more c.loop-turn.at c.in-Ok.count c.read_at.new.piece bytes before.0 c.in-Ok.ensures.bound.0 part),

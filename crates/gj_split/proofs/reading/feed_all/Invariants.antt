@@ -6,5 +6,6 @@ abbrev pub invariant-loop-turn : goal.invariant-loop-turn
 invariant-loop-turn g l = record {
   limits : limits_of l.linter ≡ limits_of l.initial.linter;
   running : refusal_of l.linter ≡ None;
-  read : (bytes : List ℕ) → g.R.Ranges.text ≡ Some bytes → StandsFor g.S.FeatureSink.told l.initial.linter [] → (l.at ≤ length bytes) × StandsFor g.S.FeatureSink.told l.linter (take l.at bytes);
+  read : (bytes : List ℕ) → g.R.Ranges.text ≡ Some bytes → StandsFor g.S.FeatureSink.told l.initial.linter [] → (l.at ≤ length bytes)
+      × StandsFor g.S.FeatureSink.told l.linter (take l.at bytes);
 }

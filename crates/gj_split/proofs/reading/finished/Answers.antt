@@ -8,7 +8,9 @@ pub returns-clause-verdict : goal.returns-clause-verdict
 returns-clause-verdict g c = ok_gives c.end.result.outcome c.finish-verdict.result.0 _ _ c.end.ensures.outcome c.finish-verdict.ensures.verdict
 
 pub returns-clause-refused : goal.returns-clause-refused
-returns-clause-refused g c = λ fault e. ok_gives c.end.result.outcome c.finish-verdict.result.0 _ (λ v. v ≡ Verdict.NotJson fault) c.end.ensures.outcome (c.finish-verdict.ensures.again fault e)
+returns-clause-refused g c =
+    λ fault e. ok_gives c.end.result.outcome c.finish-verdict.result.0 _ (λ v. v ≡ Verdict.NotJson fault) c.end.ensures.outcome
+    (c.finish-verdict.ensures.again fault e)
 
 pub returns-clause-apart : goal.returns-clause-apart
 returns-clause-apart g c = ok_on c.end.result.outcome c.finish-verdict.result.0 _ _ c.end.ensures.outcome (λ e bytes text k s a.

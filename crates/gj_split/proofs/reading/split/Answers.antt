@@ -36,7 +36,8 @@ returns-in-None-clause-sequence g c =
     let apart = h bytes text k.source_bytes
     (whole_read _ c.feed_all.new.linter c.args.limits same c.one_refusal.ensures.never_both bytes text
     (c.in-None.ensures.read refl bytes k.source_bytes (c.new-linter.ensures.stands (c.new.ensures.held bytes k))) admitted) admitted in
-    subst (λ xs. IsValidSequence c.args.limits.depth (length (split_of bytes text).valid) xs) (same_held _ held (sym apart.valid_records ∙ e)) (c.valid_apart.ensures.sequence c.args.limits text bytes a))
+    subst (λ xs. IsValidSequence c.args.limits.depth (length (split_of bytes text).valid) xs) (same_held _ held (sym apart.valid_records ∙ e))
+    (c.valid_apart.ensures.sequence c.args.limits text bytes a))
 
 pub returns-in-Some-clause-verdict : goal.returns-in-Some-clause-verdict
 returns-in-Some-clause-verdict g c = err_gives c.stopped.result.outcome _ c.stopped.ensures

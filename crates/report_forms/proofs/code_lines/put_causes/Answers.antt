@@ -11,7 +11,8 @@ use Rattle.report_forms.proofs.code_lines.put_causes.Goals as goal
 pub loop-cause-preserved : goal.loop-cause-preserved
 loop-cause-preserved c = record {
   done = λ count are.
-      one-more (λ (cause : Cause). code_line count (Code.Cause cause)) causes c.loop-cause.cause-index Syntax _ _ _ c.loop-cause-test.true (c.loop-cause.invariant.done count are)
+      one-more (λ (cause : Cause). code_line count (Code.Cause cause)) causes c.loop-cause.cause-index Syntax _ _ _ c.loop-cause-test.true
+      (c.loop-cause.invariant.done count are)
       (c.in_ok-put_code.ensures (cause-slot (get_or causes c.loop-cause.cause-index Syntax)) count are);
 }
 

@@ -8,5 +8,6 @@ use Rattle.report_forms.proofs.code_lines.put_causes.Given as goal
 -- the lines of those before this one are there
 abbrev pub invariant-loop-cause : goal.invariant-loop-cause
 invariant-loop-cause l = record {
-  done : (count : Code → ℕ) → AreCounts l.counts count → l.line.items ≡ l.initial.line.items ++ flat_map (λ (cause : Cause). code_line count (Code.Cause cause)) (take l.cause-index causes);
+  done : (count : Code → ℕ) → AreCounts l.counts count
+      → l.line.items ≡ l.initial.line.items ++ flat_map (λ (cause : Cause). code_line count (Code.Cause cause)) (take l.cause-index causes);
 }

@@ -11,5 +11,6 @@ returns c = λ count are.
     let rest1 : List ℕ = part2 ++ rest2 in
     let part1 : List ℕ = rule_lines count in
     behind c.put_causes.result c.args.line.now.items c.put_rules.new.line.items c.put_causes.new.line.items part1 rest1 (c.in_ok-put_rules.ensures count are)
-    (behind c.put_causes.result c.put_rules.new.line.items c.put_kinds.new.line.items c.put_causes.new.line.items part2 rest2 (c.in_ok-put_kinds.ensures count are)
+    (behind c.put_causes.result c.put_rules.new.line.items c.put_kinds.new.line.items c.put_causes.new.line.items part2 rest2
+    (c.in_ok-put_kinds.ensures count are)
     (c.put_causes.ensures count are))

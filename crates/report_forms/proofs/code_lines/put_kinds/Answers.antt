@@ -12,7 +12,8 @@ use Rattle.report_forms.proofs.code_lines.put_kinds.Goals as goal
 pub loop-kind-preserved : goal.loop-kind-preserved
 loop-kind-preserved c = record {
   done = λ count are.
-      one-more (λ (kind : Kind). code_line count (Code.Kind kind)) kinds c.loop-kind.kind-index W1 _ _ _ c.loop-kind-test.true (c.loop-kind.invariant.done count are)
+      one-more (λ (kind : Kind). code_line count (Code.Kind kind)) kinds c.loop-kind.kind-index W1 _ _ _ c.loop-kind-test.true
+      (c.loop-kind.invariant.done count are)
       (c.in_ok-put_code.ensures (kind-slot (get_or kinds c.loop-kind.kind-index W1)) count are);
 }
 

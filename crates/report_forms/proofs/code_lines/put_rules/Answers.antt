@@ -11,7 +11,8 @@ use Rattle.report_forms.proofs.code_lines.put_rules.Goals as goal
 pub loop-rule-preserved : goal.loop-rule-preserved
 loop-rule-preserved c = record {
   done = λ count are.
-      one-more (λ (rule : Rule). code_line count (Code.Rule rule)) rules c.loop-rule.rule-index G1 _ _ _ c.loop-rule-test.true (c.loop-rule.invariant.done count are)
+      one-more (λ (rule : Rule). code_line count (Code.Rule rule)) rules c.loop-rule.rule-index G1 _ _ _ c.loop-rule-test.true
+      (c.loop-rule.invariant.done count are)
       (c.in_ok-put_code.ensures (rule-slot (get_or rules c.loop-rule.rule-index G1)) count are);
 }
 

@@ -9,7 +9,8 @@ pub loop-chunk-init : goal.loop-chunk-init
 unfolding shown_name
 loop-chunk-init c =
     let name = c.args.name.now in
-    let all : utf8_chunks_rest c.into_iter-chunk-iterator.result ≡ name = ap utf8_chunks_rest c.into_iter-chunk-iterator.ensures.into_iter_gives ∙ c.utf8_chunks-chunk-items.ensures.rest in
+    let all : utf8_chunks_rest c.into_iter-chunk-iterator.result ≡ name =
+    ap utf8_chunks_rest c.into_iter-chunk-iterator.ensures.into_iter_gives ∙ c.utf8_chunks-chunk-items.ensures.rest in
     record {
       most = length name;
       enough = omega (arith, ap (λ (bytes : List ℕ). length bytes) all);
@@ -17,7 +18,8 @@ loop-chunk-init c =
     }
 
 -- what is behind two more parts
-joined : (old middle new text numbers rest all start shown : List ℕ) → middle ≡ old ++ text → new ≡ middle ++ numbers → all ≡ text ++ (numbers ++ rest) → old ++ all ≡ start ++ shown
+joined : (old middle new text numbers rest all start shown : List ℕ) → middle ≡ old ++ text → new ≡ middle ++ numbers → all ≡ text ++ (numbers ++ rest)
+    → old ++ all ≡ start ++ shown
     → new ++ rest ≡ start ++ shown
 joined old middle new text numbers rest all start shown first second parts before =
     ap (λ (ys : List ℕ). ys ++ rest) (second ∙ ap (λ (ys : List ℕ). ys ++ numbers) first)
@@ -30,11 +32,13 @@ loop-chunk-preserved c =
     record {
       most = more.0;
       enough = more.1;
-      done = joined _ _ _ _ _ _ _ c.args.line.now.items (shown_name c.args.name.now) (c.in_ok-put_text.ensures ∙ ap (λ (text : List ℕ). c.loop-chunk.line.items ++ shown_text text) c.valid.ensures)
+      done = joined _ _ _ _ _ _ _ c.args.line.now.items (shown_name c.args.name.now)
+          (c.in_ok-put_text.ensures ∙ ap (λ (text : List ℕ). c.loop-chunk.line.items ++ shown_text text) c.valid.ensures)
           (c.in_ok-put_numbers.ensures ∙ ap (λ (bytes : List ℕ). c.put_text.new.line.items ++ flat_map by_number bytes) c.invalid.ensures)
           more.2 c.loop-chunk.invariant.done;
     }
 
 pub returns : goal.returns
 returns c = sym (append-nil _)
-    ∙ (ap (λ (bytes : List ℕ). c.loop-chunk.line.items ++ bytes) (sym (shown_nothing c.loop-chunk.invariant.most _ c.in-None.ensures.steps.0)) ∙ c.loop-chunk.invariant.done)
+    ∙ (ap (λ (bytes : List ℕ). c.loop-chunk.line.items ++ bytes) (sym (shown_nothing c.loop-chunk.invariant.most _ c.in-None.ensures.steps.0))
+    ∙ c.loop-chunk.invariant.done)

@@ -8,5 +8,6 @@ use Rattle.report_forms.proofs.formats.put_text.Goals as goal
 pub returns : goal.returns
 unfolding shown_text
 returns c =
-    let end = YieldsList-end (YieldsList-from_chars c.args.text.now c.utf8.text cc) c.loop-c.yielded _ c.loop-c.yielded_by _ _ c.in-None.is c.next.ensures.steps in
+    let end = YieldsList-end
+    (YieldsList-from_chars c.args.text.now c.utf8.text cc) c.loop-c.yielded _ c.loop-c.yielded_by _ _ c.in-None.is c.next.ensures.steps in
     c.loop-c.invariant.done ∙ ap (λ (cs : List ℕ). c.args.line.now.items ++ flat_map shown_char cs) (sym (map-id c.loop-c.yielded) ∙ end.0)

@@ -16,5 +16,6 @@ returns c = λ tallies is.
     let broken = total (λ (one : Tally). one.broken) tallies in
     let count : Code → ℕ = λ (code : Code). total (count_of code) tallies in
     behind c.put_codes.result start c.put_items_line.new.line.items c.put_codes.new.line.items (items_line items broken) (code_lines count)
-    (c.in_ok-put_items_line.ensures ∙ ap (λ (ys : List ℕ). start ++ ys) (ap (λ (n : ℕ). items_line n tally.broken) is.items ∙ ap (λ (n : ℕ). items_line items n) is.broken))
+    (c.in_ok-put_items_line.ensures
+    ∙ ap (λ (ys : List ℕ). start ++ ys) (ap (λ (n : ℕ). items_line n tally.broken) is.items ∙ ap (λ (n : ℕ). items_line items n) is.broken))
     (c.put_codes.ensures count is.codes)

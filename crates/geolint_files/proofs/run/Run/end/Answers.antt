@@ -23,8 +23,10 @@ returns-clause-told g c = λ held options style files has.
     ∙ ap (λ (given : Options). end_of given.format old.log.unread.items) has.options_are ∙ ap (end_of options.format) has.unread in
     let ended : Appends (contents old.out) (contents wrote.out) end =
     subst (Appends (contents old.out) (contents wrote.out)) line
-    (subst (λ (out : g.row.W.Denot). Appends (contents out) (contents wrote.out) c.put_end.new.self.line.items) c.put_end.ensures.out c.in_ok-write.ensures.out) in
-    let counts = subst (λ (counted : Summary). Counts counted (map finding_in files)) (sym (c.write.ensures.same.summary ∙ c.put_end.ensures.same.summary)) has.summary in
+    (subst (λ (out : g.row.W.Denot). Appends (contents out) (contents wrote.out) c.put_end.new.self.line.items) c.put_end.ensures.out
+    c.in_ok-write.ensures.out) in
+    let counts = subst (λ (counted : Summary). Counts counted (map finding_in files))
+    (sym (c.write.ensures.same.summary ∙ c.put_end.ensures.same.summary)) has.summary in
     let tallied = subst (λ (tally : Tally). IsTotal tally (tallies_in files)) (sym (c.write.ensures.same.tally ∙ c.put_end.ensures.same.tally)) has.tally in
     let summed : Appends (contents wrote.out) (contents told.out) summary =
     subst (λ (given : Options). Appends (contents wrote.out) (contents told.out) (summary_in given files))

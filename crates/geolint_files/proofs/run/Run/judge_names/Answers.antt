@@ -4,7 +4,8 @@ use Rattle.geolint_files.proofs.run.Run.judge_names.Goals as goal
 
 pub returns-in-Err : goal.returns-in-Err
 returns-in-Err g c =
-    on_ok_weaker c.tell_unread.result (λ told. TellsFiles-then g.W.Write.contents c.args.self.now c.loop.self c.tell_unread.new.self c.loop.invariant told) c.tell_unread.ensures.some
+    on_ok_weaker c.tell_unread.result
+    (λ told. TellsFiles-then g.W.Write.contents c.args.self.now c.loop.self c.tell_unread.new.self c.loop.invariant told) c.tell_unread.ensures.some
 
 pub loop-preserved : goal.loop-preserved
 loop-preserved g c = TellsFiles-then g.W.Write.contents c.args.self.now c.loop.self c.judge_listed.new.self c.loop.invariant c.in_ok-judge_listed-in-Ok.ensures

@@ -13,11 +13,21 @@ returns-in-Ok g c =
     let old = c.args.self.now in
     let finding = c.in-Ok.finding in
     let left = g.S.Source.remaining c.judge.new.reader in
-    let found = subst (λ (reading : Reading). Finds reading old.options.limits (g.S.Source.remaining c.args.source.now) left finding) c.reading-reading.ensures c.in-Ok.ensures.found in
+    let found = subst (λ (reading : Reading). Finds reading old.options.limits (g.S.Source.remaining c.args.source.now) left finding) c.reading-reading.ensures
+    c.in-Ok.ensures.found in
     on_ok_weaker c.tell.result (λ told. (
-      judged (record { name = c.args.name; finding = finding; sites = None; passes = passes old.options.strict old.options.allowed finding; found = None; hint = None }),
+      judged (record {
+        name = c.args.name;
+        finding = finding;
+        sites = None;
+        passes = passes old.options.strict old.options.allowed finding;
+        found = None;
+        hint =
+            None;
+      }),
       (refl, refl, refl, c.in-Ok.ensures.failed, (left, found)),
-      TellsFile-after g.W.Write.contents _ old _ c.tell.new.self (record { same = record { options = refl; style = refl; outcome = refl; summary = refl; tally = refl }; out = refl; log = refl; line = refl }) told,
+      TellsFile-after g.W.Write.contents _ old _ c.tell.new.self
+          (record { same = record { options = refl; style = refl; outcome = refl; summary = refl; tally = refl }; out = refl; log = refl; line = refl }) told,
     )) c.tell.ensures
 
 pub returns-in-Err : goal.returns-in-Err
@@ -25,5 +35,6 @@ returns-in-Err g c =
     on_ok_weaker c.tell_unread.result (λ told. (
       not_read c.args.name.now told.0,
       (refl, c.in-Err.ensures.failed),
-      TellsFile-after g.W.Write.contents _ c.args.self.now _ c.tell_unread.new.self (record { same = record { options = refl; style = refl; outcome = refl; summary = refl; tally = refl }; out = refl; log = refl; line = refl }) told.1,
+      TellsFile-after g.W.Write.contents _ c.args.self.now _ c.tell_unread.new.self
+          (record { same = record { options = refl; style = refl; outcome = refl; summary = refl; tally = refl }; out = refl; log = refl; line = refl }) told.1,
     )) c.tell_unread.ensures.told

@@ -3,7 +3,9 @@ use Rattle.geolint_files.proofs.ToldFiles.{TellsFiles-one}
 use Rattle.geolint_files.proofs.run.Run.judge_stream.Goals as goal
 
 pub returns-in-Some : goal.returns-in-Some
-returns-in-Some g c = on_ok_weaker c.list_once.result (λ told. TellsFiles-one g.W.Write.contents told.0 c.args.self.now c.list_once.new.self told.2) c.list_once.ensures
+returns-in-Some g c =
+    on_ok_weaker c.list_once.result (λ told. TellsFiles-one g.W.Write.contents told.0 c.args.self.now c.list_once.new.self told.2) c.list_once.ensures
 
 pub returns : goal.returns
-returns g c = on_ok_weaker c.judge_once.result (λ told. TellsFiles-one g.W.Write.contents told.0 c.args.self.now c.judge_once.new.self told.2) c.judge_once.ensures
+returns g c = on_ok_weaker c.judge_once.result
+    (λ told. TellsFiles-one g.W.Write.contents told.0 c.args.self.now c.judge_once.new.self told.2) c.judge_once.ensures

@@ -21,12 +21,17 @@ returns-in-Ok g c =
     let (report, name, finding, sites, tells) = told in
     let found = subst (λ (reading : Reading). Finds reading limits had left report.finding) c.reading-reading.ensures
     (subst (λ (given : Finding). Finds c.reading-reading.result limits had left given) (sym finding) c.in-Ok.ensures.found) in
-    let with_sites = subst (λ (reading : Reading). HasSites reading limits (g.S.Source.text c.args.source.now) (failed_reads c.args.source.now) (failed_reads after) report) c.reading-reading.ensures
-    (subst (λ (text : Option (List ℕ)). HasSites c.reading-reading.result limits text (failed_reads c.args.source.now) (failed_reads after) report) c.in-Ok.ensures.text
-    (subst (λ (failed : ℕ). HasSites c.reading-reading.result limits (g.S.Source.text c.judge.new.reader) failed (failed_reads after) report) c.in-Ok.ensures.failed sites)) in (
+    let with_sites = subst
+    (λ (reading : Reading). HasSites reading limits (g.S.Source.text c.args.source.now) (failed_reads c.args.source.now) (failed_reads after) report)
+    c.reading-reading.ensures
+    (subst (λ (text : Option (List ℕ)). HasSites c.reading-reading.result limits text (failed_reads c.args.source.now) (failed_reads after) report)
+    c.in-Ok.ensures.text
+    (subst (λ (failed : ℕ). HasSites c.reading-reading.result limits (g.S.Source.text c.judge.new.reader) failed (failed_reads after) report)
+    c.in-Ok.ensures.failed sites)) in (
       judged report,
       (name, (left, found), with_sites),
-      TellsFile-after g.W.Write.contents _ old _ c.tell_found.new.self (record { same = record { options = refl; style = refl; outcome = refl; summary = refl; tally = refl }; out = refl; log = refl; line = refl }) tells,
+      TellsFile-after g.W.Write.contents _ old _ c.tell_found.new.self
+          (record { same = record { options = refl; style = refl; outcome = refl; summary = refl; tally = refl }; out = refl; log = refl; line = refl }) tells,
     )) c.tell_found.ensures.told
 
 pub returns-in-Err : goal.returns-in-Err
@@ -34,5 +39,6 @@ returns-in-Err g c =
     on_ok_weaker c.tell_unread.result (λ told. (
       not_read c.args.name.now told.0,
       (refl, c.in-Err.ensures.failed),
-      TellsFile-after g.W.Write.contents _ c.args.self.now _ c.tell_unread.new.self (record { same = record { options = refl; style = refl; outcome = refl; summary = refl; tally = refl }; out = refl; log = refl; line = refl }) told.1,
+      TellsFile-after g.W.Write.contents _ c.args.self.now _ c.tell_unread.new.self
+          (record { same = record { options = refl; style = refl; outcome = refl; summary = refl; tally = refl }; out = refl; log = refl; line = refl }) told.1,
     )) c.tell_unread.ensures.told

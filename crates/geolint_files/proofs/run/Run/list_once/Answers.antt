@@ -25,14 +25,31 @@ returns-in-Some g c =
     let failed = g.S.Source.failed_reads c.args.source.now in
     let left = g.S.Source.remaining c.judge_every.new.reader in
     let asked = asked-every old.options (reading_of old.options c.args.name.now) c.args.asked c.requires in
-    let slow : reading ≡ Reading.Quick → ⊥ = λ quick. asked-slowly (reading_of old.options c.args.name.now) (asked_in old.options) c.args.asked c.requires (sym c.reading-reading.ensures ∙ quick) in
-    let report : Report = record { name = c.args.name; finding = finding; sites = None; passes = passes old.options.strict old.options.allowed finding; found = None; hint = None } in
+    let slow : reading ≡ Reading.Quick → ⊥ =
+    λ quick. asked-slowly (reading_of old.options c.args.name.now) (asked_in old.options) c.args.asked c.requires (sym c.reading-reading.ensures ∙ quick) in
+    let report : Report =
+    record {
+      name = c.args.name;
+      finding = finding;
+      sites = None;
+      passes = passes old.options.strict old.options.allowed finding;
+      found = None;
+      hint =
+          None;
+    } in
     on_ok_weaker c.list_unplaced.result (λ told.
     let (lines, are, tells) = told in (
       listed report lines notes.tally,
-      subst (λ (r : Reading). IsListedOnce r c.args.asked limits c.args.name.now had failed (g.S.Source.failed_reads c.judge_every.new.reader) (listed report lines notes.tally)) c.reading-reading.ensures
-          (refl, refl, c.in-Ok.ensures.failed, (left, c.in-Ok.ensures.found slow), (notes.notes.items, notes.count, kept (framing_in reading) limits had c.in-Ok.ensures.listed, are)),
-      TellsFile-after g.W.Write.contents _ old _ c.list_unplaced.new.self (record { same = record { options = refl; style = refl; outcome = refl; summary = refl; tally = refl }; out = refl; log = refl; line = refl }) tells,
+      subst (λ (r : Reading). IsListedOnce r c.args.asked limits c.args.name.now had failed (g.S.Source.failed_reads c.judge_every.new.reader)
+          (listed report lines notes.tally)) c.reading-reading.ensures (
+            refl,
+            refl,
+            c.in-Ok.ensures.failed,
+            (left, c.in-Ok.ensures.found slow),
+            (notes.notes.items, notes.count, kept (framing_in reading) limits had c.in-Ok.ensures.listed, are),
+          ),
+      TellsFile-after g.W.Write.contents _ old _ c.list_unplaced.new.self
+          (record { same = record { options = refl; style = refl; outcome = refl; summary = refl; tally = refl }; out = refl; log = refl; line = refl }) tells,
     )) (c.list_unplaced.ensures asked)
 
 pub returns-in-None : goal.returns-in-None
@@ -44,13 +61,25 @@ returns-in-None g c =
     let had = g.S.Source.remaining c.args.source.now in
     let failed = g.S.Source.failed_reads c.args.source.now in
     let left = g.S.Source.remaining c.judge_every.new.reader in
-    let slow : reading ≡ Reading.Quick → ⊥ = λ quick. asked-slowly (reading_of old.options c.args.name.now) (asked_in old.options) c.args.asked c.requires (sym c.reading-reading.ensures ∙ quick) in
-    let report : Report = record { name = c.args.name; finding = finding; sites = None; passes = passes old.options.strict old.options.allowed finding; found = None; hint = None } in
+    let slow : reading ≡ Reading.Quick → ⊥ =
+    λ quick. asked-slowly (reading_of old.options c.args.name.now) (asked_in old.options) c.args.asked c.requires (sym c.reading-reading.ensures ∙ quick) in
+    let report : Report =
+    record {
+      name = c.args.name;
+      finding = finding;
+      sites = None;
+      passes = passes old.options.strict old.options.allowed finding;
+      found = None;
+      hint =
+          None;
+    } in
     on_ok_weaker c.tell.result (λ told. (
       judged report,
-      subst (λ (r : Reading). IsListedOnce r c.args.asked limits c.args.name.now had failed (g.S.Source.failed_reads c.judge_every.new.reader) (judged report)) c.reading-reading.ensures
+      subst (λ (r : Reading). IsListedOnce r c.args.asked limits c.args.name.now had failed (g.S.Source.failed_reads c.judge_every.new.reader) (judged report))
+          c.reading-reading.ensures
           (refl, refl, refl, c.in-Ok.ensures.failed, (left, c.in-Ok.ensures.found slow)),
-      TellsFile-after g.W.Write.contents _ old _ c.tell.new.self (record { same = record { options = refl; style = refl; outcome = refl; summary = refl; tally = refl }; out = refl; log = refl; line = refl }) told,
+      TellsFile-after g.W.Write.contents _ old _ c.tell.new.self
+          (record { same = record { options = refl; style = refl; outcome = refl; summary = refl; tally = refl }; out = refl; log = refl; line = refl }) told,
     )) c.tell.ensures
 
 pub returns-in-Err : goal.returns-in-Err
@@ -58,5 +87,6 @@ returns-in-Err g c =
     on_ok_weaker c.tell_unread.result (λ told. (
       not_read c.args.name.now told.0,
       (refl, c.in-Err.ensures.failed),
-      TellsFile-after g.W.Write.contents _ c.args.self.now _ c.tell_unread.new.self (record { same = record { options = refl; style = refl; outcome = refl; summary = refl; tally = refl }; out = refl; log = refl; line = refl }) told.1,
+      TellsFile-after g.W.Write.contents _ c.args.self.now _ c.tell_unread.new.self
+          (record { same = record { options = refl; style = refl; outcome = refl; summary = refl; tally = refl }; out = refl; log = refl; line = refl }) told.1,
     )) c.tell_unread.ensures.told

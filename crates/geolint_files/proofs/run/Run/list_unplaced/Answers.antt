@@ -5,5 +5,11 @@ use Rattle.geolint_files.proofs.run.Run.list_unplaced.Goals as goal
 pub returns : goal.returns
 returns g c = λ asked.
     on_ok_weaker c.tell_unplaced.result (λ told.
-    let (lines, are, tells) = told in
-    (lines, are, TellsFile-listed g.W.Write.contents _ lines c.args.notes.now.tally c.args.self.now c.tell.new.self _ c.tell_unplaced.new.self asked c.in_ok-tell.ensures (record { options = refl; style = refl; outcome = refl; summary = refl; out = refl; log = refl; line = refl; adds = c.add.ensures }) tells)) c.tell_unplaced.ensures
+    let (lines, are, tells) = told in (
+      lines,
+      are,
+      TellsFile-listed g.W.Write.contents _ lines c.args.notes.now.tally c.args.self.now c.tell.new.self _ c.tell_unplaced.new.self asked
+          c.in_ok-tell.ensures
+          (record { options = refl; style = refl; outcome = refl; summary = refl; out = refl; log = refl; line = refl; adds = c.add.ensures }) tells,
+    ))
+    c.tell_unplaced.ensures

@@ -12,7 +12,8 @@ returns g c =
     elim c.if-is_file.branch [
       | then-is_file+in_ok-add w ↦
           subst (λ (run : Run g.row.W.Denot). TellsFiles contents old run) (sym w.self-is)
-          (TellsFiles-none contents old (record old { others = w.add.new.self }) (record { same = record { options = refl; style = refl; outcome = refl; summary = refl; tally = refl }; out = refl; log = refl; line = refl }))
+          (TellsFiles-none contents old (record old { others = w.add.new.self })
+          (record { same = record { options = refl; style = refl; outcome = refl; summary = refl; tally = refl }; out = refl; log = refl; line = refl }))
       | else-is_file w ↦
           subst (λ (run : Run g.row.W.Denot). TellsFiles contents old run) (sym w.self-is) (TellsFiles-none contents old old (unchanged old))
     ]

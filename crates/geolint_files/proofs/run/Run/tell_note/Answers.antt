@@ -22,7 +22,8 @@ returns g c =
       };
       told = told;
       out = λ none. subst (Appends (contents old.out) (contents new.out)) (added ∙ ap (λ (line : List ℕ). line ++ told) none)
-          (subst (λ (out : g.row.W.Denot). Appends (contents out) (contents new.out) c.put_entry.new.self.line.items) c.put_entry.ensures.out c.in_ok-write.ensures.out);
+          (subst (λ (out : g.row.W.Denot). Appends (contents out) (contents new.out) c.put_entry.new.self.line.items) c.put_entry.ensures.out
+          c.in_ok-write.ensures.out);
       line_is = c.in_ok-write.ensures.line;
       adds = λ bytes. record {
         told = told;

@@ -12,7 +12,8 @@ returns-then-count-eq0 g c =
     let notes = c.args.notes.now in
     let none : 0 ≡ notes.count - length notes.notes.items = omega (arith, c.others-count.ensures, c.if-count-eq0.true) in
     on_ok c.show.result (subst (λ (n : ℕ). TellsLines g.W.Write.contents (others_of c.args.name.now n) old c.show.new.self) none
-    (TellsLines-none g.W.Write.contents old c.show.new.self (record { same = c.show.ensures.same; log = c.show.ensures.log; line = c.show.ensures.line; out = c.show.ensures.out })))
+    (TellsLines-none g.W.Write.contents old c.show.new.self
+    (record { same = c.show.ensures.same; log = c.show.ensures.log; line = c.show.ensures.line; out = c.show.ensures.out })))
 
 pub returns-else-count-eq0 : goal.returns-else-count-eq0
 returns-else-count-eq0 g c =
@@ -21,4 +22,5 @@ returns-else-count-eq0 g c =
     let new = c.tell_more.new.self in
     on_ok_weaker c.tell_more.result (λ told.
     subst (λ (n : ℕ). TellsLines g.W.Write.contents (others_of name n) old new) c.others-count.ensures
-    (subst (λ lines. TellsLines g.W.Write.contents lines old new) (sym (others_of-some name c.others-count.result (omega (arith, c.if-count-eq0.false)))) told)) c.tell_more.ensures
+    (subst (λ lines. TellsLines g.W.Write.contents lines old new) (sym (others_of-some name c.others-count.result (omega (arith, c.if-count-eq0.false)))) told))
+    c.tell_more.ensures

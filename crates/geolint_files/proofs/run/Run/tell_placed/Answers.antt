@@ -22,7 +22,10 @@ loop-note-preserved g c =
     let stand = subst (λ (text : Option (List ℕ)). StandBy c.args.framing text c.loop-note.cursors) (sym here) c.loop-note.invariant.stand in
     let (entry, name, note, placed, tells) = c.in_ok-tell_at.ensures.told c.args.framing stand in
     record {
-      told = more-told-in g.W.Write.contents (IsPlaced c.args.framing text) c.args.name.now c.deref-note-items.result.now c.args.notes.now.notes.items c.loop-note.note-index _ (feature_line entry) c.args.self.now c.loop-note.self c.tell_at.new.self c.deref-note-items.ensures.value c.loop-note-test.true c.loop-note.invariant.told
+      told = more-told-in g.W.Write.contents
+          (IsPlaced c.args.framing text) c.args.name.now c.deref-note-items.result.now c.args.notes.now.notes.items c.loop-note.note-index _
+          (feature_line entry) c.args.self.now c.loop-note.self c.tell_at.new.self c.deref-note-items.ensures.value c.loop-note-test.true
+          c.loop-note.invariant.told
           (name, note, subst (λ (t : Option (List ℕ)). IsPlaced c.args.framing t entry) here placed) tells;
       stand = subst (λ (text : Option (List ℕ)). StandBy c.args.framing text c.tell_at.new.cursors) here (c.tell_at.ensures.stand c.args.framing stand);
       text = c.tell_at.ensures.text ∙ here;
@@ -35,4 +38,6 @@ returns g c =
     let right = IsPlaced c.args.framing (g.S.Source.text c.args.source.now) in
     on_ok_weaker c.tell_others.result (λ others.
     all-told g.W.Write.contents right name notes.notes.items notes.count c.args.self.now c.loop-note.self c.tell_others.new.self
-    (whole-told g.W.Write.contents right name notes.notes.items c.loop-note.note-index c.args.self.now c.loop-note.self (omega (arith, c.loop-note-test.false, ap (λ (ns : List Note). length ns) c.deref-note-items.ensures.value)) c.loop-note.invariant.told) others) c.tell_others.ensures
+    (whole-told g.W.Write.contents right name notes.notes.items c.loop-note.note-index c.args.self.now c.loop-note.self
+    (omega (arith, c.loop-note-test.false, ap (λ (ns : List Note). length ns) c.deref-note-items.ensures.value)) c.loop-note.invariant.told) others)
+    c.tell_others.ensures

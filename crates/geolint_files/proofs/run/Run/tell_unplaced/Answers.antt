@@ -10,7 +10,8 @@ loop-note-init g c = none-told g.W.Write.contents IsUnplaced c.args.name.now c.a
 
 pub loop-note-preserved : goal.loop-note-preserved
 loop-note-preserved g c =
-    more-told-in g.W.Write.contents IsUnplaced c.args.name.now c.deref-note-items.result.now c.args.notes.now.notes.items c.loop-note.note-index _ _ c.args.self.now c.loop-note.self c.tell_note.new.self c.deref-note-items.ensures.value c.loop-note-test.true c.loop-note.invariant
+    more-told-in g.W.Write.contents IsUnplaced c.args.name.now c.deref-note-items.result.now c.args.notes.now.notes.items c.loop-note.note-index _ _
+    c.args.self.now c.loop-note.self c.tell_note.new.self c.deref-note-items.ensures.value c.loop-note-test.true c.loop-note.invariant
     (refl, refl, (refl, refl)) c.in_ok-tell_note.ensures
 
 pub returns : goal.returns
@@ -19,4 +20,6 @@ returns g c =
     let notes = c.args.notes.now in
     on_ok_weaker c.tell_others.result (λ others.
     all-told g.W.Write.contents IsUnplaced name notes.notes.items notes.count c.args.self.now c.loop-note.self c.tell_others.new.self
-    (whole-told g.W.Write.contents IsUnplaced name notes.notes.items c.loop-note.note-index c.args.self.now c.loop-note.self (omega (arith, c.loop-note-test.false, ap (λ (ns : List Note). length ns) c.deref-note-items.ensures.value)) c.loop-note.invariant) others) c.tell_others.ensures
+    (whole-told g.W.Write.contents IsUnplaced name notes.notes.items c.loop-note.note-index c.args.self.now c.loop-note.self
+    (omega (arith, c.loop-note-test.false, ap (λ (ns : List Note). length ns) c.deref-note-items.ensures.value)) c.loop-note.invariant) others)
+    c.tell_others.ensures

@@ -7,4 +7,5 @@ use Rattle.geolint_files.proofs.run.Run.tell_unplaced.Given as goal
 -- the notes before this one are told
 abbrev pub invariant-loop-note : goal.invariant-loop-note
 invariant-loop-note g l =
-    (lines : List FeatureLine) × AreEntriesOf IsUnplaced l.name (take l.note-index l.notes.notes.items) lines × TellsLines g.W.Write.contents lines l.initial.self l.self
+    (lines : List FeatureLine) × AreEntriesOf IsUnplaced l.name (take l.note-index l.notes.notes.items) lines
+    × TellsLines g.W.Write.contents lines l.initial.self l.self

@@ -34,7 +34,8 @@ returns-clause-told g c =
         out = λ none. Appends-kept _ _ _ told
             (kept-Appends _ _ _ told c.flush.ensures.bytes
             (subst (Appends (contents c.flush.new.self) (contents c.write.new.self.out)) (added ∙ ap (λ (line : List ℕ). line ++ told) none)
-            (subst (λ (out : g.row.W.Denot). Appends (contents out) (contents c.write.new.self.out) c.put_unread.new.self.line.items) c.put_unread.ensures.out c.in_ok-write.ensures.out)))
+            (subst (λ (out : g.row.W.Denot). Appends (contents out) (contents c.write.new.self.out) c.put_unread.new.self.line.items) c.put_unread.ensures.out
+            c.in_ok-write.ensures.out)))
             c.show.ensures.out;
         line = ap (λ (line : Vec ℕ Global). line.items) c.show.ensures.line ∙ c.in_ok-write.ensures.line;
         adds = λ bytes. record {
@@ -48,4 +49,5 @@ returns-clause-told g c =
     )
 
 pub returns-clause-some : goal.returns-clause-some
-returns-clause-some g c = on_ok_weaker c.show.result (λ told. TellsFiles-one g.W.Write.contents _ c.args.self.now c.show.new.self told.1) (returns-clause-told g c)
+returns-clause-some g c =
+    on_ok_weaker c.show.result (λ told. TellsFiles-one g.W.Write.contents _ c.args.self.now c.show.new.self told.1) (returns-clause-told g c)

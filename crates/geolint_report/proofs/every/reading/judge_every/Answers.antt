@@ -20,4 +20,5 @@ returns-in-Ok-judge_records-clause-found g c = λ slow.
     subst (λ (reading : Reading). Finds reading limits had left (Finding.Sequence verdict)) (sym c.in-Sequence.is)
     (Judges-as (IsWholeVerdict Framing.Sequence) IsSequenceVerdict limits had left verdict (λ bytes whole.
     let (found, are, is) = whole in
-    subst (λ (v : SeqVerdict). IsSequenceVerdict limits bytes v) (sym is) (c.sequence_by_records.ensures limits bytes found some are)) c.in-Ok-judge_records.ensures.verdict)
+    subst (λ (v : SeqVerdict). IsSequenceVerdict limits bytes v) (sym is) (c.sequence_by_records.ensures limits bytes found some are))
+    c.in-Ok-judge_records.ensures.verdict)

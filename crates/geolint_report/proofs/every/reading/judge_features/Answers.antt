@@ -26,7 +26,8 @@ returns-in-Ok-eq0-clause-listed g c =
     let bytes = c.in-Ok-eq0.ensures.bytes in
     let room : 0 < length c.read_piece.new.piece = search rules in
     Lists-end c.finish.result.0 (limits_of c.loop-error.linter) c.args.limits _ _ read c.finish.result.1 c.loop-error.invariant.limits
-    (Consumes-none _ _ _ read c.read_piece.new.piece c.in-Ok-eq0.field-0 none took bytes.0) (bytes.1 none room) (λ text admitted. c.finish.ensures.told read text stands admitted)
+    (Consumes-none _ _ _ read c.read_piece.new.piece c.in-Ok-eq0.field-0 none took bytes.0) (bytes.1 none room)
+    (λ text admitted. c.finish.ensures.told read text stands admitted)
 
 pub returns-in-Refused-clause-verdict : goal.returns-in-Refused-clause-verdict
 returns-in-Refused-clause-verdict g c =
@@ -35,7 +36,8 @@ returns-in-Refused-clause-verdict g c =
     let fed = Consumes-trans _ _ _ read piece took c.in-Ok.ensures.bytes.0 in
     let refused = rw (c.in-Refused.is) at (c.feed.ensures.answer read stands) in
     let is = c.finish-in-Refused.ensures.again c.in-Refused.field-0 (rw (c.in-Refused.is) at c.feed.ensures.refusal) in
-    subst (λ (verdict : Verdict). JudgesBy IsVerdict c.args.limits (g.S.Source.remaining c.args.reader.now) (g.S.Source.remaining c.read_piece.new.self) verdict) (sym is)
+    subst (λ (verdict : Verdict). JudgesBy IsVerdict c.args.limits (g.S.Source.remaining c.args.reader.now)
+    (g.S.Source.remaining c.read_piece.new.self) verdict) (sym is)
     (Judges-lasting IsVerdict _ _ _ (read ++ piece) _ fed
     (IsVerdict-of_refusal (limits_of c.loop-error.linter) c.args.limits (read ++ piece) c.in-Refused.field-0 c.loop-error.invariant.limits refused))
 
@@ -50,9 +52,12 @@ within g c =
     let (read, took, count, stands) = c.loop-error.invariant.read in
     let piece = take c.in-Ok.count c.read_piece.new.piece in
     let piece_length : length piece ≡ c.in-Ok.count = length-take-le c.in-Ok.count c.read_piece.new.piece c.in-Ok.ensures.bound.0 in
-    let length_is : length (read ++ piece) ≡ c.loop-error.offset + c.in-Ok.count = length-append read piece ∙ ap (λ (n : ℕ). n + length piece) count ∙ ap (λ (n : ℕ). c.loop-error.offset + n) piece_length in
-    let bound : length (read ++ piece) ≤ (limits_of c.loop-error.linter).bytes = (let answer = rw (c.in-Open.is) at (c.feed.ensures.answer read stands) in answer.1) in
-    subst (λ (limits : Allowed). c.loop-error.offset + c.in-Ok.count ≤ limits.bytes) c.loop-error.invariant.limits (subst (λ (n : ℕ). n ≤ (limits_of c.loop-error.linter).bytes) length_is bound)
+    let length_is : length (read ++ piece) ≡ c.loop-error.offset + c.in-Ok.count =
+    length-append read piece ∙ ap (λ (n : ℕ). n + length piece) count ∙ ap (λ (n : ℕ). c.loop-error.offset + n) piece_length in
+    let bound : length (read ++ piece) ≤ (limits_of c.loop-error.linter).bytes =
+    (let answer = rw (c.in-Open.is) at (c.feed.ensures.answer read stands) in answer.1) in
+    subst (λ (limits : Allowed). c.loop-error.offset + c.in-Ok.count ≤ limits.bytes) c.loop-error.invariant.limits
+    (subst (λ (n : ℕ). n ≤ (limits_of c.loop-error.linter).bytes) length_is bound)
 
 pub loop-error-init : goal.loop-error-init
 loop-error-init g c = record {
@@ -72,7 +77,8 @@ loop-error-preserved g c =
     let piece = take c.in-Ok.count c.read_piece.new.piece in
     let fed = Consumes-trans _ _ _ read piece took c.in-Ok.ensures.bytes.0 in
     let piece_length : length piece ≡ c.in-Ok.count = length-take-le c.in-Ok.count c.read_piece.new.piece c.in-Ok.ensures.bound.0 in
-    let length_is : length (read ++ piece) ≡ c.loop-error.offset + c.in-Ok.count = length-append read piece ∙ ap (λ (n : ℕ). n + length piece) count ∙ ap (λ (n : ℕ). c.loop-error.offset + n) piece_length in
+    let length_is : length (read ++ piece) ≡ c.loop-error.offset + c.in-Ok.count =
+    length-append read piece ∙ ap (λ (n : ℕ). n + length piece) count ∙ ap (λ (n : ℕ). c.loop-error.offset + n) piece_length in
     record {
       read = (read ++ piece, fed, length_is, c.feed.ensures.stands read stands);
       limits = c.feed.ensures.limits ∙ c.loop-error.invariant.limits;

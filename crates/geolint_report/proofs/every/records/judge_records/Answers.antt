@@ -23,7 +23,8 @@ returns-in-Ok-eq0-clause-verdict g c =
     let none = c.in-Ok-eq0.field-0-test in
     let bytes = c.in-Ok-eq0.ensures.bytes in
     let room : 0 < length c.read_piece.new.piece = search rules in
-    Judges-end (IsWholeVerdict c.args.framing) _ _ _ read _ (Consumes-none _ _ _ read c.read_piece.new.piece c.in-Ok-eq0.field-0 none took bytes.0) (bytes.1 none room)
+    Judges-end (IsWholeVerdict c.args.framing) _ _ _ read _ (Consumes-none _ _ _ read c.read_piece.new.piece c.in-Ok-eq0.field-0 none took bytes.0)
+    (bytes.1 none room)
     (verdict-of _ _ _ _ _ read found _ c.loop-error.invariant.framing c.loop-error.invariant.limits (c.finish-verdict.ensures.told read [] found stands keeps))
 
 pub returns-in-Ok-eq0-clause-listed : goal.returns-in-Ok-eq0-clause-listed
@@ -32,7 +33,8 @@ returns-in-Ok-eq0-clause-listed g c =
     let none = c.in-Ok-eq0.field-0-test in
     let bytes = c.in-Ok-eq0.ensures.bytes in
     let room : 0 < length c.read_piece.new.piece = search rules in
-    Lists-end c.args.framing c.args.limits _ _ read _ (Consumes-none _ _ _ read c.read_piece.new.piece c.in-Ok-eq0.field-0 none took bytes.0) (bytes.1 none room)
+    Lists-end c.args.framing c.args.limits _ _ read _ (Consumes-none _ _ _ read c.read_piece.new.piece c.in-Ok-eq0.field-0 none took bytes.0)
+    (bytes.1 none room)
     (listed-of _ _ _ _ _ read found _ c.loop-error.invariant.framing c.loop-error.invariant.limits (c.finish-verdict.ensures.told read [] found stands keeps))
 
 pub returns-then-is_over-clause-verdict : goal.returns-then-is_over-clause-verdict
@@ -46,7 +48,8 @@ returns-then-is_over-clause-verdict g c =
     let same = c.feed.ensures.limits ∙ c.loop-error.invariant.limits in
     Judges-lasting (IsWholeVerdict c.args.framing) _ _ _ (read ++ piece) _ fed (λ more.
     let over = c.is_over.ensures.lasting (read ++ piece) more all told.stands c.if-is_over.true in
-    verdict-of _ _ _ _ _ ((read ++ piece) ++ more) all _ kind same (c.finish-verdict-then-is_over.ensures.told ((read ++ piece) ++ more) [] all over told.heard))
+    verdict-of _ _ _ _ _ ((read ++ piece) ++ more) all _ kind same
+    (c.finish-verdict-then-is_over.ensures.told ((read ++ piece) ++ more) [] all over told.heard))
 
 pub returns-then-is_over-clause-listed : goal.returns-then-is_over-clause-listed
 returns-then-is_over-clause-listed g c =

@@ -7,7 +7,8 @@ use Rattle.geolint_report.proofs.every.records.judge_records.Given as goal
 
 abbrev pub invariant-loop-error : goal.invariant-loop-error
 invariant-loop-error g l = record {
-  read : (read : List ℕ) × (found : List Record) × Consumes (g.S.Source.remaining l.initial.reader) (g.S.Source.remaining l.reader) read × (length read ≡ l.offset)
+  read : (read : List ℕ) × (found : List Record) × Consumes (g.S.Source.remaining l.initial.reader) (g.S.Source.remaining l.reader) read
+      × (length read ≡ l.offset)
       × StandsFor l.records read found × KeepsRecords l.listing found;
   framing : framing_of l.records ≡ l.fn.framing;
   limits : limits_of l.records ≡ l.fn.limits;

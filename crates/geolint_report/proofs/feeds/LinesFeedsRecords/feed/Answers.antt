@@ -15,8 +15,11 @@ pub returns-then-is_decided-clause-decided : goal.returns-then-is_decided-clause
 returns-then-is_decided-clause-decided c same bytes ((found, stands), kind) =
     let told = c.feed.ensures.told bytes [] found stands tt in
     let all = found ++ told.more in
-    let given = bytes ++ c.args.piece.now in
-    (whole_of all, λ more. lines-by _ _ _ (given ++ more) _ (c.feed.ensures.framing ∙ kind) refl (c.is_decided.ensures.lasting given more all told.stands c.if-is_decided.true))
+    let given = bytes ++ c.args.piece.now in (
+      whole_of all,
+      λ more. lines-by _ _ _ (given ++ more) _ (c.feed.ensures.framing ∙ kind) refl
+          (c.is_decided.ensures.lasting given more all told.stands c.if-is_decided.true),
+    )
 
 pub returns-else-is_decided-clause-stands : goal.returns-else-is_decided-clause-stands
 returns-else-is_decided-clause-stands c bytes ((found, stands), kind) =
@@ -28,7 +31,8 @@ fits : (c : goal.Else-is_decided) (bytes : List ℕ) → AreLines c.args.fed.now
 fits c bytes ((found, stands), kind) =
     let told = c.feed.ensures.told bytes [] found stands tt in
     let given = bytes ++ c.args.piece.now in
-    subst (λ (limits : Allowed). FitWithin limits given) c.feed.ensures.limits (c.is_decided.ensures.within given (found ++ told.more) told.stands c.if-is_decided.false)
+    subst (λ (limits : Allowed). FitWithin limits given) c.feed.ensures.limits
+    (c.is_decided.ensures.within given (found ++ told.more) told.stands c.if-is_decided.false)
 
 pub returns-else-is_decided-clause-open : goal.returns-else-is_decided-clause-open
 returns-else-is_decided-clause-open c same = fits c

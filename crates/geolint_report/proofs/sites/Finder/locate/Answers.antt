@@ -13,7 +13,8 @@ returns-in-Some-clause-keeps c = λ text stands keeps. c.locate_in_record.ensure
 
 -- a text that is no record goes on with the bytes
 joined : (framing : Option Framing) (text bytes : List ℕ) → framing ≡ None → text_of framing (text ++ bytes) ≡ text_of framing text ++ bytes
-joined framing text bytes plain = ap (λ (f : Option Framing). text_of f (text ++ bytes)) plain ∙ ap (λ (f : Option Framing). text_of f text ++ bytes) (sym plain)
+joined framing text bytes plain =
+    ap (λ (f : Option Framing). text_of f (text ++ bytes)) plain ∙ ap (λ (f : Option Framing). text_of f text ++ bytes) (sym plain)
 
 begun : (framing : Option Framing) (text bytes : List ℕ) → framing ≡ None → has_begun framing (text ++ bytes) ≡ has_begun framing text
 begun framing text bytes plain = ap (λ (f : Option Framing). has_begun f (text ++ bytes)) plain ∙ ap (λ (f : Option Framing). has_begun f text) (sym plain)
@@ -23,12 +24,14 @@ returns-in-None-clause-stands c = λ text stands.
     let old = c.args.self.now in
     let bytes = c.args.bytes.now in
     let kind = ap (λ (f : Option Framing). text_of f (text ++ bytes)) c.locate_in_text.ensures.same.kind in
-    subst (Stands c.locate_in_text.new.self) (sym (kind ∙ joined old.framing text bytes c.in-None.is)) (c.locate_in_text.ensures.stands (text_of old.framing text) stands)
+    subst (Stands c.locate_in_text.new.self) (sym (kind ∙ joined old.framing text bytes c.in-None.is))
+    (c.locate_in_text.ensures.stands (text_of old.framing text) stands)
 
 pub returns-in-None-clause-keeps : goal.returns-in-None-clause-keeps
 returns-in-None-clause-keeps c = λ text stands keeps.
     let old = c.args.self.now in
     let bytes = c.args.bytes.now in
     let plain = c.in-None.is in
-    KeepsIn-more old c.locate_in_text.new.self text bytes c.locate_in_text.ensures.same.kind c.locate_in_text.ensures.same.limits (joined old.framing text bytes plain)
+    KeepsIn-more old c.locate_in_text.new.self text bytes c.locate_in_text.ensures.same.kind c.locate_in_text.ensures.same.limits
+    (joined old.framing text bytes plain)
     (begun old.framing text bytes plain) (c.locate_in_text.ensures.keeps (text_limits old.framing old.limits) (text_of old.framing text) stands) keeps

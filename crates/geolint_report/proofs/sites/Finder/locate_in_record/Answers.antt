@@ -37,7 +37,8 @@ returns-in-Some-clause-keeps c = λ text kind stands keeps under.
     let lim : text_limits new.framing new.limits ≡ limits =
     ap (λ (f : Option Framing). text_limits f new.limits) (c.locate_in_text.ensures.same.kind ∙ kind)
     ∙ ap (λ (l : Allowed). text_limits (Some c.args.framing) l) c.locate_in_text.ensures.same.limits in
-    let is = ap (λ (f : Option Framing). text_of f (text ++ bytes)) c.locate_in_text.ensures.same.kind ∙ record-is c text kind ∙ sym (all_rest bytes (c.in-Some.last + 1)) in
+    let is = ap (λ (f : Option Framing). text_of f (text ++ bytes)) c.locate_in_text.ensures.same.kind ∙ record-is c text kind
+    ∙ sym (all_rest bytes (c.in-Some.last + 1)) in
     let here = subst (λ (l : Allowed). CanGoOn l (text_of new.framing (text ++ bytes))) lim under.1 in
     let goes = subst (λ (ys : List ℕ). CanGoOn limits ys) is here in
     let after = c.locate_in_text.ensures.keeps limits [] (λ live. (c.new-self.ensures.stands, c.new-self.ensures.open))
@@ -48,7 +49,8 @@ returns-in-Some-clause-keeps c = λ text kind stands keeps under.
 
 none-in : (c : goal.After-locate_in_text-in-None) → has_separator c.args.framing c.args.bytes.now ≡ false
 none-in c =
-    rest-separates c.args.framing c.args.bytes.now 0 (λ k from within is. c.in-None.ensures k from within (ap (nat_eq (get_or c.args.bytes.now k 0)) c.separator.ensures ∙ is))
+    rest-separates c.args.framing c.args.bytes.now 0
+    (λ k from within is. c.in-None.ensures k from within (ap (nat_eq (get_or c.args.bytes.now k 0)) c.separator.ensures ∙ is))
 
 joined : (c : goal.After-locate_in_text-in-None) (text : List ℕ) → c.args.self.now.framing ≡ Some c.args.framing
     → text_of c.args.self.now.framing (text ++ c.args.bytes.now) ≡ text_of c.args.self.now.framing text ++ c.args.bytes.now
@@ -57,7 +59,8 @@ joined c text kind =
     ap (λ (f : Option Framing). text_of f (text ++ bytes)) kind
     ∙ (last_record-longer c.args.framing text bytes (none-in c) ∙ ap (λ (f : Option Framing). text_of f text ++ bytes) (sym kind))
 
-begun-by : (framing : Framing) (text bytes : List ℕ) → has_separator framing bytes ≡ false → has_begun (Some framing) (text ++ bytes) ≡ has_begun (Some framing) text
+begun-by : (framing : Framing) (text bytes : List ℕ) → has_separator framing bytes ≡ false
+    → has_begun (Some framing) (text ++ bytes) ≡ has_begun (Some framing) text
 begun-by Sequence text bytes none = has_separator-longer Sequence text bytes none
 begun-by Lines text bytes none = refl
 
@@ -65,7 +68,8 @@ begun : (c : goal.After-locate_in_text-in-None) (text : List ℕ) → c.args.sel
     → has_begun c.args.self.now.framing (text ++ c.args.bytes.now) ≡ has_begun c.args.self.now.framing text
 begun c text kind =
     let bytes = c.args.bytes.now in
-    ap (λ (f : Option Framing). has_begun f (text ++ bytes)) kind ∙ (begun-by c.args.framing text bytes (none-in c) ∙ ap (λ (f : Option Framing). has_begun f text) (sym kind))
+    ap (λ (f : Option Framing). has_begun f (text ++ bytes)) kind
+    ∙ (begun-by c.args.framing text bytes (none-in c) ∙ ap (λ (f : Option Framing). has_begun f text) (sym kind))
 
 pub returns-in-None-clause-stands : goal.returns-in-None-clause-stands
 returns-in-None-clause-stands c = λ text kind stands.
@@ -76,5 +80,7 @@ returns-in-None-clause-stands c = λ text kind stands.
 pub returns-in-None-clause-keeps : goal.returns-in-None-clause-keeps
 returns-in-None-clause-keeps c = λ text kind stands keeps.
     let old = c.args.self.now in
-    KeepsIn-more old c.locate_in_text-in-None.new.self text c.args.bytes.now c.locate_in_text-in-None.ensures.same.kind c.locate_in_text-in-None.ensures.same.limits
-    (joined c text kind) (begun c text kind) (c.locate_in_text-in-None.ensures.keeps (text_limits old.framing old.limits) (text_of old.framing text) stands) keeps
+    KeepsIn-more old c.locate_in_text-in-None.new.self text c.args.bytes.now c.locate_in_text-in-None.ensures.same.kind
+    c.locate_in_text-in-None.ensures.same.limits
+    (joined c text kind) (begun c text kind)
+    (c.locate_in_text-in-None.ensures.keeps (text_limits old.framing old.limits) (text_of old.framing text) stands) keeps

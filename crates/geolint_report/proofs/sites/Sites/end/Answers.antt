@@ -3,16 +3,20 @@ use Rattle.gj_places.specs.Counting.{StandsFor}
 use Rattle.std.proofs.lemmas.Bool.{cases_lt}
 use Rattle.geolint_report.specs.Sites.{AreRight}
 use Rattle.geolint_report.proofs.FoundSites.{IsSpot-end}
-use Rattle.geolint_report.proofs.SoughtPlaces.{AllFound-settled, AllFound-passed, AllFound-unstored, AllFound-long, AllFound-reached, AllFound-stored, Seeks-passed, sought-settled}
+use Rattle.geolint_report.proofs.SoughtPlaces.{AllFound-settled, AllFound-passed, AllFound-unstored, AllFound-long, AllFound-reached, AllFound-stored}
+use Rattle.geolint_report.proofs.SoughtPlaces.{Seeks-passed, sought-settled}
 use Rattle.geolint_report.proofs.sites.Sites.end.Goals as goal
-use Rattle.geolint_report.proofs.sites.Sites.end.Goals.{else-i-self-via-then-i-self+then-i-lt-MOST_PLACES+then-finder-lt18446744073709551615+else-self-i, else-i-self-via-then-i-self+then-i-lt-MOST_PLACES+else-finder-lt18446744073709551615, else-i-self-via-then-i-self+else-i-lt-MOST_PLACES, else-i-self-via-else-i-self}
+use Rattle.geolint_report.proofs.sites.Sites.end.Goals.{else-i-self-via-then-i-self+then-i-lt-MOST_PLACES+then-finder-lt18446744073709551615+else-self-i}
+use Rattle.geolint_report.proofs.sites.Sites.end.Goals.{else-i-self-via-then-i-self+then-i-lt-MOST_PLACES+else-finder-lt18446744073709551615}
+use Rattle.geolint_report.proofs.sites.Sites.end.Goals.{else-i-self-via-then-i-self+else-i-lt-MOST_PLACES, else-i-self-via-else-i-self}
 
 pub returns-then-self-i-clause-right : goal.returns-then-self-i-clause-right
 returns-then-self-i-clause-right c = λ text reaches.
     let finder = c.args.finder.now in
     let offset = reaches.offset in
     let here : finder.offset ≡ length text = omega (arith, offset, c.if-finder-lt18446744073709551615.true) in
-    let place : (get_or c.args.self.now.sites finder.next c.index-self-i.result).place ≡ length text = search (rules, c.if-self-i.true, c.index-self-i.is, here) in
+    let place : (get_or c.args.self.now.sites finder.next c.index-self-i.result).place ≡ length text =
+    search (rules, c.if-self-i.true, c.index-self-i.is, here) in
     let none : take finder.counted [] ≡ [] = search rules in
     let all : text ++ take finder.counted [] ≡ text = ap (λ (ys : List ℕ). text ++ ys) none ∙ append-nil text in
     let stands = subst (StandsFor finder.lines) all (reaches.lines c.if-i-self.true) in
@@ -29,7 +33,8 @@ returns-then-self-i-clause-told c = λ limits framing text reaches are.
     (λ within. absurd (omega (arith, offset, within, c.if-self-i.true, c.if-finder-lt18446744073709551615.true)))
 
 pub returns-then-self-i-clause-long : goal.returns-then-self-i-clause-long
-returns-then-self-i-clause-long c = λ text reaches long. let offset = reaches.offset in absurd (omega (arith, offset, long, c.if-finder-lt18446744073709551615.true))
+returns-then-self-i-clause-long c = λ text reaches long. let offset =
+    reaches.offset in absurd (omega (arith, offset, long, c.if-finder-lt18446744073709551615.true))
 
 pub returns-then-self-i-clause-found : goal.returns-then-self-i-clause-found
 returns-then-self-i-clause-found c = λ text reaches ordered seeks place contained within small.
@@ -38,7 +43,8 @@ returns-then-self-i-clause-found c = λ text reaches ordered seeks place contain
     let offset = reaches.offset in
     let here : finder.offset ≡ length text = omega (arith, offset, c.if-finder-lt18446744073709551615.true) in
     elim (cases_lt finder.next (length sites.sites)) [
-      | inl stored ↦ AllFound-settled finder sites c.settle.new.self text c.index-self-i.result ordered seeks c.settle.ensures.settles c.if-i-self.true stored (c.if-self-i.true ∙ here) place contained within small
+      | inl stored ↦ AllFound-settled finder sites c.settle.new.self text c.index-self-i.result ordered seeks c.settle.ensures.settles c.if-i-self.true stored
+          (c.if-self-i.true ∙ here) place contained within small
       | inr none ↦ AllFound-unstored finder sites c.settle.new.self (length text) text seeks c.settle.ensures.settles none place contained within small
     ]
 
@@ -56,7 +62,8 @@ returns-else-i-self-clause-found c = λ text reaches ordered seeks.
           AllFound-passed finder sites text (length text + 1) (Seeks-passed finder sites (length text) (length text + 1) w.index-self-i.result ordered seeks
           (λ small behind. omega (arith, small, behind, offset, other, w.if-finder-lt18446744073709551615.true))) (omega arith))
       | else-i-self-via-then-i-self+then-i-lt-MOST_PLACES+else-finder-lt18446744073709551615 w ↦
-          (let long = w.if-finder-lt18446744073709551615.false in λ place contained within small. AllFound-long finder sites text seeks (omega (arith, offset, long)) place contained within small)
+          (let long = w.if-finder-lt18446744073709551615.false in
+          λ place contained within small. AllFound-long finder sites text seeks (omega (arith, offset, long)) place contained within small)
       | else-i-self-via-then-i-self+else-i-lt-MOST_PLACES w ↦ AllFound-stored finder sites (length text) text seeks (omega (arith, w.if-i-lt-MOST_PLACES.false))
       | else-i-self-via-else-i-self w ↦ AllFound-reached finder sites (length text) text seeks w.if-i-self.false
     ]

@@ -16,7 +16,16 @@ use Rattle.geolint_report.proofs.sites.Sites.find.Goals.{else-loop-test, then-lo
 
 pub loop-init : goal.loop-init
 loop-init g c = record {
-  reached = λ begun. ([], Consumes-nil _, c.new-finder.ensures.begins c.args.self.now begun, (λ ordered. Seeks-begins c.new-finder.result c.args.self.now c.new-finder.ensures.next), omega arith, c.new-finder.ensures.follows c.args.self.now, c.new-finder.ensures.tells c.args.self.now, (λ unread. Shows-begins c.new-finder.result c.args.self.now unread c.new-finder.ensures.next));
+  reached = λ begun. (
+    [],
+    Consumes-nil _,
+    c.new-finder.ensures.begins c.args.self.now begun,
+    (λ ordered. Seeks-begins c.new-finder.result c.args.self.now c.new-finder.ensures.next),
+    omega arith,
+    c.new-finder.ensures.follows c.args.self.now,
+    c.new-finder.ensures.tells c.args.self.now,
+    (λ unread. Shows-begins c.new-finder.result c.args.self.now unread c.new-finder.ensures.next),
+  );
   sought = refl;
   text = refl;
   unfailed = refl;
@@ -46,10 +55,12 @@ returns-then-is_whole-clause-told g c = λ none.
     (c.take.ensures.tells c.args.limits c.args.framing read reaches (follows (unfound-paths c.args.framing [] c.args.self.now.sites none)) (tells none))
 
 pub returns-in_err-count-clause-texts : goal.returns-in_err-count-clause-texts
-returns-in_err-count-clause-texts g c = λ none. ToldInTexts-by c.args.limits c.args.framing _ _ c.bytes-most.ensures.allowed (returns-in_err-count-clause-told g c none)
+returns-in_err-count-clause-texts g c =
+    λ none. ToldInTexts-by c.args.limits c.args.framing _ _ c.bytes-most.ensures.allowed (returns-in_err-count-clause-told g c none)
 
 pub returns-then-is_whole-clause-texts : goal.returns-then-is_whole-clause-texts
-returns-then-is_whole-clause-texts g c = λ none. ToldInTexts-by c.args.limits c.args.framing _ _ c.bytes-most.ensures.allowed (returns-then-is_whole-clause-told g c none)
+returns-then-is_whole-clause-texts g c =
+    λ none. ToldInTexts-by c.args.limits c.args.framing _ _ c.bytes-most.ensures.allowed (returns-then-is_whole-clause-told g c none)
 
 pub returns-then-is_whole-clause-paths : goal.returns-then-is_whole-clause-paths
 returns-then-is_whole-clause-paths g c = λ begun paths.
@@ -91,10 +102,12 @@ loop-preserved g c = record {
         read ++ piece,
         Consumes-trans _ _ _ read piece took c.in_ok-count.ensures.bytes.0,
         c.take.ensures.reaches read reaches,
-        (λ ordered. c.take.ensures.seeks read reaches (subst (λ (places : List ℕ). IsNonDecreasing places) (sym c.loop.invariant.sought) ordered) (seeks ordered)),
+        (λ ordered. c.take.ensures.seeks read reaches (subst (λ (places : List ℕ). IsNonDecreasing places) (sym c.loop.invariant.sought) ordered)
+            (seeks ordered)),
         omega (arith, reads, long, length-append read piece, c.if-count-eq0.false),
         (λ paths. c.take.ensures.follows c.args.framing read reaches (follows paths)),
-        (λ none. c.take.ensures.tells c.args.limits c.args.framing read reaches (follows (unfound-paths c.args.framing [] c.args.self.now.sites none)) (tells none)),
+        (λ none. c.take.ensures.tells c.args.limits c.args.framing read reaches (follows (unfound-paths c.args.framing [] c.args.self.now.sites none))
+            (tells none)),
         (λ unread. c.take.ensures.shows read reaches (shows unread)),
       );
   sought = c.take.ensures.sought ∙ c.loop.invariant.sought;
@@ -122,7 +135,8 @@ returns-clause-found g c = λ begun ordered.
       | then-loop-test+in_ok-count+then-count-eq0 w ↦
           (let bytes = w.in_ok-count.ensures.bytes in
           let room : 0 < length w.read_piece.new.piece = search rules in
-          FoundBy-read _ _ read c.end.new.self (Consumes-none _ _ _ read w.read_piece.new.piece w.in_ok-count.count w.if-count-eq0.true took bytes.0) (inl (bytes.1 w.if-count-eq0.true room)) found)
+          FoundBy-read _ _ read c.end.new.self (Consumes-none _ _ _ read w.read_piece.new.piece w.in_ok-count.count w.if-count-eq0.true took bytes.0)
+          (inl (bytes.1 w.if-count-eq0.true room)) found)
     ]
 
 pub returns-clause-told : goal.returns-clause-told
@@ -133,12 +147,14 @@ returns-clause-told g c = λ none.
     let told = tells none in
     elim c.loop-test.branch [
       | else-loop-test w ↦
-          subst (λ (sites : List Site). ToldBy limits framing (g.S.Source.remaining c.args.reader.now) sites) (sym (c.end.ensures.long read reaches (omega (arith, reads, w.loop-test.false))))
+          subst (λ (sites : List Site). ToldBy limits framing (g.S.Source.remaining c.args.reader.now) sites)
+          (sym (c.end.ensures.long read reaches (omega (arith, reads, w.loop-test.false))))
           (ToldBy-reached limits framing _ _ read _ _ took told)
       | then-loop-test+in_ok-count+then-count-eq0 w ↦
           (let bytes = w.in_ok-count.ensures.bytes in
           let room : 0 < length w.read_piece.new.piece = search rules in
-          ToldBy-end limits framing _ _ read c.end.new.self.sites (Consumes-none _ _ _ read w.read_piece.new.piece w.in_ok-count.count w.if-count-eq0.true took bytes.0) (bytes.1 w.if-count-eq0.true room)
+          ToldBy-end limits framing _ _ read c.end.new.self.sites
+          (Consumes-none _ _ _ read w.read_piece.new.piece w.in_ok-count.count w.if-count-eq0.true took bytes.0) (bytes.1 w.if-count-eq0.true room)
           (c.end.ensures.told limits framing read reaches (told-now limits framing _ _ read told)))
     ]
 
@@ -148,13 +164,15 @@ returns-clause-texts g c = λ none. ToldInTexts-by c.args.limits c.args.framing 
 pub returns-clause-excerpt : goal.returns-clause-excerpt
 returns-clause-excerpt g c = λ unread begun ordered.
     let (read, took, reaches, seeks, reads, follows, tells, shows) = c.loop.invariant.reached begun in
-    let around = excerpt-same c.loop.self c.end.new.self read c.end.ensures.excerpt c.end.ensures.sought (excerpt-end _ c.loop.self read (shows unread) (seeks ordered)) in
+    let around = excerpt-same c.loop.self c.end.new.self read c.end.ensures.excerpt c.end.ensures.sought
+    (excerpt-end _ c.loop.self read (shows unread) (seeks ordered)) in
     elim c.loop-test.branch [
       | else-loop-test w ↦ ExcerptBy-read _ _ read c.end.new.self took (inr (omega (arith, reads, w.loop-test.false))) around
       | then-loop-test+in_ok-count+then-count-eq0 w ↦
           (let bytes = w.in_ok-count.ensures.bytes in
           let room : 0 < length w.read_piece.new.piece = search rules in
-          ExcerptBy-read _ _ read c.end.new.self (Consumes-none _ _ _ read w.read_piece.new.piece w.in_ok-count.count w.if-count-eq0.true took bytes.0) (inl (bytes.1 w.if-count-eq0.true room)) around)
+          ExcerptBy-read _ _ read c.end.new.self (Consumes-none _ _ _ read w.read_piece.new.piece w.in_ok-count.count w.if-count-eq0.true took bytes.0)
+          (inl (bytes.1 w.if-count-eq0.true room)) around)
     ]
 
 pub returns-clause-sought : goal.returns-clause-sought

@@ -29,7 +29,9 @@ returns-clause-reaches c = λ text reaches.
         lines = λ fewer.
             let here = w.feed.ensures (text ++ take counted piece) (reaches.lines w.if-finder-self.false) in
             let all : (text ++ take counted piece) ++ c.rest_of-rest.result.now ≡ (text ++ piece) ++ [] =
-            append_assoc text (take counted piece) _ ∙ ap (λ (ys : List ℕ). text ++ ys) (ap (λ (ys : List ℕ). take counted piece ++ ys) c.rest_of-rest.ensures ∙ take-append-drop counted piece) ∙ sym (append-nil (text ++ piece)) in
+            append_assoc text (take counted piece) _
+            ∙ ap (λ (ys : List ℕ). text ++ ys) (ap (λ (ys : List ℕ). take counted piece ++ ys) c.rest_of-rest.ensures ∙ take-append-drop counted piece)
+            ∙ sym (append-nil (text ++ piece)) in
             let fed = subst (StandsFor w.feed.new.self) all here in
             rw (w.locate_to.ensures.same.lines) fed;
         right = right;
@@ -53,7 +55,8 @@ returns-clause-follows c = λ framing text follows.
         located = omega arith;
         near = omega arith;
         stands = λ fewer.
-            let all : text ++ take (length piece) piece ≡ (text ++ piece) ++ [] = ap (λ (ys : List ℕ). text ++ ys) (take_all (length piece) piece (omega arith)) ∙ sym (append-nil (text ++ piece)) in
+            let all : text ++ take (length piece) piece ≡ (text ++ piece) ++ [] =
+            ap (λ (ys : List ℕ). text ++ ys) (take_all (length piece) piece (omega arith)) ∙ sym (append-nil (text ++ piece)) in
             subst (StandsIn w.locate_to.new.self) all (w.locate_to.ensures.stands text follows.located (omega arith) (follows.stands w.if-finder-self.false));
         paths = paths;
       })
@@ -75,7 +78,8 @@ returns-clause-tells c = λ limits framing text follows tells.
       | else-finder-self w ↦ rw (w.self-is, w.finder-is) (record {
         under = w.locate_to.ensures.same.limits ∙ tells.under;
         keeps = λ fewer.
-            let all : text ++ take (length piece) piece ≡ (text ++ piece) ++ [] = ap (λ (ys : List ℕ). text ++ ys) (take_all (length piece) piece (omega arith)) ∙ sym (append-nil (text ++ piece)) in
+            let all : text ++ take (length piece) piece ≡ (text ++ piece) ++ [] =
+            ap (λ (ys : List ℕ). text ++ ys) (take_all (length piece) piece (omega arith)) ∙ sym (append-nil (text ++ piece)) in
             subst (KeepsIn w.locate_to.new.self) all
             (w.locate_to.ensures.keeps text follows.located (omega arith) (follows.stands w.if-finder-self.false) (tells.keeps w.if-finder-self.false));
         within = within;
@@ -89,18 +93,22 @@ returns-clause-shows c = λ text shows.
     let counted = c.args.finder.now.counted in
     let sites = c.args.self.now in
     let all : (text ++ take counted piece) ++ c.rest_of-rest.result.now ≡ (text ++ piece) ++ [] =
-    append_assoc text (take counted piece) _ ∙ ap (λ (ys : List ℕ). text ++ ys) (ap (λ (ys : List ℕ). take counted piece ++ ys) c.rest_of-rest.ensures ∙ take-append-drop counted piece) ∙ sym (append-nil (text ++ piece)) in
+    append_assoc text (take counted piece) _
+    ∙ ap (λ (ys : List ℕ). text ++ ys) (ap (λ (ys : List ℕ). take counted piece ++ ys) c.rest_of-rest.ensures ∙ take-append-drop counted piece)
+    ∙ sym (append-nil (text ++ piece)) in
     elim c.if-finder-self.branch [
       | then-finder-self w ↦ rw (w.self-is, w.finder-is) (record {
         stored = shows.stored;
         before = λ fewer. absurd (omega (arith, fewer, w.if-finder-self.true));
         behind = λ other some reached.
             subst (λ (bytes : List ℕ). IsAt w.feed_after.new.self (get_or sites.sites (sites.count - 1) other).place bytes) all
-            (IsAt-more sites.excerpt w.feed_after.new.self _ (text ++ take counted piece) c.rest_of-rest.result.now (shows.behind other some w.if-finder-self.true) w.feed_after.ensures);
+            (IsAt-more sites.excerpt w.feed_after.new.self _ (text ++ take counted piece) c.rest_of-rest.result.now
+            (shows.behind other some w.if-finder-self.true) w.feed_after.ensures);
       })
       | else-finder-self w ↦ rw (w.self-is, w.finder-is) (record {
         stored = shows.stored;
-        before = λ fewer. subst (λ (bytes : List ℕ). KeepsLine w.feed_before.new.self bytes []) all (w.feed_before.ensures (text ++ take counted piece) (shows.before w.if-finder-self.false));
+        before = λ fewer. subst (λ (bytes : List ℕ). KeepsLine w.feed_before.new.self bytes []) all
+            (w.feed_before.ensures (text ++ take counted piece) (shows.before w.if-finder-self.false));
         behind = λ other some reached. absurd (omega (arith, reached, w.locate_to.ensures.same.next, w.if-finder-self.false));
       })
     ]

@@ -9,7 +9,8 @@ use Rattle.geolint_report.proofs.sites.Sites.take.Goals as goal
 
 pub returns : goal.returns
 returns c = record {
-  reaches = λ text begun. c.pass.ensures.reaches text (c.reach.ensures.reaches text (c.loop.invariant.reaches text (Reaches-piece c.args.finder.now c.args.self.now text c.args.piece.now begun)));
+  reaches = λ text begun. c.pass.ensures.reaches text
+      (c.reach.ensures.reaches text (c.loop.invariant.reaches text (Reaches-piece c.args.finder.now c.args.self.now text c.args.piece.now begun)));
   follows = λ framing text begun follows.
       let here = Reaches-piece c.args.finder.now c.args.self.now text c.args.piece.now begun in
       c.pass.ensures.follows framing text (c.reach.ensures.follows framing text (c.loop.invariant.reaches text here)
@@ -29,8 +30,10 @@ returns c = record {
       let start : length text ≡ length text + c.args.finder.now.counted = omega (arith, none) in
       let here = Reaches-piece c.args.finder.now c.args.self.now text c.args.piece.now begun in
       let reached = c.loop.invariant.seeks text here ordered (subst (λ (n : ℕ). Seeks c.args.finder.now c.args.self.now n) start seeks) in
-      let passed = c.reach.ensures.passed c.loop-test.false text (c.loop.invariant.reaches text here) (subst (λ (places : List ℕ). IsNonDecreasing places) (sym c.loop.invariant.sought) ordered) reached in
-      c.pass.ensures.seeks (length (text ++ c.args.piece.now)) (subst (λ (n : ℕ). Seeks c.reach.new.finder c.reach.new.self n) (sym (length-append text c.args.piece.now)) passed);
+      let passed = c.reach.ensures.passed c.loop-test.false text (c.loop.invariant.reaches text here)
+      (subst (λ (places : List ℕ). IsNonDecreasing places) (sym c.loop.invariant.sought) ordered) reached in
+      c.pass.ensures.seeks (length (text ++ c.args.piece.now))
+      (subst (λ (n : ℕ). Seeks c.reach.new.finder c.reach.new.self n) (sym (length-append text c.args.piece.now)) passed);
   shows = λ text begun shows.
       let none = begun.counted in
       let here = Reaches-piece c.args.finder.now c.args.self.now text c.args.piece.now begun in
@@ -42,8 +45,10 @@ returns c = record {
 pub loop-preserved : goal.loop-preserved
 loop-preserved c = record {
   reaches = λ text begun. c.reach.ensures.reaches text (c.loop.invariant.reaches text begun);
-  follows = λ framing text begun follows. c.reach.ensures.follows framing text (c.loop.invariant.reaches text begun) (c.loop.invariant.follows framing text begun follows);
-  tells = λ limits framing text begun follows tells. c.reach.ensures.tells limits framing text (c.loop.invariant.reaches text begun) (c.loop.invariant.follows framing text begun follows)
+  follows = λ framing text begun follows. c.reach.ensures.follows framing text (c.loop.invariant.reaches text begun)
+      (c.loop.invariant.follows framing text begun follows);
+  tells = λ limits framing text begun follows tells. c.reach.ensures.tells limits framing text (c.loop.invariant.reaches text begun)
+      (c.loop.invariant.follows framing text begun follows)
       (c.loop.invariant.tells limits framing text begun follows tells);
   seeks = λ text begun ordered seeks. c.reach.ensures.reached c.loop-test.true text (c.loop.invariant.reaches text begun)
       (subst (λ (places : List ℕ). IsNonDecreasing places) (sym c.loop.invariant.sought) ordered) (c.loop.invariant.seeks text begun ordered seeks);

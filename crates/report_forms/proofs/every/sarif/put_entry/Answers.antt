@@ -13,5 +13,6 @@ returns c =
       string_bytes c.in_ok-id.id,
       c.in_ok-id.ensures,
       is ∙ (ap (λ (id : List ℕ). start ++ sarif_entry c.level.result.now id entry) c.as_bytes.ensures.value
-          ∙ ap (λ (level : List ℕ). start ++ sarif_entry level (string_bytes c.in_ok-id.id) entry) (c.level.ensures ∙ ap (λ (b : Bool). level_of b) c.note_fails.ensures)),
+          ∙ ap (λ (level : List ℕ). start ++ sarif_entry level (string_bytes c.in_ok-id.id) entry)
+          (c.level.ensures ∙ ap (λ (b : Bool). level_of b) c.note_fails.ensures)),
     )) c.put_result.ensures

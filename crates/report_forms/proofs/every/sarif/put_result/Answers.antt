@@ -27,5 +27,6 @@ returns c =
     (behind c.put_properties.result c.put-2.new.line.items c.put-3.new.line.items c.put_properties.new.line.items part4 rest4 c.in_ok-put-3.ensures
     (behind c.put_properties.result c.put-3.new.line.items c.put-4.new.line.items c.put_properties.new.line.items part5 rest5 c.in_ok-put-4.ensures
     (behind c.put_properties.result c.put-4.new.line.items c.put_message.new.line.items c.put_properties.new.line.items part6 rest6 c.in_ok-put_message.ensures
-    (behind c.put_properties.result c.put_message.new.line.items c.put_place.new.line.items c.put_properties.new.line.items part7 rest7 c.in_ok-put_place.ensures
+    (behind c.put_properties.result c.put_message.new.line.items c.put_place.new.line.items c.put_properties.new.line.items part7 rest7
+    c.in_ok-put_place.ensures
     (c.put_properties.ensures)))))))

@@ -19,7 +19,8 @@ returns c =
     let rest1 : List ℕ = part2 ++ rest2 in
     let part1 : List ℕ = github_file c.args.level.now c.args.report.now.name.now in
     behind c.put_message.result c.args.line.now.items c.put_file.new.line.items c.put_message.new.line.items part1 rest1 c.in_ok-put_file.ensures
-    (behind c.put_message.result c.put_file.new.line.items c.put_spot.new.line.items c.put_message.new.line.items part2 rest2 (c.in_ok-put_spot.ensures ∙ ap (λ (ys : List ℕ). c.put_file.new.line.items ++ ys) (ap (λ (spot : Option Spot). github_spot spot) c.spot.ensures))
+    (behind c.put_message.result c.put_file.new.line.items c.put_spot.new.line.items c.put_message.new.line.items part2 rest2
+    (c.in_ok-put_spot.ensures ∙ ap (λ (ys : List ℕ). c.put_file.new.line.items ++ ys) (ap (λ (spot : Option Spot). github_spot spot) c.spot.ensures))
     (behind c.put_message.result c.put_spot.new.line.items c.put.new.line.items c.put_message.new.line.items part3 rest3 c.in_ok-put.ensures
     (behind c.put_message.result c.put.new.line.items c.put_name.new.line.items c.put_message.new.line.items part4 rest4 c.in_ok-put_name.ensures
     (c.put_message.ensures))))

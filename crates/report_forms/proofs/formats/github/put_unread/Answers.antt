@@ -15,5 +15,7 @@ returns c =
     let part1 : List ℕ = github_file (codes "error") c.args.name.now in
     behind c.put-2.result c.args.line.now.items c.put_file.new.line.items c.put-2.new.line.items part1 rest1 c.in_ok-put_file.ensures
     (behind c.put-2.result c.put_file.new.line.items c.put.new.line.items c.put-2.new.line.items part2 rest2 c.in_ok-put.ensures
-    (behind c.put-2.result c.put.new.line.items c.put_in_message.new.line.items c.put-2.new.line.items part3 rest3 (c.in_ok-put_in_message.ensures ∙ ap (λ (ys : List ℕ). c.put.new.line.items ++ ys) (ap (λ (text : List ℕ). flat_map escaped_in_message text) c.as_bytes.ensures.value))
+    (behind c.put-2.result c.put.new.line.items c.put_in_message.new.line.items c.put-2.new.line.items part3 rest3
+    (c.in_ok-put_in_message.ensures
+    ∙ ap (λ (ys : List ℕ). c.put.new.line.items ++ ys) (ap (λ (text : List ℕ). flat_map escaped_in_message text) c.as_bytes.ensures.value))
     (c.put-2.ensures)))

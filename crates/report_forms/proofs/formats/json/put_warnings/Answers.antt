@@ -13,7 +13,8 @@ loop-kind-preserved c =
     let part = json_kind c.args.report.now c.args.warnings.now in
     let before : List (List ℕ) = flat_map part (take c.loop-kind.kind-index kinds) in
     let here : List (List ℕ) = part (get_or kinds c.loop-kind.kind-index W1) in
-    let more : flat_map part (take (c.loop-kind.kind-index + 1) kinds) ≡ before ++ here = parts-more part kinds c.loop-kind.kind-index W1 c.loop-kind-test.true in
+    let more : flat_map part (take (c.loop-kind.kind-index + 1) kinds) ≡ before ++ here =
+    parts-more part kinds c.loop-kind.kind-index W1 c.loop-kind-test.true in
     let start = c.args.line.now.items in
     record {
       done = c.in_ok-still.ensures.bytes

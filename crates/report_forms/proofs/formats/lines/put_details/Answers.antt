@@ -15,7 +15,8 @@ returns c =
     let paths : List (List ℕ) = path_detail c.path.result in
     let same : records ++ (times ++ (bytes ++ paths)) ≡ details c.args.report.now c.args.told.now c.args.count =
     λ i. record_detail (c.record.ensures i) ++ (times ++ (byte_detail c.args.told.now.place (c.spot.ensures i) ++ path_detail (c.path.ensures i))) in
-    let all = four_details records times bytes paths c.in_ok-with_record.with_record c.in_ok-with_times.with_times c.in_ok-with_byte.with_byte c.in_ok-with_path.with_path
+    let all = four_details records times bytes paths c.in_ok-with_record.with_record c.in_ok-with_times.with_times c.in_ok-with_byte.with_byte
+    c.in_ok-with_path.with_path
     c.in_ok-with_record.ensures.begun c.in_ok-with_times.ensures.begun c.in_ok-with_byte.ensures.begun c.in_ok-with_path.ensures.begun in
     let rest4 : List ℕ = end c.in_ok-with_path.with_path in
     let part4 : List ℕ = next_details c.in_ok-with_byte.with_byte paths in
@@ -25,8 +26,10 @@ returns c =
     let part2 : List ℕ = next_details c.in_ok-with_record.with_record times in
     let rest1 : List ℕ = part2 ++ rest2 in
     let part1 : List ℕ = next_details false records in
-    subst (λ (ys : List ℕ). OnOk c.put_end.result (c.put_end.new.line.items ≡ start ++ ys)) (sym all ∙ ap (λ (items : List (List ℕ)). in_parentheses items) same)
+    subst (λ (ys : List ℕ). OnOk c.put_end.result (c.put_end.new.line.items ≡ start ++ ys))
+    (sym all ∙ ap (λ (items : List (List ℕ)). in_parentheses items) same)
     (behind c.put_end.result start c.put_record.new.line.items c.put_end.new.line.items part1 rest1 c.in_ok-with_record.ensures.bytes
     (behind c.put_end.result c.put_record.new.line.items c.put_times.new.line.items c.put_end.new.line.items part2 rest2 c.in_ok-with_times.ensures.bytes
     (behind c.put_end.result c.put_times.new.line.items c.put_byte.new.line.items c.put_end.new.line.items part3 rest3 c.in_ok-with_byte.ensures.bytes
-    (behind c.put_end.result c.put_byte.new.line.items c.put_path_of.new.line.items c.put_end.new.line.items part4 rest4 c.in_ok-with_path.ensures.bytes c.put_end.ensures))))
+    (behind c.put_end.result c.put_byte.new.line.items c.put_path_of.new.line.items c.put_end.new.line.items part4 rest4 c.in_ok-with_path.ensures.bytes
+    c.put_end.ensures))))

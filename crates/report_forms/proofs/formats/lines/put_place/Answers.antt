@@ -21,6 +21,7 @@ returns c =
     let part1 : List ℕ = beginning Part.Name c.args.style in
     behind c.put.result c.args.line.now.items c.put_beginning.new.line.items c.put.new.line.items part1 rest1 c.in_ok-put_beginning.ensures
     (behind c.put.result c.put_beginning.new.line.items c.put_name.new.line.items c.put.new.line.items part2 rest2 c.in_ok-put_name.ensures
-    (behind c.put.result c.put_name.new.line.items c.put_spot.new.line.items c.put.new.line.items part3 rest3 (c.in_ok-put_spot.ensures ∙ ap (λ (ys : List ℕ). c.put_name.new.line.items ++ ys) (ap (λ (spot : Option Spot). and_spot spot) c.spot.ensures))
+    (behind c.put.result c.put_name.new.line.items c.put_spot.new.line.items c.put.new.line.items part3 rest3
+    (c.in_ok-put_spot.ensures ∙ ap (λ (ys : List ℕ). c.put_name.new.line.items ++ ys) (ap (λ (spot : Option Spot). and_spot spot) c.spot.ensures))
     (behind c.put.result c.put_spot.new.line.items c.put_ending.new.line.items c.put.new.line.items part4 rest4 c.in_ok-put_ending.ensures
     (c.put.ensures))))

@@ -8,7 +8,8 @@ use Rattle.report_forms.proofs.formats.lines.put_warnings.Goals as goal
 
 pub loop-kind-preserved : goal.loop-kind-preserved
 loop-kind-preserved c = record {
-  done = one-more (lines_kind c.args.style c.args.report.now c.args.warnings.now) kinds c.loop-kind.kind-index W1 _ _ _ c.loop-kind-test.true c.loop-kind.invariant.done
+  done = one-more (lines_kind c.args.style c.args.report.now c.args.warnings.now) kinds c.loop-kind.kind-index W1 _ _ _ c.loop-kind-test.true
+      c.loop-kind.invariant.done
       c.in_ok-put_kind.ensures;
 }
 

@@ -10,7 +10,8 @@ use Rattle.report_forms.proofs.formats.sarif.put_causes.Goals as goal
 
 pub loop-cause-preserved : goal.loop-cause-preserved
 loop-cause-preserved c = record {
-  done = one-more (λ (cause : Cause). rule_and_break (Code.Cause cause)) causes c.loop-cause.cause-index Syntax _ _ _ c.loop-cause-test.true c.loop-cause.invariant.done c.in_ok-put_rule_and_break.ensures;
+  done = one-more (λ (cause : Cause). rule_and_break (Code.Cause cause)) causes c.loop-cause.cause-index Syntax _ _ _ c.loop-cause-test.true
+      c.loop-cause.invariant.done c.in_ok-put_rule_and_break.ensures;
 }
 
 pub returns : goal.returns

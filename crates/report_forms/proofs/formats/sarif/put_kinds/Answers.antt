@@ -10,7 +10,8 @@ use Rattle.report_forms.proofs.formats.sarif.put_kinds.Goals as goal
 
 pub loop-kind-preserved : goal.loop-kind-preserved
 loop-kind-preserved c = record {
-  done = one-more (λ (kind : Kind). break_and_warning (Code.Kind kind)) kinds c.loop-kind.kind-index W1 _ _ _ c.loop-kind-test.true c.loop-kind.invariant.done c.in_ok-put_break_and_warning.ensures;
+  done = one-more (λ (kind : Kind). break_and_warning (Code.Kind kind)) kinds c.loop-kind.kind-index W1 _ _ _ c.loop-kind-test.true c.loop-kind.invariant.done
+      c.in_ok-put_break_and_warning.ensures;
 }
 
 pub returns : goal.returns

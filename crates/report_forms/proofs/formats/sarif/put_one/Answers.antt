@@ -41,5 +41,7 @@ returns c =
     (behind c.put-7.result c.put-5.new.line.items c.put_location.new.line.items c.put-7.new.line.items part8 rest8 c.in_ok-put_location.ensures
     (behind c.put-7.result c.put_location.new.line.items c.put_region_if.new.line.items c.put-7.new.line.items part9 rest9 c.in_ok-put_region_if.ensures
     (behind c.put-7.result c.put_region_if.new.line.items c.put-6.new.line.items c.put-7.new.line.items part10 rest10 c.in_ok-put-6.ensures
-    (behind c.put-7.result c.put-6.new.line.items c.put_logical_location_of.new.line.items c.put-7.new.line.items part11 rest11 (c.in_ok-put_logical_location_of.ensures ∙ ap (λ (ys : List ℕ). c.put-6.new.line.items ++ ys) (ap (λ (path : Option Path). logical_location_of path) c.path.ensures))
+    (behind c.put-7.result c.put-6.new.line.items c.put_logical_location_of.new.line.items c.put-7.new.line.items part11 rest11
+    (c.in_ok-put_logical_location_of.ensures
+    ∙ ap (λ (ys : List ℕ). c.put-6.new.line.items ++ ys) (ap (λ (path : Option Path). logical_location_of path) c.path.ensures))
     (c.put-7.ensures)))))))))))

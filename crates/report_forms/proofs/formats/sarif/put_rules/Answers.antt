@@ -10,7 +10,8 @@ use Rattle.report_forms.proofs.formats.sarif.put_rules.Goals as goal
 
 pub loop-rule-preserved : goal.loop-rule-preserved
 loop-rule-preserved c = record {
-  done = one-more (λ (rule : Rule). rule_and_break (Code.Rule rule)) rules c.loop-rule.rule-index G1 _ _ _ c.loop-rule-test.true c.loop-rule.invariant.done c.in_ok-put_rule_and_break.ensures;
+  done = one-more (λ (rule : Rule). rule_and_break (Code.Rule rule)) rules c.loop-rule.rule-index G1 _ _ _ c.loop-rule-test.true c.loop-rule.invariant.done
+      c.in_ok-put_rule_and_break.ensures;
 }
 
 pub returns : goal.returns

@@ -11,6 +11,7 @@ returns c =
     let part2 : List ℕ = flat_map in_uri c.args.name.now in
     let rest1 : List ℕ = part2 ++ rest2 in
     let part1 : List ℕ = scheme_of c.args.name.now in
-    behind c.put-2.result c.args.line.now.items c.put.new.line.items c.put-2.new.line.items part1 rest1 (c.in_ok-put.ensures ∙ ap (λ (ys : List ℕ). c.args.line.now.items ++ ys) (c.scheme.ensures))
+    behind c.put-2.result c.args.line.now.items c.put.new.line.items c.put-2.new.line.items part1 rest1
+    (c.in_ok-put.ensures ∙ ap (λ (ys : List ℕ). c.args.line.now.items ++ ys) (c.scheme.ensures))
     (behind c.put-2.result c.put.new.line.items c.put_all_in_uri.new.line.items c.put-2.new.line.items part2 rest2 c.in_ok-put_all_in_uri.ensures
     (c.put-2.ensures))

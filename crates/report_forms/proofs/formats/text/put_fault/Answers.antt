@@ -23,10 +23,13 @@ returns c =
     let part2 : List ℕ = codes " at " in
     let rest1 : List ℕ = part2 ++ rest2 in
     let part1 : List ℕ = broken_or_refused c.args.told.now.code in
-    behind c.put_path_line_of.result c.args.line.now.items c.put_broken_or_refused.new.line.items c.put_path_line_of.new.line.items part1 rest1 c.in_ok-put_broken_or_refused.ensures
-    (behind c.put_path_line_of.result c.put_broken_or_refused.new.line.items c.put.new.line.items c.put_path_line_of.new.line.items part2 rest2 c.in_ok-put.ensures
+    behind c.put_path_line_of.result c.args.line.now.items c.put_broken_or_refused.new.line.items c.put_path_line_of.new.line.items part1 rest1
+    c.in_ok-put_broken_or_refused.ensures
+    (behind c.put_path_line_of.result c.put_broken_or_refused.new.line.items c.put.new.line.items c.put_path_line_of.new.line.items part2 rest2
+    c.in_ok-put.ensures
     (behind c.put_path_line_of.result c.put.new.line.items c.put_number.new.line.items c.put_path_line_of.new.line.items part3 rest3 c.in_ok-put_number.ensures
     (behind c.put_path_line_of.result c.put_number.new.line.items c.put-2.new.line.items c.put_path_line_of.new.line.items part4 rest4 c.in_ok-put-2.ensures
     (behind c.put_path_line_of.result c.put-2.new.line.items c.put_text.new.line.items c.put_path_line_of.new.line.items part5 rest5 c.in_ok-put_text.ensures
     (behind c.put_path_line_of.result c.put_text.new.line.items c.put-3.new.line.items c.put_path_line_of.new.line.items part6 rest6 c.in_ok-put-3.ensures
-    (subst (λ (ys : List ℕ). OnOk c.put_path_line_of.result (c.put_path_line_of.new.line.items ≡ c.put-3.new.line.items ++ ys)) (ap (λ (path : Option Path). path_line_of path) c.path.ensures) c.put_path_line_of.ensures))))))
+    (subst (λ (ys : List ℕ). OnOk c.put_path_line_of.result (c.put_path_line_of.new.line.items ≡ c.put-3.new.line.items ++ ys))
+    (ap (λ (path : Option Path). path_line_of path) c.path.ensures) c.put_path_line_of.ensures))))))

@@ -15,11 +15,13 @@ returns c =
       | in-Cause t ↦ (let e : is_cause c.args.code ≡ true = ap is_cause t.in-Cause.is in
           subst (λ (b : Bool). Adds c.args.self.now c.count.new.self false false (not b) b false (λ (other : Code). same other c.args.code)) (sym e)
           (Adds-after c.args.self.now mid c.count.new.self false false false true (λ (other : Code). same other c.args.code)
-          (ap (λ (s : Summary). s.valid) t.self-is) (ap (λ (s : Summary). s.warned) t.self-is) (ap (λ (s : Summary). s.broken) t.self-is) (ap (λ (s : Summary). s.refused) t.self-is ∙ t.saturating_add-self.ensures)
+          (ap (λ (s : Summary). s.valid) t.self-is) (ap (λ (s : Summary). s.warned) t.self-is) (ap (λ (s : Summary). s.broken) t.self-is)
+          (ap (λ (s : Summary). s.refused) t.self-is ∙ t.saturating_add-self.ensures)
           (ap (λ (s : Summary). s.not_valid) t.self-is) (ap (λ (s : Summary). s.unread) t.self-is) (ap (λ (s : Summary). s.counts) t.self-is) c.count.ensures))
       | in_default t ↦ (let e : is_cause c.args.code ≡ false = no-cause c.args.code t.in_default.not-Cause in
           subst (λ (b : Bool). Adds c.args.self.now c.count.new.self false false (not b) b false (λ (other : Code). same other c.args.code)) (sym e)
           (Adds-after c.args.self.now mid c.count.new.self false false true false (λ (other : Code). same other c.args.code)
-          (ap (λ (s : Summary). s.valid) t.self-is) (ap (λ (s : Summary). s.warned) t.self-is) (ap (λ (s : Summary). s.broken) t.self-is ∙ t.saturating_add-self-in_default.ensures) (ap (λ (s : Summary). s.refused) t.self-is)
+          (ap (λ (s : Summary). s.valid) t.self-is) (ap (λ (s : Summary). s.warned) t.self-is)
+          (ap (λ (s : Summary). s.broken) t.self-is ∙ t.saturating_add-self-in_default.ensures) (ap (λ (s : Summary). s.refused) t.self-is)
           (ap (λ (s : Summary). s.not_valid) t.self-is) (ap (λ (s : Summary). s.unread) t.self-is) (ap (λ (s : Summary). s.counts) t.self-is) c.count.ensures))
     ]

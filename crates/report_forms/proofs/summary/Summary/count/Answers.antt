@@ -9,7 +9,8 @@ returns-then-slot-lt-CODES c =
     let counts = c.args.self.now.counts in
     let slot = c.slot-slot.ensures in
     let within : slot_of c.args.code < length counts = omega (arith, slot, c.if-slot-lt-CODES.true) in
-    let one : c.saturating_add.result ≡ more true (get_or counts (slot_of c.args.code) 0) = c.saturating_add.ensures ∙ ap (λ (n : ℕ). more true (get_or counts n 0)) slot in
+    let one : c.saturating_add.result ≡ more true (get_or counts (slot_of c.args.code) 0) =
+    c.saturating_add.ensures ∙ ap (λ (n : ℕ). more true (get_or counts n 0)) slot in
     record {
       valid_is = refl;
       warned_is = refl;
@@ -17,7 +18,8 @@ returns-then-slot-lt-CODES c =
       refused_is = refl;
       not_valid_is = refl;
       unread_is = refl;
-      codes_are = λ code small. ap (λ (n : ℕ). get_or (set counts n c.saturating_add.result) (slot_of code) 0) slot ∙ counted-at counts code c.args.code c.saturating_add.result small within one;
+      codes_are = λ code small. ap (λ (n : ℕ). get_or (set counts n c.saturating_add.result) (slot_of code) 0) slot
+          ∙ counted-at counts code c.args.code c.saturating_add.result small within one;
     }
 
 pub returns-else-slot-lt-CODES : goal.returns-else-slot-lt-CODES
@@ -28,5 +30,6 @@ returns-else-slot-lt-CODES c = record {
   refused_is = refl;
   not_valid_is = refl;
   unread_is = refl;
-  codes_are = λ code small. ap (λ (t : Bool). more t (get_or c.args.self.now.counts (slot_of code) 0)) (sym (same-none code c.args.code small (omega (arith, c.slot-slot.ensures, c.if-slot-lt-CODES.false))));
+  codes_are = λ code small. ap (λ (t : Bool). more t (get_or c.args.self.now.counts (slot_of code) 0))
+      (sym (same-none code c.args.code small (omega (arith, c.slot-slot.ensures, c.if-slot-lt-CODES.false))));
 }

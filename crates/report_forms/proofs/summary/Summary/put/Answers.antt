@@ -10,5 +10,6 @@ pub returns : goal.returns
 unfolding summary_of
 returns c = λ files counts.
     let count : Code → ℕ = λ (code : Code). counted (tells code) files in
-    behind c.put_codes.result c.args.line.now.items c.put_files.new.line.items c.put_codes.new.line.items (files_line files) (code_lines count) (c.in_ok-put_files.ensures files counts)
+    behind c.put_codes.result c.args.line.now.items c.put_files.new.line.items c.put_codes.new.line.items (files_line files) (code_lines count)
+    (c.in_ok-put_files.ensures files counts)
     (c.put_codes.ensures count counts.codes)

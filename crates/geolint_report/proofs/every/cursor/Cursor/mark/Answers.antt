@@ -8,10 +8,13 @@ returns-then-count-gt0-clause-stands g c = λ was begun.
     let bound = c.in_ok-count.ensures.bound.0 in
     let one : length piece ≡ 1 = omega (arith, c.in_ok-count.ensures.bound) in
     let (mark, last, here, line, column, leads) = c.keep.ensures.last in
-    StandsBy-kept (g.S.Source.text c.args.source.now) piece c.in_ok-count.count c.args.place mark c.args.self.now c.keep.new.self bound (omega (arith, c.if-count-gt0.true)) one c.in_ok-count.ensures.bytes was
-    (c.keep.ensures.count (omega (arith, one, was, c.requires)) ∙ omega (arith, one, was)) (λ front is. c.keep.ensures.passed front is) last here line column (λ front is. leads front is) begun
+    StandsBy-kept (g.S.Source.text c.args.source.now) piece c.in_ok-count.count c.args.place mark c.args.self.now c.keep.new.self bound
+    (omega (arith, c.if-count-gt0.true)) one c.in_ok-count.ensures.bytes was
+    (c.keep.ensures.count (omega (arith, one, was, c.requires)) ∙ omega (arith, one, was)) (λ front is. c.keep.ensures.passed front is) last here line column
+    (λ front is. leads front is) begun
 
 pub returns-else-count-gt0-clause-stands : goal.returns-else-count-gt0-clause-stands
 returns-else-count-gt0-clause-stands g c = λ was begun.
     let (mark, last, here, line, column, none) = c.keep_end.ensures.last in
-    StandsBy-ended (g.S.Source.text c.args.source.now) c.args.place mark c.args.self.now c.keep_end.new.self was c.keep_end.ensures.passed c.keep_end.ensures.lines c.keep_end.ensures.path last here line column none begun
+    StandsBy-ended (g.S.Source.text c.args.source.now) c.args.place mark c.args.self.now c.keep_end.new.self was c.keep_end.ensures.passed
+    c.keep_end.ensures.lines c.keep_end.ensures.path last here line column none begun

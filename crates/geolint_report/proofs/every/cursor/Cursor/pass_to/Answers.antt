@@ -16,8 +16,10 @@ loop-self-preserved g c =
     c.pass.ensures.count (omega (arith, long, c.lesser-taken.ensures, c.loop-self-test.true)) ∙ omega (arith, long) in
     record {
       stands = λ begun.
-          let gave = subst (λ (text : Option (List ℕ)). GaveBy text c.loop-self.self.passed count piece) c.loop-self.invariant.text c.in_ok-count.ensures.bytes in
-          StandsBy-more (g.S.Source.text c.args.source.now) piece count taken c.loop-self.self c.pass.new.self bound less gave passed (λ front is. c.pass.ensures.passed front is) c.pass.ensures.last c.pass.ensures.framing (c.loop-self.invariant.stands begun);
+          let gave = subst (λ (text : Option (List ℕ)). GaveBy text c.loop-self.self.passed count piece) c.loop-self.invariant.text
+          c.in_ok-count.ensures.bytes in
+          StandsBy-more (g.S.Source.text c.args.source.now) piece count taken c.loop-self.self c.pass.new.self bound less gave passed
+          (λ front is. c.pass.ensures.passed front is) c.pass.ensures.last c.pass.ensures.framing (c.loop-self.invariant.stands begun);
       text = c.read_from.ensures.text ∙ c.loop-self.invariant.text;
       framing = c.pass.ensures.framing ∙ c.loop-self.invariant.framing;
       unfailed = c.in_ok-count.ensures.failed ∙ c.loop-self.invariant.unfailed;

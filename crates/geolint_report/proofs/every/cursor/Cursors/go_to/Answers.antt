@@ -13,4 +13,5 @@ pub returns-clause-mark : goal.returns-clause-mark
 returns-clause-mark g c = λ framing stand.
     let text = g.S.Source.text c.args.source.now in
     let ((ahead, behind), stands, rests) = c.begin.ensures framing text stand in
-    subst (λ (f : Option Framing). IfOk c.go_to.result (λ found. IfSome found (λ mark. IsMarkBy f text c.args.note.now.told.place mark))) ahead (c.go_to.ensures.mark stands)
+    subst (λ (f : Option Framing). IfOk c.go_to.result (λ found. IfSome found (λ mark. IsMarkBy f text c.args.note.now.told.place mark))) ahead
+    (c.go_to.ensures.mark stands)

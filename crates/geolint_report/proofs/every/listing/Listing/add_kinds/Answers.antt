@@ -22,7 +22,8 @@ loop-kind-preserved c =
     let here : List Note = part (get_or kinds i W1) in
     let more : flat_map part (take (i + 1) kinds) ≡ before ++ here = parts-more part kinds i W1 c.loop-kind-test.true in
     record {
-      keeps = λ all keeps. subst (λ (ys : List Note). Keeps c.add_kind.new.self ys) (append_assoc all before here ∙ ap (λ (ys : List Note). all ++ ys) (sym more))
+      keeps = λ all keeps. subst (λ (ys : List Note). Keeps c.add_kind.new.self ys)
+          (append_assoc all before here ∙ ap (λ (ys : List Note). all ++ ys) (sym more))
           (c.add_kind.ensures.keeps (all ++ before) (c.loop-kind.invariant.keeps all keeps));
       asked = c.add_kind.ensures.asked ∙ c.loop-kind.invariant.asked;
       items = c.add_kind.ensures.items ∙ c.loop-kind.invariant.items;

@@ -10,11 +10,13 @@ returns-in-Some-clause-stands c = λ front stands. c.feed_record.ensures.stands 
 
 -- a text that is no record goes on with the bytes
 joined : (framing : Option Framing) (front bytes : List ℕ) → framing ≡ None → text_of framing (front ++ bytes) ≡ text_of framing front ++ bytes
-joined framing front bytes plain = ap (λ (f : Option Framing). text_of f (front ++ bytes)) plain ∙ ap (λ (f : Option Framing). text_of f front ++ bytes) (sym plain)
+joined framing front bytes plain =
+    ap (λ (f : Option Framing). text_of f (front ++ bytes)) plain ∙ ap (λ (f : Option Framing). text_of f front ++ bytes) (sym plain)
 
 pub returns-in-None-clause-stands : goal.returns-in-None-clause-stands
 returns-in-None-clause-stands c = λ front stands.
     let old = c.args.self.now in
     let bytes = c.args.bytes.now in
     let kind = ap (λ (f : Option Framing). text_of f (front ++ bytes)) c.feed_text.ensures.framing in
-    subst (Follows c.feed_text.new.self) (sym (kind ∙ joined old.framing front bytes c.in-None.is)) (c.feed_text.ensures.follows (text_of old.framing front) stands)
+    subst (Follows c.feed_text.new.self) (sym (kind ∙ joined old.framing front bytes c.in-None.is))
+    (c.feed_text.ensures.follows (text_of old.framing front) stands)

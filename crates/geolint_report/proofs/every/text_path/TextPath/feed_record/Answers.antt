@@ -14,7 +14,8 @@ returns-in-Some-clause-stands c = λ front kind stands.
     let byte = get_or bytes last 0 in
     let is : is_separator c.args.framing byte ≡ true = sym (ap (nat_eq byte) c.separator.ensures) ∙ c.in-Some.ensures.1 in
     let none : has_separator c.args.framing (drop (last + 1) bytes) ≡ false =
-    rest-separates c.args.framing bytes (last + 1) (λ k from within is. c.in-Some.ensures.0.after k from within (ap (nat_eq (get_or bytes k 0)) c.separator.ensures ∙ is)) in
+    rest-separates c.args.framing bytes (last + 1)
+    (λ k from within is. c.in-Some.ensures.0.after k from within (ap (nat_eq (get_or bytes k 0)) c.separator.ensures ∙ is)) in
     let after = c.feed_text.ensures.follows [] (λ live. (c.new-self.ensures.stands, c.new-self.ensures.open)) in
     let same = ap (λ (f : Option Framing). text_of f (front ++ bytes)) (c.feed_text.ensures.framing ∙ kind) in
     let record_is = last_record-parted c.args.framing front bytes last c.in-Some.ensures.0.high is none in

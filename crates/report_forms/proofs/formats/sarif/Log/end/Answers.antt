@@ -17,7 +17,9 @@ returns c =
     let rest1 : List ℕ = part2 ++ rest2 in
     let part1 : List ℕ = codes "],\"invocations\":[{\"executionSuccessful\":" in
     behind c.put-4.result c.args.line.now.items c.put.new.line.items c.put-4.new.line.items part1 rest1 c.in_ok-put.ensures
-    (behind c.put-4.result c.put.new.line.items c.put_truth.new.line.items c.put-4.new.line.items part2 rest2 (c.in_ok-put_truth.ensures ∙ ap (λ (ys : List ℕ). c.put.new.line.items ++ ys) (ap (λ (all : Bool). truth all) c.has_read_all.ensures))
+    (behind c.put-4.result c.put.new.line.items c.put_truth.new.line.items c.put-4.new.line.items part2 rest2
+    (c.in_ok-put_truth.ensures ∙ ap (λ (ys : List ℕ). c.put.new.line.items ++ ys) (ap (λ (all : Bool). truth all) c.has_read_all.ensures))
     (behind c.put-4.result c.put_truth.new.line.items c.put-2.new.line.items c.put-4.new.line.items part3 rest3 c.in_ok-put-2.ensures
-    (behind c.put-4.result c.put-2.new.line.items c.put-3.new.line.items c.put-4.new.line.items part4 rest4 (c.in_ok-put-3.ensures ∙ ap (λ (ys : List ℕ). c.put-2.new.line.items ++ ys) (c.as_slice.ensures.value))
+    (behind c.put-4.result c.put-2.new.line.items c.put-3.new.line.items c.put-4.new.line.items part4 rest4
+    (c.in_ok-put-3.ensures ∙ ap (λ (ys : List ℕ). c.put-2.new.line.items ++ ys) (c.as_slice.ensures.value))
     (c.put-4.ensures))))

@@ -11,4 +11,5 @@ returns-clause-bytes c =
     let is_first = c.args.self.now.is_first in
     let bytes : List ℕ = sarif_result c.args.report.now c.args.level.now c.args.told.now c.args.count in
     subst (λ (ys : List ℕ). OnOk c.put_one.result (c.put_one.new.line.items ≡ start ++ ys)) (one-result is_first bytes)
-    (behind c.put_one.result start c.begin_result.new.line.items c.put_one.new.line.items (break_unless is_first) bytes c.in_ok-begin_result.ensures.bytes c.put_one.ensures)
+    (behind c.put_one.result start c.begin_result.new.line.items c.put_one.new.line.items
+    (break_unless is_first) bytes c.in_ok-begin_result.ensures.bytes c.put_one.ensures)
