@@ -1,8 +1,7 @@
 -- Files of another kind, by their first bytes.
-use Rattle.std.specs.Prelude.{ℕ, Bool, ◌||◌, List, drop, Option, Some, None, is_some, codes, nat_eq, if◌then◌else◌}
+use Rattle.std.specs.Prelude.{ℕ, Bool, ◌||◌, List, [], ◌∷◌, drop, Option, Some, None, codes, nat_eq, if◌then◌else◌}
 use Rattle.std.specs.Char.{is_ascii_whitespace}
 use Rattle.std.specs.List.{starts_with, prefix_len}
-use Rattle.memchr.specs.Find.{first_of, matches}
 use Rattle.gj_hints.specs.declared.kind.Hint.{Hint}
 use Rattle.gj_hints.specs.declared.formats.TheConstants.{GZIP, ZIP, SHAPEFILE, FLAT_GEOBUF, MARK, MARK_LITTLE, MARK_BIG, BRACE_LITTLE, BRACE_BIG}
 
@@ -10,8 +9,9 @@ abbrev pub begins : List ℕ → List ℕ → Bool
 begins bytes front = starts_with nat_eq bytes front
 
 -- the part stands somewhere in the bytes
-abbrev pub holds : List ℕ → List ℕ → Bool
-holds bytes part = is_some (first_of (matches bytes part 0))
+unfoldable pub holds : List ℕ → List ℕ → Bool
+holds [] part = begins [] part
+holds (byte ∷ bytes) part = begins (byte ∷ bytes) part || holds bytes part
 
 -- the first hint, or else the second
 abbrev pub or_else : Option Hint → Option Hint → Option Hint

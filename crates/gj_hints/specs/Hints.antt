@@ -1,5 +1,5 @@
 -- Which hint is given: by what is wrong, the first bytes of the file, and those before the place and from it on.
-use Rattle.std.specs.Prelude.{ℕ, Bool, ◌||◌, ◌&&◌, List, [], ◌∷◌, length, Option, Some, None, codes, nat_eq, if◌then◌else◌}
+use Rattle.std.specs.Prelude.{ℕ, Bool, ◌||◌, ◌&&◌, List, length, Option, Some, None, codes, nat_eq, if◌then◌else◌}
 use Rattle.gj_hints.specs.declared.clues.Clues.{Clues}
 use Rattle.gj_hints.specs.declared.clues.TheConstants.{SEPARATOR}
 use Rattle.gj_hints.specs.declared.clues.Wrong.{Wrong}

@@ -1,5 +1,5 @@
 -- Bytes that only look like JSON, by those before a place and from it on.
-use Rattle.std.specs.Prelude.{ℕ, ◌-◌, Bool, true, false, ◌||◌, ◌&&◌, List, [], ◌∷◌, length, take, get_or, slice_get, Option, Some}
+use Rattle.std.specs.Prelude.{ℕ, ◌-◌, Bool, false, ◌||◌, ◌&&◌, List, [], ◌∷◌, length, take, get_or, slice_get, Option, Some}
 use Rattle.std.specs.Prelude.{None, codes, nat_eq, nat_le, if◌then◌else◌}
 use Rattle.std.specs.Char.{is_ascii_whitespace}
 use Rattle.std.specs.List.{suffix_len}

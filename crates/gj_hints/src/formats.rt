@@ -4,7 +4,6 @@ ghost use Rattle.gj_hints.specs.Formats.{begins, holds, without_mark, without_wh
 ghost use Rattle.gj_hints.specs.Formats.{kind_of};
 
 use crate::kind::Hint;
-use memchr::memmem;
 
 const GZIP: [u8; 2] = [0x1F, 0x8B];
 
@@ -147,5 +146,12 @@ pub fn begins(bytes: &[u8], front: &[u8]) -> bool
 pub fn holds(bytes: &[u8], part: &[u8]) -> bool
     ensures { result ≡ holds bytes.now part.now }
 {
-    memmem::find(bytes, part).is_some()
+    let mut rest = bytes;
+    while let Some((_, more)) = rest.split_first() {
+        if begins(rest, part) {
+            return true;
+        }
+        rest = more;
+    }
+    begins(rest, part)
 }
