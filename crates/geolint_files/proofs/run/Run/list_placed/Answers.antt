@@ -1,4 +1,4 @@
-use Rattle.std.proofs.Common.{subst, List, ℕ}
+use Rattle.std.proofs.Common.{refl, subst, List, ℕ}
 use Rattle.std.specs.Prelude.{Option}
 use Rattle.std.proofs.lemmas.Result.{on_ok_weaker}
 use Rattle.gj_rules.specs.declared.records.framing.Framing.{Framing}

@@ -40,8 +40,6 @@ returns g c =
       line = ap (λ (line : Vec ℕ Global). line.items) c.show.ensures.line ∙ c.in_ok-write.ensures.line;
       adds = λ bytes. record {
         passes = refl;
-        tally = c.show.ensures.same.tally ∙ c.write.ensures.same.tally ∙ c.put.ensures.same.tally;
-        none = refl;
         told = told;
         is_report = subst (λ (p : Bool). IsReport old.options.format old.style old.log.is_first (report p) old.options.strict old.options.allowed told)
             c.passes-passes.ensures is_report;
