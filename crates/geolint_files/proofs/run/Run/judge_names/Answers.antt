@@ -1,6 +1,16 @@
+use Rattle.std.proofs.Common.{refl}
 use Rattle.std.proofs.lemmas.Result.{on_ok_weaker}
-use Rattle.geolint_files.proofs.ToldFiles.{TellsFiles-then}
+use Rattle.geolint_files.proofs.ToldFiles.{TellsFiles-none, TellsFiles-then}
 use Rattle.geolint_files.proofs.run.Run.judge_names.Goals as goal
+
+pub loop-init : goal.loop-init
+loop-init g c =
+    TellsFiles-none g.W.Write.contents c.args.self.now c.args.self.now (record {
+      same = record { options = refl; style = refl; outcome = refl; summary = refl; tally = refl };
+      out = refl;
+      log = refl;
+      line = refl;
+    })
 
 pub returns-in-Err : goal.returns-in-Err
 returns-in-Err g c =
