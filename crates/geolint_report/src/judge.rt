@@ -1,5 +1,7 @@
 //! The first reading: what a file is.
-ghost use Rattle.std.specs.Prelude.{◌≡◌, [], IfOk};
+ghost use Rattle.std.specs.Prelude.{◌≡◌, ℕ, [], List, IfOk};
+ghost use Rattle.gj_rules.specs.Linter.{StandsFor, limits_of};
+ghost use Rattle.gj_rules.specs.Verdict.{IsVerdict};
 ghost use Rattle.geolint_report.specs.Judged.{CountsFailure, JudgesRead, JudgesQuickly, JudgesSequence, JudgesLines, Finds, valid_in};
 ghost use Rattle.geolint_report.specs.ReadingLoop.{Ends};
 
@@ -11,7 +13,8 @@ use gj_coords::Warnings;
 use gj_json::Limits;
 use gj_rules::record_laws::one_finding;
 use gj_rules::{
-    Framing, Linter, Records, SeqVerdict, Sequence, Verdict, one_sequence_verdict, one_verdict,
+    Framing, Linter, Progress, Records, SeqVerdict, Sequence, Verdict, one_sequence_verdict,
+    one_verdict,
 };
 use std::io;
 
@@ -114,6 +117,16 @@ pub fn read<S: Source, L, F: Feeds<L>>(
     }
 }
 
+/// The verdict of what a linter was fed. One that has refused a byte stays as it is: a hint depends on where it stopped.
+fn verdict_of(linter: &mut Linter, limits: Limits) -> Verdict
+    ensures { (bytes : List ℕ) → StandsFor linter.old bytes → IsVerdict (limits_of linter.old) bytes result }
+{
+    match linter.feed(&[]) {
+        Progress::Refused(fault) => Verdict::NotJson(fault),
+        Progress::Open => linter.finish_and_begin(limits),
+    }
+}
+
 /// The verdict of one text. No read follows a refusal.
 fn judge_text<S: Source>(
     reader: &mut S,
@@ -128,7 +141,7 @@ fn judge_text<S: Source>(
     one_verdict();
     let _left = linter.finish_and_begin(limits);
     match read::<S, Linter, Texts>(reader, linter, limits, meter) {
-        Ok(_) => Ok(linter.finish_and_begin(limits)),
+        Ok(_) => Ok(verdict_of(linter, limits)),
         Err(error) => Err(error),
     }
 }

@@ -12,4 +12,4 @@ returns-in-Ok-clause-verdict g c =
     let limits = c.finish_and_begin-left.ensures.limits in
     Judges-fed IsVerdict c.one_verdict.ensures.one (StandsFor linter) (IsRefused (limits_of linter)) (limits_of linter) c.args.limits
     (c.read.ensures.limits ∙ limits) _ _ c.in-Ok.field-0 _
-    (c.in-Ok.ensures.ends c.finish_and_begin-left.ensures.stands limits) c.finish_and_begin.ensures.verdict (λ read decided. (NotJson decided.0, decided.1))
+    (c.in-Ok.ensures.ends c.finish_and_begin-left.ensures.stands limits) c.verdict_of.ensures (λ read decided. (NotJson decided.0, decided.1))
