@@ -1,9 +1,9 @@
-//! The features of a file are set apart into files, and it is said how many they are.
+//! The features or the records of a file are set apart into files, and it is said how many they are.
 
 use crate::files::{is_memory, reason, spell};
+use crate::walk::framing_of;
 use crate::words::{Order, Parts};
 use geolint_report::line::{put, put_number};
-use gj_rules::Verdict;
 use report_forms::formats::put_name;
 use split_files::{Counts, Order as SplitOrder, Part, Stop, Undone, Written, split_file};
 use std::alloc::AllocError;
@@ -48,6 +48,7 @@ fn write_parts(
             prefix: prefix.as_str(),
             overwrites: parts.overwrites,
             limits: order.options.limits,
+            framing: order.options.framing.or(framing_of(path)),
         },
     ))
 }
@@ -67,13 +68,12 @@ fn put_written(
     put_number(line, written.counts.broken)?;
     put(line, b" in ")?;
     put_part(Part::Broken, parts, line)?;
-    match written.verdict {
-        Verdict::NotJson(_) => {
-            put(line, b"; these are the features before the place where ")?;
-            put_name(path, line)?;
-            put(line, b" is not JSON\n")
-        }
-        _ => put(line, b"\n"),
+    if written.is_refused {
+        put(line, b"; these are the features before the place where ")?;
+        put_name(path, line)?;
+        put(line, b" is not JSON\n")
+    } else {
+        put(line, b"\n")
     }
 }
 
@@ -139,7 +139,7 @@ fn put_counts(counts: Counts, line: &mut Vec<u8>) -> Result<(), AllocError> {
     put_number(line, counts.valid)?;
     put(line, b" valid and ")?;
     put_number(line, counts.broken)?;
-    put(line, b" broken features were written whole")
+    put(line, b" broken ones were written whole")
 }
 
 /// Puts the name of a file that is written.

@@ -332,12 +332,6 @@ fn wrong_split(given: &ArgMatches<'_>, paths: &[Vec<u8>], has_list: bool) -> Opt
             b"-" => Some(
                 "'--split <PREFIX>' needs a file, which it reads twice: write standard input to one first",
             ),
-            name
-                if given.get_flag("seq")
-                    || given.get_flag("ndjson")
-                    || framing_of(name).is_some() => {
-                Some("'--split <PREFIX>' takes one text, and no file of records or lines")
-            }
             _ => None,
         },
         _ => Some("'--split <PREFIX>' takes one file"),

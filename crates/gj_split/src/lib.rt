@@ -10,9 +10,11 @@ mod copy;
 pub mod laws;
 mod ranges;
 mod reading;
+mod records;
 mod scan;
 mod splitter;
 
 pub use ranges::{Ranges, Stop};
 pub use reading::split;
+pub use records::split_records;
 pub use splitter::{BrokenList, Counts, Ended, Outputs};

@@ -3,8 +3,8 @@
 use crate::file_ranges::FileRanges;
 use crate::finding_list::FindingList;
 use gj_json::Limits;
-use gj_rules::Verdict;
-use gj_split::{Counts, Outputs, Stop, split};
+use gj_rules::{Framing, Verdict};
+use gj_split::{Counts, Ended, Outputs, Stop, split, split_records};
 use std::alloc::{AllocError, Global};
 use std::fs::{self, File, OpenOptions};
 use std::io::{self, BufWriter, Write};
@@ -19,6 +19,8 @@ pub struct Order<'a> {
     /// Whether existing files of these names are overwritten.
     pub overwrites: bool,
     pub limits: Limits,
+    /// How its texts are set apart, where it has more than one.
+    pub framing: Option<Framing>,
 }
 
 /// A file that is written.
@@ -43,8 +45,8 @@ impl Part {
 /// What came of a file that was split.
 #[derive(Clone, Copy)]
 pub struct Written {
-    /// The verdict of the file as a text. Of a file that is not JSON, the features before the refusal were written.
-    pub verdict: Verdict,
+    /// Whether the file is one text that is no JSON. The features before the refusal were written.
+    pub is_refused: bool,
     pub counts: Counts,
 }
 
@@ -84,19 +86,49 @@ pub fn split_file(rt: &HostRuntime, order: &Order<'_>) -> Result<Written, Undone
             out: make(rt, order, Part::List)?,
         },
     };
-    let mut ended = split(&source, order.limits, outputs);
-    let verdict = match ended.outcome {
-        Ok(verdict) => verdict,
-        Err(stop) => return Err(Undone::Stopped(stop, ended.counts)),
-    };
-    if let Err(error) = flush(&mut ended.outputs) {
-        return Err(Undone::Stopped(Stop::Write(error), ended.counts));
+    match order.framing {
+        None => {
+            let ended = split(&source, order.limits, outputs);
+            let written = done(ended)?;
+            unchanged(
+                &source,
+                Written {
+                    is_refused: matches!(written.0, Verdict::NotJson(_)),
+                    counts: written.1,
+                },
+            )
+        }
+        Some(framing) => {
+            let ended = split_records(&source, framing, order.limits, outputs);
+            let written = done(ended)?;
+            unchanged(
+                &source,
+                Written {
+                    is_refused: false,
+                    counts: written.1,
+                },
+            )
+        }
     }
+}
+
+/// The verdict and the counts of a split whose parts are written out.
+fn done<T: Drop, V: Write + Drop, B: Write + Drop, L: Write + Drop>(
+    ended: Ended<T, V, B, FindingList<L>>,
+) -> Result<(T, Counts), Undone> {
+    let mut outputs = ended.outputs;
+    match ended.outcome {
+        Ok(verdict) => match flush(&mut outputs) {
+            Ok(()) => Ok((verdict, ended.counts)),
+            Err(error) => Err(Undone::Stopped(Stop::Write(error), ended.counts)),
+        },
+        Err(stop) => Err(Undone::Stopped(stop, ended.counts)),
+    }
+}
+
+fn unchanged(source: &FileRanges, written: Written) -> Result<Written, Undone> {
     if source.is_unchanged() {
-        Ok(Written {
-            verdict,
-            counts: ended.counts,
-        })
+        Ok(written)
     } else {
         Err(Undone::Changed)
     }
