@@ -29,7 +29,7 @@ has_line_feed-feed [] byte is = rw is refl
 has_line_feed-feed (first ∷ more) byte is = rw (has_line_feed-feed more byte is) (or_true (is_line_feed first))
 
 -- another byte at the end changes nothing
-has_line_feed-other : (bytes : List ℕ) (byte : ℕ) → is_line_feed byte ≡ false → has_line_feed (bytes ++ byte ∷ []) ≡ has_line_feed bytes
+pub has_line_feed-other : (bytes : List ℕ) (byte : ℕ) → is_line_feed byte ≡ false → has_line_feed (bytes ++ byte ∷ []) ≡ has_line_feed bytes
 has_line_feed-other [] byte is = rw is refl
 has_line_feed-other (first ∷ more) byte is = ap (λ (b : Bool). is_line_feed first || b) (has_line_feed-other more byte is)
 

@@ -53,6 +53,15 @@ last_line-longer [] ys lacks = last_line-none ys lacks
 last_line-longer (x ∷ xs) ys lacks =
     rw (has-neither (x ∷ xs) ys lacks) (last_line-longer-by (has_line_feed (x ∷ xs)) x xs ys (last_line-longer xs ys lacks))
 
+last_line-short-by : (has : Bool) (x : ℕ) (xs : List ℕ) → length (last_line xs) ≤ length xs
+    → length (if has then last_line xs else x ∷ xs) ≤ length (x ∷ xs)
+last_line-short-by true x xs rest = omega (arith, rest)
+last_line-short-by false x xs rest = omega arith
+
+pub last_line-short : (xs : List ℕ) → length (last_line xs) ≤ length xs
+last_line-short [] = omega arith
+last_line-short (x ∷ xs) = last_line-short-by (has_line_feed (x ∷ xs)) x xs (last_line-short xs)
+
 -- ---- the last of a list
 
 -- where there are n of them behind the others

@@ -1,3 +1,4 @@
+mod Blocks
 mod CountedBytes
 mod CountedPieces
 mod KeptLines

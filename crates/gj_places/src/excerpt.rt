@@ -1,9 +1,11 @@
 //! The part of a line around a place.
 
 ghost use Rattle.std.specs.Prelude.{◌≡◌, ◌++◌, IfOk, OnOk, string_bytes, encode_utf8_all};
+ghost use Rattle.gj_places.specs.Lines.{last_line};
 ghost use Rattle.gj_places.specs.Excerpts.{last_of, without_return, harmless, characters_of, cut_front, cut_back};
 
 use arrayvec::ArrayVec;
+use memchr::memrchr;
 use std::alloc::{AllocError, Global};
 use unicode_width::UnicodeWidthStr;
 
@@ -60,7 +62,9 @@ impl Excerpt {
             self.push_all_before(piece);
         } else {
             self.before.clear();
-            self.push_all_before(last_bytes(piece));
+            let _fits = self
+                .before
+                .try_extend_from_slice(line_end(last_bytes(piece)));
         }
     }
 
@@ -139,6 +143,16 @@ fn last_bytes(bytes: &[u8]) -> &[u8]
     ensures { result.now ≡ last_of 256 bytes.now }
 {
     &bytes[bytes.len().saturating_sub(MOST_BYTES)..]
+}
+
+/// The bytes after the last LF, or all where there is none.
+fn line_end(bytes: &[u8]) -> &[u8]
+    ensures { result.now ≡ last_line bytes.now }
+{
+    match memrchr(b'\n', bytes) {
+        Some(last) => &bytes[last + 1..],
+        None => bytes,
+    }
 }
 
 /// The bytes without a CR at their end, which belongs to the end of the line.

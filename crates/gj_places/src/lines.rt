@@ -1,7 +1,7 @@
 //! The line and the column of a place.
 
-ghost use Rattle.std.specs.Prelude.{◌≡◌, ◌≤◌, length};
-ghost use Rattle.gj_places.specs.Lines.{begins_character, line_feeds, characters};
+ghost use Rattle.std.specs.Prelude.{◌≡◌, ◌≤◌, length, true, false};
+ghost use Rattle.gj_places.specs.Lines.{is_line_feed, begins_character, line_feeds, characters, has_line_feed};
 ghost use Rattle.gj_places.specs.declared.lines.TheConstants.{BLOCK};
 
 use memchr::memrchr;
@@ -12,6 +12,9 @@ const LINE_FEED: u8 = b'\n';
 /// The number of bytes that are counted at a time: few enough that a `u8` holds the count, and one vector instruction
 /// counts 16 of them.
 const BLOCK: usize = 192;
+
+/// The number of bytes that are looked at together for a line of ASCII.
+const PLAIN_BLOCK: usize = 256;
 
 /// The line and the column of the place after the bytes that were fed.
 ///
@@ -32,6 +35,7 @@ fn begins_character(byte: u8) -> bool
 }
 
 /// How many lines end in a block.
+#[inline(always)]
 fn line_feeds_in_block(block: &[u8]) -> u8
     requires { length block.now ≤ BLOCK }
     ensures { result ≡ line_feeds block.now }
@@ -49,14 +53,16 @@ fn line_feeds_in_block(block: &[u8]) -> u8
 fn line_feeds(bytes: &[u8]) -> u64
     ensures { result ≡ line_feeds bytes.now }
 {
+    let (blocks, rest) = bytes.as_chunks::<BLOCK>();
     let mut count = 0;
-    for block in bytes.chunks(BLOCK) {
+    for block in blocks {
         count += u64::from(line_feeds_in_block(block));
     }
-    count
+    count + u64::from(line_feeds_in_block(rest))
 }
 
 /// How many characters begin in a block.
+#[inline(always)]
 fn characters_in_block(block: &[u8]) -> u8
     requires { length block.now ≤ BLOCK }
     ensures { result ≡ characters block.now }
@@ -74,11 +80,45 @@ fn characters_in_block(block: &[u8]) -> u8
 fn characters(bytes: &[u8]) -> u64
     ensures { result ≡ characters bytes.now }
 {
+    let (blocks, rest) = bytes.as_chunks::<BLOCK>();
     let mut count = 0;
-    for block in bytes.chunks(BLOCK) {
+    for block in blocks {
         count += u64::from(characters_in_block(block));
     }
-    count
+    count + u64::from(characters_in_block(rest))
+}
+
+/// Whether a byte is between 11 and 127.
+#[inline(always)]
+fn is_plain_byte(byte: u8) -> bool
+    ensures { result ≡ true → (is_line_feed byte ≡ false) × (begins_character byte ≡ true) }
+{
+    (LINE_FEED + 1..=0x7F).contains(&byte)
+}
+
+/// Whether each byte of a block is between 11 and 127: a character of its own, and no LF.
+#[inline(always)]
+fn is_plain_block(block: &[u8]) -> bool
+    ensures { result ≡ true → (has_line_feed block.now ≡ false) × (characters block.now ≡ length block.now) }
+{
+    let mut all = true;
+    for byte in block {
+        all &= is_plain_byte(*byte);
+    }
+    all
+}
+
+/// Whether all bytes are of one line, and each is a character. It may say no where they are, if one is below 11.
+fn is_plain(bytes: &[u8]) -> bool
+    ensures { result ≡ true → (has_line_feed bytes.now ≡ false) × (characters bytes.now ≡ length bytes.now) }
+{
+    let (blocks, rest) = bytes.as_chunks::<PLAIN_BLOCK>();
+    for block in blocks {
+        if !is_plain_block(block) {
+            return false;
+        }
+    }
+    is_plain_block(rest)
 }
 
 impl Lines {
@@ -98,6 +138,10 @@ impl Lines {
     pub fn feed(&mut self, piece: &[u8])
         ensures { (bytes : List ℕ) → StandsFor self.old bytes → StandsFor self.new (bytes ++ piece.now) }
     {
+        if is_plain(piece) {
+            self.column = self.column.saturating_add(piece.len() as u64);
+            return;
+        }
         match memrchr(LINE_FEED, piece) {
             Some(last) => {
                 self.end_lines(&piece[..last]);

@@ -1,20 +1,43 @@
-use Rattle.std.proofs.Common.{rules, arith, ◌≡◌, ◌≤◌, ◌<◌, ◌+◌, ℕ, ap, sym, ◌∙◌, length, w64, Fits}
-use Rattle.std.specs.Slice.Iter.{chunks_rest}
+use Rattle.std.proofs.Common.{rules, arith, ◌≡◌, ◌<◌, ◌+◌, ◌*◌, ◌/◌, [], ap, length, take, get_or, w64, Fits}
+use Rattle.std.proofs.lemmas.List.{length-take}
 use Rattle.gj_places.specs.Lines.{line_feeds}
+use Rattle.gj_places.proofs.Blocks.{next_block, blocks_and_rest}
 use Rattle.gj_places.proofs.CountedPieces.{line_feeds-append, line_feeds-at-most}
 use Rattle.gj_places.proofs.lines.line_feeds.Goals as goal
 
--- the block and what comes after it
-counted : (c : goal.After-from-count) → c.loop-block.count + c.from-count.result + line_feeds (chunks_rest c.next.new.self) ≡ line_feeds c.args.bytes.now
+counted : (c : goal.After-from-count) → c.loop-block.count + c.from-count.result ≡ line_feeds (take ((c.loop-block.block-index + 1) * 192) c.args.bytes.now)
 counted c =
-    let parts = ap line_feeds (c.in-Some.ensures.steps.1.0) in
-    let sum = line_feeds-append c.in-Some.block.now (chunks_rest c.next.new.self) in
-    omega (arith, parts, sum, c.loop-block.invariant.1, c.from-count.ensures, c.line_feeds_in_block.ensures)
+    let bytes = c.args.bytes.now in
+    let i = c.loop-block.block-index in
+    let blocks = c.as_chunks.result.0.now in
+    let less : i < length bytes / 192 = omega (arith, c.loop-block-test.true, c.loop-block.auto.block-index-end, c.as_chunks.ensures.front_len) in
+    let next = ap line_feeds (next_block 192 i (length bytes / 192) bytes blocks c.as_chunks.ensures.front less) in
+    let sum = line_feeds-append (take (i * 192) bytes) (get_or blocks i []) in
+    omega (arith, next, sum, c.loop-block.invariant, c.from-count.ensures, c.line_feeds_in_block.ensures)
 
 pub overflow_add-count : goal.overflow_add-count
 overflow_add-count c =
-    let long : Fits w64 (length c.args.bytes.now) = search rules in
-    omega (arith, counted c, line_feeds-at-most c.args.bytes.now, long)
+    let bytes = c.args.bytes.now in
+    let front = (c.loop-block.block-index + 1) * 192 in
+    let long : Fits w64 (length bytes) = search rules in
+    omega (arith, counted c, line_feeds-at-most (take front bytes), length-take front bytes, long)
 
 pub loop-block-preserved : goal.loop-block-preserved
-loop-block-preserved c = (c.in-Some.ensures.steps.0 ∙ c.loop-block.invariant.0, counted c)
+loop-block-preserved c = counted c
+
+all : (c : goal.After-from) → c.loop-block.count + c.from.result ≡ line_feeds c.args.bytes.now
+all c =
+    let bytes = c.args.bytes.now in
+    let i = c.loop-block.block-index in
+    let end : i ≡ length bytes / 192 = omega (arith, c.loop-block-test.false, c.loop-block.auto.block-index-end, c.as_chunks.ensures.front_len) in
+    let parts = ap line_feeds (blocks_and_rest 192 i (length bytes / 192) bytes c.as_chunks.result.1.now c.as_chunks.ensures.back end) in
+    let sum = line_feeds-append (take (i * 192) bytes) c.as_chunks.result.1.now in
+    omega (arith, parts, sum, c.loop-block.invariant, c.from.ensures, c.line_feeds_in_block-2.ensures)
+
+pub overflow_add-result : goal.overflow_add-result
+overflow_add-result c =
+    let long : Fits w64 (length c.args.bytes.now) = search rules in
+    omega (arith, all c, line_feeds-at-most c.args.bytes.now, long)
+
+pub returns : goal.returns
+returns c = all c

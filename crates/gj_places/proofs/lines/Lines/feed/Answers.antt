@@ -2,8 +2,18 @@ use Rattle.std.proofs.Common.{arith, ◌≡◌, ◌+◌, ◌++◌, ◌∷◌, []
 use Rattle.std.proofs.lemmas.Bool.Decides.{nat_tests}
 use Rattle.gj_places.specs.declared.lines.TheConstants.{LINE_FEED}
 use Rattle.gj_places.specs.Counting.{StandsFor}
-use Rattle.gj_places.proofs.CountedPieces.{rest_has, all_rest, parted}
+use Rattle.gj_places.proofs.CountedPieces.{line_of-on, column_of-on, rest_has, all_rest, parted}
 use Rattle.gj_places.proofs.lines.Lines.feed.Goals as goal
+
+pub returns-then-is_plain : goal.returns-then-is_plain
+returns-then-is_plain c = λ bytes stands.
+    let plain = c.is_plain.ensures c.if-is_plain.true in
+    let line = line_of-on bytes c.args.piece.now plain.0 in
+    let column = column_of-on bytes c.args.piece.now plain.0 in
+    record {
+      line = omega (arith, stands.line, line);
+      column = omega (arith, stands.column, column, plain.1, c.saturating_add-self.ensures);
+    }
 
 pub go_on-requires : goal.go_on-requires
 go_on-requires c = rw (all_rest c.args.piece.now (c.in-Some.last + 1)) (rest_has c.args.piece.now (c.in-Some.last + 1)
