@@ -13,22 +13,22 @@ Usage: geolint-files [--strict] [--allow W4,W9] [--max-bytes N] [--format lines|
                      [--seq | --ndjson] [--every[=warnings]] [--most N] [--ending ENDING] [--allow-empty] [PATH ..]
 
   --strict         A valid file with a warning does not pass
-  --allow KINDS    Under --strict, kinds of warnings that do not fail a file, such as W4,W9
-  --max-bytes N    Refuse longer files
+  --allow KINDS    Under --strict, warnings of these kinds do not fail a file, such as W4,W9
+  --max-bytes N    Refuse files of more than N bytes
   --format FORMAT  The form of the report: lines (the default), json, sarif or text
   --summary        Count the files at the end
-  --seq            Each file is a text sequence (RFC 8142), as each *.geojsons is by itself
-  --ndjson         Each line of a file is a text, as in each *.ndjson and *.geojsonl by itself
-  --every          After a file's report, list each feature that breaks a rule; =warnings: also the warnings of the others
-  --most N         Under --every, list at most N findings of a file (1000 unless given; 0: all)
-  --ending ENDING  In a folder, also check files with this ending, such as json; may be given several times
-  --allow-empty    A call that checks no file ends with status 0 and prints nothing
+  --seq            Check each file as a text sequence (RFC 8142), whatever its name is
+  --ndjson         Check each line of each file as a text of its own, whatever the file's name is
+  --every          List each feature with a fault. --every=warnings also lists the warnings of the others
+  --most N         Under --every, list at most N findings of a file (1000 unless given). 0 lifts this limit
+  --ending ENDING  In a folder, also check files with this ending, such as json. May be given several times
+  --allow-empty    Exit with status 0 if there is no file to check
   --help, --version
 
-A PATH is a file, a folder, in which each *.geojson, *.geojsons, *.ndjson and *.geojsonl is checked, or - for standard input. With
-no PATH, standard input is checked.
+A PATH is a file, a folder, or - for standard input. With no PATH, standard input is checked. In a folder and the folders below it,
+each *.geojson is checked as one text, each *.geojsons as a text sequence, and each *.ndjson and *.geojsonl line by line.
 
-Exit status: 0 if every file passes, 1 if one does not, 2 if one could not be read, none was checked, or the arguments are wrong.
+Exit status: 0 if every file is valid, 1 if a file is not, 2 if a file could not be read, no file was checked, or the arguments are wrong.
 `;
 
 const OPTIONS = {
@@ -151,7 +151,7 @@ async function judgeInput(geolint, name, input, { maxBytes, framing = null, whic
     for (const one of eachOf([it])) if (counts.all++ < most) items.push(one);
   }
   const { verdict } = findings;
-  // Of a file that is no JSON text only the report is told.
+  // Of a file that is no JSON text only the report is written.
   if (verdict.verdict === "not JSON" || form) return { verdict, items: [], more: 0 };
   return { verdict, items, more: counts.all - items.length };
 }
@@ -167,7 +167,7 @@ async function bytesOf(file, from, to) {
   return bytes.subarray(0, at);
 }
 
-/** Judges all files, writes what the form has of each, and tells the status. */
+/** Checks all files, writes what the form has of each, and returns the status. */
 async function run(words) {
   const geolint = await load();
   const passes = (it) => it.verdict === "valid" && (!words.strict || it.warnings.every(({ rule }) => words.allowed.includes(rule)));
@@ -201,7 +201,7 @@ async function run(words) {
   if (words.summary) process.stderr.write(Object.entries(counts).map(([name, count]) => `${count} ${name}`).join(", ") + "\n");
   const isNone = Object.values(counts).every((it) => it === 0);
   if (isNone && !words["allow-empty"]) {
-    process.stderr.write(`geolint-files: no file was judged${others.count ? `; ${others.count} files have other endings` : ""}\n`);
+    process.stderr.write(`geolint-files: no file was checked${others.count ? `; ${others.count} files have other endings` : ""}\n`);
     return 2;
   }
   return status;

@@ -1,8 +1,8 @@
-//! `geolint-files` judges files and folders of GeoJSON, and says of each file that is not valid where and why not: for people,
+//! `geolint-files` checks files and folders of GeoJSON, and says for each file that is not valid where and why: for people,
 //! editors and continuous integration.
 //!
-//! The first reading of a file is judged by the linter of `gj_rules`. A second reading gives the line, the column, the path
-//! and the part of the line around each place that is told. Both take fixed memory, however long a file or a line of it is.
+//! The first reading of a file is checked by the linter of `gj_rules`. A second reading gives the line, the column, the path
+//! and the part of the line around each place that is reported. Both take fixed memory, however long a file or a line of it is.
 #![tactic(auto)]
 
 mod arguments;
@@ -39,9 +39,9 @@ enum NoOrder {
     NoReader,
 }
 
-/// Reads the words, and judges what they name.
+/// Reads the words, and checks what they name.
 ///
-/// Status 0 says that each file passes, 1 that one does not, 2 that one could not be read, that none was judged, that the
+/// Status 0 says that each file passes, 1 that one does not, 2 that one could not be read, that none was checked, that the
 /// words are wrong or that the report could not be written, and 141 that nobody reads it any more.
 fn main(rt: HostRuntime) -> ExitCode {
     match read_order(&rt) {
@@ -56,7 +56,7 @@ fn main(rt: HostRuntime) -> ExitCode {
     }
 }
 
-/// The status of a run. Where the features of a file are to be set apart, and were not, nothing is judged.
+/// The status of a run. Where the features of a file are to be set apart, and were not, nothing is checked.
 fn run_order(rt: &HostRuntime, order: &Order) -> u8 {
     if let Some(parts) = &order.parts
         && !set_apart(rt, order, parts)
@@ -95,18 +95,18 @@ fn has_no_reader(error: &io::Error) -> bool {
     error.kind() == io::ErrorKind::BrokenPipe
 }
 
-/// Says that no file was judged, and what was passed over.
+/// Says that no file was checked, and what was passed over.
 fn say_no_file(rt: &HostRuntime, others: &Others) -> io::Result<()> {
     let mut ending = Vec::new(rt.alloc());
     put_name(others.ending.as_slice(), &mut ending)?;
     let ending = String::from_utf8_lossy(rt.alloc(), ending.as_slice())?;
     match others.count {
-        0 => eprintln!(rt; "geolint-files: no file was judged"),
+        0 => eprintln!(rt; "geolint-files: no file was checked"),
         1 => eprintln!(rt;
-            "geolint-files: no file was judged; 1 file has another ending, as {ending}"
+            "geolint-files: no file was checked; 1 file has another ending: {ending}"
         ),
         count => eprintln!(rt;
-            "geolint-files: no file was judged; {count} files have other endings, as {ending}"
+            "geolint-files: no file was checked; {count} files have other endings, such as {ending}"
         ),
     }
 }

@@ -324,12 +324,12 @@ impl<'a, W: Write + Drop> Run<'a, W> {
         Ok(())
     }
 
-    /// Ends the report of a run in which no file was judged: in a log it is no success.
+    /// Ends the report of a run in which no file was checked: in a log it is no success.
     fn end_with_none(&mut self, order: &Order) -> Result<Failure, Failure> {
         let alloc = self.rt.alloc();
         if self.options.format == Format::Sarif {
             self.log
-                .keep_unread(alloc, first_named(order), "no file was judged")?;
+                .keep_unread(alloc, first_named(order), "no file was checked")?;
         }
         self.end()?;
         Ok(Failure::NoFile(mem::replace(&mut self.others, Others::new(alloc))))

@@ -15,7 +15,7 @@ use std::alloc::{AllocError, Global};
 /// The most bytes that a file may have.
 const MOST_BYTES: i64 = 1 << 60;
 
-/// The most findings of features that are told of a file, where nothing is said.
+/// The most findings that are listed of a file, where nothing is said.
 const MOST_TOLD: u64 = 1000;
 
 const VERSION: &str = "0.1.0";
@@ -25,15 +25,18 @@ const FORMATS: [&str; 5] = ["text", "lines", "json", "github", "sarif"];
 const KIND_NAMES: [&str; 9] = ["W1", "W2", "W3", "W4", "W5", "W6", "W7", "W8", "W9"];
 
 const AFTER_HELP: &str = "\
-A PATH is a file, a folder or -, standard input. In a folder, and in the folders in it, each file named *.geojson is judged,
-as a text sequence (RFC 8142) each named *.geojsons, and line by line each named *.ndjson or *.geojsonl, in capitals or not,
-in the order of the names. With no PATH and no --files-from, standard input is judged.
+A PATH is a file, a folder, or - for standard input. With no PATH and no --files-from, standard input is checked.
+
+In a folder and the folders below it, files are checked by their endings, in upper or lower case, in the order of their names:
+  *.geojson             one text
+  *.geojsons            a text sequence (RFC 8142)
+  *.ndjson, *.geojsonl  newline-delimited texts, one on each line
 
 Exit status:
-  0    each file is valid, and under --strict has no warning but of the kinds in --allow
+  0    every file is valid; under --strict, with no warnings but those that --allow lets pass
   1    a file is not
-  2    a file, a folder or a list could not be opened or read, no file was judged and --allow-empty was not given, the words
-       are wrong, or the report could not be written; this comes before 1
+  2    a file, a folder or a list could not be opened or read; no file was checked, and --allow-empty was not given; the
+       arguments are wrong; or the report could not be written. This comes before 1
   141  nobody reads the report any more, as in `geolint-files data | head -n 1`
 
 Examples:
@@ -49,14 +52,14 @@ pub struct Order {
     pub options: Options,
     /// What is to be explained, in place of a run.
     pub explained: Option<Topic>,
-    /// What is to be judged, as it was given.
+    /// What is to be checked, as it was given.
     pub paths: Vec<Vec<u8>>,
     /// The file with more names.
     pub list: Option<Vec<u8>>,
     pub name_end: NameEnd,
-    /// The endings of names that are taken in a folder beside the usual ones, each with its dot.
+    /// The endings of names that are checked in a folder beside the usual ones, each with its dot.
     pub endings: Vec<Vec<u8>>,
-    /// A call in which no file is judged is no failure.
+    /// A call that checks no file is not a failure.
     pub allows_empty: bool,
     /// Where the features of the file are written.
     pub parts: Option<Parts>,
@@ -67,7 +70,7 @@ pub struct Order {
 pub struct Parts {
     /// What their names begin with.
     pub prefix: Vec<u8>,
-    /// Files of these names are written over.
+    /// Files with these names are written over.
     pub overwrites: bool,
 }
 
@@ -85,7 +88,7 @@ pub fn order_in(alloc: Global, words: &[String]) -> Result<Order, Error> {
 fn command<'a>(alloc: Global) -> Result<Command<'a>, AllocError> {
     let command = Command::new(alloc, "geolint-files")
         .version(VERSION)
-        .about("Judges GeoJSON files, and says of each that is not valid where and why not")
+        .about("Checks GeoJSON files, and says for each that is not valid where and why")
         .after_help(AFTER_HELP)
         .no_binary_name(true);
     let command = with_warnings(alloc, command)?;
@@ -105,7 +108,7 @@ fn with_warnings<'a>(alloc: Global, command: Command<'a>) -> Result<Command<'a>,
     let allow = Arg::new(alloc, "allow")
         .long("allow")
         .value_name("KINDS")
-        .help("Under --strict, kinds of warnings that do not fail a file, as W4,W9")
+        .help("Under --strict, warnings of these kinds do not fail a file, such as W4,W9")
         .value_delimiter(',')
         .action(ArgAction::Append);
     command.arg(allow)
@@ -114,24 +117,24 @@ fn with_warnings<'a>(alloc: Global, command: Command<'a>) -> Result<Command<'a>,
 fn with_reading<'a>(alloc: Global, command: Command<'a>) -> Result<Command<'a>, AllocError> {
     let quick = Arg::new(alloc, "quick")
         .long("quick")
-        .help("Ask only whether each file is valid, and read no further than that takes")
+        .help("Say only whether each file is valid, and stop reading as soon as it cannot be valid")
         .action(ArgAction::SetTrue);
     let command = command.arg(quick)?;
     let sequence = Arg::new(alloc, "seq")
         .long("seq")
-        .help("Judge each file as a text sequence, whatever its name is")
+        .help("Check each file as a text sequence (RFC 8142), whatever its name is")
         .action(ArgAction::SetTrue);
     let command = command.arg(sequence)?;
     let lines = Arg::new(alloc, "ndjson")
         .long("ndjson")
-        .help("Judge each line of each file as a text, whatever its name is")
+        .help("Check each line of each file as a text of its own, whatever the file's name is")
         .action(ArgAction::SetTrue)
         .conflicts_with("seq")?;
     let command = command.arg(lines)?;
     let bytes = Arg::new(alloc, "max-bytes")
         .long("max-bytes")
         .value_name("N")
-        .help("Refuse longer files")
+        .help("Refuse files of more than N bytes")
         .action(ArgAction::Set)
         .value_parser(value_parser!(u64).range(1..=MOST_BYTES));
     command.arg(bytes)
@@ -141,16 +144,14 @@ fn with_report<'a>(alloc: Global, command: Command<'a>) -> Result<Command<'a>, A
     let format = Arg::new(alloc, "format")
         .long("format")
         .value_name("FORMAT")
-        .help("The form of the report")
+        .help("Write the report in this form")
         .value_parser(FORMATS.as_slice())
         .default_value("lines")
         .action(ArgAction::Set);
     let command = command.arg(format)?;
     let summary = Arg::new(alloc, "summary")
         .long("summary")
-        .help(
-            "Say at the end how many files are what, and the rules by count; with --every also the features",
-        )
+        .help("Count the files and the rules at the end. With --every, the features or records too")
         .action(ArgAction::SetTrue);
     let command = command.arg(summary)?;
     with_features(alloc, command)
@@ -161,7 +162,7 @@ fn with_features<'a>(alloc: Global, command: Command<'a>) -> Result<Command<'a>,
         .long("every")
         .value_name("WHAT")
         .help(
-            "Tell each feature or record with a fault; of the others also each kind of warning, as --every=warnings",
+            "List each feature or record with a fault. --every=warnings also lists the warnings of the others",
         )
         .num_args(0..=1)
         .require_equals(true)
@@ -174,7 +175,7 @@ fn with_features<'a>(alloc: Global, command: Command<'a>) -> Result<Command<'a>,
         .long("most")
         .value_name("N")
         .help(
-            "Under --every, tell no more of a file than so many, and say how many others there are: 0 for all",
+            "Under --every, list at most N findings of a file, and count the others. 0 lifts this limit",
         )
         .value_parser(value_parser!(u64))
         .default_value("1000")
@@ -187,7 +188,7 @@ fn with_parts<'a>(alloc: Global, command: Command<'a>) -> Result<Command<'a>, Al
         .long("split")
         .value_name("PREFIX")
         .help(
-            "Also write the features of the one file to PREFIX.valid.geojsons and PREFIX.broken.geojsons, and to PREFIX.broken.json what is wrong",
+            "Also write the features without a fault to PREFIX.valid.geojsons, the others to PREFIX.broken.geojsons, and their faults to PREFIX.broken.json",
         )
         .action(ArgAction::Set);
     let command = command.arg(split)?;
@@ -204,7 +205,7 @@ fn with_files<'a>(alloc: Global, command: Command<'a>) -> Result<Command<'a>, Al
         .long("files-from")
         .value_name("FILE")
         .help(
-            "Judge also the paths in this file, or in standard input if it is -, each ended by LF",
+            "Also check the paths in this file, or in standard input for -. Each path ends with LF",
         )
         .action(ArgAction::Set);
     let command = command.arg(list)?;
@@ -212,7 +213,7 @@ fn with_files<'a>(alloc: Global, command: Command<'a>) -> Result<Command<'a>, Al
         .short('0')
         .long("null")
         .help(
-            "The paths of --files-from are ended by NUL, as git ls-files -z and find -print0 end them",
+            "Each path of --files-from ends with NUL, as `git ls-files -z` and `find -print0` write them",
         )
         .action(ArgAction::SetTrue)
         .requires_arg("files-from")?;
@@ -221,18 +222,18 @@ fn with_files<'a>(alloc: Global, command: Command<'a>) -> Result<Command<'a>, Al
         .long("ending")
         .value_name("ENDING")
         .help(
-            "In a folder, judge also the files whose names end so, as json; may be given several times",
+            "In a folder, also check files with this ending, such as json. May be given several times",
         )
         .action(ArgAction::Append);
     let command = command.arg(ending)?;
     let empty = Arg::new(alloc, "allow-empty")
         .long("allow-empty")
-        .help("A call in which no file is judged ends with status 0 and says nothing")
+        .help("Exit with status 0 if there is no file to check")
         .action(ArgAction::SetTrue);
     let command = command.arg(empty)?;
     let path = Arg::new(alloc, "path")
         .value_name("PATH")
-        .help("What to judge")
+        .help("A file, a folder, or - for standard input")
         .num_args(0..)
         .action(ArgAction::Append);
     command.arg(path)
@@ -242,7 +243,9 @@ fn with_manual<'a>(alloc: Global, command: Command<'a>) -> Result<Command<'a>, A
     let explain = Arg::new(alloc, "explain")
         .long("explain")
         .value_name("CODE")
-        .help("Say what a rule, a warning or a cause means, as G15, W5 or J1, and judge nothing")
+        .help(
+            "Say what a rule, a warning or a cause means, such as G15, W5 or J1, and check nothing",
+        )
         .action(ArgAction::Set);
     command.arg(explain)
 }
@@ -359,7 +362,7 @@ fn ending_in(alloc: Global, word: &str) -> Result<Option<Vec<u8>>, AllocError> {
     }
 }
 
-/// How files are judged and told, or a word that is no kind of warning.
+/// How files are checked and reported, or a word that is no kind of warning.
 fn options_of<'a>(given: &ArgMatches<'a>) -> Result<Options, &'a str> {
     Ok(Options {
         limits: limits_in(given),

@@ -16,13 +16,13 @@ from ._command.files import Asked
 from ._command.run import Order, Run
 
 _AFTER = """\
-A PATH is a file, a folder or -, standard input. In a folder, and in the folders below it, each file named *.geojson is checked,
-each named *.geojsons as a text sequence (RFC 8142), and each named *.ndjson or *.geojsonl line by line. With no PATH and no
---files-from, standard input is checked.
+A PATH is a file, a folder, or - for standard input. With no PATH and no --files-from, standard input is checked. In a folder, and
+in the folders below it, each file named *.geojson is checked as one text, each named *.geojsons as a text sequence (RFC 8142), and
+each named *.ndjson or *.geojsonl line by line.
 
-Exit status: 0 where each file is valid (under --strict, with no warning but of the kinds in --allow), 1 where one is not, 2 where
-a file, a folder or a list could not be read, no file was checked, the words are wrong or the report could not be written, 141 where
-nobody reads the report any more."""
+Exit status: 0 if every file is valid (under --strict, with no warnings but those that --allow lets pass), 1 if a file is not, 2 if
+a file, a folder or a list could not be read, no file was checked, the arguments are wrong or the report could not be written, 141
+if nobody reads the report any more."""
 
 
 class _NotServed(argparse.Action):
@@ -72,7 +72,7 @@ def _format(word: str) -> str:
 def _parser() -> argparse.ArgumentParser:
     parser = argparse.ArgumentParser(
         prog="python -m geolint",
-        description="Checks GeoJSON files, and says of each that is not valid where and why not.",
+        description="Checks GeoJSON files, and says for each that is not valid where and why.",
         epilog=_AFTER,
         formatter_class=argparse.RawDescriptionHelpFormatter,
         allow_abbrev=False,
@@ -80,19 +80,19 @@ def _parser() -> argparse.ArgumentParser:
     flag = "store_true"
     add = parser.add_argument
     add("--strict", action=flag, help="a valid file with a warning does not pass")
-    add("--allow", metavar="KINDS", type=_kinds, action="append", help="under --strict, kinds of warnings that pass, as W4,W9")
-    add("--quick", action=flag, help="ask only whether each file is valid, and read no further than that takes")
+    add("--allow", metavar="KINDS", type=_kinds, action="append", help="under --strict, kinds of warnings that pass, such as W4,W9")
+    add("--quick", action=flag, help="say only whether each file is valid, and stop reading as soon as it cannot be valid")
     add("--seq", action=flag, help="check each file as a text sequence, whatever its name is")
-    add("--ndjson", action=flag, help="check each line of each file as a text, whatever its name is")
-    add("--max-bytes", metavar="N", type=_bytes, help="refuse longer files")
+    add("--ndjson", action=flag, help="check each line of each file as a text of its own")
+    add("--max-bytes", metavar="N", type=_bytes, help="refuse files of more than N bytes")
     add("--format", metavar="FORMAT", type=_format, default="lines", help="lines, json, github or text")
-    add("--summary", action=flag, help="say at the end how many files are what, and the rules by count")
-    add("--every", choices=("faults", "warnings"), help="report each feature with a fault; =warnings also the warnings of the others")
-    add("--most", metavar="N", type=_number, default=1000, help="under --every, list no more of a file than N; 0 lists 65536")
-    add("--files-from", metavar="FILE", help="check also the paths in this file, or in standard input if it is -")
-    add("-0", "--null", action=flag, help="the paths of --files-from end with NUL")
-    add("--ending", metavar="ENDING", type=_ending, action="append", default=[], help="in a folder, check also files with this ending")
-    add("--allow-empty", action=flag, help="a call that checks no file ends with status 0")
+    add("--summary", action=flag, help="count the files and the rules at the end")
+    add("--every", choices=("faults", "warnings"), help="list each feature with a fault; =warnings also lists the warnings of the others")
+    add("--most", metavar="N", type=_number, default=1000, help="under --every, list at most N findings of a file; 0 lists 65536")
+    add("--files-from", metavar="FILE", help="also check the paths in this file, or in standard input for -")
+    add("-0", "--null", action=flag, help="each path of --files-from ends with NUL")
+    add("--ending", metavar="ENDING", type=_ending, action="append", default=[], help="in a folder, also check files with this ending")
+    add("--allow-empty", action=flag, help="exit with status 0 if there is no file to check")
     add("--version", action="version", version=str(build()))
     for word in ("--explain", "--split", "--force"):
         add(word, nargs="?", action=_NotServed, help=argparse.SUPPRESS)

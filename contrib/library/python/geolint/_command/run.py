@@ -131,8 +131,9 @@ class Run:
         if self.other_count:
             base = self.others[0].rpartition(b"/")[2]
             ending = forms.shown(b"." + base.rpartition(b".")[2] if b"." in base else b"/" + base)
-            said = "1 file has another ending" if self.other_count == 1 else f"{self.other_count} files have other endings"
-            said = f"; {said}, as {ending}"
+            said = f"; 1 file has another ending: {ending}"
+            if self.other_count > 1:
+                said = f"; {self.other_count} files have other endings, such as {ending}"
         self.out.flush()
         sys.stderr.write(f"geolint: no file was checked{said}\n")
         return 2
