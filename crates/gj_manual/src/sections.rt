@@ -162,7 +162,7 @@ Mended:
 Usual causes:
 
 - A table in which a row has no location.
-- A program that leaves out each member whose value is `null`. Tell it to write this one.
+- A program that leaves out each member whose value is `null`. Make it write this one.
 - `coordinates` right in the Feature. Put a geometry around it: `\"geometry\":{\"type\":\"Point\",\"coordinates\":[9.43,54.79]}`.
 
 RFC 7946, section 3.2.
@@ -928,7 +928,7 @@ Usual causes (these short texts are not GeoJSON: mended, they are JSON and break
 | leading zero | `{\"depth\":05}` | 10 | `{\"depth\":5}` |
 | single backslash | `{\"file\":\"C:\\maps\"}` | 12 | `{\"file\":\"C:\\\\maps\"}` |
 | comment | `{} // a note` | 3 | `{}` |
-| two texts in one file | `{}{}` | 2 | `{}` in a file of its own each |
+| two texts in one file | `{}{}` | 2 | `{}` in a file of its own each; if each line is a text, check the file with `geolint-files --ndjson` |
 | file of another kind, as HTML | `<html>` | 0 | see Files of another kind |
 
 Two causes show no visible character:
@@ -949,31 +949,28 @@ RFC 8259, sections 2 to 8.
 | `1f 8b` | compressed by gzip | 0 | `gzip -dc < map.geojson > mended.geojson` |
 | `ff fe` or `fe ff` | UTF-16 | 0 | `iconv -f UTF-16 -t UTF-8 map.geojson > mended.geojson` |
 | `7b 00` | UTF-16 without a mark | 1 | `iconv -f UTF-16LE -t UTF-8 map.geojson > mended.geojson` |
-| `1e` (RS) | a sequence of texts (RFC 8142) | 0 | it is right as it is: `geolint file --seq map.geojson` checks a text sequence |
-| `7b` (`{`), and more texts in further lines | newline-delimited: one text in each line | that of the second text | join its features, as below, or make it a text sequence |
+| `1e` (RS) | a sequence of texts (RFC 8142) | 0 | it is right as it is: `geolint-files --seq map.geojson` checks a text sequence |
+| `7b` (`{`), and more texts in further lines | newline-delimited: one text in each line | that of the second text | it is right as it is: `geolint-files --ndjson map.geojson` checks each line |
 
-The last two hold many texts, usually one Feature each. This puts an RS before each line, which makes a text sequence of a
-newline-delimited file:
+The last two hold many texts, usually one Feature each. With a name that ends with `.geojsons` or `.ndjson`, `geolint-files`
+checks them without an option. The report is about the first text that is not valid, and `--every` lists each of them:
+
+    geolint-files --ndjson --every map.geojson
+
+This puts an RS before each line, which makes a text sequence of a newline-delimited file:
 
     sed 's/^/\\x1e/' map.geojson > map.geojsons
 
-This makes one FeatureCollection of the Features of a sequence:
+This makes one FeatureCollection of the Features of a sequence or of a newline-delimited file:
 
     tr -d '\\036' < map.geojson | jq -sc '{type:\"FeatureCollection\",features:.}' > mended.geojson
 
 `jq` holds all of them in memory (see The path). If each is on one line, this does the same for a file of any
-size, newline-delimited or a sequence:
+size:
 
     { printf '{\"type\":\"FeatureCollection\",\"features\":['
       tr -d '\\036' < map.geojson | paste -sd, -
       printf ']}'; } > mended.geojson
-
-`--seq` reports the first record that is not valid. This checks each line by itself, and prints the number of each that does not
-pass:
-
-    tr -d '\\036' < map.geojson | { n=0; while read -r line; do
-      n=$((n + 1)); printf '%s' \"$line\" | geolint > report || { echo \"line $n\"; cat report; }
-    done; }
 "
 }
 
