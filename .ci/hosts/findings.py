@@ -3,7 +3,7 @@
 
     findings.py SEED COUNT FOLDER FILE..
 
-A feature is judged once more as the only one of a collection, and a record as a text of its own; the elements and their places come
+A feature is checked once more as the only one of a collection, and a record as a text of its own; the elements and their places come
 from a reader of JSON in this file. The inputs stay in FOLDER, and `findings.py --places PROGRAM FOLDER` compares the lines, the columns
 and the paths of all of them with those of geolint-files."""
 
@@ -170,13 +170,19 @@ def compare(dice, text):
     return wrong, len(found)
 
 
-def compare_all(seed, count, folder, files):
-    dice, texts = random.Random(seed), []
+def texts_of(files, most):
+    """The beginnings of files, and of some of them text sequences and newline-delimited texts."""
+    texts = []
     for name in files:
         with open(name, "rb") as file:
-            texts.append(file.read(20000))
+            texts.append(file.read(most))
     texts += [b"\x1e" + text.strip() + b"\n\x1e" + text for text in texts[:8]]
     texts += [b" ".join(text.split()) + b"\n \r\n" + b" ".join(texts[0].split()) + b"\n" for text in texts[:8]]
+    return texts
+
+
+def compare_all(seed, count, folder, files):
+    dice, texts = random.Random(seed), texts_of(files, 20000)
     features = failed = 0
     for number in range(count):
         text = mutated(dice, dice.choice(texts))

@@ -17,7 +17,7 @@ import subprocess
 import sys
 import tempfile
 
-from findings import mutated
+from findings import mutated, texts_of
 
 BATCH = 2500
 POINT = b'{"type":"Point","coordinates":[%b]}'
@@ -94,12 +94,7 @@ def batch(dice, made, program, first, inputs, wanted):
 
 
 def make(seed, count, program, folder, files):
-    dice, texts = random.Random(seed), []
-    for name in files:
-        with open(name, "rb") as file:
-            texts.append(file.read(8000))
-    texts += [b"\x1e" + text.strip() + b"\n\x1e" + text for text in texts[:8]]
-    texts += [b" ".join(text.split()) + b"\n \r\n" + b" ".join(texts[0].split()) + b"\n" for text in texts[:8]]
+    dice, texts = random.Random(seed), texts_of(files, 8000)
     with open(os.path.join(folder, "inputs"), "wb") as inputs, open(os.path.join(folder, "wanted"), "w", encoding="utf-8") as wanted:
         batch(dice, KINDS, program, 0, inputs, wanted)
         for first in range(0, count, BATCH):

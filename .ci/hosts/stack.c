@@ -1,5 +1,5 @@
 /* How deep a stack the calls need: each runs on a thread whose stack is painted, and geolint.h says the most that may be
- * written. The texts of the files that are named are judged in one call, in one piece and byte by byte. */
+ * written. The texts of the files that are named are checked in one call, in one piece and byte by byte. */
 #define _GNU_SOURCE
 #include <geolint.h>
 #include <pthread.h>
@@ -10,7 +10,7 @@
 enum { STACK = 1 << 20, MOST = 1 << 16, PAINT = 0xA5, CHECK = 208 * 1024, STREAM = 8 * 1024 };
 
 struct work {
-    void *(*judge)(void *);
+    void *(*check)(void *);
     const char *text;
     size_t size;
     geolint_linter *linter;
@@ -101,7 +101,7 @@ static size_t written(struct work *work, unsigned char *stack) {
     memset(stack, PAINT, STACK);
     if (pthread_attr_init(&how) || pthread_attr_setstack(&how, stack, STACK))
         return 0;
-    if (pthread_create(&thread, &how, work->judge, work) || pthread_join(thread, NULL))
+    if (pthread_create(&thread, &how, work->check, work) || pthread_join(thread, NULL))
         return 0;
     pthread_attr_destroy(&how);
     while (left < STACK && stack[left] == PAINT)
@@ -109,46 +109,53 @@ static size_t written(struct work *work, unsigned char *stack) {
     return STACK - left;
 }
 
+/* The ways in which a text is checked, each with the most bytes of stack that it may write. */
+static struct {
+    void *(*check)(void *);
+    const char *what;
+    size_t most, depth;
+} ways[] = {
+    {by_call, "a text in memory", CHECK, 0},
+    {by_pieces, "a linter", STREAM, 0},
+    {by_findings, "findings", STREAM, 0},
+    {by_place, "a place", 2 * STREAM, 0},
+    {by_hint, "a hint", STREAM, 0},
+};
+enum { WAYS = sizeof ways / sizeof *ways };
+
 int main(int count, char **words) {
     static char text[MOST];
     void *stack = mmap(NULL, STACK, PROT_READ | PROT_WRITE, MAP_PRIVATE | MAP_ANONYMOUS | MAP_STACK, -1, 0);
     struct work work = {nothing, text, 0, geolint_new(0, 0), {0}, malloc(geolint_features_size()), malloc(geolint_records_size()), malloc(geolint_locator_size())};
-    size_t bare, call = 0, pieces = 0, findings = 0, place = 0, hint = 0, depth;
+    size_t bare, depth;
+    int failed;
     if (stack == MAP_FAILED || !work.linter || !work.features || !work.records || !work.locator || count < 2)
         return 2;
     /* What the first calls need for being linked is the system's. */
-    by_call(&work);
-    by_pieces(&work);
-    by_findings(&work);
-    by_place(&work);
-    by_hint(&work);
+    for (size_t way = 0; way < WAYS; way++)
+        ways[way].check(&work);
     written(&work, stack);
     bare = written(&work, stack);
+    failed = !bare;
     for (int file = 1; file < count; file++) {
         FILE *from = fopen(words[file], "rb");
         work.size = from ? fread(text, 1, MOST, from) : 0;
         if (from)
             fclose(from);
-        work.judge = by_call;
-        depth = written(&work, stack) - bare;
-        call = depth > call ? depth : call;
-        work.judge = by_pieces;
-        depth = written(&work, stack) - bare;
-        pieces = depth > pieces ? depth : pieces;
-        work.judge = by_findings;
-        depth = written(&work, stack) - bare;
-        findings = depth > findings ? depth : findings;
-        work.judge = by_place;
-        depth = written(&work, stack) - bare;
-        place = depth > place ? depth : place;
-        work.judge = by_hint;
-        depth = written(&work, stack) - bare;
-        hint = depth > hint ? depth : hint;
+        for (size_t way = 0; way < WAYS; way++) {
+            work.check = ways[way].check;
+            depth = written(&work, stack) - bare;
+            ways[way].depth = depth > ways[way].depth ? depth : ways[way].depth;
+        }
     }
     geolint_free(work.linter);
     free(work.features);
     free(work.records);
     free(work.locator);
-    printf("%zu bytes for a text in memory, %zu for a linter, %zu for findings, %zu for a place, %zu for a hint\n", call, pieces, findings, place, hint);
-    return !bare || call > CHECK || pieces > STREAM || findings > STREAM || place > 2 * STREAM || hint > STREAM;
+    for (size_t way = 0; way < WAYS; way++) {
+        printf("%s%zu bytes for %s", way ? ", " : "", ways[way].depth, ways[way].what);
+        failed |= ways[way].depth > ways[way].most;
+    }
+    printf("\n");
+    return failed;
 }

@@ -10,13 +10,14 @@
 
 from __future__ import annotations
 
-from typing import Any, Dict, Iterable, Optional
+from typing import Any, Dict, Optional
 
 from django.core.exceptions import ValidationError
 from django.core.files.uploadhandler import FileUploadHandler, SkipFile
 from django.utils.deconstruct import deconstructible
 
 from . import Linter, Verdict, report
+from ._demands import Demands
 
 
 def _source(value: Any) -> Any:
@@ -28,7 +29,7 @@ def _source(value: Any) -> Any:
 
 
 @deconstructible
-class GeoJSONValidator:
+class GeoJSONValidator(Demands):
     """A field holds a GeoJSON text (RFC 7946): of a form or a model, for files, texts and bytes.
 
     With `strict`, a text with warnings does not pass, but for the kinds in `allow`, as (4, 9). The error has the code
@@ -36,16 +37,6 @@ class GeoJSONValidator:
     """
 
     message = "%(where)s: %(code)s: %(text)s%(at)s"
-
-    def __init__(
-        self,
-        strict: bool = False,
-        allow: Iterable[int] = (),
-        max_depth: Optional[int] = None,
-        max_bytes: Optional[int] = None,
-    ) -> None:
-        self.strict, self.allow = strict, tuple(allow)
-        self.max_depth, self.max_bytes = max_depth, max_bytes
 
     def __call__(self, value: Any) -> None:
         found = report(_source(value), self.max_depth, self.max_bytes)
@@ -56,10 +47,9 @@ class GeoJSONValidator:
             where = f"line {found.line}, column {found.column}" if found.line else f"byte {verdict.place}"
             placed = {"place": verdict.place, "line": found.line, "column": found.column, "path": found.path}
             raise self.error("invalid_geojson", where, {"code": verdict.code, "text": verdict.text, **placed})
-        for w in verdict.warnings:
-            if self.strict and w.kind not in self.allow:
-                placed = {"place": w.first, "line": None, "column": None, "path": None}
-                raise self.error("geojson_warning", f"byte {w.first}", {"code": f"W{w.kind}", "text": w.text, **placed})
+        for w in self.failing(verdict):
+            placed = {"place": w.first, "line": None, "column": None, "path": None}
+            raise self.error("geojson_warning", f"byte {w.first}", {"code": f"W{w.kind}", "text": w.text, **placed})
 
     def error(self, code: str, where: str, params: Dict[str, Any]) -> Any:
         at = f" ({params['path']})" if params["path"] else ""

@@ -17,13 +17,14 @@ is wrong and where; without it, it is one line.
 import tempfile
 from contextlib import asynccontextmanager
 from dataclasses import dataclass
-from typing import IO, Any, AsyncIterator, Dict, Iterable, Optional
+from typing import IO, Any, AsyncIterator, Dict
 
 from starlette.exceptions import HTTPException
 from starlette.requests import Request
 from starlette.responses import JSONResponse
 
 from . import Linter, Report, Verdict, locate
+from ._demands import Demands
 
 # How much of a body is held in memory; the rest of it is in a file.
 _HELD = 1 << 20
@@ -46,21 +47,11 @@ class NotGeoJSON(HTTPException):
         super().__init__(413 if found.verdict.cause == _TOO_LONG else 422, str(found))
 
 
-class GeoJSONBody:
+class GeoJSONBody(Demands):
     """A dependency that checks the body of a request while it comes, and stores it meanwhile.
 
     With `strict`, a text with warnings does not pass, but for the kinds in `allow`, as (4, 9).
     """
-
-    def __init__(
-        self,
-        strict: bool = False,
-        allow: Iterable[int] = (),
-        max_depth: Optional[int] = None,
-        max_bytes: Optional[int] = None,
-    ) -> None:
-        self.strict, self.allow = strict, tuple(allow)
-        self.max_depth, self.max_bytes = max_depth, max_bytes
 
     async def __call__(self, request: Request) -> AsyncIterator[GeoJSON]:
         async with self.of(request) as body:
@@ -83,7 +74,7 @@ class GeoJSONBody:
             yield GeoJSON(verdict, file)
 
     def passes(self, verdict: Verdict) -> bool:
-        return verdict.valid and not (self.strict and any(w.kind not in self.allow for w in verdict.warnings))
+        return verdict.valid and not any(self.failing(verdict))
 
 
 def _placed(verdict: Verdict, file: Any) -> Report:
