@@ -16,7 +16,7 @@ const TEXTS = {
   pdf: "the file is a PDF document: ask for the data themselves; ogr2ogr -f GeoJSON OUT.geojson IN.pdf reads one that holds them",
   kml: "the file is KML: ogr2ogr -f GeoJSON OUT.geojson IN.kml",
   gml: "the file is GML: ogr2ogr -f GeoJSON OUT.geojson IN.gml",
-  html: "the file is a web page, mostly one that tells an error or asks to log in: curl -fL -o OUT.geojson URL",
+  html: "the file is a web page, mostly one that shows an error or asks to log in: curl -fL -o OUT.geojson URL",
   xml: "the file is XML: ogr2ogr -f GeoJSON OUT.geojson IN.xml, where its format is one of maps",
   utf16: "the file is in UTF-16: iconv -f UTF-16 -t UTF-8 IN > OUT.geojson",
   latin1: "these letters are not in UTF-8: iconv -f WINDOWS-1252 -t UTF-8 IN > OUT.geojson",

@@ -32,7 +32,7 @@ fn text_of(hint: Hint) -> &'static [u8]
         Hint::Kml => b"the file is KML: ogr2ogr -f GeoJSON OUT.geojson IN.kml\0",
         Hint::Gml => b"the file is GML: ogr2ogr -f GeoJSON OUT.geojson IN.gml\0",
         Hint::Html =>
-            b"the file is a web page, mostly one that tells an error or asks to log in: curl -fL -o OUT.geojson URL\0",
+            b"the file is a web page, mostly one that shows an error or asks to log in: curl -fL -o OUT.geojson URL\0",
         Hint::Xml =>
             b"the file is XML: ogr2ogr -f GeoJSON OUT.geojson IN.xml, where its format is one of maps\0",
         Hint::Utf16 => b"the file is in UTF-16: iconv -f UTF-16 -t UTF-8 IN > OUT.geojson\0",

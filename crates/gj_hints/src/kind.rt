@@ -63,7 +63,7 @@ impl Hint {
             Hint::Kml => "the file is KML: ogr2ogr -f GeoJSON OUT.geojson IN.kml",
             Hint::Gml => "the file is GML: ogr2ogr -f GeoJSON OUT.geojson IN.gml",
             Hint::Html =>
-                "the file is a web page, mostly one that tells an error or asks to log in: curl -fL -o OUT.geojson URL",
+                "the file is a web page, mostly one that shows an error or asks to log in: curl -fL -o OUT.geojson URL",
             Hint::Xml =>
                 "the file is XML: ogr2ogr -f GeoJSON OUT.geojson IN.xml, where its format is one of maps",
             Hint::Utf16 => "the file is in UTF-16: iconv -f UTF-16 -t UTF-8 IN > OUT.geojson",
