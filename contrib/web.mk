@@ -24,7 +24,7 @@ below := gj_hints gj_places gj_rules gj_coords gj_json gj_number
 from_kit := itoa memchr core std
 rlib = $(top)/crates/$(1)/out/rlib
 kept = $(WEB_BUILD)/incremental-$(1)
-# The source works on vectors of 16 bytes. For WebAssembly the kit's clang compiles them to loops over bytes, unless it is told that the
+# The source works on vectors of 16 bytes. For WebAssembly the kit's clang compiles them to loops over bytes, unless it knows that the
 # engine has vectors: so it is called by a script that adds this one word. Each browser that docs/web.md names has them.
 WASM_TOOLS := $(WEB_BUILD)/toolchain
 toolchain_of = $(if $(filter wasm64%,$(1)),$(WASM_TOOLS),$(KIT)/toolchain)

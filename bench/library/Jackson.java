@@ -9,7 +9,7 @@ import java.nio.file.Files;
 import java.nio.file.Path;
 
 /**
- * Judges files in memory beside Jackson, which walks their tokens and knows no GeoJSON: the processor time of the best of some
+ * Checks files in memory beside Jackson, which walks their tokens and knows no GeoJSON: the processor time of the best of some
  * rounds in turn.
  *
  * <pre>java -Xbatch -cp geolint.jar:jackson-core.jar bench/library/Jackson.java ROUNDS FILE..</pre>

@@ -1,4 +1,4 @@
-// RapidJSON's SAX reader over standard input in blocks, with its check of UTF-8 and without anything that is told of the text.
+// RapidJSON's SAX reader over standard input in blocks, with its check of UTF-8 and without any report on the text.
 #include <cstdio>
 #include <rapidjson/filereadstream.h>
 #include <rapidjson/reader.h>

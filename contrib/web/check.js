@@ -1,4 +1,4 @@
-// Judges inputs: reads each once, and finds line, column, path and feature of what it has to tell.
+// Checks inputs: reads each once, and finds line, column, path and feature of what it has to report.
 
 import { Linter, FeatureLinter, RecordLinter, Locator } from "./linter.js";
 import { STRIDE, excerptAt } from "./lines.js";
@@ -12,10 +12,10 @@ import { Sequence } from "./split.js";
 
 /** A path is sought for places that are no further than this from the start, since it takes a second reading up to the place. */
 export const PATH_REACH = 64 << 20;
-/** The text of a feature is told where it is no longer than this. */
+/** The text of a feature is given where it is no longer than this. */
 export const FEATURE_REACH = 1 << 20;
 
-/** Judges texts. Any number of calls may be under way at once. */
+/** Checks texts. Any number of calls may be under way at once. */
 export class Geolint {
   #module;
   #idle = new Map();
@@ -41,8 +41,8 @@ export class Geolint {
 
   /**
    * The verdict of `input`, which is read once: bytes, a Blob, a ReadableStream or an iterable of bytes, or an object that has
-   * its `size` and `read(from, to)`. `maxBytes` and `maxDepth` are limits, `signal` an AbortSignal, and `onProgress` is told how
-   * many bytes are judged.
+   * its `size` and `read(from, to)`. `maxBytes` and `maxDepth` are limits, `signal` an AbortSignal, and `onProgress` is called
+   * with how many bytes are checked.
    */
   async check(input, { maxBytes = 0, maxDepth = 0, signal, onProgress } = {}) {
     const source = sourceOf(input);
@@ -67,7 +67,7 @@ export class Geolint {
     return this.#findings(RecordLinter, input, options);
   }
 
-  /** What was told in brief, in full: the input, which can be read from any place, is read again where the findings lie. */
+  /** What was reported in brief, in full: the input, which can be read from any place, is read again where the findings lie. */
   async completed(input, findings) {
     const source = sourceOf(input);
     return this.#with([Locator], async ([locator]) => {
@@ -139,7 +139,7 @@ export class Geolint {
   }
 }
 
-/** Adds the hint, and line, column, excerpt, path and feature of each place of a verdict; null for what cannot be told. `known` has the
+/** Adds the hint, and line, column, excerpt, path and feature of each place of a verdict; null for what cannot be found. `known` has the
  *  places whose path is known. */
 async function located(found, { linter, source, known = new Map(), isText = true }) {
   const read = (from, to) => source.read(from, to);

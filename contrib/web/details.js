@@ -1,4 +1,4 @@
-// What is told of a finding beyond its place: its name, its id and the paths in it, from the bytes of its feature or text.
+// What is reported of a finding beyond its place: its name, its id and the paths in it, from the bytes of its feature or text.
 
 import { STRIDE } from "./lines.js";
 import { calledOf, valueOf, writtenId, ID_REACH } from "./names.js";
@@ -21,7 +21,7 @@ export class Details {
     this.#read = read;
   }
 
-  /** A finding that was told in brief, in full. */
+  /** A finding that was reported in brief, in full. */
   async of({ idAt, ...item }) {
     const paths = item.verdict === "not JSON" ? new Map() : await this.#pathsTo(placesOf(item), item);
     const pathOf = (it) => paths.get(it.offset) ?? null;

@@ -1,6 +1,6 @@
 // The files that are dropped or chosen, with those in folders.
 
-/** The endings of files that are judged in a folder. */
+/** The endings of files that are checked in a folder. */
 export const ENDINGS = [".geojson", ".json", ".geojsons", ".geojsonl", ".ndjson"];
 /** Those that hold many texts, by their framing. */
 const FRAMINGS = [

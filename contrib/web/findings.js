@@ -2,7 +2,7 @@
 
 import { Details, placesOf } from "./details.js";
 
-/** So many bytes are judged before what they show is told: in a text as [1,1,1] each second byte ends an element. */
+/** So many bytes are checked before what they show is reported: in a text as [1,1,1] each second byte ends an element. */
 const STEP = 64 << 10;
 
 /** One reading of an input. `isText`: the findings are of the features of one text, and otherwise of many texts. */
@@ -16,8 +16,8 @@ export class Search {
   #details;
   #piece = new Uint8Array(0);
 
-  /** `which` is what is told: "faults", "findings" (also the features that have warnings) or "all". Of faults and of features that
-   *  have warnings no more than `most` are told; `counts` has them all. What is told in brief lacks name, id and path. */
+  /** `which` is what is reported: "faults", "findings" (also the features that have warnings) or "all". Of faults and of features that
+   *  have warnings no more than `most` are reported; `counts` has them all. What is reported in brief lacks name, id and path. */
   constructor({ linter, locator }, source, isText, { which = "findings", most = Infinity, isBrief = false } = {}) {
     if (!["faults", "findings", "all"].includes(which)) throw new RangeError("which is faults, findings or all");
     this.#linter = linter;
@@ -32,7 +32,7 @@ export class Search {
     this.#isWanted = this.#wants(which, most);
   }
 
-  /** Counts the finding that was pulled last, and says whether it is told. */
+  /** Counts the finding that was pulled last, and says whether it is reported. */
   #wants(which, most) {
     const { counts } = this;
     return () => {
@@ -59,7 +59,7 @@ export class Search {
     }
   }
 
-  /** Takes the finding that was pulled last, where it is told or the verdict needs it. */
+  /** Takes the finding that was pulled last, where it is reported or the verdict needs it. */
   #take(told) {
     const isTold = this.#isWanted();
     if (isTold || this.#isNew()) told.push({ ...this.#linter.finding, isTold });
@@ -101,7 +101,7 @@ export class Search {
     return this.#source.read(from, to);
   }
 
-  /** What was pulled, with its lines and columns, and in full where it is not told in brief or the verdict needs its path. */
+  /** What was pulled, with its lines and columns, and in full where it is not reported in brief or the verdict needs its path. */
   async #placed({ number, id, ...finding }) {
     const spots = new Map([[null, { line: null, column: null }]]);
     for (const it of placesOf(finding)) spots.set(it, await this.#spotOf(it));

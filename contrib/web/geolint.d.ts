@@ -106,7 +106,7 @@ export interface Counts {
   faults: number;
   /** Without a fault and with a warning. */
   warned: number;
-  /** How many were told. */
+  /** How many were reported. */
   told: number;
 }
 
@@ -143,18 +143,18 @@ export interface Options extends Limits {
 }
 
 export interface SearchOptions extends Limits {
-  /** What is told: what has a fault, also what has a warning (the default), or all. */
+  /** What is reported: what has a fault, also what has a warning (the default), or all. */
   which?: "faults" | "findings" | "all";
-  /** No more than so many faults are told, and of what has warnings alone no more than so many. `counts` has them all. */
+  /** No more than so many faults are reported, and no more than so many features or records with warnings alone. `counts` has them all. */
   most?: number;
-  /** Findings are told in brief, which is faster where there are many of them: `completed` adds the rest. */
+  /** Findings are reported in brief, which is faster where there are many of them: `completed` adds the rest. */
   isBrief?: boolean;
   /** Called after each piece. */
   onProgress?(progress: Counts & { read: number; size: number | null }): void;
 }
 
 export class Geolint {
-  /** Judges a text, which is read once. Any number of calls may be under way at once. */
+  /** Checks a text, which is read once. Any number of calls may be under way at once. */
   check(input: Input, options?: Options): Promise<Verdict>;
   /** What is found in each feature of a text: in each element of the array that the first member `features` of its object holds. */
   features(input: Input, options: SearchOptions & { isBrief: true }): Findings<Brief<FoundFeature>>;
@@ -162,7 +162,7 @@ export class Geolint {
   /** What is found in each text of an input of many. */
   records(input: Input, options: SearchOptions & { framing: Framing; isBrief: true }): Findings<Brief<FoundRecord>>;
   records(input: Input, options: SearchOptions & { framing: Framing }): Findings<FoundRecord>;
-  /** Findings that were told in brief, in full. Where they lie, the input is read again: bytes, a Blob, or what can be read from any place. */
+  /** Findings that were reported in brief, in full. Where they lie, the input is read again: bytes, a Blob, or what can be read from any place. */
   completed(input: Input, findings: Brief<FoundFeature>[]): Promise<FoundFeature[]>;
   completed(input: Input, findings: Brief<FoundRecord>[]): Promise<FoundRecord[]>;
   /** The valid features of a file, or its valid texts where there is a framing, as a text sequence: each by its own bytes. `count` is
@@ -193,10 +193,10 @@ export function sarifOf(
 ): string;
 /** Findings, with each warning by itself. */
 export function eachOf<T extends Found>(items: T[]): T[];
-/** The forms of `geolint-files --every`; `more` is how many are not told. */
+/** The forms of `geolint-files --every`; `more` is how many are not reported. */
 export function jsonOfFindings(name: string, items: Found[], more?: number): string[];
 export function linesOfFindings(name: string, items: Found[], more?: number): string;
 export function textOfFindings(items: Found[], more?: number): string;
 
-/** A path is told for places up to so many bytes from the start, and inside features for all. */
+/** A path is given for places up to so many bytes from the start, and for all places inside features. */
 export const PATH_REACH: number;

@@ -219,7 +219,7 @@ export class Linter extends Handle {
 
 /** What linters of features and of records have in common: a piece is taken up to the next finding, which is then pulled. */
 class Puller extends Handle {
-  /** Takes the next bytes, and calls `each` after each finding, which the getters below then tell. False once the input is refused. */
+  /** Takes the next bytes, and calls `each` after each finding, which the getters below then give. False once the input is refused. */
   feed(bytes, each) {
     for (const part of this.parts(bytes)) {
       this.put(part);

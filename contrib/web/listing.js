@@ -110,7 +110,7 @@ function reader(entry, { complete }, redraw) {
         redraw();
       }
     } catch {
-      // Of a file that is gone the places alone are told.
+      // Of a file that is gone the places alone are shown.
       isGone = true;
     }
     isAtWork = false;

@@ -10,7 +10,7 @@ import { saveLines, saveSarif, savePage, saveSequence } from "./save.js";
 
 const $ = (id) => document.getElementById(id);
 
-/** All files in their order: { name, file }, and when it is judged `verdict`, `hint`, `milliseconds`, or else `reason`; `items` are what is
+/** All files in their order: { name, file }, and when it is checked `verdict`, `hint`, `milliseconds`, or else `reason`; `items` are what is
  *  found in its features, and `counts` how many there are. */
 const entries = [];
 let worker = null;
@@ -34,7 +34,7 @@ function start() {
   const url = URL.createObjectURL(source);
   const it = new Worker(url);
   worker = it;
-  // What one that was stopped had still to tell counts no more.
+  // What one that was stopped had still to report counts no more.
   worker.onmessage = ({ data }) => it === worker && heard[data.kind](data);
   worker.onerror = (event) => heard.failed({ step: isReady ? "check" : "start", isTrap: true, reason: event.message });
   worker.postMessage({ kind: "start", ...module });
@@ -208,7 +208,7 @@ function showProgress({ read, faults = 0, milliseconds = 0 }) {
   $("run-note").textContent = parts.join(" · ");
   const percent = Math.floor((all ? read / all : 0) * 100);
   if (milliseconds > 500) document.title = `${percent} % · geolint`;
-  // Told aloud at each quarter, and not each time.
+  // Announced at each quarter, and not each time.
   const quarter = Math.floor(percent / 25);
   if (quarter > (current.quarter ?? 0)) announce(`${current.name}: ${quarter * 25} %`);
   current.quarter = quarter;

@@ -3,7 +3,7 @@
 
 const [QUOTE, COMMA, BACKSLASH] = [0x22, 0x2c, 0x5c];
 const [OPEN_ARRAY, CLOSE_ARRAY, OPEN_OBJECT, CLOSE_OBJECT] = [0x5b, 0x5d, 0x7b, 0x7d];
-/** The names that RFC 7946 gives a meaning, and crs; a path tells each other one as `*`. */
+/** The names that RFC 7946 gives a meaning, and crs; a path shows each other one as `*`. */
 const KNOWN = new Set(["type", "coordinates", "geometries", "geometry", "properties", "features", "bbox", "id", "crs"]);
 /** A name of more bytes than this is none of them, however it is escaped: 11 letters of 6 bytes each. */
 const LONGEST_NAME = 66;
@@ -123,7 +123,7 @@ export class PathFinder {
   #openText(at) {
     this.isInText = true;
     this.isName = this.isNameDue;
-    // The place of a name is told by the path of its object.
+    // The place of a name is given by the path of its object.
     this.#note(at, this.isName ? this.levels.slice(0, -1) : this.levels);
     this.isNameDue = false;
   }

@@ -32,7 +32,7 @@ export function jsonOfUnread(name, text) {
   return JSON.stringify({ path: name, verdict: "not read", passes: false, ...nothing, text, offset: null, line: null, column: null, json_path: null, hint: null, warnings: [] });
 }
 
-/** Of what is found in a feature or a record, as geolint-files has it under `--every`. `more`: how many are not told. */
+/** Of what is found in a feature or a record, as geolint-files has it under `--every`. `more`: how many are not reported. */
 export function jsonOfFindings(name, items, more = 0) {
   const lines = eachOf(items).map(({ index, number, id, rule, text, offset, line, column, path }) => {
     const called = index === undefined ? { record: number } : { feature: index, id };
@@ -44,7 +44,7 @@ export function jsonOfFindings(name, items, more = 0) {
 
 const levelOf = (rule) => (rule.startsWith("W") ? "warning" : "error");
 
-/** A log in SARIF 2.1.0. A report is { name, verdict }, and where features are told `items` and `more`. `rules` are pairs of a rule and its text; `unread` are { name, reason } of what could not be read. */
+/** A log in SARIF 2.1.0. A report is { name, verdict }, and where features are reported `items` and `more`. `rules` are pairs of a rule and its text; `unread` are { name, reason } of what could not be read. */
 export function sarifOf(reports, rules, version, unread = []) {
   const described = rules.map(([id, text]) => ({
     id,

@@ -7,7 +7,7 @@ const isTold = (it) => it !== null && it !== undefined;
 const wordOf = (it) => (it.rule.startsWith("W") ? "warning" : it.verdict);
 const calledIn = (it) => (it.index === undefined ? `record ${it.number}` : `feature ${it.index}`);
 
-/** The lines of `geolint`, which tell byte offsets. */
+/** The lines of `geolint`, which have byte offsets. */
 export function textOf(verdict) {
   const { verdict: name, rule, text, offset, warnings, path, record, records } = verdict;
   const inside = isTold(record) ? `record ${record}\n` : "";

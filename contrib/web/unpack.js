@@ -146,7 +146,7 @@ export function unpacked(packed, size) {
   return out;
 }
 
-/** The checksum of gzip and others, which tells where a byte has changed. */
+/** The checksum of gzip and others, which shows that a byte has changed. */
 export function checksumOf(bytes) {
   const table = Int32Array.from({ length: 256 }, (_, it) => {
     for (let i = 0; i < 8; i++) it = it & 1 ? (it >>> 1) ^ 0xedb88320 : it >>> 1;

@@ -9,7 +9,7 @@ import { calledOf } from "./names.js";
 /** So many rows of a table, and cards of a list, are drawn at once. */
 export const STEP = 100;
 
-/** What is told of a file: the fault, or each kind of warning. */
+/** What is reported of a file: the fault, or each kind of warning. */
 export const findingsOf = (verdict) => (verdict.verdict === "valid" ? verdict.warnings : [verdict]);
 
 /** Which of the four groups an entry belongs to: valid, warned, bad, or none where there is no verdict. */
@@ -71,7 +71,7 @@ function tableOf(entry) {
   more.type = "button";
   const draw = () => {
     const from = body.querySelectorAll(".finding").length;
-    // Where one thing alone is told, its details are open.
+    // Where one thing alone is reported, its details are open.
     for (const it of findings.slice(from, from + STEP)) body.append(...rowsOf(entry, it, findings.length === 1));
     const left = findings.length - from - STEP;
     more.hidden = left <= 0;

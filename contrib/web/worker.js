@@ -1,4 +1,4 @@
-// Judges files in a worker, so that the page answers meanwhile. A file is read in pieces and never held whole.
+// Checks files in a worker, so that the page answers meanwhile. A file is read in pieces and never held whole.
 
 import { Geolint } from "./check.js";
 import { guessFor } from "./guesses.js";

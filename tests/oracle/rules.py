@@ -140,7 +140,7 @@ def line_faults(value):
 
 
 def ring_faults(value):
-    """Section 3.1.6. A ring is closed by its exact values up to the third; judged where each position is right."""
+    """Section 3.1.6. A ring is closed by its exact values up to the third; checked where each position is right."""
     found = each(position_faults)(value)
     if value.kind != "array":
         return found

@@ -46,7 +46,7 @@ SELECT is_geojson('[]', max_depth => -1);
 SELECT geojson_report('[]', max_bytes => 0);
 SELECT geojson_report('[]', max_bytes => 1152921504606846977);
 SELECT is_geojson('[]', NULL) IS NULL AS "of no limit nothing is said";
-SELECT is_geojson('{"type":"Point","coordinates":[1,2]}') AS "after an error the next text is judged from its start";
+SELECT is_geojson('{"type":"Point","coordinates":[1,2]}') AS "after an error the next text is checked from its start";
 
 -- A table that holds nothing else.
 CREATE TABLE places (id integer PRIMARY KEY, body text NOT NULL CHECK (is_geojson(body)));
@@ -83,6 +83,6 @@ SELECT count(*) FROM many WHERE is_geojson(body);
 SELECT rule, place, count(*) FROM many, geojson_report(body) WHERE NOT valid GROUP BY rule, place;
 RESET ALL;
 
--- A text that is known when a query is planned is judged once.
+-- A text that is known when a query is planned is checked once.
 EXPLAIN (COSTS OFF, VERBOSE) SELECT is_geojson('[1,2]');
 SELECT proname, provolatile, proparallel, proisstrict, count(*) FROM pg_proc WHERE proname IN ('is_geojson', 'geojson_report', 'geojson_features') GROUP BY 1, 2, 3, 4 ORDER BY 1;

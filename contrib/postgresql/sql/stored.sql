@@ -31,7 +31,7 @@ WITH stored AS (
     UNION ALL SELECT id, geojson_report(body), is_geojson(body) FROM bytes
 )
 SELECT count(*), count(*) FILTER (WHERE report = geojson_report(body) AND yes = is_geojson(body)) AS "as above" FROM stored JOIN texts USING (id);
--- The features of long texts are the same in each, however they are cut: the last one, which is broken, ends behind all others.
+-- The features of long texts are the same in each, however they are cut: the last one, which is broken, ends after all others.
 CREATE VIEW collections AS
 SELECT 0 AS id, '{"features":[' || repeat('{"type":"Feature","geometry":null,"properties":{"name":"žltá"}},', 20000) || '{"type":"Feature","geometry":null}]}' AS body
 UNION ALL SELECT 1, '{"x":"' || repeat('ž', 128 * 998 - 12) || '","features":[{},7, {}]}'

@@ -322,7 +322,7 @@ geolint_lines geolint_lines_feed(geolint_lines lines, const void *bytes, size_t 
 
 /* ---- sizes, for a host that puts one into a struct or an array
  *
- * They are those that the functions tell, on systems with 64-bit addresses. */
+ * They are those that the functions return, on systems with 64-bit addresses. */
 
 #define GEOLINT_ALIGNMENT 16
 #define GEOLINT_SIZE 207936
@@ -374,7 +374,7 @@ static inline const char *geolint_version(void) {
 /* ---- hints
  *
  * A hint is one line of advice on an input that is not valid, as geolint-files gives it: what the input looks like, and a command that
- * makes it right. It tells files of another kind (compressed, a database, HTML), other encodings, slips in JSON, numbers that are not
+ * makes it right. It recognizes files of another kind (compressed, a database, HTML), other encodings, slips in JSON, numbers that are not
  * read, and of a valid text latitude and longitude that look swapped. It is a guess by the report and by some bytes: the first 512 of
  * the input, and the 256 before a place and from it on. The place is that of the report, and of a valid text the `first` of W5. */
 

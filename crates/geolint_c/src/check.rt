@@ -1,4 +1,4 @@
-//! A text in memory, judged in one call.
+//! A text in memory, checked in one call.
 ghost use Rattle.std.specs.Prelude.{◌≡◌};
 ghost use Rattle.geolint_c.specs.Options.{AreAllowed, limits_meant};
 ghost use Rattle.geolint_c.specs.Report.{Reports, no_report};
@@ -8,7 +8,7 @@ use crate::report::{Report, no_report, report_of};
 use crate::status::LIMITS;
 use gj_rules::check_text;
 
-/// Judges a whole text, where the limits are allowed.
+/// Checks a whole text, where the limits are allowed.
 #[unsafe(no_mangle)]
 pub extern "C" fn geolint_check(text: &[u8], max_depth: u32, max_bytes: u64) -> Report
     ensures judged { AreAllowed max_depth max_bytes → Reports (limits_meant max_depth max_bytes) text.now result }

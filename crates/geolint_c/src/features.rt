@@ -17,7 +17,7 @@ use gj_json::Limits;
 use gj_rules::feature_laws::{features_by_commas, features_in_time, few_features};
 use gj_rules::{FeatureLinter, Progress as Shown};
 
-/// A linter that tells features, until it has ended.
+/// A linter that reports features, until it has ended.
 #[derive(Drop)]
 pub struct FeatureHandle {
     /// None where the limits are not allowed. It stays where it is at the end, since it is large.
@@ -52,7 +52,7 @@ fn judging_again(linter: &mut FeatureLinter<LatestFeatures>, limits: Limits)
     linter.begin_again(limits);
 }
 
-/// Whether more features were told than were pulled.
+/// Whether more features were reported than were pulled.
 fn tells_more(linter: &FeatureLinter<LatestFeatures>, pulled: u64) -> bool
     ensures value { result ≡ tells_more linter.now pulled }
     ensures counted { Counted linter.now }
@@ -95,7 +95,7 @@ fn take(linter: &mut FeatureLinter<LatestFeatures>, pulled: u64, piece: &[u8]) -
     progress_of(at, status, ready)
 }
 
-/// The next feature that was told.
+/// The next feature that was reported.
 fn pull(linter: &FeatureLinter<LatestFeatures>, pulled: u64) -> Finding
     ensures { IsPulled linter.now pulled result }
 {

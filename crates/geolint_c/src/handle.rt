@@ -1,4 +1,4 @@
-//! A text that comes in pieces, judged by a handle. Here are the calls over values; `stream` takes them to C.
+//! A text that comes in pieces, checked by a handle. Here are the calls over values; `stream` takes them to C.
 ghost use Rattle.std.specs.Prelude.{◌≡◌};
 ghost use Rattle.geolint_c.specs.Handle.{HasEnded, Begins, BegunLive, BegunEnded, FedStands, FedAnswer, FedEnded, FedAgain, BegunStatus, FinishedVerdict};
 ghost use Rattle.geolint_c.specs.Handle.{FinishedEnded, OffsetTaken, OffsetRefused, OffsetEnded, DoomedSound, DoomedRefused, DoomedEarly, DoomedEnded};

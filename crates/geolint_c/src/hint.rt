@@ -125,7 +125,7 @@ fn hint_by(wrong: Option<Wrong>, head: &[u8], before: &[u8], after: &[u8]) -> Op
     }
 }
 
-/// Keeps nothing of what it is told.
+/// Keeps nothing of what is reported to it.
 #[derive(Drop)]
 struct NoEvents;
 

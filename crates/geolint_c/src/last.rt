@@ -1,4 +1,4 @@
-//! The record that was told last, where a host pulls them.
+//! The record that was reported last, where a host pulls them.
 use gj_coords::Warnings;
 use gj_rules::{Record, RecordSink, Verdict};
 
@@ -11,7 +11,7 @@ impl LastRecord {
     ghost use Rattle.std.specs.Prelude.{◌≡◌, []};
     ghost use Rattle.geolint_c.specs.Records.{IsLast};
 
-    /// No record was told.
+    /// No record was reported.
     pub fn new() -> LastRecord
         ensures { IsLast result [] }
     {

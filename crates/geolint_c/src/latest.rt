@@ -1,19 +1,19 @@
-//! The features that were told last, where a host pulls them.
+//! The features that were reported last, where a host pulls them.
 use gj_coords::Warnings;
 use gj_rules::{Feature, FeatureSink, ForgetfulSink};
 
 /// How many features are kept. Where fewer commas stand in a piece, no more end in it.
 pub const ROOM: usize = 256;
 
-/// The last features that were told, each at its number modulo their room.
+/// The last features that were reported, each at its number modulo their room.
 #[derive(Drop)]
 pub struct LatestFeatures {
     features: [Feature; ROOM],
-    /// How many were told.
+    /// How many were reported.
     told: u64,
 }
 
-/// Stands where no feature was told yet.
+/// Stands where no feature was reported yet.
 fn no_feature() -> Feature {
     Feature {
         index: 0,
@@ -39,7 +39,7 @@ impl LatestFeatures {
         }
     }
 
-    /// How many were told.
+    /// How many were reported.
     #[inline]
     pub fn told(&self) -> u64
         ensures { result ≡ self.now.told }

@@ -1,6 +1,6 @@
 //! The linter for hosts that speak C: a static library with the header `include/geolint.h`.
 //!
-//! [`geolint_check`](check::geolint_check) judges a text in memory; the functions of `stream` judge a text that comes in
+//! [`geolint_check`](check::geolint_check) checks a text in memory; the functions of `stream` check a text that comes in
 //! pieces, by a handle in memory that the host provides. What each call answers is stated by the clauses of
 //! [`Linter`](gj_rules::Linter), so that the verdict is the definition's on this side of the boundary too.
 #![tactic(auto)]

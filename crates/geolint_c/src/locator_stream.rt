@@ -1,4 +1,4 @@
-//! The calls of C on a handle that tells a path, which lies in memory that the host provides. At null a call answers that, and
+//! The calls of C on a handle that reports a path, which lies in memory that the host provides. At null a call answers that, and
 //! does nothing.
 //!
 //! The calls over values are those of [`LocatorHandle`]; here is only what leads from a pointer to one, and that is proved by hand.

@@ -1,5 +1,5 @@
-//! The calls of C on a handle that tells records, which lies in memory that the host provides. At null a call answers that, and
-//! does nothing.
+//! The calls of C on a handle that reports records, which lies in memory that the host provides. At null a call answers
+//! that, and does nothing.
 //!
 //! The calls over values are those of [`RecordHandle`]; here is only what leads from a pointer to one, and that is proved by hand.
 ghost use Rattle.std.specs.Prelude.{◌≡◌};

@@ -13,13 +13,13 @@ use crate::status::{DONE, ENDED, LIMITS, NONE, READY, REFUSED};
 use gj_json::Limits;
 use gj_rules::{Framing, Records};
 
-/// A judge of records that tells each, until it has ended.
+/// A checker of records that reports each, until it has ended.
 #[derive(Drop)]
 pub struct RecordHandle {
     /// None where the limits or the framing are not allowed. It stays where it is at the end, since it is large.
     records: Option<Records>,
     last: LastRecord,
-    /// Whether the last record that was told is not pulled yet.
+    /// Whether the last record that was reported is not pulled yet.
     ready: bool,
     ended: bool,
 }
@@ -64,7 +64,7 @@ impl RecordHandle {
         }
     }
 
-    /// As `begun`, whatever the handle was. Where it has a judge of records, little is written.
+    /// As `begun`, whatever the handle was. Where it has a checker of records, little is written.
     pub fn begin_again(&mut self, framing: u32, max_depth: u32, max_bytes: u64) -> u32
         ensures begun { IsBegun framing max_depth max_bytes self.new }
         ensures status { BegunStatus framing max_depth max_bytes result }

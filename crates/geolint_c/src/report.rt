@@ -12,7 +12,7 @@ use gj_coords::{Fault, KINDS, Kind, Warnings};
 use gj_json::{Cause, JsonFault};
 use gj_rules::Verdict;
 
-/// What a text is; 0 says that it was not judged.
+/// What a text is; 0 says that it was not checked.
 pub const VALID: u32 = 1;
 
 pub const BROKEN: u32 = 2;
@@ -171,7 +171,7 @@ pub fn report_of(verdict: &Verdict) -> Report
     }
 }
 
-/// What a call gives that judges nothing.
+/// What a call gives that checks nothing.
 pub fn no_report(status: u32) -> Report
     ensures { result ≡ no_report status }
 {

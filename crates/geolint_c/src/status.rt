@@ -9,7 +9,7 @@ pub const REFUSED: u32 = 1;
 /// The handle has ended: nothing was changed.
 pub const ENDED: u32 = 2;
 
-/// The limits are not allowed: nothing can be judged under them.
+/// The limits are not allowed: nothing can be checked under them.
 pub const LIMITS: u32 = 3;
 
 /// The pointer is null: nothing was changed.

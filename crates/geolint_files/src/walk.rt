@@ -7,7 +7,7 @@ use gj_rules::Framing;
 use std::alloc::{AllocError, Global};
 use std::collections::BTreeSet;
 
-/// Whether a file of this name in a folder is judged: these are the endings beside the usual ones.
+/// Whether a file of this name in a folder is checked: these are the endings beside the usual ones.
 pub fn is_taken(name: &[u8], endings: &[Vec<u8>]) -> bool
     ensures { result ≡ is_taken name.now endings.now }
 {
@@ -92,7 +92,7 @@ fn ending_of(path: &[u8]) -> &[u8] {
 #[derive(Drop)]
 pub struct Pending {
     pub name: Vec<u8>,
-    /// It was given and not found in a folder, so it is judged whatever it is called.
+    /// It was given and not found in a folder, so it is checked whatever it is called.
     pub is_given: bool,
 }
 

@@ -51,7 +51,7 @@ fn symptom_of(finding: &Finding, linter: &Linter) -> Option<Symptom> {
     }
 }
 
-/// A text is refused: behind its end, where the linter stopped with nothing open any more, or before it.
+/// A text is refused: after its end, where the linter stopped with nothing open any more, or before it.
 fn refusal_of(fault: &JsonFault, linter: &Linter) -> Symptom {
     let is_behind = fault.cause == Cause::Syntax
         && fault.place > 0

@@ -72,7 +72,7 @@ pub trait Feeds<L> {
         ensures decided { result ≡ Stage.Decided → (bytes : List ℕ) → stands fed.old bytes → decided fed.new (bytes ++ piece.now) };
 }
 
-/// What is told how many bytes come.
+/// What hears how many bytes come.
 pub trait Counts {
     fn add_bytes(&mut self, count: usize);
 }

@@ -1,4 +1,4 @@
-//! What is told of one file.
+//! What is reported of one file.
 
 use crate::found::Found;
 use crate::judge::Finding;
@@ -9,7 +9,7 @@ use gj_hints::Hint;
 use gj_json::Path;
 use gj_rules::{SeqVerdict, Verdict};
 
-/// A file that was judged.
+/// A file that was checked.
 #[derive(Drop)]
 pub struct Report<'a> {
     pub name: &'a [u8],
@@ -111,7 +111,7 @@ impl Finding {
         }
     }
 
-    /// Whether a place of it is told.
+    /// Whether a place of it is reported.
     pub fn has_places(&self) -> bool
         ensures { result ≡ has_places self.now }
     {
@@ -137,7 +137,7 @@ impl Finding {
         }
     }
 
-    /// The places where there is no fault to tell.
+    /// The places where there is no fault to report.
     fn places_of_warnings(&self) -> Sites
         ensures right { (text : List ℕ) → AreRight text result.sites }
         ensures paths { (framing : Option Framing) (text : List ℕ) → ArePaths framing text result.sites }
@@ -277,7 +277,7 @@ impl<'a> Report<'a> {
     }
 }
 
-/// What is told of a kind of warning.
+/// What is reported of a kind of warning.
 pub fn warning(kind: Kind, warnings: &Warnings) -> Option<(Told, u32)>
     ensures { result ≡ warning_of kind warnings.now }
 {

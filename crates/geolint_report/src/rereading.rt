@@ -12,7 +12,7 @@ use gj_json::Limits;
 use gj_rules::Framing;
 use std::io;
 
-/// The lines, columns and paths of what is told: none where the source cannot be read again as it was.
+/// The lines, columns and paths of what is reported: none where the source cannot be read again as it was.
 pub fn find_sites<S: Rewind>(
     finding: &Finding,
     source: &mut S,
@@ -29,7 +29,7 @@ pub fn find_sites<S: Rewind>(
     }
 }
 
-/// The lines, columns and paths of what is told, in the source from its first byte on.
+/// The lines, columns and paths of what is reported, in the source from its first byte on.
 fn read_sites<S: Rewind>(
     finding: &Finding,
     source: &mut S,
@@ -49,7 +49,7 @@ fn read_sites<S: Rewind>(
     Ok(sites)
 }
 
-/// The lines, columns and paths of what is told of a finding, in what a source has left.
+/// The lines, columns and paths of what is reported of a finding, in what a source has left.
 fn sites_in<S: Source>(
     finding: &Finding,
     reader: &mut S,

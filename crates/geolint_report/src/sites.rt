@@ -248,7 +248,7 @@ impl Sites {
         finder.located = 0;
     }
 
-    /// The place behind the last byte has a line and a column too.
+    /// The place after the last byte has a line and a column too.
     fn end(&mut self, finder: &Finder)
         ensures right { (text : List ℕ) → Reaches finder.now self.old text [] → AreRight text self.new.sites }
         ensures paths { (framing : Option Framing) (text : List ℕ) → ArePaths framing text self.old.sites → ArePaths framing text self.new.sites }

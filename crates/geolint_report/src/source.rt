@@ -25,7 +25,7 @@ pub trait Source {
     // How many calls failed.
     ghost failed_reads: { Self → ℕ };
 
-    /// Reads into the front of the piece and answers how many bytes came: 0 into a piece with room only where no byte is
+    /// Reads into the piece from its start and answers how many bytes came: 0 into a piece with room only where no byte is
     /// left. On an error no byte came.
     fn read_piece(&mut self, piece: &mut [u8]) -> io::Result<usize>
         ensures bound { ReadsAtMost result piece.new }
@@ -45,16 +45,16 @@ pub trait Rewind: Source {
         ensures text { Self.text self.new ≡ Self.text self.old }
         ensures failed { CountsFailure (Self.failed_reads self.old) (Self.failed_reads self.new) result };
 
-    /// Reads into the front of the piece from a place on, and answers how many bytes came: 0 into a piece with room only where no
-    /// byte is there. On an error no byte came. It says nothing of what the next read gives.
+    /// Reads from a place on into the piece, from its start, and answers how many bytes came: 0 into a piece with room only
+    /// where no byte is there. On an error no byte came. It says nothing of what the next read gives.
     fn read_from(&mut self, place: u64, piece: &mut [u8]) -> io::Result<usize>
         ensures bound { ReadsAtMost result piece.new }
         ensures bytes { GivesFrom (Self.text self.old) place result piece.new }
         ensures text { Self.text self.new ≡ Self.text self.old }
         ensures failed { CountsFailure (Self.failed_reads self.old) (Self.failed_reads self.new) result };
 
-    /// Looks at the bytes from a place on: how many came into the front of the piece, none where that failed. The next read
-    /// gives what it gave without this, and no failure is counted.
+    /// Looks at the bytes from a place on: how many came into the piece, none where that failed. The next read gives
+    /// what it gave without this, and no failure is counted.
     fn peek(&self, place: u64, piece: &mut [u8]) -> usize
         ensures { result ≤ length piece.new };
 
@@ -142,7 +142,7 @@ impl FileSource {
         }
     }
 
-    /// Whether the file is as it was, as far as the system tells.
+    /// Whether the file is as it was, as far as the system says.
     fn is_unchanged(&self) -> bool {
         match (&self.before, self.file.metadata()) {
             (Some(before), Ok(after)) => {

@@ -40,7 +40,7 @@ pub const CAUSES: [Cause; 4] = [Cause::Syntax, Cause::Truncated, Cause::Depth, C
 /// How many rules, kinds of warning and causes there are.
 pub const CODES: usize = RULES.len() + KINDS.len() + CAUSES.len();
 
-/// The code and the text of what is told of a file.
+/// The code and the text of what is reported of a file.
 #[derive(Clone, Copy, PartialEq, Eq)]
 pub enum Code {
     Rule(Rule),

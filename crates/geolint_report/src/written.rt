@@ -34,7 +34,7 @@ fn word_length(bytes: &[u8]) -> usize {
     }
 }
 
-/// Whether the byte stands behind a number or a word.
+/// Whether the byte ends a number or a word.
 fn ends_word(byte: u8) -> bool {
     matches!(byte, b' ' | b'\t' | b'\n' | b'\r' | b',' | b'}' | b']')
 }

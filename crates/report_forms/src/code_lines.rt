@@ -63,7 +63,7 @@ fn count_of(code: Code, counts: &[u64; CODES]) -> u64
     if slot < CODES { counts[slot] } else { 0 }
 }
 
-/// The line of a code, where it is told at all.
+/// The line of a code, where it is reported at all.
 fn put_count_if(code: Code, count: u64, line: &mut Vec<u8>) -> Result<(), AllocError>
     ensures { OnOk result (Adds line.old line.new (count_line_if code count)) }
 {

@@ -1,4 +1,4 @@
-//! What is told of each feature or record of a file, behind the report of the file.
+//! What is reported of each feature or record of a file, after the report of the file.
 
 pub mod entry;
 pub mod forms;

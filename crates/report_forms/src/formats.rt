@@ -1,4 +1,4 @@
-//! The forms of the report. Each puts what it tells of a file behind the bytes of a line.
+//! The forms of the report. Each adds what it reports of a file to the bytes of a line.
 ghost use Rattle.std.specs.Prelude.{◌≡◌, ◌<◌, OnOk};
 ghost use Rattle.std.specs.List.{flat_map};
 ghost use Rattle.gj_json.specs.Path.{steps_of};

@@ -1,4 +1,4 @@
-//! How many features or records there are, how many are broken, and of how many each rule, kind of warning and cause is told.
+//! How many features or records there are, how many are broken, and of how many each rule, kind of warning and cause is reported.
 ghost use Rattle.std.specs.Prelude.{List, OnOk};
 ghost use Rattle.geolint_report.specs.declared.every.tally.Tally.{Tally};
 ghost use Rattle.geolint_report.specs.Line.{Adds};

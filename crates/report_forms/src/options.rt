@@ -1,4 +1,4 @@
-//! How files are judged, and in which form they are told.
+//! How files are checked, and in which form they are reported.
 
 use geolint_report::judge::Finding;
 use geolint_report::texts::has;
@@ -43,7 +43,7 @@ impl Kinds {
     }
 }
 
-/// What is told of each feature of a file, behind the file's own report.
+/// What is reported of each feature of a file, after the file's own report.
 #[derive(Clone, Copy, Debug, PartialEq, Eq)]
 pub enum Every {
     Nothing,
@@ -53,7 +53,7 @@ pub enum Every {
     Warnings,
 }
 
-/// How the files are judged and told.
+/// How the files are checked and reported.
 #[derive(Clone, Copy)]
 pub struct Options {
     pub limits: Limits,
@@ -67,7 +67,7 @@ pub struct Options {
     pub format: Format,
     pub summary: bool,
     pub every: Every,
-    /// The most findings of features that are told of a file: all where it is 0.
+    /// The most findings that are listed of a file: all where it is 0.
     pub most: u64,
 }
 

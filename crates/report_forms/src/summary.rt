@@ -106,7 +106,7 @@ impl Summary {
         self.unread = self.unread.saturating_add(1);
     }
 
-    /// One file more of which this is told.
+    /// One file more of which this is reported.
     fn count(&mut self, code: Code)
         ensures { Adds self.old self.new false false false false false (λ other. same other code) }
     {
@@ -116,7 +116,7 @@ impl Summary {
         }
     }
 
-    /// Puts the counts, and how many files each rule is told of.
+    /// Puts the counts, and of how many files each rule is reported.
     pub fn put(&self, line: &mut Vec<u8>) -> Result<(), AllocError>
         ensures { (files : List (Option Finding)) → Counts self.now files → OnOk result (Appends line.old line.new (summary_of files)) }
     {

@@ -118,7 +118,7 @@ public final class JudgingInputStream extends FilterInputStream {
 
     @Override
     public void reset() throws IOException {
-        throw new IOException("there is no going back in a stream that is judged");
+        throw new IOException("there is no going back in a stream that is checked");
     }
 
     @Override

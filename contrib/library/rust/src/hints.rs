@@ -45,7 +45,7 @@ pub fn hint(verdict: &Verdict, bytes: &[u8]) -> Option<&'static str> {
 
 /// The hint for an input that came in pieces: by its first 512 bytes, the last 256 before the place and 256 from it on, or as many as there
 /// are; more are passed over. The place is the verdict's, and of a valid text that of the first W5. `levels` is what
-/// [`Linter::levels`](crate::Linter::levels) told before the end; of a record pass 1.
+/// [`Linter::levels`](crate::Linter::levels) returned before the end; of a record pass 1.
 pub fn hint_around(verdict: &Verdict, levels: u32, head: &[u8], before: &[u8], after: &[u8]) -> Option<&'static str> {
     let report = report_of(verdict);
     some(text(|text| unsafe {

@@ -77,7 +77,7 @@ impl Write for Small {
     }
 }
 
-/// What is judged is what was stored, also where the store takes a part or fails.
+/// What is checked is what was stored, also where the store takes a part or fails.
 #[test]
 fn stored() -> Result<(), Box<dyn Error>> {
     let judging = |room| -> Result<_, Refusal> {

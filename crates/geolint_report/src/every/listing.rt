@@ -1,4 +1,4 @@
-//! The features or records of a file of which something is told, as the linter tells them: so many are kept, and all are counted.
+//! The features or records of a file in which something is found, as the linter reports them: so many are kept, and all are counted.
 ghost use Rattle.std.specs.Prelude.{◌≡◌, ℕ, List, Option, IfOk, IfSome};
 ghost use Rattle.gj_json.specs.Limits.{Allowed};
 ghost use Rattle.gj_rules.specs.declared.records.framing.Framing.{Framing};
@@ -53,7 +53,7 @@ impl Item {
     }
 }
 
-/// What is told of a feature or a record: its fault, or a kind of warning of one without a fault.
+/// What is reported of a feature or a record: its fault, or a kind of warning of one without a fault.
 #[derive(Clone, Copy)]
 pub struct Note {
     pub item: Item,
@@ -63,13 +63,13 @@ pub struct Note {
 /// What is asked of the features or the records of a file.
 #[derive(Clone, Copy, Debug, PartialEq, Eq)]
 pub struct Asked {
-    /// The warnings of those without a fault are told too.
+    /// The warnings of those without a fault are reported too.
     pub with_warnings: bool,
     /// How many notes are kept at most.
     pub room: u64,
 }
 
-/// What is told of the features or the records so far.
+/// What is reported of the features or the records so far.
 #[derive(Drop)]
 pub struct Listing {
     asked: Asked,

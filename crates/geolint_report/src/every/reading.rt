@@ -1,4 +1,4 @@
-//! The first reading of a file of which each feature or each record is told.
+//! The first reading of a file of which each feature or each record is reported.
 ghost use Rattle.std.specs.Prelude.{◌≡◌, IfOk, None};
 ghost use Rattle.geolint_report.specs.declared.judge.Finding.{Finding};
 ghost use Rattle.geolint_report.specs.declared.judge.Reading.{Reading};
@@ -16,8 +16,8 @@ use gj_rules::{FeatureLinter, Framing, Progress, Verdict};
 use std::alloc::Global;
 use std::io;
 
-/// What a file is, as [`judge`](crate::judge::judge) finds it where more than yes or no is asked, and what is told of its features
-/// or its records.
+/// What a file is, as [`judge`](crate::judge::judge) finds it where more than yes or no is asked, and what is reported of its
+/// features or its records.
 pub fn judge_every<S: Source>(
     alloc: Global,
     reader: &mut S,
@@ -53,7 +53,8 @@ pub fn judge_every<S: Source>(
     }
 }
 
-/// The verdict of one text, as [`judge`](crate::judge::judge) finds it, and what is told of its features. No read follows a refusal.
+/// The verdict of one text, as [`judge`](crate::judge::judge) finds it, and what is reported of its features. No read
+/// follows a refusal.
 pub fn judge_features<S: Source>(
     alloc: Global,
     reader: &mut S,

@@ -1,4 +1,4 @@
-//! The first reading of a file of which each record is told: a text sequence, or newline-delimited texts.
+//! The first reading of a file of which each record is reported: a text sequence, or newline-delimited texts.
 ghost use Rattle.std.specs.Prelude.{◌≡◌, IfOk, Some};
 ghost use Rattle.geolint_report.specs.Every.{ListsBy};
 ghost use Rattle.geolint_report.specs.Judged.{CountsFailure, JudgesRecords};
@@ -12,7 +12,7 @@ use gj_rules::{Framing, Records, SeqVerdict};
 use std::alloc::Global;
 use std::io;
 
-/// What the records of a reader are as a whole, and what is told of each of them. It is read to its end, or beyond the limit.
+/// What the records of a reader are as a whole, and what is reported of each of them. It is read to its end, or beyond the limit.
 pub fn judge_records<S: Source>(
     alloc: Global,
     reader: &mut S,

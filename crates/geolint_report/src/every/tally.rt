@@ -1,4 +1,4 @@
-//! How many features or records there are, how many are broken, and of how many each rule, kind of warning and cause is told.
+//! How many features or records there are, how many are broken, and of how many each rule, kind of warning and cause is reported.
 ghost use Rattle.std.specs.Prelude.{◌≡◌, ◌<◌, ◌+◌, ℕ, get_or};
 ghost use Rattle.std.specs.Io.Iter.{u64_saturate};
 ghost use Rattle.geolint_report.specs.declared.texts.TheConstants.{CODES};
@@ -13,7 +13,7 @@ pub struct Tally {
     pub items: u64,
     /// How many of them are broken, or no JSON.
     pub broken: u64,
-    /// Of how many each code is told, by its slot.
+    /// Of how many each code is reported, by its slot.
     pub counts: [u64; CODES],
 }
 

@@ -1,7 +1,7 @@
 //! The events of a small text, for tests.
 use gj_json::{EventSink, Limits, Reader};
 
-/// Tells the events of the text, as the reader does.
+/// Reports the events of the text, as the reader does.
 pub fn tell<S: EventSink>(text: &[u8], to: &mut S) {
     tell_parts(&[(text, 1)], to);
 }

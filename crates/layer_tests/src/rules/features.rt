@@ -266,7 +266,7 @@ fn rules_that_tell_features(rt: HostRuntime) {
     );
 }
 
-/// A sink that only knows features is told of a clean one all the same.
+/// A clean feature is reported to a sink that only knows features all the same.
 #[test]
 fn clean_feature(rt: HostRuntime) {
     let mut sink = FirstFeatures::new();

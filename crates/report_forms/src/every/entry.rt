@@ -39,7 +39,7 @@ pub fn path_at(mark: Option<Mark>) -> Option<Path>
     }
 }
 
-/// The word for what is told.
+/// The word for what is reported.
 pub fn note_word(code: Code) -> &'static [u8]
     ensures { result.now ≡ note_word code }
 {
@@ -50,7 +50,7 @@ pub fn note_word(code: Code) -> &'static [u8]
     }
 }
 
-/// Whether what is told fails a file.
+/// Whether what is reported fails a file.
 pub fn note_fails(code: Code, options: &Options) -> bool
     ensures { result ≡ note_fails options.now.strict options.now.allowed code }
 {

@@ -12,7 +12,7 @@ use geolint_report::line::{put, put_number};
 use geolint_report::texts::Code;
 use std::alloc::AllocError;
 
-/// Puts the number of a feature or a record, behind its word.
+/// Puts the number of a feature or a record, after its word.
 pub fn put_item(item: Item, line: &mut Vec<u8>) -> Result<(), AllocError>
     ensures { OnOk result (Adds line.old line.new (item_text item)) }
 {
@@ -21,7 +21,7 @@ pub fn put_item(item: Item, line: &mut Vec<u8>) -> Result<(), AllocError>
     put_number(line, item.number())
 }
 
-/// Puts that so many more are not told.
+/// Puts that so many more are not reported.
 pub fn put_and_more(count: u64, line: &mut Vec<u8>) -> Result<(), AllocError>
     ensures { OnOk result (Adds line.old line.new (and_more count)) }
 {
@@ -30,7 +30,7 @@ pub fn put_and_more(count: u64, line: &mut Vec<u8>) -> Result<(), AllocError>
     put(line, b" more")
 }
 
-/// Puts the word for what is told.
+/// Puts the word for what is reported.
 pub fn put_word(code: Code, line: &mut Vec<u8>) -> Result<(), AllocError>
     ensures { OnOk result (Adds line.old line.new (note_word code)) }
 {
@@ -44,7 +44,7 @@ pub fn put_path_at(mark: Option<Mark>, line: &mut Vec<u8>) -> Result<(), AllocEr
     put_and_path(path_at(mark), line)
 }
 
-/// Puts an `id` behind these bytes, where there is one.
+/// Puts an `id` after these bytes, where there is one.
 pub fn put_id_behind(before: &[u8], id: &[u8], line: &mut Vec<u8>) -> Result<(), AllocError>
     ensures { OnOk result (Adds line.old line.new (id_behind before.now id.now)) }
 {

@@ -92,7 +92,7 @@ fn put_shown(alloc: Global, id: &[u8], line: &mut Vec<u8>) -> Result<(), AllocEr
     put_in_message(shown.as_slice(), line)
 }
 
-/// Puts the command on what is not told.
+/// Puts the command on what is not reported.
 pub fn put_more(
     alloc: Global,
     name: &[u8],

@@ -85,7 +85,7 @@ fn put_id(id: &[u8], spelled: &[u8], line: &mut Vec<u8>) -> Result<(), AllocErro
     }
 }
 
-/// Puts the line on what is not told.
+/// Puts the line on what is not reported.
 pub fn put_more(
     alloc: Global,
     name: &[u8],

@@ -84,7 +84,7 @@ fn put_byte_behind(place: u64, mark: Option<Mark>, line: &mut Vec<u8>) -> Result
     }
 }
 
-/// Puts the line on what is not told.
+/// Puts the line on what is not reported.
 pub fn put_more(name: &[u8], count: u64, style: Style, line: &mut Vec<u8>) -> Result<(), AllocError>
     ensures { OnOk result (Adds line.old line.new (lines_more style name.now count)) }
 {

@@ -41,7 +41,7 @@ impl Log {
         put_entry(alloc, entry, options, line)
     }
 
-    /// Puts the result on what is not told.
+    /// Puts the result on what is not reported.
     pub fn put_more(
         &mut self,
         name: &[u8],

@@ -53,7 +53,7 @@ fn put_some_spot(spot: Spot, line: &mut Vec<u8>) -> Result<(), AllocError>
     put_number(line, spot.column)
 }
 
-/// Puts the line on what is not told.
+/// Puts the line on what is not reported.
 #[tactic(auto, unfolding(crate::specs::Forms::Features::text_more))]
 pub fn put_more(count: u64, line: &mut Vec<u8>) -> Result<(), AllocError>
     ensures { OnOk result (Adds line.old line.new (text_more count)) }

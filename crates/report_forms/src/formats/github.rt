@@ -31,7 +31,7 @@ pub fn put_report(
     }
 }
 
-/// The commands where there is no fault to tell.
+/// The commands where there is no fault to report.
 fn put_rest(
     alloc: Global,
     report: &Report<'_>,

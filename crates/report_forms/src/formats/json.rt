@@ -209,14 +209,14 @@ fn put_object(
     put(line, b"}")
 }
 
-/// The members for what is told, with the place as it was found.
+/// The members for what is reported, with the place as it was found.
 fn put_placed(report: &Report<'_>, told: &Told, line: &mut Vec<u8>) -> Result<(), AllocError>
     ensures { OnOk result (Adds line.old line.new (json_placed report.now told.now)) }
 {
     put_told(told, report.spot(told.place), report.path(told), line)
 }
 
-/// The members for what is told at a place. Texts and paths have no character that a JSON string escapes.
+/// The members for what is reported at a place. Texts and paths have no character that a JSON string escapes.
 pub fn put_told(
     told: &Told,
     spot: Option<Spot>,

@@ -1,4 +1,4 @@
-//! One line for each thing that is told, as compilers write them, and the place it is told of.
+//! One line for each thing that is reported, as compilers write them, and its place.
 ghost use Rattle.std.specs.Prelude.{◌≡◌, ◌||◌, ◌++◌, ℕ, List, OnOk, IfOk, codes, replicate};
 ghost use Rattle.std.specs.Fmt.{decimal};
 ghost use Rattle.gj_places.specs.declared.excerpt.Excerpt.{Excerpt};
@@ -161,7 +161,7 @@ fn put_fault(
     put_excerpt(alloc, report, told, style, line)
 }
 
-/// Where there is no fault to tell.
+/// Where there is no fault to report.
 fn put_rest(report: &Report<'_>, style: Style, line: &mut Vec<u8>) -> Result<(), AllocError>
     ensures { OnOk result (Adds line.old line.new (lines_rest style report.now (warnings_of report.now.finding))) }
 {

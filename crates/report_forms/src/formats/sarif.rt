@@ -81,7 +81,7 @@ impl Log {
         }
     }
 
-    /// The results where there is no fault to tell.
+    /// The results where there is no fault to report.
     fn put_rest(
         &mut self,
         report: &Report<'_>,
@@ -200,7 +200,7 @@ impl Log {
         self.unread.is_empty()
     }
 
-    /// Puts what comes behind the last result.
+    /// Puts what comes after the last result.
     pub fn end(&self, line: &mut Vec<u8>) -> Result<(), AllocError>
         ensures { OnOk result (Adds line.old line.new (sarif_end self.now.unread.items)) }
     {
@@ -296,7 +296,7 @@ pub fn put_location(name: &[u8], line: &mut Vec<u8>) -> Result<(), AllocError>
     put(line, b"}")
 }
 
-/// The place in the file, where one is told.
+/// The place in the file, where one is reported.
 fn put_region_if(report: &Report<'_>, told: &Told, line: &mut Vec<u8>) -> Result<(), AllocError>
     ensures { OnOk result (Adds line.old line.new (region_if told.now.code (region report.now told.now.place))) }
 {

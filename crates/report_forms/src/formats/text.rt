@@ -107,7 +107,7 @@ fn put_path_line(path: &Path, line: &mut Vec<u8>) -> Result<(), AllocError>
     put(line, b"\n")
 }
 
-/// Where there is no fault to tell.
+/// Where there is no fault to report.
 fn put_rest(finding: &Finding, line: &mut Vec<u8>) -> Result<(), AllocError>
     ensures { OnOk result (Adds line.old line.new (text_rest finding.now (warnings_of finding.now))) }
 {
