@@ -127,7 +127,7 @@ static int next_piece(pieces *it) {
     return 1;
 }
 
-/* FNV-1a of what was told, in turn. */
+/* FNV-1a of what was reported, in turn. */
 static uint64_t with_bytes(uint64_t sum, const void *bytes, size_t size) {
     for (size_t at = 0; at < size; at++)
         sum = (sum ^ ((const unsigned char *)bytes)[at]) * UINT64_C(1099511628211);
@@ -139,7 +139,7 @@ static uint64_t with_feature(uint64_t sum, const geolint_finding *it) {
     return with_bytes(with_bytes(sum, places, sizeof places), &it->report, sizeof it->report);
 }
 
-/* The features that are told, and the verdict; how many there are is counted. */
+/* The features that are reported, and the verdict; how many there are is counted. */
 static uint64_t pull_features(geolint_features *features, pieces it, uint64_t *count) {
     uint64_t sum = 0;
     geolint_report report;
@@ -163,7 +163,7 @@ static uint64_t pull_features(geolint_features *features, pieces it, uint64_t *c
     return with_bytes(sum, &report, sizeof report);
 }
 
-/* The records that are told, and what the input is as a whole. */
+/* The records that are reported, and what the input is as a whole. */
 static uint64_t pull_records(geolint_records *records, uint32_t framing, pieces it) {
     uint64_t sum = 0;
     geolint_whole whole;
@@ -202,7 +202,7 @@ static uint64_t find_place(geolint_locator *locator, pieces it) {
     return with_bytes(with_bytes(0, found, sizeof found), room, geolint_locator_path(locator, room, sizeof room));
 }
 
-/* A handle that tells features, one that tells records, and a locator. */
+/* A handle that reports features, one that reports records, and a locator. */
 static void *room[3];
 
 /* Whether one piece and random pieces give the same findings, paths, lines and columns. */

@@ -1,5 +1,5 @@
-/* Loaded in front of the C library: refuses the request for memory of the number in REFUSED, counted from 1, and with REFUSED_ON each
-   one behind it too. At the end it writes to the descriptor in REFUSED_TO how many requests there were. */
+/* Loaded before the C library: refuses the request for memory of the number in REFUSED, counted from 1, and with REFUSED_ON each
+   one after it too. At the end it writes to the descriptor in REFUSED_TO how many requests there were. */
 #define _GNU_SOURCE
 #include <dlfcn.h>
 #include <errno.h>

@@ -1,4 +1,4 @@
-"""Judges the texts of rows.json by the library, in one call, in one piece, byte by byte and cut at each place (longer texts:
+"""Checks the texts of rows.json by the library, in one call, in one piece, byte by byte and cut at each place (longer texts:
 at some), and compares with the verdict in the row, and its lines with those of the program that is named. Then what the
 module says of itself.
 
@@ -91,7 +91,7 @@ try:
 except AttributeError:
     pass
 
-# A buffer is judged by its bytes: a mapped file whole, wherever it stands, also after a piece, and so is what has gaps.
+# A buffer is checked by its bytes: a mapped file whole, wherever it stands, also after a piece, and so is what has gaps.
 with tempfile.TemporaryFile() as file:
     file.write(ring + b" " * 200_000)
     file.flush()
@@ -131,7 +131,7 @@ with geolint.Linter() as linter:
     stored = b"".join(linter.watch(ring[i : i + 5] for i in range(0, len(ring), 5)))
     wants("the offset", linter.offset, len(ring))
 wants("what a block stored", stored, ring)
-wants("what a block judged", linter.verdict, verdict)
+wants("what a block checked", linter.verdict, verdict)
 wants("a second finish", linter.finish(), verdict)
 for name, call in {
     "feed after the end": lambda: linter.feed(b"x"),
@@ -258,7 +258,7 @@ for name, told, call in [
         call()
         wants(name, "nothing", "an error")
     except (TypeError, ValueError) as error:
-        wants(f"what is told of {name}", told in str(error), True)
+        wants(f"what is said of {name}", told in str(error), True)
 wants("names that hide Python's own", set(geolint.__all__) & set(dir(builtins)), set())
 try:
     with geolint.Linter() as unfinished:

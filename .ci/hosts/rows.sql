@@ -1,4 +1,4 @@
--- Judges the lines of table.py, as bytes, as text and as json, and prints what has another verdict than is due; then how many lines
+-- Checks the lines of table.py, as bytes, as text and as json, and prints what has another verdict than is due; then how many lines
 -- there were.
 --
 --     table.py rows | psql -f rows.sql

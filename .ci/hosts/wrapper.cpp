@@ -171,7 +171,7 @@ static void exceptions() {
 
 static const std::string COLLECTION = "{\"type\":\"FeatureCollection\",\"features\":[7,{\"type\":\"Feature\",\"id\":3,\"geometry\":null,\"properties\":null}]}";
 
-/* What a feature or a record is told with, in one line. */
+/* What is reported of a feature or a record, in one line. */
 static std::string told(const geolint::Finding &finding) {
     return std::to_string(finding.number()) + " " + std::to_string(finding.place()) + " " + std::to_string(finding.end()) + " " +
            std::to_string(finding.id()) + (finding.valid() ? " valid;" : " broken;");
@@ -208,7 +208,7 @@ static void begun_again() {
         for (geolint::Finding finding : features.feed(COLLECTION))
             all += told(finding);
     }
-    wants(all == "0 40 0 0 broken;1 42 101 65 valid;0 40 0 0 broken;1 42 101 65 valid;", "and told again");
+    wants(all == "0 40 0 0 broken;1 42 101 65 valid;0 40 0 0 broken;1 42 101 65 valid;", "and reported again");
     wants(!features.begin(geolint::Limits(257)) && !features.finish().judged() && features.begin(), "beyond the limits, and then within them");
     wants(records.begin(GEOLINT_NEWLINES) && records.offset() == 0, "records begun again");
     all.clear();

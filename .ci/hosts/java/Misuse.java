@@ -107,7 +107,7 @@ final class Misuse {
             Tally.wants("one that is refused", linter.feed(refused), Progress.REFUSED);
             Tally.wants("it has none left either", refused.remaining(), 0);
         }
-        // A mapped file that is cut short while it is judged is an error, and no end of the process.
+        // A mapped file that is cut short while it is checked is an error, and no end of the process.
         Path path = Files.createTempFile("geolint", "mapped");
         try (FileChannel file = FileChannel.open(path, StandardOpenOption.READ, StandardOpenOption.WRITE, StandardOpenOption.DELETE_ON_CLOSE)) {
             file.write(ByteBuffer.wrap(" ".repeat(1 << 20).getBytes(StandardCharsets.US_ASCII)));

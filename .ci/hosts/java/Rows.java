@@ -16,7 +16,7 @@ import java.util.Random;
 import java.util.stream.Collectors;
 
 /**
- * Judges the lines of table.py in each way that there is, in random cuts, and compares with the verdict that is due.
+ * Checks the lines of table.py in each way that there is, in random cuts, and compares with the verdict that is due.
  *
  * <pre>Rows SEED FILE</pre>
  */

@@ -10,8 +10,8 @@ import java.util.List;
 import java.util.Random;
 
 /**
- * Eight threads: each judges the files in random cuts by linters of its own and by {@link Geolint#check}, all of them use, end and close
- * one linter against each other, and one writes to an array that the others judge.
+ * Eight threads: each checks the files in random cuts by linters of its own and by {@link Geolint#check}, all of them use, end and close
+ * one linter against each other, and one writes to an array that the others check.
  *
  * <pre>Threads SECONDS FILE..</pre>
  */
