@@ -4,8 +4,8 @@
  * that comes in pieces, in the memory that the host gives it. In the same way geolint_features_.. reports each feature of a text and
  * geolint_records_.. each record of an input; geolint_locator_.. finds the path to a place, geolint_lines_.. its line and column, and
  * geolint_hint.. says what an input that is not valid looks like. The library takes no memory, keeps no state of its own, opens
- * nothing and prints nothing. Any number of linters may be in use at once,
- * each on one thread at a time. What is said of a linter holds of the other handles too, each by its own calls.
+ * nothing and prints nothing. Any number of linters may be in use at once, each on one thread at a time. What is said of a linter
+ * holds of the other handles too, each by its own calls.
  *
  * What is proved of the library. Each call below that gives a verdict states its result by the definitions of the two standards (as
  * the profile in docs/DECISIONS.md reads them) on the whole text, and a prover checks it on each build:
@@ -33,8 +33,8 @@
  *
  * What the caller owes, as no library can test it:
  *   - a pointer that is not null points to what its parameter says, for the whole call;
- *   - `bytes` is not null, nor `head`, `before` and `after`, whatever the length is: for a length of 0 any address will do, as that of "". geolint_bytes below
- *     makes such an address of a pointer that may be null;
+ *   - `bytes` is not null, nor `head`, `before` and `after`, whatever the length is: for a length of 0 any address will do, such as
+ *     that of "". geolint_bytes below makes such an address of a pointer that may be null;
  *   - a linter lies in memory of geolint_size() bytes at a multiple of geolint_alignment(), and is passed to no call before
  *     geolint_begin has got this memory. It is not copied, not moved and not written by the host. The other handles lie in as many
  *     bytes as their own functions say, at a multiple of geolint_alignment() too, and are passed to their own calls alone;
@@ -113,8 +113,8 @@ static inline const void *geolint_bytes(const void *bytes) {
 
 /* Checks `length` bytes. `max_depth` is how many arrays and objects may be open inside each other, from 1 to 256, and
  * `max_bytes` how many bytes a text may have, from 1 to 2^60; 0 stands for the most of either. Other limits give
- * GEOLINT_NO_VERDICT with GEOLINT_LIMITS. As measured, it needs 208 KiB of stack, all of
- * which it writes for a text of more than 8 KiB or of more than 8 levels; on a smaller stack use a linter in other memory. */
+ * GEOLINT_NO_VERDICT with GEOLINT_LIMITS. As measured, it needs 208 KiB of stack, all of which it writes for a text of more than
+ * 8 KiB or of more than 8 levels; on a smaller stack use a linter in other memory. */
 geolint_report geolint_check(const void *bytes, size_t length, uint32_t max_depth, uint64_t max_bytes);
 
 /* ---- a text in pieces */
@@ -176,8 +176,8 @@ typedef struct geolint_finding {
 /* ---- the features of a text
  *
  * A feature is an element of the array that the first member `features` of the text's object holds, whatever the object's `type`
- * says. Each is reported in its turn, once its last byte has come: the least of its faults, or where it has none its warnings. A call takes
- * bytes up to where features have ended, and up to 256 of them wait then to be pulled.
+ * says. Each is reported in its turn, once its last byte has come: the least of its faults, or where it has none its warnings. A
+ * call takes bytes up to where features have ended, and up to 256 of them wait then to be pulled.
  *
  *     while (length) {
  *         geolint_progress progress = geolint_features_feed(features, bytes, length);

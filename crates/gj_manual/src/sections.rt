@@ -49,7 +49,7 @@ Usual causes:
 
 - Another format. Objects with `x` and `y`, `rings`, `paths` or `attributes` are Esri's JSON: export as GeoJSON.
 - A name that is not quite `type`: `Type`, `@type`, `kind`.
-- An answer of a web service that has the GeoJSON inside, as `{\"status\":\"ok\",\"data\":{...}}`. Take the inner object out.
+- An answer of a web service that has the GeoJSON inside, such as `{\"status\":\"ok\",\"data\":{...}}`. Take the inner object out.
 
 RFC 7946, section 3.
 "
@@ -83,9 +83,9 @@ Usual causes:
 - A bare geometry in `features`. Put it into a Feature.
 - A FeatureCollection in `features`, where files were merged. Put its features there, one by one.
 - A Feature in `geometries` or as `geometry`. Put its geometry there.
-- A type of another format, as `Topology` (TopoJSON), `Circle` or `Envelope`. The nine types cannot be extended: convert,
+- A type of another format, such as `Topology` (TopoJSON), `Circle` or `Envelope`. The nine types cannot be extended: convert,
   or write the outline as a Polygon.
-- A type of your own, as `\"type\":\"cafe\"`. Write `\"type\":\"Feature\"`, and put the other one into `properties`.
+- A type of your own, such as `\"type\":\"cafe\"`. Write `\"type\":\"Feature\"`, and put the other one into `properties`.
 
 RFC 7946, sections 1.4, 3, 3.1, 3.2, 3.3 and 7.
 "
@@ -112,7 +112,7 @@ A geometry with `\"coordinates\":[]` is accepted too, whichever of these types i
 Usual causes:
 
 - The location is not known. Write `null` for the whole geometry, as here.
-- The position stands in members of its own, as `\"lat\":54.79,\"lon\":9.43`. Write `\"coordinates\":[9.43,54.79]`.
+- The position stands in members of its own, such as `\"lat\":54.79,\"lon\":9.43`. Write `\"coordinates\":[9.43,54.79]`.
 - A name that is not quite `coordinates`: `coords`, `coordinate`, `Coordinates`.
 
 RFC 7946, section 3.1.
@@ -558,7 +558,7 @@ Mended:
 Usual causes:
 
 - `null` for a feature that has no key yet. Leave the member out.
-- A key of a database that is an object, as `{\"$oid\":\"65f0\"}` of MongoDB, or a list of two keys. Write it as one string.
+- A key of a database that is an object, such as `{\"$oid\":\"65f0\"}` of MongoDB, or a list of two keys. Write it as one string.
 
 RFC 7946, section 3.2.
 "
@@ -710,7 +710,7 @@ What goes wrong: most programs drop the fourth number without a word; some refus
 
 Usual causes:
 
-- Measures, as a time or a distance along a track (XYZM). Put them into `properties`, for a line as an array with one
+- Measures, such as a time or a distance along a track (XYZM). Put them into `properties`, for a line as an array with one
   element for each position.
 - Several positions in one array: `[9.43,54.79,9.44,54.8]`. Give each its own brackets.
 
@@ -773,10 +773,10 @@ What goes wrong: the point is not drawn, or drawn far away: off the map, at the 
 Usual causes:
 
 - Latitude before longitude, as here. Longitude comes first. If both numbers are below 90, no program can see it.
-- Coordinates of another reference system, as metres of a national grid or of Web Mercator: `[1050000,7320000]`.
+- Coordinates of another reference system, such as metres of a national grid or of Web Mercator: `[1050000,7320000]`.
   Convert to longitude and latitude (WGS 84): `ogr2ogr -t_srs EPSG:4326`.
-- Longitudes that go on beyond 180 across the antimeridian, as `[190,52]`. Cut the geometry there and write `[-170,52]`.
-- Degrees that are multiplied, as `94300000` for 9.43.
+- Longitudes that go on beyond 180 across the antimeridian, such as `[190,52]`. Cut the geometry there and write `[-170,52]`.
+- Degrees that are multiplied, such as `94300000` for 9.43.
 
 RFC 7946, sections 3.1.1, 3.1.9 and 4.
 "
@@ -929,7 +929,7 @@ Usual causes (these short texts are not GeoJSON: mended, they are JSON and break
 | single backslash | `{\"file\":\"C:\\maps\"}` | 12 | `{\"file\":\"C:\\\\maps\"}` |
 | comment | `{} // a note` | 3 | `{}` |
 | two texts in one file | `{}{}` | 2 | `{}` in a file of its own each; if each line is a text, check the file with `geolint-files --ndjson` |
-| file of another kind, as HTML | `<html>` | 0 | see Files of another kind |
+| file of another kind, such as HTML | `<html>` | 0 | see Files of another kind |
 
 Two causes show no visible character:
 

@@ -8,7 +8,7 @@ from ._verdict import Verdict, Warning
 
 
 class Demands:
-    """A text is valid. With `strict`, it has no warnings, but for the kinds in `allow`, as (4, 9)."""
+    """A text is valid. With `strict`, it has no warnings, but for the kinds in `allow`, such as (4, 9)."""
 
     def __init__(
         self,

@@ -32,7 +32,7 @@ def _source(value: Any) -> Any:
 class GeoJSONValidator(Demands):
     """A field holds a GeoJSON text (RFC 7946): of a form or a model, for files, texts and bytes.
 
-    With `strict`, a text with warnings does not pass, but for the kinds in `allow`, as (4, 9). The error has the code
+    With `strict`, a text with warnings does not pass, but for the kinds in `allow`, such as (4, 9). The error has the code
     "invalid_geojson", or "geojson_warning", and what is wrong in its params: code, text, place, line, column and path.
     """
 

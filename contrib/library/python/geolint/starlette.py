@@ -50,7 +50,7 @@ class NotGeoJSON(HTTPException):
 class GeoJSONBody(Demands):
     """A dependency that checks the body of a request while it comes, and stores it meanwhile.
 
-    With `strict`, a text with warnings does not pass, but for the kinds in `allow`, as (4, 9).
+    With `strict`, a text with warnings does not pass, but for the kinds in `allow`, such as (4, 9).
     """
 
     async def __call__(self, request: Request) -> AsyncIterator[GeoJSON]:
