@@ -194,6 +194,33 @@ def stopped(browser):
     print(f"{name}: the large file: {told[:80]}")
 
 
+def known_early(browser):
+    """That a large file is not valid is shown while it is read on: by a broken feature, by a name that its object may not have, by one
+    text of many. Of a valid file nothing is said."""
+    opened(browser)
+    large = (room / "large.geojson").read_bytes()[:200_000_000]
+    begun, start = large.index(b"["), '{"type":"Feature","geometry":null,"properties":%s}'
+    kinds = {
+        "feature": b'{"type":"FeatureCollection","features":[' + (start % 3).encode() + b"," + large[begun + 1:],
+        "name": b'{"type":"FeatureCollection","coordinates":[],"features":[' + large[begun + 1:],
+    }
+    for kind, text in kinds.items():
+        (room / f"early-{kind}.geojson").write_bytes(text)
+    (room / "early-text.ndjson").write_text(f"{start % 3}\n" + f"{start % '{}'}\n" * 3_000_000)
+    for path, is_known in (("early-feature.geojson", True), ("early-name.geojson", True), ("early-text.ndjson", True), ("large.geojson", False)):
+        browser.value("window.aloud = []; window.seen ??= new MutationObserver(() => aloud.push(document.getElementById('status').textContent)).observe(document.getElementById('status'), { childList: true }) ?? true")
+        browser.choose("#files", [str(room / path)])
+        browser.wait("document.getElementById('bar').value > 0.02", 60)
+        known, bar = browser.value("[document.getElementById('run-known').textContent, document.getElementById('bar').value]")
+        wants(f"what is known of {path} at {bar:.2f}", bar < 1 and known == ("Not valid. Reading on, to list all that is found." if is_known else ""), known)
+        if path == "early-feature.geojson":
+            browser.shot(shots / f"{name}-early.png")
+        aloud = browser.value("aloud")
+        wants(f"{path}: that is read aloud once", sum("Not valid. Reading on" in it for it in aloud) == is_known, aloud)
+        browser.value("document.getElementById('stop').click()")
+        browser.wait("document.getElementById('run').hidden")
+
+
 def by_keyboard(browser):
     """Paste, and all that is pressed, by keys alone."""
     opened(browser)
@@ -393,7 +420,7 @@ def in_the_dark():
 browser = Kind()
 print(f"{name}: {browser.version}")
 try:
-    for part in (by_keyboard, reports, listed, dropped, stopped, served, pictures):
+    for part in (by_keyboard, reports, listed, dropped, known_early, stopped, served, pictures):
         part(browser)
     asked = {url.split(":")[0] for url in browser.requests() if not url.startswith("http://127.0.0.1:")}
     wants("no request to anywhere", asked <= {"file", "blob", "data", "about"}, asked)

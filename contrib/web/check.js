@@ -106,19 +106,20 @@ export class Geolint {
   #findings(Kind, input, options) {
     const source = sourceOf(input);
     const { framing, maxBytes = 0, maxDepth = 0 } = options;
-    const lend = () => Promise.all([this.#lend(Kind), this.#lend(Locator)]);
+    const isText = Kind === FeatureLinter;
+    const lend = () => Promise.all([Kind, Locator, ...(isText && options.onProgress ? [Linter] : [])].map((it) => this.#lend(it)));
     const giveBack = (those) => those.forEach((it) => this.#giveBack(it));
     return new Findings(async function* (found) {
-      const [linter, locator] = await lend();
-      const isText = Kind === FeatureLinter;
+      const [linter, locator, early] = await lend();
       isText ? linter.begin(maxBytes, maxDepth) : linter.begin(framing, maxBytes, maxDepth);
-      const search = new Search({ linter, locator }, source, isText, options);
+      early?.begin(maxBytes, maxDepth);
+      const search = new Search({ linter, locator, early }, source, isText, options);
       yield* search.run(options);
       if (!isText) yield* search.rest();
       const whole = isText ? linter.finish() : search.whole;
       found.counts = search.counts;
       found.verdict = await located(whole, { linter, source, known: search.known, isText });
-      giveBack([linter, locator]);
+      giveBack([linter, locator, early].filter(Boolean));
     });
   }
 

@@ -4,11 +4,15 @@ import { Details, placesOf } from "./details.js";
 
 /** So many bytes are checked before what they show is reported: in a text as [1,1,1] each second byte ends an element. */
 const STEP = 64 << 10;
+/** The first bytes of a text, in which the names stand that can already show that it is not valid. */
+const EARLY = 64 << 10;
 
 /** One reading of an input. `isText`: the findings are of the features of one text, and otherwise of many texts. */
 export class Search {
   #linter;
   #locator;
+  #early;
+  #isDoomed = false;
   #source;
   #isText;
   #isBrief;
@@ -17,11 +21,13 @@ export class Search {
   #piece = new Uint8Array(0);
 
   /** `which` is what is reported: "faults", "findings" (also the features that have warnings) or "all". Of faults and of features that
-   *  have warnings no more than `most` are reported; `counts` has them all. What is reported in brief lacks name, id and path. */
-  constructor({ linter, locator }, source, isText, { which = "findings", most = Infinity, isBrief = false } = {}) {
+   *  have warnings no more than `most` are reported; `counts` has them all. What is reported in brief lacks name, id and path. `early` is a Linter
+   *  of the text that has begun; without one, only a fault that was found shows that the input is not valid. */
+  constructor({ linter, locator, early = null }, source, isText, { which = "findings", most = Infinity, isBrief = false } = {}) {
     if (!["faults", "findings", "all"].includes(which)) throw new RangeError("which is faults, findings or all");
     this.#linter = linter;
     this.#locator = locator;
+    this.#early = early;
     this.#source = source;
     this.#isText = isText;
     this.#isBrief = isBrief;
@@ -47,6 +53,7 @@ export class Search {
     const linter = this.#linter;
     for await (const bytes of this.#source.pieces()) {
       signal?.throwIfAborted();
+      this.#lookEarly(bytes);
       linter.put(bytes);
       this.#piece = bytes;
       for (let at = 0; at < bytes.length; at += STEP) {
@@ -55,8 +62,16 @@ export class Search {
         yield* this.#placedOf(told);
         if (!goesOn) return;
       }
-      onProgress?.({ read: linter.taken, size: this.#source.size, ...this.counts });
+      this.#isDoomed ||= this.counts.faults > 0;
+      onProgress?.({ read: linter.taken, size: this.#source.size, isDoomed: this.#isDoomed, ...this.counts });
     }
+  }
+
+  /** What the text's own object breaks is in no feature, and is reported at the end alone. */
+  #lookEarly(bytes) {
+    if (!this.#early || this.#isDoomed || this.#early.taken >= EARLY) return;
+    this.#early.feed(bytes.subarray(0, EARLY - this.#early.taken));
+    this.#isDoomed = this.#early.isDoomed();
   }
 
   /** Takes the finding that was pulled last, where it is reported or the verdict needs it. */

@@ -149,8 +149,8 @@ export interface SearchOptions extends Limits {
   most?: number;
   /** Findings are reported in brief, which is faster where there are many of them: `completed` adds the rest. */
   isBrief?: boolean;
-  /** Called after each piece. */
-  onProgress?(progress: Counts & { read: number; size: number | null }): void;
+  /** Called after each piece. `isDoomed`: the input cannot be valid any more. */
+  onProgress?(progress: Counts & { read: number; size: number | null; isDoomed: boolean }): void;
 }
 
 export class Geolint {

@@ -189,12 +189,12 @@ function next() {
 }
 
 function askToCheck() {
-  Object.assign(current, { items: [], counts: null });
+  Object.assign(current, { items: [], counts: null, isDoomed: false });
   showProgress({ read: 0 });
   worker.postMessage({ kind: "check", file: current.file, framing: framingOf(current.name) });
 }
 
-function showProgress({ read, faults = 0, milliseconds = 0 }) {
+function showProgress({ read, isDoomed = false, faults = 0, milliseconds = 0 }) {
   const all = current.file.size;
   const waiting = entries.filter((it) => it !== current && isOpen(it)).length;
   const speed = milliseconds > 0 ? (read / milliseconds) * 1000 : 0;
@@ -207,11 +207,20 @@ function showProgress({ read, faults = 0, milliseconds = 0 }) {
   if (faults > 0) parts.push(say("foundSoFar", { count: faults }));
   $("run-note").textContent = parts.join(" · ");
   const percent = Math.floor((all ? read / all : 0) * 100);
+  showKnown(isDoomed);
   if (milliseconds > 500) document.title = `${percent} % · geolint`;
   // Announced at each quarter, and not each time.
   const quarter = Math.floor(percent / 25);
   if (quarter > (current.quarter ?? 0)) announce(`${current.name}: ${quarter * 25} %`);
   current.quarter = quarter;
+}
+
+/** That the file is not valid, which may be known long before its end. */
+function showKnown(isDoomed) {
+  $("run-known").hidden = !isDoomed;
+  $("run-known").textContent = isDoomed ? say("doomed") : "";
+  if (isDoomed && !current.isDoomed) announce(`${current.name}: ${say("doomed")}`);
+  current.isDoomed = isDoomed;
 }
 
 /** What is known of a file is whole. */

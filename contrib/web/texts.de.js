@@ -19,6 +19,7 @@ export const GERMAN = {
   speed: "{speed} je Sekunde",
   left: "noch {time}",
   foundSoFar: "bisher {count} mit einem Fehler",
+  doomed: "Nicht gültig. Es wird weitergelesen, um alles aufzulisten.",
   waiting: { one: "{count} weitere Datei wartet", other: "{count} weitere Dateien warten" },
   stop: "Anhalten",
   stopAll: "Alle anhalten",

@@ -20,6 +20,7 @@ export const ENGLISH = {
   speed: "{speed} per second",
   left: "{time} left",
   foundSoFar: "{count} with a fault so far",
+  doomed: "Not valid. Reading on, to list all that is found.",
   waiting: { one: "{count} more file is waiting", other: "{count} more files are waiting" },
   stop: "Stop",
   stopAll: "Stop all",
