@@ -4,10 +4,13 @@
 
 import { readFileSync } from "node:fs";
 import { pathToFileURL } from "node:url";
+import { isDeepStrictEqual } from "node:util";
 
 const [sources, modulePath, folder] = process.argv.slice(2);
 const { load } = await import(pathToFileURL(`${sources}/geolint.js`));
 const geolint = await load(readFileSync(modulePath));
+const { Packer, Packed } = await import(pathToFileURL(`${sources}/packed.js`));
+const texts = await geolint.texts();
 
 let seed = 5;
 const random = (below) => ((seed = (Math.imul(seed, 1103515245) + 12345) >>> 0), seed % below);
@@ -24,6 +27,17 @@ const ways = [(bytes) => new Blob([bytes]), (bytes) => new Blob([bytes]).stream(
 const place = ({ rule, offset, line, column, path }) => ({ rule, offset, line, column, path });
 const plain = ({ index, number, place: start, end, warnings, ...it }) =>
   JSON.stringify({ called: index ?? number, start, end, ...place(it), warnings: warnings.map((one) => ({ count: one.count, ...place(one) })) });
+
+/** Findings as the page has them: sent as numbers, in parts. */
+function sent(findings, isText) {
+  const [packer, packed] = [new Packer(), new Packed(texts, isText)];
+  findings.forEach((it, i) => {
+    packer.add(it);
+    if (packer.isFull || i % 7 === 6) packed.add(packer.part());
+  });
+  packed.add(packer.part());
+  return packed;
+}
 
 let [inputs, found, failed] = [0, 0, 0];
 const differs = (...told) => failed++ < 5 && console.log("DIFFERS:", ...told);
@@ -44,6 +58,10 @@ for (const line of readFileSync(`${folder}/expected.jsonl`, "utf8").trim().split
     const told = JSON.stringify(await geolint.completed(new Blob([bytes]), brief.got));
     if (told !== JSON.stringify(got) || JSON.stringify(brief.verdict) !== JSON.stringify(verdict)) differs(name, "in brief and then in full", told, brief.verdict);
     if (brief.got.some((it) => it.idAt === undefined || "path" in it || "name" in it)) differs(name, "in brief", brief.got);
+    const packed = sent(brief.got, !framing);
+    const rules = brief.got.map((it) => (it.verdict === "valid" ? it.warnings.map(({ rule }) => rule) : [it.rule]));
+    if (!isDeepStrictEqual([...packed], brief.got) || !isDeepStrictEqual(brief.got.map((_, i) => packed.rulesOf(i)), rules)) differs(name, "as numbers", [...packed]);
+    if (brief.got.some((it) => packed.hasFaultAt(it.offset) !== (it.verdict !== "valid"))) differs(name, "faults by their places", brief.got);
     if (wanted === null) {
       if (verdict.verdict !== "not JSON") differs(name, "is no JSON text", verdict.verdict);
       continue;

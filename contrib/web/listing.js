@@ -35,8 +35,25 @@ export function summaryOf({ counts, items, verdict }) {
 /** Whether the name, the id and the paths of an item are still to be read. */
 export const isBrief = (item) => item.idAt !== undefined;
 
-/** The rows of a list: each warning by itself. `at` is the number of the finding in its item. */
-const rowsOf = (items) => items.flatMap((item) => (item.verdict === "valid" ? item.warnings : [item]).map(({ rule }, at) => ({ item, at, rule })));
+/** A row of a list: each warning has its own. `at` is the number of the finding in its item. */
+class Row {
+  constructor(items, index, at, rule) {
+    this.items = items;
+    this.index = index;
+    this.at = at;
+    this.rule = rule;
+  }
+
+  get item() {
+    return this.items.at(this.index);
+  }
+}
+
+function rowsOf(items) {
+  const rows = [];
+  for (let i = 0; i < items.length; i++) items.rulesOf(i).forEach((rule, at) => rows.push(new Row(items, i, at, rule)));
+  return rows;
+}
 const findingOf = ({ item, at }) => eachOf([item])[at];
 
 /** The choices of what is listed: all faults, each rule, all warnings, each kind; as [text, those]. */
@@ -152,6 +169,6 @@ async function loaded(entry, row, { complete }) {
 export function tableOfAll(entry) {
   const row = (kind, cells) => make("tr", "", ...cells.map((it) => make(kind, "", it)));
   const head = row("th", ["number", "name", "rule", "what", "where", "path"].map((it) => say(`list.${it}`)));
-  const body = eachOf(entry.items).map((it) => row("td", [`${it.index === undefined ? it.number : it.index + 1}`, it.name, it.rule, whatOf(it.rule), spotOf(it), it.path]));
+  const body = eachOf([...entry.items]).map((it) => row("td", [`${it.index === undefined ? it.number : it.index + 1}`, it.name, it.rule, whatOf(it.rule), spotOf(it), it.path]));
   return [make("p", "summary", summaryOf(entry)), make("table", "all", make("thead", "", head), make("tbody", "", ...body))];
 }

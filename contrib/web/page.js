@@ -3,6 +3,7 @@
 
 import { say, speak, preferred, languages, size, time } from "./language.js";
 import { droppedFiles, chosenFiles, framingOf, ENDINGS } from "./files.js";
+import { Packed } from "./packed.js";
 import { make } from "./dom.js";
 import { cardOf, groupOf, sentenceOf, STEP } from "./view.js";
 import { summaryOf, isBrief } from "./listing.js";
@@ -11,7 +12,7 @@ import { saveLines, saveSarif, savePage, saveSequence } from "./save.js";
 const $ = (id) => document.getElementById(id);
 
 /** All files in their order: { name, file }, and when it is checked `verdict`, `hint`, `milliseconds`, or else `reason`; `items` are what is
- *  found in its features, and `counts` how many there are. */
+ *  found in its features, as `Packed`, and `counts` how many there are. */
 const entries = [];
 let worker = null;
 let isReady = false;
@@ -55,11 +56,11 @@ const heard = {
   progress(told) {
     showProgress(told);
   },
-  items({ items }) {
-    current.items.push(...items);
+  items({ part }) {
+    current.items.add(part);
   },
   verdict({ kind, ...found }) {
-    settle(found.counts ? found : { ...found, items: [] });
+    settle(found.counts ? found : { ...found, items: new Packed() });
   },
   step({ key, read, size: all }) {
     asked.get(key).step(read / all);
@@ -77,7 +78,7 @@ const heard = {
     // After a trap the module answers no more, so the next file gets a new worker.
     restart();
     if (failed) failed(Object.assign(new Error(reason), { told }));
-    else settle({ items: [], reason: told });
+    else settle({ items: new Packed(), reason: told });
   },
 };
 
@@ -134,7 +135,7 @@ function saveValid(entry, button) {
 function saveReport(button, save) {
   return atWork(button, async (step) => {
     const entries = entriesDone();
-    const parts = entries.flatMap((entry) => partsOf(entry.items ?? []).map((items) => ({ entry, items })));
+    const parts = entries.flatMap((entry) => partsOf(entry.items ?? new Packed()).map((items) => ({ entry, items })));
     for (const [i, { entry, items }] of parts.entries()) {
       step(i / parts.length);
       await complete(entry, items);
@@ -189,9 +190,10 @@ function next() {
 }
 
 function askToCheck() {
-  Object.assign(current, { items: [], counts: null, isDoomed: false });
+  const framing = framingOf(current.name);
+  Object.assign(current, { items: new Packed(about.texts, !framing), counts: null, isDoomed: false });
   showProgress({ read: 0 });
-  worker.postMessage({ kind: "check", file: current.file, framing: framingOf(current.name) });
+  worker.postMessage({ kind: "check", file: current.file, framing });
 }
 
 function showProgress({ read, isDoomed = false, faults = 0, milliseconds = 0 }) {
@@ -242,7 +244,7 @@ function announce(text) {
 function stop() {
   if (!current) return;
   restart();
-  settle({ items: [], reason: say("stopped") });
+  settle({ items: new Packed(), reason: say("stopped") });
 }
 
 function stopAll() {

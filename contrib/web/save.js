@@ -6,7 +6,7 @@ import { make } from "./dom.js";
 import { cardOf } from "./view.js";
 
 /** What is listed of a file, once the list is whole, and how many more there are. */
-const listedOf = ({ items, counts }) => (counts ? { items, more: counts.faults + counts.warned - items.length } : { items: [], more: 0 });
+const listedOf = ({ items, counts }) => (counts ? { items: [...items], more: counts.faults + counts.warned - items.length } : { items: [], more: 0 });
 const judged = (entries) => entries.filter((it) => it.verdict).map((it) => ({ ...it, ...listedOf(it) }));
 const unread = (entries) => entries.filter((it) => it.reason).map(({ name, reason }) => ({ name, reason }));
 

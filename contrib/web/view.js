@@ -50,17 +50,17 @@ const tookText = (read, seconds) => (seconds < 0.1 ? size(read) : say("took", { 
 
 /** All that was found: of the file as a whole, and in its features. */
 function foundIn(entry, calls) {
-  const { verdict, items = [], counts } = entry;
-  if (!items.length || !counts) return tableOf(entry);
+  const { verdict, items, counts } = entry;
+  if (!items?.length || !counts) return tableOf(entry);
   const listing = calls ? [listingOf(entry, detailsOf, calls)] : tableOfAll(entry);
   // The first fault is in the list already, unless it is one of the text's object itself.
-  const isListed = verdict.verdict !== "valid" && items.some((it) => it.verdict !== "valid" && it.offset === verdict.offset);
+  const isListed = verdict.verdict !== "valid" && items.hasFaultAt(verdict.offset);
   return isListed ? listing : [...tableOf(entry), ...listing];
 }
 
 /** The table of the findings, and what is said below it. */
 function tableOf(entry) {
-  const { verdict, items = [] } = entry;
+  const { verdict, items } = entry;
   const findings = findingsOf(verdict);
   const body = make("tbody");
   const head = ["rule", "what", "where", "inside"].map((it) => make("th", "", say(`table.${it}`)));
@@ -80,7 +80,7 @@ function tableOf(entry) {
   more.onclick = draw;
   draw();
   const below = [];
-  if (verdict.verdict === "broken" && !items.length) below.push(make("p", "note", say("firstOnly")));
+  if (verdict.verdict === "broken" && !items?.length) below.push(make("p", "note", say("firstOnly")));
   return [table, more, ...below];
 }
 

@@ -4,13 +4,12 @@ import { Geolint } from "./check.js";
 import { guessFor } from "./guesses.js";
 import { Reader, ReadAhead } from "./ahead.js";
 import { unpacked, checksumOf } from "./unpack.js";
+import { Packer } from "./packed.js";
 
 /** The page is told how far the reading is no more often than this, in milliseconds. */
 const PAUSE = 80;
 /** So many faults of a file are listed, and so many features with warnings; the others are counted. */
 const MOST = 65_536;
-/** So many are told to the page at once. */
-const BATCH = 1000;
 
 let geolint;
 const files = new ReadAhead();
@@ -30,13 +29,13 @@ function meter(kind, more = {}) {
 
 /** Tells the page what is found, as it comes. */
 async function list(findings) {
-  let items = [];
+  const packer = new Packer();
+  const post = (part) => postMessage({ kind: "items", part }, [part.buffer]);
   for await (const it of findings) {
-    if (items.push(it) < BATCH) continue;
-    postMessage({ kind: "items", items });
-    items = [];
+    packer.add(it);
+    if (packer.isFull) post(packer.part());
   }
-  postMessage({ kind: "items", items });
+  post(packer.part());
   return findings;
 }
 
