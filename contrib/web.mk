@@ -25,7 +25,7 @@ from_kit := itoa memchr core std
 rlib = $(top)/crates/$(1)/out/rlib
 kept = $(WEB_BUILD)/incremental-$(1)
 # The source works on vectors of 16 bytes. For WebAssembly the kit's clang compiles them to loops over bytes, unless it knows that the
-# engine has vectors: so it is called by a script that adds this one word. Each browser that docs/web.md names has them.
+# engine has vectors: so it is called by contrib/web/wasm-clang. Each browser that docs/web.md names has them.
 WASM_TOOLS := $(WEB_BUILD)/toolchain
 toolchain_of = $(if $(filter wasm64%,$(1)),$(WASM_TOOLS),$(KIT)/toolchain)
 build_for = rm -rf $(kept) && { cp -r $(GEOLINT_C)/out/incremental $(kept) 2>/dev/null || mkdir -p $(kept); } && cd $(GEOLINT_C) && $(KIT)/bin/rattle build --crate-name geolint_c src/lib.rt \
@@ -36,11 +36,11 @@ build_for = rm -rf $(kept) && { cp -r $(GEOLINT_C)/out/incremental $(kept) 2>/de
 # needs COMMAND PACKAGES: says how to install what is missing.
 needs = command -v $(1) >/dev/null || { echo "geolint: there is no command $(firstword $(1)): apt-get install $(2)" >&2; exit 1; }
 
-$(WASM_TOOLS)/bin/clang:
+$(WASM_TOOLS)/bin/clang: $(WEB)/wasm-clang $(top)/contrib/web.mk
 	@mkdir -p $(@D)
 	@ln -sfn $(KIT)/toolchain/lib $(WASM_TOOLS)/lib
 	@for it in ld.lld llvm-ar; do ln -sfn $(KIT)/toolchain/bin/$$it $(@D)/$$it; done
-	@printf '#!/bin/sh\nexec %s "$$@" -msimd128\n' $(KIT)/toolchain/bin/clang >$@
+	@printf '#!/bin/sh\nexec %s %s "$$@"\n' $(WEB)/wasm-clang $(KIT)/toolchain/bin/clang >$@
 	@chmod +x $@
 
 $(WEB_BUILD)/libgeolint_c.a: $(GEOLINT_C)/out/libgeolint_c.a $(WASM_TOOLS)/bin/clang
