@@ -130,7 +130,7 @@ class Run:
         said = ""
         if self.other_count:
             base = self.others[0].rpartition(b"/")[2]
-            ending = forms.shown(b"." + base.rpartition(b".")[2] if b"." in base else b"/" + base)
+            ending = forms.shown(b"." + base.rpartition(b".")[2] if b"." in base else base)
             said = f"; 1 file has another ending: {ending}"
             if self.other_count > 1:
                 said = f"; {self.other_count} files have other endings, such as {ending}"
