@@ -2,31 +2,37 @@
 // Checks GeoJSON files and folders in Node, with the options of the program geolint-files as far as they serve.
 
 import { lstat, open, readdir, stat } from "node:fs/promises";
-import { readFileSync } from "node:fs";
+import { createReadStream, readFileSync } from "node:fs";
 import { join } from "node:path";
 import { parseArgs } from "node:util";
-import { load, textOf, jsonOf, jsonOfUnread, linesOf, sarifOf, eachOf, textOfFindings, jsonOfFindings, linesOfFindings } from "./geolint.js";
+import { load, textOf, jsonOf, jsonOfUnread, linesOf, sarifOf, githubOf, githubOfUnread, eachOf } from "./geolint.js";
+import { textOfFindings, jsonOfFindings, linesOfFindings, githubOfFindings } from "./geolint.js";
 
 const USAGE = `Checks GeoJSON files, and says for each that is not valid where and why
 
-Usage: geolint-files [--strict] [--allow W4,W9] [--max-bytes N] [--format lines|json|sarif|text] [--summary]
-                     [--seq | --ndjson] [--every[=warnings]] [--most N] [--ending ENDING] [--allow-empty] [PATH ..]
+Usage: geolint-files [--strict] [--allow W4,W9] [--quick] [--max-bytes N] [--format lines|json|github|sarif|text] [--summary]
+                     [--seq | --ndjson] [--every[=warnings]] [--most N] [--files-from FILE|-] [--null] [--ending ENDING]
+                     [--allow-empty] [PATH ..]
 
   --strict         A valid file with a warning does not pass
   --allow KINDS    Under --strict, warnings of these kinds do not fail a file, such as W4,W9
+  --quick          Say only whether each text is valid, and stop reading as soon as it cannot be valid
   --max-bytes N    Refuse files of more than N bytes
-  --format FORMAT  The form of the report: lines (the default), json, sarif or text
+  --format FORMAT  The form of the report: lines (the default), json, github, sarif or text
   --summary        Count the files at the end
   --seq            Check each file as a text sequence (RFC 8142), whatever its name is
-  --ndjson         Check each line of each file as a text of its own, whatever the file's name is
-  --every          List each feature with a fault. --every=warnings also lists the warnings of the others
+  --ndjson         Check each line of each file as a text of its own, whatever the name is
+  --every          After a file's report, list each feature that breaks a rule, or each record that is not valid; =warnings: also
+                   the warnings of the others
   --most N         Under --every, list at most N findings of a file (1000 unless given). 0 lifts this limit
+  --files-from FILE  Also check the paths in this file, or in standard input if it is -, one in each line
+  -0, --null       Each path of --files-from ends with NUL
   --ending ENDING  In a folder, also check files with this ending, such as json. May be given several times
   --allow-empty    Exit with status 0 if there is no file to check
   --help, --version
 
-A PATH is a file, a folder, or - for standard input. With no PATH, standard input is checked. In a folder and the folders below it,
-each *.geojson is checked as one text, each *.geojsons as a text sequence, and each *.ndjson and *.geojsonl line by line.
+A PATH is a file, a folder, in which each *.geojson, *.geojsons, *.ndjson and *.geojsonl is checked, or - for standard input. With
+no PATH and no --files-from, standard input is checked.
 
 Exit status: 0 if every file is valid, 1 if a file is not, 2 if a file could not be read, no file was checked, or the arguments are wrong.
 `;
@@ -34,9 +40,12 @@ Exit status: 0 if every file is valid, 1 if a file is not, 2 if a file could not
 const OPTIONS = {
   strict: { type: "boolean" },
   allow: { type: "string", multiple: true, default: [] },
+  quick: { type: "boolean" },
   "max-bytes": { type: "string" },
   format: { type: "string", default: "lines" },
   summary: { type: "boolean" },
+  "files-from": { type: "string" },
+  null: { type: "boolean", short: "0" },
   ending: { type: "string", multiple: true, default: [] },
   "allow-empty": { type: "boolean" },
   seq: { type: "boolean" },
@@ -47,7 +56,7 @@ const OPTIONS = {
   help: { type: "boolean" },
   version: { type: "boolean" },
 };
-const FORMATS = ["lines", "json", "sarif", "text"];
+const FORMATS = ["lines", "json", "github", "sarif", "text"];
 
 class WrongWords extends Error {}
 
@@ -61,6 +70,8 @@ function givenWords() {
     throw new WrongWords(error.message);
   }
   const { values, positionals } = given;
+  if (values.quick && (values.every || values["every-warnings"])) throw new WrongWords("--quick and --every cannot be given together");
+  if (values.null && values["files-from"] === undefined) throw new WrongWords("--null is for the paths of --files-from");
   if (values.seq && values.ndjson) throw new WrongWords("--seq and --ndjson cannot be given together");
   if (!/^[0-9]+$/.test(values.most)) throw new WrongWords(`invalid value '${values.most}' for '--most': it is a number`);
   if (!FORMATS.includes(values.format)) throw new WrongWords(`invalid value '${values.format}' for '--format': it is ${FORMATS.join(", ")}`);
@@ -74,7 +85,19 @@ function givenWords() {
   const which = values["every-warnings"] ? "findings" : values.every ? "faults" : null;
   const framing = values.seq ? "sequence" : values.ndjson ? "lines" : null;
   const endings = ["geojson", "geojsons", "ndjson", "geojsonl", ...values.ending].map((it) => `.${it.replace(/^\./, "").toLowerCase()}`);
-  return { ...values, maxBytes: most === undefined ? 0 : BigInt(most), allowed, endings, which, framing, most: Number(values.most) || Infinity, paths: positionals.length ? positionals : ["-"] };
+  return { ...values, maxBytes: most === undefined ? 0 : BigInt(most), allowed, endings, which, framing, most: Number(values.most) || Infinity, paths: positionals, list: values["files-from"] ?? null };
+}
+
+/** The paths that are given, and those of a list. */
+async function pathsOf({ paths, list, null: isNull }) {
+  if (list === null) return paths.length ? paths : ["-"];
+  const parts = [];
+  try {
+    for await (const it of list === "-" ? process.stdin : createReadStream(list)) parts.push(it);
+  } catch (error) {
+    throw new Error(`${shown(list)}: ${reasonOf(error)}`);
+  }
+  return [...paths, ...Buffer.concat(parts).toString().split(isNull ? "\0" : "\n").filter(Boolean)];
 }
 
 /** The files that the paths name: { name } each, or { name, reason } where one cannot be looked at. */
@@ -141,18 +164,19 @@ async function judge(geolint, name, words) {
   }
 }
 
-/** The verdict, and under --every what is found in the features: `items`, and how many `more` there are. */
-async function judgeInput(geolint, name, input, { maxBytes, framing = null, which, most }) {
+/** The verdict, and under --every what is found in the features or records: `items`, and how many `more` there are. */
+async function judgeInput(geolint, name, input, { maxBytes, framing = null, which, most, quick: isQuick }) {
   const form = framing ?? framingOf(name);
   const [items, counts] = [[], { all: 0 }];
-  if (!form && !which) return { verdict: await geolint.check(input, { maxBytes }), items, more: 0 };
-  const findings = form ? geolint.records(input, { framing: form, maxBytes, most: 0 }) : geolint.features(input, { maxBytes, which });
+  if (!form && !which) return { verdict: await geolint.check(input, { maxBytes, isQuick }), items, more: 0 };
+  const options = which ? { maxBytes, which } : { maxBytes, most: 0 };
+  const findings = form ? geolint.records(input, { framing: form, ...options }) : geolint.features(input, options);
   for await (const it of findings) {
     for (const one of eachOf([it])) if (counts.all++ < most) items.push(one);
   }
   const { verdict } = findings;
   // Of a file that is no JSON text only the report is written.
-  if (verdict.verdict === "not JSON" || form) return { verdict, items: [], more: 0 };
+  if (verdict.verdict === "not JSON" && !form) return { verdict, items: [], more: 0 };
   return { verdict, items, more: counts.all - items.length };
 }
 
@@ -170,17 +194,20 @@ async function bytesOf(file, from, to) {
 /** Checks all files, writes what the form has of each, and returns the status. */
 async function run(words) {
   const geolint = await load();
-  const passes = (it) => it.verdict === "valid" && (!words.strict || it.warnings.every(({ rule }) => words.allowed.includes(rule)));
+  const fails = (rule) => Boolean(words.strict) && !words.allowed.includes(rule);
+  const passes = (it) => it.verdict === "valid" && !it.warnings.some(({ rule }) => fails(rule));
   const forms = {
     lines: (name, { verdict, items, more }) => linesOf(shown(name), verdict) + linesOfFindings(shown(name), items, more),
     json: (name, { verdict, items, more }) => [jsonOf(name, verdict, passes), ...jsonOfFindings(name, items, more), ""].join("\n"),
     text: (name, { verdict, items, more }) => `==> ${shown(name)} <==\n${textOf(verdict)}${textOfFindings(items, more)}`,
+    github: (name, { verdict, items, more }) => githubOf(shown(name), verdict, fails) + githubOfFindings(shown(name), items, more, fails),
     sarif: () => "",
   };
-  const counts = { valid: 0, "valid with warnings": 0, broken: 0, "not JSON": 0, "not read": 0 };
+  const unreadForms = { json: (name, reason) => `${jsonOfUnread(name, reason)}\n`, github: (name, reason) => githubOfUnread(shown(name), reason) };
+  const counts = { valid: 0, "valid with warnings": 0, broken: 0, "not JSON": 0, "not read": 0, ...(words.quick ? { "not valid": 0 } : {}) };
   const [reports, unread, others] = [[], [], { count: 0 }];
   let status = 0;
-  for await (const { name, reason } of filesOf(words.paths, words.endings, others)) {
+  for await (const { name, reason } of filesOf(await pathsOf(words), words.endings, others)) {
     try {
       if (reason) throw new Error(reason);
       const report = await judge(geolint, name, words);
@@ -194,7 +221,7 @@ async function run(words) {
       counts["not read"]++;
       unread.push({ name, reason: reasonOf(error) });
       process.stderr.write(`geolint-files: ${shown(name)}: ${reasonOf(error)}\n`);
-      if (words.format === "json") await write(`${jsonOfUnread(name, reasonOf(error))}\n`);
+      await write(unreadForms[words.format]?.(name, reasonOf(error)) ?? "");
     }
   }
   if (words.format === "sarif") await write(sarifOf(reports, await geolint.texts(), await geolint.version(), unread));

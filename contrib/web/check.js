@@ -41,19 +41,23 @@ export class Geolint {
 
   /**
    * The verdict of `input`, which is read once: bytes, a Blob, a ReadableStream or an iterable of bytes, or an object that has
-   * its `size` and `read(from, to)`. `maxBytes` and `maxDepth` are limits, `signal` an AbortSignal, and `onProgress` is called
-   * with how many bytes are checked.
+   * its `size` and `read(from, to)`. `maxBytes` and `maxDepth` are limits, `signal` an AbortSignal, and `onProgress` is called with how
+   * many bytes are checked. `isQuick` asks for a yes or no alone: what is not valid gets no rule and no place, and is read no further than
+   * it takes to see that.
    */
-  async check(input, { maxBytes = 0, maxDepth = 0, signal, onProgress } = {}) {
+  async check(input, { maxBytes = 0, maxDepth = 0, isQuick = false, signal, onProgress } = {}) {
     const source = sourceOf(input);
     return this.#with([Linter], async ([linter]) => {
       linter.begin(maxBytes, maxDepth);
       for await (const bytes of source.pieces()) {
         signal?.throwIfAborted();
         if (!linter.feed(bytes)) break;
-        onProgress?.({ read: linter.taken, size: source.size, isDoomed: linter.isDoomed() });
+        const isDoomed = linter.isDoomed();
+        onProgress?.({ read: linter.taken, size: source.size, isDoomed });
+        if (isQuick && isDoomed) break;
       }
-      return located(linter.finish(), { linter, source });
+      const found = linter.finish();
+      return isQuick && found.verdict !== "valid" ? notValid(linter.taken) : located(found, { linter, source });
     });
   }
 
@@ -138,6 +142,12 @@ export class Geolint {
     those.forEach((it) => this.#giveBack(it));
     return result;
   }
+}
+
+/** What a quick look says of what is not valid. */
+function notValid(read) {
+  const nothing = { rule: null, text: null, offset: null, line: null, column: null, path: null, feature: null, excerpt: null };
+  return { record: null, records: null, verdict: "not valid", ...nothing, warnings: [], hint: null, read };
 }
 
 /** Adds the hint, and line, column, excerpt, path and feature of each place of a verdict; null for what cannot be found. `known` has the

@@ -61,7 +61,8 @@ export interface Hint {
 
 /** What a text is, or an input of many. The members of `Finding` are null where it is valid. */
 export interface Verdict extends Finding {
-  verdict: "valid" | "broken" | "not JSON";
+  /** `not valid` is said by a quick look alone, which gives no rule and no place. */
+  verdict: "valid" | "broken" | "not JSON" | "not valid";
   /** Of a valid text: each kind of which there is one, in the order of their numbers. */
   warnings: Warning[];
   /** Of what is not valid, or has a position out of range; null where nothing comes to mind. */
@@ -138,6 +139,8 @@ export interface Limits {
 }
 
 export interface Options extends Limits {
+  /** Asks for a yes or no alone: the input is read no further than that takes. */
+  isQuick?: boolean;
   /** Called after each piece. `isDoomed`: the input cannot be valid any more. */
   onProgress?(progress: { read: number; size: number | null; isDoomed: boolean }): void;
 }
@@ -185,6 +188,9 @@ export function textOf(verdict: Verdict): string;
 export function jsonOf(name: string, verdict: Verdict, passes?: (verdict: Verdict) => boolean): string;
 export function jsonOfUnread(name: string, reason: string): string;
 export function linesOf(name: string, verdict: Verdict): string;
+/** The form `github`; `fails` says of a kind of warning whether it fails the file. */
+export function githubOf(name: string, verdict: Verdict, fails?: (rule: string) => boolean): string;
+export function githubOfUnread(name: string, reason: string): string;
 export function sarifOf(
   reports: { name: string; verdict: Verdict; items?: Found[]; more?: number }[],
   rules: [rule: string, text: string][],
@@ -196,6 +202,7 @@ export function eachOf<T extends Found>(items: T[]): T[];
 /** The forms of `geolint-files --every`; `more` is how many are not reported. */
 export function jsonOfFindings(name: string, items: Found[], more?: number): string[];
 export function linesOfFindings(name: string, items: Found[], more?: number): string;
+export function githubOfFindings(name: string, items: Found[], more?: number, fails?: (rule: string) => boolean): string;
 export function textOfFindings(items: Found[], more?: number): string;
 
 /** A path is given for places up to so many bytes from the start, and for all places inside features. */

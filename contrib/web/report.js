@@ -46,14 +46,16 @@ const levelOf = (rule) => (rule.startsWith("W") ? "warning" : "error");
 
 /** A log in SARIF 2.1.0. A report is { name, verdict }, and where features are reported `items` and `more`. `rules` are pairs of a rule and its text; `unread` are { name, reason } of what could not be read. */
 export function sarifOf(reports, rules, version, unread = []) {
-  const described = rules.map(([id, text]) => ({
+  const isQuick = reports.some(({ verdict }) => verdict.verdict === "not valid");
+  const described = [...rules, ...(isQuick ? [["not-valid", "not valid"]] : [])].map(([id, text]) => ({
     id,
     shortDescription: { text },
     help: { text: `docs/rules.md, ${id}: ${text}` },
     defaultConfiguration: { level: levelOf(id) },
   }));
   const results = reports.flatMap(({ name, verdict, items = [], more = 0 }) => [
-    ...(verdict.verdict === "valid" ? verdict.warnings : [verdict]).map((it) => resultOf(name, it)),
+    ...(verdict.verdict === "valid" ? verdict.warnings : verdict.verdict === "not valid" ? [] : [verdict]).map((it) => resultOf(name, it)),
+    ...(verdict.verdict === "not valid" ? [resultOfQuick(name)] : []),
     ...eachOf(items).map((it) => resultOfFinding(name, it)),
     ...(more > 0 ? [{ level: "note", message: { text: `and ${more} more` }, locations: [{ physicalLocation: { artifactLocation: { uri: encodeURI(name) } } }] }] : []),
   ]);
@@ -72,6 +74,9 @@ export function sarifOf(reports, rules, version, unread = []) {
   };
   return JSON.stringify(log, null, 1) + "\n";
 }
+
+/** Of a quick look, which has no rule and no place. */
+const resultOfQuick = (name) => ({ ruleId: "not-valid", level: "error", message: { text: "not valid" }, locations: [{ physicalLocation: { artifactLocation: { uri: encodeURI(name) } } }] });
 
 function resultOf(name, it) {
   const start = it.line === null ? {} : { startLine: it.line, startColumn: it.column };

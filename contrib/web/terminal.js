@@ -13,6 +13,7 @@ export function textOf(verdict) {
   const inside = isTold(record) ? `record ${record}\n` : "";
   if (name === "broken") return `${inside}broken ${rule} at ${offset}: ${text}\n${path ? `path ${path}\n` : ""}`;
   if (name === "not JSON") return `${inside}not JSON at ${offset}: ${text}\n`;
+  if (name === "not valid") return "not valid\n";
   const all = isTold(records) ? [`records ${records}`] : [];
   return ["valid", ...all, ...warnings.map((it) => `warning ${it.rule} count ${it.count} first ${it.offset}: ${it.text}`)].join("\n") + "\n";
 }
@@ -37,6 +38,7 @@ export function linesOf(name, verdict) {
   const lineOf = (it, word) => `${place(name, it)}: ${word} ${it.rule}: ${it.text}${detailsOf(it)}\n`;
   const hint = verdict.hint ? `    hint: ${verdict.hint.text}\n` : "";
   if (verdict.verdict === "valid") return verdict.warnings.map((it) => lineOf(it, "warning")).join("") + hint;
+  if (verdict.verdict === "not valid") return `${name}: not valid\n`;
   return lineOf(verdict, verdict.verdict) + excerptOf(verdict.excerpt) + hint;
 }
 
@@ -55,4 +57,33 @@ export function linesOfFindings(name, items, more = 0) {
     return `${place(name, it)}: ${wordOf(it)} ${it.rule}: ${it.text} (${details})\n`;
   });
   return lines.join("") + (more > 0 ? `${name}: and ${more} more\n` : "");
+}
+
+const inMessage = (text) => text.replace(/[%\r\n]/g, (it) => `%${it.charCodeAt(0).toString(16).toUpperCase().padStart(2, "0")}`);
+const inProperty = (text) => inMessage(text).replace(/:/g, "%3A").replace(/,/g, "%2C");
+const commandOf = (level, name, spot, message) => `::${level} file=${inProperty(name)}${spot}::${inMessage(message)}\n`;
+const spotOf = (it) => `${it.line === null ? "" : `,line=${it.line},col=${it.column}`},title=${it.rule}`;
+const neverFails = () => false;
+const levelOf = (rule, fails) => (rule.startsWith("W") && !fails(rule) ? "warning" : "error");
+
+/** The form `github`: a workflow command for each finding. `fails` says of a kind of warning whether it fails the file. */
+export function githubOf(name, verdict, fails = neverFails) {
+  if (verdict.verdict === "not valid") return githubOfUnread(name, "not valid");
+  const mark = verdict.verdict === "not JSON" ? "not JSON: " : "";
+  return (verdict.verdict === "valid" ? verdict.warnings : [verdict])
+    .map((it) => {
+      const details = [isTold(it.record) && `record ${it.record}`, it.count > 1 && `${it.count} times`, `at byte ${it.offset}`, it.path].filter(Boolean);
+      return commandOf(levelOf(it.rule, fails), name, spotOf(it), `${mark}${[it.text, ...details].join(", ")}`);
+    })
+    .join("");
+}
+
+export const githubOfUnread = (name, reason) => commandOf("error", name, "", reason);
+
+export function githubOfFindings(name, items, more = 0, fails = neverFails) {
+  const commands = eachOf(items).map((it) => {
+    const details = [calledIn(it), isTold(it.id) && `id ${it.id}`, `at byte ${it.offset}`, it.path].filter(Boolean);
+    return commandOf(levelOf(it.rule, fails), name, spotOf(it), [it.text, ...details].join(", "));
+  });
+  return commands.join("") + (more > 0 ? commandOf("notice", name, "", `and ${more} more`) : "");
 }
