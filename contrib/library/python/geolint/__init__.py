@@ -13,7 +13,7 @@
     >>> verdict = await geolint.acheck(request.stream())
 
 `python -m geolint` checks files and folders as geolint-files does. `geolint.django` and `geolint.starlette` have validators for
-these frameworks.
+these frameworks. `geolint.dask` checks files, and one large text sequence in parts, on a cluster.
 
 It needs Python 3.8 and nothing but the shared object `libgeolint.so`: the one that the variable GEOLINT_LIBRARY names, otherwise
 one that lies beside this file, otherwise where `make install-library` put it, otherwise the system's.
