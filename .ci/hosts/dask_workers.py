@@ -27,7 +27,7 @@ def refusal(call, *words, **options):
 
 
 def main(folder, file):
-    names = ["right", "broken", "runs", "empty"]
+    names = ["right", "broken", "runs", "few", "empty"]
     paths = [f"{folder}/{name}.geojsons" for name in names]
     with distributed.Client(scheduler_file=file) as client:
         client.wait_for_workers(3)
