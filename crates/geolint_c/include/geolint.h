@@ -327,7 +327,7 @@ geolint_lines geolint_lines_feed(geolint_lines lines, const void *bytes, size_t 
 #define GEOLINT_ALIGNMENT 16
 #define GEOLINT_SIZE 207936
 #define GEOLINT_FEATURES_SIZE 255104
-#define GEOLINT_RECORDS_SIZE 208304
+#define GEOLINT_RECORDS_SIZE 208368
 #define GEOLINT_LOCATOR_SIZE 4272
 
 /* ---- texts */

@@ -1,5 +1,5 @@
 -- What is found in a feature or in a record, and in an input of records as a whole, in plain numbers.
-use Rattle.std.specs.Prelude.{◌≡◌, ℕ, ◌+◌, List, Option, Some, None, Bool, false, if◌then◌else◌}
+use Rattle.std.specs.Prelude.{◌≡◌, ℕ, ◌+◌, List, [], Option, Some, None, Bool, false, if◌then◌else◌}
 use Rattle.std.specs.Io.Iter.{u64_saturate}
 use Rattle.gj_coords.specs.declared.fault.Fault.{Fault}
 use Rattle.gj_coords.specs.Warnings.{Warning}
@@ -53,6 +53,10 @@ pub record IsFeature (finding : FeatureFinding) (told : Finding) : Type 0 where
 
 abbrev pub record_with : Record → Report → Finding
 record_with found report = record { number = found.number; place = found.place; end = found.end; id = 0; report = report }
+
+-- nothing is found in a record of this number, which begins and ends there
+abbrev pub clean_finding : ℕ → ℕ → ℕ → Finding
+clean_finding number place end = record { number = number; place = place; end = end; id = 0; report = valid_report [] }
 
 pub record IsRecord (found : Record) (told : Finding) : Type 0 where
   pub number : told.number ≡ found.number

@@ -17,9 +17,9 @@ use Rattle.geolint_c.specs.Options.{AreAllowed, limits_meant}
 
 -- ---- what it stands for
 
--- it keeps the last of these, where there is one
+-- it keeps what is found in the last of these, where there is one
 abbrev pub IsLast : LastRecord → List Record → Type 0
-IsLast last records = (earlier : List Record) (one : Record) → records ≡ earlier ++ one ∷ [] → last.last ≡ one
+IsLast last records = (earlier : List Record) (one : Record) → records ≡ earlier ++ one ∷ [] → IsRecord one last.finding
 
 -- the framing of a number
 abbrev pub framing_of : ℕ → Option Framing

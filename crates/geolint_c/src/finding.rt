@@ -2,7 +2,7 @@
 ghost use Rattle.std.specs.Prelude.{◌≡◌, Bool};
 ghost use Rattle.gj_rules.specs.FeatureFindings.{FeatureFinding};
 ghost use Rattle.gj_rules.specs.FeaturesTold.{SaysFinding};
-ghost use Rattle.geolint_c.specs.Finding.{IsFeature, IsRecord, IsWhole, finding_with, record_with, no_finding, no_whole, progress_of, no_progress, end_or_zero};
+ghost use Rattle.geolint_c.specs.Finding.{IsFeature, IsRecord, IsWhole, finding_with, record_with, clean_finding, no_finding, no_whole, progress_of, no_progress, end_or_zero};
 ghost use Rattle.geolint_c.specs.Report.{place_or_zero};
 
 use crate::report::{
@@ -113,6 +113,19 @@ fn record_with(found: &Record, report: Report) -> Finding
         end: found.end,
         id: 0,
         report,
+    }
+}
+
+/// What is found in a record of this number, which begins and ends there: nothing.
+pub fn clean_finding(number: u64, place: u64, end: u64) -> Finding
+    ensures { result ≡ clean_finding number place end }
+{
+    Finding {
+        number,
+        place,
+        end,
+        id: 0,
+        report: report_without_warning(),
     }
 }
 

@@ -3,9 +3,7 @@
 ghost use Rattle.std.specs.Prelude.{◌≡◌};
 ghost use Rattle.geolint_c.specs.Records.{framing_of, IsLive, IsBegun, BegunStatus, IsFed, IsNext, IsOffset, IsFinished, over_status};
 
-use crate::finding::{
-    Finding, Progress, Whole, finding_of_record, no_finding, no_whole, progress_of, whole_of,
-};
+use crate::finding::{Finding, Progress, Whole, no_finding, no_whole, progress_of, whole_of};
 use crate::handle::is_for_any_thread;
 use crate::last::LastRecord;
 use crate::options::limits_of;
@@ -121,7 +119,7 @@ impl RecordHandle {
             return no_finding(NONE);
         }
         self.ready = false;
-        finding_of_record(self.last.get())
+        self.last.get()
     }
 
     /// How many bytes were taken, of those that are allowed.

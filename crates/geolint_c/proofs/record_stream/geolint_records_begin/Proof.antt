@@ -10,8 +10,7 @@ use Rattle.geolint_c.proofs.ExportedCalls.{Stays, walk_of, stay_dropped, Goes-dr
 use Rattle.geolint_c.specs.declared.records.RecordHandle.{RecordHandle}
 use Rattle.geolint_c.specs.Records.{IsBegun}
 use Rattle.geolint_c.specs.Records.{BegunStatus}
-use Rattle.gj_json.specs.declared.fault.Cause.{Cause}
-use Rattle.gj_rules.specs.declared.verdict.Verdict.{Verdict}
+use Rattle.geolint_c.specs.Finding.{clean_finding}
 use Rattle.geolint_c.specs.RecordStream.{BegunAt}
 use Rattle.geolint_c.specs.contracts.records.RecordHandle.{the_row as R}
 use Rattle.geolint_c.proofs.records.RecordHandle.TheLaws.{the_row_laws as R_laws}
@@ -65,10 +64,8 @@ geolint_records_begin_spec 𝓤 𝓛 𝓜 𝓡 wired =
     suffices ! _ (ends null_ptr (vint w32 4) 4
     (record {
       records = None;
-      last =
-          record { last = record { number = 0; place = 0; end = 0; verdict = Verdict.NotJson (record { place = 0; cause = Cause.Syntax }) } };
-      ready =
-          false;
+      last = record { finding = clean_finding 0 0 0; is_clean = true; id = λ t. refl; report = λ t. refl };
+      ready = false;
       ended = true;
     })) $
     owned ! u32 _ (uint_Makes 𝓛 w32) 4 _
@@ -76,10 +73,8 @@ geolint_records_begin_spec 𝓤 𝓛 𝓜 𝓡 wired =
     use0 𝓛 (raw (fact 𝓤 (BegunAt null_ptr k d m 4
     (record {
       records = None;
-      last =
-          record { last = record { number = 0; place = 0; end = 0; verdict = Verdict.NotJson (record { place = 0; cause = Cause.Syntax }) } };
-      ready =
-          false;
+      last = record { finding = clean_finding 0 0 0; is_clean = true; id = λ t. refl; report = λ t. refl };
+      ready = false;
       ended = true;
     })))) (fact_i 𝓤 _ (emp 𝓤) refl) $ nothing ! $
     move ! (2 ∷ 3 ∷ 4 ∷ 0 ∷ []) $ group ! 3 $ done !)
