@@ -10,7 +10,7 @@ complete -c geolint-files -l summary -d 'Count the files and the rules at the en
 complete -c geolint-files -l every -d 'List each feature or record with a fault'
 complete -c geolint-files -l every=warnings -d 'Also list the warnings of the others'
 complete -c geolint-files -l most -x -d 'List at most N findings of a file'
-complete -c geolint-files -l split -r -d 'Also write the features of the file to two files'
+complete -c geolint-files -l split -r -d 'Also write the features or the records of the file to two files'
 complete -c geolint-files -l force -d 'Write over the files of --split'
 complete -c geolint-files -l files-from -r -d 'Also check the paths in this file'
 complete -c geolint-files -l null -s 0 -d 'Each path of --files-from ends with NUL'

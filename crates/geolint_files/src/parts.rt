@@ -1,15 +1,16 @@
-//! The features of a file are set apart into files, and it is said how many they are.
+//! The features or the records of a file are set apart into files, and it is said how many they are.
 
 use crate::files::{is_memory, reason, spell};
+use crate::walk::framing_by;
 use crate::words::{Order, Parts};
 use geolint_report::line::{put, put_number};
 use gj_rules::Verdict;
 use report_forms::formats::put_name;
-use split_files::{Counts, Order as SplitOrder, Part, Stop, Undone, Written, split_file};
+use split_files::{Counts, Order as SplitOrder, Part, Stop, Undone, Whole, Written, split_file};
 use std::alloc::AllocError;
 use std::io::{self, ErrorKind, Write};
 
-/// Whether the features of the file were set apart. What was written, or why it was not, is said on standard error.
+/// Whether the features or the records of the file were set apart. What was written, or why it was not, is said on standard error.
 pub fn set_apart(rt: &HostRuntime, order: &Order, parts: &Parts) -> bool {
     let Some(path) = order.paths.as_slice().first() else {
         return false;
@@ -48,11 +49,12 @@ fn write_parts(
             prefix: prefix.as_str(),
             overwrites: parts.overwrites,
             limits: order.options.limits,
+            framing: framing_by(order.options.framing, path),
         },
     ))
 }
 
-/// Puts how many features each file has.
+/// Puts how many features or records each file has.
 fn put_written(
     written: &Written,
     path: &[u8],
@@ -67,17 +69,22 @@ fn put_written(
     put_number(line, written.counts.broken)?;
     put(line, b" in ")?;
     put_part(Part::Broken, parts, line)?;
-    match written.verdict {
-        Verdict::NotJson(_) => {
+    match written.whole {
+        Whole::Text(Verdict::NotJson(_)) => {
             put(line, b"; these are the features before the place where ")?;
             put_name(path, line)?;
             put(line, b" is not JSON\n")
+        }
+        Whole::Records(input) if input.is_cut => {
+            put(line, b"; these are the records before the place where ")?;
+            put_name(path, line)?;
+            put(line, b" is too long\n")
         }
         _ => put(line, b"\n"),
     }
 }
 
-/// Puts why the features were not set apart, or not all.
+/// Puts why the features or the records were not set apart, or not all.
 fn put_undone(
     rt: &HostRuntime,
     undone: &Undone,
@@ -133,13 +140,13 @@ fn put_changed(path: &[u8], line: &mut Vec<u8>) -> Result<(), AllocError> {
     put(line, b": the file changed while it was read")
 }
 
-/// Puts how many records are whole. The last of a file may be cut off.
+/// Puts how many features or records are left, all of them whole.
 fn put_counts(counts: Counts, line: &mut Vec<u8>) -> Result<(), AllocError> {
     put(line, b"; ")?;
     put_number(line, counts.valid)?;
     put(line, b" valid and ")?;
     put_number(line, counts.broken)?;
-    put(line, b" broken features were written whole")
+    put(line, b" broken ones were written whole")
 }
 
 /// Puts the name of a file that is written.

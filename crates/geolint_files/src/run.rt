@@ -11,7 +11,7 @@ mod features;
 
 use crate::files::{Spelled, is_lost_link, is_memory, look_up, reason, spell};
 use crate::outcome::Outcome;
-use crate::walk::{Others, Pending, Walk, framing_of, is_taken};
+use crate::walk::{Others, Pending, Walk, framing_by, is_taken};
 use crate::words::Order;
 use geolint_report::every::tally::Tally;
 use geolint_report::found::{Found, found_at};
@@ -496,10 +496,7 @@ impl<'a, W: Write + Drop> Run<'a, W> {
     fn framing(&self, name: &[u8]) -> Option<Framing>
         ensures { result ≡ framing_by self.now.options.framing name.now }
     {
-        match self.options.framing {
-            Some(framing) => Some(framing),
-            None => framing_of(name),
-        }
+        framing_by(self.options.framing, name)
     }
 
     /// Judges what can be read once only.

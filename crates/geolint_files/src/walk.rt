@@ -1,6 +1,7 @@
 //! The files of a path, which is a file or a folder.
 
 ghost use Rattle.std.specs.Prelude.{◌≡◌, IfOk};
+ghost use Rattle.geolint_files.specs.Told.{framing_by};
 ghost use Rattle.geolint_files.specs.Walk.{ends_in, ends_in_one, framing_of, is_taken, entry_name, separator_after};
 
 use gj_rules::Framing;
@@ -32,6 +33,16 @@ pub fn framing_of(name: &[u8]) -> Option<Framing>
         Some(Framing::Lines)
     } else {
         None
+    }
+}
+
+/// How the texts of a file of this name are set apart: as the words say, or as the name does.
+pub fn framing_by(given: Option<Framing>, name: &[u8]) -> Option<Framing>
+    ensures { result ≡ framing_by given name.now }
+{
+    match given {
+        Some(framing) => Some(framing),
+        None => framing_of(name),
     }
 }
 

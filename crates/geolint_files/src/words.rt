@@ -1,7 +1,6 @@
 //! The words of the command.
 
 use crate::arguments::to_bytes;
-use crate::walk::framing_of;
 use clap::error::ErrorKind;
 use clap::{Arg, ArgAction, ArgMatches, Command, Error, value_parser};
 use gj_coords::{KINDS, Kind};
@@ -188,7 +187,7 @@ fn with_parts<'a>(alloc: Global, command: Command<'a>) -> Result<Command<'a>, Al
         .long("split")
         .value_name("PREFIX")
         .help(
-            "Also write the features without a fault to PREFIX.valid.geojsons, the others to PREFIX.broken.geojsons, and their faults to PREFIX.broken.json",
+            "Also write the features or records without a fault to PREFIX.valid.geojsons, the others to PREFIX.broken.geojsons, and their faults to PREFIX.broken.json",
         )
         .action(ArgAction::Set);
     let command = command.arg(split)?;
@@ -325,7 +324,7 @@ fn explained_in<'a>(given: &ArgMatches<'a>) -> Result<Option<Topic>, &'a str> {
     }
 }
 
-/// Why the features of what is named are not set apart.
+/// Why what is named is not set apart.
 fn wrong_split(given: &ArgMatches<'_>, paths: &[Vec<u8>], has_list: bool) -> Option<&'static str> {
     if given.get_str("split").is_none() {
         return None;
@@ -335,12 +334,6 @@ fn wrong_split(given: &ArgMatches<'_>, paths: &[Vec<u8>], has_list: bool) -> Opt
             b"-" => Some(
                 "'--split <PREFIX>' needs a file, which it reads twice: write standard input to one first",
             ),
-            name
-                if given.get_flag("seq")
-                    || given.get_flag("ndjson")
-                    || framing_of(name).is_some() => {
-                Some("'--split <PREFIX>' takes one text, and no file of records or lines")
-            }
             _ => None,
         },
         _ => Some("'--split <PREFIX>' takes one file"),

@@ -41,14 +41,14 @@ split_more bytes (f ∷ features) feature =
 record_more : (owns : List (List ℕ)) (own : List ℕ) → sequence_of (owns ++ own ∷ []) ≡ sequence_of owns ++ record_of own
 record_more owns own = flat_map-append record_of owns (own ∷ []) ∙ ap (λ xs. sequence_of owns ++ xs) (append-nil (record_of own))
 
-counted_more : (owns : List (List ℕ)) (own : List ℕ) (old new : ℕ) → old ≡ u64_saturate (length owns) → new ≡ u64_saturate (old + 1)
+pub counted_more : (owns : List (List ℕ)) (own : List ℕ) (old new : ℕ) → old ≡ u64_saturate (length owns) → new ≡ u64_saturate (old + 1)
     → new ≡ u64_saturate (length (owns ++ own ∷ []))
 counted_more owns own old new e f = let l = length-append owns (own ∷ []) in by_number (length owns) (length (owns ++ own ∷ [])) l e f
   where
     by_number : (n m : ℕ) → m ≡ n + 1 → old ≡ u64_saturate n → new ≡ u64_saturate (old + 1) → new ≡ u64_saturate m
     by_number n m l e f = omega (arith, l, e, f)
 
-known_more : (old new : Option (List ℕ)) (owns : List (List ℕ)) (own : List ℕ) → old ≡ Some (sequence_of owns) → Appends old new (record_of own)
+pub known_more : (old new : Option (List ℕ)) (owns : List (List ℕ)) (own : List ℕ) → old ≡ Some (sequence_of owns) → Appends old new (record_of own)
     → new ≡ Some (sequence_of (owns ++ own ∷ []))
 known_more None new owns own e h = cc
 known_more (Some xs) None owns own e h = absurd h

@@ -11,3 +11,7 @@ pub mod HeldRecords
 pub mod ToldFeatures
 pub mod Outcomes
 pub mod WholeReadings
+pub mod RecordTexts
+pub mod RecordsApart
+pub mod HeldOfRecords
+pub mod KeptRecords

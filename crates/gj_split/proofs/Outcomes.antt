@@ -34,3 +34,12 @@ pub ok_both : {T E F : Type 0} (outcome : Result T E) (P : T → Type 0) (R : F 
     → ((v : T) → P v → ((f : F) → R f → Q f v) → Z v) → IfOk outcome Z
 ok_both (Ok v) P R Q Z p q z = z v p q
 ok_both (Err x) P R Q Z p q z = tt
+
+pub if_map : {T E : Type 0} (outcome : Result T E) (P Q : T → Type 0) → IfOk outcome P → ((v : T) → P v → Q v) → IfOk outcome Q
+if_map (Ok v) P Q h f = f v h
+if_map (Err x) P Q h f = tt
+
+pub ok_on_both : {T E : Type 0} (outcome : Result T E) (given : T) (N M X : Type 0) → IfOk outcome (λ v. N × (ok_of T E given ≡ ok_of T E v))
+    → OnOk outcome M → (N → M → X) → OnOk outcome X
+ok_on_both (Ok v) given N M X h k f = f h.0 k
+ok_on_both (Err x) given N M X h k f = tt

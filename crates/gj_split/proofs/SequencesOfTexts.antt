@@ -6,7 +6,7 @@ use Rattle.std.specs.List.{AllByRecursion}
 use Rattle.gj_json.specs.Bytes.{line_feed}
 use Rattle.gj_json.specs.Limits.{Allowed}
 use Rattle.gj_json.specs.Refusal.{IsRefusal, IsAdmitted}
-use Rattle.gj_json.specs.Text.{IsText}
+use Rattle.gj_json.specs.Text.{IsText, IsTextWithin}
 use Rattle.gj_json.specs.Tree.{Text}
 use Rattle.gj_json.specs.declared.fault.JsonFault.{JsonFault}
 use Rattle.gj_coords.specs.Fault.{least}
@@ -21,6 +21,20 @@ use Rattle.gj_rules.specs.declared.verdict.Verdict.TheVariants.{Valid, Broken, N
 use Rattle.gj_split.specs.Split.{sequence_of, IsValidSequence}
 use Rattle.gj_split.proofs.SpelledBytes.{AreInText, InText, all-append, no_separator_byte}
 use Rattle.gj_split.proofs.TextsAlone.{IsSoundAlone}
+
+-- a text without a fault, with LF after it, and no separator in it
+pub record IsSoundLine (levels : ℕ) (own : List ℕ) : Type 0 where
+  pub text : Text
+  pub spelled : IsTextWithin levels text (own ++ line_feed ∷ [])
+  pub sound : text_faults text ≡ []
+  pub plain : AreInText own
+
+pub sound_lines : (levels : ℕ) (texts : List (List ℕ)) → AllByRecursion (IsSoundAlone levels) texts → AllByRecursion (IsSoundLine levels) texts
+sound_lines levels [] h = tt
+sound_lines levels (own ∷ more) h = (
+  record { text = h.0.alone.text; spelled = h.0.alone.spelled (line_feed ∷ []) (inr (inr (inl refl)), tt); sound = h.0.sound; plain = h.0.alone.plain },
+  sound_lines levels more h.1,
+)
 
 -- ---- bytes without a separator
 
@@ -112,14 +126,13 @@ module _ (some : (limits : Allowed) (bytes : List ℕ) → (verdict : Verdict) �
           cc
       by_verdict (NotJson fault) k = absurd (never_both limits bytes fault text k h)
 
-  valid_record : (levels place : ℕ) (own : List ℕ) → IsSoundAlone levels own → (warnings : Warnings)
+  valid_record : (levels place : ℕ) (own : List ℕ) → IsSoundLine levels own → (warnings : Warnings)
       × IsRecordVerdict levels (record_at place own) (Valid warnings)
   valid_record levels place own h =
-      let v = valid_verdict (own_limits levels (line_of own)) h.alone.text (line_of own)
-      (h.alone.spelled (line_feed ∷ []) (inr (inr (inl refl)), tt), omega arith) h.sound in
+      let v = valid_verdict (own_limits levels (line_of own)) h.text (line_of own) (h.spelled, omega arith) h.sound in
       (shifted v.0 (place + 1), (Valid v.0, v.1, rw (line_ends own) refl))
 
-  all_valid : (levels place : ℕ) (texts : List (List ℕ)) → AllByRecursion (IsSoundAlone levels) texts → (warnings : Warnings)
+  all_valid : (levels place : ℕ) (texts : List (List ℕ)) → AllByRecursion (IsSoundLine levels) texts → (warnings : Warnings)
       × AllValid levels (records_at place texts) warnings
   all_valid levels place [] h = (no_warnings, refl)
   all_valid levels place (own ∷ more) h =
@@ -127,9 +140,9 @@ module _ (some : (limits : Allowed) (bytes : List ℕ) → (verdict : Verdict) �
       let w = all_valid levels (place + 1 + length (line_of own)) more h.1 in
       (joined v.0 w.0, (v.0, w.0, v.1, w.1, refl))
 
-  are_plain : (levels : ℕ) (texts : List (List ℕ)) → AllByRecursion (IsSoundAlone levels) texts → AllByRecursion AreInText texts
+  are_plain : (levels : ℕ) (texts : List (List ℕ)) → AllByRecursion (IsSoundLine levels) texts → AllByRecursion AreInText texts
   are_plain levels [] h = tt
-  are_plain levels (own ∷ more) h = (h.0.alone.plain, are_plain levels more h.1)
+  are_plain levels (own ∷ more) h = (h.0.plain, are_plain levels more h.1)
 
   not_stray : (texts : List (List ℕ)) → is_stray (sequence_of texts) ≡ false
   not_stray [] = refl
@@ -138,7 +151,7 @@ module _ (some : (limits : Allowed) (bytes : List ℕ) → (verdict : Verdict) �
   whole : (limits : Allowed) (bytes : List ℕ) → length bytes ≤ limits.bytes → records_of limits bytes ≡ records_from false 0 bytes
   whole limits bytes l = rw (le-ltb limits.bytes (length bytes) l, take_all limits.bytes bytes l) refl
 
-  pub valid_sequence : (levels : ℕ) (texts : List (List ℕ)) → AllByRecursion (IsSoundAlone levels) texts
+  pub valid_sequence : (levels : ℕ) (texts : List (List ℕ)) → AllByRecursion (IsSoundLine levels) texts
       → IsValidSequence levels (length texts) (sequence_of texts)
   valid_sequence levels texts h most l =
       let limits : Allowed = record { depth = levels; bytes = most } in

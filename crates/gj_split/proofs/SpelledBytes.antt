@@ -128,7 +128,7 @@ number_in b (inr (inr (inr (inl e)))) = λ f. omega (arith, e, f)
 number_in b (inr (inr (inr (inr (inl e))))) = λ f. omega (arith, e, f)
 number_in b (inr (inr (inr (inr (inr e))))) = λ f. omega (arith, e, f)
 
-white_in : (b : ℕ) → IsWhite b → InText b
+pub white_in : (b : ℕ) → IsWhite b → InText b
 white_in b (inl e) = λ f. omega (arith, e, f)
 white_in b (inr (inl e)) = λ f. omega (arith, e, f)
 white_in b (inr (inr (inl e))) = λ f. omega (arith, e, f)

@@ -2,3 +2,4 @@
 pub mod ScannedValues
 pub mod ToldFeatures
 pub mod HeldRecords
+pub mod HeldOfRecords

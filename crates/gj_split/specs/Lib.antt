@@ -1,4 +1,5 @@
 pub mod Split
+pub mod RecordSplit
 pub mod Ranges
 pub mod Holding
 pub mod Internal

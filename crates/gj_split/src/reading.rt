@@ -28,7 +28,7 @@ pub fn split<R: Ranges, V: Write + Drop, B: Write + Drop, L: BrokenList + Drop>(
     source: &R,
     limits: Limits,
     outputs: Outputs<V, B, L>,
-) -> Ended<V, B, L>
+) -> Ended<Verdict, V, B, L>
     ensures verdict { IfOk result.outcome (λ verdict. (bytes : List ℕ) → AreKnown R.text (V.contents outputs.valid) (B.contents outputs.broken) bytes →
         IsVerdict limits bytes verdict) }
     ensures apart { OnOk result.outcome ((bytes : List ℕ) (text : Text) → AreKnown R.text (V.contents outputs.valid) (B.contents outputs.broken) bytes →
@@ -82,7 +82,7 @@ fn feed_all<R: Ranges, S: FeatureSink + Stopping>(
 /// Ends a split after the last byte, after the byte that was refused, or after a write that failed.
 fn finished<'a, R: Ranges, V: Write + Drop, B: Write + Drop, L: BrokenList + Drop>(
     linter: FeatureLinter<Splitter<'a, R, V, B, L>>,
-) -> Ended<V, B, L>
+) -> Ended<Verdict, V, B, L>
     ensures verdict { IfOk result.outcome (λ verdict. (bytes : List ℕ) →
         StandsFor ⟦<Splitter<'a, R, V, B, L> as FeatureSink>⟧.told linter.entry bytes → IsVerdict (limits_of linter.entry) bytes verdict) }
     ensures refused { (fault : JsonFault) → refusal_of linter.entry ≡ Some fault → IfOk result.outcome (λ verdict. verdict ≡ Verdict.NotJson fault) }
@@ -98,7 +98,7 @@ fn finished<'a, R: Ranges, V: Write + Drop, B: Write + Drop, L: BrokenList + Dro
 fn stopped<'a, R: Ranges, V: Write + Drop, B: Write + Drop, L: BrokenList + Drop>(
     linter: FeatureLinter<Splitter<'a, R, V, B, L>>,
     stop: Stop,
-) -> Ended<V, B, L>
+) -> Ended<Verdict, V, B, L>
     ensures { IsErr result.outcome }
 {
     let (_, splitter) = linter.finish();

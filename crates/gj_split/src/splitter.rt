@@ -1,46 +1,56 @@
-//! Writes each feature that the linter reports as a record.
+//! Writes each feature, or each record of an input, that a linter reports.
 ghost use Rattle.std.specs.Prelude.{◌≡◌, ℕ, List, [], ◌∷◌, Some, OnOk, IfOk};
-ghost use Rattle.std.specs.Io.KnownBytes.{Appends};
+ghost use Rattle.std.specs.Io.KnownBytes.{Appends, Keeps};
 ghost use Rattle.gj_split.specs.Internal.HeldRecords.{WritesRecord};
 ghost use Rattle.gj_split.specs.Internal.ToldFeatures.{told_end, EndsKnown};
+ghost use Rattle.gj_split.specs.RecordSplit.{found_text};
+ghost use Rattle.gj_split.specs.Split.{bytes_between, record_of};
 
 use crate::copy::copy_between;
 use crate::ranges::{Ranges, Stop};
 use crate::scan::{end_of_value, expect_flat};
-use gj_rules::{Feature, FeatureSink, Verdict};
+use gj_rules::{Feature, FeatureSink, Record, RecordSink, Verdict};
 use std::io::{self, Write};
 
 /// The byte before a record (RFC 8142, section 2): RS.
 const SEPARATOR: u8 = 0x1E;
 
-/// Receives each feature with a fault, after its record is written.
+/// Receives each feature with a fault, or each record of an input that is not valid, after it is written.
 pub trait BrokenList {
     fn add(&mut self, feature: &Feature) -> io::Result<()>;
+
+    fn add_record(&mut self, found: &Record) -> io::Result<()>;
+
+    /// Passes on what it holds, where it holds anything back.
+    fn flush(&mut self) -> io::Result<()>;
 }
 
-/// The number of records that were written whole.
+/// The number of records that are written whole.
 #[derive(Clone, Copy, Debug, Default, PartialEq, Eq)]
 pub struct Counts {
     pub valid: u64,
     pub broken: u64,
 }
 
+/// After so many records the writers are flushed.
+const FLUSHED: u64 = 256;
+
 /// The writers of the records.
 #[derive(Drop)]
 pub struct Outputs<V, B, L> {
-    /// Each feature without a fault.
+    /// Each feature without a fault, or each valid record.
     pub valid: V,
-    /// Each feature with one.
+    /// Each other one.
     pub broken: B,
     pub list: L,
 }
 
 /// The result of a split.
 #[derive(Drop)]
-pub struct Ended<V, B, L> {
-    /// The verdict of the text, or why it was not read to its end.
-    pub outcome: Result<Verdict, Stop>,
-    /// The number of records that were written whole.
+pub struct Ended<T, V, B, L> {
+    /// What the text or the input is, or why it was not read to its end.
+    pub outcome: Result<T, Stop>,
+    /// The number of records that are written whole. Where the split was stopped, those before the last flush.
     pub counts: Counts,
     pub outputs: Outputs<V, B, L>,
 }
@@ -50,20 +60,24 @@ pub trait Stopping {
     fn has_stopped(&self) -> bool;
 }
 
-/// Writes each reported feature to its writer, until a read or a write fails.
+/// Writes each reported feature or record to its writer, until a read or a write fails.
 #[derive(Drop)]
 pub struct Splitter<'a, R, V, B, L> {
     source: &'a R,
     outputs: Outputs<V, B, L>,
     counts: Counts,
+    /// Those before the last flush.
+    flushed: Counts,
     stop: Option<Stop>,
 }
 
 impl<'a, R: Ranges, V: Write, B: Write, L: BrokenList> Splitter<'a, R, V, B, L> {
     ghost use Rattle.std.specs.Prelude.{◌≡◌, OnOk, IfOk, Ok, ◌++◌, ◌∷◌, List, ℕ, [], None};
     ghost use Rattle.gj_rules.specs.declared.feature.Feature.{Feature};
+    ghost use Rattle.gj_rules.specs.declared.records.record.Record.{Record};
     ghost use Rattle.gj_split.specs.Holding.{AreKnown};
     ghost use Rattle.gj_split.specs.Internal.HeldRecords.{Holds};
+    ghost use Rattle.gj_split.specs.Internal.HeldOfRecords.{HoldsRecords};
 
     /// A splitter before the first feature.
     pub fn new(source: &'a R, outputs: Outputs<V, B, L>) -> Self
@@ -74,24 +88,80 @@ impl<'a, R: Ranges, V: Write, B: Write, L: BrokenList> Splitter<'a, R, V, B, L> 
             source,
             outputs,
             counts: Counts::default(),
+            flushed: Counts::default(),
             stop: None,
         }
     }
 
-    /// Ends the split, given the verdict of the text or why it was not read to its end.
-    pub fn end(self, outcome: Result<Verdict, Stop>) -> Ended<V, B, L>
-        ensures outcome { IfOk result.outcome (λ verdict. (self.entry.stop ≡ None) × (outcome ≡ Ok verdict)) }
-        ensures outputs { result.outputs ≡ self.entry.outputs }
-        ensures counts { result.counts ≡ self.entry.counts }
+    /// A splitter before the first record.
+    pub fn of_records(source: &'a R, outputs: Outputs<V, B, L>) -> Self
+        ensures held { (bytes : List ℕ) → AreKnown R.text (V.contents outputs.valid) (B.contents outputs.broken) bytes →
+            ⟦<Splitter<'a, R, V, B, L> as RecordSink>⟧.told result [] }
     {
-        Ended {
-            outcome: match self.stop {
-                None => outcome,
-                Some(stop) => Err(stop),
+        Splitter {
+            source,
+            outputs,
+            counts: Counts::default(),
+            flushed: Counts::default(),
+            stop: None,
+        }
+    }
+
+    /// Ends the split, given what the text or the input is, or why it was not read to its end.
+    pub fn end<T: Drop>(mut self, outcome: Result<T, Stop>) -> Ended<T, V, B, L>
+        ensures outcome { IfOk result.outcome (λ given. (self.entry.stop ≡ None) × (outcome ≡ Ok given)) }
+        ensures held { OnOk result.outcome ((Keeps (V.contents self.entry.outputs.valid) (V.contents result.outputs.valid))
+            × (Keeps (B.contents self.entry.outputs.broken) (B.contents result.outputs.broken)) × (result.counts ≡ self.entry.counts)) }
+    {
+        let outcome = match self.stop.take() {
+            Some(stop) => Err(stop),
+            None => outcome,
+        };
+        let outcome = match outcome {
+            Ok(given) => match self.flush() {
+                Ok(()) => Ok(given),
+                Err(error) => Err(Stop::Write(error)),
             },
-            counts: self.counts,
+            Err(stop) => Err(stop),
+        };
+        Ended {
+            outcome,
+            counts: self.flushed,
             outputs: self.outputs,
         }
+    }
+
+    /// Flushes the writers once in a while: what stops the split then leaves the records before.
+    fn flush_at_times(&mut self)
+        ensures features { (features : List Feature) →
+            Holds R.text self.old.stop (V.contents self.old.outputs.valid) (B.contents self.old.outputs.broken) self.old.counts features →
+            Holds R.text self.new.stop (V.contents self.new.outputs.valid) (B.contents self.new.outputs.broken) self.new.counts features }
+        ensures records { (records : List Record) →
+            HoldsRecords R.text self.old.stop (V.contents self.old.outputs.valid) (B.contents self.old.outputs.broken) self.old.counts records →
+            HoldsRecords R.text self.new.stop (V.contents self.new.outputs.valid) (B.contents self.new.outputs.broken) self.new.counts records }
+    {
+        let count = self.counts.valid.saturating_add(self.counts.broken);
+        if count % FLUSHED == 0 {
+            if let Err(error) = self.flush() {
+                self.stop = Some(Stop::Write(error));
+            }
+        }
+    }
+
+    /// Flushes the writers, and notes what they have then passed on. Each record that is not valid is listed before it is.
+    fn flush(&mut self) -> io::Result<()>
+        ensures valid { Keeps (V.contents self.old.outputs.valid) (V.contents self.new.outputs.valid) }
+        ensures broken { Keeps (B.contents self.old.outputs.broken) (B.contents self.new.outputs.broken) }
+        ensures counts { self.new.counts ≡ self.old.counts }
+        ensures flushed { OnOk result (self.new.flushed ≡ self.old.counts) }
+        ensures stop { self.new.stop ≡ self.old.stop }
+    {
+        self.outputs.valid.flush()?;
+        self.flushed.valid = self.counts.valid;
+        self.outputs.list.flush()?;
+        self.outputs.broken.flush()?;
+        self.flushed.broken = self.counts.broken;
+        Ok(())
     }
 
     /// Writes a feature, and counts it once it is written.
@@ -118,6 +188,31 @@ impl<'a, R: Ranges, V: Write, B: Write, L: BrokenList> Splitter<'a, R, V, B, L> 
             }
         }
     }
+
+    /// Writes a record, and counts it once it is written.
+    fn put_record(&mut self, found: &Record) -> Result<(), Stop>
+        ensures stop { self.new.stop ≡ self.old.stop }
+        ensures held { OnOk result ((records : List Record) → self.old.stop ≡ None →
+            HoldsRecords R.text self.old.stop (V.contents self.old.outputs.valid) (B.contents self.old.outputs.broken) self.old.counts records →
+            HoldsRecords R.text self.new.stop (V.contents self.new.outputs.valid) (B.contents self.new.outputs.broken)
+            self.new.counts (records ++ found.now ∷ [])) }
+    {
+        match found.verdict {
+            Verdict::Valid(_) => {
+                write_found(self.source, found, &mut self.outputs.valid)?;
+                self.counts.valid = self.counts.valid.saturating_add(1);
+                Ok(())
+            }
+            _ => {
+                write_found(self.source, found, &mut self.outputs.broken)?;
+                self.counts.broken = self.counts.broken.saturating_add(1);
+                match self.outputs.list.add_record(found) {
+                    Ok(()) => Ok(()),
+                    Err(error) => Err(Stop::Write(error)),
+                }
+            }
+        }
+    }
 }
 
 impl<'a, R: Ranges, V: Write, B: Write, L: BrokenList> FeatureSink for Splitter<'a, R, V, B, L> {
@@ -128,7 +223,22 @@ impl<'a, R: Ranges, V: Write, B: Write, L: BrokenList> FeatureSink for Splitter<
     fn tell_feature(&mut self, feature: &Feature) {
         if self.stop.is_none() {
             match self.put(feature) {
-                Ok(()) => {}
+                Ok(()) => self.flush_at_times(),
+                Err(stop) => self.stop = Some(stop),
+            }
+        }
+    }
+}
+
+impl<'a, R: Ranges, V: Write, B: Write, L: BrokenList> RecordSink for Splitter<'a, R, V, B, L> {
+    ghost use Rattle.gj_split.specs.Internal.HeldOfRecords.{HoldsRecords};
+
+    ghost told = { λ s records. HoldsRecords R.text s.stop (V.contents s.outputs.valid) (B.contents s.outputs.broken) s.counts records };
+
+    fn tell_record(&mut self, found: &Record) {
+        if self.stop.is_none() {
+            match self.put_record(found) {
+                Ok(()) => self.flush_at_times(),
                 Err(stop) => self.stop = Some(stop),
             }
         }
@@ -150,6 +260,38 @@ fn write_record<R: Ranges, W: Write>(source: &R, feature: &Feature, out: &mut W)
     write_byte(out, SEPARATOR)?;
     copy_between(source, feature.place, end, out)?;
     write_byte(out, b'\n')
+}
+
+/// Writes the text of a record of an input as a record: RS, the text, LF.
+fn write_found<R: Ranges, W: Write>(source: &R, found: &Record, out: &mut W) -> Result<(), Stop>
+    ensures { OnOk result ((bytes : List ℕ) → R.text ≡ Some bytes → Appends (W.contents out.old) (W.contents out.new) (record_of (found_text bytes found.now))) }
+{
+    let end = end_of_text(source, found)?;
+    write_byte(out, SEPARATOR)?;
+    copy_between(source, found.place, end, out)?;
+    write_byte(out, b'\n')
+}
+
+/// The byte offset after the text of a record: the LF that ends it is no byte of the text.
+fn end_of_text<R: Ranges>(source: &R, found: &Record) -> Result<u64, Stop>
+    ensures { IfOk result (λ end. (bytes : List ℕ) → R.text ≡ Some bytes → bytes_between found.now.place end bytes ≡ found_text bytes found.now) }
+{
+    if found.end <= found.place {
+        return Ok(found.end);
+    }
+    let last = found.end - 1;
+    let mut byte = [0; 1];
+    match source.read_at(last, &mut byte) {
+        Err(error) => Err(Stop::Read(error)),
+        Ok(0) => Err(Stop::Shorter),
+        Ok(_count) => {
+            if byte[0] == b'\n' {
+                Ok(last)
+            } else {
+                Ok(found.end)
+            }
+        }
+    }
 }
 
 /// The byte offset after the last byte of a feature.

@@ -17,3 +17,5 @@ mod number;
 mod places;
 #[cfg(test)]
 mod rules;
+#[cfg(test)]
+mod split;

@@ -1,6 +1,7 @@
 //! A file from which the bytes of a text are read.
-
-ghost use Rattle.std.specs.Prelude.{None};
+ghost use Rattle.std.specs.Prelude.{◌≡◌, None, IsTrue, IfOk, IfSome};
+ghost use Rattle.std.specs.Fs.{IsFile, file_type, metadata_len};
+ghost use Rattle.split_files.specs.Parts.{known_before};
 
 use gj_split::Ranges;
 use std::fs::{File, Metadata};
@@ -17,7 +18,9 @@ pub struct FileRanges {
 
 impl FileRanges {
     /// Takes the file. It returns `None` for a folder, a pipe or a device, whose bytes cannot be read twice.
-    pub fn new(file: File) -> io::Result<Option<FileRanges>> {
+    pub fn new(file: File) -> io::Result<Option<FileRanges>>
+        ensures { IfOk result (λ taken. IfSome taken (λ ranges. IsFile (file_type (known_before ranges)))) }
+    {
         let before = file.metadata()?;
         if before.is_file() {
             Ok(Some(FileRanges { file, before }))
@@ -29,14 +32,19 @@ impl FileRanges {
     /// Whether the file is unchanged, as far as its metadata shows.
     pub fn is_unchanged(&self) -> bool {
         match self.file.metadata() {
-            Ok(after) => {
-                self.before.len() == after.len()
-                    && self.before.mtime() == after.mtime()
-                    && self.before.mtime_nsec() == after.mtime_nsec()
-            }
+            Ok(after) => are_alike(&self.before, &after),
             Err(_) => false,
         }
     }
+}
+
+/// Whether a file has the same length and the same time of change.
+fn are_alike(before: &Metadata, after: &Metadata) -> bool
+    ensures { IsTrue result → metadata_len before.now ≡ metadata_len after.now }
+{
+    before.len() == after.len()
+        && before.mtime() == after.mtime()
+        && before.mtime_nsec() == after.mtime_nsec()
 }
 
 impl Ranges for FileRanges {

@@ -1,35 +1,107 @@
-//! The faults of the features: a line of JSON for each feature that has one.
+//! The faults of what is in the second file: a line of JSON for each feature or record.
+ghost use Rattle.std.specs.Prelude.{◌≡◌, OnOk};
+ghost use Rattle.std.specs.Io.KnownBytes.{Appends};
+ghost use Rattle.split_files.specs.Lines.{fault_text, refusal_text, cause_number, feature_head, feature_line, record_head, record_line};
 
-use gj_rules::Feature;
+use gj_coords::Fault;
+use gj_json::{Cause, JsonFault};
+use gj_rules::{Feature, Record, Verdict};
 use gj_split::BrokenList;
-use itoa::Buffer;
 use std::io::{self, Write};
 
 /// Writes `{"index":1,"offset":42,"rule":"G6","text":"geometry missing","at":42}` for each feature: the number of
 /// features before it, the byte offset of its first byte in the file, the rule that it breaks, and the byte offset of
-/// the fault.
+/// the fault. A record has `record`, its number, in place of `index`; where it is not JSON, the cause is the rule.
 #[derive(Drop)]
 pub struct FindingList<W> {
     pub out: W,
 }
 
 impl<W: Write> BrokenList for FindingList<W> {
-    fn add(&mut self, feature: &Feature) -> io::Result<()> {
-        let Some(fault) = feature.fault else {
-            return Ok(());
-        };
-        let mut digits = Buffer::new();
-        self.out.write_all(b"{\"index\":")?;
-        self.out.write_all(digits.format(feature.index).as_bytes())?;
-        self.out.write_all(b",\"offset\":")?;
-        self.out.write_all(digits.format(feature.place).as_bytes())?;
-        self.out.write_all(b",\"rule\":\"G")?;
-        self.out
-            .write_all(digits.format(fault.rule.number()).as_bytes())?;
-        self.out.write_all(b"\",\"text\":\"")?;
-        self.out.write_all(fault.rule.text().as_bytes())?;
-        self.out.write_all(b"\",\"at\":")?;
-        self.out.write_all(digits.format(fault.place).as_bytes())?;
-        self.out.write_all(b"}\n")
+    fn add(&mut self, feature: &Feature) -> io::Result<()>
+        ensures { OnOk result (Appends (W.contents self.old.out) (W.contents self.new.out) (feature_line feature.now)) }
+    {
+        match feature.fault {
+            Some(fault) => {
+                put_feature_head(feature, &mut self.out)?;
+                put_fault(fault, &mut self.out)
+            }
+            None => Ok(()),
+        }
+    }
+
+    fn add_record(&mut self, found: &Record) -> io::Result<()>
+        ensures { OnOk result (Appends (W.contents self.old.out) (W.contents self.new.out) (record_line found.now)) }
+    {
+        match found.verdict {
+            Verdict::Valid(_) => Ok(()),
+            Verdict::Broken(fault) => {
+                put_record_head(found, &mut self.out)?;
+                put_fault(fault, &mut self.out)
+            }
+            Verdict::NotJson(fault) => {
+                put_record_head(found, &mut self.out)?;
+                put_refusal(fault, &mut self.out)
+            }
+        }
+    }
+
+    fn flush(&mut self) -> io::Result<()> {
+        self.out.flush()
+    }
+}
+
+#[tactic(auto, unfolding(crate::specs::Lines::feature_head))]
+fn put_feature_head<W: Write>(feature: &Feature, out: &mut W) -> io::Result<()>
+    ensures { OnOk result (Appends (W.contents out.old) (W.contents out.new) (feature_head feature.now)) }
+{
+    let index = feature.index;
+    let offset = feature.place;
+    write!(out, "{{\"index\":{index},\"offset\":{offset}")
+}
+
+#[tactic(auto, unfolding(crate::specs::Lines::record_head))]
+fn put_record_head<W: Write>(found: &Record, out: &mut W) -> io::Result<()>
+    ensures { OnOk result (Appends (W.contents out.old) (W.contents out.new) (record_head found.now)) }
+{
+    let number = found.number;
+    let place = found.place;
+    write!(out, "{{\"record\":{number},\"offset\":{place}")
+}
+
+#[tactic(auto, unfolding(crate::specs::Lines::reason_text))]
+fn put_fault<W: Write>(fault: Fault, out: &mut W) -> io::Result<()>
+    ensures { OnOk result (Appends (W.contents out.old) (W.contents out.new) (fault_text fault)) }
+{
+    let number = fault.rule.number();
+    let text = fault.rule.text();
+    let place = fault.place;
+    write!(
+        out,
+        ",\"rule\":\"G{number}\",\"text\":\"{text}\",\"at\":{place}}}\n"
+    )
+}
+
+#[tactic(auto, unfolding(crate::specs::Lines::reason_text))]
+fn put_refusal<W: Write>(fault: JsonFault, out: &mut W) -> io::Result<()>
+    ensures { OnOk result (Appends (W.contents out.old) (W.contents out.new) (refusal_text fault)) }
+{
+    let number = cause_number(fault.cause);
+    let text = fault.cause.text();
+    let place = fault.place;
+    write!(
+        out,
+        ",\"rule\":\"J{number}\",\"text\":\"{text}\",\"at\":{place}}}\n"
+    )
+}
+
+fn cause_number(cause: Cause) -> u8
+    ensures { result ≡ cause_number cause }
+{
+    match cause {
+        Cause::Syntax => 1,
+        Cause::Truncated => 2,
+        Cause::Depth => 3,
+        Cause::Length => 4,
     }
 }

@@ -1,12 +1,16 @@
-//! The features of a file, written to separate files.
+//! The features or the records of a file, written to separate files.
 //!
 //! [`split_file`] reads `NAME` and writes `PREFIX.valid.geojsons` and `PREFIX.broken.geojsons`, a text sequence (RFC 8142) each, as
-//! [`gj_split::split`] sets the features apart, and `PREFIX.broken.json`, a line of JSON for each feature of the second.
+//! [`gj_split::split`] sets the features apart, or [`gj_split::split_records`] the records. `PREFIX.broken.json` has a line of
+//! JSON for each feature or record of the second.
 #![tactic(auto)]
 
 mod file_ranges;
 mod finding_list;
+mod part_file;
+mod source;
 mod writing;
 
-pub use gj_split::{Counts, Stop};
+pub use gj_split::{Counts, Input, Stop};
+pub use source::{Whole, split_source};
 pub use writing::{Order, Part, Undone, Written, split_file};

@@ -1,13 +1,17 @@
 //! Reads a file and writes its parts.
+ghost use Rattle.std.specs.Prelude.{◌≡◌};
+ghost use Rattle.split_files.specs.Parts.{ending_of};
 
 use crate::file_ranges::FileRanges;
 use crate::finding_list::FindingList;
+use crate::part_file::PartFile;
+use crate::source::{Whole, split_source};
 use gj_json::Limits;
-use gj_rules::Verdict;
-use gj_split::{Counts, Outputs, Stop, split};
-use std::alloc::{AllocError, Global};
-use std::fs::{self, File, OpenOptions};
-use std::io::{self, BufWriter, Write};
+use gj_rules::Framing;
+use gj_split::{Counts, Outputs, Stop};
+use std::alloc::AllocError;
+use std::fs::{self, OpenOptions};
+use std::io;
 
 /// A file to be split, and where its parts go.
 #[derive(Drop)]
@@ -19,6 +23,8 @@ pub struct Order<'a> {
     /// Whether existing files of these names are overwritten.
     pub overwrites: bool,
     pub limits: Limits,
+    /// How its texts are set apart, where it has more than one.
+    pub framing: Option<Framing>,
 }
 
 /// A file that is written.
@@ -31,7 +37,9 @@ pub enum Part {
 
 impl Part {
     /// The part of its name after the prefix.
-    pub fn ending(self) -> &'static str {
+    pub fn ending(self) -> &'static str
+        ensures { result.now ≡ ending_of self }
+    {
         match self {
             Part::Valid => ".valid.geojsons",
             Part::Broken => ".broken.geojsons",
@@ -43,8 +51,7 @@ impl Part {
 /// What came of a file that was split.
 #[derive(Clone, Copy)]
 pub struct Written {
-    /// The verdict of the file as a text. Of a file that is not JSON, the features before the refusal were written.
-    pub verdict: Verdict,
+    pub whole: Whole,
     pub counts: Counts,
 }
 
@@ -57,7 +64,7 @@ pub enum Undone {
     NotRegular,
     /// A part could not be created: a file of its name may exist.
     Make(Part, io::Error),
-    /// Reading or writing stopped after this many whole records.
+    /// Reading or writing stopped, and this many records are left, all of them whole.
     Stopped(Stop, Counts),
     /// The file changed while it was read.
     Changed,
@@ -70,7 +77,7 @@ impl From<AllocError> for Undone {
     }
 }
 
-/// Splits a file: writes its parts.
+/// Splits a file: writes its parts. Where a read or a write fails, what is left of them has whole records and nothing else.
 pub fn split_file(rt: &HostRuntime, order: &Order<'_>) -> Result<Written, Undone> {
     let source = match open(rt, order.name) {
         Ok(Some(source)) => source,
@@ -84,21 +91,17 @@ pub fn split_file(rt: &HostRuntime, order: &Order<'_>) -> Result<Written, Undone
             out: make(rt, order, Part::List)?,
         },
     };
-    let mut ended = split(&source, order.limits, outputs);
-    let verdict = match ended.outcome {
-        Ok(verdict) => verdict,
-        Err(stop) => return Err(Undone::Stopped(stop, ended.counts)),
-    };
-    if let Err(error) = flush(&mut ended.outputs) {
-        return Err(Undone::Stopped(Stop::Write(error), ended.counts));
-    }
-    if source.is_unchanged() {
-        Ok(Written {
-            verdict,
+    let ended = split_source(&source, order.framing, order.limits, outputs);
+    match ended.outcome {
+        Ok(whole) if source.is_unchanged() => Ok(Written {
+            whole,
             counts: ended.counts,
-        })
-    } else {
-        Err(Undone::Changed)
+        }),
+        Ok(_) => Err(Undone::Changed),
+        Err(stop) => {
+            cut_back(ended.outputs);
+            Err(Undone::Stopped(stop, ended.counts))
+        }
     }
 }
 
@@ -107,7 +110,7 @@ fn open(rt: &HostRuntime, name: &str) -> io::Result<Option<FileRanges>> {
 }
 
 /// Creates the file for a part, or empties an existing one if the order says so.
-fn make(rt: &HostRuntime, order: &Order<'_>, part: Part) -> Result<BufWriter<File>, Undone> {
+fn make(rt: &HostRuntime, order: &Order<'_>, part: Part) -> Result<PartFile, Undone> {
     let mut name = String::from_str(rt.alloc(), order.prefix)?;
     name.push_str(part.ending())?;
     let mut options = OpenOptions::new();
@@ -118,18 +121,15 @@ fn make(rt: &HostRuntime, order: &Order<'_>, part: Part) -> Result<BufWriter<Fil
         options.create_new(true);
     }
     match options.open(rt, name.as_str()) {
-        Ok(file) => match BufWriter::new(rt.alloc(), file) {
-            Ok(out) => Ok(out),
-            Err(_) => Err(Undone::Memory),
-        },
+        Ok(file) => Ok(PartFile::new(rt.alloc(), file)?),
         Err(error) => Err(Undone::Make(part, error)),
     }
 }
 
-fn flush<V: Write, B: Write, L: Write>(
-    outputs: &mut Outputs<V, B, FindingList<L>>,
-) -> io::Result<()> {
-    outputs.valid.flush()?;
-    outputs.broken.flush()?;
-    outputs.list.out.flush()
+/// Cuts off what came after the last flush.
+fn cut_back(outputs: Outputs<PartFile, PartFile, FindingList<PartFile>>) {
+    // Where a file cannot be cut back, it ends with a part of a record, which reads as truncated.
+    let _ = outputs.valid.cut_back();
+    let _ = outputs.broken.cut_back();
+    let _ = outputs.list.out.cut_back();
 }
