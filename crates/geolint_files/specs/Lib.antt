@@ -1,3 +1,4 @@
+pub mod Words
 pub mod Outcome
 pub mod Run
 pub mod Walk

@@ -1,5 +1,5 @@
 -- Which files of a folder are judged, and how their texts are set apart, by their names; what a call names, and which names come next.
-use Rattle.std.specs.Prelude.{ℕ, ◌-◌, ◌&&◌, ◌||◌, Bool, true, false, List, [], ◌∷◌, ◌++◌, map, Vec, length, drop, codes, nat_eq, if◌then◌else◌, Option, Some}
+use Rattle.std.specs.Prelude.{ℕ, ◌+◌, ◌==◌, ◌-◌, ◌&&◌, ◌||◌, Bool, true, false, List, [], ◌∷◌, ◌++◌, map, Vec, length, drop, codes, nat_eq, if◌then◌else◌, Option, Some}
 use Rattle.std.specs.Prelude.{None, is_some}
 use Rattle.std.specs.List.{list_any, ends_with}
 use Rattle.std.specs.Cmp.Lexicographic.{pointwise}
@@ -9,6 +9,12 @@ use Rattle.std.specs.Str.{str_eq_ignore_ascii_case}
 use Rattle.std.specs.declared.alloc.Global.{Global}
 use Rattle.gj_rules.specs.declared.records.framing.Framing.{Framing}
 use Rattle.geolint_files.specs.declared.walk.Pending.{Pending}
+
+abbrev pub slash : ℕ
+slash = 47
+
+abbrev pub dot : ℕ
+dot = 46
 
 -- a name ends so, in capitals or not
 abbrev pub ends_in : List ℕ → List ℕ → Bool
@@ -27,6 +33,20 @@ ends_in_one name endings = list_any (λ (ending : Vec ℕ Global). ends_in name 
 -- these are the endings beside the usual ones
 abbrev pub is_taken : List ℕ → List (Vec ℕ Global) → Bool
 is_taken name endings = ends_in name (codes ".geojson") || (is_some (framing_of name) || ends_in_one name endings)
+
+-- ---- the ending of a name that is passed over
+
+-- where it begins, with one byte more of the path
+abbrev pub start_after : ℕ → ℕ → ℕ → ℕ
+start_after byte place start = if byte == slash then place + 1 else (if byte == dot then place else start)
+
+abbrev pub start_in : ℕ → ℕ → List ℕ → ℕ
+start_in place start [] = start
+start_in place start (byte ∷ more) = start_in (place + 1) (start_after byte place start) more
+
+-- from the last dot of the last name on; the whole name where it has none
+abbrev pub ending_of : List ℕ → List ℕ
+ending_of path = drop (start_in 0 0 path) path
 
 -- ---- names that are still to be looked at
 

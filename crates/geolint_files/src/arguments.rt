@@ -1,7 +1,8 @@
 //! The words of the command line, also those that are no Unicode text.
 //!
 //! The reader of words takes text alone. So a word is written as text that leads back to its bytes: each byte of what is
-//! no UTF-8 is a character of the last 256 of Unicode, which nobody uses, and so is each byte of such a character.
+//! no UTF-8 is a character of the last 256 of Unicode, which nobody uses, and so is each byte of such a character. That the text
+//! leads back to the bytes is tested, by files of such names.
 
 use report_forms::formats::put_name;
 use std::alloc::{AllocError, Global};

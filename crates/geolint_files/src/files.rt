@@ -1,4 +1,8 @@
-//! Files and folders by their names.
+//! Files and folders by their names. What the system says of them, or gives, no clause says.
+
+ghost use Rattle.std.specs.Prelude.{◌≡◌, ◌↔◌, IfOk, IsTrue, string_bytes};
+ghost use Rattle.std.specs.IoError.{error_kind};
+ghost use Rattle.std.specs.declared.io.ErrorKind.{ErrorKind};
 
 use std::alloc::Global;
 use std::fs::{self, File, Files, Metadata};
@@ -35,7 +39,9 @@ pub struct Spelled {
 }
 
 /// The text of a name. std opens by Unicode text alone, so that a name that is none is an error.
-pub fn spell(alloc: Global, name: &[u8]) -> io::Result<Spelled> {
+pub fn spell(alloc: Global, name: &[u8]) -> io::Result<Spelled>
+    ensures { IfOk result (λ spelled. string_bytes spelled.text ≡ name.now) }
+{
     match str::from_utf8(name) {
         Ok(text) => Ok(Spelled {
             text: String::from_str(alloc, text)?,
@@ -45,7 +51,11 @@ pub fn spell(alloc: Global, name: &[u8]) -> io::Result<Spelled> {
 }
 
 impl Spelled {
-    pub fn as_str(&self) -> &str {
+    ghost use Rattle.std.specs.Prelude.{◌≡◌, string_bytes};
+
+    pub fn as_str(&self) -> &str
+        ensures { result.now ≡ string_bytes self.now.text }
+    {
         self.text.as_str()
     }
 
@@ -84,7 +94,7 @@ impl Spelled {
     }
 }
 
-/// The system's reason, without its number.
+/// The system's reason, without its number. The words are the system's, so no clause says them.
 pub fn reason(alloc: Global, error: &io::Error) -> io::Result<String> {
     let text = format!(in alloc; "{error}")?;
     let end = text.as_str().find(" (os error").unwrap_or(text.len());
@@ -93,6 +103,8 @@ pub fn reason(alloc: Global, error: &io::Error) -> io::Result<String> {
 }
 
 /// Whether memory was refused.
-pub fn is_memory(error: &io::Error) -> bool {
+pub fn is_memory(error: &io::Error) -> bool
+    ensures { IsTrue result ↔ (error_kind error.now ≡ ErrorKind.OutOfMemory) }
+{
     error.kind() == ErrorKind::OutOfMemory
 }

@@ -3,7 +3,15 @@
 //!
 //! The first reading of a file is checked by the linter of `gj_rules`. A second reading gives the line, the column, the path
 //! and the part of the line around each place that is reported. Both take fixed memory, however long a file or a line of it is.
+//!
+//! What goes to a terminal or ends the process, no clause of this file says: [`judge_all`] says what the report is, and
+//! [`Outcome::status`] which status follows.
 #![tactic(auto)]
+
+ghost use Rattle.std.specs.Prelude.{◌≡◌, ◌≢◌, ◌↔◌, IfErr, IsTrue, OnOk};
+ghost use Rattle.std.specs.IoError.{error_kind};
+ghost use Rattle.std.specs.declared.io.ErrorKind.TheVariants.{BrokenPipe};
+ghost use Rattle.geolint_files.specs.declared.NoOrder.{NoOrder};
 
 mod arguments;
 mod files;
@@ -91,7 +99,9 @@ fn end_by(rt: &HostRuntime, failure: &Failure) -> u8 {
     2
 }
 
-fn has_no_reader(error: &io::Error) -> bool {
+fn has_no_reader(error: &io::Error) -> bool
+    ensures { IsTrue result ↔ (error_kind error.now ≡ BrokenPipe) }
+{
     error.kind() == io::ErrorKind::BrokenPipe
 }
 
@@ -130,7 +140,11 @@ fn explain(rt: &HostRuntime, topic: Topic) -> NoOrder {
 }
 
 /// Whether what was asked for was written.
-fn answered(written: io::Result<()>) -> NoOrder {
+fn answered(written: io::Result<()>) -> NoOrder
+    ensures ok { OnOk written (result ≡ NoOrder.Answered) }
+    ensures lost { IfErr written (λ error. error_kind error ≡ BrokenPipe → result ≡ NoOrder.NoReader) }
+    ensures failed { IfErr written (λ error. error_kind error ≢ BrokenPipe → result ≡ NoOrder.Usage) }
+{
     match written {
         Ok(()) => NoOrder::Answered,
         Err(error) if has_no_reader(&error) => NoOrder::NoReader,

@@ -4,6 +4,7 @@ ghost use Rattle.std.specs.List.{list_any};
 ghost use Rattle.geolint_report.specs.Line.{Adds};
 ghost use Rattle.geolint_report.specs.Tallies.{IsTotal};
 ghost use Rattle.report_forms.specs.FileCounts.{Counts};
+ghost use Rattle.report_forms.specs.declared.formats.lines.Style.{Style};
 ghost use Rattle.geolint_files.specs.Run.{ToldFile, IsRun, finding_in, tallies_in, whole_summary};
 ghost use Rattle.geolint_files.specs.Walk.{first_named, is_input, is_input_path, takes_input_twice};
 
@@ -170,8 +171,10 @@ struct Run<'a, W> {
     outcome: Outcome,
 }
 
-/// Whether the report is shown in colour.
-fn style_of(rt: &HostRuntime, is_terminal: bool) -> Style {
+/// Whether the report is shown in colour. What the environment says no clause knows.
+fn style_of(rt: &HostRuntime, is_terminal: bool) -> Style
+    ensures { is_terminal ≡ false → result ≡ Style.Plain }
+{
     let is_refused = match env::var(rt, "NO_COLOR") {
         Ok(text) => !text.is_empty(),
         Err(_) => false,
@@ -195,6 +198,7 @@ impl<'a, W: Write + Drop> Run<'a, W> {
     ghost use Rattle.report_forms.specs.Passing.{passes};
     ghost use Rattle.report_forms.specs.Forms.{TellsReport, TellsUnread, KeepsInLog, first_after};
     ghost use Rattle.report_forms.specs.FileCounts.{Counts};
+    ghost use Rattle.geolint_files.specs.declared.run.Failure.{Failure};
     ghost use Rattle.geolint_files.specs.Internal.RunState.{HasTold, IsFresh, TellsFile, TellsFiles, SameTold, Unchanged};
     ghost use Rattle.geolint_files.specs.Run.{ToldFile, judged, not_read, finding_in, tallies_in, IsWholeReport, end_of, summary_in};
     ghost use Rattle.geolint_files.specs.Told.{reading_of, framing_by, IsToldOnce, IsToldTwice, HasSites};
@@ -325,14 +329,17 @@ impl<'a, W: Write + Drop> Run<'a, W> {
     }
 
     /// Ends the report of a run in which no file was checked: in a log it is no success.
-    fn end_with_none(&mut self, order: &Order) -> Result<Failure, Failure> {
+    fn end_with_none(&mut self, order: &Order) -> Result<Failure, Failure>
+        ensures { IfOk result (λ failure. failure ≡ Failure.NoFile self.old.others) }
+    {
         let alloc = self.rt.alloc();
+        let others = mem::replace(&mut self.others, Others::new(alloc));
         if self.options.format == Format::Sarif {
             self.log
                 .keep_unread(alloc, first_named(order), "no file was checked")?;
         }
         self.end()?;
-        Ok(Failure::NoFile(mem::replace(&mut self.others, Others::new(alloc))))
+        Ok(Failure::NoFile(others))
     }
 
     /// Judges each path of a list. One that cannot be opened, or read to its end, is told as a file is.
@@ -748,7 +755,7 @@ fn put_summary(
     }
 }
 
-/// How many bytes the paths have, where each is a file.
+/// How many bytes the paths have, where each is a file: as the system says, so that no clause does.
 fn bytes_of(rt: &HostRuntime, paths: &[Vec<u8>]) -> Option<u64> {
     let mut bytes = 0u64;
     for path in paths {
@@ -757,7 +764,7 @@ fn bytes_of(rt: &HostRuntime, paths: &[Vec<u8>]) -> Option<u64> {
     Some(bytes)
 }
 
-/// The size of a file: none for what is no regular one.
+/// The size of a file, as the system says: none for what is no regular one.
 fn file_size(rt: &HostRuntime, name: &[u8]) -> Option<u64> {
     match spell(rt.alloc(), name).and_then(|spelled| spelled.metadata(rt)) {
         Ok(metadata) if metadata.is_file() => Some(metadata.len()),

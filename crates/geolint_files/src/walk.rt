@@ -1,8 +1,8 @@
 //! The files of a path, which is a file or a folder.
 
-ghost use Rattle.std.specs.Prelude.{◌≡◌, IfOk};
+ghost use Rattle.std.specs.Prelude.{◌≡◌, ◌<◌, ◌-◌, ◌^◌, IfOk};
 ghost use Rattle.geolint_files.specs.Told.{framing_by};
-ghost use Rattle.geolint_files.specs.Walk.{ends_in, ends_in_one, framing_of, is_taken, entry_name, separator_after};
+ghost use Rattle.geolint_files.specs.Walk.{ending_of, start_after, ends_in, ends_in_one, framing_of, is_taken, entry_name, separator_after};
 
 use gj_rules::Framing;
 use std::alloc::{AllocError, Global};
@@ -62,8 +62,9 @@ pub struct Others {
 }
 
 impl Others {
-    ghost use Rattle.std.specs.Prelude.{◌≡◌, ◌+◌, [], OnOk};
+    ghost use Rattle.std.specs.Prelude.{◌≡◌, ◌+◌, ◌++◌, [], OnOk};
     ghost use Rattle.std.specs.Io.Iter.{u64_saturate};
+    ghost use Rattle.geolint_files.specs.Walk.{ending_of};
 
     pub fn new(alloc: Global) -> Others
         ensures { (result.count ≡ 0) × (result.ending.items ≡ []) }
@@ -76,7 +77,8 @@ impl Others {
 
     /// One more, of this name.
     pub fn add(&mut self, name: &[u8]) -> Result<(), AllocError>
-        ensures { OnOk result (self.new.count ≡ u64_saturate (self.old.count + 1)) }
+        ensures count { OnOk result (self.new.count ≡ u64_saturate (self.old.count + 1)) }
+        ensures ending { OnOk result (self.old.count ≡ 0 → self.new.ending.items ≡ self.old.ending.items ++ ending_of name.now) }
     {
         if self.count == 0 {
             self.ending.extend_from_slice(ending_of(name))?;
@@ -86,17 +88,27 @@ impl Others {
     }
 }
 
-/// The ending of a path's last name. It is shown in one message alone, so no clause says what it is.
-fn ending_of(path: &[u8]) -> &[u8] {
+/// The ending of a path's last name, with its dot: the whole name where it has none.
+fn ending_of(path: &[u8]) -> &[u8]
+    ensures { result.now ≡ ending_of path.now }
+{
     let mut start = 0;
     for i in 0..path.len() {
-        if path[i] == b'/' {
-            start = i + 1;
-        } else if path[i] == b'.' {
-            start = i;
-        }
+        start = start_after(path[i], i, start);
     }
     path.get(start..).unwrap_or(path)
+}
+
+/// Where the ending begins, as far as the byte at a place.
+fn start_after(byte: u8, place: usize, start: usize) -> usize
+    requires { place < 2 ^ 64 - 1 }
+    ensures { result ≡ start_after byte place start }
+{
+    match byte {
+        b'/' => place + 1,
+        b'.' => place,
+        _ => start,
+    }
 }
 
 /// A name that is still to be looked at.

@@ -1,4 +1,13 @@
-//! The words of the command.
+//! The words of the command. `clap` reads them by the command that is built here, which says itself what they mean: clauses on
+//! its building would repeat it, so `.ci/files` tries each word.
+
+ghost use Rattle.std.specs.Prelude.{◌≡◌, List, ℕ, Option, Some, None, IfErr, IfOk, IsSome, Ok, codes, find, true, false};
+ghost use Rattle.std.specs.Str.{str_eq_ignore_ascii_case};
+ghost use Rattle.clap.specs.Matches.{found_of, first_value, one_text};
+ghost use Rattle.gj_coords.specs.Warnings.{kinds};
+ghost use Rattle.gj_json.specs.Limits.{most};
+ghost use Rattle.gj_rules.specs.declared.records.framing.Framing.{Framing};
+ghost use Rattle.geolint_files.specs.Words.{every_by, format_by, kind_name};
 
 use crate::arguments::to_bytes;
 use clap::error::ErrorKind;
@@ -20,8 +29,6 @@ const MOST_TOLD: u64 = 1000;
 const VERSION: &str = "0.1.0";
 
 const FORMATS: [&str; 5] = ["text", "lines", "json", "github", "sarif"];
-
-const KIND_NAMES: [&str; 9] = ["W1", "W2", "W3", "W4", "W5", "W6", "W7", "W8", "W9"];
 
 const AFTER_HELP: &str = "\
 A PATH is a file, a folder, or - for standard input. With no PATH and no --files-from, standard input is checked.
@@ -314,7 +321,11 @@ fn order_of(alloc: Global, given: &ArgMatches<'_>) -> Result<Result<Order, Strin
 }
 
 /// What is to be explained, or a word that is no code.
-fn explained_in<'a>(given: &ArgMatches<'a>) -> Result<Option<Topic>, &'a str> {
+fn explained_in<'a>(given: &ArgMatches<'a>) -> Result<Option<Topic>, &'a str>
+    ensures unasked { first_value (found_of given.now) (codes "explain") ≡ None → result ≡ Ok None }
+    ensures asked { (word : List ℕ) → first_value (found_of given.now) (codes "explain") ≡ Some word → IfOk result (λ topic. IsSome topic) }
+    ensures wrong { (word : List ℕ) → first_value (found_of given.now) (codes "explain") ≡ Some word → IfErr result (λ wrong. wrong.now ≡ word) }
+{
     match given.get_str("explain") {
         Some(word) => match named(word) {
             Some(topic) => Ok(Some(topic)),
@@ -325,7 +336,9 @@ fn explained_in<'a>(given: &ArgMatches<'a>) -> Result<Option<Topic>, &'a str> {
 }
 
 /// Why what is named is not set apart.
-fn wrong_split(given: &ArgMatches<'_>, paths: &[Vec<u8>], has_list: bool) -> Option<&'static str> {
+fn wrong_split(given: &ArgMatches<'_>, paths: &[Vec<u8>], has_list: bool) -> Option<&'static str>
+    ensures { first_value (found_of given.now) (codes "split") ≡ None → result ≡ None }
+{
     if given.get_str("split").is_none() {
         return None;
     }
@@ -340,7 +353,8 @@ fn wrong_split(given: &ArgMatches<'_>, paths: &[Vec<u8>], has_list: bool) -> Opt
     }
 }
 
-/// An ending with its dot, which may be left out: none for one with no more than a dot, or with a slash.
+/// An ending with its dot, which may be left out: none for one with no more than a dot, or with a slash. To which bytes a word leads
+/// back no clause says.
 fn ending_in(alloc: Global, word: &str) -> Result<Option<Vec<u8>>, AllocError> {
     let bytes = to_bytes(alloc, word)?;
     let mut ending = Vec::new(alloc);
@@ -356,7 +370,12 @@ fn ending_in(alloc: Global, word: &str) -> Result<Option<Vec<u8>>, AllocError> {
 }
 
 /// How files are checked and reported, or a word that is no kind of warning.
-fn options_of<'a>(given: &ArgMatches<'a>) -> Result<Options, &'a str> {
+fn options_of<'a>(given: &ArgMatches<'a>) -> Result<Options, &'a str>
+    ensures format { IfOk result (λ options. options.format ≡ format_by (first_value (found_of given.now) (codes "format"))) }
+    ensures every { IfOk result (λ options. options.every ≡ every_by (first_value (found_of given.now) (codes "every"))) }
+    ensures most { IfOk result (λ options. one_text (found_of given.now) (codes "most") ≡ None → options.most ≡ MOST_TOLD) }
+    ensures limits { IfOk result (λ options. one_text (found_of given.now) (codes "max-bytes") ≡ None → options.limits ≡ most) }
+{
     Ok(Options {
         limits: limits_in(given),
         strict: given.get_flag("strict"),
@@ -371,7 +390,13 @@ fn options_of<'a>(given: &ArgMatches<'a>) -> Result<Options, &'a str> {
 }
 
 /// How the texts of each file are set apart, where the words say it.
-fn framing_in(given: &ArgMatches<'_>) -> Option<Framing> {
+fn framing_in(given: &ArgMatches<'_>) -> Option<Framing>
+    ensures sequence { one_text (found_of given.now) (codes "seq") ≡ Some (codes "true") → result ≡ Some Framing.Sequence }
+    ensures lines { one_text (found_of given.now) (codes "seq") ≡ Some (codes "false")
+        → one_text (found_of given.now) (codes "ndjson") ≡ Some (codes "true") → result ≡ Some Framing.Lines }
+    ensures neither { one_text (found_of given.now) (codes "seq") ≡ Some (codes "false")
+        → one_text (found_of given.now) (codes "ndjson") ≡ Some (codes "false") → result ≡ None }
+{
     if given.get_flag("seq") {
         Some(Framing::Sequence)
     } else if given.get_flag("ndjson") {
@@ -381,7 +406,9 @@ fn framing_in(given: &ArgMatches<'_>) -> Option<Framing> {
     }
 }
 
-fn every_in(given: &ArgMatches<'_>) -> Every {
+fn every_in(given: &ArgMatches<'_>) -> Every
+    ensures { result ≡ every_by (first_value (found_of given.now) (codes "every")) }
+{
     match given.get_str("every") {
         Some("warnings") => Every::Warnings,
         Some(_) => Every::Faults,
@@ -389,14 +416,18 @@ fn every_in(given: &ArgMatches<'_>) -> Every {
     }
 }
 
-fn most_in(given: &ArgMatches<'_>) -> u64 {
+fn most_in(given: &ArgMatches<'_>) -> u64
+    ensures { one_text (found_of given.now) (codes "most") ≡ None → result ≡ MOST_TOLD }
+{
     match given.get_one::<u64>("most") {
         Some(most) => most,
         None => MOST_TOLD,
     }
 }
 
-fn limits_in(given: &ArgMatches<'_>) -> Limits {
+fn limits_in(given: &ArgMatches<'_>) -> Limits
+    ensures { one_text (found_of given.now) (codes "max-bytes") ≡ None → result ≡ most }
+{
     let usual = Limits::usual();
     match given.get_one::<u64>("max-bytes") {
         Some(bytes) => Limits::new(usual.depth(), bytes).unwrap_or(usual),
@@ -404,6 +435,7 @@ fn limits_in(given: &ArgMatches<'_>) -> Limits {
     }
 }
 
+// Which kinds a `Kinds` has been given, no clause of it says.
 fn allowed_in<'a>(given: &ArgMatches<'a>) -> Result<Kinds, &'a str> {
     let mut allowed = Kinds::none();
     for word in given.get_strs("allow").unwrap_or(&[]) {
@@ -416,16 +448,34 @@ fn allowed_in<'a>(given: &ArgMatches<'a>) -> Result<Kinds, &'a str> {
 }
 
 /// The kind of warning of this name, in capitals or not.
-fn kind_named(name: &str) -> Option<Kind> {
-    for (kind, called) in KINDS.iter().zip(KIND_NAMES.iter()) {
-        if name.eq_ignore_ascii_case(called) {
-            return Some(*kind);
-        }
-    }
-    None
+fn kind_named(name: &str) -> Option<Kind>
+    ensures { result ≡ find (λ kind. str_eq_ignore_ascii_case name.now (kind_name kind)) kinds }
+{
+    KINDS
+        .iter()
+        .copied()
+        .find(|kind| name.eq_ignore_ascii_case(kind_name(*kind)))
 }
 
-fn format_in(given: &ArgMatches<'_>) -> Format {
+fn kind_name(kind: Kind) -> &'static str
+    ensures { result.now ≡ kind_name kind }
+{
+    match kind {
+        Kind::W1 => "W1",
+        Kind::W2 => "W2",
+        Kind::W3 => "W3",
+        Kind::W4 => "W4",
+        Kind::W5 => "W5",
+        Kind::W6 => "W6",
+        Kind::W7 => "W7",
+        Kind::W8 => "W8",
+        Kind::W9 => "W9",
+    }
+}
+
+fn format_in(given: &ArgMatches<'_>) -> Format
+    ensures { result ≡ format_by (first_value (found_of given.now) (codes "format")) }
+{
     match given.get_str("format") {
         Some("text") => Format::Text,
         Some("json") => Format::Json,
