@@ -1,11 +1,16 @@
 -- A run that has told lines of the features of its last file.
 use Rattle.std.proofs.Common.{arith, zero, suc, ◌≡◌, ◌<◌, ◌≤◌, ◌+◌, ◌-◌, ◌++◌, ◌∷◌, [], List, ℕ, length, take, get_or, refl, sym, subst, ap, ◌∙◌, append_assoc}
-use Rattle.std.proofs.Common.{append-nil}
+use Rattle.std.proofs.Common.{append-nil, length-append, ◌^◌}
+use Rattle.std.specs.Io.Iter.{u64_saturate}
 use Rattle.std.specs.Prelude.{Bool, map, Option, Some, None, Vec}
 use Rattle.std.specs.declared.alloc.Global.{Global}
 use Rattle.std.specs.Io.KnownBytes.{Appends, Keeps}
 use Rattle.std.proofs.KnownBytes.{Appends-trans, Appends-kept, Keeps-refl}
 use Rattle.std.proofs.lemmas.List.{map-append, take_more, take_all}
+use Rattle.gj_json.specs.Limits.{Allowed}
+use Rattle.gj_rules.specs.declared.records.framing.Framing.{Framing}
+use Rattle.geolint_report.specs.declared.every.cursor.Cursors.{Cursors}
+use Rattle.geolint_report.specs.Cursors.{StandBy}
 use Rattle.geolint_report.specs.declared.every.listing.Asked.{Asked}
 use Rattle.geolint_report.specs.declared.every.listing.Note.{Note}
 use Rattle.geolint_report.specs.declared.every.tally.Tally.{Tally}
@@ -23,9 +28,10 @@ use Rattle.report_forms.specs.FileCounts.{Counts}
 use Rattle.geolint_files.specs.declared.outcome.Outcome.{Outcome}
 use Rattle.geolint_files.specs.declared.run.Run.{Run}
 use Rattle.geolint_files.specs.Outcome.{worst}
-use Rattle.geolint_files.specs.Internal.RunState.{HasTold, TellsFile, TellsLines, SameTold}
+use Rattle.geolint_files.specs.Internal.RunState.{HasTold, TellsFile, TellsLines, ToldFurther, SameTold}
 use Rattle.geolint_files.specs.Listed.{asked_in, asked_by}
-use Rattle.geolint_files.specs.Listed.{IsEntryOf, AreEntriesOf, AreLinesOf, others_of, asked_when}
+use Rattle.geolint_files.specs.Listed.{IsEntryOf, AreEntriesOf, AreLinesOf, others_of, asked_when, asked_after, AreNextBy, AreFurther, joined, most_of, IsPlaced, ArePlacedLines}
+use Rattle.geolint_report.specs.Judged.{framing_in}
 use Rattle.geolint_files.proofs.ToldFiles.{tallies-append, tallies-none}
 use Rattle.geolint_files.specs.Run.{ToldFile, judged, listed, FeatureLine, feature_line, others_line, finding_in, tallies_in, outcome_in, Written, AddsFile}
 use Rattle.geolint_files.specs.Run.{AddsFiles, AddsLine, AddsLines, AddsListed, begun}
@@ -318,3 +324,105 @@ pub more-told-in : {W : Type 0} (contents : W → Option (List ℕ)) (Right : En
 more-told-in contents Right name items notes i d line old middle new same within told is tells =
     more-told contents Right name notes i d line old middle new (subst (λ (ns : List Note). i < length ns) same within) told
     (subst (λ (ns : List Note). IsEntryOf Right name (get_or ns i d) line) same is) tells
+
+-- ---- notes of several readings
+
+AreEntriesOf-then : (Right : Entry → Type 0) (name : List ℕ) (notes more : List Note) (lines others : List FeatureLine)
+    → AreEntriesOf Right name notes lines → AreEntriesOf Right name more others → AreEntriesOf Right name (notes ++ more) (lines ++ others)
+AreEntriesOf-then Right name [] more [] others are then = then
+AreEntriesOf-then Right name [] more (first ∷ rest) others are then = absurd are
+AreEntriesOf-then Right name (one ∷ notes) more [] others are then = absurd are
+AreEntriesOf-then Right name (one ∷ notes) more (first ∷ rest) others (here, are) then =
+    (here, AreEntriesOf-then Right name notes more rest others are then)
+
+pub both-told : {W : Type 0} (contents : W → Option (List ℕ)) (Right : Entry → Type 0) (name : List ℕ) (notes more : List Note) (old middle new : Run W)
+    → (lines : List FeatureLine) × AreEntriesOf Right name notes lines × TellsLines contents lines old middle
+    → (lines : List FeatureLine) × AreEntriesOf Right name more lines × TellsLines contents lines middle new
+    → (lines : List FeatureLine) × AreEntriesOf Right name (notes ++ more) lines × TellsLines contents lines old new
+both-told contents Right name notes more old middle new (lines, are, tells) (others, then, others_told) = (
+  lines ++ others,
+  AreEntriesOf-then Right name notes more lines others are then,
+  TellsLines-then contents lines others old middle new tells others_told,
+)
+
+-- how many others there are, where the notes that are told are counted as far as a u64 goes
+pub others-left : (count told : ℕ) (held more : List Note) → count < 2 ^ 64 → told ≡ u64_saturate (length held + length more)
+    → count - told ≡ count - length (held ++ more)
+others-left count told held more small is = omega (arith, small, is, length-append held more)
+
+pub joined-more : (further : List (List Note)) (notes : List Note) → joined (further ++ notes ∷ []) ≡ joined further ++ notes
+joined-more [] notes = append-nil notes
+joined-more (first ∷ more) notes = ap (λ (ns : List Note). first ++ ns) (joined-more more notes) ∙ sym (append_assoc first (joined more) notes)
+
+-- a further reading more
+pub AreFurther-more : (framing : Option Framing) (asked : Asked) (most : ℕ) (limits : Allowed) (text : Option (List ℕ)) (before : ℕ)
+    (further : List (List Note)) (notes : List Note) → AreFurther framing asked most limits text before further
+    → AreNextBy framing (asked_after asked most (u64_saturate (before + length (joined further)))) limits text notes
+    → AreFurther framing asked most limits text before (further ++ notes ∷ [])
+AreFurther-more framing asked most limits text before [] notes are next =
+    let same : before + 0 ≡ before = omega arith in
+    (subst (λ (n : ℕ). AreNextBy framing (asked_after asked most (u64_saturate n)) limits text notes) same next, tt)
+AreFurther-more framing asked most limits text before (first ∷ more) notes (here, are) next =
+    let same : before + length (first ++ joined more) ≡ before + length first + length (joined more) = omega (arith, length-append first (joined more)) in (
+      here,
+      AreFurther-more framing asked most limits text (before + length first) more notes are
+          (subst (λ (n : ℕ). AreNextBy framing (asked_after asked most (u64_saturate n)) limits text notes) same next),
+    )
+
+-- what is told after some further readings
+pub record IsTold {W : Type 0} (contents : W → Option (List ℕ)) (Right : Entry → Type 0) (name : List ℕ) (framing : Option Framing) (asked : Asked)
+    (most : ℕ) (limits : Allowed) (text : Option (List ℕ)) (held told : ℕ) (old new : Run W) : Type 0 where
+  pub further : List (List Note)
+  pub found : AreFurther framing asked most limits text held further
+  pub count : told ≡ u64_saturate (held + length (joined further))
+  pub lines : List FeatureLine
+  pub are : AreEntriesOf Right name (joined further) lines
+  pub tells : TellsLines contents lines old new
+
+pub IsTold-none : {W : Type 0} (contents : W → Option (List ℕ)) (Right : Entry → Type 0) (name : List ℕ) (framing : Option Framing) (asked : Asked)
+    (most : ℕ) (limits : Allowed) (text : Option (List ℕ)) (held : ℕ) (run : Run W) → held < 2 ^ 64
+    → IsTold contents Right name framing asked most limits text held held run run
+IsTold-none contents Right name framing asked most limits text held run small =
+    let (lines, are, tells) = none-told contents Right name run in
+    record { further = []; found = tt; count = omega (arith, small); lines = lines; are = are; tells = tells }
+
+pub IsTold-more : {W : Type 0} (contents : W → Option (List ℕ)) (Right : Entry → Type 0) (name : List ℕ) (framing : Option Framing) (asked : Asked)
+    (most : ℕ) (limits : Allowed) (text : Option (List ℕ)) (held told last : ℕ) (notes : List Note) (old middle new : Run W)
+    → IsTold contents Right name framing asked most limits text held told old middle
+    → AreNextBy framing (asked_after asked most told) limits text notes → last ≡ length notes
+    → (lines : List FeatureLine) × AreEntriesOf Right name notes lines × TellsLines contents lines middle new
+    → IsTold contents Right name framing asked most limits text held (u64_saturate (told + last)) old new
+IsTold-more contents Right name framing asked most limits text held told last notes old middle new before next count more =
+    let all = joined before.further in
+    let longer = joined-more before.further notes in
+    let (lines, are, tells) = both-told contents Right name all notes old middle new (before.lines, before.are, before.tells) more in
+    let is : told ≡ u64_saturate (held + length all) = before.count in
+    record {
+      further = before.further ++ notes ∷ [];
+      found = AreFurther-more framing asked most limits text held before.further notes before.found
+          (subst (λ (n : ℕ). AreNextBy framing (asked_after asked most n) limits text notes) is next);
+      count = omega (arith, is, count, length-append all notes, ap (λ (ns : List Note). length ns) longer);
+      lines = lines;
+      are = subst (λ (ns : List Note). AreEntriesOf Right name ns lines) (sym longer) are;
+      tells = tells;
+    }
+
+-- the notes that were held, those of further readings, and how many others there are
+pub all-placed : {W : Type 0} (contents : W → Option (List ℕ)) (reading : Reading) (asked : Asked) (most : ℕ) (limits : Allowed) (name : List ℕ)
+    (text : Option (List ℕ)) (held : List Note) (count told : ℕ) (old middle last new : Run W) → count < 2 ^ 64
+    → (lines : List FeatureLine) × AreEntriesOf (IsPlaced (framing_in reading) text) name held lines × TellsLines contents lines old middle
+    → ToldFurther contents reading asked (most_of most) limits name text (length held) told middle last
+    → TellsLines contents (others_of name (count - told)) last new
+    → (lines : List FeatureLine) × ArePlacedLines reading asked most limits name text held count lines × TellsLines contents lines old new
+all-placed contents reading asked most limits name text held count told old middle last new small first (further, found, only, is, more) others =
+    let right = IsPlaced (framing_in reading) text in
+    let all = held ++ joined further in
+    let (lines, are, tells) = all-told contents right name all count old last new (both-told contents right name held (joined further) old middle last first more)
+    (subst (λ (n : ℕ). TellsLines contents (others_of name n) last new) (others-left count told held (joined further) small is) others) in
+    (lines, (further, found, only, are), tells)
+
+-- what stands by one name of a file's bytes, by the other
+pub StandBy-then : (framing : Option Framing) (text now : Option (List ℕ)) (old new : Cursors) → now ≡ text
+    → (StandBy framing now old → StandBy framing now new) → StandBy framing text old → StandBy framing text new
+StandBy-then framing text now old new same then stand =
+    subst (λ (t : Option (List ℕ)). StandBy framing t new) same (then (subst (λ (t : Option (List ℕ)). StandBy framing t old) (sym same) stand))

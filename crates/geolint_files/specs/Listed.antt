@@ -1,5 +1,5 @@
 -- What is told of the features or the records of a file that was read: which notes, and where their places stand.
-use Rattle.std.specs.Prelude.{◌≡◌, ℕ, zero, suc, ◌-◌, List, [], ◌∷◌, ◌++◌, length, Bool, true, false, min, nat_eq, if◌then◌else◌, Option, Some, None, IfSome, ⊤}
+use Rattle.std.specs.Prelude.{◌≡◌, ◌⊎◌, ◌≤◌, ◌^◌, ℕ, zero, suc, ◌+◌, ◌-◌, List, [], ◌∷◌, ◌++◌, length, Bool, true, false, min, nat_eq, if◌then◌else◌, Option, Some, None, IfSome, ⊤}
 use Rattle.std.specs.Io.Iter.{u64_saturate}
 use Rattle.gj_json.specs.Limits.{Allowed}
 use Rattle.gj_rules.specs.declared.records.framing.Framing.{Framing}
@@ -18,14 +18,21 @@ use Rattle.geolint_files.specs.Told.{reading_of, HasSites, IsToldOnce, IsToldTwi
 
 -- ---- what is asked
 
--- how many are told at most, where so many are asked for: 0 asks for all
+-- how many are told at most: 0 asks for all
+abbrev pub most_of : ℕ → ℕ
+most_of most = if nat_eq most 0 then 2 ^ 64 - 1 else most
+
+-- how many of them are held at once
 abbrev pub room_of : ℕ → ℕ
-room_of most = if nat_eq most 0 then 65536 else min most 65536
+room_of most = min (most_of most) 65536
+
+abbrev pub asked_with : Bool → ℕ → Asked
+asked_with with_warnings most = record { with_warnings = with_warnings; skipped = 0; room = room_of most }
 
 abbrev pub asked_by : Every → ℕ → Option Asked
 asked_by Every.Nothing most = None
-asked_by Every.Faults most = Some (record { with_warnings = false; room = room_of most })
-asked_by Every.Warnings most = Some (record { with_warnings = true; room = room_of most })
+asked_by Every.Faults most = Some (asked_with false most)
+asked_by Every.Warnings most = Some (asked_with true most)
 
 abbrev pub asked_in : Options → Option Asked
 asked_in options = asked_by options.every options.most
@@ -84,10 +91,37 @@ IsListedOnce reading asked limits name had failed now_failed file = IsToldOnce r
 abbrev pub IsPlaced : Option Framing → Option (List ℕ) → Entry → Type 0
 IsPlaced framing text entry = IfSome entry.mark (λ mark. IsMarkBy framing text entry.note.told.place mark)
 
+-- a further reading found these notes, or could not be
+abbrev pub AreNextBy : Option Framing → Asked → Allowed → Option (List ℕ) → List Note → Type 0
+AreNextBy framing asked limits text notes = (notes ≡ []) ⊎ ((count : ℕ) × (tally : Tally) × AreNotesBy framing asked notes count tally limits text)
+
+-- after so many, of so many at most
+abbrev pub asked_after : Asked → ℕ → ℕ → Asked
+asked_after asked most told = record asked { skipped = told; room = min asked.room (most - told) }
+
+-- each further reading found the notes that follow those before it, of which there are so many before the first
+abbrev pub AreFurther : Option Framing → Asked → ℕ → Allowed → Option (List ℕ) → ℕ → List (List Note) → Type 0
+AreFurther framing asked most limits text before [] = ⊤
+AreFurther framing asked most limits text before (notes ∷ more) =
+    AreNextBy framing (asked_after asked most (u64_saturate before)) limits text notes
+    × AreFurther framing asked most limits text (before + length notes) more
+
+abbrev pub joined : List (List Note) → List Note
+joined [] = []
+joined (notes ∷ more) = notes ++ joined more
+
+-- the lines of the notes that the first reading held, and where more are asked for of those that further readings of these bytes found; and
+-- behind them how many others there are
+abbrev pub ArePlacedLines : Reading → Asked → ℕ → Allowed → List ℕ → Option (List ℕ) → List Note → ℕ → List FeatureLine → Type 0
+ArePlacedLines reading asked most limits name text notes count lines =
+    (further : List (List Note)) × AreFurther (framing_in reading) asked (most_of most) limits text (length notes) further
+    × (most_of most ≤ asked.room → further ≡ []) × AreLinesOf (IsPlaced (framing_in reading) text) name (notes ++ joined further) count lines
+
 -- `text` are the bytes of the source from the first one on
-abbrev pub IsListedTwice : Reading → Asked → Allowed → List ℕ → Option (List ℕ) → Option (List ℕ) → (failed now_failed : ℕ) → ToldFile → Type 0
-IsListedTwice reading asked limits name had text failed now_failed (listed report lines tally) =
+abbrev pub IsListedTwice : Reading → Asked → ℕ → Allowed → List ℕ → Option (List ℕ) → Option (List ℕ) → (failed now_failed : ℕ) → ToldFile → Type 0
+IsListedTwice reading asked most limits name had text failed now_failed (listed report lines tally) =
     (report.name.now ≡ name) × ((left : Option (List ℕ)) × Finds reading limits had left report.finding)
     × ((middle : ℕ) × HasSites reading limits text failed middle report)
-    × AreListed (IsPlaced (framing_in reading) text) (framing_in reading) asked limits name had lines tally
-IsListedTwice reading asked limits name had text failed now_failed file = IsToldTwice reading limits name had text failed now_failed file
+    × ((notes : List Note) × (count : ℕ) × AreNotesBy (framing_in reading) asked notes count tally limits had
+    × ArePlacedLines reading asked most limits name text notes count lines)
+IsListedTwice reading asked most limits name had text failed now_failed file = IsToldTwice reading limits name had text failed now_failed file

@@ -1,7 +1,8 @@
 -- Lemmas on the notes that are kept.
-use Rattle.std.proofs.Common.{arith, refl, true, false, ◌≡◌, ◌<◌, ◌≤◌, ℕ, ◌+◌, ◌++◌, ◌∷◌, [], List, Bool, ap, sym, ◌∙◌, subst, length, take, append-nil}
+use Rattle.std.proofs.Common.{arith, refl, inl, inr, ◌⊎◌, true, false, ◌≡◌, ◌<◌, ◌≤◌, ℕ, ◌+◌, ◌^◌, ◌++◌, ◌∷◌, [], List, Bool, ap, sym, ◌∙◌, subst, length, take, drop, append-nil}
 use Rattle.std.proofs.Common.{length-append, get_or}
-use Rattle.std.proofs.lemmas.List.{length-take, take-append-le, take_all, take_more}
+use Rattle.std.proofs.lemmas.Bool.{cases_lt}
+use Rattle.std.proofs.lemmas.List.{length-take, drop-append-le, drop_all, take-append-le, take_all, take_more}
 use Rattle.std.proofs.lemmas.List.Concat.{flat_map-append}
 use Rattle.std.specs.Io.Iter.{u64_saturate}
 use Rattle.std.specs.Io.KnownBytes.{Consumes, IsAtEnd}
@@ -36,6 +37,35 @@ pub take-full : {A : Type 0} (room : ℕ) (all : List A) (x : A) → room ≤ le
 take-full room all x none =
     let many : room ≤ length all = omega (arith, none, length-take room all) in
     take-append-le room all (x ∷ []) many
+
+-- the same, where so many are passed over
+window-full : {A : Type 0} (skipped room : ℕ) (all : List A) (x : A) → skipped ≤ length all → room ≤ length (take room (drop skipped all))
+    → take room (drop skipped (all ++ x ∷ [])) ≡ take room (drop skipped all)
+window-full {A = A} skipped room all x within none =
+    ap (λ (ys : List A). take room ys) (drop-append-le skipped all (x ∷ []) within) ∙ take-full room (drop skipped all) x none
+
+-- it is passed over itself
+window-before : {A : Type 0} (skipped room : ℕ) (all : List A) (x : A) → length all < skipped
+    → take room (drop skipped (all ++ x ∷ [])) ≡ take room (drop skipped all)
+window-before {A = A} skipped room all x before =
+    let longer : length (all ++ x ∷ []) ≡ length all + 1 = length-append all (x ∷ []) in
+    ap (λ (ys : List A). take room ys)
+    (drop_all skipped (all ++ x ∷ []) (omega (arith, before, longer)) ∙ sym (drop_all skipped all (omega (arith, before))))
+
+-- one that is not kept changes nothing
+pub window-still : {A : Type 0} (skipped room count : ℕ) (all : List A) (x : A) → skipped < 2 ^ 64 → count ≡ u64_saturate (length all)
+    → ((skipped ≤ count) × (length (take room (drop skipped all)) < room) → ⊥)
+    → take room (drop skipped (all ++ x ∷ [])) ≡ take room (drop skipped all)
+window-still skipped room count all x small counted none =
+    elim (cases_lt (length all) skipped) [
+      | inl before ↦ window-before skipped room all x before
+      | inr within ↦ by-room within (cases_lt (length (take room (drop skipped all))) room)
+    ]
+  where
+    by-room : skipped ≤ length all → (length (take room (drop skipped all)) < room) ⊎ (room ≤ length (take room (drop skipped all)))
+        → take room (drop skipped (all ++ x ∷ [])) ≡ take room (drop skipped all)
+    by-room within (inl some) = absurd (none (omega (arith, small, counted, within), some))
+    by-room within (inr full) = window-full skipped room all x within full
 
 -- the notes of one feature more
 pub notes_of-more : (with_warnings : Bool) (features : List Feature) (feature : Feature)

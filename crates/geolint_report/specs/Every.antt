@@ -88,7 +88,7 @@ notes_of_records with_warnings records = flat_map (record_notes with_warnings) r
 pub record Keeps (listing : Listing) (all : List Note) : Type 0 where
   pub count : listing.count ≡ u64_saturate (length all)
   pub tally : Tallies listing.tally all
-  pub notes : listing.has_failed ≡ false → listing.notes.items ≡ take listing.asked.room all
+  pub notes : listing.has_failed ≡ false → listing.notes.items ≡ take listing.asked.room (drop listing.asked.skipped all)
 
 -- and it counted so many features or records
 pub record KeepsOf (listing : Listing) (all : List Note) (items : ℕ) : Type 0 where
@@ -124,10 +124,10 @@ abbrev pub ListsFor : Option Framing → Finding → Allowed → Option (List �
 ListsFor framing (Finding.Text (NotJson fault)) limits had listing = ⊤
 ListsFor framing finding limits had listing = ListsBy framing limits had listing
 
--- ---- what is told of a file: the first notes, how many others there are, and what is counted
+-- ---- what is told of a file: the first notes, or those after so many, how many there are, and what is counted
 
 pub record AreFirst (asked : Asked) (notes : List Note) (count : ℕ) (all : List Note) : Type 0 where
-  pub first : notes ≡ take asked.room all
+  pub first : notes ≡ take asked.room (drop asked.skipped all)
   pub count_is : count ≡ u64_saturate (length all)
 
 -- of so many features or records, all of whose notes these are

@@ -1,6 +1,7 @@
 //! What is found of each feature or record of a file, and where its places stand.
 
 pub mod cursor;
+pub mod further;
 pub mod id;
 pub mod listing;
 pub mod reading;

@@ -1,10 +1,14 @@
 //! What a file looks like: the bytes that a hint goes by are looked at once more, by their places.
 
-use crate::judge::Finding;
+ghost use Rattle.std.specs.Prelude.{◌≡◌};
+ghost use Rattle.gj_rules.specs.Linter.{limits_of};
+
+use crate::every::cursor::lesser;
+use crate::judge::{Finding, PIECE};
 use crate::source::Rewind;
 use gj_coords::{Fault, Kind, Rule};
 use gj_hints::{Clues, Hint, Wrong, hint};
-use gj_json::{Cause, JsonFault};
+use gj_json::{Cause, JsonFault, Limits};
 use gj_rules::{Linter, SeqVerdict, Verdict};
 
 /// How many of the first bytes of a file are looked at.
@@ -39,6 +43,38 @@ pub fn find_hint<S: Rewind>(finding: &Finding, linter: &Linter, source: &S) -> O
         after: &around[back..count],
     };
     hint(symptom.wrong, &clues)
+}
+
+/// Feeds a linter the bytes before the one that refuses a text, where another linter has read them: a hint depends on what is
+/// open there. They are looked at once more. What a look gives no clause says, nor what the linter then stands for.
+pub fn feed_before_fault<S: Rewind>(
+    finding: &Finding,
+    limits: Limits,
+    linter: &mut Linter,
+    source: &S,
+)
+    ensures { limits_of linter.new ≡ limits }
+{
+    let _left = linter.finish_and_begin(limits);
+    if let Finding::Text(Verdict::NotJson(fault)) = finding {
+        feed_before(fault.place, linter, source);
+    }
+}
+
+fn feed_before<S: Rewind>(place: u64, linter: &mut Linter, source: &S)
+    ensures { limits_of linter.new ≡ limits_of linter.old }
+{
+    let mut piece = [0; PIECE];
+    let mut fed = 0;
+    while fed < place {
+        let count = source.peek(fed, &mut piece);
+        if count == 0 {
+            return;
+        }
+        let taken = lesser(count, place - fed);
+        let _ = linter.feed(&piece[..taken]);
+        fed += taken as u64;
+    }
 }
 
 /// What is wrong, as far as a hint depends on it.

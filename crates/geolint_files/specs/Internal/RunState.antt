@@ -1,13 +1,20 @@
 -- Which files a run has told.
-use Rattle.std.specs.Prelude.{◌≡◌, ℕ, true, List, [], ◌∷◌, ◌++◌, map, Option}
+use Rattle.std.specs.Prelude.{◌≡◌, ◌≤◌, ◌+◌, ℕ, true, List, [], ◌∷◌, ◌++◌, length, map, Option}
+use Rattle.std.specs.Io.Iter.{u64_saturate}
 use Rattle.std.specs.Io.KnownBytes.{Appends, Keeps}
+use Rattle.gj_json.specs.Limits.{Allowed}
+use Rattle.geolint_report.specs.declared.every.listing.Asked.{Asked}
+use Rattle.geolint_report.specs.declared.every.listing.Note.{Note}
 use Rattle.geolint_report.specs.declared.every.tally.Tally.{Tally}
+use Rattle.geolint_report.specs.declared.judge.Reading.{Reading}
 use Rattle.geolint_report.specs.declared.report.Report.{Report}
+use Rattle.geolint_report.specs.Judged.{framing_in}
 use Rattle.geolint_report.specs.Tallies.{IsTotal}
 use Rattle.report_forms.specs.declared.formats.lines.Style.{Style}
 use Rattle.report_forms.specs.declared.options.Options.{Options}
 use Rattle.report_forms.specs.FileCounts.{Counts}
 use Rattle.geolint_files.specs.declared.run.Run.{Run}
+use Rattle.geolint_files.specs.Listed.{AreEntriesOf, AreFurther, IsPlaced, joined}
 use Rattle.geolint_files.specs.Outcome.{worst}
 use Rattle.geolint_files.specs.Run.{ToldFile, listed, FeatureLine, finding_in, tallies_in, worst_of, Written, AddsFiles, begun}
 
@@ -46,6 +53,13 @@ pub record TellsLines {W : Type 0} (contents : W → Option (List ℕ)) (lines :
   pub tells : (held : Option (List ℕ)) (options : Options) (style : Style) (files : List ToldFile) (report : Report) (before : List FeatureLine)
       (tally : Tally) → HasTold contents held options style (files ++ listed report before tally ∷ []) old
       → HasTold contents held options style (files ++ listed report (before ++ lines) tally ∷ []) new
+
+-- after so many notes a call told those that further readings of these bytes found
+abbrev pub ToldFurther : {W : Type 0} → (W → Option (List ℕ)) → Reading → Asked → ℕ → Allowed → List ℕ → Option (List ℕ) → ℕ → ℕ → Run W → Run W → Type 0
+ToldFurther contents reading asked most limits name text held told old new =
+    (further : List (List Note)) × AreFurther (framing_in reading) asked most limits text held further × (most ≤ asked.room → further ≡ [])
+    × (told ≡ u64_saturate (held + length (joined further)))
+    × ((lines : List FeatureLine) × AreEntriesOf (IsPlaced (framing_in reading) text) name (joined further) lines × TellsLines contents lines old new)
 
 -- it told some more, or none
 pub record TellsFiles {W : Type 0} (contents : W → Option (List ℕ)) (old new : Run W) : Type 0 where

@@ -2,19 +2,21 @@
 ghost use Rattle.std.specs.Prelude.{◌≡◌, ◌-◌, ℕ, List, length, IfSome, Option, None, true, false};
 ghost use Rattle.gj_rules.specs.declared.records.framing.Framing.{Framing};
 ghost use Rattle.geolint_report.specs.Texts.{is_cause};
-ghost use Rattle.geolint_files.specs.Listed.{room_of};
+ghost use Rattle.geolint_files.specs.Listed.{room_of, most_of, asked_with, asked_after};
 ghost use Rattle.geolint_report.specs.Cursors.{StandBy};
 ghost use Rattle.geolint_report.specs.Marks.{IsMarkBy};
 
 use crate::run::{Failure, Run};
 use geolint_report::every::cursor::{Cursors, Mark};
+use geolint_report::every::further::read_further;
 use geolint_report::every::id::Id;
 use geolint_report::every::listing::{Asked, Item, Note, Notes, notes_for};
 use geolint_report::every::reading::judge_every;
+use geolint_report::hints::feed_before_fault;
 use geolint_report::judge::{Finding, Reading};
 use geolint_report::source::{Rewind, Source};
 use geolint_report::texts::Code;
-use gj_rules::Framing;
+use gj_json::Limits;
 use report_forms::every::entry::Entry;
 use report_forms::every::{github, json, lines, sarif, text};
 use report_forms::options::{Every, Format};
@@ -24,21 +26,47 @@ use std::io::Write;
 /// The most notes that are held at once.
 const MOST_HELD: u64 = 65_536;
 
-/// How many notes are told at most, where so many are asked for.
+/// What is asked where so many notes are told at most: 0 asks for all.
+fn asked_with(with_warnings: bool, most: u64) -> Asked
+    ensures { result ≡ asked_with with_warnings most }
+{
+    Asked {
+        with_warnings,
+        skipped: 0,
+        room: room_of(most),
+    }
+}
+
+/// How many notes are held at once, where so many are told at most.
 fn room_of(most: u64) -> u64
     ensures { result ≡ room_of most }
 {
-    if most == 0 {
-        MOST_HELD
-    } else {
-        most.min(MOST_HELD)
+    most_of(most).min(MOST_HELD)
+}
+
+/// How many notes are told at most: 0 asks for all.
+fn most_of(most: u64) -> u64
+    ensures { result ≡ most_of most }
+{
+    if most == 0 { u64::MAX } else { most }
+}
+
+/// What is asked of a further reading, where so many notes are told of so many at most.
+fn asked_after(asked: Asked, most: u64, told: u64) -> Asked
+    ensures { result ≡ asked_after asked most told }
+{
+    Asked {
+        with_warnings: asked.with_warnings,
+        skipped: told,
+        room: asked.room.min(most.saturating_sub(told)),
     }
 }
 
 impl<'a, W: Write + Drop> Run<'a, W> {
-    ghost use Rattle.std.specs.Prelude.{◌≡◌, ◌-◌, ◌∷◌, [], ℕ, List, Option, Some, None, length, OnOk};
+    ghost use Rattle.std.specs.Prelude.{◌≡◌, ◌-◌, ◌∷◌, [], ℕ, List, Option, Some, None, length, IfOk, OnOk};
     ghost use Rattle.gj_rules.specs.declared.records.framing.Framing.{Framing};
     ghost use Rattle.report_forms.specs.declared.every.entry.Entry.{Entry};
+    ghost use Rattle.geolint_report.specs.declared.every.listing.Note.{Note};
     ghost use Rattle.geolint_report.specs.declared.judge.Finding.{Finding};
     ghost use Rattle.report_forms.specs.declared.options.Every.{Every};
     ghost use Rattle.geolint_report.specs.declared.report.Report.{Report};
@@ -46,9 +74,10 @@ impl<'a, W: Write + Drop> Run<'a, W> {
     ghost use Rattle.geolint_report.specs.Judged.{framing_in};
     ghost use Rattle.geolint_files.specs.Told.{HasSites, reading_of};
     ghost use Rattle.geolint_report.specs.Cursors.{StandBy};
-    ghost use Rattle.geolint_files.specs.Listed.{asked_in, asked_for, AreLinesOf, others_of, IsUnplaced, IsPlaced, IsListedOnce, IsListedTwice};
+    ghost use Rattle.geolint_files.specs.Listed.{asked_in, asked_for, AreLinesOf, AreEntriesOf, others_of, IsUnplaced, IsPlaced, IsListedOnce, IsListedTwice};
+    ghost use Rattle.geolint_files.specs.Listed.{ArePlacedLines, AreNextBy};
     ghost use Rattle.report_forms.specs.Forms.Features.{TellsEntry, TellsMore, first_behind};
-    ghost use Rattle.geolint_files.specs.Internal.RunState.{TellsFile, TellsLines, SameTold};
+    ghost use Rattle.geolint_files.specs.Internal.RunState.{TellsFile, TellsLines, ToldFurther, SameTold};
     ghost use Rattle.geolint_files.specs.Run.{ToldFile, FeatureLine, feature_line, others_line, listed};
 
     /// What is asked of the features or the records of a file of this name.
@@ -64,17 +93,11 @@ impl<'a, W: Write + Drop> Run<'a, W> {
     fn asked(&self) -> Option<Asked>
         ensures { result ≡ asked_in self.now.options }
     {
-        let room = room_of(self.options.most);
+        let most = self.options.most;
         match self.options.every {
             Every::Nothing => None,
-            Every::Faults => Some(Asked {
-                with_warnings: false,
-                room,
-            }),
-            Every::Warnings => Some(Asked {
-                with_warnings: true,
-                room,
-            }),
+            Every::Faults => Some(asked_with(false, most)),
+            Every::Warnings => Some(asked_with(true, most)),
         }
     }
 
@@ -136,7 +159,7 @@ impl<'a, W: Write + Drop> Run<'a, W> {
         for note in &notes.notes {
             self.tell_note(name, *note, None, b"")?;
         }
-        self.tell_others(name, notes)
+        self.tell_others(name, others(notes.count, notes.notes.len() as u64))
     }
 
     /// Tells what a source has, and reads it again for the lines and the paths of its features or records, and the `id`s of its features.
@@ -148,7 +171,7 @@ impl<'a, W: Write + Drop> Run<'a, W> {
     ) -> Result<(), Failure>
         requires { asked_for self.now.options name.now ≡ Some asked }
         ensures { OnOk result ((file : ToldFile)
-            × IsListedTwice (reading_of self.old.options name.now) asked self.old.options.limits name.now (S.remaining source.old) (S.text source.old)
+            × IsListedTwice (reading_of self.old.options name.now) asked self.old.options.most self.old.options.limits name.now (S.remaining source.old) (S.text source.old)
             (S.failed_reads source.old) (S.failed_reads source.new) file
             × TellsFile W.contents file self.old self.new) }
     {
@@ -163,11 +186,28 @@ impl<'a, W: Write + Drop> Run<'a, W> {
             &mut self.progress,
         ) {
             Ok(found) => match notes_for(found.0, found.1, asked)? {
-                Some(notes) => self.list_placed(name, found.0, source, reading, &notes),
-                None => self.tell_found(name, found.0, source, reading),
+                Some(notes) => self.list_placed(name, found.0, source, reading, asked, &notes),
+                None => self.tell_refused(name, found.0, source, reading),
             },
             Err(error) => self.tell_unread(name, &error),
         }
+    }
+
+    /// Tells a text that is refused. The linter of the run is fed what comes before, since the hint depends on it.
+    fn tell_refused<S: Rewind>(
+        &mut self,
+        name: &[u8],
+        finding: Finding,
+        source: &mut S,
+        reading: Reading,
+    ) -> Result<(), Failure>
+        ensures text { S.text source.new ≡ S.text source.old }
+        ensures told { OnOk result ((report : Report) × (report.name.now ≡ name.now) × (report.finding ≡ finding)
+            × HasSites reading self.old.options.limits (S.text source.old) (S.failed_reads source.old) (S.failed_reads source.new) report
+            × TellsFile W.contents (judged report) self.old self.new) }
+    {
+        feed_before_fault(&finding, self.options.limits, self.linter, source);
+        self.tell_found(name, finding, source, reading)
     }
 
     /// Tells a file that was judged, and then notes, for whose places the source is read again.
@@ -177,36 +217,136 @@ impl<'a, W: Write + Drop> Run<'a, W> {
         finding: Finding,
         source: &mut S,
         reading: Reading,
+        asked: Asked,
         notes: &Notes,
     ) -> Result<(), Failure>
         ensures { (self.old.options.every ≡ Every.Nothing → ⊥) → OnOk result ((report : Report) × (report.name.now ≡ name.now) × (report.finding ≡ finding)
             × ((middle : ℕ) × HasSites reading self.old.options.limits (S.text source.old) (S.failed_reads source.old) middle report)
-            × ((lines : List FeatureLine) × AreLinesOf (IsPlaced (framing_in reading) (S.text source.old)) name.now notes.now.notes.items notes.now.count lines
+            × ((lines : List FeatureLine) × ArePlacedLines reading asked self.old.options.most self.old.options.limits name.now (S.text source.old) notes.now.notes.items notes.now.count lines
             × TellsFile W.contents (listed report lines notes.now.tally) self.old self.new)) }
     {
+        let (limits, most) = (self.options.limits, self.options.most);
         self.tell_found(name, finding, source, reading)?;
         self.tally.add(&notes.tally);
-        self.tell_placed(name, source, reading.framing(), notes)
+        self.tell_placed(name, source, limits, reading, asked, most, notes)
     }
 
-    /// Tells notes, each with its line, its path and its `id`: without them where a read fails.
+    /// Tells notes, each with its line, its path and its `id`: without them where a read fails. Where more are asked for than are
+    /// held, those after them follow.
     #[inline(never)]
     fn tell_placed<S: Rewind>(
         &mut self,
         name: &[u8],
         source: &mut S,
-        framing: Option<Framing>,
+        limits: Limits,
+        reading: Reading,
+        asked: Asked,
+        most: u64,
         notes: &Notes,
     ) -> Result<(), Failure>
         ensures { OnOk result
-            ((lines : List FeatureLine) × AreLinesOf (IsPlaced framing (S.text source.old)) name.now notes.now.notes.items notes.now.count lines
+            ((lines : List FeatureLine) × ArePlacedLines reading asked most limits name.now (S.text source.old) notes.now.notes.items notes.now.count lines
             × TellsLines W.contents lines self.old self.new) }
     {
-        let mut cursors = Cursors::new(self.options.limits, framing);
-        for note in &notes.notes {
-            self.tell_at(name, note, &mut cursors, source)?;
+        let mut cursors = Cursors::new(limits, reading.framing());
+        self.tell_notes(name, notes.notes.as_slice(), &mut cursors, source)?;
+        let held = notes.notes.len() as u64;
+        let told = self.tell_further(
+            name,
+            source,
+            limits,
+            reading,
+            asked,
+            most_of(most),
+            held,
+            &mut cursors,
+        )?;
+        self.tell_others(name, others(notes.count, told))
+    }
+
+    /// Tells the notes after so many, up to so many in all: each further reading finds as many as are held at once. It answers how
+    /// many notes are told then.
+    fn tell_further<S: Rewind>(
+        &mut self,
+        name: &[u8],
+        source: &mut S,
+        limits: Limits,
+        reading: Reading,
+        asked: Asked,
+        most: u64,
+        held: u64,
+        cursors: &mut Cursors,
+    ) -> Result<u64, Failure>
+        ensures { StandBy (framing_in reading) (S.text source.old) cursors.old
+            → IfOk result (λ told. ToldFurther W.contents reading asked most limits name.now (S.text source.old) held told self.old self.new) }
+    {
+        if most <= asked.room {
+            return Ok(held);
         }
-        self.tell_others(name, notes)
+        let mut told = held;
+        let mut last = held;
+        for _ in 0..u64::MAX {
+            if last < asked.room || told >= most {
+                break;
+            }
+            let next = asked_after(asked, most, told);
+            last = self.tell_next(name, source, limits, reading, next, cursors)?;
+            told = told.saturating_add(last);
+        }
+        Ok(told)
+    }
+
+    /// Reads a source again, and tells the notes that are asked for: how many they are.
+    fn tell_next<S: Rewind>(
+        &mut self,
+        name: &[u8],
+        source: &mut S,
+        limits: Limits,
+        reading: Reading,
+        asked: Asked,
+        cursors: &mut Cursors,
+    ) -> Result<u64, Failure>
+        ensures stand { (framing : Option Framing) → StandBy framing (S.text source.old) cursors.old → StandBy framing (S.text source.old) cursors.new }
+        ensures text { S.text source.new ≡ S.text source.old }
+        ensures told { StandBy (framing_in reading) (S.text source.old) cursors.old → IfOk result (λ count. (notes : List Note)
+            × AreNextBy (framing_in reading) asked limits (S.text source.old) notes × (count ≡ length notes)
+            × ((lines : List FeatureLine) × AreEntriesOf (IsPlaced (framing_in reading) (S.text source.old)) name.now notes lines
+            × TellsLines W.contents lines self.old self.new)) }
+    {
+        match read_further(
+            self.rt.alloc(),
+            source,
+            limits,
+            reading,
+            asked,
+            &mut self.progress,
+        )? {
+            Some(notes) => {
+                self.tell_notes(name, notes.notes.as_slice(), cursors, source)?;
+                Ok(notes.notes.len() as u64)
+            }
+            None => Ok(0),
+        }
+    }
+
+    /// Tells notes, each with its line, its path and its `id`.
+    fn tell_notes<S: Rewind>(
+        &mut self,
+        name: &[u8],
+        notes: &[Note],
+        cursors: &mut Cursors,
+        source: &mut S,
+    ) -> Result<(), Failure>
+        ensures stand { (framing : Option Framing) → StandBy framing (S.text source.old) cursors.old → StandBy framing (S.text source.old) cursors.new }
+        ensures text { S.text source.new ≡ S.text source.old }
+        ensures told { (framing : Option Framing) → StandBy framing (S.text source.old) cursors.old → OnOk result
+            ((lines : List FeatureLine) × AreEntriesOf (IsPlaced framing (S.text source.old)) name.now notes.now lines
+            × TellsLines W.contents lines self.old self.new) }
+    {
+        for note in notes {
+            self.tell_at(name, note, cursors, source)?;
+        }
+        Ok(())
     }
 
     fn tell_at<S: Rewind>(
@@ -270,10 +410,9 @@ impl<'a, W: Write + Drop> Run<'a, W> {
     }
 
     /// Tells how many notes are not told, where there are some.
-    fn tell_others(&mut self, name: &[u8], notes: &Notes) -> Result<(), Failure>
-        ensures { OnOk result (TellsLines W.contents (others_of name.now (notes.now.count - length notes.now.notes.items)) self.old self.new) }
+    fn tell_others(&mut self, name: &[u8], count: u64) -> Result<(), Failure>
+        ensures { OnOk result (TellsLines W.contents (others_of name.now count) self.old self.new) }
     {
-        let count = others(notes);
         if count == 0 {
             self.show()
         } else {
@@ -307,11 +446,11 @@ impl<'a, W: Write + Drop> Run<'a, W> {
     }
 }
 
-/// How many notes there are beside those that are kept.
-fn others(notes: &Notes) -> u64
-    ensures { result ≡ notes.now.count - length notes.now.notes.items }
+/// How many of so many notes are not told.
+fn others(count: u64, told: u64) -> u64
+    ensures { result ≡ count - told }
 {
-    notes.count.saturating_sub(notes.notes.len() as u64)
+    count.saturating_sub(told)
 }
 
 /// Where a place stands: nothing where a read fails.

@@ -247,7 +247,7 @@ impl Cursor {
 }
 
 /// The lesser of a count of bytes and what is left to a place.
-fn lesser(count: usize, left: u64) -> usize
+pub(crate) fn lesser(count: usize, left: u64) -> usize
     ensures { result ≡ min count left }
 {
     if left < count as u64 {

@@ -65,8 +65,23 @@ pub struct Note {
 pub struct Asked {
     /// The warnings of those without a fault are reported too.
     pub with_warnings: bool,
+    /// How many notes are passed over before the first one that is kept.
+    pub skipped: u64,
     /// How many notes are kept at most.
     pub room: u64,
+}
+
+impl Asked {
+    ghost use Rattle.std.specs.Prelude.{◌<◌, ◌≤◌, ◌^◌, ◌↔◌, IsTrue};
+
+    /// Whether a note is kept that comes after so many, of which so many are kept.
+    fn keeps(self, count: u64, kept: u64) -> bool
+        ensures keeps { IsTrue result ↔ ((self.skipped ≤ count) × (kept < self.room)) }
+        // as each u64 is
+        ensures small { self.skipped < 2 ^ 64 }
+    {
+        count >= self.skipped && kept < self.room
+    }
 }
 
 /// What is reported of the features or the records so far.
@@ -110,7 +125,7 @@ pub fn notes_for(
 }
 
 impl Listing {
-    ghost use Rattle.std.specs.Prelude.{◌≡◌, ◌+◌, ◌++◌, ◌∷◌, [], List, IfOk, take, true, false};
+    ghost use Rattle.std.specs.Prelude.{◌≡◌, ◌+◌, ◌++◌, ◌∷◌, [], List, IfOk, length, take, drop, true, false};
     ghost use Rattle.std.specs.Io.Iter.{u64_saturate};
     ghost use Rattle.geolint_report.specs.declared.every.listing.Note.{Note};
     ghost use Rattle.geolint_report.specs.Every.{Keeps, AreFirst, note_of, fault_note, refusal_note, warning_notes, kind_notes, record_notes};
@@ -164,15 +179,16 @@ impl Listing {
         self.tally.add_note(note);
     }
 
-    /// Keeps a note, where there is room.
+    /// Keeps a note, where it is not passed over and there is room.
     fn keep_within(&mut self, note: Note)
-        ensures kept { (all : List Note) → (self.old.has_failed ≡ false → self.old.notes.items ≡ take self.old.asked.room all)
-            → self.new.has_failed ≡ false → self.new.notes.items ≡ take self.old.asked.room (all ++ note ∷ []) }
+        ensures kept { (all : List Note) → self.old.count ≡ u64_saturate (length all)
+            → (self.old.has_failed ≡ false → self.old.notes.items ≡ take self.old.asked.room (drop self.old.asked.skipped all))
+            → self.new.has_failed ≡ false → self.new.notes.items ≡ take self.old.asked.room (drop self.old.asked.skipped (all ++ note ∷ [])) }
         ensures asked { self.new.asked ≡ self.old.asked }
         ensures tally { self.new.tally ≡ self.old.tally }
         ensures count { self.new.count ≡ self.old.count }
     {
-        if (self.notes.len() as u64) < self.asked.room {
+        if self.asked.keeps(self.count, self.notes.len() as u64) {
             self.keep(note);
         }
     }

@@ -1,22 +1,19 @@
 use Rattle.std.proofs.Common.{refl, subst, List, ℕ}
 use Rattle.std.specs.Prelude.{Option}
 use Rattle.std.proofs.lemmas.Result.{on_ok_weaker}
-use Rattle.gj_rules.specs.declared.records.framing.Framing.{Framing}
-use Rattle.geolint_report.specs.Judged.{framing_in}
-use Rattle.geolint_files.specs.Listed.{AreLinesOf, IsPlaced}
+use Rattle.geolint_files.specs.Listed.{ArePlacedLines}
 use Rattle.geolint_files.proofs.ListedFiles.{TellsFile-listed}
 use Rattle.geolint_files.proofs.run.Run.list_placed.Goals as goal
 
 pub returns : goal.returns
 returns g c = λ asked.
     let notes = c.args.notes.now in
+    let limits = c.args.self.now.options.limits in
     let (report, name, finding, sites, tells) = c.in_ok-tell_found.ensures.told in
     on_ok_weaker c.tell_placed.result (λ told.
     let (lines, are, more) = told in
-    let framed = subst (λ (framing : Option Framing). AreLinesOf
-    (IsPlaced framing (g.S.Source.text c.tell_found.new.source)) c.args.name.now notes.notes.items notes.count lines) c.framing.ensures are in
-    let placed = subst (λ (text : Option (List ℕ)). AreLinesOf (IsPlaced (framing_in c.args.reading) text) c.args.name.now notes.notes.items notes.count lines)
-    c.tell_found.ensures.text framed in (
+    let placed = subst (λ (text : Option (List ℕ)). ArePlacedLines c.args.reading c.args.asked c.args.self.now.options.most limits c.args.name.now text notes.notes.items notes.count lines)
+    c.tell_found.ensures.text are in (
       report,
       name,
       finding,

@@ -5,7 +5,7 @@ use Rattle.geolint_report.specs.declared.judge.Finding.{Finding}
 use Rattle.geolint_report.specs.declared.judge.Reading.{Reading}
 use Rattle.geolint_files.specs.Listed.{asked_in}
 use Rattle.geolint_report.specs.Judged.{Finds, framing_in}
-use Rattle.geolint_files.specs.Listed.{AreLinesOf, IsPlaced, IsListedTwice}
+use Rattle.geolint_files.specs.Listed.{ArePlacedLines, IsListedTwice}
 use Rattle.geolint_files.specs.Run.{judged, not_read, listed}
 use Rattle.geolint_files.specs.Told.{reading_of, HasSites}
 use Rattle.geolint_files.proofs.ListedFiles.{asked-every, asked-slowly}
@@ -30,9 +30,9 @@ returns-in-Some g c =
     let found = subst (λ (given : Finding). Finds reading limits had left given) (sym finding) (c.in-Ok.ensures.found slow) in
     let with_text = subst (λ (t : Option (List ℕ)). HasSites reading limits t (g.S.Source.failed_reads c.judge_every.new.reader) middle report) text sites in
     let with_sites = subst (λ (n : ℕ). HasSites reading limits (g.S.Source.text c.args.source.now) n middle report) c.in-Ok.ensures.failed with_text in
-    let placed = subst (λ (t : Option (List ℕ)). AreLinesOf (IsPlaced (framing_in reading) t) c.args.name.now notes.notes.items notes.count lines) text are in (
+    let placed = subst (λ (t : Option (List ℕ)). ArePlacedLines reading c.args.asked old.options.most limits c.args.name.now t notes.notes.items notes.count lines) text are in (
       listed report lines notes.tally,
-      subst (λ (r : Reading). IsListedTwice r c.args.asked limits c.args.name.now had (g.S.Source.text c.args.source.now)
+      subst (λ (r : Reading). IsListedTwice r c.args.asked old.options.most limits c.args.name.now had (g.S.Source.text c.args.source.now)
           (g.S.Source.failed_reads c.args.source.now) (g.S.Source.failed_reads c.list_placed.new.source) (listed report lines notes.tally))
           c.reading-reading.ensures
           (name, (left, found), (middle, with_sites), (notes.notes.items, notes.count, kept (framing_in reading) limits had c.in-Ok.ensures.listed, placed)),
@@ -48,10 +48,10 @@ returns-in-None g c =
     let had = g.S.Source.remaining c.args.source.now in
     let left = g.S.Source.remaining c.judge_every.new.reader in
     let failed_reads = g.S.Source.failed_reads in
-    let after = c.tell_found.new.source in
+    let after = c.tell_refused.new.source in
     let slow : reading ≡ Reading.Quick → ⊥ =
     λ quick. asked-slowly (reading_of old.options c.args.name.now) (asked_in old.options) c.args.asked c.requires (sym c.reading-reading.ensures ∙ quick) in
-    on_ok_weaker c.tell_found.result (λ told.
+    on_ok_weaker c.tell_refused.result (λ told.
     let (report, name, finding, sites, tells) = told in
     let found = subst (λ (given : Finding). Finds reading limits had left given) (sym finding) (c.in-Ok.ensures.found slow) in
     let with_text = subst
@@ -59,12 +59,12 @@ returns-in-None g c =
     let with_sites = subst
     (λ (n : ℕ). HasSites reading limits (g.S.Source.text c.args.source.now) n (failed_reads after) report) c.in-Ok.ensures.failed with_text in (
       judged report,
-      subst (λ (r : Reading). IsListedTwice r c.args.asked limits c.args.name.now had (g.S.Source.text c.args.source.now) (failed_reads c.args.source.now)
+      subst (λ (r : Reading). IsListedTwice r c.args.asked old.options.most limits c.args.name.now had (g.S.Source.text c.args.source.now) (failed_reads c.args.source.now)
           (failed_reads after) (judged report)) c.reading-reading.ensures
           (name, (left, found), with_sites),
-      TellsFile-after g.W.Write.contents _ old _ c.tell_found.new.self
+      TellsFile-after g.W.Write.contents _ old _ c.tell_refused.new.self
           (record { same = record { options = refl; style = refl; outcome = refl; summary = refl; tally = refl }; out = refl; log = refl; line = refl }) tells,
-    )) c.tell_found.ensures.told
+    )) c.tell_refused.ensures.told
 
 pub returns-in-Err : goal.returns-in-Err
 returns-in-Err g c =

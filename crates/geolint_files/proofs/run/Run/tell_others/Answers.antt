@@ -1,4 +1,4 @@
-use Rattle.std.proofs.Common.{arith, refl, ◌≡◌, ◌-◌, ◌∷◌, ◌∙◌, [], ℕ, length, sym, subst}
+use Rattle.std.proofs.Common.{arith, refl, ◌≡◌, ◌∷◌, [], ℕ, sym, subst}
 use Rattle.std.proofs.lemmas.Result.{on_ok_weaker}
 use Rattle.geolint_files.specs.Internal.RunState.{TellsLines}
 use Rattle.geolint_files.specs.Listed.{others_of}
@@ -9,8 +9,7 @@ use Rattle.geolint_files.proofs.run.Run.tell_others.Goals as goal
 pub returns-then-count-eq0 : goal.returns-then-count-eq0
 returns-then-count-eq0 g c =
     let old = c.args.self.now in
-    let notes = c.args.notes.now in
-    let none : 0 ≡ notes.count - length notes.notes.items = omega (arith, c.others-count.ensures, c.if-count-eq0.true) in
+    let none : 0 ≡ c.args.count = omega (arith, c.if-count-eq0.true) in
     on_ok c.show.result (subst (λ (n : ℕ). TellsLines g.W.Write.contents (others_of c.args.name.now n) old c.show.new.self) none
     (TellsLines-none g.W.Write.contents old c.show.new.self
     (record { same = c.show.ensures.same; log = c.show.ensures.log; line = c.show.ensures.line; out = c.show.ensures.out })))
@@ -21,6 +20,5 @@ returns-else-count-eq0 g c =
     let name = c.args.name.now in
     let new = c.tell_more.new.self in
     on_ok_weaker c.tell_more.result (λ told.
-    subst (λ (n : ℕ). TellsLines g.W.Write.contents (others_of name n) old new) c.others-count.ensures
-    (subst (λ lines. TellsLines g.W.Write.contents lines old new) (sym (others_of-some name c.others-count.result (omega (arith, c.if-count-eq0.false)))) told))
+    subst (λ lines. TellsLines g.W.Write.contents lines old new) (sym (others_of-some name c.args.count (omega (arith, c.if-count-eq0.false)))) told)
     c.tell_more.ensures

@@ -1,43 +1,36 @@
-use Rattle.std.proofs.Common.{arith, refl, ap, length, subst, sym, ◌∙◌, List, ℕ}
+use Rattle.std.proofs.Common.{arith, refl, subst, sym, ◌∙◌, ◌≡◌, ◌<◌, ◌-◌, ◌^◌, List, ℕ, length}
 use Rattle.std.specs.Prelude.{Option}
 use Rattle.std.proofs.lemmas.Result.{on_ok_weaker}
+use Rattle.gj_rules.specs.declared.records.framing.Framing.{Framing}
 use Rattle.geolint_report.specs.declared.every.listing.Note.{Note}
 use Rattle.geolint_report.specs.Cursors.{StandBy}
-use Rattle.geolint_files.specs.Listed.{IsPlaced}
-use Rattle.geolint_files.specs.Run.{feature_line}
-use Rattle.geolint_files.proofs.ListedFiles.{none-told, more-told-in, whole-told, all-told}
+use Rattle.geolint_report.specs.Judged.{framing_in}
+use Rattle.geolint_files.specs.Internal.RunState.{TellsLines, ToldFurther}
+use Rattle.geolint_files.specs.Listed.{AreEntriesOf, IsPlaced, most_of, others_of}
+use Rattle.geolint_files.proofs.ListedFiles.{all-placed}
 use Rattle.geolint_files.proofs.run.Run.tell_placed.Goals as goal
-
-pub loop-note-init : goal.loop-note-init
-loop-note-init g c = record {
-  told = none-told g.W.Write.contents (IsPlaced c.args.framing (g.S.Source.text c.args.source.now)) c.args.name.now c.args.self.now;
-  stand = c.new-cursors.ensures (g.S.Source.text c.args.source.now);
-  text = refl;
-}
-
-pub loop-note-preserved : goal.loop-note-preserved
-loop-note-preserved g c =
-    let text = g.S.Source.text c.args.source.now in
-    let here = c.loop-note.invariant.text in
-    let stand = subst (λ (text : Option (List ℕ)). StandBy c.args.framing text c.loop-note.cursors) (sym here) c.loop-note.invariant.stand in
-    let (entry, name, note, placed, tells) = c.in_ok-tell_at.ensures.told c.args.framing stand in
-    record {
-      told = more-told-in g.W.Write.contents
-          (IsPlaced c.args.framing text) c.args.name.now c.deref-note-items.result.now c.args.notes.now.notes.items c.loop-note.note-index _
-          (feature_line entry) c.args.self.now c.loop-note.self c.tell_at.new.self c.deref-note-items.ensures.value c.loop-note-test.true
-          c.loop-note.invariant.told
-          (name, note, subst (λ (t : Option (List ℕ)). IsPlaced c.args.framing t entry) here placed) tells;
-      stand = subst (λ (text : Option (List ℕ)). StandBy c.args.framing text c.tell_at.new.cursors) here (c.tell_at.ensures.stand c.args.framing stand);
-      text = c.tell_at.ensures.text ∙ here;
-    }
 
 pub returns : goal.returns
 returns g c =
+    let contents = g.W.Write.contents in
+    let text = g.S.Source.text c.args.source.now in
+    let reading = c.args.reading in
+    let framing = framing_in reading in
     let name = c.args.name.now in
-    let notes = c.args.notes.now in
-    let right = IsPlaced c.args.framing (g.S.Source.text c.args.source.now) in
+    let held : List Note = c.args.notes.now.notes.items in
+    let count = c.args.notes.now.count in
+    let begun = subst (λ (f : Option Framing). StandBy f text c.new-cursors.result) c.framing.ensures (c.new-cursors.ensures text) in
+    let same = c.tell_notes.ensures.text in
+    let stand = subst (λ (t : Option (List ℕ)). StandBy framing t c.tell_notes.new.cursors) (sym same) (c.tell_notes.ensures.stand framing begun) in
+    let (first, are, tells) = c.in_ok-tell_notes.ensures.told framing begun in
+    let first_are = subst (λ (ns : List Note). AreEntriesOf (IsPlaced framing text) name ns first) c.as_slice.ensures.value are in
+    let long : c.len.result ≡ length held = ? in
+    let further = subst (λ (n : ℕ). ToldFurther contents reading c.args.asked (most_of c.args.most) c.args.limits name text n c.in_ok-told.told _ _) long
+    (subst (λ (n : ℕ). ToldFurther contents reading c.args.asked n c.args.limits name text _ c.in_ok-told.told _ _) c.most_of.ensures
+    (subst (λ (t : Option (List ℕ)). ToldFurther contents reading c.args.asked _ c.args.limits name t _ c.in_ok-told.told _ _) same
+    (c.in_ok-told.ensures stand))) in
+    let small : count < 2 ^ 64 = ? in
     on_ok_weaker c.tell_others.result (λ others.
-    all-told g.W.Write.contents right name notes.notes.items notes.count c.args.self.now c.loop-note.self c.tell_others.new.self
-    (whole-told g.W.Write.contents right name notes.notes.items c.loop-note.note-index c.args.self.now c.loop-note.self
-    (omega (arith, c.loop-note-test.false, ap (λ (ns : List Note). length ns) c.deref-note-items.ensures.value)) c.loop-note.invariant.told) others)
-    c.tell_others.ensures
+    all-placed contents reading c.args.asked c.args.most c.args.limits name text held count c.in_ok-told.told c.args.self.now c.tell_notes.new.self _ _ small
+    (first, first_are, tells) further
+    (subst (λ (n : ℕ). TellsLines contents (others_of name n) _ c.tell_others.new.self) c.others.ensures others)) c.tell_others.ensures

@@ -1,4 +1,4 @@
-use Rattle.std.proofs.Common.{arith, ◌≡◌, ◌++◌, ◌∷◌, [], List, length-append, take, sym, subst}
+use Rattle.std.proofs.Common.{arith, ◌≡◌, ◌++◌, ◌∷◌, [], List, length-append, take, drop, sym, subst}
 use Rattle.geolint_report.specs.declared.every.listing.Asked.{Asked}
 use Rattle.geolint_report.specs.declared.every.listing.Note.{Note}
 use Rattle.geolint_report.specs.declared.every.tally.Tally.{Tally}
@@ -12,6 +12,7 @@ returns-clause-keeps c = λ all keeps.
     record {
       count = grind (arith, counted, c.keep_within.ensures.count, length-append all one);
       tally = c.add_note.ensures.notes all (subst (λ (tally : Tally). Tallies tally all) (sym c.keep_within.ensures.tally) keeps.tally);
-      notes = λ kept. subst (λ (asked : Asked). c.keep_within.new.self.notes.items ≡ take asked.room (all ++ one)) (sym c.keep_within.ensures.asked)
-          (c.keep_within.ensures.kept all keeps.notes kept);
+      notes = λ kept. subst (λ (asked : Asked). c.keep_within.new.self.notes.items ≡ take asked.room (drop asked.skipped (all ++ one)))
+          (sym c.keep_within.ensures.asked)
+          (c.keep_within.ensures.kept all keeps.count keeps.notes kept);
     }

@@ -1,0 +1,17 @@
+use Rattle.std.proofs.Common.{◌≡◌}
+use Rattle.geolint_report.specs.Cursors.{StandBy}
+use Rattle.geolint_report.specs.Judged.{framing_in}
+use Rattle.geolint_files.specs.Listed.{IsPlaced}
+use Rattle.geolint_files.proofs.ListedFiles.{IsTold}
+use Rattle.geolint_files.proofs.run.Run.tell_further.Given as goal
+
+-- the notes of the readings so far are told
+abbrev pub invariant-loop : goal.invariant-loop
+invariant-loop g l = record {
+  told : StandBy (framing_in l.reading) (g.S.Source.text l.initial.source) l.initial.cursors
+      → IsTold g.W.Write.contents (IsPlaced (framing_in l.reading) (g.S.Source.text l.initial.source)) l.name (framing_in l.reading) l.asked l.most l.limits
+      (g.S.Source.text l.initial.source) l.held l.told l.initial.self l.self;
+  stand : StandBy (framing_in l.reading) (g.S.Source.text l.initial.source) l.initial.cursors
+      → StandBy (framing_in l.reading) (g.S.Source.text l.initial.source) l.cursors;
+  text : g.S.Source.text l.source ≡ g.S.Source.text l.initial.source;
+}
