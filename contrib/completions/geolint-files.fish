@@ -12,6 +12,8 @@ complete -c geolint-files -l every=warnings -d 'Also list the warnings of the ot
 complete -c geolint-files -l most -x -d 'List at most N findings of a file'
 complete -c geolint-files -l split -r -d 'Also write the features or the records of the file to two files'
 complete -c geolint-files -l force -d 'Write over the files of --split'
+complete -c geolint-files -l part -x -d 'Check one part of a text sequence, as 3/8, and write a line for --join'
+complete -c geolint-files -l join -d 'Report a text sequence by the lines of all its parts'
 complete -c geolint-files -l files-from -r -d 'Also check the paths in this file'
 complete -c geolint-files -l null -s 0 -d 'Each path of --files-from ends with NUL'
 complete -c geolint-files -l ending -x -d 'In folders, also check files with this ending'

@@ -5,3 +5,4 @@ pub mod Walk
 pub mod Told
 pub mod Listed
 pub mod Internal
+pub mod JoinedRun

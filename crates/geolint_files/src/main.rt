@@ -14,6 +14,8 @@ ghost use Rattle.std.specs.declared.io.ErrorKind.TheVariants.{BrokenPipe};
 ghost use Rattle.geolint_files.specs.declared.NoOrder.{NoOrder};
 
 mod arguments;
+mod cut;
+mod cut_words;
 mod files;
 mod outcome;
 mod parts;
@@ -22,6 +24,8 @@ mod walk;
 mod words;
 
 use crate::arguments::{given_words, shown_words};
+use crate::cut::{NotJoined, check_share, join_all, put_not_joined, put_unchecked};
+use crate::cut_words::Cut;
 use crate::outcome::Outcome;
 use crate::parts::set_apart;
 use crate::run::{Failure, judge_all};
@@ -31,6 +35,7 @@ use clap::Error;
 use clap::error::ErrorKind;
 use gj_manual::Topic;
 use report_forms::formats::put_name;
+use sequence_parts::Share;
 use std::io::{self, BufWriter, Write};
 use std::process::ExitCode;
 
@@ -71,10 +76,52 @@ fn run_order(rt: &HostRuntime, order: &Order) -> u8 {
     {
         return 2;
     }
+    match order.cut {
+        Some(Cut::Part(share)) => return run_share(rt, order, share),
+        Some(Cut::Join) => return run_join(rt, order),
+        None => {}
+    }
     match judge_to_output(rt, order) {
         Ok(outcome) => outcome.status(),
         Err(failure) => end_by(rt, &failure),
     }
+}
+
+/// The status of a call that checks one part: 0 where its line is written, whatever was found.
+fn run_share(rt: &HostRuntime, order: &Order, share: Share) -> u8 {
+    match check_share(rt, order, share) {
+        Ok(()) => 0,
+        Err(error) if has_no_reader(&error) => NO_READER,
+        Err(error) => {
+            let mut line = Vec::new(rt.alloc());
+            let put = put_unchecked(rt, order, &error, &mut line);
+            say(rt, line.as_slice(), put)
+        }
+    }
+}
+
+/// The status of a call that joins the lines of parts.
+fn run_join(rt: &HostRuntime, order: &Order) -> u8 {
+    match join_all(rt, order) {
+        Ok(outcome) => outcome.status(),
+        Err(NotJoined::Report(failure)) => end_by(rt, &failure),
+        Err(why) => {
+            let mut line = Vec::new(rt.alloc());
+            let put = put_not_joined(rt, order, &why, &mut line);
+            say(rt, line.as_slice(), put)
+        }
+    }
+}
+
+/// Writes a sentence to standard error, and answers the status of a failure.
+fn say(rt: &HostRuntime, line: &[u8], put: io::Result<()>) -> u8 {
+    let bytes = match put {
+        Ok(()) => line,
+        Err(_) => b"geolint-files: out of memory\n",
+    };
+    // Where standard error cannot be written either, the status says it.
+    let _ = rt.stderr().write_all(bytes);
+    2
 }
 
 /// The report goes to standard output.

@@ -9,6 +9,7 @@ ghost use Rattle.geolint_files.specs.Run.{ToldFile, IsRun, finding_in, tallies_i
 ghost use Rattle.geolint_files.specs.Walk.{first_named, is_input, is_input_path, takes_input_twice};
 
 mod features;
+mod joined;
 
 use crate::files::{Spelled, is_lost_link, is_memory, look_up, reason, spell};
 use crate::outcome::Outcome;
@@ -25,6 +26,7 @@ use geolint_report::sites::Sites;
 use geolint_report::source::{FileSource, FromRead, Rewind, Source};
 use gj_hints::Hint;
 use gj_rules::{Framing, Linter};
+pub use joined::tell_joined;
 use name_lists::{Listed, NameEnd, Names};
 use report_forms::formats::lines::Style;
 use report_forms::formats::sarif::Log;

@@ -10,6 +10,7 @@ ghost use Rattle.gj_rules.specs.declared.records.framing.Framing.{Framing};
 ghost use Rattle.geolint_files.specs.Words.{every_by, format_by, kind_name};
 
 use crate::arguments::to_bytes;
+use crate::cut_words::{Cut, cut_in, with_cut, wrong_cut};
 use clap::error::ErrorKind;
 use clap::{Arg, ArgAction, ArgMatches, Command, Error, value_parser};
 use gj_coords::{KINDS, Kind};
@@ -69,6 +70,8 @@ pub struct Order {
     pub allows_empty: bool,
     /// Where the features of the file are written.
     pub parts: Option<Parts>,
+    /// What is asked for of the parts of a text sequence.
+    pub cut: Option<Cut>,
 }
 
 /// The files that the features of a file are set apart into.
@@ -101,6 +104,7 @@ fn command<'a>(alloc: Global) -> Result<Command<'a>, AllocError> {
     let command = with_reading(alloc, command)?;
     let command = with_report(alloc, command)?;
     let command = with_parts(alloc, command)?;
+    let command = with_cut(alloc, command)?;
     let command = with_files(alloc, command)?;
     with_manual(alloc, command)
 }
@@ -297,6 +301,17 @@ fn order_of(alloc: Global, given: &ArgMatches<'_>) -> Result<Result<Order, Strin
     if let Some(wrong) = wrong_split(given, paths.as_slice(), list.is_some()) {
         return Ok(Err(String::from_str(alloc, wrong)?));
     }
+    let cut = match cut_in(given) {
+        Ok(cut) => cut,
+        Err(word) => {
+            return Ok(Err(format!(in alloc;
+                "invalid value '{word}' for '--part <I/N>': a part is named as 3/8"
+            )?));
+        }
+    };
+    if let Some(wrong) = wrong_cut(given, paths.as_slice(), list.is_some()) {
+        return Ok(Err(String::from_str(alloc, wrong)?));
+    }
     let parts = match given.get_str("split") {
         Some(prefix) => Some(Parts {
             prefix: to_bytes(alloc, prefix)?,
@@ -317,6 +332,7 @@ fn order_of(alloc: Global, given: &ArgMatches<'_>) -> Result<Result<Order, Strin
         endings,
         allows_empty: given.get_flag("allow-empty"),
         parts,
+        cut,
     }))
 }
 

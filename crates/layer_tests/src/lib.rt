@@ -18,4 +18,6 @@ mod places;
 #[cfg(test)]
 mod rules;
 #[cfg(test)]
+mod sequences;
+#[cfg(test)]
 mod split;

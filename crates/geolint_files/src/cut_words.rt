@@ -1,0 +1,102 @@
+//! The words by which a text sequence is checked in parts.
+
+use crate::walk::framing_of;
+use clap::{Arg, ArgAction, ArgMatches, Command};
+use gj_rules::Framing;
+use sequence_parts::Share;
+use std::alloc::{AllocError, Global};
+
+/// What is asked for of parts.
+#[derive(Clone, Copy)]
+pub enum Cut {
+    /// One part is checked.
+    Part(Share),
+    /// The lines of all parts are joined.
+    Join,
+}
+
+/// The command with these words.
+pub fn with_cut<'a>(alloc: Global, command: Command<'a>) -> Result<Command<'a>, AllocError> {
+    let part = Arg::new(alloc, "part")
+        .long("part")
+        .value_name("I/N")
+        .help(
+            "Check the I-th of N parts of the one text sequence, and write a line of JSON about it for --join",
+        )
+        .action(ArgAction::Set)
+        .conflicts_with("every")?
+        .conflicts_with("split")?
+        .conflicts_with("quick")?;
+    let command = command.arg(part)?;
+    let join = Arg::new(alloc, "join")
+        .long("join")
+        .help(
+            "Report a text sequence by the lines of all its parts, which stand in the PATHs or come on standard input",
+        )
+        .action(ArgAction::SetTrue)
+        .conflicts_with("part")?
+        .conflicts_with("every")?
+        .conflicts_with("split")?
+        .conflicts_with("quick")?
+        .conflicts_with("strict")?
+        .conflicts_with("allow")?
+        .conflicts_with("max-bytes")?
+        .conflicts_with("ndjson")?;
+    command.arg(join)
+}
+
+/// What is asked for of parts, or a word that names none.
+pub fn cut_in<'a>(given: &ArgMatches<'a>) -> Result<Option<Cut>, &'a str> {
+    match given.get_str("part") {
+        Some(word) => match share_in(word) {
+            Some(share) => Ok(Some(Cut::Part(share))),
+            None => Err(word),
+        },
+        None if given.get_flag("join") => Ok(Some(Cut::Join)),
+        None => Ok(None),
+    }
+}
+
+/// The part that a word names, as 3/8.
+fn share_in(word: &str) -> Option<Share> {
+    let (number, parts) = word.split_once("/")?;
+    Share::new(number.parse().ok()?, parts.parse().ok()?)
+}
+
+/// Why what is named is not checked in parts.
+pub fn wrong_cut(
+    given: &ArgMatches<'_>,
+    paths: &[Vec<u8>],
+    has_list: bool,
+) -> Option<&'static str> {
+    if given.get_str("part").is_none() && !given.get_flag("join") {
+        return None;
+    }
+    if has_list {
+        return Some("'--part <I/N>' and '--join' take no '--files-from <FILE>'");
+    }
+    if given.get_flag("join") {
+        return None;
+    }
+    match paths {
+        [path] => match path.as_slice() {
+            b"-" => Some(
+                "'--part <I/N>' needs a file, which it reads from a place on: write standard input to one first",
+            ),
+            name if is_sequence(given, name) => None,
+            _ => Some("'--part <I/N>' takes a text sequence, as *.geojsons or by '--seq'"),
+        },
+        _ => Some("'--part <I/N>' takes one file"),
+    }
+}
+
+/// Whether a file is read as a text sequence: as the words say, or as its name does.
+fn is_sequence(given: &ArgMatches<'_>, name: &[u8]) -> bool {
+    if given.get_flag("seq") {
+        true
+    } else if given.get_flag("ndjson") {
+        false
+    } else {
+        framing_of(name) == Some(Framing::Sequence)
+    }
+}

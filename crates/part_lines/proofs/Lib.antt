@@ -1,0 +1,3 @@
+mod LinesOfParts
+mod DoubledWarnings
+mod SameSettings

@@ -1,0 +1,7 @@
+use Rattle.std.proofs.Common.{List}
+use Rattle.sequence_parts.specs.declared.checked.CheckedPart.{CheckedPart}
+use Rattle.part_lines.specs.Lines.{AreAmong, ArePlacedFrom}
+use Rattle.part_lines.proofs.joining.parts_in.Given as goal
+
+abbrev pub invariant-loop-place : goal.invariant-loop-place
+invariant-loop-place l = (known : List CheckedPart) → ArePlacedFrom known l.places → AreAmong known l.parts.items

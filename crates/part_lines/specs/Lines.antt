@@ -1,0 +1,34 @@
+-- Lines that say what was found of the parts of a file.
+use Rattle.std.specs.Prelude.{◌≡◌, ℕ, List, length, map, Option, IfSome}
+use Rattle.std.specs.List.{All, Contains}
+use Rattle.std.specs.String.{string_bytes}
+use Rattle.gj_json.specs.Limits.{Allowed}
+use Rattle.sequence_parts.specs.Checked.{IsPartOf}
+use Rattle.sequence_parts.specs.declared.checked.CheckedPart.{CheckedPart}
+use Rattle.part_lines.specs.declared.line.PartLine.{PartLine}
+
+abbrev pub checked_in : PartLine → CheckedPart
+checked_in line = line.checked
+
+-- the line of a true part of the text, of the length that the line says
+pub record IsLineOf (limits : Allowed) (text : List ℕ) (line : PartLine) : Type 0 where
+  pub size : length text ≡ line.file.size
+  pub part : IsPartOf limits text line.checked
+
+-- of the same file, as it was, checked in the same way, and one of as many parts
+pub record IsLike (first line : PartLine) : Type 0 where
+  pub path : string_bytes line.file.path ≡ string_bytes first.file.path
+  pub size : line.file.size ≡ first.file.size
+  pub modified : string_bytes line.file.modified ≡ string_bytes first.file.modified
+  pub bytes : line.settings.limits.bytes ≡ first.settings.limits.bytes
+  pub strict : line.settings.strict ≡ first.settings.strict
+  pub allowed : line.settings.allowed ≡ first.settings.allowed
+  pub parts : line.share.parts ≡ first.share.parts
+
+-- ---- what is known of parts that are put in order
+
+abbrev pub AreAmong : List CheckedPart → List CheckedPart → Type 0
+AreAmong known parts = All (Contains known) parts
+
+abbrev pub ArePlacedFrom : List CheckedPart → List (Option CheckedPart) → Type 0
+ArePlacedFrom known places = All (λ place. IfSome place (Contains known)) places

@@ -1,0 +1,5 @@
+mod CutPlaces
+mod SearchedBytes
+mod WindowReads
+mod PartBounds
+mod JoinedVerdicts

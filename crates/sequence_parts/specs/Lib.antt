@@ -1,0 +1,4 @@
+pub mod Cuts
+pub mod Ranges
+pub mod Checked
+pub mod Internal

@@ -1,0 +1,63 @@
+//! The ranges of bytes of N parts.
+
+ghost use Rattle.std.specs.Prelude.{◌≡◌, ◌<◌, ◌≤◌, min};
+ghost use Rattle.sequence_parts.specs.Ranges.{range_begin};
+
+/// One of several parts, counted from 1.
+#[derive(Clone, Copy, Debug, PartialEq, Eq)]
+pub struct Share {
+    pub number: u64,
+    pub parts: u64,
+    ghost some: { 0 < number },
+    ghost within: { number ≤ parts },
+}
+
+impl Share {
+    ghost use Rattle.std.specs.Prelude.{◌≡◌, ◌≤◌, ◌<◌, ◌-◌, ◌↔◌, IsSome, IfSome};
+    ghost use Rattle.sequence_parts.specs.Ranges.{range_begin};
+
+    /// The part of this number of so many, or `None` where there is no such part.
+    pub fn new(number: u64, parts: u64) -> Option<Share>
+        ensures value { IfSome result (λ share. (share.number ≡ number) × (share.parts ≡ parts)) }
+        ensures some { IsSome result ↔ ((0 < number) × (number ≤ parts)) }
+    {
+        if number > 0 && number <= parts {
+            Some(Share { number, parts })
+        } else {
+            None
+        }
+    }
+
+    /// Where its range begins in a text of so many bytes.
+    pub fn from(self, size: u64) -> u64
+        ensures value { result ≡ range_begin size self.parts (self.number - 1) }
+        ensures within { result ≤ size }
+    {
+        range_begin(size, self.parts, self.number - 1)
+    }
+
+    /// Where its range ends, and the next begins.
+    pub fn until(self, size: u64) -> u64
+        ensures value { result ≡ range_begin size self.parts self.number }
+        ensures within { result ≤ size }
+        ensures some { 0 < size → 0 < result }
+    {
+        range_begin(size, self.parts, self.number)
+    }
+}
+
+fn range_begin(size: u64, parts: u64, before: u64) -> u64
+    requires some { 0 < parts }
+    requires few { before ≤ parts }
+    ensures value { result ≡ range_begin size parts before }
+    ensures within { result ≤ size }
+    ensures some { 0 < size → 0 < before → 0 < result }
+{
+    before * (size / parts) + lesser(before, size % parts)
+}
+
+fn lesser(one: u64, other: u64) -> u64
+    ensures { result ≡ min one other }
+{
+    if one < other { one } else { other }
+}
