@@ -105,8 +105,8 @@ fn part_of(
 /// The verdict of all parts together.
 fn joined(rt: &HostRuntime, bytes: &'static [u8], parts: u64, most: u64) -> io::Result<SeqVerdict> {
     let mut all = Vec::new(rt.alloc());
-    for number in 1..parts + 1 {
-        match all.push(part_of(rt, bytes, number, parts, most)?) {
+    for before in 0..parts {
+        match all.push(part_of(rt, bytes, before + 1, parts, most)?) {
             Ok(()) => {}
             Err(_) => return Err(io::Error::from(io::ErrorKind::OutOfMemory)),
         }
