@@ -44,10 +44,19 @@ class Browser:
     def wait(self, text, seconds=60):
         """Waits until the expression is true."""
         end = time.monotonic() + seconds
-        while not self.value(text):
+        while not self.is_true(text):
             if time.monotonic() > end:
                 raise TimeoutError(f"{text} was not true in {seconds} s")
             time.sleep(0.05)
+
+    def is_true(self, text):
+        """Whether the expression is true. While one page gives way to the next, it is not."""
+        try:
+            return self.value(text)
+        except RuntimeError as fault:
+            if "navigated or closed" in str(fault):
+                return False
+            raise
 
     def downloaded(self, name, seconds=20):
         """The text of a file that was saved, which is then gone."""
