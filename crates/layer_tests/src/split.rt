@@ -1,16 +1,18 @@
 //! The features of a text and the records of an input, set apart.
+ghost use Rattle.std.specs.Prelude.{None};
+
 use gj_json::Limits;
 use gj_rules::{Feature, Framing, Record};
 use gj_split::{BrokenList, Counts, Outputs, Ranges, split, split_records};
+use std::alloc::Global;
 use std::io;
 use std::process::Abort;
-
-ghost use Rattle.std.specs.Prelude.{None};
 
 /// The most bytes that are read at once.
 const PIECE: usize = 7;
 
 /// A text in memory.
+#[derive(Drop)]
 struct InMemory<'t> {
     bytes: &'t [u8],
 }
@@ -52,6 +54,7 @@ impl BrokenList for Noted {
 }
 
 /// An input with its framing, what both parts hold of it, and how many records each has.
+#[derive(Drop)]
 struct Row {
     input: &'static str,
     framing: Option<Framing>,
@@ -85,13 +88,13 @@ fn count_of(sequence: &str) -> u64 {
     sequence.bytes().filter(|byte| *byte == 0x1E).count() as u64
 }
 
-fn expect(rt: &HostRuntime, row: &Row) {
+fn expect(rt: &impl Abort, alloc: Global, row: &Row) {
     let source = InMemory {
         bytes: row.input.as_bytes(),
     };
     let outputs = Outputs {
-        valid: Vec::new(rt.alloc()),
-        broken: Vec::new(rt.alloc()),
+        valid: Vec::new(alloc),
+        broken: Vec::new(alloc),
         list: Noted { count: 0 },
     };
     let (is_read, counts, outputs) = match row.framing {
@@ -105,17 +108,33 @@ fn expect(rt: &HostRuntime, row: &Row) {
         }
     };
     assert!(rt; is_read, "{}", row.case);
-    assert_eq!(rt; outputs.valid.as_slice(), row.valid.as_bytes(), "{}", row.case);
-    assert_eq!(rt; outputs.broken.as_slice(), row.broken.as_bytes(), "{}", row.case);
+    assert_eq!(rt;
+        outputs.valid.as_slice(),
+        row.valid.as_bytes(),
+        "{}",
+        row.case
+    );
+    assert_eq!(rt;
+        outputs.broken.as_slice(),
+        row.broken.as_bytes(),
+        "{}",
+        row.case
+    );
     assert_eq!(rt; counts, row.counts, "{}", row.case);
     assert_eq!(rt; outputs.list.count, row.counts.broken, "{}", row.case);
 }
 
 #[test]
 fn each_feature_goes_to_one_part(rt: HostRuntime) {
-    let text = "{\"type\":\"FeatureCollection\",\"features\":[{\"type\":\"Feature\",\"geometry\":null,\"properties\":null} ,1,{\"type\":\"Feature\",\"geometry\":null,\"properties\":null}]}";
-    let valid = "\u{1e}{\"type\":\"Feature\",\"geometry\":null,\"properties\":null}\n\u{1e}{\"type\":\"Feature\",\"geometry\":null,\"properties\":null}\n";
-    expect(&rt, &row(None, text, valid, "\u{1e}1\n", "a text"));
+    let text =
+        "{\"type\":\"FeatureCollection\",\"features\":[{\"type\":\"Feature\",\"geometry\":null,\"properties\":null} ,1,{\"type\":\"Feature\",\"geometry\":null,\"properties\":null}]}";
+    let valid =
+        "\u{1e}{\"type\":\"Feature\",\"geometry\":null,\"properties\":null}\n\u{1e}{\"type\":\"Feature\",\"geometry\":null,\"properties\":null}\n";
+    expect(
+        &rt,
+        rt.alloc(),
+        &row(None, text, valid, "\u{1e}1\n", "a text"),
+    );
 }
 
 #[test]
@@ -149,22 +168,10 @@ fn each_record_goes_to_one_part(rt: HostRuntime) {
             "\u{1e}1\n",
             "CR LF, blank lines, and no LF at the end",
         ),
-        row(
-            Some(Framing::Lines),
-            "",
-            "",
-            "",
-            "no line",
-        ),
-        row(
-            Some(Framing::Sequence),
-            "",
-            "",
-            "",
-            "no record",
-        ),
+        row(Some(Framing::Lines), "", "", "", "no line"),
+        row(Some(Framing::Sequence), "", "", "", "no record"),
     ];
     for row in rows.iter() {
-        expect(&rt, row);
+        expect(&rt, rt.alloc(), row);
     }
 }

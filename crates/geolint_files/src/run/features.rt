@@ -78,7 +78,7 @@ impl<'a, W: Write + Drop> Run<'a, W> {
     ghost use Rattle.geolint_files.specs.Listed.{ArePlacedLines, AreNextBy};
     ghost use Rattle.report_forms.specs.Forms.Features.{TellsEntry, TellsMore, first_behind};
     ghost use Rattle.geolint_files.specs.Internal.RunState.{TellsFile, TellsLines, ToldFurther, SameTold};
-    ghost use Rattle.geolint_files.specs.Run.{ToldFile, FeatureLine, feature_line, others_line, listed};
+    ghost use Rattle.geolint_files.specs.Run.{ToldFile, FeatureLine, feature_line, others_line, judged, listed};
 
     /// What is asked of the features or the records of a file of this name.
     pub fn asked_for(&self, name: &[u8]) -> Option<Asked>

@@ -1,12 +1,12 @@
-use Rattle.std.proofs.Common.{refl, inl, inr, subst, sym, ◌∙◌, ◌≡◌, List, ℕ, length}
+use Rattle.std.proofs.Common.{rules, refl, inl, inr, subst, sym, ◌∙◌, ◌≡◌, List, ℕ, length, []}
 use Rattle.std.specs.Prelude.{Option}
+use Rattle.std.proofs.KnownBytes.{Keeps-refl}
 use Rattle.gj_rules.specs.declared.records.framing.Framing.{Framing}
 use Rattle.geolint_report.specs.declared.every.listing.Note.{Note}
 use Rattle.geolint_report.specs.Cursors.{StandBy}
 use Rattle.geolint_report.specs.Judged.{framing_in}
 use Rattle.geolint_files.specs.Listed.{AreEntriesOf, IsPlaced}
-use Rattle.std.proofs.KnownBytes.{Keeps-refl}
-use Rattle.geolint_files.proofs.ListedFiles.{StandBy-then, TellsLines-after}
+use Rattle.geolint_files.proofs.ListedFiles.{StandBy-then, TellsLines-after, TellsLines-none}
 use Rattle.geolint_files.proofs.run.Run.tell_next.Goals as goal
 
 pub returns-in-Some-clause-told : goal.returns-in-Some-clause-told
@@ -15,10 +15,27 @@ returns-in-Some-clause-told g c = λ stand.
     let text = g.S.Source.text c.args.source.now in
     let framing = framing_in c.args.reading in
     let name = c.args.name.now in
+    let old = c.args.self.now in
     let notes = c.in-Some.notes in
-    let same = c.read_further.ensures.text in
-    let kept = rw (c.in-Some.is) at c.in_ok-read_further.ensures.notes in
+    let same = c.in_ok-notes.ensures.text in
+    let kept = rw (c.in-Some.is) at c.in_ok-notes.ensures.notes in
     let now = subst (λ (t : Option (List ℕ)). StandBy framing t c.args.cursors.now) (sym same) stand in
     let (lines, are, tells) = c.in_ok-tell_notes.ensures.told framing now in
     let placed = subst (λ (t : Option (List ℕ)). AreEntriesOf (IsPlaced framing t) name _ lines) same are in
-    ?
+    let named = subst (λ (ns : List Note). AreEntriesOf (IsPlaced framing text) name ns lines) c.as_slice.ensures.value placed in
+    let long : c.len.result ≡ length notes.notes.items = search rules in (
+      notes.notes.items,
+      inr (notes.count, notes.tally, kept),
+      long,
+      (
+        lines,
+        named,
+        TellsLines-after contents lines old _ c.tell_notes.new.self
+            (record {
+              same = record { options = refl; style = refl; outcome = refl; summary = refl; tally = refl };
+              log = refl;
+              line = refl;
+              out = Keeps-refl (contents old.out);
+            }) tells,
+      ),
+    )

@@ -36,3 +36,8 @@ pub returns-clause-told : goal.returns-clause-told
 returns-clause-told g c = λ framing stand.
     whole-told g.W.Write.contents (IsPlaced framing (g.S.Source.text c.args.source.now)) c.args.name.now c.args.notes.now c.loop-note.note-index
     c.args.self.now c.loop-note.self (omega (arith, c.loop-note-test.false)) (c.loop-note.invariant.told framing stand)
+
+pub returns-in_err-tell_at-clause-stand : goal.returns-in_err-tell_at-clause-stand
+returns-in_err-tell_at-clause-stand g c = λ framing stand.
+    StandBy-then framing (g.S.Source.text c.args.source.now) _ c.loop-note.cursors c.tell_at.new.cursors c.loop-note.invariant.text
+    (c.tell_at.ensures.stand framing) (c.loop-note.invariant.stand framing stand)
