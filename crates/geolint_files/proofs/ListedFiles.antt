@@ -33,8 +33,8 @@ use Rattle.geolint_files.specs.Listed.{asked_in, asked_by}
 use Rattle.geolint_files.specs.Listed.{IsEntryOf, AreEntriesOf, AreLinesOf, others_of, asked_when, asked_after, AreNextBy, AreFurther, joined, most_of, IsPlaced, ArePlacedLines}
 use Rattle.geolint_report.specs.Judged.{framing_in}
 use Rattle.geolint_files.proofs.ToldFiles.{tallies-append, tallies-none}
-use Rattle.geolint_files.specs.Run.{ToldFile, judged, listed, FeatureLine, feature_line, others_line, finding_in, tallies_in, outcome_in, Written, AddsFile}
-use Rattle.geolint_files.specs.Run.{AddsFiles, AddsLine, AddsLines, AddsListed, begun}
+use Rattle.geolint_files.specs.Run.{ToldFile, judged, listed, FeatureLine, others_line, finding_in, tallies_in, outcome_in, Written}
+use Rattle.geolint_files.specs.Run.{AddsFiles, AddsLine, AddsLines, begun}
 
 -- ---- what is written
 

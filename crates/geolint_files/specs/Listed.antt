@@ -13,7 +13,7 @@ use Rattle.report_forms.specs.declared.options.Options.{Options}
 use Rattle.geolint_report.specs.Every.{AreNotesBy}
 use Rattle.geolint_report.specs.Marks.{IsMarkBy}
 use Rattle.geolint_report.specs.Judged.{Finds, framing_in}
-use Rattle.geolint_files.specs.Run.{FeatureLine, feature_line, others_line, ToldFile, judged, not_read, listed}
+use Rattle.geolint_files.specs.Run.{FeatureLine, feature_line, others_line, ToldFile, listed}
 use Rattle.geolint_files.specs.Told.{reading_of, HasSites, IsToldOnce, IsToldTwice}
 
 -- ---- what is asked

@@ -1,5 +1,5 @@
 //! Tells each feature or record of a file, behind the file's own report.
-ghost use Rattle.std.specs.Prelude.{◌≡◌, ◌-◌, ℕ, List, length, IfSome, Option, None, true, false};
+ghost use Rattle.std.specs.Prelude.{◌≡◌, ◌<◌, ◌-◌, ◌^◌, ℕ, List, length, IfSome, Option, None, true, false};
 ghost use Rattle.gj_rules.specs.declared.records.framing.Framing.{Framing};
 ghost use Rattle.geolint_report.specs.Texts.{is_cause};
 ghost use Rattle.geolint_files.specs.Listed.{room_of, most_of, asked_with, asked_after};
@@ -448,7 +448,9 @@ impl<'a, W: Write + Drop> Run<'a, W> {
 
 /// How many of so many notes are not told.
 fn others(count: u64, told: u64) -> u64
-    ensures { result ≡ count - told }
+    ensures left { result ≡ count - told }
+    // as each u64 is
+    ensures small { count < 2 ^ 64 }
 {
     count.saturating_sub(told)
 }

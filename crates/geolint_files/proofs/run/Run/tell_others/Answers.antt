@@ -1,4 +1,4 @@
-use Rattle.std.proofs.Common.{arith, refl, ◌≡◌, ◌∷◌, [], ℕ, sym, subst}
+use Rattle.std.proofs.Common.{arith, ◌≡◌, ℕ, sym, subst}
 use Rattle.std.proofs.lemmas.Result.{on_ok_weaker}
 use Rattle.geolint_files.specs.Internal.RunState.{TellsLines}
 use Rattle.geolint_files.specs.Listed.{others_of}

@@ -1,4 +1,4 @@
-use Rattle.std.proofs.Common.{arith, refl, subst, sym, ◌∙◌, ◌≡◌, ◌<◌, ◌-◌, ◌^◌, List, ℕ, length}
+use Rattle.std.proofs.Common.{rules, subst, sym, ◌≡◌, ◌<◌, ◌^◌, List, ℕ, length}
 use Rattle.std.specs.Prelude.{Option}
 use Rattle.std.proofs.lemmas.Result.{on_ok_weaker}
 use Rattle.gj_rules.specs.declared.records.framing.Framing.{Framing}
@@ -24,13 +24,16 @@ returns g c =
     let stand = subst (λ (t : Option (List ℕ)). StandBy framing t c.tell_notes.new.cursors) (sym same) (c.tell_notes.ensures.stand framing begun) in
     let (first, are, tells) = c.in_ok-tell_notes.ensures.told framing begun in
     let first_are = subst (λ (ns : List Note). AreEntriesOf (IsPlaced framing text) name ns first) c.as_slice.ensures.value are in
-    let long : c.len.result ≡ length held = ? in
-    let further = subst (λ (n : ℕ). ToldFurther contents reading c.args.asked (most_of c.args.most) c.args.limits name text n c.in_ok-told.told _ _) long
-    (subst (λ (n : ℕ). ToldFurther contents reading c.args.asked n c.args.limits name text _ c.in_ok-told.told _ _) c.most_of.ensures
-    (subst (λ (t : Option (List ℕ)). ToldFurther contents reading c.args.asked _ c.args.limits name t _ c.in_ok-told.told _ _) same
+    let long : c.len-held.result ≡ length held = search rules in
+    let told = c.in_ok-told.told in
+    let middle = c.tell_notes.new.self in
+    let last = c.tell_further.new.self in
+    let further = subst (λ (n : ℕ). ToldFurther contents reading c.args.asked (most_of c.args.most) c.args.limits name text n told middle last) long
+    (subst (λ (n : ℕ). ToldFurther contents reading c.args.asked n c.args.limits name text c.len-held.result told middle last) c.most_of.ensures
+    (subst (λ (t : Option (List ℕ)). ToldFurther contents reading c.args.asked c.most_of.result c.args.limits name t c.len-held.result told middle last) same
     (c.in_ok-told.ensures stand))) in
-    let small : count < 2 ^ 64 = ? in
+    let small : count < 2 ^ 64 = c.others.ensures.small in
     on_ok_weaker c.tell_others.result (λ others.
-    all-placed contents reading c.args.asked c.args.most c.args.limits name text held count c.in_ok-told.told c.args.self.now c.tell_notes.new.self _ _ small
+    all-placed contents reading c.args.asked c.args.most c.args.limits name text held count told c.args.self.now middle last c.tell_others.new.self small
     (first, first_are, tells) further
-    (subst (λ (n : ℕ). TellsLines contents (others_of name n) _ c.tell_others.new.self) c.others.ensures others)) c.tell_others.ensures
+    (subst (λ (n : ℕ). TellsLines contents (others_of name n) last c.tell_others.new.self) c.others.ensures.left others)) c.tell_others.ensures

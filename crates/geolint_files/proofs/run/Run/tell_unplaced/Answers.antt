@@ -21,7 +21,7 @@ returns g c =
     let name = c.args.name.now in
     let notes = c.args.notes.now in
     let long : c.len.result ≡ length notes.notes.items = search rules in
-    let left : c.others.result ≡ notes.count - length notes.notes.items = c.others.ensures ∙ ap (λ (n : ℕ). notes.count - n) long in
+    let left : c.others.result ≡ notes.count - length notes.notes.items = c.others.ensures.left ∙ ap (λ (n : ℕ). notes.count - n) long in
     on_ok_weaker c.tell_others.result (λ others.
     all-told contents IsUnplaced name notes.notes.items notes.count c.args.self.now c.loop-note.self c.tell_others.new.self
     (whole-told contents IsUnplaced name notes.notes.items c.loop-note.note-index c.args.self.now c.loop-note.self
