@@ -64,7 +64,7 @@ struct Row {
     case: &'static str,
 }
 
-fn row(
+fn row_of(
     framing: Option<Framing>,
     input: &'static str,
     valid: &'static str,
@@ -133,43 +133,43 @@ fn each_feature_goes_to_one_part(rt: HostRuntime) {
     expect(
         &rt,
         rt.alloc(),
-        &row(None, text, valid, "\u{1e}1\n", "a text"),
+        &row_of(None, text, valid, "\u{1e}1\n", "a text"),
     );
 }
 
 #[test]
 fn each_record_goes_to_one_part(rt: HostRuntime) {
     let rows = [
-        row(
+        row_of(
             Some(Framing::Sequence),
             "\u{1e}{\"type\":\"Point\",\"coordinates\":[]}\n\u{1e}[]\n\u{1e}{\"type\":\"Point\",\"coordinates\":[]}\n",
             "\u{1e}{\"type\":\"Point\",\"coordinates\":[]}\n\u{1e}{\"type\":\"Point\",\"coordinates\":[]}\n",
             "\u{1e}[]\n",
             "a broken record in the middle",
         ),
-        row(
+        row_of(
             Some(Framing::Sequence),
             "\u{1e}{\"type\":\"Point\",\"coordinates\":[]}\n\n\u{1e}{\"type\":\"Point\",\"coordinates\":[]}",
             "\u{1e}{\"type\":\"Point\",\"coordinates\":[]}\n\n",
             "\u{1e}{\"type\":\"Point\",\"coordinates\":[]}\n",
             "two LF, and none at the end",
         ),
-        row(
+        row_of(
             Some(Framing::Sequence),
             "x\u{1e}\u{1e}{\"type\":\"Point\",\"coordinates\":[]}\n\u{1e}{\u{1e}{\"type\":\"Point\",\"coordinates\":[]}\n\u{1e}",
             "\u{1e}{\"type\":\"Point\",\"coordinates\":[]}\n\u{1e}{\"type\":\"Point\",\"coordinates\":[]}\n",
             "\u{1e}x\n\u{1e}{\n\u{1e}\n",
             "bytes before the first RS, a cut record, and an RS at the end",
         ),
-        row(
+        row_of(
             Some(Framing::Lines),
             "{\"type\":\"Point\",\"coordinates\":[]}\r\n \t\r\n\n1\n{\"type\":\"Point\",\"coordinates\":[]}",
             "\u{1e}{\"type\":\"Point\",\"coordinates\":[]}\r\n\u{1e}{\"type\":\"Point\",\"coordinates\":[]}\n",
             "\u{1e}1\n",
             "CR LF, blank lines, and no LF at the end",
         ),
-        row(Some(Framing::Lines), "", "", "", "no line"),
-        row(Some(Framing::Sequence), "", "", "", "no record"),
+        row_of(Some(Framing::Lines), "", "", "", "no line"),
+        row_of(Some(Framing::Sequence), "", "", "", "no record"),
     ];
     for row in rows.iter() {
         expect(&rt, rt.alloc(), row);
