@@ -269,5 +269,9 @@ def read_file(name: bytes, file: Any, asked: Asked, framing: Optional[str]) -> F
     """Both readings of a file that can be read twice."""
     state = _state(file)
     found = read(name, file, asked, framing)
+    if asked.every and not framing and found.verdict is not None and found.verdict.name == "not JSON":
+        # The hint of a second text needs to know how many levels were open where the text was refused.
+        file.seek(0)
+        found.levels = check_open(file, max_bytes=asked.max_bytes)[1]
     read_again(file, found, state)
     return found
