@@ -14,7 +14,7 @@ use Rattle.geolint_report.specs.Judged.{valid_in}
 use Rattle.geolint_report.specs.ReadingLoop.{Ends}
 use Rattle.geolint_report.specs.declared.reading_loop.Stage.TheVariants.{Open, Decided}
 use Rattle.geolint.specs.Quick.{JudgesQuickly, SaysValid}
-use Rattle.geolint.proofs.ReadVerdicts.{HasOne}
+use Rattle.geolint_report.proofs.QuickFiles.{HasOne}
 
 -- what a `Warnings` tells of the list is told by the verdict
 told_valid : (limits : Allowed) (bytes : List ℕ) (warnings : List Warning) → IsJudgement limits bytes (valid warnings)

@@ -1,9 +1,6 @@
 -- Lemmas on the verdict of what was read.
-use Rattle.std.proofs.Common.{inl, inr, arith, refl, ◌+◌, ◌-◌, ◌<◌, ◌^◌, ◌≡◌, ℕ, List, [], ◌++◌, Some, None, ap, sym, ◌∙◌, subst, append-nil}
+use Rattle.std.proofs.Common.{arith, refl, ◌+◌, ◌-◌, ◌≡◌, ℕ, List, [], ◌++◌, Some, None, ap, sym, ◌∙◌, subst, append-nil}
 use Rattle.std.specs.Prelude.{Option}
-use Rattle.std.specs.Io.Iter.{u64_saturate}
-use Rattle.std.proofs.Math.Nat.{min-eq_left, min-eq_right}
-use Rattle.std.proofs.lemmas.Bool.{cases_lt}
 use Rattle.std.specs.Io.KnownBytes.{Consumes, IsAtEnd}
 use Rattle.gj_json.specs.Limits.{Allowed}
 use Rattle.gj_json.specs.Refusal.{IsRefusal}
@@ -16,6 +13,7 @@ use Rattle.geolint_report.specs.ReadingLoop.{Ends}
 use Rattle.geolint_report.specs.declared.reading_loop.Stage.{Stage}
 use Rattle.geolint_report.specs.declared.reading_loop.Stage.TheVariants.{Open, Decided}
 use Rattle.geolint.specs.Judged.{JudgesBy, JudgesRead}
+use Rattle.geolint_report.proofs.QuickFiles.{HasOne}
 
 -- the reader has come to its end
 pub Judges-end : {V : Type 0} (Is : Allowed → List ℕ → V → Type 0) (limits : Allowed) (old new : Option (List ℕ)) (read : List ℕ) (verdict : V)
@@ -37,10 +35,6 @@ Judges-lasting Is limits (Some all) (Some rest) read verdict took lasts =
 
 -- ---- a text
 
--- each input has one verdict
-abbrev pub HasOne : Type 0
-HasOne = (limits : Allowed) (bytes : List ℕ) (first second : Verdict) → IsVerdict limits bytes first → IsVerdict limits bytes second → first ≡ second
-
 abbrev pub SaysRead : Allowed → Option (List ℕ) → Option (List ℕ) → Verdict → Type 0
 SaysRead limits old new verdict = (judgement : Judgement) × Says verdict judgement × JudgesRead limits old new judgement
 
@@ -59,19 +53,3 @@ pub text-read : HasOne → (Stands : List ℕ → Type 0) (here limits : Allowed
     → Ends Stands (IsRefused here) old new stage → ((read : List ℕ) → Stands read → IsVerdict here read verdict) → SaysRead limits old new verdict
 text-read one Stands here limits same old new stage verdict ends is =
     subst (λ (l : Allowed). SaysRead l old new verdict) same (text-here one Stands here old new stage verdict ends is)
-
--- ---- counts
-
--- a count of bytes that stops at the greatest `u64`, one read later
-pub given_more : (begin here there offset count : ℕ) → there ≡ u64_saturate (here + count) → (here < 2 ^ 64 - 1 → here ≡ begin + offset)
-    → there < 2 ^ 64 - 1 → there ≡ begin + (offset + count)
-given_more begin here there offset count grown before below =
-    elim (cases_lt (here + count) (2 ^ 64 - 1)) [
-      | inl within ↦
-          let grown_to : there ≡ here + count = grown ∙ min-eq_left (omega (arith, within)) in
-          let so_far : here ≡ begin + offset = before (omega (arith, within)) in
-          omega (arith, grown_to, so_far)
-      | inr over ↦
-          let stopped : there ≡ 2 ^ 64 - 1 = grown ∙ min-eq_right over in
-          absurd (omega (arith, stopped, below))
-    ]

@@ -1,11 +1,10 @@
 -- Lemmas on what is appended to a room and what goes out into a writer.
 use Rattle.std.proofs.Common.{◌≡◌, ℕ, ◌+◌, ◌-◌, ◌<◌, ◌≤◌, List, ◌∷◌, ◌++◌, length, get_or, take, drop, arith, refl, sym, ap, ◌∙◌, subst, add-one, drop-cons}
-use Rattle.std.proofs.Common.{length-take, take-append-drop, append-nil, []}
+use Rattle.std.proofs.Common.{length-take, take-append-drop}
 use Rattle.std.specs.Prelude.{Option}
 use Rattle.std.specs.Borrow.{Bor}
 use Rattle.std.proofs.Math.Seq.{take-append-add}
-use Rattle.std.specs.List.{flat_map}
-use Rattle.std.proofs.lemmas.List.{take_rest, take_more}
+use Rattle.std.proofs.lemmas.List.{take_rest}
 use Rattle.std.proofs.lemmas.List.Concat.{flat_map-append}
 use Rattle.std.specs.Io.KnownBytes.{Appends}
 use Rattle.std.proofs.KnownBytes.{Appends-trans}
@@ -36,11 +35,3 @@ joined-split pieces i d within =
     flat_map-append (λ (p : Bor (List ℕ)). p.now) (take i pieces) (drop i pieces) in
     let whole : joined (take i pieces ++ drop i pieces) ≡ joined pieces = ap joined (take-append-drop i pieces) in
     sym whole ∙ parts ∙ ap (λ (ps : List (Bor (List ℕ))). joined (take i pieces) ++ joined ps) tail
-
--- ---- lines of the elements of a list, one behind the other
-
-pub lines-more : {A : Type 0} (line : A → List ℕ) (xs : List A) (i : ℕ) (d : A) → i < length xs
-    → flat_map line (take (i + 1) xs) ≡ flat_map line (take i xs) ++ line (get_or xs i d)
-lines-more {A = A} line xs i d within =
-    ap (λ (ys : List A). flat_map line ys) (take_more xs i d within)
-    ∙ (flat_map-append line (take i xs) (get_or xs i d ∷ []) ∙ ap (λ (ys : List ℕ). flat_map line (take i xs) ++ ys) (append-nil (line (get_or xs i d))))

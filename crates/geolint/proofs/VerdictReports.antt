@@ -1,8 +1,7 @@
 -- The report of a verdict is that of each judgement that the verdict says.
-use Rattle.std.proofs.Common.{◌≡◌, ℕ, ◌<◌, false, List, [], ◌∷◌, ◌++◌, length, arith, refl, ap, ◌∙◌, suc}
+use Rattle.std.proofs.Common.{◌≡◌, ℕ, false, List, [], ◌∷◌, ◌++◌, length, arith, refl, ap, ◌∙◌}
 use Rattle.std.specs.Prelude.{min, ◌==◌, if◌then◌else◌, Option, Some, None, unwrap_or, codes}
 use Rattle.std.specs.List.{flat_map}
-use Rattle.std.proofs.lemmas.Bool.Decides.{nat_tests}
 use Rattle.gj_json.specs.declared.path.Path.{Path}
 use Rattle.gj_coords.specs.Warnings.{Warning, kinds, places_of, greatest_count, least_place}
 use Rattle.gj_coords.specs.WarningsStand.{StandsFor}
@@ -20,6 +19,7 @@ use Rattle.gj_rules.specs.declared.verdict.Verdict.TheVariants.{Valid, Broken, N
 use Rattle.geolint.specs.Report.{line_if, kind_line, warning_lines, broken_line, refusal_line, path_line_if, report}
 use Rattle.geolint.specs.Sequence.{record_line, count_line, sequence_report}
 use Rattle.geolint.specs.VerdictReport.{told_line, told_lines, verdict_report, sequence_verdict_report}
+use Rattle.gj_coords.proofs.Lists.ShiftedWarnings.{some_count}
 
 -- ---- the line of a kind
 
@@ -33,9 +33,6 @@ line_of noted kind = line_if (if noted.count == 0 then None else Some noted.firs
 some_line : (kind : Kind) (count place : ℕ) (least : Option ℕ) → (count == 0) ≡ false → least ≡ Some place
     → line_of (noted_as count (unwrap_or least 0)) kind ≡ line_if least kind count
 some_line kind count place least some found = rw (some, found) refl
-
-some_count : (limit n : ℕ) → 0 < limit → (min (suc n) limit == 0) ≡ false
-some_count limit n h = grind (arith, nat_tests)
 
 line_of_places : (kind : Kind) (places : List ℕ)
     → line_of (noted_as (min (length places) greatest_count) (unwrap_or (least_place places) 0)) kind ≡ line_if (least_place places) kind

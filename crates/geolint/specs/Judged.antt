@@ -7,7 +7,7 @@ use Rattle.geolint_report.specs.Fed.{ShowNoRefusal}
 use Rattle.geolint_report.specs.ReadingLoop.{StopsBy as StopsInRoom}
 
 -- What a reader has to give was `had` and is `left`. The verdict is right of the bytes that were read; and where the reader tells
--- its bytes, of all of them, and where it was left before its end, whatever may come behind those that were read.
+-- its bytes, of all of them, and where it was left before its end, whatever may come after those that were read.
 abbrev pub JudgesBy : {V : Type 0} → (Allowed → List ℕ → V → Type 0) → Allowed → (had left : Option (List ℕ)) → V → Type 0
 JudgesBy Is limits had left verdict =
     (read : List ℕ) × Consumes had left read × Is limits read verdict

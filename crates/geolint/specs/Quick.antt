@@ -26,7 +26,7 @@ SaysValid None None = ⊤
 SaysValid _ _ = ⊥
 
 -- What a reader has to give was `had` and is `left`. Where it tells its bytes, a valid text was read to its end. Another one is no
--- valid text, and where it was left before its end, no bytes behind those that were read make them one.
+-- valid text, and where it was left before its end, no bytes after those that were read make them one.
 abbrev pub JudgesQuickly : Allowed → (had left : Option (List ℕ)) → Option (List Warning) → Type 0
 JudgesQuickly limits had left (Some warnings) = IfSome had (λ all. Consumes had left all × IsJudgement limits all (valid warnings))
 JudgesQuickly limits had left None =
@@ -57,7 +57,7 @@ abbrev pub QuickRuns : Options → Option (List ℕ) → Option (List ℕ) → O
 QuickRuns options had left held holds (Ok outcome) =
     (warnings : Option (List Warning)) × JudgesQuickly options.limits had left warnings × Appends held holds (quick_report warnings)
     × (outcome ≡ quick_outcome options.strict warnings)
--- a front of it did
+-- a prefix of it did
 QuickRuns options had left held holds (Err (Write fault)) =
     (warnings : Option (List Warning)) × JudgesQuickly options.limits had left warnings × IsFrontOut held holds (quick_report warnings) fault.written
 -- so many bytes came, and nothing went out

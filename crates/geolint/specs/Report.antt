@@ -1,4 +1,4 @@
--- The bytes of the report: a line that says what the input is; behind `valid` a line for each kind of warning that there is; behind
+-- The bytes of the report: a line that says what the input is; after `valid` a line for each kind of warning that there is; after
 -- `broken` a line with the path, where there is one.
 use Rattle.std.specs.Prelude.{ℕ, List, [], ◌++◌, Option, Some, None, codes}
 use Rattle.std.specs.List.{flat_map}
@@ -6,15 +6,15 @@ use Rattle.std.specs.Fmt.{decimal}
 use Rattle.gj_coords.specs.declared.fault.Fault.{Fault}
 use Rattle.gj_coords.specs.Fault.{number_of}
 use Rattle.gj_coords.specs.Texts.{rule_text, kind_text}
-use Rattle.gj_json.specs.Texts.{cause_text, name_text}
+use Rattle.gj_json.specs.Texts.{cause_text}
 use Rattle.gj_coords.specs.declared.kind.Kind.{Kind}
 use Rattle.gj_coords.specs.Warnings.{Warning, kind_number, kinds, count_of, first_of}
 use Rattle.gj_json.specs.declared.fault.JsonFault.{JsonFault}
 use Rattle.gj_json.specs.declared.path.Path.{Path}
-use Rattle.gj_json.specs.declared.path.PathStep.{PathStep}
-use Rattle.gj_json.specs.declared.path.PathStep.TheVariants.{Index, Member}
 use Rattle.gj_json.specs.Path.{steps_of}
 use Rattle.gj_rules.specs.Verdict.{Judgement, valid, broken, refused}
+unfoldable pub use Rattle.gj_json.specs.Texts.{steps_text}
+pub use Rattle.gj_json.specs.Texts.{step_text}
 
 -- the place is decimal, without leading zeros
 abbrev pub refusal_line : JsonFault → List ℕ
@@ -47,14 +47,6 @@ abbrev pub valid_report : List Warning → List ℕ
 valid_report warnings = codes "valid\n" ++ warning_lines warnings
 
 -- ---- the path
-
-abbrev pub step_text : PathStep → List ℕ
-step_text (Index index) = codes "[" ++ (decimal index ++ codes "]")
-step_text (Member name) = codes "." ++ name_text name
-
--- of all steps, from the root
-unfoldable pub steps_text : List PathStep → List ℕ
-steps_text steps = flat_map step_text steps
 
 unfoldable pub path_line_if : Option Path → List ℕ
 path_line_if None = []

@@ -1,4 +1,4 @@
--- What a run does: it judges what the reader gives, and writes the report, with the path where it is sought.
+-- What a run does: it checks what the reader gives, and writes the report, with the path where it is sought.
 use Rattle.std.specs.Prelude.{◌≡◌, ◌⊎◌, ℕ, Bool, if◌then◌else◌, List, [], ◌∷◌, length, Option, None, Result, Ok, Err, ◌+◌, ◌-◌, ◌^◌, ◌<◌}
 use Rattle.std.specs.Io.KnownBytes.{Appends, Consumes, Keeps}
 use Rattle.gj_json.specs.Limits.{Allowed}
@@ -47,7 +47,7 @@ ReadFaultOf had left given now_given (Read fault) =
     ((read : List ℕ) × Consumes had left read × (length read ≡ fault.offset)) × (now_given < 2 ^ 64 - 1 → now_given ≡ given + fault.offset)
 ReadFaultOf had left given now_given (Write fault) = ⊥
 
--- a write fault of a report: a front of it is out
+-- a write fault of a report: a prefix of it is out
 abbrev pub WriteFaultOf : Option (List ℕ) → Option (List ℕ) → List ℕ → RunFault → Type 0
 WriteFaultOf held holds bytes (Read fault) = ⊥
 WriteFaultOf held holds bytes (Write fault) = IsFrontOut held holds bytes fault.written
@@ -76,7 +76,7 @@ abbrev pub RunsBy : (Judgement → Option Path → Type 0) → Options → Optio
 RunsBy Found options had left held holds (Ok outcome) =
     (judgement : Judgement) × (path : Option Path) × JudgesRead options.limits had left judgement × Found judgement path
     × Appends held holds (report judgement path) × (outcome ≡ outcome_of options.strict judgement)
--- a front of it did
+-- a prefix of it did
 RunsBy Found options had left held holds (Err (Write fault)) =
     (judgement : Judgement) × (path : Option Path) × JudgesRead options.limits had left judgement × Found judgement path
     × IsFrontOut held holds (report judgement path) fault.written

@@ -52,7 +52,7 @@ abbrev pub SequenceRuns : Options → Option (List ℕ) → Option (List ℕ) �
 SequenceRuns options had left held holds (Ok outcome) =
     (judgement : SequenceJudgement) × JudgesSequence options.limits had left judgement
     × Appends held holds (sequence_report judgement) × (outcome ≡ sequence_outcome options.strict judgement)
--- a front of it did
+-- a prefix of it did
 SequenceRuns options had left held holds (Err (Write fault)) =
     (judgement : SequenceJudgement) × JudgesSequence options.limits had left judgement
     × IsFrontOut held holds (sequence_report judgement) fault.written

@@ -1,4 +1,4 @@
--- The bytes of the report of a verdict, as the verdict tells it: whatever its `Warnings` is, and without a list of warnings. Where the
+-- The bytes of the report of a verdict, as the verdict says it: whatever its `Warnings` is, and without a list of warnings. Where the
 -- verdict says a judgement, it is the report of that judgement.
 use Rattle.std.specs.Prelude.{ℕ, List, ◌++◌, Option, None, codes}
 use Rattle.std.specs.List.{flat_map}

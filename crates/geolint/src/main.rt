@@ -24,12 +24,13 @@ mod words;
 
 use crate::fault::{ProgramFault, RunFault, USAGE, WriteFault};
 use crate::options::Outcome;
-use crate::report::{write_help, write_version};
+use crate::report::{write_bytes, write_help, write_version};
 use crate::run::{run, run_with_path};
 use crate::sequence::run_sequence;
 use crate::sink::{FromWrite, Sink};
 use crate::source::FromRead;
 use crate::words::{Order, WordsFault, read_words};
+use own_build::own_build;
 use std::env;
 use std::fs::{self, File};
 use std::io::{self, ErrorKind};
@@ -59,11 +60,20 @@ fn answer(rt: &HostRuntime) -> Result<Outcome, ProgramFault> {
             Ok(Outcome::Pass)
         }
         Err(WordsFault::Version) => {
-            write_version(&mut FromWrite::new(rt.stdout())).map_err(ProgramFault::Write)?;
+            say_version(rt, &mut FromWrite::new(rt.stdout())).map_err(ProgramFault::Write)?;
             Ok(Outcome::Pass)
         }
         Err(WordsFault::Usage) => Err(ProgramFault::Usage),
         Err(WordsFault::Memory) => Err(ProgramFault::Memory),
+    }
+}
+
+/// Writes the version, and what the program was built from where its file says it.
+fn say_version<W: Sink>(rt: &HostRuntime, writer: &mut W) -> Result<(), WriteFault> {
+    write_version(writer)?;
+    match own_build(rt) {
+        Ok(lines) => write_bytes(lines.as_slice(), writer),
+        Err(_) => Ok(()),
     }
 }
 

@@ -27,7 +27,7 @@ use gj_rules::{SeqVerdict, Verdict};
 use itoa::Buffer;
 
 /// Writes the bytes, in one piece where the writer takes it whole.
-fn write_bytes<W: Sink>(bytes: &[u8], writer: &mut W) -> Result<(), WriteFault>
+pub fn write_bytes<W: Sink>(bytes: &[u8], writer: &mut W) -> Result<(), WriteFault>
     ensures whole { OnOk result (Appends (W.taken writer.old) (W.taken writer.new) bytes.now) }
     ensures front { IfErr result (λ fault.
         IsFrontOut (W.taken writer.old) (W.taken writer.new) bytes.now fault.written) }

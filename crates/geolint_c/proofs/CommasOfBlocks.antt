@@ -1,12 +1,9 @@
 -- How many commas the first blocks of a piece have.
-use Rattle.std.proofs.Common.{◌≡◌, ℕ, zero, suc, ◌+◌, ◌*◌, ◌<◌, ◌≤◌, cond, List, [], length, take, drop, drop-drop, get_or, ap, sym, ◌∙◌, arith}
+use Rattle.std.proofs.Common.{◌≡◌, ℕ, zero, suc, ◌+◌, ◌*◌, ◌<◌, ◌≤◌, List, [], length, take, drop, drop-drop, get_or, ap, sym, ◌∙◌, arith, take-add}
 use Rattle.std.proofs.lemmas.List.Sums.{sum_by-append, sum_by-take-le, sum_by-take-drop, count_by-le-length}
 use Rattle.std.specs.Simd.{first_chunks}
 use Rattle.gj_rules.specs.FeatureFindings.{is_comma, commas}
-use Rattle.geolint_c.proofs.PulledFeatures.{take_more}
-
-abbrev pub one_if : ℕ → ℕ
-one_if b = cond (is_comma b) 1 0
+use Rattle.gj_rules.proofs.Features.FeaturesByCommas.{one_if}
 
 block_at : (n k i : ℕ) (piece : List ℕ) → i < k → get_or (first_chunks n k piece) i [] ≡ take n (drop (i * n) piece)
 block_at n zero i piece h = absurd (omega arith)
@@ -20,7 +17,7 @@ pub one_block_more : (piece : List ℕ) (index k : ℕ) (blocks : List (List ℕ
 one_block_more piece index k blocks same less =
     let e : (index + 1) * 64 ≡ index * 64 + 64 = omega arith in
     let it : get_or blocks index [] ≡ take 64 (drop (index * 64) piece) = ap (λ bs. get_or bs index []) same ∙ block_at 64 k index piece less in
-    ap (λ n. commas (take n piece)) e ∙ ap commas (take_more piece (index * 64) 64)
+    ap (λ n. commas (take n piece)) e ∙ ap commas (take-add (index * 64) 64 piece)
     ∙ sum_by-append one_if (take (index * 64) piece) (take 64 (drop (index * 64) piece))
     ∙ ap (λ bs. commas (take (index * 64) piece) + commas bs) (sym it)
 

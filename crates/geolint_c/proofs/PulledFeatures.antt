@@ -1,6 +1,6 @@
 -- Which features are ready, as more bytes come.
-use Rattle.std.proofs.Common.{◌≡◌, ℕ, zero, suc, ◌+◌, ◌-◌, ◌%◌, ◌<◌, ◌≤◌, ◌^◌, nat_le, Bool, true, false, cond, if◌then◌else◌, List, [], ◌∷◌, ◌++◌, length}
-use Rattle.std.proofs.Common.{length-append, take, drop, slice_get, append_assoc, Option, Some, None, refl, ap, sym, subst, ◌∙◌, arith}
+use Rattle.std.proofs.Common.{◌≡◌, ℕ, zero, suc, ◌+◌, ◌-◌, ◌%◌, ◌<◌, ◌≤◌, ◌^◌, nat_le, Bool, true, false, if◌then◌else◌, List, [], ◌∷◌, ◌++◌, length}
+use Rattle.std.proofs.Common.{length-append, take, slice_get, append_assoc, Option, Some, None, refl, ap, sym, subst, ◌∙◌, arith}
 use Rattle.std.proofs.lemmas.Bool.Decides.{nat_tests}
 use Rattle.std.proofs.lemmas.List.{take_all, take-append-le, length-take-le}
 use Rattle.std.proofs.lemmas.List.Sums.{sum_by-take-le}
@@ -8,7 +8,7 @@ use Rattle.gj_json.specs.Limits.{Allowed}
 use Rattle.gj_json.specs.Text.{IsText, IsTextWithin}
 use Rattle.gj_json.specs.Tree.{Tree, Text}
 use Rattle.gj_json.specs.declared.fault.JsonFault.{JsonFault}
-use Rattle.gj_rules.specs.FeatureFindings.{FeatureFinding, complete_at, complete_in, features_of, findings_from, findings_by, is_comma, commas}
+use Rattle.gj_rules.specs.FeatureFindings.{FeatureFinding, complete_at, complete_in, features_of, findings_by, commas}
 use Rattle.gj_rules.specs.FeatureLinter.{refusal_of, offset_of, sink_of}
 use Rattle.gj_rules.specs.FeaturesTold.{SaysFinding, SayFindings, TellFindings}
 use Rattle.gj_rules.specs.declared.feature.Feature.{Feature}
@@ -19,6 +19,8 @@ use Rattle.geolint_c.specs.Finding.{IsFeature}
 use Rattle.geolint_c.specs.Features.{Judging, OfFeatures, HasRoom, Judges, IsJudging, OfNext, IsNextOf, tells_more, ready_by}
 use Rattle.geolint_c.specs.Internal.Pulling.{Counted, OfLinter, HasRoomFor, most_in}
 use Rattle.geolint_c.specs.Latest.{Keeps}
+use Rattle.gj_rules.proofs.Features.FeaturesInTime.{as_many}
+use Rattle.gj_rules.proofs.Features.FeaturesByCommas.{one_if}
 
 -- ---- lists
 
@@ -28,15 +30,6 @@ take_on (x ∷ xs) ys zero l = absurd (omega (arith, l))
 take_on (x ∷ xs) ys (suc m) l =
     let e : m - length xs ≡ suc m - suc (length xs) = omega arith in
     ap (λ zs. x ∷ zs) (take_on xs ys m (omega (arith, l)) ∙ ap (λ k. xs ++ take k ys) e)
-
-take_nil : (n : ℕ) → take {A = ℕ} n [] ≡ []
-take_nil zero = refl
-take_nil (suc n) = refl
-
-pub take_more : (xs : List ℕ) (n m : ℕ) → take (n + m) xs ≡ take n xs ++ take m (drop n xs)
-take_more xs zero m = let e : 0 + m ≡ m = omega arith in ap (λ k. take k xs) e
-take_more [] (suc n) m = take_nil (suc n + m) ∙ sym (take_nil m)
-take_more (x ∷ xs) (suc n) m = let e : suc n + m ≡ suc (n + m) = omega arith in ap (λ k. take k (x ∷ xs)) e ∙ ap (λ ys. x ∷ ys) (take_more xs n m)
 
 -- ---- what is told and what is found
 
@@ -123,9 +116,6 @@ counted latest found few h =
 
 -- ---- how many there are, as more bytes come
 
-abbrev one_if : ℕ → ℕ
-one_if b = cond (is_comma b) 1 0
-
 grows : (n m : ℕ) (vs : List Tree) → n ≤ m → length (complete_in n vs) ≤ length (complete_in m vs)
 grows n m [] l = omega arith
 grows n m (v ∷ vs) l = cut (nat_le (complete_at v) n) refl (grows n m vs l)
@@ -137,10 +127,6 @@ grows n m (v ∷ vs) l = cut (nat_le (complete_at v) n) refl (grows n m vs l)
         let j : nat_le (complete_at v) m ≡ true = grind (arith, nat_tests) in
         rw j (omega (arith, on))
     cut false e on = omega arith
-
-as_many : (i : ℕ) (vs : List Tree) → length (findings_from i vs) ≡ length vs
-as_many i [] = refl
-as_many i (v ∷ vs) = ap suc (as_many (i + 1) vs)
 
 found_more : (n m : ℕ) (text : Text) → n ≤ m → length (findings_by n text) ≤ length (findings_by m text)
 found_more n m text l =

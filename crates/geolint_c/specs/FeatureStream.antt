@@ -1,4 +1,4 @@
--- What a call gives at a pointer to a handle that tells features, where the pointer may be null.
+-- What a call gives at a pointer to a handle that reports features, where the pointer may be null.
 use Rattle.std.specs.Prelude.{◌≡◌, ℕ, List}
 use Rattle.std.specs.Ptr.{Ptr}
 use Rattle.geolint_c.specs.declared.features.FeatureHandle.{FeatureHandle}

@@ -1,4 +1,4 @@
--- What a handle stands for that tells features, and what each of its calls gives.
+-- What a handle stands for that reports features, and what each of its calls gives.
 use Rattle.std.specs.Prelude.{◌≡◌, ℕ, ◌+◌, ◌≤◌, ◌<◌, ◌^◌, true, false, Bool, not, ◌&&◌, nat_lt, if◌then◌else◌, List, [], ◌++◌, length, take, slice_get, Option}
 use Rattle.std.specs.Prelude.{Some, None}
 use Rattle.gj_json.specs.Events.{all_events}
@@ -61,7 +61,7 @@ refused_by (Some linter) = refusal_of linter
 abbrev pub refusal : FeatureHandle → Option JsonFault
 refusal handle = refused_by handle.linter
 
--- more features were told than were pulled
+-- more features were reported than were pulled
 abbrev pub tells_more : Judging → ℕ → Bool
 tells_more linter pulled = nat_lt pulled (sink_of linter).told
 

@@ -37,7 +37,7 @@ abbrev pub feature_report : Option Fault → List Warning → Report
 feature_report None warnings = valid_report warnings
 feature_report (Some fault) warnings = broken_report fault
 
--- what is found in a feature that was told, with this report
+-- what is found in a feature that was reported, with this report
 abbrev pub finding_with : Feature → Report → Finding
 finding_with told report = record { number = told.index; place = told.place; end = end_or_zero told.close; id = place_or_zero told.id; report = report }
 

@@ -51,7 +51,7 @@ BegunStatus max_depth max_bytes status =
     (AreAllowed max_depth max_bytes → status ≡ 0) × (¬ (AreAllowed max_depth max_bytes) → status ≡ 3)
 
 -- ---- feed
--- the number by which a call tells what a piece shows
+-- the number by which a call reports what a piece shows
 abbrev pub status_of : Progress → ℕ
 status_of Open = 0
 status_of (Refused fault) = 1

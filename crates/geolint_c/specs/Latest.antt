@@ -1,10 +1,10 @@
--- Which features are kept of those that were told.
+-- Which features are kept of those that were reported.
 use Rattle.std.specs.Prelude.{◌≡◌, ℕ, ◌+◌, ◌≤◌, ◌<◌, ◌^◌, ◌%◌, List, length, Some, slice_get}
 use Rattle.gj_rules.specs.declared.feature.Feature.{Feature}
 use Rattle.geolint_c.specs.declared.latest.LatestFeatures.{LatestFeatures}
 use Rattle.geolint_c.specs.declared.latest.TheConstants.{ROOM}
 
--- It was told these features: it counts them, and keeps the last ones, as long as there are fewer than 2^64.
+-- These features were reported to it: it counts them, and keeps the last ones, as long as there are fewer than 2^64.
 pub record KeepsAll (latest : LatestFeatures) (features : List Feature) : Type 0 where
   pub told : latest.told ≡ length features
   pub kept : (number : ℕ) (feature : Feature) → slice_get features number ≡ Some feature → length features ≤ number + ROOM

@@ -1,28 +1,21 @@
--- What a handle stands for that tells the path to a place, and what each of its calls gives.
-use Rattle.std.specs.Prelude.{◌≡◌, ℕ, List, [], ◌++◌, take, replicate, slice_get, codes, Option, Some, None, Result, Ok, Err}
-use Rattle.std.specs.Fmt.{decimal}
+-- What a handle stands for that reports the path to a place, and what each of its calls gives.
+use Rattle.std.specs.Prelude.{◌≡◌, ℕ, List, [], ◌++◌, take, replicate, slice_get, Option, Some, None, Result, Ok, Err}
 use Rattle.gj_json.specs.Limits.{Allowed}
 use Rattle.gj_json.specs.Locator.{StandsFor as LocatorStandsFor, limits_of, offset_of}
 use Rattle.gj_json.specs.Path.{path_at}
 use Rattle.gj_json.specs.Reader.{Answers}
 use Rattle.gj_json.specs.Text.{IsText}
-use Rattle.gj_json.specs.Texts.{name_text}
 use Rattle.gj_json.specs.Tree.{Text}
 use Rattle.gj_json.specs.declared.fault.JsonFault.{JsonFault}
 use Rattle.gj_json.specs.declared.locator.Locator.{Locator}
 use Rattle.gj_json.specs.declared.path.PathStep.{PathStep}
-use Rattle.gj_json.specs.declared.path.PathStep.TheVariants.{Index, Member}
 use Rattle.geolint_c.specs.declared.locator.LocatorHandle.{LocatorHandle}
 use Rattle.geolint_c.specs.declared.locator.StepText.{StepText}
 use Rattle.geolint_c.specs.declared.locator.TheConstants.{STEP_ROOM}
 use Rattle.geolint_c.specs.Options.{AreAllowed, limits_meant}
+pub use Rattle.gj_json.specs.Texts.{step_text}
 
 -- ---- texts
-
--- the text of a step, as the program's report has it
-abbrev pub step_text : PathStep → List ℕ
-step_text (Index index) = codes "[" ++ (decimal index ++ codes "]")
-step_text (Member name) = codes "." ++ name_text name
 
 -- the bytes that count
 abbrev pub shown : StepText → List ℕ

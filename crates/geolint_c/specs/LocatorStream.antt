@@ -1,4 +1,4 @@
--- What a call gives at a pointer to a handle that tells a path, where the pointer may be null.
+-- What a call gives at a pointer to a handle that reports a path, where the pointer may be null.
 use Rattle.std.specs.Prelude.{◌≡◌, ℕ, List}
 use Rattle.std.specs.Ptr.{Ptr}
 use Rattle.geolint_c.specs.declared.locator.LocatorHandle.{LocatorHandle}

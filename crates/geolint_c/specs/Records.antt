@@ -1,4 +1,4 @@
--- What a handle stands for that tells records, and what each of its calls gives.
+-- What a handle stands for that reports records, and what each of its calls gives.
 use Rattle.std.specs.Prelude.{◌≡◌, ◌↔◌, ℕ, zero, suc, ◌<◌, ◌≤◌, true, false, Bool, if◌then◌else◌, List, [], ◌∷◌, ◌++◌, length, take, Option, Some, None}
 use Rattle.gj_json.specs.Limits.{Allowed}
 use Rattle.gj_rules.specs.RecordFindings.{AreFindingsSoFar, AreAllFindings, whole_of}
@@ -37,7 +37,7 @@ abbrev pub IsJudging : Option Records → LastRecord → Framing → Allowed →
 IsJudging None last framing limits bytes found = ⊥
 IsJudging (Some records) last framing limits bytes found = Judges records last framing limits bytes found
 
--- It was begun so and fed these bytes, has told these records, and has not ended.
+-- It was begun so and fed these bytes, has reported these records, and has not ended.
 abbrev pub StandsFor : RecordHandle → Framing → Allowed → List ℕ → List Record → Type 0
 StandsFor handle framing limits bytes found = (handle.ended ≡ false) × IsJudging handle.records handle.last framing limits bytes found
 
@@ -110,7 +110,7 @@ pub record IsOffset (old : RecordHandle) (offset : ℕ) (new : RecordHandle) : T
 
 -- ---- finish
 
--- what is found in all records, the last of which may be told now; and what the input is by them
+-- what is found in all records, the last of which may be reported now; and what the input is by them
 pub record TellsAll (new : RecordHandle) (framing : Framing) (limits : Allowed) (bytes : List ℕ) (found : List Record) (told : Whole) : Type 0 where
   pub more : List Record
   pub findings : AreAllFindings framing limits bytes (found ++ more)

@@ -2,8 +2,6 @@
 use Rattle.std.specs.Prelude.{◌≡◌, ℕ, List, [], ◌∷◌, map, Option, Some, None}
 use Rattle.gj_json.specs.Limits.{Allowed}
 use Rattle.gj_json.specs.declared.fault.JsonFault.{JsonFault}
-use Rattle.gj_json.specs.declared.fault.Cause.{Cause}
-use Rattle.gj_json.specs.declared.fault.Cause.TheVariants.{Syntax, Truncated, Depth, Length}
 use Rattle.gj_coords.specs.declared.fault.Fault.{Fault}
 use Rattle.gj_coords.specs.declared.kind.Kind.{Kind}
 use Rattle.gj_coords.specs.Fault.{number_of}
@@ -11,13 +9,7 @@ use Rattle.gj_coords.specs.Warnings.{Warning, kinds, count_of, first_of}
 use Rattle.gj_rules.specs.Verdict.{Judgement, valid, broken, refused, IsJudgement}
 use Rattle.geolint_c.specs.declared.report.Report.{Report}
 use Rattle.geolint_c.specs.declared.report.Warned.{Warned}
-
--- the number in a cause's name
-abbrev pub cause_number : Cause → ℕ
-cause_number Syntax = 1
-cause_number Truncated = 2
-cause_number Depth = 3
-cause_number Length = 4
+pub use Rattle.gj_json.specs.Texts.{cause_number}
 
 abbrev pub place_or_zero : Option ℕ → ℕ
 place_or_zero None = 0

@@ -1,4 +1,2 @@
-mod WorstOutcome
-mod ToldFiles
-mod ListedFiles
-mod WalkedEntries
+mod Runs
+mod Walks

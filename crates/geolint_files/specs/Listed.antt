@@ -1,5 +1,6 @@
--- What is told of the features or the records of a file that was read: which notes, and where their places stand.
-use Rattle.std.specs.Prelude.{◌≡◌, ◌⊎◌, ◌≤◌, ◌^◌, ℕ, zero, suc, ◌+◌, ◌-◌, List, [], ◌∷◌, ◌++◌, length, Bool, true, false, min, nat_eq, if◌then◌else◌, Option, Some, None, IfSome, ⊤}
+-- What is reported of the features or the records of a file that was read: which notes, and where their places stand.
+use Rattle.std.specs.Prelude.{◌≡◌, ◌⊎◌, ◌≤◌, ◌^◌, ℕ, zero, suc, ◌+◌, ◌-◌, List, [], ◌∷◌, ◌++◌, length, Bool, true, false, min, nat_eq, if◌then◌else◌, Option}
+use Rattle.std.specs.Prelude.{Some, None, IfSome, ⊤}
 use Rattle.std.specs.Io.Iter.{u64_saturate}
 use Rattle.gj_json.specs.Limits.{Allowed}
 use Rattle.gj_rules.specs.declared.records.framing.Framing.{Framing}
@@ -18,7 +19,7 @@ use Rattle.geolint_files.specs.Told.{reading_of, HasSites, IsToldOnce, IsToldTwi
 
 -- ---- what is asked
 
--- how many are told at most: 0 asks for all
+-- how many are reported at most: 0 asks for all
 abbrev pub most_of : ℕ → ℕ
 most_of most = if nat_eq most 0 then 2 ^ 64 - 1 else most
 
@@ -61,7 +62,7 @@ abbrev pub others_of : List ℕ → ℕ → List FeatureLine
 others_of name zero = []
 others_of name (suc count) = others_line name (suc count) ∷ []
 
--- of so many notes these are told, and behind them how many others there are
+-- of so many notes these are reported, and after them how many others there are
 pub record AreLinesOf (Right : Entry → Type 0) (name : List ℕ) (notes : List Note) (count : ℕ) (lines : List FeatureLine) : Type 0 where
   pub entries : List FeatureLine
   pub are : AreEntriesOf Right name notes entries
@@ -78,7 +79,7 @@ AreListed Right framing asked limits name had lines tally =
 abbrev pub IsUnplaced : Entry → Type 0
 IsUnplaced entry = (entry.mark ≡ None) × (entry.id.now ≡ [])
 
--- what is told of a source that had these bytes; where its features are not told, as of a file of which only the report is asked
+-- what is reported of a source that had these bytes; where its features are not reported, as of a file of which only the report is asked
 abbrev pub IsListedOnce : Reading → Asked → Allowed → List ℕ → Option (List ℕ) → (failed now_failed : ℕ) → ToldFile → Type 0
 IsListedOnce reading asked limits name had failed now_failed (listed report lines tally) =
     (report.name.now ≡ name) × (report.sites ≡ None) × (now_failed ≡ failed) × ((left : Option (List ℕ)) × Finds reading limits had left report.finding)
@@ -87,7 +88,7 @@ IsListedOnce reading asked limits name had failed now_failed file = IsToldOnce r
 
 -- ---- a source that is read again
 
--- what is told of the place of a note is right
+-- what is reported of the place of a note is right
 abbrev pub IsPlaced : Option Framing → Option (List ℕ) → Entry → Type 0
 IsPlaced framing text entry = IfSome entry.mark (λ mark. IsMarkBy framing text entry.note.told.place mark)
 
@@ -111,7 +112,7 @@ joined [] = []
 joined (notes ∷ more) = notes ++ joined more
 
 -- the lines of the notes that the first reading held, and where more are asked for of those that further readings of these bytes found; and
--- behind them how many others there are
+-- after them how many others there are
 abbrev pub ArePlacedLines : Reading → Asked → ℕ → Allowed → List ℕ → Option (List ℕ) → List Note → ℕ → List FeatureLine → Type 0
 ArePlacedLines reading asked most limits name text notes count lines =
     (further : List (List Note)) × AreFurther (framing_in reading) asked (most_of most) limits text (length notes) further

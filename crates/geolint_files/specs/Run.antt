@@ -1,4 +1,4 @@
--- What a run tells: of each file in turn its report and the lines of its features, at the end a summary, and the worst of the outcomes.
+-- What a run reports: of each file in turn its report and the lines of its features, at the end a summary, and the worst of the outcomes.
 use Rattle.std.specs.Prelude.{◌≡◌, ℕ, Bool, true, false, if◌then◌else◌, List, [], ◌∷◌, ◌++◌, map, Option, Some, None}
 use Rattle.std.specs.Io.KnownBytes.{Appends}
 use Rattle.geolint_report.specs.declared.every.tally.Tally.{Tally}
@@ -24,7 +24,7 @@ pub data FeatureLine : Type 0 where
   feature_line : (entry : Entry) → FeatureLine
   others_line : (name : List ℕ) → (count : ℕ) → FeatureLine
 
--- a file of which a report is told, or one that could not be opened or read, for this reason, or one of which the features are told and counted too
+-- a file whose report is written, or one that could not be opened or read, for this reason, or one whose features are reported and counted too
 pub data ToldFile : Type 0 where
   judged : (report : Report) → ToldFile
   not_read : (name reason : List ℕ) → ToldFile
@@ -41,13 +41,13 @@ outcome_in options (judged report) = outcome_of (passes options.strict options.a
 outcome_in options (not_read name reason) = Unread
 outcome_in options (listed report lines tally) = outcome_of (passes options.strict options.allowed report.finding)
 
--- what is counted of the features or records of files, where they are told
+-- what is counted of the features or records of files, where they are reported
 abbrev pub tallies_in : List ToldFile → List Tally
 tallies_in [] = []
 tallies_in (listed report lines tally ∷ more) = tally ∷ tallies_in more
 tallies_in (file ∷ more) = tallies_in more
 
--- the outcome of a run that told these files
+-- the outcome of a run that reported these files
 abbrev pub worst_of : Options → List ToldFile → Outcome
 worst_of options files = worst (map (outcome_in options) files)
 
@@ -91,7 +91,7 @@ abbrev pub AddsLines : Options → Style → List FeatureLine → Written → Wr
 AddsLines options style [] before after = after ≡ before
 AddsLines options style (line ∷ more) before after = (middle : Written) × AddsLine options style line before middle × AddsLines options style more middle after
 
--- features are told only where that is asked for
+-- features are reported only where that is asked for
 pub record AddsListed (options : Options) (style : Style) (report : Report) (lines : List FeatureLine) (before after : Written) : Type 0 where
   pub asked : options.every ≡ Every.Nothing → ⊥
   pub middle : Written
@@ -127,7 +127,7 @@ has_summary Format.Text summary = summary
 has_summary Format.Lines summary = summary
 has_summary format summary = false
 
--- features and records are counted where they are told
+-- features and records are counted where they are reported
 abbrev pub items_in : Every → List ToldFile → List ℕ
 items_in Every.Nothing files = []
 items_in every files = items_summary (tallies_in files)

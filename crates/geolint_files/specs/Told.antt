@@ -1,4 +1,4 @@
--- What is told of a file that was read: what its bytes were found to be, and where its places stand.
+-- What is reported of a file that was read: what its bytes were found to be, and where its places stand.
 use Rattle.std.specs.Prelude.{◌≡◌, ◌+◌, ℕ, Bool, true, false, List, Option, Some, None, IsSomeAnd}
 use Rattle.std.specs.Io.Iter.{u64_saturate}
 use Rattle.gj_json.specs.Limits.{Allowed}
@@ -27,7 +27,7 @@ framing_by None name = framing_of name
 abbrev pub reading_of : Options → List ℕ → Reading
 reading_of options name = reading_by (framing_by options.framing name) options.quick
 
--- the source is read again exactly where a place is told
+-- the source is read again exactly where a place is reported
 abbrev pub HasSitesIf : Bool → Reading → Allowed → Option (List ℕ) → (failed now_failed : ℕ) → Report → Type 0
 HasSitesIf true reading limits text failed now_failed report =
     IsSomeAnd report.sites (λ sites. AreSought report.finding reading limits text failed now_failed sites.now)
@@ -36,7 +36,7 @@ HasSitesIf false reading limits text failed now_failed report = (report.sites �
 abbrev pub HasSites : Reading → Allowed → Option (List ℕ) → (failed now_failed : ℕ) → Report → Type 0
 HasSites reading limits text failed now_failed report = HasSitesIf (has_places report.finding) reading limits text failed now_failed report
 
--- what is told of a source that had these bytes: what they are found to be, or that a read failed
+-- what is reported of a source that had these bytes: what they are found to be, or that a read failed
 abbrev pub IsToldOnce : Reading → Allowed → List ℕ → Option (List ℕ) → (failed now_failed : ℕ) → ToldFile → Type 0
 IsToldOnce reading limits name had failed now_failed (judged report) =
     (report.name.now ≡ name) × (report.sites ≡ None) × (report.hint ≡ None) × (now_failed ≡ failed)
@@ -44,7 +44,7 @@ IsToldOnce reading limits name had failed now_failed (judged report) =
 IsToldOnce reading limits name had failed now_failed (not_read told reason) = (told ≡ name) × (now_failed ≡ u64_saturate (failed + 1))
 IsToldOnce reading limits name had failed now_failed (listed report lines tally) = ⊥
 
--- the same of one that is read again: `text` are its bytes from the first one on
+-- as above, of one that is read again: `text` are its bytes from the first one on
 abbrev pub IsToldTwice : Reading → Allowed → List ℕ → Option (List ℕ) → Option (List ℕ) → (failed now_failed : ℕ) → ToldFile → Type 0
 IsToldTwice reading limits name had text failed now_failed (judged report) =
     (report.name.now ≡ name) × ((left : Option (List ℕ)) × Finds reading limits had left report.finding) × HasSites reading limits text failed now_failed report

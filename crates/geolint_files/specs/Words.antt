@@ -21,7 +21,7 @@ abbrev pub format_by : Option (List ℕ) → Format
 format_by None = Format.Lines
 format_by (Some word) = format_named word
 
--- what is told of each feature
+-- what is reported of each feature
 abbrev pub every_by : Option (List ℕ) → Every
 every_by None = Every.Nothing
 every_by (Some word) = if pointwise nat_eq word (codes "warnings") then Every.Warnings else Every.Faults

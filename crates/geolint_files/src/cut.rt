@@ -1,13 +1,18 @@
-//! A text sequence is checked in parts, and their lines are joined.
+//! A file of records is checked in parts, and their lines are joined.
 
 use crate::files::{look_up, reason};
 use crate::outcome::Outcome;
-use crate::run::{Failure, tell_joined};
+use crate::run::{Failure, asked_in, tell_joined};
+use crate::walk::framing_by;
 use crate::words::Order;
+use geolint_report::every::listing::Notes;
 use geolint_report::progress::Meter;
 use geolint_report::source::{FileSource, Rewind};
-use gj_rules::{Framing, SeqVerdict};
-use part_lines::{FileState, NoLine, PartLine, Refusal, Settings, join_lines, put_line, read_line};
+use gj_rules::SeqVerdict;
+use part_lines::{
+    FileState, Listed, NoLine, PartLine, Refusal, Settings, join_lines, join_notes, put_line,
+    read_line,
+};
 use report_forms::formats::put_name;
 use report_forms::options::Options;
 use sequence_parts::{Share, check_part};
@@ -34,6 +39,10 @@ pub fn check_share(rt: &HostRuntime, order: &Order, share: Share) -> io::Result<
 /// The line of a part of a file.
 fn line_of(rt: &HostRuntime, order: &Order, share: Share, name: &[u8]) -> io::Result<Vec<u8>> {
     let alloc = rt.alloc();
+    let options = &order.options;
+    let Some(framing) = framing_by(options.framing, name) else {
+        return Err(io::Error::from(ErrorKind::InvalidInput));
+    };
     let (spelled, _) = look_up(rt, name)?;
     let file = spelled.open(rt)?;
     let metadata = file.metadata()?;
@@ -41,25 +50,34 @@ fn line_of(rt: &HostRuntime, order: &Order, share: Share, name: &[u8]) -> io::Re
         return Err(io::Error::from(ErrorKind::NotSeekable));
     }
     let mut meter = Meter::new(rt.clone()?);
-    let options = &order.options;
     let size = metadata.len();
+    let asked = asked_in(options);
     let checked = check_part(
+        alloc,
         FileSource::new(file),
         size,
         share,
+        framing,
         options.limits,
+        asked,
         &mut meter,
     );
     meter.clear();
+    let found = checked?;
     let line = PartLine {
         file: state_of(alloc, spelled.as_str(), &metadata)?,
         settings: Settings {
+            framing,
             limits: options.limits,
             strict: options.strict,
             allowed: options.allowed,
         },
         share,
-        checked: checked?,
+        checked: found.part,
+        listed: match (asked, found.notes) {
+            (Some(asked), Some(notes)) => Some(Listed { asked, notes }),
+            _ => None,
+        },
     };
     let mut bytes = Vec::new(alloc);
     put_line(alloc, &line, &mut bytes)?;
@@ -129,12 +147,27 @@ impl From<AllocError> for NotJoined {
 /// Joins the lines of the files that are named, and reports the file of which they are.
 pub fn join_all(rt: &HostRuntime, order: &Order) -> Result<Outcome, NotJoined> {
     let given = given_lines(rt, order)?;
-    match join_lines(rt.alloc(), given.lines.as_slice()) {
-        Ok(verdict) => match given.lines.as_slice().first() {
-            Some(line) => report(rt, order, line, verdict),
-            None => Err(NotJoined::Refused(None, Refusal::None)),
-        },
-        Err(refusal) => Err(NotJoined::Refused(origin_of(&given, refusal), refusal)),
+    let (verdict, notes) = match join_given(rt.alloc(), order, &given) {
+        Ok(found) => found,
+        Err(refusal) => return Err(NotJoined::Refused(origin_of(&given, refusal), refusal)),
+    };
+    match given.lines.as_slice().first() {
+        Some(line) => report(rt, order, line, verdict, notes),
+        None => Err(NotJoined::Refused(None, Refusal::None)),
+    }
+}
+
+/// The verdict of the file, and the notes on its records where these are asked for.
+fn join_given(
+    alloc: Global,
+    order: &Order,
+    given: &Given,
+) -> Result<(SeqVerdict, Option<Notes>), Refusal> {
+    let lines = given.lines.as_slice();
+    let verdict = join_lines(alloc, lines)?;
+    match asked_in(&order.options) {
+        Some(asked) => Ok((verdict, Some(join_notes(alloc, lines, asked)?))),
+        None => Ok((verdict, None)),
     }
 }
 
@@ -143,7 +176,9 @@ fn origin_of(given: &Given, refusal: Refusal) -> Option<Origin> {
         Refusal::OtherFile(index)
         | Refusal::Changed(index)
         | Refusal::OtherOptions(index)
-        | Refusal::OtherCount(index) => given.origins.as_slice().get(index).copied(),
+        | Refusal::OtherCount(index)
+        | Refusal::OtherEvery(index)
+        | Refusal::FewerFindings(index) => given.origins.as_slice().get(index).copied(),
         _ => None,
     }
 }
@@ -215,6 +250,7 @@ fn report(
     order: &Order,
     line: &PartLine,
     verdict: SeqVerdict,
+    notes: Option<Notes>,
 ) -> Result<Outcome, NotJoined> {
     let alloc = rt.alloc();
     let asked = &order.options;
@@ -224,7 +260,7 @@ fn report(
             strict: line.settings.strict,
             allowed: line.settings.allowed,
             quick: false,
-            framing: Some(Framing::Sequence),
+            framing: Some(line.settings.framing),
             format: asked.format,
             summary: asked.summary,
             every: asked.every,
@@ -244,7 +280,8 @@ fn report(
         Err(_) => return Err(NotJoined::Memory),
     };
     let source = source_of(rt, line);
-    match tell_joined(rt, &joined, line.file.path.as_bytes(), verdict, source, out) {
+    let name = line.file.path.as_bytes();
+    match tell_joined(rt, &joined, name, verdict, notes, source, out) {
         Ok(ended) => Ok(ended.outcome),
         Err(failure) => Err(NotJoined::Report(failure)),
     }
@@ -357,6 +394,10 @@ fn refusal_text(alloc: Global, refusal: Refusal) -> io::Result<String> {
         Refusal::Changed(_) =>
             "the size of the file or its time of change is not that of the first line",
         Refusal::OtherOptions(_) => "this part was checked with other options than the first",
+        Refusal::OtherEvery(_) =>
+            "this part does not list what is asked for: --every stands with each --part too, in the same way",
+        Refusal::FewerFindings(_) =>
+            "this part lists fewer findings than --most asks for: --most stands with each --part too",
         Refusal::OtherCount(_) => "the number of parts is not that of the first line",
         Refusal::Twice(number) => {
             return Ok(format!(in alloc; "part {number} is given twice")?);

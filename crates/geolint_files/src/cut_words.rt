@@ -1,8 +1,8 @@
-//! The words by which a text sequence is checked in parts.
+//! The words by which a file is checked in parts.
 
-use crate::walk::framing_of;
+use crate::walk::framing_by;
+use crate::words::framing_in;
 use clap::{Arg, ArgAction, ArgMatches, Command};
-use gj_rules::Framing;
 use sequence_parts::Share;
 use std::alloc::{AllocError, Global};
 
@@ -21,26 +21,25 @@ pub fn with_cut<'a>(alloc: Global, command: Command<'a>) -> Result<Command<'a>, 
         .long("part")
         .value_name("I/N")
         .help(
-            "Check the I-th of N parts of the one text sequence, and write a line of JSON about it for --join",
+            "Check the I-th of N parts of a text sequence or of newline-delimited texts, and write a line of JSON about it for --join",
         )
         .action(ArgAction::Set)
-        .conflicts_with("every")?
         .conflicts_with("split")?
         .conflicts_with("quick")?;
     let command = command.arg(part)?;
     let join = Arg::new(alloc, "join")
         .long("join")
         .help(
-            "Report a text sequence by the lines of all its parts, which stand in the PATHs or come on standard input",
+            "Report a file by the lines of all its parts, which stand in the PATHs or come on standard input",
         )
         .action(ArgAction::SetTrue)
         .conflicts_with("part")?
-        .conflicts_with("every")?
         .conflicts_with("split")?
         .conflicts_with("quick")?
         .conflicts_with("strict")?
         .conflicts_with("allow")?
         .conflicts_with("max-bytes")?
+        .conflicts_with("seq")?
         .conflicts_with("ndjson")?;
     command.arg(join)
 }
@@ -83,20 +82,11 @@ pub fn wrong_cut(
             b"-" => Some(
                 "'--part <I/N>' needs a file, which it reads from a place on: write standard input to one first",
             ),
-            name if is_sequence(given, name) => None,
-            _ => Some("'--part <I/N>' takes a text sequence, as *.geojsons or by '--seq'"),
+            name if framing_by(framing_in(given), name).is_some() => None,
+            _ => Some(
+                "'--part <I/N>' takes a text sequence, as *.geojsons or by '--seq', or newline-delimited texts, as *.ndjson or by '--ndjson'",
+            ),
         },
         _ => Some("'--part <I/N>' takes one file"),
-    }
-}
-
-/// Whether a file is read as a text sequence: as the words say, or as its name does.
-fn is_sequence(given: &ArgMatches<'_>, name: &[u8]) -> bool {
-    if given.get_flag("seq") {
-        true
-    } else if given.get_flag("ndjson") {
-        false
-    } else {
-        framing_of(name) == Some(Framing::Sequence)
     }
 }

@@ -34,6 +34,7 @@ use crate::words::{Order, order_in};
 use clap::Error;
 use clap::error::ErrorKind;
 use gj_manual::Topic;
+use own_build::own_build;
 use report_forms::formats::put_name;
 use sequence_parts::Share;
 use std::io::{self, BufWriter, Write};
@@ -203,8 +204,18 @@ fn answered(written: io::Result<()>) -> NoOrder
 fn answer(rt: &HostRuntime, words: &[String], error: &Error) -> NoOrder {
     match error.kind() {
         ErrorKind::OutOfMemory => NoOrder::Failed,
-        ErrorKind::DisplayHelp | ErrorKind::DisplayVersion => answered(error.print(rt)),
+        ErrorKind::DisplayHelp => answered(error.print(rt)),
+        ErrorKind::DisplayVersion => answered(say_version(rt, error)),
         _ => say_wrong(rt, words),
+    }
+}
+
+/// Writes the version, and what the program was built from where its file says it.
+fn say_version(rt: &HostRuntime, version: &Error) -> io::Result<()> {
+    version.print(rt)?;
+    match own_build(rt) {
+        Ok(lines) => rt.stdout().write_all(lines.as_slice()),
+        Err(_) => Ok(()),
     }
 }
 

@@ -1,4 +1,4 @@
-//! Judges what the words name, file by file, and tells each.
+//! Checks what the words name, file by file, and reports each.
 ghost use Rattle.std.specs.Prelude.{◌≡◌, [], List, map, IfOk, OnOk, true, false};
 ghost use Rattle.std.specs.List.{list_any};
 ghost use Rattle.geolint_report.specs.Line.{Adds};
@@ -15,6 +15,7 @@ use crate::files::{Spelled, is_lost_link, is_memory, look_up, reason, spell};
 use crate::outcome::Outcome;
 use crate::walk::{Others, Pending, Walk, framing_by, is_taken};
 use crate::words::Order;
+pub use features::asked_in;
 use geolint_report::every::tally::Tally;
 use geolint_report::found::{Found, found_at};
 use geolint_report::hints::find_hint;
@@ -44,7 +45,7 @@ use std::{env, mem};
 #[derive(Drop)]
 pub enum Failure {
     Write(io::Error),
-    /// No file was judged, and these were passed over.
+    /// No file was checked, and these were passed over.
     NoFile(Others),
     /// Standard input is named as a file and as the list.
     BothFromInput,
@@ -73,7 +74,7 @@ const NO_INPUT: &str = "a list cannot name standard input; ./- is a file of that
 /// What is said of a name with NUL, where names end with LF.
 const NO_NUL: &str = "a name in a list has no NUL; --null takes names that end with it";
 
-/// Judges what is named, and tells each file. The report of all goes to the writer, and the answer has the worst of their
+/// Checks what is named, and reports each file. The report of all goes to the writer, and the answer has the worst of their
 /// outcomes. Where there was no file, and that is not allowed, it is a failure.
 pub fn judge_all<W: Write + Drop>(
     rt: &HostRuntime,
@@ -163,7 +164,7 @@ struct Run<'a, W> {
     style: Style,
     out: W,
     is_terminal: bool,
-    /// What is told of a file, before it is written.
+    /// What is reported of a file, before it is written.
     line: Vec<u8>,
     log: Log,
     progress: Meter,
@@ -244,7 +245,7 @@ impl<'a, W: Write + Drop> Run<'a, W> {
         self.write()
     }
 
-    /// Tells the progress line how many bytes there are, where that is known without a walk: each path is a file.
+    /// Reports to the progress line how many bytes there are, where that is known without a walk: each path is a file.
     fn expect(&mut self, order: &Order)
         ensures { Unchanged self.old self.new }
     {
@@ -255,7 +256,7 @@ impl<'a, W: Write + Drop> Run<'a, W> {
         }
     }
 
-    /// Judges what the words name, and what a list does.
+    /// Checks what the words name, and what a list does.
     fn judge_order(&mut self, order: &Order) -> Result<(), Failure>
         ensures { OnOk result (TellsFiles W.contents self.old self.new) }
     {
@@ -296,7 +297,7 @@ impl<'a, W: Write + Drop> Run<'a, W> {
         }
     }
 
-    /// Tells the summary, where it is asked for.
+    /// Reports the summary, where it is asked for.
     fn tell_summary(&mut self) -> Result<(), Failure>
         ensures outcome { self.new.outcome ≡ self.old.outcome }
         ensures told { OnOk result
@@ -318,7 +319,7 @@ impl<'a, W: Write + Drop> Run<'a, W> {
         Ok(())
     }
 
-    /// Writes what is told, and begins a new line.
+    /// Writes what is reported, and begins a new line.
     fn write(&mut self) -> Result<(), Failure>
         ensures same { SameTold self.old self.new }
         ensures log { self.new.log ≡ self.old.log }
@@ -344,7 +345,7 @@ impl<'a, W: Write + Drop> Run<'a, W> {
         Ok(Failure::NoFile(others))
     }
 
-    /// Judges each path of a list. One that cannot be opened, or read to its end, is told as a file is.
+    /// Checks each path of a list. One that cannot be opened, or read to its end, is reported as a file is.
     fn judge_list(&mut self, list: &[u8], name_end: NameEnd) -> Result<(), Failure>
         ensures { OnOk result (TellsFiles W.contents self.old self.new) }
     {
@@ -382,7 +383,7 @@ impl<'a, W: Write + Drop> Run<'a, W> {
         Ok(())
     }
 
-    /// Judges what a list names, which are files and folders alone.
+    /// Checks what a list names, which are files and folders alone.
     fn judge_listed(&mut self, name: &[u8], listed: Listed) -> Result<(), Failure>
         ensures { OnOk result (TellsFiles W.contents self.old self.new) }
     {
@@ -395,7 +396,7 @@ impl<'a, W: Write + Drop> Run<'a, W> {
         }
     }
 
-    /// Judges a file, or the files of a folder.
+    /// Checks a file, or the files of a folder.
     fn judge_path(&mut self, path: &[u8]) -> Result<(), Failure>
         ensures { OnOk result (TellsFiles W.contents self.old self.new) }
     {
@@ -413,7 +414,7 @@ impl<'a, W: Write + Drop> Run<'a, W> {
         Ok(())
     }
 
-    /// Judges what a name leads to, or puts a folder's entries on the walk. What cannot be looked at is told: it could be a
+    /// Checks what a name leads to, or puts a folder's entries on the walk. What cannot be looked at is reported: it could be a
     /// folder with files. Of a link that leads nowhere only the name counts.
     fn look_at(&mut self, pending: &Pending, walk: &mut Walk) -> Result<(), Failure>
         ensures { OnOk result (TellsFiles W.contents self.old self.new) }
@@ -508,7 +509,7 @@ impl<'a, W: Write + Drop> Run<'a, W> {
         framing_by(self.options.framing, name)
     }
 
-    /// Judges what can be read once only.
+    /// Checks what can be read once only.
     fn judge_stream<R: Read + Drop>(&mut self, name: &[u8], reader: R) -> Result<(), Failure>
         ensures { OnOk result (TellsFiles W.contents self.old self.new) }
     {
@@ -519,7 +520,7 @@ impl<'a, W: Write + Drop> Run<'a, W> {
         }
     }
 
-    /// Judges a file, and reads it again for the lines of what is told.
+    /// Checks a file, and reads it again for the lines of what is reported.
     fn judge_file(&mut self, name: &[u8], file: File) -> Result<(), Failure>
         ensures { OnOk result (TellsFiles W.contents self.old self.new) }
     {
@@ -530,7 +531,7 @@ impl<'a, W: Write + Drop> Run<'a, W> {
         }
     }
 
-    /// Tells what a source has. No line is known of its places.
+    /// Reports what a source has. No line is known of its places.
     fn judge_once<S: Source>(&mut self, name: &[u8], source: &mut S) -> Result<(), Failure>
         ensures { OnOk result ((file : ToldFile)
             × IsToldOnce (reading_of self.old.options name.now) self.old.options.limits name.now (S.remaining source.old) (S.failed_reads source.old)
@@ -551,7 +552,7 @@ impl<'a, W: Write + Drop> Run<'a, W> {
         }
     }
 
-    /// Tells what a source has, and reads it again for the lines of that.
+    /// Reports what a source has, and reads it again for the lines of that.
     fn judge_twice<S: Rewind>(&mut self, name: &[u8], source: &mut S) -> Result<(), Failure>
         ensures { OnOk result ((file : ToldFile)
             × IsToldTwice (reading_of self.old.options name.now) self.old.options.limits name.now (S.remaining source.old) (S.text source.old)
@@ -572,7 +573,7 @@ impl<'a, W: Write + Drop> Run<'a, W> {
         }
     }
 
-    /// Tells a file that was judged, with the lines of its places where it has some.
+    /// Reports a file that was checked, with the lines of its places where it has some.
     fn tell_found<S: Rewind>(
         &mut self,
         name: &[u8],
@@ -592,7 +593,7 @@ impl<'a, W: Write + Drop> Run<'a, W> {
         }
     }
 
-    /// Reads a source again, and tells it with its lines: with none where that failed.
+    /// Reads a source again, and reports it with its lines: with none where that failed.
     ///
     /// The sites have room of their own, which costs a file without any nothing.
     #[inline(never)]
@@ -621,7 +622,7 @@ impl<'a, W: Write + Drop> Run<'a, W> {
         self.tell_with_hint(name, finding, Some(&sites), found, hint)
     }
 
-    /// Tells a file that was judged.
+    /// Reports a file that was checked.
     fn tell(&mut self, name: &[u8], finding: Finding, sites: Option<&Sites>) -> Result<(), Failure>
         ensures { OnOk result (TellsFile W.contents (judged (record {
           name = name.entry;
@@ -635,7 +636,7 @@ impl<'a, W: Write + Drop> Run<'a, W> {
         self.tell_with_hint(name, finding, sites, None, None)
     }
 
-    /// Tells a file that was judged, and what it looks like.
+    /// Reports a file that was checked, and what it looks like.
     fn tell_with_hint(
         &mut self,
         name: &[u8],
@@ -670,7 +671,7 @@ impl<'a, W: Write + Drop> Run<'a, W> {
         self.show()
     }
 
-    /// What is told of a file, in the form that is asked for.
+    /// What is reported of a file, in the form that is asked for.
     fn put(&mut self, report: &Report<'_>) -> Result<(), AllocError>
         ensures same { SameTold self.old self.new }
         ensures out { self.new.out ≡ self.old.out }
@@ -691,7 +692,7 @@ impl<'a, W: Write + Drop> Run<'a, W> {
         }
     }
 
-    /// Tells a file that could not be opened or read. On standard error each is told.
+    /// Reports a file that could not be opened or read. On standard error each is reported.
     fn tell_unread(&mut self, name: &[u8], error: &io::Error) -> Result<(), Failure>
         ensures told { OnOk result ((reason : List ℕ) × TellsFile W.contents (not_read name.now reason) self.old self.new) }
         ensures some { OnOk result (TellsFiles W.contents self.old self.new) }
@@ -726,7 +727,7 @@ impl<'a, W: Write + Drop> Run<'a, W> {
         }
     }
 
-    /// On a terminal each file is shown when it is judged.
+    /// On a terminal each file is shown when it is checked.
     fn show(&mut self) -> Result<(), Failure>
         ensures same { SameTold self.old self.new }
         ensures log { self.new.log ≡ self.old.log }
@@ -740,7 +741,7 @@ impl<'a, W: Write + Drop> Run<'a, W> {
     }
 }
 
-/// Puts the summary of files, and of their features and records where these are told.
+/// Puts the summary of files, and of their features and records where these are reported.
 fn put_summary(
     summary: &Summary,
     tally: &Tally,

@@ -70,7 +70,7 @@ pub struct Order {
     pub allows_empty: bool,
     /// Where the features of the file are written.
     pub parts: Option<Parts>,
-    /// What is asked for of the parts of a text sequence.
+    /// What is asked for of the parts of a file.
     pub cut: Option<Cut>,
 }
 
@@ -406,7 +406,7 @@ fn options_of<'a>(given: &ArgMatches<'a>) -> Result<Options, &'a str>
 }
 
 /// How the texts of each file are set apart, where the words say it.
-fn framing_in(given: &ArgMatches<'_>) -> Option<Framing>
+pub fn framing_in(given: &ArgMatches<'_>) -> Option<Framing>
     ensures sequence { one_text (found_of given.now) (codes "seq") ≡ Some (codes "true") → result ≡ Some Framing.Sequence }
     ensures lines { one_text (found_of given.now) (codes "seq") ≡ Some (codes "false")
         → one_text (found_of given.now) (codes "ndjson") ≡ Some (codes "true") → result ≡ Some Framing.Lines }

@@ -1,6 +1,6 @@
 -- Lemmas on the excerpt that a second reading keeps.
 use Rattle.std.proofs.Common.{arith, refl, inl, inr, ◌≡◌, ◌≤◌, ◌<◌, ◌⊎◌, ℕ, ◌+◌, ◌-◌, ◌^◌, ◌++◌, ◌∷◌, [], List, length, take, drop, get_or, ap, sym, ◌∙◌, subst}
-use Rattle.std.proofs.Common.{false, append-nil, length-append, Option, Some, None}
+use Rattle.std.proofs.Common.{append-nil, length-append, Option, Some, None}
 use Rattle.std.specs.Io.KnownBytes.{Consumes, IsAtEnd}
 use Rattle.std.proofs.lemmas.Bool.{cases_lt}
 use Rattle.std.proofs.lemmas.List.{take_all, drop_all, take-append-le, drop-append-le, get_or-map}
@@ -11,10 +11,7 @@ use Rattle.geolint_report.specs.declared.sites.Finder.{Finder}
 use Rattle.geolint_report.specs.declared.sites.Sites.{Sites}
 use Rattle.geolint_report.specs.Sites.{sought, IsUnread, IsExcerpt, ExcerptBy}
 use Rattle.geolint_report.specs.Internal.SecondReading.{IsAt, Shows, Seeks, Settles}
-use Rattle.geolint_report.proofs.SoughtPlaces.{sought-at, sought-length, settled-length}
-
-no_site : Site
-no_site = record { place = 0; spot = record { line = 0; column = 0 }; path = None; is_found = false }
+use Rattle.geolint_report.proofs.SoughtPlaces.{sought-at, sought-length, settled-length, no_site}
 
 -- ---- an excerpt
 

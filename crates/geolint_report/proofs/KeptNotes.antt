@@ -1,8 +1,9 @@
 -- Lemmas on the notes that are kept.
-use Rattle.std.proofs.Common.{arith, refl, inl, inr, ◌⊎◌, true, false, ◌≡◌, ◌<◌, ◌≤◌, ℕ, ◌+◌, ◌^◌, ◌++◌, ◌∷◌, [], List, Bool, ap, sym, ◌∙◌, subst, length, take, drop, append-nil}
-use Rattle.std.proofs.Common.{length-append, get_or}
+use Rattle.std.proofs.Common.{arith, refl, inl, inr, ◌⊎◌, true, false, ◌≡◌, ◌<◌, ◌≤◌, ℕ, ◌+◌, ◌^◌, ◌++◌, ◌∷◌, [], List, Bool, ap, sym, ◌∙◌, subst, length, take}
+use Rattle.std.proofs.Common.{drop, append-nil}
+use Rattle.std.proofs.Common.{length-append}
 use Rattle.std.proofs.lemmas.Bool.{cases_lt}
-use Rattle.std.proofs.lemmas.List.{length-take, drop-append-le, drop_all, take-append-le, take_all, take_more}
+use Rattle.std.proofs.lemmas.List.{length-take, drop-append-le, drop_all, take-append-le, take_all}
 use Rattle.std.proofs.lemmas.List.Concat.{flat_map-append}
 use Rattle.std.specs.Io.Iter.{u64_saturate}
 use Rattle.std.specs.Io.KnownBytes.{Consumes, IsAtEnd}
@@ -184,10 +185,3 @@ AreNotes-of framing finding listing asked notes count tally limits had same coun
     by-bytes : (had : Option (List ℕ)) → ListsBy framing limits had listing → AreNotesBy framing asked notes count tally limits had
     by-bytes None lists = tt
     by-bytes (Some bytes) lists = by-framing framing bytes lists
-
--- with one element more
-pub parts-more : {A B : Type 0} (part : A → List B) (xs : List A) (i : ℕ) (d : A) → i < length xs
-    → flat_map part (take (i + 1) xs) ≡ flat_map part (take i xs) ++ part (get_or xs i d)
-parts-more {A = A} {B = B} part xs i d within =
-    ap (λ (ys : List A). flat_map part ys) (take_more xs i d within)
-    ∙ (flat_map-append part (take i xs) (get_or xs i d ∷ []) ∙ ap (λ (ys : List B). flat_map part (take i xs) ++ ys) (append-nil (part (get_or xs i d))))

@@ -1,6 +1,7 @@
-mod PieceReads
+pub mod PieceReads
+pub mod ElementsInTurn
 mod FileVerdicts
-mod QuickFiles
+pub mod QuickFiles
 mod LineVerdicts
 mod FoundSites
 mod SoughtPlaces

@@ -15,7 +15,7 @@ use Rattle.geolint_report.specs.declared.sites.Sites.{Sites}
 use Rattle.geolint_report.specs.Sites.{sought, is_found_at, AllFound, FoundBy}
 use Rattle.geolint_report.specs.Internal.SecondReading.{Seeks, Settles}
 
-no_site : Site
+pub no_site : Site
 no_site = record { place = 0; spot = record { line = 0; column = 0 }; path = None; is_found = false }
 
 pub sought-at : (sites : Sites) (i e : ℕ) (other : Site) → i < sites.count → i < length sites.sites

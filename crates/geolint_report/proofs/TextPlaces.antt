@@ -4,6 +4,7 @@ use Rattle.std.proofs.Common.{get_or, ap, sym, ◌∙◌, subst, true, false, no
 use Rattle.std.specs.List.{Contains}
 use Rattle.std.proofs.lemmas.Bool.Decides.{nat_tests}
 use Rattle.std.proofs.lemmas.List.{take-append-drop, take-take, length-take}
+use Rattle.std.proofs.lemmas.Bool.{or_right}
 use Rattle.gj_json.specs.Limits.{Allowed, IsAllowed}
 use Rattle.gj_json.specs.Text.{IsTextWithin}
 use Rattle.gj_json.specs.Tree.{Text}
@@ -16,6 +17,7 @@ use Rattle.gj_rules.specs.Sequence.{is_separator as is_RS, has_separator as has_
 use Rattle.gj_rules.specs.Sequence.{records_of}
 use Rattle.geolint_report.specs.declared.sites.Site.{Site}
 use Rattle.geolint_report.specs.Sites.{is_separator, has_separator, last_record, CanGoOn, IsUnderWay, IsInText, ToldBy, ToldInTextsBy}
+use Rattle.gj_json.proofs.Truths.{first_of}
 
 -- some bytes of a text can go on
 CanGoOn-take : (limits : Allowed) (bytes : List ℕ) (n : ℕ) (text : Text) → IsTextWithin limits.depth text bytes → n ≤ length bytes → n ≤ limits.bytes
@@ -31,14 +33,6 @@ CanGoOn-take limits bytes n text is within fits = (
 or-false : (a b : Bool) → a ≡ false → b ≡ false → (a || b) ≡ false
 or-false true b first second = absurd (cc)
 or-false false b first second = second
-
-or-true : (a b : Bool) → b ≡ true → (a || b) ≡ true
-or-true true b second = refl
-or-true false b second = second
-
-and-left : (a b : Bool) → (a && b) ≡ true → a ≡ true
-and-left true b both = refl
-and-left false b both = absurd (cc)
 
 -- the bytes before the next separator
 abbrev up_to : Framing → List ℕ → List ℕ
@@ -108,7 +102,7 @@ module _ (framing : Framing) where
   ends-later byte from start n more own ends =
       let later = ends.before + n in
       let begun : has_separator framing (byte ∷ take later more) ≡ true =
-      or-true (is_separator framing byte) (has_separator framing (take later more)) ends.begun in
+      or_right (is_separator framing byte) (has_separator framing (take later more)) ends.begun in
       let sum : ends.before + 1 + n ≡ suc later = omega arith in
       let reach : take (ends.before + 1 + n) (byte ∷ more) ≡ byte ∷ take later more = ap (λ (k : ℕ). take k (byte ∷ more)) sum in
       let within = ends.within in
@@ -147,7 +141,7 @@ record-ends is_cut from (byte ∷ more) r n (k, within, is) fits =
     let first : SequenceRecord = record { start = from + 1; bytes = up_to_separator more; is_cut = is_cut && not (has_RS more) } in
     elim (found-by (is_RS byte && not (begins_with_separator more)) first r (records_from is_cut (from + 1) more) k within is) [
       | inl found ↦ subst (λ (s : SequenceRecord). EndsIn Sequence (byte ∷ more) from s.start n s.bytes) found.1
-          (first-ends byte from n more (and-left (is_RS byte) (not (begins_with_separator more)) found.0)
+          (first-ends byte from n more (first_of (is_RS byte) (not (begins_with_separator more)) found.0)
           (subst (λ (s : SequenceRecord). n ≤ length s.bytes) (sym found.1) fits))
       | inr later ↦ ends-later Sequence byte from r.start n more r.bytes (record-ends is_cut (from + 1) more r n later fits)
     ]

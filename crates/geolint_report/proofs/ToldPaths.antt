@@ -20,6 +20,7 @@ use Rattle.geolint_report.specs.Sites.{AreRight, ArePaths, text_of, text_limits,
 use Rattle.geolint_report.specs.Internal.SecondReading.{AreWithin, Keeps, KeepsIn, Tells}
 use Rattle.geolint_report.proofs.FollowedPaths.{take-here}
 use Rattle.geolint_report.proofs.FoundSites.{each-set}
+use Rattle.gj_rules.proofs.Sequences.OpenRecords.{stop_short}
 
 -- ---- no byte of a text that can go on is refused
 
@@ -39,18 +40,13 @@ viable-stop limits bytes place levels stop (rest, text, is) = (stop.rest ++ rest
     joined = ap (λ (ys : List ℕ). ys ++ rest) stop.split
         ∙ (append_assoc stop.good (stop.byte ∷ stop.rest) rest ∙ sym (append_assoc stop.good (stop.byte ∷ []) (stop.rest ++ rest)))
 
-stop-within : (limits : Allowed) (bytes : List ℕ) (place : ℕ) → Stops limits bytes place → place < length bytes
-stop-within limits bytes place stop =
-    let long = ap (λ (ys : List ℕ). length ys) stop.split ∙ length-append stop.good (stop.byte ∷ stop.rest) in
-    omega (arith, stop.at, long)
-
 never-refused : (cause : Cause) (limits : Allowed) (bytes : List ℕ) (place : ℕ) → RefusedFor cause limits bytes place
     → ((more : List ℕ) → RefusedFor cause limits (bytes ++ more) place)
     → CanGoOn limits bytes → ⊥
 never-refused Syntax limits bytes place (stop, before, never) lasting (viable, fits) =
     let (rest, text, is) = viable-stop limits bytes place limits.depth stop viable in never (rest, text, is.0)
 never-refused Depth limits bytes place (stop, before, some, never) lasting (viable, fits) = never (viable-stop limits bytes place limits.depth stop viable)
-never-refused Length limits bytes place (stop, here) lasting (viable, fits) = omega (arith, stop-within limits bytes place stop, here, fits)
+never-refused Length limits bytes place (stop, here) lasting (viable, fits) = omega (arith, stop_short limits bytes place stop, here, fits)
 never-refused Truncated limits bytes place refused lasting ((rest, text, is), fits) = let (here, allowed, viable, never) = lasting rest in never text is
 
 pub never-err : (A : Type 0) (limits : Allowed) (bytes : List ℕ) (result : Result A JsonFault) → Answers limits bytes result → CanGoOn limits bytes

@@ -101,11 +101,11 @@ KeepsNotes listing features = KeepsOf listing (notes_of listing.asked.with_warni
 abbrev pub KeepsRecords : Listing → List Record → Type 0
 KeepsRecords listing records = KeepsOf listing (notes_of_records listing.asked.with_warnings records) (length records)
 
--- it was told the features of each text that these bytes are
+-- the features of each text that these bytes are were reported to it
 abbrev pub Lists : Allowed → List ℕ → Listing → Type 0
 Lists limits bytes listing = (text : Text) → IsAdmitted limits text bytes → TellFindings (KeepsNotes listing) (feature_findings text)
 
--- it was told what is found in the records of these bytes
+-- what is found in the records of these bytes was reported to it
 abbrev pub ListsRecords : Framing → Allowed → List ℕ → Listing → Type 0
 ListsRecords framing limits bytes listing = (found : List Record) × AreAllFindings framing limits bytes found × KeepsRecords listing found
 
@@ -114,7 +114,7 @@ abbrev pub ListsIn : Option Framing → Allowed → List ℕ → Listing → Typ
 ListsIn None limits bytes listing = Lists limits bytes listing
 ListsIn (Some framing) limits bytes listing = ListsRecords framing limits bytes listing
 
--- the same, where the reader told its bytes
+-- as above, where the reader told its bytes
 abbrev pub ListsBy : Option Framing → Allowed → Option (List ℕ) → Listing → Type 0
 ListsBy framing limits None listing = ⊤
 ListsBy framing limits (Some bytes) listing = ListsIn framing limits bytes listing
@@ -124,7 +124,7 @@ abbrev pub ListsFor : Option Framing → Finding → Allowed → Option (List �
 ListsFor framing (Finding.Text (NotJson fault)) limits had listing = ⊤
 ListsFor framing finding limits had listing = ListsBy framing limits had listing
 
--- ---- what is told of a file: the first notes, or those after so many, how many there are, and what is counted
+-- ---- what is reported of a file: the first notes, or those after so many, how many there are, and what is counted
 
 pub record AreFirst (asked : Asked) (notes : List Note) (count : ℕ) (all : List Note) : Type 0 where
   pub first : notes ≡ take asked.room (drop asked.skipped all)
@@ -154,7 +154,7 @@ abbrev pub AreNotesIn : Option Framing → Asked → List Note → ℕ → Tally
 AreNotesIn None asked notes count tally limits bytes = AreNotesOf asked notes count tally limits bytes
 AreNotesIn (Some framing) asked notes count tally limits bytes = AreNotesOfRecords framing asked notes count tally limits bytes
 
--- the same, where the reader told its bytes
+-- as above, where the reader told its bytes
 abbrev pub AreNotesBy : Option Framing → Asked → List Note → ℕ → Tally → Allowed → Option (List ℕ) → Type 0
 AreNotesBy framing asked notes count tally limits None = ⊤
 AreNotesBy framing asked notes count tally limits (Some bytes) = AreNotesIn framing asked notes count tally limits bytes

@@ -1,4 +1,4 @@
--- What is told of a finding: the fault, the warnings, the records and the word.
+-- What is reported of a finding: the fault, the warnings, the records and the word.
 use Rattle.std.specs.Prelude.{ℕ, List, Option, Some, None, codes}
 use Rattle.gj_coords.specs.declared.warnings.Warnings.{Warnings}
 use Rattle.gj_rules.specs.declared.sequence.verdict.SeqVerdict.{SeqVerdict}
@@ -8,7 +8,7 @@ use Rattle.geolint_report.specs.declared.judge.Finding.{Finding}
 use Rattle.geolint_report.specs.declared.report.Told.{Told}
 use Rattle.geolint_report.specs.declared.texts.Code.{Code}
 
--- the rule or the cause that the linter's verdict tells, and its place
+-- the rule or the cause that the linter's verdict reports, and its place
 abbrev pub fault_in : Verdict → Option Told
 fault_in (Valid warnings) = None
 fault_in (Broken fault) = Some (record { code = Code.Rule fault.rule; place = fault.place })

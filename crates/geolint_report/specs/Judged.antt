@@ -18,11 +18,11 @@ pub record IsJudged {V : Type 0} (Is : Allowed → List ℕ → V → Type 0) (l
   pub read : List ℕ
   pub split : all ≡ read ++ rest
   pub of_read : Is limits read verdict
-  -- where it was left before its end, no byte behind those that were read changes the verdict
+  -- where it was left before its end, no byte after those that were read changes the verdict
   pub lasting : (rest ≡ [] → ⊥) → (more : List ℕ) → Is limits (read ++ more) verdict
   pub of_all : Is limits all verdict
 
--- the same, where the reader tells its bytes
+-- as above, where the reader tells its bytes
 abbrev pub JudgesBy : {V : Type 0} → (Allowed → List ℕ → V → Type 0) → Allowed → Option (List ℕ) → Option (List ℕ) → V → Type 0
 JudgesBy Is limits None new verdict = ⊤
 JudgesBy Is limits (Some all) None verdict = ⊥
@@ -55,7 +55,7 @@ valid_in _ = None
 pub record IsNotValid (limits : Allowed) (all rest : List ℕ) : Type 0 where
   pub read : List ℕ
   pub split : all ≡ read ++ rest
-  -- where it was left before its end, no bytes behind those that were read make them one
+  -- where it was left before its end, no bytes after those that were read make them one
   pub lasting : (rest ≡ [] → ⊥) → NeverValid limits read
   pub of_all : (warnings : Warnings) → IsVerdict limits all (Valid warnings) → ⊥
 
@@ -64,7 +64,7 @@ abbrev pub IsQuick : Allowed → List ℕ → List ℕ → Option Warnings → T
 IsQuick limits all rest (Some warnings) = (rest ≡ []) × IsVerdict limits all (Valid warnings)
 IsQuick limits all rest None = IsNotValid limits all rest
 
--- the same, where the reader tells its bytes
+-- as above, where the reader tells its bytes
 abbrev pub JudgesQuickly : Allowed → Option (List ℕ) → Option (List ℕ) → Option Warnings → Type 0
 JudgesQuickly limits None new valid = ⊤
 JudgesQuickly limits (Some all) None valid = ⊥

@@ -1,4 +1,4 @@
--- What a report tells besides the finding: how often, which places, and the line, the column and the path that were found for a place.
+-- What a report says besides the finding: how often, which places, and the line, the column and the path that were found for a place.
 use Rattle.std.specs.Prelude.{◌≡◌, ℕ, Bool, not, List, [], Option, Some, None, is_some, if◌then◌else◌}
 use Rattle.std.specs.List.{find}
 use Rattle.std.specs.Borrow.{Bor}
@@ -64,7 +64,7 @@ spot_of report place = spot_from (site_at place report.sites)
 abbrev pub path_of : Report → Told → Option Path
 path_of report told = if is_cause told.code then None else path_from (site_at told.place report.sites)
 
--- ---- which places are told
+-- ---- which places are reported
 
 abbrev pub IsFirstPlace : Warnings → ℕ → Type 0
 IsFirstPlace warnings place = (kind : Kind) × (first_in kind warnings ≡ Some place)

@@ -6,7 +6,7 @@ use Rattle.std.specs.Io.Iter.{u64_saturate}
 use Rattle.gj_json.specs.Limits.{Allowed}
 use Rattle.gj_json.specs.Path.{steps_of, path_at}
 use Rattle.gj_json.specs.Refusal.{IsAdmitted}
-use Rattle.gj_json.specs.Text.{IsText, IsTextWithin, IsViableWithin}
+use Rattle.gj_json.specs.Text.{IsText, IsTextWithin}
 use Rattle.gj_json.specs.Tree.{Text}
 use Rattle.gj_json.specs.declared.path.Path.{Path}
 use Rattle.gj_places.specs.Keeping.{Keeps}
@@ -18,6 +18,8 @@ use Rattle.gj_rules.specs.declared.records.framing.Framing.TheVariants.{Sequence
 use Rattle.geolint_report.specs.declared.sites.Site.{Site}
 use Rattle.geolint_report.specs.declared.sites.Sites.{Sites}
 use Rattle.geolint_report.specs.declared.sites.Spot.{Spot}
+-- these bytes are no more than are allowed, and some more make them a text within the depth
+pub use Rattle.geolint_report.specs.Fed.{ShowNoRefusal as CanGoOn}
 
 -- the place is in the text or at its end, and the line and the column are those of the bytes before it, as far as a u64 goes
 pub record IsSpot (text : List ℕ) (place : ℕ) (spot : Spot) : Type 0 where
@@ -30,7 +32,7 @@ abbrev pub AreRight : List ℕ → List Site → Type 0
 AreRight text sites =
     (i : ℕ) (other : Site) → i < length sites → (get_or sites i other).is_found ≡ true → IsSpot text (get_or sites i other).place (get_or sites i other).spot
 
--- the same, where the reader told its bytes
+-- as above, where the reader told its bytes
 abbrev pub RightBy : Option (List ℕ) → List Site → Type 0
 RightBy None sites = ⊤
 RightBy (Some text) sites = AreRight text sites
@@ -58,7 +60,7 @@ text_of None front = front
 abbrev pub IsPathOf : List ℕ → Path → Type 0
 IsPathOf front path = (rest : List ℕ) (text : Text) → IsText text (front ++ rest) → steps_of path ≡ path_at (length front) text
 
--- a path that is told for a place is that of the bytes up to the one there
+-- a path that is reported for a place is that of the bytes up to the one there
 abbrev pub LeadsTo : Option Framing → List ℕ → ℕ → Option Path → Type 0
 LeadsTo framing bytes place None = ⊤
 LeadsTo framing bytes place (Some path) = (place < length bytes) × IsPathOf (text_of framing (take (place + 1) bytes)) path
@@ -68,21 +70,17 @@ ArePaths framing bytes sites =
     (i : ℕ) (other : Site) → i < length sites → (get_or sites i other).is_found ≡ true
     → LeadsTo framing bytes (get_or sites i other).place (get_or sites i other).path
 
--- the same, where the reader told its bytes
+-- as above, where the reader told its bytes
 abbrev pub PathsBy : Option Framing → Option (List ℕ) → List Site → Type 0
 PathsBy framing None sites = ⊤
 PathsBy framing (Some bytes) sites = ArePaths framing bytes sites
 
--- ---- which paths are told
+-- ---- which paths are reported
 
 -- what a text of the file is read under: the limit on the bytes is not that of a record
 abbrev pub text_limits : Option Framing → Allowed → Allowed
 text_limits (Some framing) limits = record { depth = limits.depth; bytes = 2 ^ 60 }
 text_limits None limits = limits
-
--- these bytes are no more than are allowed, and some more make them a text within the depth
-abbrev pub CanGoOn : Allowed → List ℕ → Type 0
-CanGoOn limits bytes = IsViableWithin limits.depth bytes × (length bytes ≤ limits.bytes)
 
 -- a text has begun in the first bytes of a file: in a sequence by a separator
 abbrev pub has_begun : Option Framing → List ℕ → Bool
@@ -94,7 +92,7 @@ has_begun None front = true
 abbrev pub IsUnderWay : Allowed → Option Framing → List ℕ → Type 0
 IsUnderWay limits framing front = (has_begun framing front ≡ true) × CanGoOn (text_limits framing limits) (text_of framing front)
 
--- where the text of the bytes up to a place can go on, the path is told
+-- where the text of the bytes up to a place can go on, the path is reported
 abbrev pub IsTold : Allowed → Option Framing → List ℕ → ℕ → Option Path → Type 0
 IsTold limits framing bytes place path = place < length bytes → IsUnderWay limits framing (take (place + 1) bytes) → IsSome path
 
@@ -104,7 +102,7 @@ AreTold limits framing bytes sites =
     (i : ℕ) (other : Site) → i < length sites → (get_or sites i other).is_found ≡ true
     → IsTold limits framing bytes (get_or sites i other).place (get_or sites i other).path
 
--- the same, where the reader told its bytes
+-- as above, where the reader told its bytes
 abbrev pub ToldBy : Allowed → Option Framing → Option (List ℕ) → List Site → Type 0
 ToldBy limits framing None sites = ⊤
 ToldBy limits framing (Some bytes) sites = AreTold limits framing bytes sites
@@ -119,13 +117,13 @@ IsInText limits (Some Lines) bytes place =
     × (place < line.start + length line.bytes)
 IsInText limits None bytes place = (text : Text) × IsAdmitted limits text bytes × (place < length bytes)
 
--- each place of a text that was found is told
+-- each place of a text that was found is reported
 abbrev pub AreToldInTexts : Allowed → Option Framing → List ℕ → List Site → Type 0
 AreToldInTexts limits framing bytes sites =
     (i : ℕ) (other : Site) → i < length sites → (get_or sites i other).is_found ≡ true → IsInText limits framing bytes (get_or sites i other).place
     → IsSome (get_or sites i other).path
 
--- the same, where the reader told its bytes
+-- as above, where the reader told its bytes
 abbrev pub ToldInTextsBy : Allowed → Option Framing → Option (List ℕ) → List Site → Type 0
 ToldInTextsBy limits framing None sites = ⊤
 ToldInTextsBy limits framing (Some bytes) sites = AreToldInTexts limits framing bytes sites
@@ -147,7 +145,7 @@ is_found_at place site = site.is_found && nat_eq site.place place
 abbrev pub AllFound : List ℕ → Sites → Type 0
 AllFound text sites = (place : ℕ) → Contains (sought sites) place → place ≤ length text → place < 2 ^ 64 - 1 → list_any (is_found_at place) sites.sites ≡ true
 
--- the same, where the reader told its bytes
+-- as above, where the reader told its bytes
 abbrev pub FoundBy : Option (List ℕ) → Sites → Type 0
 FoundBy None sites = ⊤
 FoundBy (Some text) sites = AllFound text sites
@@ -163,7 +161,7 @@ abbrev pub IsExcerpt : List ℕ → Sites → Type 0
 IsExcerpt text sites = (before : List ℕ) (place : ℕ) → sought sites ≡ before ++ place ∷ [] → place ≤ length text → length text < 2 ^ 64 - 1
     → Keeps sites.excerpt (take place text) (drop place text)
 
--- the same, where the reader told its bytes
+-- as above, where the reader told its bytes
 abbrev pub ExcerptBy : Option (List ℕ) → Sites → Type 0
 ExcerptBy None sites = ⊤
 ExcerptBy (Some text) sites = IsExcerpt text sites

@@ -10,7 +10,7 @@ use Rattle.geolint_report.specs.Judged.{framing_in}
 use Rattle.geolint_report.specs.Report.{IsToldPlace}
 use Rattle.geolint_report.specs.Sites.{AreSitesIn, NoneFound, sought}
 
--- the places that are sought are those that are told, as far as a u64 goes
+-- the places that are sought are those that are reported, as far as a u64 goes
 pub record AreSoughtFor (finding : Finding) (sites : Sites) : Type 0 where
   pub all : (place : ℕ) → IsToldPlace finding place → place < 2 ^ 64 - 1 → Contains (sought sites) place
   pub only : (place : ℕ) → Contains (sought sites) place → IsToldPlace finding place

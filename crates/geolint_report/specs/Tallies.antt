@@ -1,4 +1,4 @@
--- How many features or records there are, how many are broken, and of how many each rule, kind of warning and cause is told.
+-- How many features or records there are, how many are broken, and of how many each rule, kind of warning and cause is reported.
 use Rattle.std.specs.Prelude.{◌≡◌, ◌<◌, ℕ, Bool, true, false, List, get_or, sum_by}
 use Rattle.std.specs.Io.Iter.{u64_saturate}
 use Rattle.std.specs.List.{count_by}

@@ -1,4 +1,4 @@
--- What is told of rules, kinds of warning and causes: their names and their texts.
+-- What is reported of rules, kinds of warning and causes: their names and their texts.
 use Rattle.std.specs.Prelude.{ℕ, Bool, true, false, List, ◌++◌, codes}
 use Rattle.std.specs.Fmt.{decimal}
 use Rattle.gj_coords.specs.Fault.{number_of}
@@ -6,14 +6,8 @@ use Rattle.gj_coords.specs.Warnings.{kind_number}
 use Rattle.gj_coords.specs.Texts.{rule_text, kind_text}
 use Rattle.gj_json.specs.Texts.{cause_text}
 use Rattle.gj_json.specs.declared.fault.Cause.{Cause}
-use Rattle.gj_json.specs.declared.fault.Cause.TheVariants.{Syntax, Truncated, Depth, Length}
 use Rattle.geolint_report.specs.declared.texts.Code.{Code}
-
-abbrev pub cause_number : Cause → ℕ
-cause_number Syntax = 1
-cause_number Truncated = 2
-cause_number Depth = 3
-cause_number Length = 4
+pub use Rattle.gj_json.specs.Texts.{cause_number}
 
 abbrev pub code_letter : Code → List ℕ
 code_letter (Code.Rule rule) = codes "G"

@@ -56,7 +56,7 @@ abbrev pub ring_warnings : Turn → Concern
 ring_warnings wrong value =
     warned_if (is_sound ring value && same_turn (ring_turn (elements_of value)) wrong) (place_of value) W2 ++ each position_warnings value
 
--- the first ring is the exterior one, which must not run clockwise, and those behind it are holes, which must not run the other way
+-- the first ring is the exterior one, which must not run clockwise, and those after it are holes, which must not run the other way
 abbrev pub rings_warnings : List Tree → List Warning
 rings_warnings [] = []
 rings_warnings (exterior ∷ holes) = ring_warnings Right exterior ++ flat_map (ring_warnings Left) holes

@@ -20,7 +20,7 @@ first_values value = map exact_value (take 3 (elements_of value))
 abbrev pub agree : Tree → Tree → Bool
 agree a b = pointwise (option_eq same_parts) (first_values a) (first_values b)
 
--- the last of a value and those behind it
+-- the last of a value and those after it
 abbrev pub last_of : Tree → List Tree → Tree
 last_of value [] = value
 last_of value (next ∷ more) = last_of next more

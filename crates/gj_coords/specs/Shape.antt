@@ -16,7 +16,7 @@ use Rattle.gj_coords.specs.Ring.{agree, last_of}
 abbrev pub Shape : Type 0
 Shape = Tree → List Fault
 
--- another value than the shape asks for; nothing inside it is judged
+-- another value than the shape asks for; nothing inside it is checked
 abbrev pub misshapen : Shape
 misshapen value = fault_at (place_of value) G11 ∷ []
 
@@ -36,7 +36,7 @@ abbrev pub number_or : Rule → Shape
 number_or rule (number place literal end) = []
 number_or rule value = fault_at (place_of value) rule ∷ []
 
--- the first three elements are judged as numbers that are held, and those behind them as numbers
+-- the first three elements are checked as numbers that are held, and those after them as numbers
 abbrev pub position : Shape
 position (array place elements close) =
     few 2 G12 place (items elements) ++ (flat_map held_number (take 3 (items elements)) ++ flat_map (number_or G11) (drop 3 (items elements)))

@@ -1,4 +1,4 @@
--- What a `Warnings` stands for: a list of warnings, of which it tells how many there are of each kind, and the least place.
+-- What a `Warnings` stands for: a list of warnings, of which it says how many there are of each kind, and the least place.
 use Rattle.std.specs.Prelude.{◌≡◌, List}
 use Rattle.gj_coords.specs.declared.warnings.Warnings.{Warnings}
 use Rattle.gj_coords.specs.Warnings.{Warning}

@@ -79,7 +79,7 @@ sign_of (pos zero) = Straight
 sign_of (pos (suc n)) = Left
 sign_of (negsuc n) = Right
 
--- how the positions of a linear ring run; a ring with a position out of range is not judged
+-- how the positions of a linear ring run; a ring with a position out of range is not checked
 abbrev pub ring_turn : List Tree → Turn
 ring_turn positions = if list_all in_range positions then sign_of (area_of (filter_map cut_position positions)) else Unjudged
 

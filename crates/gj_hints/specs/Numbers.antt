@@ -13,7 +13,7 @@ is_in_mantissa byte = is_ascii_digit byte || (nat_eq byte 45 || nat_eq byte 46)
 abbrev pub mantissa : List ℕ → List ℕ
 mantissa bytes = take (prefix_len is_in_mantissa bytes) bytes
 
--- the exponent, and what stands behind the number
+-- the exponent, and what stands after the number
 abbrev pub exponent : List ℕ → List ℕ
 exponent bytes = drop (prefix_len is_in_mantissa bytes) bytes
 
@@ -36,7 +36,7 @@ is_value byte = nat_le 49 byte && nat_le byte 57
 abbrev pub has_value : List ℕ → Bool
 has_value digits = list_any is_value digits
 
--- what stands behind thirty digits, among which there may be a point
+-- what stands after thirty digits, among which there may be a point
 abbrev pub behind_thirty : List ℕ → List ℕ
 behind_thirty digits = if has_point (take 31 digits) then drop 31 digits else drop 30 digits
 

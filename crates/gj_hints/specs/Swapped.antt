@@ -6,7 +6,7 @@ use Rattle.gj_hints.specs.Formats.{without_white}
 
 -- ---- a number of an array
 
--- it is neither the comma nor the bracket behind it
+-- it is neither the comma nor the bracket after it
 abbrev pub is_inside : ℕ → Bool
 is_inside byte = not (nat_eq byte 44 || nat_eq byte 93)
 

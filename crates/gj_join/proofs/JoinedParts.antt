@@ -1,4 +1,4 @@
--- What a sequence is, by its parts.
+-- What a text sequence is, by its parts.
 use Rattle.std.proofs.Common.{arith, ◌≡◌, ◌+◌, ℕ, refl, ap, sym, subst, ◌∙◌, List, [], ◌∷◌, ◌++◌, length, map, true, false, Bool, length-append, append_assoc}
 use Rattle.std.proofs.lemmas.List.{map-append, length-map}
 use Rattle.gj_json.specs.Limits.{Allowed}
@@ -10,7 +10,8 @@ use Rattle.gj_rules.specs.SequenceJudgement.{IsSequenceJudgement}
 use Rattle.gj_rules.specs.Verdict.{Judgement, valid, broken, refused}
 use Rattle.gj_join.specs.Joined.{joined_judgement}
 use Rattle.gj_join.specs.Parts.{ArePartsOf, limits_after}
-use Rattle.gj_join.proofs.JoinedRecords.{moved_record, records_of-parts, stray-parts, stray-second}
+use Rattle.gj_rules.specs.declared.records.framing.Framing.TheVariants.{Sequence}
+use Rattle.gj_join.proofs.JoinedRecords.{moved_record, records_of-parts, stray-parts, stray-second, second_begins}
 
 -- ---- places further on, twice
 
@@ -115,14 +116,15 @@ judged-joined false levels by one other (all_valid records warnings) (failing nu
 judged-joined false levels by one other (failing number judgement) second h of_second =
     before-others levels one (map (moved_record by) other) number judgement h
 
-pub sequence-joined : (limits : Allowed) (first second : List ℕ) (one other : SequenceJudgement) → ArePartsOf limits first second
+pub sequence-joined : (limits : Allowed) (first second : List ℕ) (one other : SequenceJudgement) → ArePartsOf Sequence limits first second
     → IsSequenceJudgement limits first one
     → IsSequenceJudgement (limits_after limits (length first)) second other
     → IsSequenceJudgement limits (first ++ second) (joined_judgement (length first) one other)
 sequence-joined limits first second one other parts of_first of_second =
-    let stray = stray-parts first second parts.begins in
+    let begins = second_begins limits first second parts in
+    let stray = stray-parts first second begins in
     let of_rest = subst (λ (s : Bool). IsJudgedAs s limits.depth (records_of (limits_after limits (length first)) second) other)
-    (stray-second second parts.begins) of_second in
+    (stray-second second begins) of_second in
     let both = judged-joined (is_stray first) limits.depth (length first) (records_of limits first)
     (records_of (limits_after limits (length first)) second) one other of_first of_rest in
     subst (λ (s : Bool). IsJudgedAs s limits.depth (records_of limits (first ++ second)) (joined_judgement (length first) one other)) (sym stray)

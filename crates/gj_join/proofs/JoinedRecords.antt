@@ -1,4 +1,4 @@
--- The records of two parts, one after the other.
+-- The records of two parts of a text sequence, one after the other.
 use Rattle.std.proofs.Common.{arith, ◌≡◌, ◌+◌, ◌-◌, ◌<◌, ◌≤◌, ℕ, suc, zero, refl, ap, sym, subst, ◌∙◌, List, [], ◌∷◌, ◌++◌, length, map, take, true, false}
 use Rattle.std.proofs.Common.{Bool, length-append, inl, inr}
 use Rattle.std.specs.Prelude.{◌&&◌, not, nat_lt}
@@ -7,9 +7,27 @@ use Rattle.std.proofs.Math.Seq.{take-append-add}
 use Rattle.std.proofs.lemmas.List.{take_all}
 use Rattle.gj_json.specs.Limits.{Allowed}
 use Rattle.gj_rules.specs.Sequence.{is_separator, begins_with_separator, has_separator, up_to_separator, SequenceRecord, records_from, records_of, is_stray}
-use Rattle.gj_join.specs.Parts.{ends_in_separator, ArePartsOf, limits_after}
+use Rattle.gj_rules.specs.declared.records.framing.Framing.TheVariants.{Sequence}
+use Rattle.gj_join.specs.Parts.{separator_first, separator_last, ArePartsOf, limits_after}
 
 -- ---- the next part begins with a separator
+
+first_of_run : (follows is : Bool) → (is && not follows) ≡ true → (follows ≡ false) × (is ≡ true)
+first_of_run true true cut = absurd (false≢true cut)
+first_of_run true false cut = absurd (false≢true cut)
+first_of_run false true cut = (refl, refl)
+first_of_run false false cut = absurd (false≢true cut)
+
+same_first : (bytes : List ℕ) → separator_first Sequence bytes ≡ begins_with_separator bytes
+same_first [] = refl
+same_first (byte ∷ more) = refl
+
+pub first_whole : (limits : Allowed) (first second : List ℕ) → ArePartsOf Sequence limits first second → separator_last Sequence first ≡ false
+first_whole limits first second parts = (first_of_run (separator_last Sequence first) (separator_first Sequence second) parts.cut).0
+
+pub second_begins : (limits : Allowed) (first second : List ℕ) → ArePartsOf Sequence limits first second → begins_with_separator second ≡ true
+second_begins limits first second parts =
+    sym (same_first second) ∙ (first_of_run (separator_last Sequence first) (separator_first Sequence second) parts.cut).1
 
 pub has_next : (bytes next : List ℕ) → begins_with_separator next ≡ true → has_separator (bytes ++ next) ≡ true
 has_next [] [] begins = absurd (false≢true begins)
@@ -39,7 +57,7 @@ never : (is_cut : Bool) → (is_cut && false) ≡ false
 never true = refl
 never false = refl
 
-records-append : (is_cut : Bool) (place : ℕ) (bytes next : List ℕ) → ends_in_separator bytes ≡ false → begins_with_separator next ≡ true
+records-append : (is_cut : Bool) (place : ℕ) (bytes next : List ℕ) → separator_last Sequence bytes ≡ false → begins_with_separator next ≡ true
     → records_from is_cut place (bytes ++ next) ≡ records_from false place bytes ++ records_from is_cut (place + length bytes) next
 records-append is_cut place [] next whole begins = ap (λ (p : ℕ). records_from is_cut p next) (omega arith)
 records-append is_cut place (byte ∷ []) next whole begins = rw whole (ap (λ (p : ℕ). records_from is_cut p next) (omega arith))
@@ -72,7 +90,7 @@ records-moved is_cut by place other (byte ∷ more) same =
 
 -- ---- within the limits
 
-take-second : (n : ℕ) (bytes next : List ℕ) → length bytes ≤ n → take n (bytes ++ next) ≡ bytes ++ take (n - length bytes) next
+pub take-second : (n : ℕ) (bytes next : List ℕ) → length bytes ≤ n → take n (bytes ++ next) ≡ bytes ++ take (n - length bytes) next
 take-second n bytes next within =
     let sum : n ≡ length bytes + (n - length bytes) = omega (arith, within) in
     subst (λ (m : ℕ). take m (bytes ++ next) ≡ bytes ++ take (n - length bytes) next) (sym sum) (take-append-add bytes next (n - length bytes))
@@ -82,13 +100,13 @@ begins-taken n [] some begins = absurd (false≢true begins)
 begins-taken zero (byte ∷ more) some begins = absurd (omega (arith, some))
 begins-taken (suc n) (byte ∷ more) some begins = begins
 
-less-both : (n a b : ℕ) → a ≤ n → nat_lt n (a + b) ≡ nat_lt (n - a) b
+pub less-both : (n a b : ℕ) → a ≤ n → nat_lt n (a + b) ≡ nat_lt (n - a) b
 less-both n a b within = elim (cases_lt n (a + b)) [
   | inl e ↦ lt-ltb n (a + b) e ∙ sym (lt-ltb (n - a) b (omega (arith, e, within)))
   | inr e ↦ le-ltb n (a + b) e ∙ sym (le-ltb (n - a) b (omega (arith, e, within)))
 ]
 
-pub records_of-parts : (limits : Allowed) (first second : List ℕ) → ArePartsOf limits first second
+pub records_of-parts : (limits : Allowed) (first second : List ℕ) → ArePartsOf Sequence limits first second
     → records_of limits (first ++ second) ≡ records_of limits first ++ map (moved_record (length first))
     (records_of (limits_after limits (length first)) second)
 records_of-parts limits first second parts =
@@ -101,10 +119,10 @@ records_of-parts limits first second parts =
     let uncut : nat_lt n a ≡ false = le-ltb n a within in
     let alone : records_of limits first ≡ records_from false 0 first =
     ap (λ (c : Bool). records_from c 0 (take n first)) uncut ∙ ap (λ (l : List ℕ). records_from false 0 l) (take_all n first within) in
-    let begins : begins_with_separator rest ≡ true = begins-taken (n - a) second (omega (arith, parts.within)) parts.begins in
+    let begins : begins_with_separator rest ≡ true = begins-taken (n - a) second (omega (arith, parts.within)) (second_begins limits first second parts) in
     let both : records_from (nat_lt (n - a) (length second)) 0 (first ++ rest) ≡ records_from false 0 first ++ records_from (nat_lt (n - a) (length second))
     (0 + a) rest =
-    records-append (nat_lt (n - a) (length second)) 0 first rest parts.whole begins in
+    records-append (nat_lt (n - a) (length second)) 0 first rest (first_whole limits first second parts) begins in
     ap (λ (c : Bool). records_from c 0 (take n (first ++ second))) cut
     ∙ (ap (λ (l : List ℕ). records_from (nat_lt (n - a) (length second)) 0 l) (take-second n first second within)
     ∙ (both

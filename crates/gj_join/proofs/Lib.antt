@@ -1,3 +1,6 @@
 mod JoinedRecords
 mod JoinedParts
 mod JoinedGroups
+mod MovedVerdicts
+mod JoinedLines
+mod JoinedWholes

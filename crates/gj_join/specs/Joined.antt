@@ -1,16 +1,31 @@
--- What a sequence is, given what two parts of it are.
-use Rattle.std.specs.Prelude.{◌≡◌, ℕ, ◌+◌, ◌≤◌, ◌<◌, ◌^◌, ◌++◌, map, Some}
-use Rattle.gj_coords.specs.Internal.KeptWarnings.{first_in}
+-- What an input of records is as a whole, given what two parts of it are.
+use Rattle.std.specs.Prelude.{◌≡◌, ℕ, ◌+◌, ◌≤◌, ◌<◌, ◌^◌, ◌++◌, List, map, Some}
+use Rattle.gj_json.specs.Limits.{Allowed}
+use Rattle.gj_coords.specs.Internal.KeptWarnings.{first_in, joined, shifted}
 use Rattle.gj_coords.specs.Warnings.{shifted_by}
 use Rattle.gj_coords.specs.declared.kind.Kind.{Kind}
 use Rattle.gj_coords.specs.declared.warnings.Warnings.{Warnings}
-use Rattle.gj_rules.specs.Sequence.{SequenceJudgement, all_valid, failing}
+use Rattle.gj_rules.specs.RecordFindings.{IsWholeVerdict}
+use Rattle.gj_rules.specs.Sequence.{IsSequenceVerdict, SequenceJudgement, all_valid, failing, shifted_verdict}
 use Rattle.gj_rules.specs.SequenceJudgement.{shifted_judgement}
+use Rattle.gj_rules.specs.declared.records.framing.Framing.{Framing}
+use Rattle.gj_rules.specs.declared.records.framing.Framing.TheVariants.{Sequence, Lines}
 use Rattle.gj_rules.specs.declared.sequence.verdict.SeqVerdict.{SeqVerdict}
 use Rattle.gj_rules.specs.declared.verdict.Verdict.{Verdict}
 use Rattle.gj_rules.specs.declared.verdict.Verdict.TheVariants.{Valid, Broken, NotJson}
 
+-- a text sequence, or newline-delimited texts
+abbrev pub IsVerdictOf : Framing → Allowed → List ℕ → SeqVerdict → Type 0
+IsVerdictOf Sequence = IsSequenceVerdict
+IsVerdictOf Lines = IsWholeVerdict Lines
+
 -- the first part has so many bytes
+abbrev pub joined_verdict : ℕ → SeqVerdict → SeqVerdict → SeqVerdict
+joined_verdict end (SeqVerdict.Valid records warnings) (SeqVerdict.Valid more others) = SeqVerdict.Valid (records + more) (joined warnings (shifted others end))
+joined_verdict end (SeqVerdict.Valid records warnings) (SeqVerdict.Record number verdict) = SeqVerdict.Record (records + number) (shifted_verdict end verdict)
+joined_verdict end (SeqVerdict.Record number verdict) second = SeqVerdict.Record number verdict
+
+-- the same of a sequence, with lists of all warnings
 abbrev pub joined_judgement : ℕ → SequenceJudgement → SequenceJudgement → SequenceJudgement
 joined_judgement end (all_valid records warnings) (all_valid more others) = all_valid (records + more) (warnings ++ map (shifted_by end) others)
 joined_judgement end (all_valid records warnings) (failing number judgement) = failing (records + number) (shifted_judgement end judgement)

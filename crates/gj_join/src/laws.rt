@@ -1,17 +1,27 @@
-//! What a sequence is by its parts: each contract is a law.
+//! What an input of records is by its parts: each contract is a law.
 
 ghost use Rattle.std.specs.Prelude.{◌≡◌, ◌++◌, ◌+◌, ℕ, List, length};
 ghost use Rattle.gj_json.specs.Limits.{Allowed};
 ghost use Rattle.gj_join.specs.Parts.{ArePartsOf, limits_after};
-ghost use Rattle.gj_join.specs.Joined.{joined_judgement};
+ghost use Rattle.gj_join.specs.Joined.{joined_judgement, joined_verdict};
+ghost use Rattle.gj_rules.specs.RecordFindings.{IsWholeVerdict};
 ghost use Rattle.gj_rules.specs.Sequence.{SequenceJudgement};
 ghost use Rattle.gj_rules.specs.SequenceJudgement.{IsSequenceJudgement};
+ghost use Rattle.gj_rules.specs.declared.records.framing.Framing.{Framing};
+ghost use Rattle.gj_rules.specs.declared.sequence.verdict.SeqVerdict.{SeqVerdict};
 
-/// What a sequence is, given what two parts of it are (RFC 8142).
+/// What a text sequence is, given what two parts of it are (RFC 8142).
 pub fn joined_judgements()
-    ensures { (limits : Allowed) (first second : List ℕ) (one other : SequenceJudgement) → ArePartsOf limits first second
+    ensures { (limits : Allowed) (first second : List ℕ) (one other : SequenceJudgement) → ArePartsOf Framing.Sequence limits first second
         → IsSequenceJudgement limits first one → IsSequenceJudgement (limits_after limits (length first)) second other
         → IsSequenceJudgement limits (first ++ second) (joined_judgement (length first) one other) }
+{}
+
+/// What newline-delimited texts are, given what two parts of them are.
+pub fn joined_lines()
+    ensures { (limits : Allowed) (first second : List ℕ) (one other : SeqVerdict) → ArePartsOf Framing.Lines limits first second
+        → IsWholeVerdict Framing.Lines limits first one → IsWholeVerdict Framing.Lines (limits_after limits (length first)) second other
+        → IsWholeVerdict Framing.Lines limits (first ++ second) (joined_verdict (length first) one other) }
 {}
 
 /// Three parts give the same, whichever two are joined first: the first has so many bytes, and the second so many.

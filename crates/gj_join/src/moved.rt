@@ -1,10 +1,11 @@
 //! Verdicts and warnings with their places further on.
 
 ghost use Rattle.std.specs.Prelude.{◌≡◌, ◌+◌, ◌≤◌, ◌↔◌, ℕ, List, map, true, Some, IsTrue, IsSome, IfSome};
-ghost use Rattle.gj_coords.specs.Internal.KeptWarnings.{first_in};
+ghost use Rattle.gj_coords.specs.Internal.KeptWarnings.{first_in, shifted};
 ghost use Rattle.gj_coords.specs.Warnings.{Warning, shifted_by};
 ghost use Rattle.gj_coords.specs.WarningsStand.{StandsFor};
 ghost use Rattle.gj_join.specs.Joined.{greatest_place, WarningsFit, PlacesFit};
+ghost use Rattle.gj_rules.specs.Sequence.{shifted_verdict};
 ghost use Rattle.gj_rules.specs.SequenceJudgement.{shifted_judgement};
 ghost use Rattle.gj_rules.specs.Verdict.{Judgement, Says};
 
@@ -46,6 +47,7 @@ fn warnings_fit(warnings: &Warnings, by: u64) -> bool
 
 /// The warnings with each place so many bytes further on, where these fit.
 pub fn moved_warnings(warnings: Warnings, by: u64) -> Option<Warnings>
+    ensures exact { IfSome result (λ moved. moved ≡ shifted warnings by) }
     ensures stands { IfSome result (λ moved. (list : List Warning) → StandsFor warnings list → StandsFor moved (map (shifted_by by) list)) }
     ensures fits { WarningsFit by warnings → IsSome result }
 {
@@ -58,6 +60,7 @@ pub fn moved_warnings(warnings: Warnings, by: u64) -> Option<Warnings>
 
 /// The verdict with each place so many bytes further on, where these fit.
 pub fn moved(verdict: Verdict, by: u64) -> Option<Verdict>
+    ensures exact { IfSome result (λ moved. moved ≡ shifted_verdict by verdict) }
     ensures says { IfSome result (λ moved. (judgement : Judgement) → Says verdict judgement → Says moved (shifted_judgement by judgement)) }
     ensures fits { PlacesFit by verdict → IsSome result }
 {

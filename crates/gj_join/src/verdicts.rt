@@ -1,35 +1,39 @@
-//! The verdict of a sequence from those of two parts of it.
+//! The verdict of an input of records from those of two parts of it.
 
 ghost use Rattle.std.specs.Prelude.{◌≡◌, ◌++◌, ℕ, List, length, IfSome, IsSome};
 ghost use Rattle.gj_json.specs.Limits.{Allowed};
-ghost use Rattle.gj_join.specs.Joined.{Fit, NumbersFit, joined_judgement};
+ghost use Rattle.gj_join.specs.Joined.{Fit, NumbersFit, IsVerdictOf, joined_judgement, joined_verdict};
 ghost use Rattle.gj_join.specs.Parts.{ArePartsOf, limits_after};
-ghost use Rattle.gj_rules.specs.Sequence.{IsSequenceVerdict, SequenceJudgement, SequenceSays};
+ghost use Rattle.gj_rules.specs.Sequence.{SequenceJudgement, SequenceSays};
+ghost use Rattle.gj_rules.specs.declared.records.framing.Framing.{Framing};
 ghost use Rattle.gj_rules.specs.declared.sequence.verdict.SeqVerdict.{SeqVerdict};
 
-use crate::laws::joined_judgements;
+use crate::laws::{joined_judgements, joined_lines};
 use crate::moved::{moved, moved_warnings};
 use gj_coords::Warnings;
 use gj_rules::{SeqVerdict, one_sequence_verdict};
 
-/// The verdict of a text sequence (RFC 8142), given those of two parts of it, of which the first has so many bytes.
+/// The verdict of a text sequence (RFC 8142) or of newline-delimited texts, given those of two parts, of which the first has so
+/// many bytes.
 ///
-/// The second part begins with a separator, the first does not end with one, and it is shorter than the limit on the bytes of
-/// the whole. The limit for the second part is what the first leaves. `None` where a number goes past 64 bits, which the
-/// verdicts of such parts under the usual limits never do.
+/// The second part of a sequence begins with RS, and the first does not end with it. The first part of lines ends with LF. The
+/// first part is shorter than the limit on the bytes of the whole, and the limit for the second part is what it leaves. `None`
+/// where a number goes past 64 bits, which the verdicts of such parts under the usual limits never do.
 pub fn join(first: SeqVerdict, end: u64, second: SeqVerdict) -> Option<SeqVerdict>
-    ensures joined { IfSome result (λ whole. (limits : Allowed) (part rest : List ℕ) → ArePartsOf limits part rest → end ≡ length part
-        → IsSequenceVerdict limits part first → IsSequenceVerdict (limits_after limits end) rest second
-        → IsSequenceVerdict limits (part ++ rest) whole) }
+    ensures joined { IfSome result (λ whole. (framing : Framing) (limits : Allowed) (part rest : List ℕ) → ArePartsOf framing limits part rest
+        → end ≡ length part → IsVerdictOf framing limits part first → IsVerdictOf framing (limits_after limits end) rest second
+        → IsVerdictOf framing limits (part ++ rest) whole) }
     ensures fits { Fit end first second → IsSome result }
 {
     joined_judgements();
+    joined_lines();
     one_sequence_verdict();
     said(first, end, second)
 }
 
 /// What the verdict of the whole says.
 fn said(first: SeqVerdict, end: u64, second: SeqVerdict) -> Option<SeqVerdict>
+    ensures exact { IfSome result (λ whole. whole ≡ joined_verdict end first second) }
     ensures says { IfSome result (λ whole. (one other : SequenceJudgement) → SequenceSays first one → SequenceSays second other
         → SequenceSays whole (joined_judgement end one other)) }
     ensures fits { Fit end first second → IsSome result }
@@ -42,6 +46,7 @@ fn said(first: SeqVerdict, end: u64, second: SeqVerdict) -> Option<SeqVerdict>
 
 /// The verdict of the whole where the first part is valid.
 fn after_valid(records: u64, warnings: Warnings, end: u64, second: SeqVerdict) -> Option<SeqVerdict>
+    ensures exact { IfSome result (λ whole. whole ≡ joined_verdict end (SeqVerdict.Valid records warnings) second) }
     ensures says { IfSome result (λ whole. (one other : SequenceJudgement) → SequenceSays (SeqVerdict.Valid records warnings) one → SequenceSays second other
         → SequenceSays whole (joined_judgement end one other)) }
     ensures fits { NumbersFit records end second → IsSome result }

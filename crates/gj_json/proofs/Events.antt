@@ -1,4 +1,5 @@
 -- Which events a byte completes, and how many containers are open.
+pub mod EventsInTurn
 pub mod EventCount
 pub mod EventTimes
 pub mod PastEvents

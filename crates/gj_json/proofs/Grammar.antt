@@ -14,4 +14,5 @@ pub mod NonemptyTokens
 pub mod SpelledFlats
 pub mod SpelledTokens
 pub mod UsualTokens
+pub mod UsualHeads
 pub mod SpelledPairs

@@ -1,3 +1,4 @@
+pub mod Truths
 pub mod Grammar
 pub mod Machine
 pub mod Events

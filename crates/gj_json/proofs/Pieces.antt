@@ -12,4 +12,5 @@ pub mod SkippedRuns
 pub mod PieceCuts
 pub mod TakenFlats
 pub mod TakenTokens
+pub mod TakenHeads
 pub mod PassedTokens

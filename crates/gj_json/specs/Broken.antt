@@ -52,7 +52,7 @@ pub data Broken : Type 0 where
 
 -- ---- a character, a number and a string under way
 
--- the bytes of a character behind its first, of which so many follow the next, as far as they came
+-- the bytes of a character after its first, of which so many follow the next, as far as they came
 abbrev pub BeginsTail : ℕ → Bounds → ℕ → StringState → List ℕ → Type 0
 BeginsTail more bounds value state [] = state ≡ InCharacter more bounds value
 BeginsTail zero bounds value state (b ∷ bytes) = ⊥
@@ -85,7 +85,7 @@ BeginsQuoted place so_far state start bytes =
 
 -- ---- what is open
 
--- Behind each of these forms stands what K says. First the elements that have ended, each with its comma:
+-- After each of these forms stands what K says. First the elements that have ended, each with its comma:
 abbrev pub ElementsSoFar : List Tree → (ℕ → List ℕ → Type 0) → ℕ → List ℕ → Type 0
 ElementsSoFar [] K start bytes = K start bytes
 ElementsSoFar (t ∷ done) K start bytes = ElementsSoFar done (Then White (Then (Spells t) (Then White (Then (Exactly (comma ∷ [])) K)))) start bytes
@@ -118,12 +118,12 @@ abbrev pub IsDue : List Frame → Type 0
 IsDue (in_array place [] ∷ stack) = ⊥
 IsDue _ = Unit {0}
 
--- white space behind a value that has ended: only the byte behind it tells that a number has
+-- white space after a value that has ended: only the byte after it shows that a number has
 abbrev pub Behind : Tree → ℕ → List ℕ → Type 0
 Behind (number place literal end) start bytes = White start bytes × (bytes ≢ [])
 Behind _ start bytes = White start bytes
 
--- what stands behind the white space at the right edge
+-- what stands after the white space at the right edge
 abbrev pub SpellsLeaf : List Frame → Leaf → ℕ → List ℕ → Type 0
 SpellsLeaf stack value_due start bytes = IsDue stack × (bytes ≡ [])
 SpellsLeaf stack (value_done t) start bytes = Then (Spells t) (Behind t) start bytes

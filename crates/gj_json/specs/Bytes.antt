@@ -1,14 +1,11 @@
 -- The bytes that the grammar names, and white space (RFC 8259, section 2). Only here, and in the tables of `Characters`, is a
 -- byte written as a number.
 use Rattle.std.specs.Prelude.{◌≡◌, ℕ, ◌⊎◌, List, [], ◌∷◌}
-pub use Rattle.gj_number.specs.Bytes.{minus_sign, zero_digit, nine_digit, IsDigit}
+pub use Rattle.gj_number.specs.Bytes.{minus_sign, zero_digit, nine_digit, comma, space, close_bracket, IsDigit}
 
--- the structural characters
+-- the structural characters, with `close_bracket` and `comma`
 abbrev pub open_bracket : ℕ
 open_bracket = 91
-
-abbrev pub close_bracket : ℕ
-close_bracket = 93
 
 abbrev pub open_brace : ℕ
 open_brace = 123
@@ -16,16 +13,10 @@ open_brace = 123
 abbrev pub close_brace : ℕ
 close_brace = 125
 
-abbrev pub comma : ℕ
-comma = 44
-
 abbrev pub colon : ℕ
 colon = 58
 
--- white space
-abbrev pub space : ℕ
-space = 32
-
+-- white space, with `space`
 abbrev pub tab : ℕ
 tab = 9
 

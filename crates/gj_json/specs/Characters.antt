@@ -7,7 +7,7 @@ use Rattle.gj_json.specs.Bytes.{space, quote, backslash, line_feed, carriage_ret
 abbrev pub IsPlain : ℕ → Type 0
 IsPlain b = (space ≤ b) × (b ≤ 0x7F) × (b ≢ quote) × (b ≢ backslash)
 
--- the character that a short escape means, by the byte behind its backslash: / and the letters b, f, n, r and t among them
+-- the character that a short escape means, by the byte after its backslash: / and the letters b, f, n, r and t among them
 unfoldable pub escape_of : ℕ → Option ℕ
 escape_of e =
     if e == quote then Some quote else

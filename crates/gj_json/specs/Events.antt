@@ -1,4 +1,4 @@
--- The events of a text, each with the length of the front of the text in which it is complete.
+-- The events of a text, each with the length of the prefix of the text in which it is complete.
 use Rattle.std.specs.Prelude.{ℕ, ◌+◌, if◌then◌else◌, nat_le, Bool, true, false, List, [], ◌∷◌, ◌++◌, length, map}
 use Rattle.gj_json.specs.declared.event.Event.{Event}
 use Rattle.gj_json.specs.declared.event.What.{What}
@@ -26,7 +26,7 @@ abbrev mutual
   -- in the order of the text: opening, names, contents, closing
   pub events : Tree → List Timed
   events (constant which place) = timed (place + length (letters_of which)) place (what_of which) ∷ []
-  -- only the byte behind it tells that a number has ended
+  -- only the byte after it shows that a number has ended
   events (number place literal end) = timed (end + 1) place (What.Number (value_of literal)) ∷ []
   events (string place content end) = timed end place (What.Text (word_of content)) ∷ []
   events (array place elements close) = timed (place + 1) place What.OpenArray ∷ (elements_events elements ++ timed (close + 1) close What.CloseArray ∷ [])
@@ -56,7 +56,7 @@ value_events value = map (λ x. x.event) (events value)
 abbrev pub all_events : Text → List Event
 all_events text = map (λ x. x.event) (text_events text)
 
--- those that are complete in a front of n bytes
+-- those that are complete in a prefix of n bytes
 abbrev pub by : ℕ → List Timed → List Event
 by n [] = []
 by n (x ∷ xs) = if nat_le x.at n then x.event ∷ by n xs else by n xs

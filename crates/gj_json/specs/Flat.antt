@@ -1,4 +1,4 @@
--- An array of two or three numbers, which is told at once: the events that it stands for.
+-- An array of two or three numbers, which is reported at once: the events that it stands for.
 use Rattle.std.specs.Prelude.{ℕ, List, [], ◌∷◌, ◌++◌, map, Some}
 use Rattle.std.specs.Option.{option_to_list}
 use Rattle.gj_number.specs.Short.{exact_of}
@@ -17,6 +17,6 @@ abbrev pub numbers_events : ℕ → List Numbered → ℕ → List Event
 numbers_events place numbers close =
     record { place = place; what = What.OpenArray } ∷ (map number_event numbers ++ record { place = close; what = What.CloseArray } ∷ [])
 
--- the bracket, the numbers and the closing bracket, each told by itself
+-- the bracket, the numbers and the closing bracket, each reported by itself
 abbrev pub flat_events : Flat → List Event
 flat_events flat = numbers_events flat.place (numbers_of flat) flat.close

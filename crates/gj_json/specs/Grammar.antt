@@ -8,7 +8,7 @@ use Rattle.gj_json.specs.declared.constant.Constant.{Constant}
 use Rattle.gj_json.specs.declared.constant.Constant.TheVariants.{Null, True, False}
 use Rattle.gj_json.specs.Tree.{Tree, constant, number, string, array, object, Elements, end_of_array, element, Members, end_of_object, member}
 
--- A form says which bytes may stand at a place. One form, and behind it another:
+-- A form says which bytes may stand at a place. One form, and after it another:
 pub record Then (First Rest : ℕ → List ℕ → Type 0) (start : ℕ) (bytes : List ℕ) : Type 0 where
   pub first : List ℕ
   pub rest : List ℕ

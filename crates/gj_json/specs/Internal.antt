@@ -19,4 +19,5 @@ pub mod ReaderStep
 pub mod PathTrail
 pub mod FedReader
 pub mod WholeTokens
+pub mod WholeHeads
 pub mod FlatParts

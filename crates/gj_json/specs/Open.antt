@@ -1,8 +1,8 @@
--- How many arrays and objects are open in a front of a text.
+-- How many arrays and objects are open in a prefix of a text.
 use Rattle.std.specs.Prelude.{ℕ, ◌+◌, if◌then◌else◌, ◌&&◌, nat_le, nat_lt}
 use Rattle.gj_json.specs.Tree.{Tree, array, object, Elements, end_of_array, element, Members, end_of_object, member, Text}
 
--- 1 where a container is open in a front of n bytes: its opening bracket stands there, and its closing one does not
+-- 1 where a container is open in a prefix of n bytes: its opening bracket stands there, and its closing one does not
 abbrev pub is_open : ℕ → ℕ → ℕ → ℕ
 is_open n place close = if nat_lt place n && nat_le n close then 1 else 0
 

@@ -1,4 +1,4 @@
--- The path from the root of a text to the value that a front of the text leads to.
+-- The path from the root of a text to the value that a prefix of the text leads to.
 use Rattle.std.specs.Prelude.{ℕ, ◌+◌, ◌==◌, ◌&&◌, if◌then◌else◌, nat_lt, nat_le, Bool, List, [], ◌∷◌, take, Option, Some, None, unwrap_or, option_map}
 use Rattle.std.specs.Option.{option_or}
 use Rattle.gj_json.specs.declared.path.PathStep.{PathStep}
@@ -10,16 +10,16 @@ use Rattle.gj_json.specs.Names.{known_of}
 abbrev pub steps_of : Path → List PathStep
 steps_of path = take path.count path.steps
 
--- A front of n bytes leads into a value, by these steps from it, or it does not: None. It leads to a value that is no array
--- and no object where that value begins with the front's last byte.
+-- A prefix of n bytes leads into a value, by these steps from it, or it does not: None. It leads to a value that is no array
+-- and no object where that value begins with the prefix's last byte.
 abbrev pub to_value : ℕ → ℕ → Option (List PathStep)
 to_value n place = if place + 1 == n then Some [] else None
 
--- It leads into an array or an object that is open in the front: to what it leads to inside, or else to the container.
+-- It leads into an array or an object that is open in the prefix: to what it leads to inside, or else to the container.
 abbrev pub to_container : Bool → Option (List PathStep) → Option (List PathStep)
 to_container is_open inside = if is_open then Some (unwrap_or inside []) else None
 
--- as `is_open` of `Open`: its opening bracket stands in the front, and its closing one does not
+-- as `is_open` of `Open`: its opening bracket stands in the prefix, and its closing one does not
 abbrev pub has_open : ℕ → ℕ → ℕ → Bool
 has_open n place close = nat_lt place n && nat_le n close
 

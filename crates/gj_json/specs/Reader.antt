@@ -47,7 +47,7 @@ Completed from to bytes found = (text : Text) (rest : List ℕ) → IsText text 
 abbrev pub Hears : (List Event → Type 0) → List Event → ℕ → ℕ → List ℕ → Type 0
 Hears heard events from to bytes = (found : List Event) × heard (events ++ found) × Completed from to bytes found
 
--- by a call that was given bytes behind `bytes`: up to the place of the refusal, where there is one
+-- by a call that was given bytes after `bytes`: up to the place of the refusal, where there is one
 abbrev pub HearsBy : {A : Type 0} → (List Event → Type 0) → List Event → List ℕ → List ℕ → Result A JsonFault → Type 0
 HearsBy heard events bytes given (Ok done) = Hears heard events (length bytes) (length (bytes ++ given)) (bytes ++ given)
 HearsBy heard events bytes given (Err fault) = Hears heard events (length bytes) fault.place (take fault.place (bytes ++ given))

@@ -13,7 +13,7 @@ is_unescaped b = nat_le space b && not (b == quote) && not (b == backslash)
 abbrev pub plain_run_of : List ℕ → ℕ
 plain_run_of piece = prefix_len is_unescaped piece
 
--- the same, of no more bytes than are still allowed behind those that were taken
+-- as above, of no more bytes than are still allowed after those that were taken
 abbrev pub run_allowed : Allowed → List ℕ → List ℕ → ℕ
 run_allowed limits taken piece = min (plain_run_of piece) (limits.bytes - length taken)
 

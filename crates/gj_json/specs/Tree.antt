@@ -2,7 +2,7 @@
 use Rattle.std.specs.Prelude.{ℕ, ◌+◌, max, List, Bool}
 use Rattle.gj_json.specs.declared.constant.Constant.{Constant}
 
--- A place is a byte offset from the start of the text. `place` is that of a part's first byte, `end` that behind its
+-- A place is a byte offset from the start of the text. `place` is that of a part's first byte, `end` that after its
 -- last, and `close` that of a closing bracket. A string and a name have their content as a list of characters.
 mutual
   pub data Tree : Type 0 where

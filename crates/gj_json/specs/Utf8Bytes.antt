@@ -1,4 +1,4 @@
--- What the first byte of a character of several bytes says of those behind it (RFC 3629, section 4), for a text that is broken off
+-- What the first byte of a character of several bytes says of those after it (RFC 3629, section 4), for a text that is broken off
 -- in one. That whole characters of these bytes are those of `Characters` is proved.
 use Rattle.std.specs.Prelude.{◌-◌, ◌==◌, if◌then◌else◌, nat_le, Option, Some, None, ℕ}
 use Rattle.gj_json.specs.declared.mode.Bounds.{Bounds}

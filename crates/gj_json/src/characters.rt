@@ -146,7 +146,7 @@ fn many_escapes(piece: &[u8]) -> usize
     end_of_escapes(piece, few)
 }
 
-/// The same, where a look at the first shows that there may be many; else 0.
+/// As `many_escapes`, where a look at the first shows that there may be many; else 0.
 #[inline(always)]
 fn first_escapes(piece: &[u8]) -> usize
     ensures within { result ≤ length piece.now }

@@ -1,4 +1,4 @@
-//! What a reader tells.
+//! What a reader reports.
 
 use crate::names::{Known, Word};
 use gj_number::Decimal;
@@ -33,7 +33,7 @@ pub enum What {
 
 /// A part of a text: what it is, and where its first byte stands.
 ///
-/// A string and a name are told at their closing quote, a number at the byte behind it or at the end of the text.
+/// A string and a name are reported at their closing quote, a number at the byte after it or at the end of the text.
 #[derive(Clone, Copy, Debug, Default, PartialEq, Eq)]
 pub struct Event {
     /// How many bytes of the text stand before it.

@@ -1,4 +1,4 @@
-//! Arrays of a few ordinary numbers, which are told at once.
+//! Arrays of a few ordinary numbers, which are reported at once.
 
 ghost use Rattle.std.specs.Prelude.{◌≤◌};
 ghost use Rattle.std.specs.Option.{option_map_or};

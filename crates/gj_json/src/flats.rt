@@ -23,7 +23,7 @@ pub fn white_end(piece: &[u8], at: usize) -> usize
     at + white_run(&piece[at..])
 }
 
-/// The same after a comma or a colon, where mostly nothing stands or one space.
+/// As `white_end`, after a comma or a colon, where mostly nothing stands or one space.
 #[inline(always)]
 pub fn space_end(piece: &[u8], at: usize) -> usize
     requires { at ≤ length piece.now }
@@ -128,7 +128,7 @@ pub fn read_flat(piece: &[u8], start: u64, flat: &mut Flat) -> usize
     pair.end + 2
 }
 
-/// The same of numbers of any length, with white space around them.
+/// As `read_flat`, of numbers of any length, with white space around them.
 #[inline(always)]
 fn read_any_flat(piece: &[u8], start: u64, flat: &mut Flat) -> usize
     requires some { 0 < length piece.now }

@@ -101,7 +101,7 @@ pub fn ascii_run(piece: &[u8]) -> usize
     long_ascii_run(piece)
 }
 
-/// The same, of a run of any length.
+/// As `ascii_run`, of a run of any length.
 #[inline(never)]
 fn long_ascii_run(piece: &[u8]) -> usize
     ensures { result ≡ prefix_len is_plain piece.now }
@@ -159,7 +159,7 @@ pub fn white_run(piece: &[u8]) -> usize
     long_white_run(piece)
 }
 
-/// The same, of a run of any length.
+/// As `white_run`, of a run of any length.
 #[inline(never)]
 fn long_white_run(piece: &[u8]) -> usize
     ensures { result ≡ prefix_len is_white piece.now }

@@ -41,7 +41,7 @@ pub fn bytes_taken()
     ensures within { (reader : Reader) (bytes : List ℕ) → StandsFor reader bytes → offset_of reader ≤ length bytes }
 {}
 
-/// Each front of what can still become a text can still become one, within a depth too.
+/// Each prefix of what can still become a text can still become one, within a depth too.
 pub fn viable_fronts()
     ensures front { (bytes more : List ℕ) → IsViable (bytes ++ more) → IsViable bytes }
     ensures front_within { (levels : ℕ) (bytes more : List ℕ) → IsViableWithin levels (bytes ++ more) → IsViableWithin levels bytes }
@@ -58,7 +58,7 @@ pub fn one_refusal()
         → ⊥ }
 {}
 
-/// The longest front, of no more bytes than are allowed, that can still become a text within the depth tells the refusal:
+/// The longest prefix, of no more bytes than are allowed, that can still become a text within the depth decides the refusal:
 /// its place and its cause.
 pub fn longest_front()
     ensures some { (limits : Allowed) (bytes : List ℕ) → (k : ℕ) × IsLongest limits bytes k }

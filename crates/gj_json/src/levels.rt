@@ -1,5 +1,5 @@
 //! The arrays and objects that are open, a bit for each.
-ghost use Rattle.std.specs.Prelude.{◌≡◌, ℕ, ◌*◌, ◌^◌, ◌<◌, ◌≤◌, [], ◌∷◌, length};
+ghost use Rattle.std.specs.Prelude.{◌≡◌, ℕ, ◌*◌, ◌^◌, ◌<◌, ◌≤◌, [], ◌∷◌, length, IsTrue};
 ghost use Rattle.gj_json.specs.declared.levels.TheConstants.{WORD, MOST_FULL};
 
 use crate::limits::MOST_LEVELS;
@@ -54,6 +54,7 @@ pub struct Levels {
 
 impl Levels {
     ghost use Rattle.gj_json.specs.Internal.OpenLevels.{levels_in, inner_of, outer_of};
+    ghost use Rattle.gj_json.specs.declared.levels.Level.TheVariants.{Array, Object};
 
     #[tactic(auto, unfolding(crate::specs::Internal::OpenLevels::levels_in))]
     pub fn new() -> Self
@@ -87,6 +88,15 @@ impl Levels {
         } else {
             Some(Level::Object)
         }
+    }
+
+    /// Whether the three innermost levels are those of a value in a feature: an object in an object in an array.
+    #[inline(always)]
+    #[tactic(auto, using(crate::proofs::Readers::LevelWords::in_feature))]
+    pub fn is_in_feature(&self) -> bool
+        ensures { IsTrue result → levels_in self.now ≡ Object ∷ Object ∷ Array ∷ outer_of (outer_of (outer_of (levels_in self.now))) }
+    {
+        self.count > 2 && self.inner % 8 == 3
     }
 
     #[tactic(auto, unfolding(crate::specs::Internal::OpenLevels::levels_in))]

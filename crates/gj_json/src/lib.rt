@@ -1,8 +1,8 @@
 //! A streaming reader of JSON texts (RFC 8259), a byte or a piece at a time, in fixed memory.
 //!
-//! The events that it tells are those of the text's tree, in order, each with its place; an input that is no admitted
+//! The events that it reports are those of the text's tree, in order, each with its place; an input that is no admitted
 //! text is refused at the first byte that cannot stand where it does, with the cause. The grammar stands in
-//! `specs/Grammar.antt`, what is refused in `specs/Refusal.antt`, the events in `specs/Events.antt`. A `Locator` tells the
+//! `specs/Grammar.antt`, what is refused in `specs/Refusal.antt`, the events in `specs/Events.antt`. A `Locator` reports the
 //! path to the value at a place, as `specs/Path.antt` says it.
 #![tactic(auto)]
 
@@ -15,6 +15,8 @@ mod event;
 mod fault;
 mod flat;
 mod flats;
+mod head;
+mod heads;
 mod lanes;
 pub mod laws;
 mod levels;
@@ -36,6 +38,7 @@ mod wide;
 pub use event::{Event, What};
 pub use fault::{Cause, JsonFault};
 pub use flat::{Flat, Numbered};
+pub use head::{Head, Located, Typed};
 pub use lanes::plain_run;
 pub use laws::{
     allowed_limits, broken_off, bytes_taken, few_events, left_part, longest_front, one_broken,

@@ -4,7 +4,7 @@ ghost use Rattle.std.specs.Option.{SomeIff};
 
 use std::marker::Model;
 
-/// The most arrays and objects that can be open at once. All that hangs on how deep a text may nest follows from it.
+/// The most arrays and objects that can be open at once. All that depends on how deep a text may nest follows from it.
 pub const MOST_LEVELS: u16 = 256;
 
 const MOST_BYTES: u64 = 1 << 60;

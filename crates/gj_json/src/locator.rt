@@ -7,7 +7,7 @@ use crate::limits::Limits;
 use crate::path::Path;
 use crate::reader::Reader;
 
-/// Reads a text (RFC 8259) up to a place, and tells the path to the value there.
+/// Reads a text (RFC 8259) up to a place, and reports the path to the value there.
 ///
 /// That is the value that begins with the last byte taken, where it is no array and no object; or else the innermost array
 /// or object that is open; or else the root.

@@ -4,10 +4,10 @@ use crate::constant::Constant;
 use crate::levels::Level;
 use crate::names::{Known, Word};
 
-/// What the second byte of a character in UTF-8 may be, which the first byte tells (RFC 3629, section 4).
+/// What the second byte of a character in UTF-8 may be, as the first byte says (RFC 3629, section 4).
 #[derive(Clone, Copy, PartialEq, Eq)]
 pub enum Bounds {
-    /// 80 to BF (hexadecimal), as each byte behind the second.
+    /// 80 to BF (hexadecimal), as each byte after the second.
     Any,
     /// A0 to BF: no longer form than needed.
     AfterE0,
@@ -24,9 +24,9 @@ pub enum Bounds {
 pub enum StringState {
     /// No character is under way.
     Plain,
-    /// Behind a backslash.
+    /// After a backslash.
     Escape,
-    /// Behind `\u`, and behind the digits of this value.
+    /// After `\u`, and after the digits of this value.
     HexDue,
     HexOne(u32),
     HexTwo(u32),
@@ -40,7 +40,7 @@ pub enum StringState {
 pub enum Mode {
     /// A byte order mark, white space or a value: nothing has come.
     TextDue,
-    /// Behind one byte, or two, of a mark.
+    /// After one byte, or two, of a mark.
     MarkOne,
     MarkTwo,
     ValueDue,

@@ -100,7 +100,7 @@ fn event_of(made: Move, start: u64, offset: u64) -> Option<Event>
     })
 }
 
-/// Tells what the byte at `offset` ends, opens or closes by this move.
+/// Reports what the byte at `offset` ends, opens or closes by this move.
 #[inline(always)]
 pub fn tell_move<S: EventSink>(sink: &mut S, made: Move, start: u64, offset: u64)
     ensures { (events : List Event) → S.heard sink.old events → S.heard sink.new (events ++ option_to_list (move_event made start offset)) }
@@ -110,7 +110,7 @@ pub fn tell_move<S: EventSink>(sink: &mut S, made: Move, start: u64, offset: u64
     }
 }
 
-/// What is left to tell where the text ends, or `None` where it may not end: the number under way may end or not, and has
+/// What is left to report where the text ends, or `None` where it may not end: the number under way may end or not, and has
 /// this value, and `start` is the place of what is under way.
 pub fn last_event(
     mode: Mode,

@@ -34,7 +34,7 @@ pub enum Known {
 }
 
 impl Known {
-    /// The name as a path tells it: `*` for a foreign one.
+    /// The name as a path shows it: `*` for a foreign one.
     pub fn text(self) -> &'static str
         ensures { result.now ≡ name_text self }
     {

@@ -36,7 +36,7 @@ const FIRST: PathStep = PathStep::Index(0);
 /// The steps from the root of a text (RFC 8259, section 2) to one of its values, the outermost first, one for each open level.
 #[derive(Clone, Copy, Debug, PartialEq, Eq)]
 pub struct Path {
-    /// Behind the steps stand first elements, so that equal paths are equal here too.
+    /// After the steps stand first elements, so that equal paths are equal here too.
     steps: [PathStep; MOST_LEVELS as usize],
     count: u16,
     ghost few: { count ≤ MOST_LEVELS },

@@ -1,4 +1,4 @@
-//! The reader: it takes the bytes of a text and tells its events (RFC 8259).
+//! The reader: it takes the bytes of a text and reports its events (RFC 8259).
 ghost use Rattle.std.specs.Prelude.{◌≡◌, ℕ, ◌+◌, ◌≤◌, ◌++◌, ◌∷◌, [], List, length, take, IfOk, IsTrue, MatchResult, Some, None, Ok, Err};
 ghost use Rattle.gj_json.specs.Internal.Transitions.{IsMode};
 ghost use Rattle.gj_json.specs.Internal.OpenLevels.{levels_in};
@@ -67,9 +67,9 @@ impl Reader {
         }
     }
 
-    /// Takes a piece of the text, of any size, and tells the sink the events that are complete in it, in order.
+    /// Takes a piece of the text, of any size, and reports to the sink the events that are complete in it, in order.
     ///
-    /// It is what `push` of each byte in turn leaves and tells, up to a byte that is refused. The bytes before that one
+    /// It is what `push` of each byte in turn leaves and reports, up to a byte that is refused. The bytes before that one
     /// are taken; from then on each call answers the same fault and changes nothing.
     pub fn feed<S: EventSink>(&mut self, piece: &[u8], sink: &mut S) -> Result<(), JsonFault>
         ensures stands { (bytes : List ℕ) → StandsFor self.old bytes → StandsFor self.new (bytes ++ piece.now) }
@@ -113,7 +113,7 @@ impl Reader {
         }
     }
 
-    /// Takes the next byte, as [`Reader::push`] does, and tells the sink the events that it completes.
+    /// Takes the next byte, as [`Reader::push`] does, and reports to the sink the events that it completes.
     fn take_next<S: EventSink>(&mut self, byte: u8, sink: &mut S) -> Result<Move, JsonFault>
         ensures stands { (bytes : List ℕ) → StandsFor self.old bytes → StandsFor self.new (bytes ++ byte ∷ []) }
         ensures answer { (bytes : List ℕ) → StandsFor self.old bytes → Answers (limits_of self.old) (bytes ++ byte ∷ []) result }
@@ -193,6 +193,7 @@ impl Reader {
 
 mod bytes;
 mod flats;
+mod heads;
 mod ignored;
 mod level;
 mod pieces;

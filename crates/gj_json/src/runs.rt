@@ -15,7 +15,7 @@ pub use crate::lanes::{is_white, white_run};
 use crate::mode::{Mode, StringMove, StringState};
 use crate::strings::next_string;
 
-/// How many bytes at the front of the piece leave the mode as it is, and complete no event.
+/// How many bytes at the start of the piece leave the mode as it is, and complete no event.
 #[inline(always)]
 pub fn quiet_run(mode: Mode, piece: &[u8]) -> usize
     ensures within { result ≤ length piece.now }
@@ -33,14 +33,14 @@ pub fn quiet_run(mode: Mode, piece: &[u8]) -> usize
     }
 }
 
-/// Bytes of a string: how many, and how far the character under way has come behind them.
+/// Bytes of a string: how many, and how far the character under way has come after them.
 #[derive(Clone, Copy)]
 pub struct StringRun {
     pub count: usize,
     pub state: StringState,
 }
 
-/// How many bytes at the front of the piece are characters by themselves, where none is under way.
+/// How many bytes at the start of the piece are characters by themselves, where none is under way.
 fn plain_front(state: StringState, piece: &[u8]) -> usize
     ensures within { result ≤ length piece.now }
     ensures ascii { AllByRecursion IsAscii (take result piece.now) }
@@ -90,7 +90,7 @@ fn text_front(content: &Content, state: StringState, piece: &[u8]) -> usize
     }
 }
 
-/// Takes the bytes at the front of the piece that go on in a string, and the characters that end in them.
+/// Takes the bytes at the start of the piece that go on in a string, and the characters that end in them.
 pub fn string_run(content: &mut Content, state: StringState, piece: &[u8]) -> StringRun
     requires { IsStringState state }
     ensures within { result.count ≤ length piece.now }

@@ -1,17 +1,20 @@
-//! What a reader tells its events to.
+//! What a reader reports its events to.
 ghost use Rattle.std.specs.Prelude.{◌≡◌, ℕ, ◌≤◌, ◌<◌, ◌∷◌, ◌++◌, [], List, length, IsTrue, false};
 
 use crate::event::{Event, What};
 use crate::flat::Flat;
+use crate::head::Head;
+use crate::names::Known;
 use arrayvec::ArrayVec;
 
-/// What a reader tells its events to, in order.
+/// What a reader reports its events to, in order.
 pub trait EventSink {
-    /// The events that it was told so far may be these.
+    /// The events that were reported to it so far may be these.
     ghost heard: { Self → List Event → Type 0 };
 
     ghost use Rattle.gj_json.specs.declared.event.Event.{Event};
     ghost use Rattle.gj_json.specs.Flat.{flat_events};
+    ghost use Rattle.gj_json.specs.Head.{head_events};
     ghost use Rattle.gj_json.specs.Ignored.{Leaves};
 
     /// So many levels have to close before an event matters to it again.
@@ -20,7 +23,7 @@ pub trait EventSink {
     fn tell(&mut self, event: Event)
         ensures { (events : List Event) → heard self.old events → heard self.new (events ++ event ∷ []) };
 
-    /// Told an array of numbers at once, it has heard the same as by its events in turn.
+    /// An array of numbers that is reported at once is heard as its events in turn are.
     fn tell_flat(&mut self, flat: &Flat)
         ensures { (events : List Event) → heard self.old events → heard self.new (events ++ flat_events flat.now) }
     {
@@ -48,6 +51,50 @@ pub trait EventSink {
         });
     }
 
+    /// Told the beginning of an object at once, it has heard the same as by its events in turn.
+    fn tell_head(&mut self, head: Head)
+        ensures { (events : List Event) → heard self.old events → heard self.new (events ++ head_events head) }
+    {
+        match head {
+            Head::Object(typed) => {
+                self.tell(Event {
+                    place: typed.place,
+                    what: What::OpenObject,
+                });
+                self.tell(Event {
+                    place: typed.place + 1,
+                    what: What::Name(Known::TypeName),
+                });
+                self.tell(Event {
+                    place: typed.word_at,
+                    what: What::Text(typed.word),
+                });
+            }
+            Head::Geometry(located) => {
+                self.tell(Event {
+                    place: located.place,
+                    what: What::Name(Known::Geometry),
+                });
+                self.tell(Event {
+                    place: located.typed.place,
+                    what: What::OpenObject,
+                });
+                self.tell(Event {
+                    place: located.typed.place + 1,
+                    what: What::Name(Known::TypeName),
+                });
+                self.tell(Event {
+                    place: located.typed.word_at,
+                    what: What::Text(located.typed.word),
+                });
+                self.tell(Event {
+                    place: located.coordinates,
+                    what: What::Name(Known::Coordinates),
+                });
+            }
+        }
+    }
+
     /// How many levels have to close before an event matters to it again: 0 where each one matters.
     fn ignored(&self) -> u16
         ensures { result ≡ ignores self.now };
@@ -64,7 +111,7 @@ pub trait EventSink {
         false
     }
 
-    /// The array or object that was just opened has closed, and no event was told since: whether it has heard the same as by
+    /// The array or object that was just opened has closed, and no event was reported since: whether it has heard the same as by
     /// these events, whichever they are. If not, it is unchanged.
     #[inline(always)]
     fn tell_closed(&mut self) -> bool
@@ -107,7 +154,7 @@ impl EventSink for EventPair {
     fn pass(&mut self, _left: u16) {}
 }
 
-/// Keeps nothing of what it is told.
+/// Keeps nothing of what is reported to it.
 #[derive(Drop)]
 pub struct NoEvents;
 

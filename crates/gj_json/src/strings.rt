@@ -12,7 +12,7 @@ const BACKSPACE: u8 = 8;
 
 const FORM_FEED: u8 = 12;
 
-/// The character that a short escape means, by the byte behind its backslash.
+/// The character that a short escape means, by the byte after its backslash.
 #[tactic(auto, unfolding(crate::specs::Characters::escape_of))]
 fn escaped(byte: u8) -> Option<u8>
     ensures { result ≡ escape_of byte }

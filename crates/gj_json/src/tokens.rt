@@ -1,4 +1,4 @@
-//! Tokens that stand whole at the front of a piece: how far they go, and nothing of what they say.
+//! Tokens that stand whole at the start of a piece: how far they go, and nothing of what they say.
 
 ghost use Rattle.std.specs.Prelude.{◌≡◌, ◌-◌, ◌≤◌, ◌<◌, length, take, get_or};
 ghost use Rattle.gj_json.specs.Bytes.{quote};

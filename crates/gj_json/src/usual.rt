@@ -1,4 +1,4 @@
-//! The names and the types that most features have, each told from others by a comparison of words.
+//! The names and the types that most features have, each distinguished from others by a comparison of words.
 
 ghost use Rattle.std.specs.Prelude.{◌<◌, ◌≤◌, length};
 ghost use Rattle.gj_json.specs.Internal.WholeTokens.{IsUsualName, IsUsualText};
@@ -83,6 +83,7 @@ pub fn usual_name(piece: &[u8]) -> UsualName
 #[inline(always)]
 pub fn usual_text(piece: &[u8]) -> UsualText
     ensures within { result.count ≤ length piece.now }
+    ensures short { result.count ≤ 12 }
     ensures usual { 0 < result.count → IsUsualText piece.now result.count result.word }
 {
     if piece.len() < ROOM {

@@ -5,7 +5,7 @@ use Rattle.gj_number.specs.Grammar.{IsNatural, IsDigits}
 use Rattle.gj_number.specs.Exact.{Exact, zero_exact, signed, digits_limit, power_limit}
 use Rattle.gj_number.specs.Value.{number_of, exponent_limit}
 
--- what a literal is made of: its sign, the digits before and behind its point, and its exponent, 0 where none is written
+-- what a literal is made of: its sign, the digits before and after its point, and its exponent, 0 where none is written
 pub record Parts : Type 0 where
   pub negative : Bool
   pub natural : List ℕ
@@ -19,7 +19,7 @@ SpellsSign true bytes = bytes ≡ minus_sign ∷ []
 abbrev pub SpellsFraction : List ℕ → List ℕ → Type 0
 SpellsFraction digits bytes = ((bytes ≡ []) × (digits ≡ [])) ⊎ ((bytes ≡ decimal_point ∷ digits) × IsDigits digits)
 
--- the sign of an exponent, which is below zero behind a minus
+-- the sign of an exponent, which is below zero after a minus
 abbrev pub SpellsExponentSign : Bool → List ℕ → Type 0
 SpellsExponentSign false bytes = (bytes ≡ []) ⊎ (bytes ≡ plus_sign ∷ [])
 SpellsExponentSign true bytes = bytes ≡ minus_sign ∷ []

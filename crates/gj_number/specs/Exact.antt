@@ -72,7 +72,7 @@ abbrev pub below_zero : ℤ → ℕ
 below_zero (pos n) = 0
 below_zero (negsuc n) = suc n
 
--- how many digits stand behind the point where no zero is written at the end
+-- how many digits stand after the point where no zero is written at the end
 abbrev pub places_of : Exact → ℕ
 places_of e = below_zero e.power
 

@@ -32,7 +32,7 @@ pub record StartsOrdinary (piece : List ℕ) (n : ℕ) : Type 0 where
   pub ordinary : IsOrdinary (take n piece)
   pub after : IsNumberByte (get_or piece n 0) → ⊥
 
--- The same of a number with a point, with one to three digits before it and at most eleven after it, and of the byte
+-- As above, of a number with a point, with one to three digits before it and at most eleven after it, and of the byte
 -- after the number.
 pub record StartsUsual (piece : List ℕ) (n behind : ℕ) : Type 0 where
   pub number : StartsOrdinary piece n
@@ -70,7 +70,7 @@ pub record StartsWithNumber (piece : List ℕ) (e : Exact) (n : ℕ) : Type 0 wh
   pub value : value_of (take n piece) ≡ Some e
   pub ends : BeginsNumber (take (n + 1) piece) → ⊥
 
--- The piece starts with two numbers that denote these decimals: a comma after the first, with one space behind it or none,
+-- The piece starts with two numbers that denote these decimals: a comma after the first, with one space after it or none,
 -- and a closing bracket after the second, at these indices.
 pub record StartsWithPair (piece : List ℕ) (first second : Exact) (comma_at second_at end : ℕ) : Type 0 where
   pub one : StartsWithNumber piece first comma_at

@@ -32,7 +32,7 @@ natural_of literal = before_first (λ b. b == decimal_point) (significand_of lit
 abbrev pub fraction_of : List ℕ → List ℕ
 fraction_of literal = after_first (λ b. b == decimal_point) (significand_of literal)
 
--- the number that the bytes behind an exponent's letter spell
+-- the number that the bytes after an exponent's letter spell
 abbrev pub signed_number : List ℕ → ℤ
 signed_number bytes = signed (is_negative bytes) (number_of (unsigned_of bytes))
 
@@ -58,7 +58,7 @@ unfoldable pub within_limits : ℤ → Exact → Option Exact
 within_limits written e =
     if nat_lt e.digits digits_limit && nat_le (unsigned_abs e.power) power_limit && nat_le (unsigned_abs written) exponent_limit then Some e else None
 
--- the held decimal of a sign, the number that at most so many digits spell, the digits behind the point and the exponent
+-- the held decimal of a sign, the number that at most so many digits spell, the digits after the point and the exponent
 unfoldable pub held_value : Bool → ℕ → ℕ → ℕ → ℤ → Option Exact
 held_value negative digits whole places written =
     if whole == 0 then Some zero_exact else

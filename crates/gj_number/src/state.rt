@@ -4,7 +4,7 @@ ghost use Rattle.gj_number.specs.Bytes.{IsDigit, IsNumberByte};
 ghost use Rattle.gj_number.specs.Internal.NumberMachine.{class_of, next_of, may_end_in};
 ghost use Rattle.gj_number.specs.declared.state.Class.TheVariants.{Other};
 
-/// The bytes that the grammar of a number (RFC 8259, section 6) tells apart.
+/// The classes of bytes that the grammar of a number (RFC 8259, section 6) distinguishes.
 #[derive(Clone, Copy)]
 pub(crate) enum Class {
     Minus,

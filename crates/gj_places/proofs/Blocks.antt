@@ -1,6 +1,8 @@
 -- The blocks of a list, one after the other.
-use Rattle.std.proofs.Common.{◌≡◌, ℕ, zero, suc, ◌+◌, ◌*◌, ◌<◌, ◌++◌, List, [], take, drop, drop-drop, get_or, ap, sym, ◌∙◌, refl, arith, ◌∷◌}
-use Rattle.std.proofs.lemmas.List.{take-append-drop}
+use Rattle.std.proofs.Common.{◌≡◌, ℕ, zero, suc, ◌+◌, ◌*◌, ◌<◌, ◌≤◌, ◌++◌, List, [], length, take, drop, drop-drop, length-drop, get_or, ap, sym, ◌∙◌}
+use Rattle.std.proofs.Common.{refl, arith, ◌∷◌}
+use Rattle.std.proofs.Math.Nat.{mul-le-mul_right}
+use Rattle.std.proofs.lemmas.List.{take-append-drop, length-take-le}
 use Rattle.std.specs.Simd.{first_chunks}
 
 block_at : (n k i : ℕ) (xs : List ℕ) → i < k → get_or (first_chunks n k xs) i [] ≡ take n (drop (i * n) xs)
@@ -31,3 +33,12 @@ next_block n i k xs blocks same less =
 pub blocks_and_rest : (n i k : ℕ) (xs rest : List ℕ) → rest ≡ drop (k * n) xs → i ≡ k → take (i * n) xs ++ rest ≡ xs
 blocks_and_rest n i k xs rest same all =
     ap (λ ys. take (i * n) xs ++ ys) (same ∙ ap (λ m. drop (m * n) xs) (sym all)) ∙ take-append-drop (i * n) xs
+
+-- each of them is whole
+pub length-block : (n i k : ℕ) (xs : List ℕ) (blocks : List (List ℕ)) → blocks ≡ first_chunks n k xs → i < k → k * n ≤ length xs
+    → length (get_or blocks i []) ≡ n
+length-block n i k xs blocks same less enough =
+    let it : get_or blocks i [] ≡ take n (drop (i * n) xs) = ap (λ bs. get_or bs i []) same ∙ block_at n k i xs less in
+    let room : (i + 1) * n ≤ k * n = mul-le-mul_right n (omega arith) in
+    let left : n ≤ length (drop (i * n) xs) = omega (arith, length-drop (i * n) xs) in
+    ap length it ∙ length-take-le n (drop (i * n) xs) left

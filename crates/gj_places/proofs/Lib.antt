@@ -2,3 +2,4 @@ mod Blocks
 mod CountedBytes
 mod CountedPieces
 mod KeptLines
+mod Lanes

@@ -1,4 +1,4 @@
--- Which bytes before a place and behind it an excerpt stands for, however they came.
+-- Which bytes before a place and after it an excerpt stands for, however they came.
 use Rattle.std.specs.Prelude.{◌≡◌, ◌<◌, ℕ, List, length, take, true, false}
 use Rattle.gj_places.specs.Lines.{last_line, has_line_feed}
 use Rattle.gj_places.specs.Excerpts.{last_of, first_line}

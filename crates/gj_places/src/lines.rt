@@ -1,17 +1,22 @@
 //! The line and the column of a place.
 
-ghost use Rattle.std.specs.Prelude.{◌≡◌, ◌≤◌, length, true, false};
-ghost use Rattle.gj_places.specs.Lines.{is_line_feed, begins_character, line_feeds, characters, has_line_feed};
-ghost use Rattle.gj_places.specs.declared.lines.TheConstants.{BLOCK};
+ghost use Rattle.std.specs.Prelude.{◌≡◌, ◌<◌, ◌≤◌, length, map, true, false};
+ghost use Rattle.gj_places.specs.Lines.{is_line_feed, begins_character, line_feeds, characters, has_line_feed, counted_byte};
+ghost use Rattle.gj_places.specs.declared.lines.TheConstants.{BLOCK, ROW};
 
 use memchr::memrchr;
+use std::simd::prelude::*;
 
 /// The byte that ends a line.
 const LINE_FEED: u8 = b'\n';
 
-/// The number of bytes that are counted at a time: few enough that a `u8` holds the count, and one vector instruction
-/// counts 16 of them.
+/// The number of bytes whose characters are counted at a time: few enough that a `u8` holds the count, and one vector
+/// instruction counts 16 of them.
 const BLOCK: usize = 192;
+
+/// The number of bytes whose line feeds are counted at a time, in 48 vectors: few enough that each lane of a sum of these
+/// holds its count.
+const ROW: usize = 768;
 
 /// The number of bytes that are looked at together for a line of ASCII.
 const PLAIN_BLOCK: usize = 256;
@@ -34,14 +39,24 @@ fn begins_character(byte: u8) -> bool
     !(0x80..=0xBF).contains(&byte)
 }
 
-/// How many lines end in a block.
+/// A lane for each byte: 1 where a line ends with it, and 0 elsewhere.
 #[inline(always)]
-fn line_feeds_in_block(block: &[u8]) -> u8
-    requires { length block.now ≤ BLOCK }
-    ensures { result ≡ line_feeds block.now }
+fn line_ends(bytes: &[u8; 16]) -> u8x16
+    ensures { result ≡ map counted_byte bytes.now }
+{
+    u8x16::from_array(*bytes)
+        .simd_eq(u8x16::splat(LINE_FEED))
+        .select(u8x16::splat(1), u8x16::splat(0))
+}
+
+/// How many lines end in a few bytes.
+#[inline(always)]
+fn few_line_feeds(bytes: &[u8]) -> u16
+    requires { length bytes.now < 16 }
+    ensures { result ≡ line_feeds bytes.now }
 {
     let mut count = 0;
-    for byte in block {
+    for byte in bytes {
         if *byte == LINE_FEED {
             count += 1;
         }
@@ -49,16 +64,30 @@ fn line_feeds_in_block(block: &[u8]) -> u8
     count
 }
 
+/// How many lines end in a row.
+#[inline(always)]
+fn line_feeds_in_row(row: &[u8]) -> u16
+    requires { length row.now ≤ ROW }
+    ensures { result ≡ line_feeds row.now }
+{
+    let (vectors, rest) = row.as_chunks::<16>();
+    let mut lanes = u8x16::splat(0);
+    for vector in vectors {
+        lanes += line_ends(vector);
+    }
+    lanes.cast::<u16>().reduce_sum() + few_line_feeds(rest)
+}
+
 /// How many lines end in the bytes.
 fn line_feeds(bytes: &[u8]) -> u64
     ensures { result ≡ line_feeds bytes.now }
 {
-    let (blocks, rest) = bytes.as_chunks::<BLOCK>();
+    let (rows, rest) = bytes.as_chunks::<ROW>();
     let mut count = 0;
-    for block in blocks {
-        count += u64::from(line_feeds_in_block(block));
+    for row in rows {
+        count += u64::from(line_feeds_in_row(row));
     }
-    count + u64::from(line_feeds_in_block(rest))
+    count + u64::from(line_feeds_in_row(rest))
 }
 
 /// How many characters begin in a block.

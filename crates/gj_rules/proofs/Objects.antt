@@ -1,4 +1,4 @@
--- What a frame keeps of an open object, and what it tells at its close.
+-- What a frame keeps of an open object, and what it reports at its close.
 pub mod WarningsInTurn
 pub mod AskedShapes
 pub mod MemberSlots

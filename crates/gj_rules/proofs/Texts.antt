@@ -1,4 +1,4 @@
--- The rules over the events of a text, and the places that they tell.
+-- The rules over the events of a text, and the places that they report.
 pub mod TimedEvents
 pub mod ValuesByEvents
 pub mod EventOrder

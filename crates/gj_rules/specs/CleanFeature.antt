@@ -1,4 +1,4 @@
--- What is told of a feature in which nothing is found.
+-- What is reported of a feature in which nothing is found.
 use Rattle.std.specs.Prelude.{Some, None}
 use Rattle.gj_coords.specs.Internal.KeptWarnings.{no_warnings}
 use Rattle.gj_rules.specs.declared.feature.Feature.{Feature}

@@ -36,7 +36,7 @@ abbrev pub type_named : What → Word
 type_named (What.Text word) = word
 type_named _ = Word.Other
 
--- the type that the value of the first `type` names, once that value has begun to be told
+-- the type that the value of the first `type` names, once that value has begun to be reported
 abbrev pub first_type : List What → Option Word
 first_type (What.Name TypeName ∷ (value ∷ more)) = Some (type_named value)
 first_type (_ ∷ more) = first_type more

@@ -1,5 +1,5 @@
 -- The faults of a text (RFC 7946, sections 1.4, 3.1 to 3.3, 5 and 7): a list by recursion on the tree, whatever the
--- order of the members. Only the least of it, by place and then by rule, is told.
+-- order of the members. Only the least of it, by place and then by rule, is reported.
 use Rattle.std.specs.Prelude.{ℕ, if◌then◌else◌, List, [], ◌++◌, Option, Some, None}
 use Rattle.std.specs.List.{flat_map}
 use Rattle.gj_json.specs.declared.constant.Constant.{Constant}
@@ -42,7 +42,7 @@ constant_faults which role place = one place G1
 
 -- ---- an object, as the members of it that count
 
--- the first member of a name: the place of the name, the value, and the value's faults. Those of `coordinates` hang on
+-- the first member of a name: the place of the name, the value, and the value's faults. Those of `coordinates` depend on
 -- the type of the object, and are not among them.
 pub record First : Type 0 where
   pub name_at : ℕ
@@ -86,13 +86,13 @@ as_type Word.Feature place m = due place G6 (m Geometry) ++ (due place G7 (m Pro
 as_type Word.FeatureCollection place m = due place G8 (m Features)
 as_type Word.Other place m = []
 
--- with a type missing or not allowed nothing else of the object is judged
+-- with a type missing or not allowed nothing else of the object is checked
 abbrev pub by_type : Option TypeValue → Role → ℕ → FirstMembers → List Fault
 by_type None role place m = one place G2
 by_type (Some value) role place m =
     if is_allowed role value.word then flat_map (λ name. forbidden (m name)) (forbidden_by value.word) ++ as_type value.word place m else one value.place G3
 
--- a bounding box is judged in each object, also where its type is missing or wrong (section 5)
+-- a bounding box is checked in each object, also where its type is missing or wrong (section 5)
 abbrev pub object_faults : Role → ℕ → List Fault → Option TypeValue → FirstMembers → List Fault
 object_faults role place repeats type_value m = repeats ++ (optional (m Bbox) ++ by_type type_value role place m)
 

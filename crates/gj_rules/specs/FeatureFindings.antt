@@ -54,7 +54,7 @@ abbrev pub id_place : Tree → Option ℕ
 id_place (object place members close) = place_if (first_value Id members)
 id_place _ = None
 
--- warnings are told of a feature that breaks no rule
+-- warnings are reported of a feature that breaks no rule
 abbrev pub unless_broken : Option Fault → List Warning → List Warning
 unless_broken None all = all
 unless_broken (Some fault) all = []

@@ -1,4 +1,4 @@
--- What a linter stands for that tells the features of its input.
+-- What a linter stands for that reports the features of its input.
 use Rattle.std.specs.Prelude.{ℕ, List, take, Option}
 use Rattle.gj_json.specs.declared.fault.JsonFault.{JsonFault}
 use Rattle.gj_json.specs.Limits.{Allowed}
@@ -9,14 +9,14 @@ use Rattle.gj_rules.specs.Linter.{AreToldOf}
 use Rattle.gj_rules.specs.Internal.FeatureSteps.{Stand}
 
 module _ {S : Type 0} where
-  -- The linter may have been fed these bytes, refused ones among them, where `Told` says what its sink was told. What it says
+  -- The linter may have been fed these bytes, refused ones among them, where `Told` says what was reported to its sink. What it says
   -- is internal: a caller needs that `new` stands for no bytes, and that each call keeps it.
   unfoldable pub StandsFor : (S → List Feature → Type 0) → FeatureLinter S → List ℕ → Type 0
   StandsFor Told linter bytes = ReaderStandsFor linter.reader bytes
       × AreToldOf (Stand (Told linter.rules.sink) linter.rules.rules linter.rules.count) (take (reader_offset linter.reader) bytes)
       (reader_offset linter.reader)
 
-  -- what it judges under
+  -- what it checks under
   abbrev pub limits_of : FeatureLinter S → Allowed
   limits_of linter = reader_limits linter.reader
 
@@ -28,6 +28,6 @@ module _ {S : Type 0} where
   abbrev pub offset_of : FeatureLinter S → ℕ
   offset_of linter = reader_offset linter.reader
 
-  -- what the features are told to
+  -- what the features are reported to
   abbrev pub sink_of : FeatureLinter S → S
   sink_of linter = linter.rules.sink

@@ -1,5 +1,5 @@
 -- Which objects have a role by their position, whatever the types of the objects around them (RFC 7946, sections 3.1.8,
--- 3.2 and 3.3), and how many of them are open in a front of a text.
+-- 3.2 and 3.3), and how many of them are open in a prefix of a text.
 use Rattle.std.specs.Prelude.{ℕ, ◌+◌, Bool, true, false, not, ◌&&◌, List, [], ◌∷◌}
 use Rattle.gj_json.specs.declared.names.Known.{Known}
 use Rattle.gj_json.specs.declared.names.Known.TheVariants.{Geometries, Geometry, Features}
@@ -48,7 +48,7 @@ abbrev mutual
   elements_judged n role end_of_array = 0
   elements_judged n role (element value more) = judged_in n role value + elements_judged n role more
 
-  -- in the first member of each name, behind members of the names `before`
+  -- in the first member of each name, after members of the names `before`
   pub members_judged : ℕ → Role → List Known → Members → ℕ
   members_judged n role before end_of_object = 0
   members_judged n role before (member place name end value more) =

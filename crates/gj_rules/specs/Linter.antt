@@ -14,7 +14,7 @@ use Rattle.gj_rules.specs.declared.linter.Progress.{Progress}
 use Rattle.gj_rules.specs.declared.linter.Progress.TheVariants.{Open, Refused}
 use Rattle.gj_rules.specs.Rules.{StandsFor as RulesStandFor}
 
--- the events were told, of which this holds, that each text which begins with these bytes has complete in them
+-- the events were reported, of which this holds, that each text which begins with these bytes has complete in them
 pub record AreToldOf (Told : List Event → Type 0) (taken : List ℕ) (n : ℕ) : Type 0 where
   pub events : List Event
   pub told : Told events
@@ -26,7 +26,7 @@ unfoldable pub StandsFor : Linter → List ℕ → Type 0
 StandsFor linter bytes =
     ReaderStandsFor linter.reader bytes × AreToldOf (RulesStandFor linter.rules) (take (reader_offset linter.reader) bytes) (reader_offset linter.reader)
 
--- what it judges under
+-- what it checks under
 abbrev pub limits_of : Linter → Allowed
 limits_of linter = reader_limits linter.reader
 

@@ -59,7 +59,7 @@ abbrev pub again : Bool → Bool → ℕ → List Fault
 again true true place = one place G10
 again _ _ place = []
 
--- G10 at the name of each member with a known name that is not the first of it, among members behind others of the
+-- G10 at the name of each member with a known name that is not the first of it, among members after others of the
 -- names `before`
 abbrev pub repeated : List Known → Members → List Fault
 repeated before end_of_object = []

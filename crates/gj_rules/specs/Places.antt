@@ -1,4 +1,4 @@
--- The places that are told of an input.
+-- The places that are reported of an input.
 use Rattle.std.specs.Prelude.{◌≡◌, ℕ, Some}
 use Rattle.gj_coords.specs.Warnings.{first_of}
 use Rattle.gj_coords.specs.declared.kind.Kind.{Kind}

@@ -1,4 +1,4 @@
--- How an input is cut into the records that are judged each by itself: a text sequence (RFC 8142; RFC 7464, section 2), or
+-- How an input is cut into the records that are checked each by itself: a text sequence (RFC 8142; RFC 7464, section 2), or
 -- newline-delimited texts, each of which is a line.
 use Rattle.std.specs.Prelude.{ℕ, zero, suc, ◌+◌, List, [], ◌∷◌, length, take, Bool, true, false, ◌||◌, not, nat_eq, nat_lt, if◌then◌else◌}
 use Rattle.std.specs.List.{list_all}

@@ -9,7 +9,7 @@ use Rattle.gj_rules.specs.Levels.{levels_within}
 use Rattle.gj_rules.specs.Internal.EventSteps.{run, start}
 use Rattle.gj_rules.specs.Internal.LabelledEvents.{Told, event_of, text_told}
 
--- The rules may have been told these events. Nothing is said of events that no text within those levels begins with.
+-- These events may have been reported to the rules. Nothing is said of events that no text within those levels begins with.
 abbrev pub StandsFor : {frames : ℕ} → FramedRules frames → List Event → Type 0
 StandsFor {frames} rules events = (text : Text) (done rest : List Told) → text_told text ≡ done ++ rest → map event_of done ≡ events
     → depth text.value ≤ levels_within frames → Stands rules (run done start)

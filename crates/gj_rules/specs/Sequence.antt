@@ -45,7 +45,7 @@ pub record SequenceRecord : Type 0 where
   pub bytes : List ℕ
   pub is_cut : Bool
 
--- A record begins behind each separator that no other separator follows, so that a run of them begins one record.
+-- A record begins after each separator that no other separator follows, so that a run of them begins one record.
 abbrev pub records_from : Bool → ℕ → List ℕ → List SequenceRecord
 records_from is_cut place [] = []
 records_from is_cut place (byte ∷ more) =
@@ -68,7 +68,7 @@ shifted_verdict by (NotJson fault) = NotJson (record { place = fault.place + by;
 abbrev pub not_json : ℕ → Cause → Verdict
 not_json place cause = NotJson (record { place = place; cause = cause })
 
--- the last of a byte and those behind it
+-- the last of a byte and those after it
 abbrev pub last_byte : ℕ → List ℕ → ℕ
 last_byte byte [] = byte
 last_byte byte (next ∷ more) = last_byte next more
@@ -148,14 +148,14 @@ IsJudgedBy false levels records (SeqVerdict.Record number verdict) = IsFirstFail
 abbrev pub IsSequenceVerdict : Allowed → List ℕ → SeqVerdict → Type 0
 IsSequenceVerdict limits bytes verdict = IsJudgedBy (is_stray bytes) limits.depth (records_of limits bytes) verdict
 
--- ---- what is told of it
+-- ---- what is reported of it
 
 -- so many records, all of them valid, with a list of all their warnings; or the record that is not valid, and what it is
 pub data SequenceJudgement : Type 0 where
   all_valid : (records : ℕ) → (warnings : List Warning) → SequenceJudgement
   failing : (number : ℕ) → (judgement : Judgement) → SequenceJudgement
 
--- a verdict says the same, and of the warnings what a `Warnings` tells
+-- a verdict says the same, and of the warnings what a `Warnings` says
 abbrev pub SequenceSays : SeqVerdict → SequenceJudgement → Type 0
 SequenceSays (SeqVerdict.Valid count told) (all_valid records warnings) = (count ≡ records) × WarningsStandFor told warnings
 SequenceSays (SeqVerdict.Record told verdict) (failing number judgement) = (told ≡ number) × Says verdict judgement

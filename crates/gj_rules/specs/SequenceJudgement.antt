@@ -1,4 +1,4 @@
--- What a text sequence is, with a list of the warnings of all its records in turn: the verdict of `Sequence`, as told of these.
+-- What a text sequence is, with a list of the warnings of all its records in turn: the verdict of `Sequence`, as reported of these.
 use Rattle.std.specs.Prelude.{◌≡◌, ℕ, ◌+◌, List, [], ◌∷◌, ◌++◌, length, map, Bool, true, false}
 use Rattle.gj_json.specs.Limits.{Allowed}
 use Rattle.gj_json.specs.declared.fault.Cause.{Cause}

@@ -9,7 +9,7 @@ use Rattle.gj_rules.specs.declared.sequence.verdict.SeqVerdict.{SeqVerdict}
 use Rattle.gj_rules.specs.Sequence.{IsSequenceVerdict, IsUndecided, IsDecidedAt}
 use Rattle.gj_rules.specs.Internal.OpenSequence.{IsLive}
 
--- what a sequence is judged under
+-- what a sequence is checked under
 abbrev pub limits_of : Sequence → Allowed
 limits_of s = s.limits
 

@@ -1,5 +1,5 @@
 -- What is likely wrong in use in a text: all warnings, by recursion on the tree, over the objects whose faults count
--- (RFC 7946, sections 3.1 to 3.3, 3.1.8, 4 and 5; RFC 8259, section 8.1). They are told of a text that breaks no rule.
+-- (RFC 7946, sections 3.1 to 3.3, 3.1.8, 4 and 5; RFC 8259, section 8.1). They are reported of a text that breaks no rule.
 use Rattle.std.specs.Prelude.{ℕ, if◌then◌else◌, List, [], ◌∷◌, ◌++◌, Option, Some, None}
 use Rattle.gj_json.specs.declared.names.Known.{Known}
 use Rattle.gj_json.specs.declared.names.Known.TheVariants.{Coordinates, Geometries, Geometry, Features, Bbox, Crs}
@@ -36,7 +36,7 @@ abbrev pub nested_warnings : Role → ℕ → List Warning
 nested_warnings Role.Part place = warning_at place W7 ∷ []
 nested_warnings role place = []
 
--- what of an object hangs on its type: those of its coordinates, of its geometries, of its geometry or of its features
+-- what of an object depends on its type: those of its coordinates, of its geometries, of its geometry or of its features
 abbrev pub typed_warnings : Word → Role → ℕ → Option Tree → List Warning → List Warning → List Warning → List Warning
 typed_warnings Word.Point role place coordinates geometries geometry features = simple_warnings Simple.Point coordinates
 typed_warnings Word.MultiPoint role place coordinates geometries geometry features = simple_warnings Simple.MultiPoint coordinates
@@ -54,7 +54,7 @@ by_type_warnings None role place coordinates geometries geometry features = []
 by_type_warnings (Some value) role place coordinates geometries geometry features =
     if is_allowed role value.word then typed_warnings value.word role place coordinates geometries geometry features else []
 
--- the warnings of the value of a first member that do not hang on its object's type, given those that it has as a geometry,
+-- the warnings of the value of a first member that do not depend on its object's type, given those that it has as a geometry,
 -- as a list of geometries and as a list of features
 abbrev pub selected_warnings : Known → Tree → List Warning → List Warning → List Warning → List Warning
 selected_warnings Geometry value geometry geometries features = geometry

@@ -33,7 +33,7 @@ IsJudgement limits bytes (valid warnings) = IsValidWith limits bytes (λ all. wa
 IsJudgement limits bytes (broken fault) = IsBrokenBy limits bytes fault
 IsJudgement limits bytes (refused fault) = IsRefusal limits bytes fault
 
--- a verdict says the same, and of the warnings what a `Warnings` tells
+-- a verdict says the same, and of the warnings what a `Warnings` says
 abbrev pub Says : Verdict → Judgement → Type 0
 Says (Valid told) (valid warnings) = WarningsStandFor told warnings
 Says (Broken told) (broken fault) = told ≡ fault

@@ -1,4 +1,4 @@
-//! What is told of a feature.
+//! What is reported of a feature.
 
 ghost use Rattle.std.specs.Prelude.{◌∷◌, ◌++◌, [], List};
 
@@ -34,9 +34,9 @@ pub struct CleanFeature {
     pub id: Option<u64>,
 }
 
-/// What features are told to, in order.
+/// What features are reported to, in order.
 pub trait FeatureSink {
-    /// The features that it was told so far may be these.
+    /// The features that were reported to it so far may be these.
     ghost told: { Self → List Feature → Type 0 };
 
     ghost use Rattle.gj_rules.specs.declared.feature.Feature.{Feature};
@@ -45,7 +45,7 @@ pub trait FeatureSink {
     fn tell_feature(&mut self, feature: &Feature)
         ensures { (features : List Feature) → told self.old features → told self.new (features ++ feature.now ∷ []) };
 
-    /// Told of a feature in which nothing is found, it was told the same as by `tell_feature`.
+    /// A feature in which nothing is found is reported, as by `tell_feature`.
     #[inline(always)]
     fn tell_clean(&mut self, clean: &CleanFeature)
         ensures { (features : List Feature) → told self.old features → told self.new (features ++ feature_of clean.now ∷ []) }
@@ -61,7 +61,7 @@ pub trait FeatureSink {
     }
 }
 
-/// A sink that can forget what it was told.
+/// A sink that can forget what was reported to it.
 pub trait ForgetfulSink: FeatureSink {
     /// As before the first feature.
     fn forget(&mut self)

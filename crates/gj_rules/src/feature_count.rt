@@ -1,5 +1,5 @@
 //! Where in the features of a text the next event stands.
-ghost use Rattle.std.specs.Prelude.{◌≡◌, ℕ, suc, ◌<◌, ◌^◌, ◌+◌, ◌-◌, IsTrue, Bool, true};
+ghost use Rattle.std.specs.Prelude.{◌≡◌, ℕ, suc, ◌<◌, ◌^◌, ◌+◌, ◌-◌, IsTrue, Bool, true, false};
 ghost use Rattle.gj_json.specs.Ignored.{levels_behind};
 ghost use Rattle.gj_json.specs.declared.event.What.{What};
 ghost use Rattle.gj_json.specs.declared.names.Known.{Known};
@@ -19,7 +19,7 @@ pub enum Stage {
     Element,
 }
 
-/// What is kept from one event to the next, so that each feature can be told with its number and its place.
+/// What is kept from one event to the next, so that each feature can be reported with its number and its place.
 #[derive(Clone, Copy, Debug, PartialEq, Eq)]
 pub struct FeatureCount {
     pub stage: Stage,
@@ -197,6 +197,18 @@ impl FeatureCount {
         }
     }
 
+    /// Whether a value that begins next belongs to an element, and is not that of its first `id`.
+    #[inline(always)]
+    pub fn is_in_members(&self) -> bool
+        ensures stage { IsTrue result → self.now.stage ≡ Stage.Element }
+        ensures due { IsTrue result → self.now.id_due ≡ false }
+    {
+        match self.stage {
+            Stage::Element => !self.id_due,
+            _ => false,
+        }
+    }
+
     /// After the start of an element, where one is due.
     #[inline(always)]
     pub fn begin(&mut self, place: u64)
@@ -214,7 +226,7 @@ impl FeatureCount {
         ensures { self.old.index < 2 ^ 63 → self.new ≡ element_step What.CloseObject 0 self.old }
     {
         self.stage = Stage::List;
-        self.index = self.index.saturating_add(1);
+        self.index = self.index.wrapping_add(1);
     }
 
     /// After a name `id`: in an element it may be that of the first.
@@ -292,7 +304,7 @@ impl FeatureCount {
         ensures { self.old.inner < 2 ^ 63 → self.new ≡ record self.old { inner = levels_behind what.now self.old.inner } }
     {
         match what {
-            What::OpenObject | What::OpenArray => self.inner = self.inner.saturating_add(1),
+            What::OpenObject | What::OpenArray => self.inner = self.inner.wrapping_add(1),
             What::CloseObject | What::CloseArray => self.inner = self.inner.saturating_sub(1),
             _ => {}
         }

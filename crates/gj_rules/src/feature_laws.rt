@@ -15,7 +15,7 @@ ghost use Rattle.gj_rules.specs.Internal.FeatureSteps.{features_by};
 
 use gj_coords::laws::kept_warnings;
 
-/// A FeatureCollection is judged by itself and by its features (RFC 7946, section 3.3): its least fault is the least of its own
+/// A FeatureCollection is checked by itself and by its features (RFC 7946, section 3.3): its least fault is the least of its own
 /// and of theirs, it is valid where neither it nor a feature has a fault, and then its warnings are its own and theirs.
 pub fn by_feature()
     ensures least { (text : Text) → IsCollection text.value
@@ -49,7 +49,7 @@ pub fn few_features()
     ensures { (text : Text) (bytes : List ℕ) (n : ℕ) → IsText text bytes → length (findings_by n text) ≤ n }
 {}
 
-/// What [`FeatureRules`](crate::FeatureRules) tell of a text of fewer than 2^64 events says what is found in its features.
+/// What [`FeatureRules`](crate::FeatureRules) report of a text of fewer than 2^64 events says what is found in its features.
 pub fn features_say()
     ensures { (text : Text) (n : ℕ) → length (all_events text) < 2 ^ 64 → SayFindings (features_by n text) (findings_by n text) }
 {

@@ -1,4 +1,4 @@
-//! An input that comes in pieces, judged, with what is found in each of its features.
+//! An input that comes in pieces, checked, with what is found in each of its features.
 
 ghost use Rattle.std.specs.Prelude.{◌≡◌, ℕ, ◌<◌, ◌≤◌, ◌^◌, ◌++◌, [], List, length, take, None, Some};
 ghost use Rattle.gj_json.specs.declared.fault.JsonFault.{JsonFault};
@@ -13,11 +13,11 @@ use crate::verdict::Verdict;
 use gj_coords::laws::kept_warnings;
 use gj_json::{Limits, MOST_LEVELS, Reader, bytes_taken, few_events, one_refusal, one_text};
 
-/// Judges an input as [`Linter`](crate::Linter) does, and tells what is found in each of its features, with the last byte
+/// Checks an input as [`Linter`](crate::Linter) does, and reports what is found in each of its features, with the last byte
 /// of the feature.
 ///
 /// A feature is an element of the array that the first `features` of the text's object holds (RFC 7946, section 3.3),
-/// whatever that object's type says and wherever it stands. A feature that is a number is told with the byte after it.
+/// whatever that object's type says and wherever it stands. A feature that is a number is reported with the byte after it.
 #[derive(Drop)]
 pub struct FeatureLinter<S> {
     rules: FeatureRules<S>,
@@ -37,7 +37,7 @@ impl<S: FeatureSink> FeatureLinter<S> {
     ghost use Rattle.gj_rules.specs.Linter.{Answers, refusal_in};
     ghost use Rattle.gj_rules.specs.Verdict.{IsVerdict};
 
-    /// Before the first byte of an input under these limits. The features are told to this sink.
+    /// Before the first byte of an input under these limits. The features are reported to this sink.
     pub fn new(limits: Limits, sink: S) -> Self
         ensures stands { S.told sink [] → StandsFor S.told result [] }
         ensures limits { limits_of result ≡ limits }
@@ -51,7 +51,7 @@ impl<S: FeatureSink> FeatureLinter<S> {
         }
     }
 
-    /// Takes the next bytes of the input, up to a byte that is refused, and tells the features that are complete in them,
+    /// Takes the next bytes of the input, up to a byte that is refused, and reports the features that are complete in them,
     /// in order. From a refusal on each call answers the same fault and changes nothing.
     pub fn feed(&mut self, piece: &[u8]) -> Progress
         ensures stands { (bytes : List ℕ) → StandsFor S.told self.old bytes → StandsFor S.told self.new (bytes ++ piece.now) }
@@ -68,7 +68,7 @@ impl<S: FeatureSink> FeatureLinter<S> {
         }
     }
 
-    /// The verdict of the input that was fed, however it came in pieces, and what its features were told to: all of them,
+    /// The verdict of the input that was fed, however it came in pieces, and what its features were reported to: all of them,
     /// where the input is a JSON text.
     pub fn finish(mut self) -> (Verdict, S)
         ensures verdict { (bytes : List ℕ) → StandsFor S.told self bytes → IsVerdict (limits_of self) bytes result.0 }
@@ -81,7 +81,7 @@ impl<S: FeatureSink> FeatureLinter<S> {
         (verdict, self.rules.into_sink())
     }
 
-    /// The verdict of the input that was fed, where the linter lies: all its features are told, where it is a JSON text. What
+    /// The verdict of the input that was fed, where the linter lies: all its features are reported, where it is a JSON text. What
     /// the linter then stands for is not said.
     pub fn end(&mut self) -> Verdict
         ensures verdict { (bytes : List ℕ) → StandsFor S.told self.old bytes → IsVerdict (limits_of self.old) bytes result }
@@ -105,7 +105,7 @@ impl<S: FeatureSink> FeatureLinter<S> {
         }
     }
 
-    /// What the features are told to: those that are complete in the bytes that were taken, for each text that goes on so and
+    /// What the features are reported to: those that are complete in the bytes that were taken, for each text that goes on so and
     /// has fewer than 2^63 events.
     pub fn sink(&self) -> &S
         ensures value { result.now ≡ sink_of self.now }

@@ -1,14 +1,15 @@
-//! Rules that tell each feature as it ends.
+//! Rules that report each feature as it ends.
 ghost use Rattle.std.specs.Prelude.{◌≡◌, ℕ, ◌<◌, ◌≤◌, ◌^◌, [], ◌∷◌, ◌++◌, List, length, false};
 
+mod heads;
 mod kinds;
 
 use crate::feature::{FeatureSink, ForgetfulSink};
 use crate::feature_count::FeatureCount;
 use crate::rules::Rules;
-use gj_json::{Event, EventSink, Flat, What};
+use gj_json::{Event, EventSink, Flat, Head, What};
 
-/// Rules that tell what is found in each feature of a text, with the last event of the feature.
+/// Rules that report what is found in each feature of a text, with the last event of the feature.
 ///
 /// A feature is an element of the array that the first `features` of the text's object holds (RFC 7946, section 3.3),
 /// whatever that object's type says and wherever it stands.
@@ -41,14 +42,14 @@ impl<S: FeatureSink> FeatureRules<S> {
         }
     }
 
-    /// The rules, which were told the same events.
+    /// The rules, to which the same events were reported.
     pub fn rules(&self) -> &Rules
         ensures { (events : List Event) → Stand (S.told self.now.sink) self.now.rules self.now.count events → RulesStandFor result.now events }
     {
         &self.rules
     }
 
-    /// What the features were told to: those that are complete in the first bytes of a text of fewer than 2^63 events.
+    /// What the features were reported to: those that are complete in the first bytes of a text of fewer than 2^63 events.
     pub fn sink(&self) -> &S
         ensures value { result.now ≡ self.now.sink }
         ensures told { (text : Text) (bytes : List ℕ) (n : ℕ) → IsText text bytes → depth text.value ≤ most_levels → length (all_events text) < 2 ^ 63
@@ -57,7 +58,7 @@ impl<S: FeatureSink> FeatureRules<S> {
         &self.sink
     }
 
-    /// What the features were told to.
+    /// What the features were reported to.
     pub(crate) fn into_sink(self) -> S
         ensures { result ≡ self.sink }
     {
@@ -136,7 +137,7 @@ impl<S: FeatureSink> FeatureRules<S> {
 impl<S: ForgetfulSink> FeatureRules<S> {
     ghost use Rattle.gj_rules.specs.Internal.FeatureSteps.{Stand};
 
-    /// Before the first event of another text, whatever was told: little is written, and the sink forgets.
+    /// Before the first event of another text, whatever was reported: little is written, and the sink forgets.
     pub(crate) fn begin_again(&mut self)
         ensures { Stand (S.told self.new.sink) self.new.rules self.new.count [] }
     {
@@ -153,7 +154,7 @@ impl<S: FeatureSink> EventSink for FeatureRules<S> {
 
     ghost ignores = { λ all. ignored_of all.rules.skipped all.count.inner };
 
-    // Whoever tells an event mostly knows of which kind it is: then this is one call.
+    // Whoever reports an event mostly knows of which kind it is: then this is one call.
     #[inline(always)]
     fn tell(&mut self, event: Event) {
         match event.what {
@@ -172,6 +173,13 @@ impl<S: FeatureSink> EventSink for FeatureRules<S> {
             self.rules.tell_flat(flat);
         } else {
             self.tell_each(flat);
+        }
+    }
+
+    fn tell_head(&mut self, head: Head) {
+        match head {
+            Head::Object(typed) => self.tell_typed(&typed),
+            Head::Geometry(located) => self.tell_located(&located),
         }
     }
 

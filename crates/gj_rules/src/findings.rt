@@ -1,4 +1,4 @@
-//! What is told of a value to the object around it.
+//! What is reported of a value to the object around it.
 ghost use Rattle.std.specs.Prelude.{◌≡◌};
 
 use gj_coords::{Fault, Warned};

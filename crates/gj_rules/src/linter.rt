@@ -1,4 +1,4 @@
-//! An input that comes in pieces, judged.
+//! An input that comes in pieces, checked.
 
 ghost use Rattle.std.specs.Prelude.{◌≡◌, ℕ, ◌≤◌, ◌^◌, ◌++◌, [], List, length, take, None, Some, IsTrue};
 ghost use Rattle.gj_json.specs.declared.fault.JsonFault.{JsonFault};
@@ -32,7 +32,7 @@ pub enum Progress {
     Refused(JsonFault),
 }
 
-/// Tells the event that only the end of the text completes, where there is one.
+/// Reports the event that only the end of the text completes, where there is one.
 pub(crate) fn tell_last<S: EventSink>(sink: &mut S, last: Option<Event>)
     ensures { (events : List Event) → S.heard sink.old events → S.heard sink.new (events ++ option_to_list last) }
 {
@@ -51,7 +51,7 @@ pub(crate) fn verdict_of(fault: Option<Fault>, warnings: Warnings) -> Verdict
     }
 }
 
-/// Judges an input that comes in pieces of any size.
+/// Checks an input that comes in pieces of any size.
 ///
 /// It holds one fixed record, with room for as many frames as there can be: one for each two open levels, and one.
 #[derive(Drop)]
@@ -118,7 +118,7 @@ impl Linter {
         }
     }
 
-    /// The same of a number alone. Only then is an event left, and the linter copied, so that it can be told.
+    /// The verdict of a number alone. Only then is an event left, and the linter copied, so that it can be reported.
     #[inline(never)]
     fn finish_number(mut self) -> Verdict
         ensures verdict { (bytes : List ℕ) → StandsFor self bytes → IsVerdict (limits_of self) bytes result }
@@ -144,7 +144,7 @@ impl Linter {
         }
     }
 
-    /// Whether the input that was fed is valid and has no warning, as far as it can be told before its end: only a number, which
+    /// Whether the input that was fed is valid and has no warning, as far as can be said before its end: only a number, which
     /// no such input is, has its last event there.
     #[inline]
     pub(crate) fn is_clean(&self) -> bool

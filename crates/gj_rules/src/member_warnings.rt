@@ -8,7 +8,7 @@ use gj_json::Known;
 /// The warnings that an open object with a role has gathered so far, but for those of its `coordinates`.
 #[derive(Clone, Copy)]
 pub struct MemberWarnings {
-    /// Those that hang on no type: of each member `crs` and of the first `bbox`.
+    /// Those that depend on no type: of each member `crs` and of the first `bbox`.
     pub own: LazyWarned,
     /// Those of the first member of each name whose value holds values with a role.
     pub geometries: LazyWarned,

@@ -11,7 +11,7 @@ pub enum Mode {
     RootDue,
     /// A name, or the end of the object.
     Names,
-    /// The value of a member, judged as that of the first member of this name. Of `coordinates` and
+    /// The value of a member, checked as that of the first member of this name. Of `coordinates` and
     /// `bbox` it may be under way: a summary takes it.
     Due(Known),
     /// An element of an array of values with this role, or the end of the array.
@@ -23,7 +23,7 @@ pub enum Mode {
 impl Mode {
     ghost use Rattle.gj_rules.specs.Internal.EventSteps.{mode_behind};
 
-    /// What comes behind an object with this role.
+    /// What comes after an object with this role.
     pub fn behind(role: Role) -> Mode
         ensures { result ≡ mode_behind role }
     {

@@ -1,4 +1,4 @@
-//! What the first event of a value tells.
+//! What the first event of a value shows.
 ghost use Rattle.std.specs.Prelude.{◌≡◌};
 ghost use Rattle.gj_rules.specs.Internal.EventSteps.{levels_in, word_in, opening_fault};
 
@@ -27,7 +27,7 @@ pub fn word_in(what: &What) -> Word
     }
 }
 
-/// Its fault as the value of the first member `name`, where the first event tells it.
+/// Its fault as the value of the first member `name`, where the first event shows it.
 #[inline(always)]
 pub fn opening_fault(name: Known, what: &What, place: u64) -> Option<Fault>
     ensures { result ≡ opening_fault name what.now place }

@@ -1,4 +1,4 @@
-//! The records of an input that comes in pieces, each judged by itself.
+//! The records of an input that comes in pieces, each checked by itself.
 ghost use Rattle.std.specs.Prelude.{◌≡◌, ◌↔◌, ℕ, ◌+◌, ◌<◌, ◌≤◌, ◌^◌, ◌++◌, ◌∷◌, [], List, length, take, false, true, None, IsTrue};
 
 mod framing;
@@ -18,7 +18,7 @@ pub use record::{Record, RecordSink};
 pub struct Taken {
     /// How many of its bytes.
     pub count: usize,
-    /// Whether a record was told, which ended there.
+    /// Whether a record was reported, which ended there.
     pub told: bool,
 }
 
@@ -26,17 +26,17 @@ pub struct Taken {
 #[derive(Clone, Copy, Debug, PartialEq, Eq)]
 pub struct Whole {
     pub verdict: SeqVerdict,
-    /// Whether a record was told that the end of the input ends.
+    /// Whether a record was reported that the end of the input ends.
     pub told: bool,
 }
 
-/// Judges each record of an input that comes in pieces of any size, in the memory of one record's linter, and tells what
+/// Checks each record of an input that comes in pieces of any size, in the memory of one record's linter, and reports what
 /// is found in it as soon as it has ended. A record that is not valid ends at the next separator, as any other does (RFC 7464,
 /// section 2.3, on which RFC 8142 rests).
 #[derive(Drop)]
 pub struct Records {
     record: OpenRecord,
-    /// Of the records that were told.
+    /// Of the records that were reported.
     whole: SeqVerdict,
     limits: Limits,
     /// That of the open record.
@@ -103,7 +103,7 @@ impl Records {
         self.is_over = has_bytes;
     }
 
-    /// Takes the next bytes of the input, and tells the sink each record that ends in them. The first byte beyond the limit
+    /// Takes the next bytes of the input, and reports to the sink each record that ends in them. The first byte beyond the limit
     /// ends the open record, which is then too long, and all after that is passed over.
     pub fn feed<S: RecordSink>(&mut self, piece: &[u8], sink: &mut S)
         ensures told { (bytes : List ℕ) (before found : List Record) → StandsFor self.old bytes found → S.told sink.old (before ++ found)
@@ -120,8 +120,8 @@ impl Records {
         }
     }
 
-    /// Takes the next bytes of the input, up to the end of the next record, which it tells the sink; where none ends in the
-    /// piece, all of it. So the sink is told one record at the most.
+    /// Takes the next bytes of the input, up to the end of the next record, which it reports to the sink; where none ends in the
+    /// piece, all of it. So one record at the most is reported to the sink.
     pub fn feed_one<S: RecordSink>(&mut self, piece: &[u8], sink: &mut S) -> Taken
         ensures within { result.count ≤ length piece.now }
         ensures all { result.told ≡ false → result.count ≡ length piece.now }
@@ -217,7 +217,7 @@ impl Records {
         true
     }
 
-    /// Tells the open record, which a separator ends.
+    /// Reports the open record, which a separator ends.
     fn tell_parted<S: RecordSink>(&mut self, next: u64, sink: &mut S)
         requires next { next ≤ self.old.limits.bytes }
         requires on { self.old.record.end ≤ next }
@@ -230,7 +230,7 @@ impl Records {
         }
     }
 
-    /// Tells the open record, which is valid and has no warning, as most are. Little is written.
+    /// Reports the open record, which is valid and has no warning, as most are. Little is written.
     fn tell_clean<S: RecordSink>(&mut self, next: u64, sink: &mut S)
         requires next { next ≤ self.old.limits.bytes }
         requires on { self.old.record.end ≤ next }
@@ -251,7 +251,7 @@ impl Records {
         sink.tell_record(&found);
     }
 
-    /// Tells the open record. The next one, which has no byte yet, begins at the place.
+    /// Reports the open record. The next one, which has no byte yet, begins at the place.
     fn tell_open<S: RecordSink>(&mut self, ending: RecordEnd, next: u64, sink: &mut S)
         requires next { next ≤ self.old.limits.bytes }
         requires on { self.old.record.end ≤ next }
@@ -297,7 +297,7 @@ impl Records {
         })
     }
 
-    /// Tells the last record, and answers what the input is as a whole: all its records are valid, with the warnings of all, or
+    /// Reports the last record, and answers what the input is as a whole: all its records are valid, with the warnings of all, or
     /// one is the first that is not.
     pub fn finish<S: RecordSink>(mut self, sink: &mut S) -> SeqVerdict
         ensures told { (bytes : List ℕ) (before found : List Record) → StandsFor self bytes found → S.told sink.old (before ++ found)
@@ -356,7 +356,7 @@ impl Records {
         self.is_over
     }
 
-    /// Whether a record that was told is not valid, or a byte came that is beyond the limit: what the input is as a whole is
+    /// Whether a record that was reported is not valid, or a byte came that is beyond the limit: what the input is as a whole is
     /// known then, whatever follows.
     pub fn is_decided(&self) -> bool
         ensures lasting { (bytes more : List ℕ) (found : List Record) → StandsFor self.now bytes found → IsTrue result

@@ -6,6 +6,7 @@ mod doomed;
 mod events;
 mod features;
 mod flats;
+mod heads;
 mod kinds;
 
 use crate::findings::Findings;
@@ -14,7 +15,7 @@ use crate::mode::Mode;
 use crate::role::Role;
 use gj_coords::laws::kept_warnings;
 use gj_coords::{Bbox, Coordinates, Fault, Warned, Warnings};
-use gj_json::{Event, EventSink, Flat, Known, MOST_LEVELS, What};
+use gj_json::{Event, EventSink, Flat, Head, Known, MOST_LEVELS, What};
 use std::mem::size_of;
 
 /// How many objects with a role can be open in a text within the limits: at most one for each two levels, and one.
@@ -109,7 +110,7 @@ impl<const FRAMES: usize> FramedRules<FRAMES> {
         }
     }
 
-    /// Before the first event of another text, whatever was told: the few fields are written that say which others count.
+    /// Before the first event of another text, whatever was reported: the few fields are written that say which others count.
     pub fn begin_again(&mut self)
         ensures stands { StandsFor self.new [] }
     {
@@ -127,14 +128,14 @@ impl<const FRAMES: usize> FramedRules<FRAMES> {
         self.skipped = 0;
     }
 
-    /// The least fault of the text whose events were told.
+    /// The least fault of the text whose events were reported.
     pub fn fault(&self) -> Option<Fault>
         ensures { (text : Text) → depth text.value ≤ levels_within FRAMES → StandsFor self.now (all_events text) → result ≡ least (text_faults text) }
     {
         self.answer.fault
     }
 
-    /// The warnings of the text whose events were told: those that the definition lists, for a text of fewer than 2^64 events.
+    /// The warnings of the text whose events were reported: those that the definition lists, for a text of fewer than 2^64 events.
     pub fn warnings(&self) -> Warnings
         ensures kept { (text : Text) → depth text.value ≤ levels_within FRAMES → StandsFor self.now (all_events text) → result ≡ text_kept text }
         ensures stands { (text : Text) → depth text.value ≤ levels_within FRAMES → StandsFor self.now (all_events text) →
@@ -144,7 +145,7 @@ impl<const FRAMES: usize> FramedRules<FRAMES> {
         self.answer.warned.all()
     }
 
-    /// Whether nothing is found in the text whose events were told: no fault, and no warning of any kind.
+    /// Whether nothing is found in the text whose events were reported: no fault, and no warning of any kind.
     #[inline]
     pub(crate) fn is_clean(&self) -> bool
         ensures fault { IsTrue result → self.now.answer.fault ≡ None }
@@ -156,7 +157,7 @@ impl<const FRAMES: usize> FramedRules<FRAMES> {
         }
     }
 
-    /// In a front of a text the number of open objects with a role, which is that of the frames in use.
+    /// In a prefix of a text the number of open objects with a role, which is that of the frames in use.
     pub fn judged(&self) -> u16
         ensures { (text : Text) (bytes : List ℕ) (n : ℕ) → IsText text bytes → depth text.value ≤ levels_within FRAMES → StandsFor self.now (events_by n text)
             → result ≡ judged_at n text }
@@ -322,7 +323,7 @@ impl<const FRAMES: usize> EventSink for FramedRules<FRAMES> {
 
     ghost ignores = { λ rules. rules.skipped };
 
-    // Whoever tells an event mostly knows of which kind it is. The usual kinds go on without the room of a number.
+    // Whoever reports an event mostly knows of which kind it is. The usual kinds go on without the room of a number.
     #[inline(always)]
     fn tell(&mut self, event: Event) {
         match event.what {
@@ -341,6 +342,14 @@ impl<const FRAMES: usize> EventSink for FramedRules<FRAMES> {
             self.feed_flat(flat);
         } else {
             self.tell_each(flat);
+        }
+    }
+
+    #[inline(always)]
+    fn tell_head(&mut self, head: Head) {
+        match head {
+            Head::Object(typed) => self.tell_typed(&typed),
+            Head::Geometry(located) => self.tell_located(&located),
         }
     }
 

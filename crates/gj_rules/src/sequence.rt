@@ -1,4 +1,4 @@
-//! A text sequence that comes in pieces, judged record by record (RFC 8142).
+//! A text sequence that comes in pieces, checked record by record (RFC 8142).
 ghost use Rattle.std.specs.Prelude.{◌≡◌, ℕ, ◌+◌, ◌<◌, ◌≤◌, ◌^◌, ◌++◌, ◌∷◌, [], List, length, take, false, true};
 
 pub(crate) mod open_record;
@@ -36,7 +36,7 @@ struct Decision {
     verdict: SeqVerdict,
 }
 
-/// Judges a text sequence that comes in pieces of any size, in the memory of one record's linter.
+/// Checks a text sequence that comes in pieces of any size, in the memory of one record's linter.
 #[derive(Drop)]
 pub struct Sequence {
     record: OpenRecord,

@@ -226,7 +226,7 @@ features_in text bytes h =
 
 -- ---- depths
 
-abbrev AreWithin : List Tree → ℕ → Type 0
+abbrev pub AreWithin : List Tree → ℕ → Type 0
 AreWithin vs levels = AllByRecursion (λ v. depth v ≤ levels) vs
 
 deeper : (vs : List Tree) (m n : ℕ) → m ≤ n → AreWithin vs m → AreWithin vs n

@@ -13,7 +13,6 @@ use Rattle.gj_coords.specs.declared.fault.Fault.{Fault}
 use Rattle.gj_coords.specs.declared.fault.Rule.{Rule}
 use Rattle.gj_coords.specs.declared.fault.Rule.TheVariants.{G3, G5, G6, G7, G8}
 use Rattle.gj_coords.specs.declared.simple.Simple.{Simple}
-use Rattle.gj_coords.specs.Fault.{comes_first, lesser, least}
 use Rattle.gj_coords.specs.Shape.{coordinates_faults}
 use Rattle.gj_rules.specs.declared.member_slots.TypeValue.{TypeValue}
 use Rattle.gj_rules.specs.declared.role.Role.{Role}
@@ -23,6 +22,7 @@ use Rattle.gj_rules.specs.Faults.{by_type, object_faults, selected, faults, list
 use Rattle.gj_rules.specs.Role.{is_allowed}
 use Rattle.gj_split.proofs.MovedTrees.{moved, moved_elements, moved_members}
 use Rattle.gj_split.proofs.MovedShapes.{SameCount, both_count, coordinates_count, bbox_count}
+use Rattle.gj_rules.proofs.Features.ByFeature.{no_parts}
 
 -- ---- values without a part that has a role
 
@@ -217,10 +217,6 @@ mutual
 
 -- ---- a feature as a text
 
-no_parts : {A : Type 0} (xs ys : List A) → xs ++ ys ≡ [] → (xs ≡ []) × (ys ≡ [])
-no_parts [] ys e = (refl, e)
-no_parts (x ∷ xs) ys e = cc
-
 none_counted : (xs ys : List Fault) → SameCount xs ys → ys ≡ [] → xs ≡ []
 none_counted [] ys e h = refl
 none_counted (x ∷ xs) ys e h = let l : length ys ≡ 0 = ap length h in cc
@@ -262,17 +258,3 @@ sound_text (array place elements close) e = cc
 -- nor wherever it stands
 pub sound_moved : (f : ℕ → ℕ) (v : Tree) → faults Role.Feature v ≡ [] → faults Role.Root (moved f v) ≡ []
 sound_moved f v e = none_counted (faults Role.Root (moved f v)) (faults Role.Root v) (faults_count f Role.Root v) (sound_text v e)
-
--- ---- the least fault
-
-some_least : (fault : Fault) (o : Option Fault) → lesser (Some fault) o ≡ None → ⊥
-some_least fault None e = cc
-some_least fault (Some other) e = go (comes_first fault other) e
-  where
-    go : (t : Bool) → (if t then Some fault else Some other) ≡ None → ⊥
-    go true f = let g : false ≡ true = cc in cc
-    go false f = let g : false ≡ true = cc in cc
-
-pub none_least : (all : List Fault) → least all ≡ None → all ≡ []
-none_least [] e = refl
-none_least (fault ∷ more) e = absurd (some_least fault (least more) e)

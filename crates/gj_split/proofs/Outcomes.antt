@@ -1,5 +1,5 @@
 -- What a result that is some value says.
-use Rattle.std.proofs.Common.{◌≡◌, Result, Ok, Err, IfOk, OnOk, IsErr, subst}
+use Rattle.std.proofs.Common.{◌≡◌, Result, Ok, Err, IfOk, OnOk, IsErr, subst, ℕ, List, Some}
 
 abbrev ok_of : (T E : Type 0) → T → Result T E
 ok_of T E value = Ok value
@@ -43,3 +43,7 @@ pub ok_on_both : {T E : Type 0} (outcome : Result T E) (given : T) (N M X : Type
     → OnOk outcome M → (N → M → X) → OnOk outcome X
 ok_on_both (Ok v) given N M X h k f = f h.0 k
 ok_on_both (Err x) given N M X h k f = tt
+
+-- what two hold is one, where both are there
+pub same_held : (xs ys : List ℕ) → Some xs ≡ Some ys → xs ≡ ys
+same_held xs ys e = cc

@@ -1,5 +1,6 @@
 -- The text of a record, by the bytes at its place.
-use Rattle.std.proofs.Common.{◌≡◌, ℕ, zero, suc, get_or, ◌+◌, ◌-◌, ◌≤◌, Bool, true, false, nat_eq, if◌then◌else◌, List, [], ◌∷◌, ◌++◌, length, take, drop, refl, sym, ap, ◌∙◌, arith}
+use Rattle.std.proofs.Common.{◌≡◌, ℕ, zero, suc, get_or, ◌+◌, ◌-◌, ◌≤◌, Bool, true, false, nat_eq, if◌then◌else◌, List, [], ◌∷◌, ◌++◌, length, take, drop, refl}
+use Rattle.std.proofs.Common.{sym, ap, ◌∙◌, arith}
 use Rattle.std.proofs.Common.{Option, Some, Ok, ◌⊎◌, inl, inr, length-append, drop-drop, take-add}
 use Rattle.std.proofs.lemmas.Bool.{eqb-true}
 use Rattle.std.proofs.lemmas.List.{append-nil, take-append-drop}
@@ -9,7 +10,8 @@ use Rattle.gj_json.specs.Limits.{Allowed}
 use Rattle.gj_rules.specs.declared.records.framing.Framing.{Framing}
 use Rattle.gj_rules.specs.declared.records.framing.RecordEnd.{RecordEnd}
 use Rattle.gj_rules.specs.declared.records.framing.RecordEnd.TheVariants.{Separator, Input, Limit}
-use Rattle.gj_rules.specs.Records.{Part, part_at, separator_of, with_first, parts_from, parts_of, is_too_long, Entry, entry_at, entry_if, is_counted, number_after}
+use Rattle.gj_rules.specs.Records.{Part, part_at, separator_of, with_first, parts_from, parts_of, is_too_long, Entry, entry_at, entry_if, is_counted}
+use Rattle.gj_rules.specs.Records.{number_after}
 use Rattle.gj_rules.specs.Records.{entries_from, entries_of, first_number}
 use Rattle.gj_rules.specs.Sequence.{separator, last_byte}
 use Rattle.gj_split.specs.Ranges.{StandsAt, ReadsFrom}

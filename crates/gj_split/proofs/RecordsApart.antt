@@ -23,7 +23,8 @@ use Rattle.gj_split.specs.Split.{IsMerged, none_left, from_first, from_second}
 use Rattle.gj_split.specs.RecordSplit.{text_in, found_text, with_record, split_records, entry_text, all_records}
 use Rattle.gj_split.proofs.RecordTexts.{HasText, ended, bare, has_text, Stands, entries_stand, own_of_part}
 use Rattle.gj_split.proofs.SequencesOfTexts.{IsSoundLine}
-use Rattle.gj_split.proofs.SpelledBytes.{AreInText, InText, all-append, all-map, no_separator_byte, value_ends, white_in}
+use Rattle.gj_split.proofs.SpelledBytes.{AreInText, InText, all-map, no_separator_byte, value_ends, white_in}
+use Rattle.gj_number.proofs.Grammar.FoundParts.{all-append}
 
 -- ---- what a valid record is
 

@@ -19,8 +19,9 @@ use Rattle.gj_rules.specs.Verdict.{IsVerdict}
 use Rattle.gj_rules.specs.declared.verdict.Verdict.{Verdict}
 use Rattle.gj_rules.specs.declared.verdict.Verdict.TheVariants.{Valid, Broken, NotJson}
 use Rattle.gj_split.specs.Split.{sequence_of, IsValidSequence}
-use Rattle.gj_split.proofs.SpelledBytes.{AreInText, InText, all-append, no_separator_byte}
+use Rattle.gj_split.proofs.SpelledBytes.{AreInText, InText, no_separator_byte}
 use Rattle.gj_split.proofs.TextsAlone.{IsSoundAlone}
+use Rattle.gj_number.proofs.Grammar.FoundParts.{all-append}
 
 -- a text without a fault, with LF after it, and no separator in it
 pub record IsSoundLine (levels : ℕ) (own : List ℕ) : Type 0 where

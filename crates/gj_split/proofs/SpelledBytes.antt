@@ -16,12 +16,9 @@ use Rattle.gj_json.specs.Grammar.{letters_of}
 use Rattle.gj_rules.specs.FeatureFindings.{end_of}
 use Rattle.gj_rules.specs.Sequence.{separator}
 use Rattle.gj_json.specs.Tree.{Tree, constant, number, string, array, object, Elements, end_of_array, element, Members, end_of_object, member, place_of}
+use Rattle.gj_number.proofs.Grammar.FoundParts.{all-append}
 
 -- ---- lists
-
-pub all-append : (P : ℕ → Type 0) (xs ys : List ℕ) → AllByRecursion P xs → AllByRecursion P ys → AllByRecursion P (xs ++ ys)
-all-append P [] ys h k = k
-all-append P (x ∷ xs) ys h k = (h.0, all-append P xs ys h.1 k)
 
 pub all-map : (P Q : ℕ → Type 0) → ((b : ℕ) → P b → Q b) → (xs : List ℕ) → AllByRecursion P xs → AllByRecursion Q xs
 all-map P Q f [] h = tt

@@ -13,10 +13,11 @@ use Rattle.gj_rules.specs.Faults.{faults, text_faults}
 use Rattle.gj_rules.specs.FeatureFindings.{FeatureFinding, end_of, findings_from, features_of}
 use Rattle.gj_split.specs.Split.{bytes_between, feature_bytes, with_feature, split_findings, split_of, IsMerged, none_left, from_first, from_second, IsJson}
 use Rattle.gj_split.specs.Split.{IsValidAlone}
-use Rattle.gj_split.proofs.ElementBytes.{StandsIn, IsElementIn, features_in, features_within}
-use Rattle.gj_split.proofs.MovedFaults.{sound_moved, none_least}
+use Rattle.gj_split.proofs.ElementBytes.{StandsIn, IsElementIn, features_in, features_within, AreWithin}
+use Rattle.gj_split.proofs.MovedFaults.{sound_moved}
 use Rattle.gj_split.proofs.MovedTrees.{moved, back, same_depth, spelled_back}
 use Rattle.gj_split.proofs.SpelledBytes.{AreInText, value_ends, value_begins}
+use Rattle.gj_coords.proofs.Readers.LeastOfSome.{least_none}
 
 -- ---- the bytes of a value
 
@@ -90,15 +91,12 @@ sound_alone : (v : Tree) (levels : ℕ) (bytes : List ℕ) → depth v ≤ level
     → IsSoundAlone levels (bytes_between (place_of v) (end_of v) bytes)
 sound_alone v levels bytes l s e =
     subst (IsSoundAlone levels) (sym (own_bytes v bytes s))
-    (record { alone = is_alone v levels _ s.own l s.spelled; sound = sound_moved (back (0 + length s.before)) v (none_least (faults Role.Feature v) e) })
+    (record { alone = is_alone v levels _ s.own l s.spelled; sound = sound_moved (back (0 + length s.before)) v ((least_none (faults Role.Feature v)).0 e) })
 
 -- ---- all features
 
 abbrev AreIn : List Tree → List ℕ → Type 0
 AreIn vs bytes = AllByRecursion (λ v. IsElementIn v 0 bytes) vs
-
-abbrev AreWithin : List Tree → ℕ → Type 0
-AreWithin vs levels = AllByRecursion (λ v. depth v ≤ levels) vs
 
 valid_from : (levels index : ℕ) (vs : List Tree) (bytes : List ℕ) → AreIn vs bytes → AreWithin vs levels
     → AllByRecursion (IsSoundAlone levels) (split_findings bytes (findings_from index vs)).valid

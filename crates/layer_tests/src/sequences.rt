@@ -1,15 +1,23 @@
-//! Text sequences checked in parts: where each part begins and ends, the verdict of the whole, and the lines of parts.
+//! Text sequences and newline-delimited texts checked in parts: where each part begins and ends, the verdict of the whole, and the lines of parts.
 
 ghost use Rattle.std.specs.Prelude.{◌≤◌, None, length};
 
+use geolint_report::every::listing::{Asked, Item, Note, Notes, notes_for};
+use geolint_report::every::reading::judge_every;
+use geolint_report::every::tally::Tally;
+use geolint_report::judge::Reading;
 use geolint_report::progress::Meter;
+use geolint_report::report::Told;
 use geolint_report::source::{Rewind, Source};
+use geolint_report::texts::Code;
 use gj_coords::{Fault, Kind, Rule, Warnings};
 use gj_json::{Limits, MOST_LEVELS};
-use gj_rules::{SeqVerdict, Sequence, Verdict};
-use part_lines::{FileState, PartLine, Refusal, Settings, join_lines, put_line, read_line};
+use gj_rules::{Framing, Record, RecordSink, Records, SeqVerdict, Sequence, Verdict};
+use part_lines::{
+    FileState, Listed, PartLine, Refusal, Settings, join_lines, join_notes, put_line, read_line,
+};
 use report_forms::options::Kinds;
-use sequence_parts::{CheckedPart, Misfit, Share, check_part, join_parts};
+use sequence_parts::{CheckedPart, ListedPart, Misfit, Share, check_part, join_parts};
 use std::io;
 use std::process::Abort;
 
@@ -73,11 +81,30 @@ fn limits_of(most: u64) -> Limits {
     Limits::new(MOST_LEVELS, most).unwrap_or(Limits::usual())
 }
 
+/// It keeps nothing of the records.
+#[derive(Drop)]
+struct NoRecords;
+
+impl RecordSink for NoRecords {
+    ghost told = { λ sink records. Unit {0} };
+
+    fn tell_record(&mut self, _found: &Record) {}
+}
+
 /// The verdict of one reading.
-fn verdict_of(bytes: &[u8], most: u64) -> SeqVerdict {
-    let mut sequence = Sequence::new(limits_of(most));
-    sequence.feed(bytes);
-    sequence.finish()
+fn verdict_of(bytes: &[u8], framing: Framing, most: u64) -> SeqVerdict {
+    match framing {
+        Framing::Sequence => {
+            let mut sequence = Sequence::new(limits_of(most));
+            sequence.feed(bytes);
+            sequence.finish()
+        }
+        Framing::Lines => {
+            let mut lines = Records::new(framing, limits_of(most));
+            lines.feed(bytes, &mut NoRecords);
+            lines.finish(&mut NoRecords)
+        }
+    }
 }
 
 /// What is found of a part.
@@ -86,27 +113,50 @@ fn part_of(
     bytes: &'static [u8],
     number: u64,
     parts: u64,
+    framing: Framing,
     most: u64,
 ) -> io::Result<CheckedPart> {
+    Ok(listed_part_of(rt, bytes, number, parts, framing, most, None)?.part)
+}
+
+/// The same, with the notes on its records.
+fn listed_part_of(
+    rt: &HostRuntime,
+    bytes: &'static [u8],
+    number: u64,
+    parts: u64,
+    framing: Framing,
+    most: u64,
+    asked: Option<Asked>,
+) -> io::Result<ListedPart> {
     let Some(share) = Share::new(number, parts) else {
         return Err(io::Error::from(io::ErrorKind::InvalidInput));
     };
     let mut meter = Meter::new(rt.clone()?);
     let source = Bytes { bytes, place: 0 };
     check_part(
+        rt.alloc(),
         source,
         bytes.len() as u64,
         share,
+        framing,
         limits_of(most),
+        asked,
         &mut meter,
     )
 }
 
 /// The verdict of all parts together.
-fn joined(rt: &HostRuntime, bytes: &'static [u8], parts: u64, most: u64) -> io::Result<SeqVerdict> {
+fn joined(
+    rt: &HostRuntime,
+    bytes: &'static [u8],
+    parts: u64,
+    framing: Framing,
+    most: u64,
+) -> io::Result<SeqVerdict> {
     let mut all = Vec::new(rt.alloc());
     for before in 0..parts {
-        match all.push(part_of(rt, bytes, before + 1, parts, most)?) {
+        match all.push(part_of(rt, bytes, before + 1, parts, framing, most)?) {
             Ok(()) => {}
             Err(_) => return Err(io::Error::from(io::ErrorKind::OutOfMemory)),
         }
@@ -120,7 +170,7 @@ fn joined(rt: &HostRuntime, bytes: &'static [u8], parts: u64, most: u64) -> io::
 const POINTS: &[u8] =
     b"\x1E{\"type\":\"Point\",\"coordinates\":[1,2]}\n\x1E{\"type\":\"Point\",\"coordinates\":[181,2]}\n\x1E{\"type\":\"Point\",\"coordinates\":[1,2]}\n";
 
-/// Where the parts of a text begin and end, found by hand.
+/// Where the parts of a sequence begin and end, found by hand.
 #[test]
 fn parts_begin_and_end_there(rt: HostRuntime) -> io::Result<()> {
     let rows: [(&[u8], u64, u64, (u64, u64), &str); 14] = [
@@ -194,7 +244,59 @@ fn parts_begin_and_end_there(rt: HostRuntime) -> io::Result<()> {
         ),
     ];
     for (bytes, number, parts, wanted, case) in rows {
-        let part = part_of(&rt, bytes, number, parts, 1 << 20)?;
+        let part = part_of(&rt, bytes, number, parts, Framing::Sequence, 1 << 20)?;
+        assert_eq!(rt; (part.begin, part.end), wanted, "{}", case);
+    }
+    Ok(())
+}
+
+/// Where the parts of lines begin and end, found by hand: each of them has the lines whose first bytes are in its range.
+#[test]
+fn parts_of_lines_begin_and_end_there(rt: HostRuntime) -> io::Result<()> {
+    let rows: [(&[u8], u64, u64, (u64, u64), &str); 10] = [
+        (b"", 2, 3, (0, 0), "a part of no byte"),
+        (b"1\n2\n3\n", 1, 1, (0, 6), "one part"),
+        (
+            b"1\n2\n3\n",
+            1,
+            2,
+            (0, 4),
+            "a range that ends within a line",
+        ),
+        (
+            b"1\n2\n3\n",
+            2,
+            2,
+            (4, 6),
+            "a range that begins within a line",
+        ),
+        (b"1\n2\n3\n", 1, 3, (0, 2), "a range that ends with a line"),
+        (
+            b"1\n2\n3\n",
+            2,
+            3,
+            (2, 4),
+            "a range that begins with a line",
+        ),
+        (b"12345678\n2\n", 2, 4, (6, 6), "a range within a line"),
+        (
+            b"12345678\n2\n",
+            4,
+            4,
+            (9, 11),
+            "a range in which a line begins",
+        ),
+        (
+            b"1\n\n\n\n2\n",
+            2,
+            4,
+            (2, 4),
+            "blank lines, which are lines",
+        ),
+        (b"1\n2", 4, 4, (3, 3), "no cut within a line without LF"),
+    ];
+    for (bytes, number, parts, wanted, case) in rows {
+        let part = part_of(&rt, bytes, number, parts, Framing::Lines, 1 << 20)?;
         assert_eq!(rt; (part.begin, part.end), wanted, "{}", case);
     }
     Ok(())
@@ -229,8 +331,41 @@ fn parts_are_one_reading(rt: HostRuntime) -> io::Result<()> {
     for (bytes, most, case) in rows {
         for parts in 1..10 {
             assert_eq!(rt;
-                joined(&rt, bytes, parts, most)?,
-                verdict_of(bytes, most),
+                joined(&rt, bytes, parts, Framing::Sequence, most)?,
+                verdict_of(bytes, Framing::Sequence, most),
+                "{} in {} parts",
+                case,
+                parts
+            );
+        }
+    }
+    Ok(())
+}
+
+const LINES: &[u8] =
+    b"{\"type\":\"Point\",\"coordinates\":[1,2]}\n\n \t\r\n{\"type\":\"Point\",\"coordinates\":[181,2]}\r\n{\"type\":\"Point\",\"coordinates\":[1,2]}";
+
+/// The same of lines.
+#[test]
+fn parts_of_lines_are_one_reading(rt: HostRuntime) -> io::Result<()> {
+    let rows: [(&[u8], u64, &str); 7] = [
+        (b"", 1 << 20, "no byte"),
+        (b"\n\r\n \n\n", 1 << 20, "blank lines alone"),
+        (LINES, 1 << 20, "three lines, and a warning"),
+        (LINES, 100, "a limit within the third line"),
+        (LINES, 42, "a limit where a line begins"),
+        (
+            b"{\"type\":\"Point\"}\n{\"type\":\"Point\",\"coordinates\":[181,2]}\n{\"type\":\"Point\"}\n",
+            1 << 20,
+            "a fault in the first line and in the last",
+        ),
+        (b"{}\n\n{}\n[", 1 << 20, "half a line at the end"),
+    ];
+    for (bytes, most, case) in rows {
+        for parts in 1..10 {
+            assert_eq!(rt;
+                joined(&rt, bytes, parts, Framing::Lines, most)?,
+                verdict_of(bytes, Framing::Lines, most),
                 "{} in {} parts",
                 case,
                 parts
@@ -243,8 +378,8 @@ fn parts_are_one_reading(rt: HostRuntime) -> io::Result<()> {
 /// Parts that are not those of a text, one after the other, are refused.
 #[test]
 fn parts_out_of_order_are_refused(rt: HostRuntime) -> io::Result<()> {
-    let first = part_of(&rt, POINTS, 1, 2, 1 << 20)?;
-    let second = part_of(&rt, POINTS, 2, 2, 1 << 20)?;
+    let first = part_of(&rt, POINTS, 1, 2, Framing::Sequence, 1 << 20)?;
+    let second = part_of(&rt, POINTS, 2, 2, Framing::Sequence, 1 << 20)?;
     assert!(rt; join_parts(&[first, second], 116).is_ok());
     for (parts, case) in [
         ([second, first], "in another order"),
@@ -282,12 +417,14 @@ fn line_of(rt: &HostRuntime, number: u64, checked: CheckedPart) -> io::Result<Pa
             modified: String::from_str(rt.alloc(), "17.000000005")?,
         },
         settings: Settings {
+            framing: Framing::Sequence,
             limits: limits_of(1000),
             strict: true,
             allowed,
         },
         share,
         checked,
+        listed: None,
     })
 }
 
@@ -305,6 +442,7 @@ fn lines_are_read_as_they_are_written(rt: HostRuntime) -> io::Result<()> {
     });
     let rows = [
         (
+            Framing::Sequence,
             SeqVerdict::Valid {
                 records: 12,
                 warnings,
@@ -312,15 +450,16 @@ fn lines_are_read_as_they_are_written(rt: HostRuntime) -> io::Result<()> {
             "{\"geolint_part\":1,\"part\":2,\"parts\":2,\"path\":\"a \\\"b\\\".geojsons\",\"size\":116,\"modified\":\"17.000000005\",\"framing\":\"seq\",\"max_bytes\":1000,\"strict\":true,\"allow\":[\"W4\",\"W9\"],\"begin\":40,\"end\":99,\"records\":12,\"warnings\":[{\"kind\":\"W1\",\"count\":1,\"at\":47},{\"kind\":\"W5\",\"count\":3,\"at\":60}]}\n",
         ),
         (
+            Framing::Lines,
             SeqVerdict::Record {
                 number: 3,
                 verdict: broken,
             },
-            "{\"geolint_part\":1,\"part\":2,\"parts\":2,\"path\":\"a \\\"b\\\".geojsons\",\"size\":116,\"modified\":\"17.000000005\",\"framing\":\"seq\",\"max_bytes\":1000,\"strict\":true,\"allow\":[\"W4\",\"W9\"],\"begin\":40,\"end\":99,\"record\":3,\"fault\":\"G15\",\"at\":45}\n",
+            "{\"geolint_part\":1,\"part\":2,\"parts\":2,\"path\":\"a \\\"b\\\".geojsons\",\"size\":116,\"modified\":\"17.000000005\",\"framing\":\"ndjson\",\"max_bytes\":1000,\"strict\":true,\"allow\":[\"W4\",\"W9\"],\"begin\":40,\"end\":99,\"record\":3,\"fault\":\"G15\",\"at\":45}\n",
         ),
     ];
-    for (verdict, wanted) in rows {
-        let line = line_of(
+    for (framing, verdict, wanted) in rows {
+        let mut line = line_of(
             &rt,
             2,
             CheckedPart {
@@ -329,6 +468,7 @@ fn lines_are_read_as_they_are_written(rt: HostRuntime) -> io::Result<()> {
                 verdict,
             },
         )?;
+        line.settings.framing = framing;
         let mut written = Vec::new(rt.alloc());
         put_line(rt.alloc(), &line, &mut written)?;
         assert_eq!(rt; written.as_slice(), wanted.as_bytes());
@@ -348,9 +488,9 @@ fn lines_are_read_as_they_are_written(rt: HostRuntime) -> io::Result<()> {
 /// Lines in any order, and lines that are not those of all parts of one file.
 #[test]
 fn lines_are_joined_or_refused(rt: HostRuntime) -> io::Result<()> {
-    let first = part_of(&rt, POINTS, 1, 2, 1000)?;
-    let second = part_of(&rt, POINTS, 2, 2, 1000)?;
-    let whole = Ok(verdict_of(POINTS, 1000));
+    let first = part_of(&rt, POINTS, 1, 2, Framing::Sequence, 1000)?;
+    let second = part_of(&rt, POINTS, 2, 2, Framing::Sequence, 1000)?;
+    let whole = Ok(verdict_of(POINTS, Framing::Sequence, 1000));
     let alloc = rt.alloc();
     assert!(rt; join_lines(alloc, &[line_of(&rt, 1, first)?, line_of(&rt, 2, second)?]) == whole);
     assert!(rt; join_lines(alloc, &[line_of(&rt, 2, second)?, line_of(&rt, 1, first)?]) == whole);
@@ -368,5 +508,164 @@ fn lines_are_joined_or_refused(rt: HostRuntime) -> io::Result<()> {
     assert!(rt;
         join_lines(alloc, &[line_of(&rt, 1, first)?, other]) == Err(Refusal::OtherOptions(1))
     );
+    let mut other = line_of(&rt, 2, second)?;
+    other.settings.framing = Framing::Lines;
+    assert!(rt;
+        join_lines(alloc, &[line_of(&rt, 1, first)?, other]) == Err(Refusal::OtherOptions(1))
+    );
     Ok(())
+}
+
+const ASKED: Asked = Asked {
+    with_warnings: true,
+    skipped: 0,
+    room: 5,
+};
+
+/// A part that lists what is found in its records, as it is written, and as it is written once more after it was read.
+#[test]
+fn listed_findings_are_read_as_they_are_written(rt: HostRuntime) -> io::Result<()> {
+    let alloc = rt.alloc();
+    let mut notes = Notes {
+        notes: Vec::new(alloc),
+        count: 7,
+        tally: Tally::none(),
+    };
+    notes.tally.add_item();
+    for (number, code, place) in [(2, Code::Rule(Rule::G15), 5), (9, Code::Kind(Kind::W3), 59)] {
+        let note = Note {
+            item: Item::Record(number),
+            told: Told { code, place },
+        };
+        notes.tally.add_note(note);
+        match notes.notes.push(note) {
+            Ok(()) => {}
+            Err(_) => return Err(io::Error::from(io::ErrorKind::OutOfMemory)),
+        }
+    }
+    let verdict = SeqVerdict::Valid {
+        records: 1,
+        warnings: Warnings::none(),
+    };
+    let mut line = line_of(
+        &rt,
+        2,
+        CheckedPart {
+            begin: 40,
+            end: 99,
+            verdict,
+        },
+    )?;
+    line.listed = Some(Listed {
+        asked: ASKED,
+        notes,
+    });
+    let mut written = Vec::new(alloc);
+    put_line(alloc, &line, &mut written)?;
+    let wanted =
+        "{\"geolint_part\":1,\"part\":2,\"parts\":2,\"path\":\"a \\\"b\\\".geojsons\",\"size\":116,\"modified\":\"17.000000005\",\"framing\":\"seq\",\"max_bytes\":1000,\"strict\":true,\"allow\":[\"W4\",\"W9\"],\"begin\":40,\"end\":99,\"records\":1,\"warnings\":[],\"every\":\"warnings\",\"most\":5,\"items\":1,\"items_broken\":1,\"counts\":[{\"code\":\"G15\",\"count\":1},{\"code\":\"W3\",\"count\":1}],\"findings\":7,\"listed\":[{\"record\":2,\"code\":\"G15\",\"at\":45},{\"record\":9,\"code\":\"W3\",\"at\":99}]}\n";
+    assert_eq!(rt; written.as_slice(), wanted.as_bytes());
+    match read_line(alloc, wanted) {
+        Ok(read) => {
+            let mut again = Vec::new(alloc);
+            put_line(alloc, &read, &mut again)?;
+            assert_eq!(rt; again.as_slice(), wanted.as_bytes());
+        }
+        Err(_) => assert!(rt; false, "{}", wanted),
+    }
+    Ok(())
+}
+
+/// The notes of one reading.
+fn notes_of(rt: &HostRuntime, bytes: &'static [u8], framing: Framing) -> io::Result<Notes> {
+    let mut meter = Meter::new(rt.clone()?);
+    let mut source = Bytes { bytes, place: 0 };
+    let reading = match framing {
+        Framing::Sequence => Reading::Sequence,
+        Framing::Lines => Reading::Lines,
+    };
+    let found = judge_every(
+        rt.alloc(),
+        &mut source,
+        limits_of(1 << 20),
+        reading,
+        ASKED,
+        &mut meter,
+    )?;
+    match notes_for(found.0, found.1, ASKED)? {
+        Some(notes) => Ok(notes),
+        None => Err(io::Error::from(io::ErrorKind::InvalidData)),
+    }
+}
+
+/// The findings of up to nine parts are those of one reading.
+#[test]
+fn findings_of_parts_are_those_of_one_reading(rt: HostRuntime) -> io::Result<()> {
+    let rows: [(&[u8], Framing, &str); 5] = [
+        (POINTS, Framing::Sequence, "a warning"),
+        (LINES, Framing::Lines, "lines with a warning"),
+        (
+            b"x\x1E{\"type\":\"Point\"}\n\x1E{\"type\":\"Point\",\"coordinates\":[181,2]}\n\x1E[\n",
+            Framing::Sequence,
+            "a byte before the first separator",
+        ),
+        (
+            b"{}\n\n{}\n[\n{\"type\":\"Point\",\"coordinates\":[181,2]}\n{}\n{}\n{}",
+            Framing::Lines,
+            "more findings than are asked for",
+        ),
+        (b"", Framing::Lines, "no byte"),
+    ];
+    let alloc = rt.alloc();
+    for (bytes, framing, case) in rows {
+        let whole = notes_of(&rt, bytes, framing)?;
+        for parts in 1..10 {
+            let mut lines = Vec::new(alloc);
+            for before in 0..parts {
+                let found = listed_part_of(
+                    &rt,
+                    bytes,
+                    before + 1,
+                    parts,
+                    framing,
+                    1 << 20,
+                    Some(ASKED),
+                )?;
+                let Some(share) = Share::new(before + 1, parts) else {
+                    return Err(io::Error::from(io::ErrorKind::InvalidInput));
+                };
+                let mut line = line_of(&rt, 1, found.part)?;
+                line.share = share;
+                line.listed = match found.notes {
+                    Some(notes) => Some(Listed {
+                        asked: ASKED,
+                        notes,
+                    }),
+                    None => None,
+                };
+                match lines.push(line) {
+                    Ok(()) => {}
+                    Err(_) => return Err(io::Error::from(io::ErrorKind::OutOfMemory)),
+                }
+            }
+            match join_notes(alloc, lines.as_slice(), ASKED) {
+                Ok(joined) => {
+                    assert!(rt; are_alike(&joined, &whole), "{} in {} parts", case, parts);
+                }
+                Err(_) => assert!(rt; false, "{} in {} parts", case, parts),
+            }
+        }
+    }
+    Ok(())
+}
+
+fn are_alike(one: &Notes, other: &Notes) -> bool {
+    one.count == other.count
+        && one.tally.items == other.tally.items
+        && one.tally.broken == other.tally.broken
+        && one.tally.counts == other.tally.counts
+        && one.notes.len() == other.notes.len()
+        && one.notes.iter().zip(other.notes.as_slice()).all(|(a, b)| {
+            a.item == b.item && a.told.code == b.told.code && a.told.place == b.told.place
+        })
 }

@@ -1,5 +1,5 @@
 -- So many warnings, by halves.
-use Rattle.std.proofs.Common.{arith, ◌≡◌, ◌+◌, ℕ, ap, subst, ◌∙◌, List, [], ◌∷◌, ◌++◌, replicate}
+use Rattle.std.proofs.Common.{◌≡◌, ◌+◌, ℕ, ap, subst, ◌∙◌, List, [], ◌∷◌, ◌++◌, replicate}
 use Rattle.std.proofs.lemmas.List.{replicate_more, replicate-append-replicate}
 use Rattle.gj_coords.specs.Warnings.{Warning}
 use Rattle.gj_coords.specs.WarningsStand.{StandsFor}

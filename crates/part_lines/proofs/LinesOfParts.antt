@@ -1,6 +1,6 @@
 -- Parts of which each is that of a line.
-use Rattle.std.proofs.Common.{arith, ◌≡◌, ◌<◌, ℕ, List, length, get_or}
-use Rattle.std.proofs.Common.{Some, subst, sym, ap, ◌∙◌, inl, inr, ◌≤◌}
+use Rattle.std.proofs.Common.{◌≡◌, ◌<◌, ℕ, List, length, get_or}
+use Rattle.std.proofs.Common.{Some, subst, sym, ap, ◌∙◌, inl, inr}
 use Rattle.std.specs.Prelude.{slice_get}
 use Rattle.std.proofs.lemmas.Bool.{cases_lt}
 use Rattle.std.proofs.lemmas.Option.{get_or_from_slice_get, slice_get_past}
@@ -8,17 +8,18 @@ use Rattle.std.specs.Prelude.{map, Option, IfSome}
 use Rattle.std.specs.List.{All, Contains}
 use Rattle.std.proofs.lemmas.List.Elements.{All-map, All-contains}
 use Rattle.gj_json.specs.Limits.{Allowed}
+use Rattle.gj_rules.specs.declared.records.framing.Framing.{Framing}
 use Rattle.sequence_parts.specs.Checked.{IsPartOf}
 use Rattle.sequence_parts.specs.declared.checked.CheckedPart.{CheckedPart}
 use Rattle.part_lines.specs.declared.line.PartLine.{PartLine}
 use Rattle.part_lines.specs.Lines.{checked_in, IsLineOf, AreAmong, ArePlacedFrom}
 
-pub true_parts : (limits : Allowed) (text : List ℕ) (lines : List PartLine) (parts : List CheckedPart) → AreAmong (map checked_in lines) parts
-    → All (IsLineOf limits text) lines
-    → All (IsPartOf limits text) parts
-true_parts limits text lines parts among are = λ k d within.
-    let checked : All (IsPartOf limits text) (map checked_in lines) = All-map (IsPartOf limits text) checked_in lines (λ j e less. (are j e less).part) in
-    All-contains (IsPartOf limits text) (map checked_in lines) (get_or parts k d) checked (among k d within)
+pub true_parts : (framing : Framing) (limits : Allowed) (text : List ℕ) (lines : List PartLine) (parts : List CheckedPart) → AreAmong (map checked_in lines) parts
+    → All (IsLineOf framing limits text) lines
+    → All (IsPartOf framing limits text) parts
+true_parts framing limits text lines parts among are = λ k d within.
+    let checked : All (IsPartOf framing limits text) (map checked_in lines) = All-map (IsPartOf framing limits text) checked_in lines (λ j e less. (are j e less).part) in
+    All-contains (IsPartOf framing limits text) (map checked_in lines) (get_or parts k d) checked (among k d within)
 
 pub placed_here : (known : List CheckedPart) (places : List (Option CheckedPart)) (i : ℕ) (none : Option CheckedPart) (part : CheckedPart)
     → ArePlacedFrom known places → i < length places
@@ -33,9 +34,9 @@ first_line lines first is = elim (cases_lt 0 (length lines)) [
   | inr none ↦ let past = slice_get_past lines 0 none in absurd (cc (is, past))
 ]
 
-pub first_size : (limits : Allowed) (text : List ℕ) (lines : List PartLine) (first : PartLine) → Some first ≡ slice_get lines 0
-    → All (IsLineOf limits text) lines
+pub first_size : (framing : Framing) (limits : Allowed) (text : List ℕ) (lines : List PartLine) (first : PartLine) → Some first ≡ slice_get lines 0
+    → All (IsLineOf framing limits text) lines
     → length text ≡ first.file.size
-first_size limits text lines first is all =
+first_size framing limits text lines first is all =
     let (some, here) = first_line lines first is in
     (all 0 first some).size ∙ ap (λ (line : PartLine). line.file.size) here

@@ -1,8 +1,10 @@
 -- Lines that say what was found of the parts of a file.
-use Rattle.std.specs.Prelude.{◌≡◌, ℕ, List, length, map, Option, IfSome}
+use Rattle.std.specs.Prelude.{◌≡◌, ℕ, List, length, codes, Bool, true, false, Option, IfSome}
 use Rattle.std.specs.List.{All, Contains}
 use Rattle.std.specs.String.{string_bytes}
 use Rattle.gj_json.specs.Limits.{Allowed}
+use Rattle.gj_rules.specs.declared.records.framing.Framing.{Framing}
+use Rattle.gj_rules.specs.declared.records.framing.Framing.TheVariants.{Sequence, Lines}
 use Rattle.sequence_parts.specs.Checked.{IsPartOf}
 use Rattle.sequence_parts.specs.declared.checked.CheckedPart.{CheckedPart}
 use Rattle.part_lines.specs.declared.line.PartLine.{PartLine}
@@ -11,9 +13,10 @@ abbrev pub checked_in : PartLine → CheckedPart
 checked_in line = line.checked
 
 -- the line of a true part of the text, of the length that the line says
-pub record IsLineOf (limits : Allowed) (text : List ℕ) (line : PartLine) : Type 0 where
+pub record IsLineOf (framing : Framing) (limits : Allowed) (text : List ℕ) (line : PartLine) : Type 0 where
   pub size : length text ≡ line.file.size
-  pub part : IsPartOf limits text line.checked
+  pub framed : line.settings.framing ≡ framing
+  pub part : IsPartOf framing limits text line.checked
 
 -- of the same file, as it was, checked in the same way, and one of as many parts
 pub record IsLike (first line : PartLine) : Type 0 where
@@ -23,7 +26,20 @@ pub record IsLike (first line : PartLine) : Type 0 where
   pub bytes : line.settings.limits.bytes ≡ first.settings.limits.bytes
   pub strict : line.settings.strict ≡ first.settings.strict
   pub allowed : line.settings.allowed ≡ first.settings.allowed
+  pub framing : line.settings.framing ≡ first.settings.framing
   pub parts : line.share.parts ≡ first.share.parts
+
+-- ---- words of a line
+
+-- how the records of the file are set apart
+abbrev pub framing_word : Framing → List ℕ
+framing_word Sequence = codes "seq"
+framing_word Lines = codes "ndjson"
+
+-- whether the warnings of records without a fault are listed
+abbrev pub every_word : Bool → List ℕ
+every_word false = codes "faults"
+every_word true = codes "warnings"
 
 -- ---- what is known of parts that are put in order
 

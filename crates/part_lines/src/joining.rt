@@ -3,7 +3,8 @@
 ghost use Rattle.std.specs.Prelude.{ℕ, List, IfOk, OnOk, get_or, map};
 ghost use Rattle.std.specs.List.{All, Contains};
 ghost use Rattle.gj_json.specs.Limits.{Allowed};
-ghost use Rattle.gj_rules.specs.Sequence.{IsSequenceVerdict};
+ghost use Rattle.gj_join.specs.Joined.{IsVerdictOf};
+ghost use Rattle.gj_rules.specs.declared.records.framing.Framing.{Framing};
 ghost use Rattle.sequence_parts.specs.Checked.{IsPartOf};
 ghost use Rattle.sequence_parts.specs.declared.checked.CheckedPart.{CheckedPart};
 ghost use Rattle.part_lines.specs.declared.line.PartLine.{PartLine};
@@ -27,6 +28,10 @@ pub enum Refusal {
     OtherOptions(usize),
     /// It is one of another number of parts.
     OtherCount(usize),
+    /// It does not list what is asked for.
+    OtherEvery(usize),
+    /// It lists fewer findings than are asked for.
+    FewerFindings(usize),
     /// There are two lines of the part of this number.
     Twice(u64),
     /// There is none of this part.
@@ -46,7 +51,8 @@ impl From<AllocError> for Refusal {
 
 /// The verdict of the file, given the lines of all its parts in any order.
 pub fn join_lines(alloc: Global, lines: &[PartLine]) -> Result<SeqVerdict, Refusal>
-    ensures whole { IfOk result (λ whole. (limits : Allowed) (text : List ℕ) → All (IsLineOf limits text) lines.now → IsSequenceVerdict limits text whole) }
+    ensures whole { IfOk result (λ whole. (framing : Framing) (limits : Allowed) (text : List ℕ) → All (IsLineOf framing limits text) lines.now
+        → IsVerdictOf framing limits text whole) }
     ensures alike { IfOk result (λ whole. (none : PartLine) → All (IsLike (get_or lines.now 0 none)) lines.now) }
 {
     let Some(first) = lines.first() else {
@@ -90,6 +96,8 @@ fn check_line(first: &PartLine, line: &PartLine, index: usize) -> Result<(), Ref
     } else if line.settings.strict != first.settings.strict {
         Err(Refusal::OtherOptions(index))
     } else if line.settings.allowed != first.settings.allowed {
+        Err(Refusal::OtherOptions(index))
+    } else if line.settings.framing != first.settings.framing {
         Err(Refusal::OtherOptions(index))
     } else if line.share.parts != first.share.parts {
         Err(Refusal::OtherCount(index))

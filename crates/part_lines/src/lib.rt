@@ -1,16 +1,19 @@
-//! The lines of JSON by which the parts of a text sequence are joined: each says what was found of one part.
+//! The lines of JSON by which the parts of a file are joined: each says what was found of one part.
 //!
 //! [`put_line`] writes a line, and [`read_line`] reads it. [`join_lines`] makes the verdict of the whole from the lines of all parts,
-//! in any order. It refuses lines that are not those of all parts of one file, checked in one way.
+//! in any order. It refuses lines that are not those of all parts of one file, checked in one way. [`join_notes`] joins what they
+//! list of records.
 #![tactic(auto)]
 
 mod joining;
 mod line;
+mod notes;
 mod reading;
 mod warnings;
 mod writing;
 
 pub use joining::{Refusal, join_lines};
-pub use line::{FileState, PartLine, Settings};
+pub use line::{FileState, Listed, PartLine, Settings};
+pub use notes::join_notes;
 pub use reading::{NoLine, read_line};
 pub use writing::put_line;

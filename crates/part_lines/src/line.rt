@@ -1,6 +1,8 @@
 //! What the line of a part says.
 
+use geolint_report::every::listing::{Asked, Notes};
 use gj_json::Limits;
+use gj_rules::Framing;
 use report_forms::options::Kinds;
 use sequence_parts::{CheckedPart, Share};
 
@@ -16,9 +18,17 @@ pub struct FileState {
 /// What decides whether the file passes, beside its bytes.
 #[derive(Clone, Copy, PartialEq, Eq)]
 pub struct Settings {
+    pub framing: Framing,
     pub limits: Limits,
     pub strict: bool,
     pub allowed: Kinds,
+}
+
+/// The notes on the records of a part, and what was asked of these.
+#[derive(Drop)]
+pub struct Listed {
+    pub asked: Asked,
+    pub notes: Notes,
 }
 
 /// One part of a file, and what was found of it.
@@ -28,4 +38,5 @@ pub struct PartLine {
     pub settings: Settings,
     pub share: Share,
     pub checked: CheckedPart,
+    pub listed: Option<Listed>,
 }

@@ -1,11 +1,18 @@
 //! A line is read.
 
-use crate::line::{FileState, PartLine, Settings};
+ghost use Rattle.std.specs.Prelude.{◌≡◌, Bool, IfSome, Some};
+ghost use Rattle.gj_rules.specs.declared.records.framing.Framing.{Framing};
+ghost use Rattle.part_lines.specs.Lines.{every_word, framing_word};
+
+use crate::line::{FileState, Listed, PartLine, Settings};
 use crate::warnings::warnings_at;
-use geolint_report::texts::{CAUSES, RULES};
+use geolint_report::every::listing::{Asked, Item, Note, Notes};
+use geolint_report::every::tally::Tally;
+use geolint_report::report::Told;
+use geolint_report::texts::{CAUSES, CODES, Code, RULES};
 use gj_coords::{Fault, KINDS, Kind, Rule, Warnings};
 use gj_json::{Cause, JsonFault, Limits};
-use gj_rules::{SeqVerdict, Verdict};
+use gj_rules::{Framing, SeqVerdict, Verdict};
 use report_forms::options::Kinds;
 use sequence_parts::{CheckedPart, Share};
 use serde_json::Value;
@@ -45,19 +52,27 @@ pub fn read_line(alloc: Global, text: &str) -> Result<PartLine, NoLine> {
     let Some(file) = read_file(alloc, &value)? else {
         return Err(NoLine::NoPart);
     };
-    match (
+    let (Some(settings), Some(share), Some(checked)) = (
         read_settings(&value),
         read_share(&value),
         read_checked(&value),
-    ) {
-        (Some(settings), Some(share), Some(checked)) => Ok(PartLine {
-            file,
-            settings,
-            share,
-            checked,
-        }),
-        _ => Err(NoLine::NoPart),
-    }
+    ) else {
+        return Err(NoLine::NoPart);
+    };
+    let listed = match value.get("every") {
+        None => None,
+        Some(_) => match read_listed(alloc, &value, checked.begin)? {
+            Some(listed) => Some(listed),
+            None => return Err(NoLine::NoPart),
+        },
+    };
+    Ok(PartLine {
+        file,
+        settings,
+        share,
+        checked,
+        listed,
+    })
 }
 
 fn number_of(value: &Value, name: &str) -> Option<u64> {
@@ -85,16 +100,26 @@ fn read_file(alloc: Global, value: &Value) -> Result<Option<FileState>, AllocErr
     }))
 }
 
-fn read_settings(value: &Value) -> Option<Settings> {
-    if text_of(value, "framing")? != "seq" {
-        return None;
+/// The framing of this word.
+fn framing_named(name: &str) -> Option<Framing>
+    ensures word { IfSome result (λ framing. framing_word framing ≡ name.now) }
+    ensures all { (framing : Framing) → name.now ≡ framing_word framing → result ≡ Some framing }
+{
+    match name {
+        "seq" => Some(Framing::Sequence),
+        "ndjson" => Some(Framing::Lines),
+        _ => None,
     }
+}
+
+fn read_settings(value: &Value) -> Option<Settings> {
     let limits = Limits::new(Limits::usual().depth(), number_of(value, "max_bytes")?)?;
     let mut allowed = Kinds::none();
     for name in value.get("allow")?.as_array()? {
         allowed.insert(kind_named(name.as_str()?)?);
     }
     Some(Settings {
+        framing: framing_named(text_of(value, "framing")?)?,
         limits,
         strict: value.get("strict")?.as_bool()?,
         allowed,
@@ -150,11 +175,24 @@ fn code_in(name: &str) -> Option<(u8, u8)> {
     }
 }
 
-fn kind_named(name: &str) -> Option<Kind> {
+fn code_named(name: &str) -> Option<Code> {
     match code_in(name)? {
-        (b'W', number) => KINDS.get(number.checked_sub(1)? as usize).copied(),
+        (b'G', number) => Some(Code::Rule(rule_of(number)?)),
+        (b'W', number) => Some(Code::Kind(kind_of(number)?)),
+        (b'J', number) => Some(Code::Cause(cause_of(number)?)),
         _ => None,
     }
+}
+
+fn kind_named(name: &str) -> Option<Kind> {
+    match code_named(name)? {
+        Code::Kind(kind) => Some(kind),
+        _ => None,
+    }
+}
+
+fn kind_of(number: u8) -> Option<Kind> {
+    KINDS.get(number.checked_sub(1)? as usize).copied()
 }
 
 fn rule_of(number: u8) -> Option<Rule> {
@@ -166,15 +204,84 @@ fn cause_of(number: u8) -> Option<Cause> {
 }
 
 fn read_fault(name: &str, place: u64) -> Option<Verdict> {
-    match code_in(name)? {
-        (b'G', number) => Some(Verdict::Broken(Fault {
-            place,
-            rule: rule_of(number)?,
-        })),
-        (b'J', number) => Some(Verdict::NotJson(JsonFault {
-            place,
-            cause: cause_of(number)?,
-        })),
+    match code_named(name)? {
+        Code::Rule(rule) => Some(Verdict::Broken(Fault { place, rule })),
+        Code::Cause(cause) => Some(Verdict::NotJson(JsonFault { place, cause })),
         _ => None,
     }
+}
+
+/// The notes on the records of a part.
+fn read_listed(alloc: Global, value: &Value, begin: u64) -> Result<Option<Listed>, AllocError> {
+    let (Some(asked), Some(tally), Some(count)) = (
+        read_asked(value),
+        read_tally(value),
+        number_of(value, "findings"),
+    ) else {
+        return Ok(None);
+    };
+    let Some(found) = value.get("listed").and_then(|list| list.as_array()) else {
+        return Ok(None);
+    };
+    let mut notes = Vec::new(alloc);
+    for one in found {
+        let Some(note) = read_note(one, begin) else {
+            return Ok(None);
+        };
+        match notes.push(note) {
+            Ok(()) => {}
+            Err(failed) => return Err(AllocError::from(failed)),
+        }
+    }
+    Ok(Some(Listed {
+        asked,
+        notes: Notes {
+            notes,
+            count,
+            tally,
+        },
+    }))
+}
+
+/// Whether warnings are listed, by this word.
+fn every_named(name: &str) -> Option<bool>
+    ensures word { IfSome result (λ with_warnings. every_word with_warnings ≡ name.now) }
+    ensures all { (with_warnings : Bool) → name.now ≡ every_word with_warnings → result ≡ Some with_warnings }
+{
+    match name {
+        "faults" => Some(false),
+        "warnings" => Some(true),
+        _ => None,
+    }
+}
+
+fn read_asked(value: &Value) -> Option<Asked> {
+    Some(Asked {
+        with_warnings: every_named(text_of(value, "every")?)?,
+        skipped: 0,
+        room: number_of(value, "most")?,
+    })
+}
+
+fn read_tally(value: &Value) -> Option<Tally> {
+    let mut counts = [0; CODES];
+    for found in value.get("counts")?.as_array()? {
+        let slot = code_named(text_of(found, "code")?)?.slot();
+        *counts.get_mut(slot)? = number_of(found, "count")?;
+    }
+    Some(Tally {
+        items: number_of(value, "items")?,
+        broken: number_of(value, "items_broken")?,
+        counts,
+    })
+}
+
+fn read_note(value: &Value, begin: u64) -> Option<Note> {
+    Some(Note {
+        item: Item::Record(number_of(value, "record")?),
+        told: Told {
+            code: code_named(text_of(value, "code")?)?,
+            place: read_place(value, begin)?,
+        },
+    })
 }

@@ -1,20 +1,13 @@
 -- Lemmas on the details in parentheses, put one at a time.
 use Rattle.std.proofs.Common.{◌≡◌, ◌||◌, ℕ, Bool, true, false, List, [], ◌∷◌, ◌++◌, refl, ap, sym, ◌∙◌, append_assoc, codes}
 use Rattle.std.proofs.lemmas.List.Concat.{flat_map-append}
+use Rattle.std.proofs.Math.Bool.{or-true, or-false}
 use Rattle.report_forms.specs.Forms.Lines.{more_details, in_parentheses}
 use Rattle.report_forms.specs.Internal.WrittenDetails.{has_details, separator, next_details, end}
 
 next-open : (ys : List (List ℕ)) → next_details true ys ≡ more_details ys
 next-open [] = refl
 next-open (y ∷ ys) = sym (append_assoc (codes ", ") y (more_details ys))
-
-or-true : (b : Bool) → (b || true) ≡ true
-or-true true = refl
-or-true false = refl
-
-or-false : (b : Bool) → (b || false) ≡ b
-or-false true = refl
-or-false false = refl
 
 details-more : (is_open : Bool) (xs ys : List (List ℕ))
     → next_details is_open (xs ++ ys) ≡ next_details is_open xs ++ next_details (is_open || has_details xs) ys

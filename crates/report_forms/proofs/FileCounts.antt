@@ -1,20 +1,16 @@
 -- Lemmas on the counts of files.
-use Rattle.std.specs.Prelude.{is_none, cond, is_some}
-use Rattle.std.proofs.Common.{arith, refl, not, ◌||◌, ◌&&◌, nat_le, ◌≢◌, inl, inr, set, length, map, ◌≡◌, ◌≤◌, ◌<◌, ◌+◌, ◌-◌, ℕ, Bool, true, false, List, []}
-use Rattle.std.proofs.Common.{◌∷◌, ◌++◌, Option, Some, None, get_or, ap, sym, ◌∙◌, nat_eq}
-use Rattle.std.specs.Io.Iter.{u64_saturate}
-use Rattle.std.specs.List.{count_by}
+use Rattle.std.specs.Prelude.{is_none, is_some}
+use Rattle.std.proofs.Common.{arith, refl, not, ◌&&◌, nat_le, ◌≢◌, inl, inr, length, map, ◌≡◌, ◌≤◌, ◌<◌, ◌+◌, ◌-◌, ℕ, Bool, true, false, List, []}
+use Rattle.std.proofs.Common.{◌∷◌, ◌++◌, Option, Some, None, get_or, ap, sym, ◌∙◌}
 use Rattle.std.proofs.lemmas.Bool.Decides.{nat_tests, eqb_tells}
-use Rattle.std.proofs.lemmas.List.{get_or-set_same, get_or-set_other, get_or-map}
+use Rattle.std.proofs.lemmas.List.{get_or-map}
 use Rattle.std.proofs.lemmas.List.FromFn.{get_or-range_with_len}
-use Rattle.std.proofs.lemmas.List.Sums.{sum_by_push}
+use Rattle.std.proofs.Math.Bool.{and-false, or-false}
 use Rattle.gj_coords.specs.Fault.{number_of}
 use Rattle.gj_coords.specs.Warnings.{kind_number, kinds}
 use Rattle.gj_coords.specs.declared.fault.Rule.{Rule}
-use Rattle.gj_coords.specs.declared.fault.Rule.TheVariants.{G1, G2, G3, G4, G5, G6, G7, G8, G9, G10, G11, G12, G13, G14, G15, G16, G17, G18, G19, G20, G21}
 use Rattle.gj_coords.specs.declared.kind.Kind.{Kind}
 use Rattle.gj_json.specs.declared.fault.Cause.{Cause}
-use Rattle.gj_json.specs.declared.fault.Cause.TheVariants.{Syntax, Truncated, Depth, Length}
 use Rattle.gj_coords.specs.declared.warnings.Warnings.{Warnings}
 use Rattle.gj_coords.specs.Internal.KeptWarnings.{none_in, first_in}
 use Rattle.gj_coords.specs.Internal.ByKind.{kind_range, one_kind}
@@ -27,7 +23,6 @@ use Rattle.geolint_report.specs.declared.texts.Code.{Code}
 use Rattle.geolint_report.specs.Texts.{is_cause, cause_number, code_number}
 use Rattle.report_forms.specs.declared.summary.Summary.{Summary}
 use Rattle.report_forms.specs.Counts.{is_valid, is_warned, is_broken, is_refused, is_not_valid, warns, tells}
-use Rattle.geolint_report.specs.declared.texts.TheConstants.{CODES}
 use Rattle.geolint_report.specs.Slots.{same, slot_of, more}
 use Rattle.geolint_report.proofs.CodeSlots.{below, above, more-counted}
 use Rattle.report_forms.specs.FileCounts.{Counts}
@@ -38,10 +33,6 @@ use Rattle.report_forms.specs.Internal.AddedFiles.{Adds}
 -- the kind is told, and is among the first
 abbrev pub until : ℕ → Warnings → Code → Bool
 until i warnings code = nat_le (code_number code) i && warns code warnings
-
-and-false : (b : Bool) → (b && false) ≡ false
-and-false true = refl
-and-false false = refl
 
 pub until-none : (warnings : Warnings) (code : Code) → until 0 warnings code ≡ false
 until-none warnings (Code.Rule rule) = and-false (nat_le (number_of rule) 0)
@@ -161,10 +152,6 @@ Counts-more old new files file valid warned broken refused not_valid told counts
   codes = λ code small. more-counted (tells code) files file (told code) (get_or old.counts (slot_of code) 0) (get_or new.counts (slot_of code) 0) (t code)
       (counts.codes code small) (adds.codes_are code small);
 }
-
-or-false : (b : Bool) → (b || false) ≡ b
-or-false true = refl
-or-false false = refl
 
 -- a file that has a fault is not valid
 exclusive : (finding : Finding) (told : Told) → fault_of finding ≡ Some told → warnings_of finding ≡ None

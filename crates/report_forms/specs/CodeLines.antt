@@ -32,7 +32,7 @@ in_eight_places number = spaces_before (length (decimal number)) ++ decimal numb
 unfoldable pub count_line : Code → ℕ → List ℕ
 count_line code count = in_eight_places count ++ (codes " " ++ (code_name code ++ (codes ": " ++ (code_text code ++ codes "\n"))))
 
--- nothing where it is told of none
+-- nothing where none is reported
 abbrev pub count_line_if : Code → ℕ → List ℕ
 count_line_if code count = if nat_eq count 0 then [] else count_line code count
 

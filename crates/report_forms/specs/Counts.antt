@@ -1,4 +1,4 @@
--- What the counts of a summary count: the files of a list that are of a kind, and those of which a code is told.
+-- What the counts of a summary count: the files of a list that are of a kind, and those of which a code is reported.
 use Rattle.std.specs.Prelude.{Bool, false, not, ◌&&◌, ◌||◌, Option, Some, None, is_some, is_none}
 use Rattle.gj_coords.specs.Internal.KeptWarnings.{first_in, none_in}
 use Rattle.gj_coords.specs.declared.warnings.Warnings.{Warnings}
@@ -42,7 +42,7 @@ abbrev pub is_not_valid : Option Finding → Bool
 is_not_valid (Some finding) = is_none (fault_of finding) && is_none (warnings_of finding)
 is_not_valid None = false
 
--- ---- a code is told of a file
+-- ---- a code is reported of a file
 
 abbrev pub warns : Code → Warnings → Bool
 warns (Code.Kind kind) warnings = is_some (first_in kind warnings)

@@ -23,7 +23,7 @@ use Rattle.report_forms.specs.Forms.Sarif.{next_results, next_unread, sarif_told
 use Rattle.report_forms.specs.Forms.Text.{text_told}
 use Rattle.report_forms.specs.Internal.WrittenCommas.{is_none_yet}
 
--- the report of a file that was judged; in a log the first result has no comma before it
+-- the report of a file that was checked; in a log the first result has no comma before it
 abbrev pub IsReport : Format → Style → Bool → Report → Bool → Kinds → List ℕ → Type 0
 IsReport Format.Text style is_first report strict allowed bytes = bytes ≡ text_told report
 IsReport Format.Lines style is_first report strict allowed bytes =
@@ -37,12 +37,12 @@ abbrev pub TellsReport : Format → Style → Bool → Report → Bool → Kinds
 TellsReport format style is_first report strict allowed old new =
     (bytes : List ℕ) × IsReport format style is_first report strict allowed bytes × Adds old new bytes
 
--- whether a log has no result yet, once that file is told
+-- whether a log has no result yet, once that file is reported
 abbrev pub first_after : Format → Bool → Report → Bool → Kinds → Bool
 first_after Format.Sarif is_first report strict allowed = is_first && is_none_yet (sarif_told report strict allowed)
 first_after format is_first report strict allowed = is_first
 
--- the report of one that could not be opened or read: for people nothing, who read it on standard error; a log tells it at its end
+-- the report of one that could not be opened or read: for people nothing, who read it on standard error; a log reports it at its end
 abbrev pub IsUnreadReport : Format → List ℕ → List ℕ → List ℕ → Type 0
 IsUnreadReport Format.Json name reason bytes = (file why : List ℕ) × SpellsString name file × SpellsString reason why × (bytes ≡ json_unread file why)
 IsUnreadReport Format.Github name reason bytes = bytes ≡ github_unread name reason

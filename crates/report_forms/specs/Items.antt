@@ -1,4 +1,4 @@
--- The bytes of a summary of features and records: how many there are, how many are broken, and of how many each rule, kind of warning and cause is told.
+-- The bytes of a summary of features and records: how many there are, how many are broken, and of how many each rule, kind of warning and cause is reported.
 use Rattle.std.specs.Prelude.{ℕ, List, ◌++◌, codes}
 use Rattle.std.specs.Fmt.{decimal}
 use Rattle.geolint_report.specs.declared.every.tally.Tally.{Tally}

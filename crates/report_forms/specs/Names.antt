@@ -18,14 +18,14 @@ shown_char c = if is_control c then flat_map by_number (encode_utf8 c) else enco
 unfoldable pub shown_text : List ℕ → List ℕ
 shown_text text = flat_map shown_char (chars text)
 
--- the longest text at the front, and the bytes behind it that are none
+-- the longest text at the start, and the bytes after it that are none
 abbrev pub valid_front : List ℕ → List ℕ
 valid_front name = take (utf8_valid_len name) name
 
 abbrev pub first_invalid : List ℕ → List ℕ
 first_invalid name = let rest = drop (utf8_valid_len name) name in take (utf8_invalid_len rest) rest
 
--- of a name with so many parts at most, each a text and what is none behind it
+-- of a name with so many parts at most, each a text and what is none after it
 abbrev pub shown_within : ℕ → List ℕ → List ℕ
 shown_within zero name = []
 shown_within (suc most) name = shown_text (valid_front name) ++ (flat_map by_number (first_invalid name) ++ shown_within most (after_first_chunk name))

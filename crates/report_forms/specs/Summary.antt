@@ -1,4 +1,4 @@
--- The bytes of a summary of files: how many are what, and of how many each rule, kind of warning and cause is told.
+-- The bytes of a summary of files: how many are what, and of how many each rule, kind of warning and cause is reported.
 use Rattle.std.specs.Prelude.{ℕ, Bool, List, [], ◌++◌, Option, is_none, codes, if◌then◌else◌, nat_lt}
 use Rattle.std.specs.Fmt.{decimal}
 use Rattle.std.specs.Io.Iter.{u64_saturate}

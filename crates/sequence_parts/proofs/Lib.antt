@@ -3,3 +3,6 @@ mod SearchedBytes
 mod WindowReads
 mod PartBounds
 mod JoinedVerdicts
+mod RangeNumbers
+mod WholeText
+mod NotesOfParts

@@ -1,18 +1,51 @@
 -- What was found of the bytes of one part.
-use Rattle.std.specs.Prelude.{◌≡◌, ◌⊎◌, ℕ, ◌≤◌, ◌<◌, List, length}
+use Rattle.std.specs.Prelude.{◌≡◌, ◌⊎◌, ℕ, suc, ◌≤◌, ◌<◌, List, length, get_or, Option, Some, None, IfSome, ⊤}
 use Rattle.gj_json.specs.Limits.{Allowed}
+use Rattle.gj_join.specs.Joined.{IsVerdictOf}
 use Rattle.gj_join.specs.Parts.{limits_after}
-use Rattle.gj_rules.specs.Sequence.{IsSequenceVerdict}
+use Rattle.gj_rules.specs.declared.records.framing.Framing.{Framing}
+use Rattle.gj_rules.specs.declared.records.framing.Framing.TheVariants.{Sequence, Lines}
+use Rattle.geolint_report.specs.Every.{AreNotesIn}
+use Rattle.geolint_report.specs.declared.every.listing.Asked.{Asked}
+use Rattle.geolint_report.specs.declared.every.listing.Notes.{Notes}
+use Rattle.geolint_report.specs.declared.judge.Reading.{Reading}
 use Rattle.sequence_parts.specs.Cuts.{MayBeCut, bytes_between}
+use Rattle.sequence_parts.specs.Ranges.{ArePart}
 use Rattle.sequence_parts.specs.declared.checked.CheckedPart.{CheckedPart}
 
 -- a part that has bytes begins with the text or at a cut, and the verdict is that of its bytes under what the limit leaves to them
-pub record IsVerdictOfBytes (limits : Allowed) (text : List ℕ) (part : CheckedPart) : Type 0 where
+pub record IsVerdictOfBytes (framing : Framing) (limits : Allowed) (text : List ℕ) (part : CheckedPart) : Type 0 where
   pub within : part.end ≤ length text
-  pub cut : (part.begin ≡ 0) ⊎ MayBeCut limits text part.begin
-  pub verdict : IsSequenceVerdict (limits_after limits part.begin) (bytes_between part.begin part.end text) part.verdict
+  pub cut : (part.begin ≡ 0) ⊎ MayBeCut framing limits text part.begin
+  pub verdict : IsVerdictOf framing (limits_after limits part.begin) (bytes_between part.begin part.end text) part.verdict
 
 -- a true part of the text
-pub record IsPartOf (limits : Allowed) (text : List ℕ) (part : CheckedPart) : Type 0 where
+pub record IsPartOf (framing : Framing) (limits : Allowed) (text : List ℕ) (part : CheckedPart) : Type 0 where
   pub ordered : part.begin ≤ part.end
-  pub right : part.begin < part.end → IsVerdictOfBytes limits text part
+  pub right : part.begin < part.end → IsVerdictOfBytes framing limits text part
+
+-- the bytes of all parts of the text, in their order
+abbrev pub AreAllParts : Framing → Allowed → List ℕ → List CheckedPart → Type 0
+AreAllParts framing limits text parts = (k : ℕ) (none : CheckedPart) → k < length parts
+    → ArePart framing limits text (suc k) (length parts) (get_or parts k none).begin (get_or parts k none).end
+
+-- how such an input is read
+abbrev pub reading_of : Framing → Reading
+reading_of Sequence = Reading.Sequence
+reading_of Lines = Reading.Lines
+
+-- ---- what is told of the records of a part
+
+abbrev pub AreNotesIf : Framing → Allowed → Option Asked → List ℕ → Option Notes → Type 0
+AreNotesIf framing limits (Some asked) text (Some told) = AreNotesIn (Some framing) asked told.notes.items told.count told.tally limits text
+AreNotesIf framing limits (Some asked) text None = ⊥
+AreNotesIf framing limits None text told = ⊤
+
+-- the same, where the reader told its bytes
+abbrev pub AreNotesBefore : Framing → Allowed → Option Asked → Option (List ℕ) → Option Notes → Type 0
+AreNotesBefore framing limits asked had told = IfSome had (λ text. AreNotesIf framing limits asked text told)
+
+-- of a part that has bytes
+abbrev pub AreNotesOfPart : Framing → Allowed → Option Asked → List ℕ → CheckedPart → Option Notes → Type 0
+AreNotesOfPart framing limits asked text part told = part.begin < part.end
+    → AreNotesIf framing (limits_after limits part.begin) asked (bytes_between part.begin part.end text) told

@@ -1,9 +1,10 @@
-//! What is found of one part of a text sequence.
+//! What is found of one part of an input of records.
 
 ghost use Rattle.std.specs.Prelude.{◌≡◌, ◌<◌, ◌≤◌, IfOk, IfSome, length};
+ghost use Rattle.gj_join.specs.Joined.{IsVerdictOf};
 ghost use Rattle.gj_join.specs.Parts.{limits_after};
-ghost use Rattle.gj_rules.specs.Sequence.{IsSequenceVerdict};
-ghost use Rattle.sequence_parts.specs.Checked.{IsPartOf};
+ghost use Rattle.sequence_parts.specs.Checked.{IsPartOf, AreNotesOfPart, AreNotesIf, AreNotesBefore, reading_of};
+ghost use Rattle.geolint_report.specs.Judged.{Finds};
 ghost use Rattle.sequence_parts.specs.Cuts.{bytes_between};
 ghost use Rattle.sequence_parts.specs.Ranges.{ArePart, IsEnd};
 
@@ -11,11 +12,15 @@ use crate::cuts::find_cut;
 use crate::joining::nothing;
 use crate::ranges::Share;
 use crate::window::Window;
+use geolint_report::every::listing::{Asked, Notes, notes_for};
+use geolint_report::every::reading::judge_every;
+use geolint_report::every::tally::Tally;
 use geolint_report::judge::{Finding, Reading, judge};
 use geolint_report::progress::Meter;
-use geolint_report::source::Rewind;
+use geolint_report::source::{Rewind, Source};
 use gj_json::Limits;
-use gj_rules::{Linter, SeqVerdict};
+use gj_rules::{Framing, Linter, SeqVerdict};
+use std::alloc::Global;
 use std::io::{self, ErrorKind};
 
 /// The bytes of a part, and their verdict by themselves: its places count from the first of them, and its records from 1.
@@ -24,6 +29,14 @@ pub struct CheckedPart {
     pub begin: u64,
     pub end: u64,
     pub verdict: SeqVerdict,
+}
+
+/// What is found of a part, and the notes on its records, where these are asked for: their numbers and places count as those of
+/// the verdict do.
+#[derive(Drop)]
+pub struct ListedPart {
+    pub part: CheckedPart,
+    pub notes: Option<Notes>,
 }
 
 /// Where a part begins and ends.
@@ -38,23 +51,30 @@ struct Bounds {
 ///
 /// An error is returned where a read failed, or where the source has changed.
 pub fn check_part<S: Rewind + Drop>(
+    alloc: Global,
     source: S,
     size: u64,
     share: Share,
+    framing: Framing,
     limits: Limits,
+    asked: Option<Asked>,
     meter: &mut Meter,
-) -> io::Result<CheckedPart>
-    ensures bytes { IfOk result (λ part. IfSome (S.text source) (λ text. length text ≡ size
-        → ArePart limits text share.number share.parts part.begin part.end)) }
-    ensures part { IfOk result (λ part. IfSome (S.text source) (λ text. length text ≡ size → IsPartOf limits text part)) }
+) -> io::Result<ListedPart>
+    ensures bytes { IfOk result (λ found. IfSome (S.text source) (λ text. length text ≡ size
+        → ArePart framing limits text share.number share.parts found.part.begin found.part.end)) }
+    ensures part { IfOk result (λ found. IfSome (S.text source) (λ text. length text ≡ size → IsPartOf framing limits text found.part)) }
+    ensures notes { IfOk result (λ found. IfSome (S.text source) (λ text. AreNotesOfPart framing limits asked text found.part found.notes)) }
 {
     let mut source = source;
-    let bounds = find_bounds(&mut source, size, share, limits)?;
-    let verdict = check_bytes(source, bounds, limits, meter)?;
-    Ok(CheckedPart {
-        begin: bounds.begin,
-        end: bounds.end,
-        verdict,
+    let bounds = find_bounds(&mut source, size, share, framing, limits)?;
+    let found = check_bytes(alloc, source, bounds, framing, limits, asked, meter)?;
+    Ok(ListedPart {
+        part: CheckedPart {
+            begin: bounds.begin,
+            end: bounds.end,
+            verdict: found.0,
+        },
+        notes: found.1,
     })
 }
 
@@ -63,21 +83,22 @@ fn find_bounds<S: Rewind>(
     source: &mut S,
     size: u64,
     share: Share,
+    framing: Framing,
     limits: Limits,
 ) -> io::Result<Bounds>
     ensures bytes { IfOk result (λ bounds. IfSome (S.text source.old) (λ text. length text ≡ size
-        → ArePart limits text share.number share.parts bounds.begin bounds.end)) }
+        → ArePart framing limits text share.number share.parts bounds.begin bounds.end)) }
     ensures text { S.text source.new ≡ S.text source.old }
 {
     let from = share.from(size);
     let until = share.until(size);
     if from == 0 {
-        let end = find_end(source, until, size, limits)?;
+        let end = find_end(source, until, size, framing, limits)?;
         return Ok(Bounds { begin: 0, end });
     }
-    match find_cut(source, from, until, limits)? {
+    match find_cut(source, from, until, framing, limits)? {
         Some(begin) => {
-            let end = find_end(source, until, size, limits)?;
+            let end = find_end(source, until, size, framing, limits)?;
             Ok(Bounds { begin, end })
         }
         None => Ok(Bounds {
@@ -88,46 +109,108 @@ fn find_bounds<S: Rewind>(
 }
 
 /// The first cut from the end of a range on, or the end of the text.
-fn find_end<S: Rewind>(source: &mut S, until: u64, size: u64, limits: Limits) -> io::Result<u64>
+fn find_end<S: Rewind>(
+    source: &mut S,
+    until: u64,
+    size: u64,
+    framing: Framing,
+    limits: Limits,
+) -> io::Result<u64>
     requires within { until ≤ size }
     requires some { 0 < size → 0 < until }
-    ensures end { IfOk result (λ end. IfSome (S.text source.old) (λ text. length text ≡ size → IsEnd limits text until end)) }
+    ensures end { IfOk result (λ end. IfSome (S.text source.old) (λ text. length text ≡ size → IsEnd framing limits text until end)) }
     ensures after { IfOk result (λ end. until ≤ end) }
     ensures text { S.text source.new ≡ S.text source.old }
 {
     if until == 0 {
         return Ok(size);
     }
-    match find_cut(source, until, size, limits)? {
+    match find_cut(source, until, size, framing, limits)? {
         Some(cut) => Ok(cut),
         None => Ok(size),
     }
 }
 
-/// The verdict of the bytes of a part by themselves, under what the limit leaves to them.
+/// The verdict of the bytes of a part by themselves, under what the limit leaves to them, and the notes on their records.
 fn check_bytes<S: Rewind + Drop>(
+    alloc: Global,
     source: S,
     bounds: Bounds,
+    framing: Framing,
     limits: Limits,
+    asked: Option<Asked>,
     meter: &mut Meter,
-) -> io::Result<SeqVerdict>
-    ensures { IfOk result (λ verdict. IfSome (S.text source) (λ text. bounds.begin < bounds.end
-        → IsSequenceVerdict (limits_after limits bounds.begin) (bytes_between bounds.begin bounds.end text) verdict)) }
+) -> io::Result<(SeqVerdict, Option<Notes>)>
+    ensures verdict { IfOk result (λ found. IfSome (S.text source) (λ text. bounds.begin < bounds.end
+        → IsVerdictOf framing (limits_after limits bounds.begin) (bytes_between bounds.begin bounds.end text) found.0)) }
+    ensures notes { IfOk result (λ found. IfSome (S.text source) (λ text. bounds.begin < bounds.end
+        → AreNotesIf framing (limits_after limits bounds.begin) asked (bytes_between bounds.begin bounds.end text) found.1)) }
 {
     if bounds.begin == bounds.end {
-        return Ok(nothing());
+        return Ok((nothing(), no_notes(alloc, asked)));
     }
     // Bytes at the limit or beyond it belong to a part that begins before.
     let Some(left) = limits_left(limits, bounds.begin) else {
         return Err(io::Error::from(ErrorKind::InvalidInput));
     };
-    let mut linter = Linter::new(left);
     let mut window = Window::new(source, bounds.begin, bounds.end);
-    let finding = judge(&mut window, left, Reading::Sequence, &mut linter, meter)?;
+    let found = find(alloc, &mut window, left, framing, asked, meter)?;
     window.source.expect_unchanged()?;
-    match finding {
-        Finding::Sequence(verdict) => Ok(verdict),
+    match found.0 {
+        Finding::Sequence(verdict) => Ok((verdict, found.1)),
         _ => Err(io::Error::from(ErrorKind::InvalidData)),
+    }
+}
+
+/// Of no record.
+fn no_notes(alloc: Global, asked: Option<Asked>) -> Option<Notes> {
+    match asked {
+        Some(_) => Some(Notes {
+            notes: Vec::new(alloc),
+            count: 0,
+            tally: Tally::none(),
+        }),
+        None => None,
+    }
+}
+
+/// What an input is, and the notes on its records, where these are asked for.
+fn find<S: Source>(
+    alloc: Global,
+    reader: &mut S,
+    limits: Limits,
+    framing: Framing,
+    asked: Option<Asked>,
+    meter: &mut Meter,
+) -> io::Result<(Finding, Option<Notes>)>
+    ensures found { IfOk result (λ found. Finds (reading_of framing) limits (S.remaining reader.old) (S.remaining reader.new) found.0) }
+    ensures notes { IfOk result (λ found. AreNotesBefore framing limits asked (S.remaining reader.old) found.1) }
+    ensures text { S.text reader.new ≡ S.text reader.old }
+{
+    let reading = reading_of(framing);
+    match asked {
+        None => {
+            let mut linter = Linter::new(limits);
+            let finding = judge(reader, limits, reading, &mut linter, meter)?;
+            Ok((finding, None))
+        }
+        Some(asked) => {
+            let found = judge_every(alloc, reader, limits, reading, asked, meter)?;
+            match notes_for(found.0, found.1, asked)? {
+                Some(notes) => Ok((found.0, Some(notes))),
+                None => Err(io::Error::from(ErrorKind::InvalidData)),
+            }
+        }
+    }
+}
+
+/// How such an input is read.
+fn reading_of(framing: Framing) -> Reading
+    ensures { result ≡ reading_of framing }
+{
+    match framing {
+        Framing::Sequence => Reading::Sequence,
+        Framing::Lines => Reading::Lines,
     }
 }
 

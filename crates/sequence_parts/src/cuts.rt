@@ -1,41 +1,42 @@
-//! Where a text sequence may be cut.
+//! Where an input of records may be cut.
 
 ghost use Rattle.std.specs.Prelude.{◌≡◌, ◌<◌, ◌≤◌, min, IfOk, IfSome};
 ghost use Rattle.std.specs.Option.{SomeIff};
 ghost use Rattle.geolint_report.specs.Judged.{CountsFailure};
+ghost use Rattle.gj_join.specs.Parts.{may_begin};
 ghost use Rattle.sequence_parts.specs.Cuts.{IsFirstCut};
 ghost use Rattle.sequence_parts.specs.Internal.Begins.{IsFirstBegin};
 
 use geolint_report::source::Rewind;
 use gj_json::Limits;
+use gj_rules::Framing;
 use std::io;
 
 /// The most bytes that are looked at together.
 const PIECE: usize = 16384;
 
-/// The byte RS, which begins each record.
-const SEPARATOR: u8 = 0x1e;
-
-/// The first of the places from `from` up to `until` where the sequence may be cut: before a separator that no other separator
-/// precedes.
+/// The first of the places from `from` up to `until` where the input may be cut: before an RS that no other precedes, or after
+/// an LF.
 pub fn find_cut<S: Rewind>(
     source: &mut S,
     from: u64,
     until: u64,
+    framing: Framing,
     limits: Limits,
 ) -> io::Result<Option<u64>>
     requires { 0 < from }
-    ensures cut { IfOk result (λ cut. IfSome (S.text source.old) (λ text. IsFirstCut limits text from until cut)) }
+    ensures cut { IfOk result (λ cut. IfSome (S.text source.old) (λ text. IsFirstCut framing limits text from until cut)) }
     ensures range { IfOk result (λ cut. IfSome cut (λ place. (from ≤ place) × (place < until))) }
     ensures text { S.text source.new ≡ S.text source.old }
     ensures failed { CountsFailure (S.failed_reads source.old) (S.failed_reads source.new) result }
 {
     let until = lesser(until, limits.bytes());
+    let separator = framing.separator();
     let mut byte = [0];
     if source.read_from(from - 1, &mut byte)? == 0 {
         return Ok(None);
     }
-    let mut follows_separator = byte[0] == SEPARATOR;
+    let mut follows_separator = byte[0] == separator;
     let mut place = from;
     let mut piece = [0; PIECE];
     while place < until {
@@ -44,10 +45,10 @@ pub fn find_cut<S: Rewind>(
             return Ok(None);
         }
         let read = &piece[..count];
-        if let Some(index) = first_begin(read, follows_separator) {
+        if let Some(index) = first_begin(framing, read, follows_separator) {
             return Ok(before(place + index as u64, until));
         }
-        follows_separator = read[count - 1] == SEPARATOR;
+        follows_separator = read[count - 1] == separator;
         place += count as u64;
     }
     Ok(None)
@@ -66,17 +67,28 @@ fn before(place: u64, until: u64) -> Option<u64>
     if place < until { Some(place) } else { None }
 }
 
-/// The first separator that no other precedes.
-fn first_begin(piece: &[u8], follows_separator: bool) -> Option<usize>
-    ensures { IsFirstBegin follows_separator piece.now result }
+/// Whether a part may begin with a byte, given whether the byte before it is a separator, and whether it is one itself.
+fn may_begin(framing: Framing, follows: bool, separates: bool) -> bool
+    ensures { result ≡ may_begin framing follows separates }
 {
+    match framing {
+        Framing::Sequence => separates && !follows,
+        Framing::Lines => follows,
+    }
+}
+
+/// The first byte with which a part may begin.
+fn first_begin(framing: Framing, piece: &[u8], follows_separator: bool) -> Option<usize>
+    ensures { IsFirstBegin framing follows_separator piece.now result }
+{
+    let separator = framing.separator();
     let mut follows = follows_separator;
     for i in 0..piece.len() {
-        let is_separator = piece[i] == SEPARATOR;
-        if is_separator && !follows {
+        let separates = piece[i] == separator;
+        if may_begin(framing, follows, separates) {
             return Some(i);
         }
-        follows = is_separator;
+        follows = separates;
     }
     None
 }

@@ -1,10 +1,11 @@
-//! The verdict of a text sequence from those of all its parts.
+//! The verdict of an input of records from those of all its parts.
 
-ghost use Rattle.std.specs.Prelude.{◌≡◌, ◌<◌, ◌≤◌, ℕ, [], List, IfOk, IfSome, length, take};
+ghost use Rattle.std.specs.Prelude.{◌≡◌, ◌<◌, ◌≤◌, ℕ, [], List, Err, IfOk, IfSome, length, take};
 ghost use Rattle.std.specs.List.{All};
 ghost use Rattle.gj_json.specs.Limits.{Allowed};
-ghost use Rattle.gj_rules.specs.Sequence.{IsSequenceVerdict};
-ghost use Rattle.sequence_parts.specs.Checked.{IsPartOf, IsVerdictOfBytes};
+ghost use Rattle.gj_join.specs.Joined.{IsVerdictOf};
+ghost use Rattle.gj_rules.specs.declared.records.framing.Framing.{Framing};
+ghost use Rattle.sequence_parts.specs.Checked.{AreAllParts, IsPartOf, IsVerdictOfBytes};
 ghost use Rattle.sequence_parts.specs.Internal.JoinedSoFar.{IsJoinedTo};
 
 use crate::checked::CheckedPart;
@@ -21,12 +22,15 @@ pub enum Misfit {
     TooMany,
 }
 
-/// The verdict of a text sequence of so many bytes, from those of all its parts in their order.
+/// The verdict of an input of so many bytes, from those of all its parts in their order.
 ///
-/// A part with no byte may stand anywhere.
+/// A part with no byte may stand anywhere. Where the parts are all those of a text, they are in order.
 pub fn join_parts(parts: &[CheckedPart], size: u64) -> Result<SeqVerdict, Misfit>
-    ensures whole { IfOk result (λ whole. (limits : Allowed) (text : List ℕ) → length text ≡ size → All (IsPartOf limits text) parts.now
-        → IsSequenceVerdict limits text whole) }
+    ensures whole { IfOk result (λ whole. (framing : Framing) (limits : Allowed) (text : List ℕ) → length text ≡ size
+        → All (IsPartOf framing limits text) parts.now
+        → IsVerdictOf framing limits text whole) }
+    ensures complete { (framing : Framing) (limits : Allowed) (text : List ℕ) → length text ≡ size → 0 < length parts.now
+        → AreAllParts framing limits text parts.now → result ≡ Err Misfit.NotInOrder → ⊥ }
 {
     let mut whole = nothing();
     let mut end = 0;
@@ -51,7 +55,7 @@ pub fn join_parts(parts: &[CheckedPart], size: u64) -> Result<SeqVerdict, Misfit
 
 /// Of no byte.
 pub fn nothing() -> SeqVerdict
-    ensures { (limits : Allowed) → IsSequenceVerdict limits [] result }
+    ensures { (framing : Framing) (limits : Allowed) → IsVerdictOf framing limits [] result }
 {
     SeqVerdict::Valid {
         records: 0,
@@ -61,8 +65,9 @@ pub fn nothing() -> SeqVerdict
 
 /// The verdict of the bytes up to the end of a part that has some, given that of the bytes before them.
 fn with_part(before: SeqVerdict, part: &CheckedPart) -> Option<SeqVerdict>
-    ensures { IfSome result (λ whole. (limits : Allowed) (text : List ℕ) → part.now.begin < part.now.end → IsVerdictOfBytes limits text part.now
-        → IsJoinedTo limits text part.now.begin before → IsJoinedTo limits text part.now.end whole) }
+    ensures { IfSome result (λ whole. (framing : Framing) (limits : Allowed) (text : List ℕ) → part.now.begin < part.now.end
+        → IsVerdictOfBytes framing limits text part.now
+        → IsJoinedTo framing limits text part.now.begin before → IsJoinedTo framing limits text part.now.end whole) }
 {
     if part.begin == 0 {
         Some(part.verdict)

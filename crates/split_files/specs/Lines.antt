@@ -4,13 +4,12 @@ use Rattle.std.specs.Fmt.{decimal}
 use Rattle.gj_coords.specs.declared.fault.Fault.{Fault}
 use Rattle.gj_coords.specs.Fault.{number_of}
 use Rattle.gj_coords.specs.Texts.{rule_text}
-use Rattle.gj_json.specs.declared.fault.Cause.{Cause}
-use Rattle.gj_json.specs.declared.fault.Cause.TheVariants.{Syntax, Truncated, Depth, Length}
 use Rattle.gj_json.specs.declared.fault.JsonFault.{JsonFault}
 use Rattle.gj_json.specs.Texts.{cause_text}
 use Rattle.gj_rules.specs.declared.feature.Feature.{Feature}
 use Rattle.gj_rules.specs.declared.records.record.Record.{Record}
 use Rattle.gj_rules.specs.declared.verdict.Verdict.{Verdict}
+pub use Rattle.gj_json.specs.Texts.{cause_number}
 
 -- its end, as {..,"rule":"G6","text":"geometry missing","at":42}
 unfoldable pub reason_text : List ℕ → ℕ → List ℕ → ℕ → List ℕ
@@ -19,12 +18,6 @@ reason_text letter number text place =
 
 abbrev pub fault_text : Fault → List ℕ
 fault_text fault = reason_text (codes "G") (number_of fault.rule) (rule_text fault.rule) fault.place
-
-abbrev pub cause_number : Cause → ℕ
-cause_number Syntax = 1
-cause_number Truncated = 2
-cause_number Depth = 3
-cause_number Length = 4
 
 abbrev pub refusal_text : JsonFault → List ℕ
 refusal_text fault = reason_text (codes "J") (cause_number fault.cause) (cause_text fault.cause) fault.place

@@ -1,7 +1,7 @@
-"""geolint for Dask: checks many files, or one large text sequence in parts, on the workers of a cluster.
+"""geolint for Dask: checks many files, or one large text sequence or file of lines in parts, on the workers of a cluster.
 
     client = distributed.Client("scheduler:8786")
-    found = geolint.dask.check("/data/roads.geojsons", parts=512)           # one text sequence, cut by bytes
+    found = geolint.dask.check("/data/roads.geojsons", parts=512)           # one file of records, cut by bytes
     found = geolint.dask.check(["/data/a.geojson", "/data/towns"])          # files, and folders of them
     print(all(file["passes"] for file in found))
 
@@ -30,12 +30,12 @@ def check(
 ) -> List[Dict[str, Any]]:
     """What is found in each file, as `geolint-files --format json` says it.
 
-    One path is a text sequence. It is checked in `parts` ranges of its bytes, four for each thread of the workers where the number is
+    One path is a text sequence, or newline-delimited texts. It is checked in `parts` ranges of its bytes, four for each thread of the workers where the number is
     not given, and what is found is what one reading of it finds. Many paths are checked each as a whole, by so many tasks. Names that
     are not absolute begin at the current folder of this process.
 
     `options` are those of geolint-files, as "--strict". The client is the current one where none is given. A file of several that
-    cannot be read is in the answer with its reason; a sequence that cannot be is an OSError.
+    cannot be read is in the answer with its reason; one path that cannot be is an OSError.
     """
     client = client or distributed.get_client()
     count = parts or 4 * max(1, sum(client.nthreads().values()))

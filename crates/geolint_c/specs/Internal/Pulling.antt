@@ -52,7 +52,7 @@ pub record Takes (old : Judging) (pulled : ℕ) (piece : List ℕ) (told : Progr
   pub ready : told.ready ≡ (if tells_more new pulled then 1 else 0)
   pub all : tells_more new pulled ≡ false → told.taken ≡ length piece
 
--- the next feature that a linter told, where it told more
+-- the next feature that a linter reported, where it reported more
 abbrev pub IsPulled : Judging → ℕ → Finding → Type 0
 IsPulled linter pulled told =
     (limits : Allowed) (bytes : List ℕ) → Judges linter pulled limits bytes → tells_more linter pulled ≡ true

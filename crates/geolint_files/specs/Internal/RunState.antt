@@ -1,4 +1,4 @@
--- Which files a run has told.
+-- Which files a run has reported.
 use Rattle.std.specs.Prelude.{◌≡◌, ◌≤◌, ◌+◌, ℕ, true, List, [], ◌∷◌, ◌++◌, length, map, Option}
 use Rattle.std.specs.Io.Iter.{u64_saturate}
 use Rattle.std.specs.Io.KnownBytes.{Appends, Keeps}
@@ -43,30 +43,30 @@ pub record IsFresh {W : Type 0} (contents : W → Option (List ℕ)) (held : Opt
   pub unread : run.log.unread.items ≡ []
   pub line : run.line.items ≡ []
 
--- a call told one file more
+-- a call reported one file more
 pub record TellsFile {W : Type 0} (contents : W → Option (List ℕ)) (file : ToldFile) (old new : Run W) : Type 0 where
   pub tells : (held : Option (List ℕ)) (options : Options) (style : Style) (files : List ToldFile)
       → HasTold contents held options style files old → HasTold contents held options style (files ++ file ∷ []) new
 
--- a call told more lines of the features of the last file
+-- a call reported more lines of the features of the last file
 pub record TellsLines {W : Type 0} (contents : W → Option (List ℕ)) (lines : List FeatureLine) (old new : Run W) : Type 0 where
   pub tells : (held : Option (List ℕ)) (options : Options) (style : Style) (files : List ToldFile) (report : Report) (before : List FeatureLine)
       (tally : Tally) → HasTold contents held options style (files ++ listed report before tally ∷ []) old
       → HasTold contents held options style (files ++ listed report (before ++ lines) tally ∷ []) new
 
--- after so many notes a call told those that further readings of these bytes found
+-- after so many notes a call reported those that further readings of these bytes found
 abbrev pub ToldFurther : {W : Type 0} → (W → Option (List ℕ)) → Reading → Asked → ℕ → Allowed → List ℕ → Option (List ℕ) → ℕ → ℕ → Run W → Run W → Type 0
 ToldFurther contents reading asked most limits name text held told old new =
     (further : List (List Note)) × AreFurther (framing_in reading) asked most limits text held further × (most ≤ asked.room → further ≡ [])
     × (told ≡ u64_saturate (held + length (joined further)))
     × ((lines : List FeatureLine) × AreEntriesOf (IsPlaced (framing_in reading) text) name (joined further) lines × TellsLines contents lines old new)
 
--- it told some more, or none
+-- it reported some more, or none
 pub record TellsFiles {W : Type 0} (contents : W → Option (List ℕ)) (old new : Run W) : Type 0 where
   pub tells : (held : Option (List ℕ)) (options : Options) (style : Style) (files : List ToldFile)
       → HasTold contents held options style files old → (more : List ToldFile) × HasTold contents held options style (files ++ more) new
 
--- it told none
+-- it reported none
 pub record SameTold {W : Type 0} (old new : Run W) : Type 0 where
   pub options : new.options ≡ old.options
   pub style : new.style ≡ old.style

@@ -1,8 +1,8 @@
-//! Tells each feature or record of a file, behind the file's own report.
+//! Reports each feature or record of a file, after the file's own report.
 ghost use Rattle.std.specs.Prelude.{◌≡◌, ◌<◌, ◌-◌, ◌^◌, ℕ, List, length, IfSome, Option, None, true, false};
 ghost use Rattle.gj_rules.specs.declared.records.framing.Framing.{Framing};
 ghost use Rattle.geolint_report.specs.Texts.{is_cause};
-ghost use Rattle.geolint_files.specs.Listed.{room_of, most_of, asked_with, asked_after};
+ghost use Rattle.geolint_files.specs.Listed.{room_of, most_of, asked_with, asked_after, asked_in};
 ghost use Rattle.geolint_report.specs.Cursors.{StandBy};
 ghost use Rattle.geolint_report.specs.Marks.{IsMarkBy};
 
@@ -19,14 +19,14 @@ use geolint_report::texts::Code;
 use gj_json::Limits;
 use report_forms::every::entry::Entry;
 use report_forms::every::{github, json, lines, sarif, text};
-use report_forms::options::{Every, Format};
+use report_forms::options::{Every, Format, Options};
 use std::alloc::AllocError;
 use std::io::Write;
 
 /// The most notes that are held at once.
 const MOST_HELD: u64 = 65_536;
 
-/// What is asked where so many notes are told at most: 0 asks for all.
+/// What is asked where so many notes are reported at most: 0 asks for all.
 fn asked_with(with_warnings: bool, most: u64) -> Asked
     ensures { result ≡ asked_with with_warnings most }
 {
@@ -37,21 +37,32 @@ fn asked_with(with_warnings: bool, most: u64) -> Asked
     }
 }
 
-/// How many notes are held at once, where so many are told at most.
+/// How many notes are held at once, where so many are reported at most.
 fn room_of(most: u64) -> u64
     ensures { result ≡ room_of most }
 {
     most_of(most).min(MOST_HELD)
 }
 
-/// How many notes are told at most: 0 asks for all.
+/// How many notes are reported at most: 0 asks for all.
 fn most_of(most: u64) -> u64
     ensures { result ≡ most_of most }
 {
     if most == 0 { u64::MAX } else { most }
 }
 
-/// What is asked of a further reading, where so many notes are told of so many at most.
+/// What is asked of the features or the records of a file.
+pub fn asked_in(options: &Options) -> Option<Asked>
+    ensures { result ≡ asked_in options.now }
+{
+    match options.every {
+        Every::Nothing => None,
+        Every::Faults => Some(asked_with(false, options.most)),
+        Every::Warnings => Some(asked_with(true, options.most)),
+    }
+}
+
+/// What is asked of a further reading, where so many notes are reported of so many at most.
 fn asked_after(asked: Asked, most: u64, told: u64) -> Asked
     ensures { result ≡ asked_after asked most told }
 {
@@ -74,7 +85,7 @@ impl<'a, W: Write + Drop> Run<'a, W> {
     ghost use Rattle.geolint_report.specs.Judged.{framing_in};
     ghost use Rattle.geolint_files.specs.Told.{HasSites, reading_of};
     ghost use Rattle.geolint_report.specs.Cursors.{StandBy};
-    ghost use Rattle.geolint_files.specs.Listed.{asked_in, asked_for, AreLinesOf, AreEntriesOf, others_of, IsUnplaced, IsPlaced, IsListedOnce, IsListedTwice};
+    ghost use Rattle.geolint_files.specs.Listed.{asked_for, AreLinesOf, AreEntriesOf, others_of, IsUnplaced, IsPlaced, IsListedOnce, IsListedTwice};
     ghost use Rattle.geolint_files.specs.Listed.{ArePlacedLines, AreNextBy};
     ghost use Rattle.report_forms.specs.Forms.Features.{TellsEntry, TellsMore, first_behind};
     ghost use Rattle.geolint_files.specs.Internal.RunState.{TellsFile, TellsLines, ToldFurther, SameTold};
@@ -86,22 +97,11 @@ impl<'a, W: Write + Drop> Run<'a, W> {
     {
         match self.reading(name) {
             Reading::Quick => None,
-            _ => self.asked(),
+            _ => asked_in(&self.options),
         }
     }
 
-    fn asked(&self) -> Option<Asked>
-        ensures { result ≡ asked_in self.now.options }
-    {
-        let most = self.options.most;
-        match self.options.every {
-            Every::Nothing => None,
-            Every::Faults => Some(asked_with(false, most)),
-            Every::Warnings => Some(asked_with(true, most)),
-        }
-    }
-
-    /// Tells what a source has that can be read once only: no line and no path is known of its places.
+    /// Reports what a source has that can be read once only: no line and no path is known of its places.
     pub fn list_once<S: Source>(
         &mut self,
         name: &[u8],
@@ -132,8 +132,13 @@ impl<'a, W: Write + Drop> Run<'a, W> {
         }
     }
 
-    /// Tells a file that was judged, and then notes, of whose places nothing is known.
-    fn list_unplaced(&mut self, name: &[u8], finding: Finding, notes: &Notes) -> Result<(), Failure>
+    /// Reports a file that was checked, and then notes, of whose places nothing is known.
+    pub fn list_unplaced(
+        &mut self,
+        name: &[u8],
+        finding: Finding,
+        notes: &Notes,
+    ) -> Result<(), Failure>
         ensures { (self.old.options.every ≡ Every.Nothing → ⊥)
             → OnOk result ((lines : List FeatureLine) × AreLinesOf IsUnplaced name.now notes.now.notes.items notes.now.count lines
             × TellsFile W.contents (listed (record {
@@ -150,7 +155,7 @@ impl<'a, W: Write + Drop> Run<'a, W> {
         self.tell_unplaced(name, notes)
     }
 
-    /// Tells notes, of whose places nothing is known.
+    /// Reports notes, of whose places nothing is known.
     fn tell_unplaced(&mut self, name: &[u8], notes: &Notes) -> Result<(), Failure>
         ensures { OnOk result
             ((lines : List FeatureLine) × AreLinesOf IsUnplaced name.now notes.now.notes.items notes.now.count lines
@@ -162,7 +167,7 @@ impl<'a, W: Write + Drop> Run<'a, W> {
         self.tell_others(name, others(notes.count, notes.notes.len() as u64))
     }
 
-    /// Tells what a source has, and reads it again for the lines and the paths of its features or records, and the `id`s of its features.
+    /// Reports what a source has, and reads it again for the lines and the paths of its features or records, and the `id`s of its features.
     pub fn list_twice<S: Rewind>(
         &mut self,
         name: &[u8],
@@ -193,7 +198,7 @@ impl<'a, W: Write + Drop> Run<'a, W> {
         }
     }
 
-    /// Tells a text that is refused. The linter of the run is fed what comes before, since the hint depends on it.
+    /// Reports a text that is refused. The linter of the run is fed what comes before, since the hint depends on it.
     fn tell_refused<S: Rewind>(
         &mut self,
         name: &[u8],
@@ -210,8 +215,8 @@ impl<'a, W: Write + Drop> Run<'a, W> {
         self.tell_found(name, finding, source, reading)
     }
 
-    /// Tells a file that was judged, and then notes, for whose places the source is read again.
-    fn list_placed<S: Rewind>(
+    /// Reports a file that was checked, and then notes, for whose places the source is read again.
+    pub fn list_placed<S: Rewind>(
         &mut self,
         name: &[u8],
         finding: Finding,
@@ -231,7 +236,7 @@ impl<'a, W: Write + Drop> Run<'a, W> {
         self.tell_placed(name, source, limits, reading, asked, most, notes)
     }
 
-    /// Tells notes, each with its line, its path and its `id`: without them where a read fails. Where more are asked for than are
+    /// Reports notes, each with its line, its path and its `id`: without them where a read fails. Where more are asked for than are
     /// held, those after them follow.
     #[inline(never)]
     fn tell_placed<S: Rewind>(
@@ -264,8 +269,8 @@ impl<'a, W: Write + Drop> Run<'a, W> {
         self.tell_others(name, others(notes.count, told))
     }
 
-    /// Tells the notes after so many, up to so many in all: each further reading finds as many as are held at once. It answers how
-    /// many notes are told then.
+    /// Reports the notes after so many, up to so many in all: each further reading finds as many as are held at once. It answers how
+    /// many notes are reported then.
     fn tell_further<S: Rewind>(
         &mut self,
         name: &[u8],
@@ -296,7 +301,7 @@ impl<'a, W: Write + Drop> Run<'a, W> {
         Ok(told)
     }
 
-    /// Reads a source again, and tells the notes that are asked for: how many they are.
+    /// Reads a source again, and reports the notes that are asked for: how many they are.
     fn tell_next<S: Rewind>(
         &mut self,
         name: &[u8],
@@ -329,7 +334,7 @@ impl<'a, W: Write + Drop> Run<'a, W> {
         }
     }
 
-    /// Tells notes, each with its line, its path and its `id`.
+    /// Reports notes, each with its line, its path and its `id`.
     fn tell_notes<S: Rewind>(
         &mut self,
         name: &[u8],
@@ -409,7 +414,7 @@ impl<'a, W: Write + Drop> Run<'a, W> {
         }
     }
 
-    /// Tells how many notes are not told, where there are some.
+    /// Reports how many notes are not reported, where there are some.
     fn tell_others(&mut self, name: &[u8], count: u64) -> Result<(), Failure>
         ensures { OnOk result (TellsLines W.contents (others_of name.now count) self.old self.new) }
     {
@@ -446,7 +451,7 @@ impl<'a, W: Write + Drop> Run<'a, W> {
     }
 }
 
-/// How many of so many notes are not told.
+/// How many of so many notes are not reported.
 fn others(count: u64, told: u64) -> u64
     ensures left { result ≡ count - told }
     // as each u64 is
@@ -468,7 +473,7 @@ fn find<S: Rewind>(cursors: &mut Cursors, source: &mut S, note: &Note) -> Option
     }
 }
 
-/// Where a place stands. Of one at which a record is refused no path is told, since no text has that byte.
+/// Where a place stands. Of one at which a record is refused no path is reported, since no text has that byte.
 fn told_mark(mark: Mark, code: Code) -> Mark
     ensures mark { (framing : Option Framing) (text : Option (List ℕ)) (place : ℕ) → IsMarkBy framing text place mark → IsMarkBy framing text place result }
     ensures none { is_cause code ≡ true → result.path ≡ None }

@@ -12,7 +12,7 @@ use Rattle.geolint_report.specs.declared.sites.Site.{Site}
 use Rattle.geolint_report.specs.declared.sites.Sites.{Sites}
 use Rattle.geolint_report.specs.Sites.{AreRight, ArePaths, AreTold, CanGoOn, IsUnderWay, sought, text_limits, text_of}
 
--- behind a text and some bytes of the next piece
+-- after a text and some bytes of the next piece
 pub record Reaches (finder : Finder) (sites : Sites) (text piece : List ℕ) : Type 0 where
   pub offset : finder.offset ≡ u64_saturate (length text)
   pub counted : finder.counted ≤ length piece
@@ -27,7 +27,7 @@ Stands finder front = finder.is_lost ≡ false → Locator.StandsFor finder.loca
 abbrev pub StandsIn : Finder → List ℕ → Type 0
 StandsIn finder front = Stands finder (text_of finder.framing front)
 
--- the locator is behind a text and some bytes of the next piece, and each path so far is right
+-- the locator is after a text and some bytes of the next piece, and each path so far is right
 pub record Follows (framing : Option Framing) (finder : Finder) (sites : Sites) (text piece : List ℕ) : Type 0 where
   pub kind : finder.framing ≡ framing
   pub located : finder.located ≤ length piece
@@ -48,7 +48,7 @@ KeepsIn finder front =
 abbrev pub AreWithin : List ℕ → List Site → Type 0
 AreWithin bytes sites = (i : ℕ) (other : Site) → i < length sites → (get_or sites i other).is_found ≡ true → (get_or sites i other).place < length bytes
 
--- the locator is behind a text and some bytes of the next piece, unless a byte was refused, and each path so far is told
+-- the locator is after a text and some bytes of the next piece, unless a byte was refused, and each path so far is reported
 pub record Tells (limits : Allowed) (framing : Option Framing) (finder : Finder) (sites : Sites) (text piece : List ℕ) : Type 0 where
   pub under : finder.limits ≡ limits
   pub keeps : finder.next < sites.count → KeepsIn finder (text ++ take finder.located piece)
@@ -75,7 +75,7 @@ pub record IsAt (excerpt : Excerpt) (place : ℕ) (bytes : List ℕ) : Type 0 wh
   pub within : place ≤ length bytes
   pub keeps : KeepsLine excerpt (take place bytes) (drop place bytes)
 
--- behind a text and some bytes of the next piece, the excerpt has all of these before the last place, or is that of the last place
+-- after a text and some bytes of the next piece, the excerpt has all of these before the last place, or is that of the last place
 pub record Shows (finder : Finder) (sites : Sites) (text piece : List ℕ) : Type 0 where
   pub stored : sites.count ≤ length sites.sites
   pub before : finder.next < sites.count → KeepsLine sites.excerpt (text ++ take finder.counted piece) []

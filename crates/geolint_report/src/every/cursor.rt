@@ -24,7 +24,7 @@ impl Mark {
     ghost use Rattle.gj_rules.specs.declared.records.framing.Framing.{Framing};
     ghost use Rattle.geolint_report.specs.Marks.{IsMarkBy};
 
-    /// The same place, without its path.
+    /// This place, without its path.
     pub fn without_path(self) -> Mark
         ensures mark { (framing : Option Framing) (text : Option (List ℕ)) (place : ℕ) → IsMarkBy framing text place self → IsMarkBy framing text place result }
         ensures path { result.path ≡ None }

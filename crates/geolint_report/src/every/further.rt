@@ -1,4 +1,4 @@
-//! A further reading of a file of which more is told than is held at once.
+//! A further reading of a file of which more is reported than is held at once.
 ghost use Rattle.std.specs.Prelude.{◌≡◌, IfOk, IfSome};
 ghost use Rattle.geolint_report.specs.Every.{AreNotesBy, ListsFor};
 ghost use Rattle.geolint_report.specs.Judged.{framing_in};
@@ -31,7 +31,7 @@ pub fn read_further<S: Rewind>(
     }
 }
 
-/// What a source is, and what is told of its features or its records, from its first byte on.
+/// What a source is, and what is reported of its features or its records, from its first byte on.
 fn list_again<S: Rewind>(
     alloc: Global,
     source: &mut S,

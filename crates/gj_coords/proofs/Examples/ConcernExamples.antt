@@ -1,22 +1,12 @@
 -- The warnings of some values, by computing.
-use Rattle.std.proofs.Common.{◌≡◌, ℕ, ◌+◌, List, [], ◌∷◌, refl, codes}
-use Rattle.gj_number.specs.Bytes.{zero_digit}
+use Rattle.std.proofs.Common.{◌≡◌, ℕ, ◌+◌, [], ◌∷◌, refl, codes}
 use Rattle.gj_number.specs.Value.{value_of, held_value, within_limits}
-use Rattle.gj_json.specs.Tree.{Tree, number, array, Elements, end_of_array, element}
+use Rattle.gj_json.specs.Tree.{Tree, number, array, end_of_array}
 use Rattle.gj_coords.specs.declared.kind.Kind.TheVariants.{W2, W3, W4, W5, W6}
 use Rattle.gj_coords.specs.declared.simple.Simple.TheVariants.{Point, LineString, Polygon, MultiPolygon}
 use Rattle.gj_coords.specs.Warnings.{warning_at}
 use Rattle.gj_coords.specs.CoordinateWarnings.{coordinates_warnings}
-
-abbrev many : List Tree → Elements
-many [] = end_of_array
-many (value ∷ more) = element value (many more)
-
-abbrev digit : ℕ → ℕ → Tree
-digit place value = number place ((zero_digit + value) ∷ []) (place + 1)
-
-abbrev pair : ℕ → ℕ → ℕ → Tree
-pair place first second = array place (many (digit (place + 1) first ∷ digit (place + 3) second ∷ [])) (place + 4)
+use Rattle.gj_coords.proofs.Examples.FaultExamples.{many, digit, pair}
 
 -- a ring [[a,b],[c,d],[e,f],[a,b]]
 abbrev ring_of : ℕ → ℕ → ℕ → ℕ → ℕ → ℕ → ℕ → Tree

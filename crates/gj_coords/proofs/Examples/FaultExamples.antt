@@ -10,16 +10,16 @@ use Rattle.gj_coords.specs.Fault.{fault_at, least}
 use Rattle.gj_coords.specs.Shape.{coordinates_faults}
 use Rattle.gj_coords.specs.Box.{bbox_faults}
 
-abbrev many : List Tree → Elements
+abbrev pub many : List Tree → Elements
 many [] = end_of_array
 many (value ∷ more) = element value (many more)
 
 -- a number of one digit
-abbrev digit : ℕ → ℕ → Tree
+abbrev pub digit : ℕ → ℕ → Tree
 digit place value = number place ((zero_digit + value) ∷ []) (place + 1)
 
 -- an array of two such numbers, without spaces
-abbrev pair : ℕ → ℕ → ℕ → Tree
+abbrev pub pair : ℕ → ℕ → ℕ → Tree
 pair place first second = array place (many (digit (place + 1) first ∷ digit (place + 3) second ∷ [])) (place + 4)
 
 -- the least faults for the first four types, and for all six

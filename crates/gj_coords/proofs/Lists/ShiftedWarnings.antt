@@ -10,7 +10,7 @@ use Rattle.gj_coords.specs.declared.warnings.Warnings.{Warnings}
 use Rattle.gj_coords.specs.Warnings.{Warning, warning_at, shifted_by, same_kind, places_of, greatest_count, least_place, lesser_place}
 use Rattle.gj_coords.specs.Internal.KeptWarnings.{noted_as, noted_of, shifted_noted, kept, warnings_of, shifted}
 use Rattle.gj_coords.specs.WarningsStand.{StandsFor}
-use Rattle.gj_coords.specs.Internal.KeptWarningLaws.{some_least}
+use Rattle.gj_coords.specs.Internal.KeptWarningLaws.{some_least, summary}
 use Rattle.gj_coords.specs.Internal.WarningLaws.{kept_by_kind, by_kind_alike}
 use Rattle.gj_coords.proofs.Lists.ListsStoodFor.{kept_of}
 
@@ -41,10 +41,7 @@ places_on : (by : ℕ) (kind : Kind) (warnings : List Warning)
 places_on by kind [] = refl
 places_on by kind (warning ∷ more) = places_of_one by kind warning more (same_kind warning.kind kind) refl (places_on by kind more)
 
-abbrev summary : List ℕ → KindWarnings
-summary places = noted_as (min (length places) greatest_count) (unwrap_or (least_place places) 0)
-
-some_count : (limit n : ℕ) → 0 < limit → (min (suc n) limit == 0) ≡ false
+pub some_count : (limit n : ℕ) → 0 < limit → (min (suc n) limit == 0) ≡ false
 some_count limit n h = grind (arith, nat_tests)
 
 unwrap_on : (by p : ℕ) (a : Option ℕ) → a ≡ Some p → unwrap_or (on by a) 0 ≡ unwrap_or a 0 + by

@@ -1,11 +1,10 @@
--- A list of which a `Warnings` tells the counts and the least places: as many warnings of each kind, all at one place.
-use Rattle.std.specs.Prelude.{refl, ◌≡◌, ℕ, min, ◌<◌, ◌≤◌, ◌==◌, Bool, true, false, if◌then◌else◌, List, [], ◌∷◌, ◌++◌, length, map, filter, Some, None, suc}
+-- A list of which a `Warnings` says the counts and the least places: as many warnings of each kind, all at one place.
+use Rattle.std.specs.Prelude.{refl, ◌≡◌, ℕ, min, ◌<◌, ◌≤◌, ◌==◌, Bool, true, false, if◌then◌else◌, List, [], ◌∷◌, ◌++◌, length, Some, None, suc}
 use Rattle.std.specs.Prelude.{zero}
 use Rattle.std.proofs.Common.{arith, sym, ◌∙◌, ap, append-nil}
 use Rattle.std.specs.List.{flat_map}
 use Rattle.std.proofs.Math.ListN.{replicate}
-use Rattle.std.proofs.lemmas.List.{length-replicate, map-append}
-use Rattle.std.proofs.lemmas.List.Elements.{filter-append}
+use Rattle.std.proofs.lemmas.List.{length-replicate}
 use Rattle.std.proofs.lemmas.Bool.Decides.{nat_tests}
 use Rattle.gj_coords.specs.declared.kind.Kind.{Kind}
 use Rattle.gj_coords.specs.declared.kind_warnings.KindWarnings.{KindWarnings}
@@ -14,6 +13,7 @@ use Rattle.gj_coords.specs.Warnings.{Warning, warning_at, kinds, same_kind, plac
 use Rattle.gj_coords.specs.WarningsStand.{StandsFor}
 use Rattle.gj_coords.specs.WarningsTold.{Tells, CountsFit}
 use Rattle.gj_coords.specs.Internal.KeptWarnings.{kept}
+use Rattle.gj_coords.specs.Internal.KeptWarningLaws.{places_of-append}
 use Rattle.gj_coords.proofs.Lists.ListsStoodFor.{kept_of, first_is, first_is_none}
 
 -- ---- so many warnings of a kind at one place
@@ -30,9 +30,6 @@ alike_places zero place kind other true h = refl
 alike_places zero place kind other false h = refl
 alike_places (suc n) place kind other true h = simp h (ap (λ (xs : List ℕ). place ∷ xs) (alike_places n place kind other true h))
 alike_places (suc n) place kind other false h = simp h (alike_places n place kind other false h)
-
-some_count : (limit n : ℕ) → 0 < limit → (min (suc n) limit == 0) ≡ false
-some_count limit n h = grind (arith, nat_tests)
 
 least_alike : (n place : ℕ) → least_place (replicate (suc n) place) ≡ Some place
 least_alike zero place = refl
@@ -54,12 +51,7 @@ count_alike count place small = rw (length-replicate count place) (least count g
     least : (m n : ℕ) → m ≤ n → m ≡ min m n
     least m n h = omega arith
 
--- ---- those of all kinds, one kind behind the other
-
-places_of-both : (kind : Kind) (xs ys : List Warning) → places_of kind (xs ++ ys) ≡ places_of kind xs ++ places_of kind ys
-places_of-both kind xs ys =
-    ap (map (λ (w : Warning). w.place)) (filter-append (λ (w : Warning). same_kind w.kind kind) xs ys)
-    ∙ map-append (λ (w : Warning). w.place) (filter (λ (w : Warning). same_kind w.kind kind) xs) (filter (λ (w : Warning). same_kind w.kind kind) ys)
+-- ---- those of all kinds, one kind after the other
 
 told_list : Warnings → List Warning
 told_list told = flat_map (λ (kind : Kind). alike (kept told kind) kind) kinds
@@ -71,7 +63,7 @@ places_in : (told : Warnings) (other : Kind) (ks : List Kind)
     → places_of other (flat_map (λ (kind : Kind). alike (kept told kind) kind) ks) ≡ flat_map (of_each told other) ks
 places_in told other [] = refl
 places_in told other (kind ∷ ks) =
-    places_of-both other (alike (kept told kind) kind) (flat_map (λ (k : Kind). alike (kept told k) k) ks)
+    places_of-append other (alike (kept told kind) kind) (flat_map (λ (k : Kind). alike (kept told k) k) ks)
     ∙ (ap (λ (xs : List ℕ). xs ++ places_of other (flat_map (λ (k : Kind). alike (kept told k) k) ks))
     (alike_places (kept told kind).count (kept told kind).first kind other (same_kind kind other) refl)
     ∙ ap (λ (xs : List ℕ). of_each told other kind ++ xs) (places_in told other ks))

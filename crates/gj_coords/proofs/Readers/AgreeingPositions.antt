@@ -1,5 +1,5 @@
 -- Positions agree exactly where their first values are the same.
-use Rattle.std.proofs.Common.{◌≡◌, ◌↔◌, ℕ, Option, Some, None, Bool, ◌&&◌, ◌==◌, ℤ, refl, ap, ◌∙◌, IsTrue, Decides}
+use Rattle.std.proofs.Common.{◌≡◌, ◌↔◌, Option, Some, None, ◌&&◌, ◌==◌, refl, ap, IsTrue, Decides}
 use Rattle.std.specs.Bool.{beq}
 use Rattle.std.specs.Ordering.{int_eq}
 use Rattle.std.specs.Option.{option_eq}
@@ -9,13 +9,7 @@ use Rattle.std.proofs.lemmas.Slice.Eq.{slice_eq-Decides}
 use Rattle.gj_number.specs.Exact.{Exact, same_parts}
 use Rattle.gj_json.specs.Tree.{Tree}
 use Rattle.gj_coords.specs.Ring.{agree, first_values}
-
-same_exact : (a b : Exact) → a.negative ≡ b.negative → a.digits ≡ b.digits → a.power ≡ b.power → a ≡ b
-same_exact a b e f g =
-    ap (λ x. exact x a.digits a.power) e ∙ (ap (λ x. exact b.negative x a.power) f ∙ ap (λ x. exact b.negative b.digits x) g)
-  where
-    exact : Bool → ℕ → ℤ → Exact
-    exact negative digits power = record { negative = negative; digits = digits; power = power }
+use Rattle.gj_number.proofs.Value.OneDenotation.{same_exact}
 
 exact_decides : (a b : Exact) → Decides (same_parts a b) (a ≡ b)
 exact_decides a b =

@@ -5,18 +5,13 @@ use Rattle.std.proofs.lemmas.Bool.Decides.{nat_tests}
 use Rattle.std.specs.List.{AllByRecursion}
 use Rattle.gj_coords.specs.declared.fault.Fault.{Fault}
 use Rattle.gj_coords.specs.Fault.{comes_first, lesser, least, number_of}
-
-abbrev Tests : ℕ → ℕ → ℕ → ℕ → Bool
-Tests p r q s = nat_lt p q || (nat_eq p q && nat_le r s)
+use Rattle.gj_coords.specs.Internal.LeastLaws.{Tests, goes_on}
 
 itself : (p r : ℕ) → Tests p r p r ≡ true
 itself p r = grind (arith, nat_tests)
 
 other_way : (p r q s : ℕ) → Tests p r q s ≡ false → Tests q s p r ≡ true
 other_way p r q s h = grind (arith, nat_tests)
-
-goes_on : (p r q s t u : ℕ) → Tests p r q s ≡ true → Tests q s t u ≡ true → Tests p r t u ≡ true
-goes_on p r q s t u h k = grind (arith, nat_tests)
 
 -- the fault is one of them, and comes before each or is the same
 record IsLeast (fault : Fault) (faults : List Fault) : Type 0 where

@@ -1,4 +1,4 @@
--- The reader of the value of `coordinates` tells what is found in it, whether it is empty or not.
+-- The reader of the value of `coordinates` reports what is found in it, whether it is empty or not.
 use Rattle.std.proofs.Common.{◌≡◌, ℕ, List, [], ◌∷◌, false, refl, ◌∙◌, ap, if◌then◌else◌}
 use Rattle.gj_json.specs.Tree.{Tree, constant, number, string, array, object, Elements, end_of_array, element}
 use Rattle.gj_coords.specs.declared.kind.Kind.TheVariants.{W6}

@@ -1,4 +1,4 @@
--- A machine that stands behind some events of a value has the rest of them to read.
+-- A machine that stands after some events of a value has the rest of them to read.
 use Rattle.std.proofs.Common.{◌≡◌, ◌↔◌, List, [], ◌∷◌, ◌++◌, IsTrue, refl, sym, ◌∙◌, append-nil, append_assoc}
 use Rattle.gj_json.specs.declared.event.Event.{Event}
 use Rattle.gj_json.specs.Tree.{Tree}
@@ -29,7 +29,7 @@ pub answer_at_end : {S A : Type 0} (m : Machine S A) (meaning : Tree → A) → 
     IsAfter m s (value_events v) → IsCountable v → m.answered s ≡ meaning v
 answer_at_end m meaning law s v k room = (left_to_read m meaning law s v (value_events v) [] k (append-nil (value_events v)) room).1
 
--- ---- a machine that stands behind some events of each value that begins so
+-- ---- a machine that stands after some events of each value that begins so
 
 pub reads_on_none : {S A : Type 0} (m : Machine S A) (meaning : Tree → A) → Answers m meaning → (s : S) → m.Ready s → ReadsOn m meaning s []
 reads_on_none m meaning law s ready v rest e room = rw (e ∙ value_sent v) (law.reads s ready v room)

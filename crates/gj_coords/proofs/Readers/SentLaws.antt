@@ -17,7 +17,7 @@ closed : (inside : List Timed) (inside_sent : List Event) (at close : _) (what :
 closed inside inside_sent at close what h =
     map-append (λ x. x.event) inside (timed at close what ∷ []) ∙ ap (λ xs. xs ++ event_at close what ∷ []) h
 
--- a value and those behind it
+-- a value and those after it
 joined : (first more : List Timed) (first_sent more_sent : List Event) → plain first ≡ first_sent → plain more ≡ more_sent →
     plain (first ++ more) ≡ first_sent ++ more_sent
 joined first more first_sent more_sent h k =

@@ -1,4 +1,4 @@
--- The reader of each type tells the least fault of the value under it.
+-- The reader of each type reports the least fault of the value under it.
 use Rattle.std.proofs.Common.{◌≡◌, arith}
 use Rattle.gj_json.specs.Tree.{Tree}
 use Rattle.gj_coords.specs.declared.simple.Simple.{Simple}

@@ -1,4 +1,4 @@
--- The reader of each type tells the warnings of the value under it.
+-- The reader of each type reports the warnings of the value under it.
 use Rattle.std.specs.List.{flat_map}
 use Rattle.std.specs.Prelude.{⊤}
 use Rattle.std.proofs.Common.{◌≡◌, ℕ, true, refl, ap, ◌∙◌, arith}
@@ -36,7 +36,7 @@ use Rattle.gj_coords.proofs.Readers.OrEmptyLaws.{whole_warned}
 
 -- ---- what an answer adds to warnings
 
--- those of a concern, as an element behind any others
+-- those of a concern, as an element after any others
 abbrev Adds : {A : Type 0} → Judgement A → (Tree → A) → Concern → Type 0
 Adds j meaning concern =
     (others : ℕ) (w : Warned) (v : Tree) → IsShort v → all_in (j.warned_behind others w (meaning v)) ≡ joined (all_in w) (warnings_of (concern v))

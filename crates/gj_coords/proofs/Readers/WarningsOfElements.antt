@@ -1,4 +1,4 @@
--- What a gathering of warnings tells of its elements, and of the linear rings of a polygon.
+-- What a gathering of warnings says of its elements, and of the linear rings of a polygon.
 use Rattle.std.specs.Prelude.{is_none, ⊤}
 use Rattle.std.specs.List.{flat_map}
 use Rattle.std.proofs.Common.{◌≡◌, ℕ, zero, suc, ◌<◌, ◌^◌, List, [], ◌∷◌, ◌++◌, length, Option, Bool, true, false, ◌&&◌, refl, sym, ap, ◌∙◌, arith, nat_lt}

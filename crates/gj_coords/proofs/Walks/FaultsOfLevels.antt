@@ -63,7 +63,7 @@ none_needed n = grind (arith, nat_tests)
 no_few : (t : Tally) (fault : Option Fault) → fault ≡ lesser (few_in 0 G13 t) fault
 no_few t fault = ap (λ b. lesser (if b then Some (fault_at t.place G13) else None) fault) (sym (none_needed t.count))
 
--- ---- lists of values of which the faults alone are told
+-- ---- lists of values of which the faults alone are reported
 
 abbrev by_fault : {A : Type 0} → (A → Option Fault) → Judgement A
 by_fault fault_of = record { fault_of = fault_of; warned_behind = λ others w a. w }
@@ -127,7 +127,7 @@ second_polygon = list_role second_gathering (λ g. listed g.numbers.tally g.ring
 
 -- ---- the first level
 
--- as if an empty array were judged too
+-- as if an empty array were checked too
 abbrev judged_as : Simple → OuterSummary → Option Fault
 judged_as simple (Other place) = misshapen_at place
 judged_as simple (Level s) = some_fault_in simple s

@@ -1,4 +1,4 @@
--- An array of numbers that is told as one leads where its events lead.
+-- An array of numbers that is reported as one leads where its events lead.
 use Rattle.std.proofs.Common.{◌≡◌, ◌≤◌, ℕ, min, List, ◌++◌, Option, Some, None, Bool, true, false, ◌&&◌, ◌||◌, not, is_none, nat_lt, nat_eq, if◌then◌else◌}
 use Rattle.std.proofs.Common.{refl, sym, ◌∙◌, ap, subst, arith}
 use Rattle.std.specs.Option.{option_map_or}
@@ -7,7 +7,6 @@ use Rattle.gj_json.specs.declared.event.Event.{Event}
 use Rattle.gj_json.specs.declared.flat.Flat.{Flat}
 use Rattle.gj_json.specs.declared.flat.Numbered.{Numbered}
 use Rattle.gj_json.specs.Flat.{number_event, flat_events}
-use Rattle.gj_coords.specs.declared.array.Array.{Array}
 use Rattle.gj_coords.specs.declared.array.Stage.{Stage}
 use Rattle.gj_coords.specs.declared.array.Stage.TheVariants.{Due, Between, Within, Broken, Done}
 use Rattle.gj_coords.specs.declared.element.Element.{Element}
@@ -31,6 +30,7 @@ use Rattle.gj_coords.specs.Internal.LevelGather.{position_machine, third_machine
 use Rattle.gj_coords.specs.Internal.LevelGather.{first_gathering}
 use Rattle.gj_coords.specs.Internal.FlatPosition.{least_place, flat_position, flat_third, flat_second, flat_first, PositionReader, InnerReader, MiddleReader}
 use Rattle.gj_coords.specs.Internal.FlatPosition.{Walk, singly, at_value, in_fourth, in_third, third_due, in_second, second_due, in_first, flat_taken}
+use Rattle.gj_coords.specs.Internal.ArrayLaws.{state}
 use Rattle.gj_coords.proofs.Readers.RestsOfValues.{left}
 use Rattle.gj_coords.proofs.Walks.StatesAlike.{Simulates, reads_alike, SameElement, element_simulates, Alike, array_simulates}
 
@@ -174,9 +174,6 @@ second_simulates = array_simulates third_machine second_gathering ThirdAlike thi
 
 walk_simulates : Simulates walk_machine WalkAlike
 walk_simulates = array_simulates second_machine first_gathering SecondAlike second_simulates
-
-abbrev state : {W G : Type 0} → Stage → G → W → Element → Array W G
-state stage gather item other = record { gather = gather; item = item; other = other; stage = stage }
 
 -- ---- where a position is due
 

@@ -1,4 +1,4 @@
--- What is held of a position that is the whole value tells all that its levels would; and where a few looks show nothing
+-- What is held of a position that is the whole value says all that its levels would; and where a few looks show nothing
 -- worth a warning, there is none.
 use Rattle.std.proofs.Common.{◌≡◌, ℕ, Option, Some, None, Bool, true, false, ◌&&◌, ◌==◌, is_some, is_none, if◌then◌else◌, refl, ap}
 use Rattle.gj_json.specs.declared.flat.Flat.{Flat}
@@ -19,6 +19,7 @@ use Rattle.gj_coords.specs.Internal.GatheredWarnings.{no_warned}
 use Rattle.gj_coords.specs.Internal.PositionGather.{judged_noted, position_closed, sound_noted}
 use Rattle.gj_coords.specs.Internal.LevelGather.{fault_in, some_warned_in, warned_in, warned_as, some_quiet_in, quiet_as}
 use Rattle.gj_coords.specs.Internal.FlatPosition.{flat_count, flat_misshapen, flat_position, flat_first, held_fault, held_warned}
+use Rattle.gj_json.proofs.Truths.{first_of, second_of}
 
 -- ---- a position that is the whole value
 
@@ -81,14 +82,6 @@ flat_warned simple f =
     level_warned simple f.third f.place s.numbers.values s.numbers.precise (flat_misshapen f)
 
 -- ---- a few looks
-
-first_of : (a b : Bool) → (a && b) ≡ true → a ≡ true
-first_of true b e = refl
-first_of false b e = e
-
-second_of : (a b : Bool) → (a && b) ≡ true → b ≡ true
-second_of true b e = e
-second_of false b e = cc
 
 none_of : (o : Option Warnings) → is_none o ≡ true → o ≡ None
 none_of None e = refl

@@ -10,6 +10,7 @@ use Rattle.gj_coords.specs.Internal.ValueMachine.{Machine, Reads}
 use Rattle.gj_coords.specs.Internal.Gathering.{Gathering}
 use Rattle.gj_coords.specs.Internal.ElementReader.{element_machine}
 use Rattle.gj_coords.specs.Internal.ArrayReader.{when_due, within, between, at_stage, ended_at, answered_at, array_machine}
+use Rattle.gj_coords.specs.Internal.ArrayLaws.{state}
 
 -- a relation of states that read alike
 pub record Simulates {S A : Type 0} (m : Machine S A) (R : S → S → Type 0) : Type 0 where
@@ -56,9 +57,6 @@ pub record Alike {W G : Type 0} (R : W → W → Type 0) (s t : Array W G) : Typ
   pub gather : SameGather s.stage s.gather t.gather
   pub item : R s.item t.item
   pub other : s.other ≡ t.other
-
-abbrev state : {W G : Type 0} → Stage → G → W → Element → Array W G
-state stage gather item other = record { gather = gather; item = item; other = other; stage = stage }
 
 same_gather : {G : Type 0} (stage : Stage) (g : G) → SameGather stage g g
 same_gather Due g = tt

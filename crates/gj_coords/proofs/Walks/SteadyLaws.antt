@@ -1,7 +1,8 @@
--- Where a walk is steady, a position that is told as one changes only what is gathered of positions, and their count.
+-- Where a walk is steady, a position that is reported as one changes only what is gathered of positions, and their count.
 use Rattle.std.proofs.Common.{◌≡◌, ℕ, zero, suc, ◌<◌, ◌≤◌, min, Option, Some, None, Bool, true, false, ◌&&◌, nat_lt, if◌then◌else◌, refl, sym, ◌∙◌, ap, subst}
 use Rattle.std.proofs.Common.{arith}
 use Rattle.std.proofs.lemmas.Bool.Decides.{nat_tests}
+use Rattle.std.proofs.Math.Bool.{and-false}
 use Rattle.gj_json.specs.declared.event.What.{What}
 use Rattle.gj_json.specs.declared.flat.Flat.{Flat}
 use Rattle.gj_json.specs.declared.flat.Numbered.{Numbered}
@@ -60,16 +61,12 @@ kept_misshapen floor fault f k p = kept_fault floor fault (least_place f) G11 k 
 
 -- ---- the numbers
 
-few_not : (b : Bool) → (b && false) ≡ false
-few_not true = refl
-few_not false = refl
-
 settled_kept : (floor place : ℕ) (n : Numbers) → IsSettled floor n → floor < place → number_added n (event_at place What.OpenArray) ≡ array_counted n
 settled_kept floor place n k h =
     let build : Option Fault → Bool → Numbers = λ fault precise.
     record (array_counted n) { fault = fault; precise = precise_with precise place n.precise } in
     ap (λ x. build x (nat_lt n.values.count 3 && false)) (kept_fault floor n.fault place G11 k.fault h) ∙
-    ap (λ x. build n.fault x) (few_not (nat_lt n.values.count 3))
+    ap (λ x. build n.fault x) (and-false (nat_lt n.values.count 3))
 
 -- and stays so
 least_next : (b : Bool) (n : ℕ) → 3 ≤ n → min 3 (if b then suc n else n) ≡ 3

@@ -5,7 +5,7 @@ use Rattle.gj_coords.specs.declared.winding.Turn.{Turn}
 use Rattle.gj_coords.specs.declared.winding.Turn.TheVariants.{Left, Right, Unjudged}
 use Rattle.gj_coords.specs.Winding.{area_of, sign_of, same_turn}
 
--- one corner more in front
+-- one corner more before the others
 abbrev pub with_corner : Option Corner → Option (List Corner) → Option (List Corner)
 with_corner (Some corner) (Some corners) = Some (corner ∷ corners)
 with_corner _ _ = None

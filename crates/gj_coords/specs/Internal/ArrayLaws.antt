@@ -19,7 +19,7 @@ use Rattle.gj_coords.specs.Internal.ElementLaws.{element_answers}
 use Rattle.gj_coords.specs.Internal.ArrayReader.{array_machine}
 
 -- a state by its fields
-abbrev state : {W G : Type 0} → Stage → G → W → Element → Array W G
+abbrev pub state : {W G : Type 0} → Stage → G → W → Element → Array W G
 state stage gather item other = record { gather = gather; item = item; other = other; stage = stage }
 
 -- what is left of a value that is no array

@@ -15,7 +15,7 @@ abbrev pub when_due : {W G A B : Type 0} → Gathering G A B → What → Array 
 when_due r What.OpenArray s e = record s { stage = Between; gather = r.opened e.place }
 when_due r _ s e = record s { stage = Broken; other = element_machine.after s.other e }
 
--- behind an event of an element
+-- after an event of an element
 abbrev pub behind : {W G A B : Type 0} → Machine W A → Gathering G A B → Array W G → W → Array W G
 behind m r s item =
     if m.ended item then record s { stage = Between; gather = r.added s.gather (m.answered item); item = m.again item } else record s

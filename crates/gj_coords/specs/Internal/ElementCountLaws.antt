@@ -1,4 +1,4 @@
--- What a count that stops tells of an array, and what a gathering of faults tells of its elements.
+-- What a count that stops says of an array, and what a gathering of faults says of its elements.
 use Rattle.std.specs.Prelude.{◌≡◌, ℕ, suc, ◌+◌, ◌≤◌, List, [], ◌∷◌, ◌++◌, Option, Some, None, refl, length, nat_lt, if◌then◌else◌}
 use Rattle.std.specs.List.{flat_map}
 use Rattle.std.proofs.Common.{arith, sym, ◌∙◌, ap, add-one}

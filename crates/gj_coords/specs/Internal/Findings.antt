@@ -8,10 +8,10 @@ use Rattle.gj_coords.specs.declared.warned.Warned.{Warned}
 use Rattle.gj_coords.specs.Internal.GatheredWarnings.{no_warned, noted_in, taken}
 use Rattle.gj_coords.specs.Internal.PositionGather.{misshapen_at, judged_noted}
 
--- what an answer tells of its value
+-- what an answer says of its value
 pub record Judgement (A : Type 0) : Type 0 where
   pub fault_of : A → Option Fault
-  -- with what is worth a warning in the value, which is an element behind so many others
+  -- with what is worth a warning in the value, which is an element after so many others
   pub warned_behind : ℕ → Warned → A → Warned
 
 abbrev pub position_judged : Judgement Position

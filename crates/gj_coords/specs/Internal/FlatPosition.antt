@@ -1,4 +1,4 @@
--- What each level of a value gathers of a position that is told as one.
+-- What each level of a value gathers of a position that is reported as one.
 use Rattle.std.specs.Prelude.{◌≡◌, ℕ, min, Option, Some, None, true, is_none, if◌then◌else◌, nat_lt}
 use Rattle.gj_number.specs.Exact.{Exact}
 use Rattle.gj_number.specs.Short.{exact_of}

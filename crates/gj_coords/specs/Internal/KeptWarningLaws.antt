@@ -84,7 +84,7 @@ pub joined_noted_comm : (a b : KindWarnings) → joined_noted a b ≡ joined_not
 joined_noted_comm a b = order_of a b _ _ refl refl
 
 -- what is kept of the places of one kind
-abbrev summary : List ℕ → KindWarnings
+abbrev pub summary : List ℕ → KindWarnings
 summary places = noted_as (min (length places) greatest_count) (unwrap_or (least_place places) 0)
 
 lesser_place_assoc : (a b c : Option ℕ) → lesser_place (lesser_place a b) c ≡ lesser_place a (lesser_place b c)
@@ -136,7 +136,7 @@ summary-append (x ∷ xs) [] = ap summary (append-nil (x ∷ xs)) ∙ sym (joine
 summary-append (x ∷ xs) (y ∷ ys) =
     summary_both x xs y ys ∙ sym (joined_both (summary (x ∷ xs)) (summary (y ∷ ys)) (summary_something x xs) (summary_something y ys))
 
-places_of-append : (kind : Kind) (xs ys : List Warning) → places_of kind (xs ++ ys) ≡ places_of kind xs ++ places_of kind ys
+pub places_of-append : (kind : Kind) (xs ys : List Warning) → places_of kind (xs ++ ys) ≡ places_of kind xs ++ places_of kind ys
 places_of-append kind xs ys =
     ap (map (λ w. w.place)) (filter-append (λ w. same_kind w.kind kind) xs ys)
     ∙ map-append (λ w. w.place) (filter (λ w. same_kind w.kind kind) xs) (filter (λ w. same_kind w.kind kind) ys)

@@ -43,7 +43,7 @@ by_kind noted = record {
 abbrev pub kept : Warnings → Kind → KindWarnings
 kept warnings kind = noted_as (of_kind warnings.counts kind) (of_kind warnings.firsts kind)
 
--- how many of a kind there are, and the least place, as they are told
+-- how many of a kind there are, and the least place, as they are reported
 abbrev pub count_in : Kind → Warnings → ℕ
 count_in kind warnings = (kept warnings kind).count
 

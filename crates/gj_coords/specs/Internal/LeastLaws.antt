@@ -6,10 +6,10 @@ use Rattle.gj_coords.specs.declared.fault.Fault.{Fault}
 use Rattle.gj_coords.specs.Fault.{comes_first, lesser, least, number_of}
 
 -- the test on two places and two numbers of rules
-abbrev Tests : ℕ → ℕ → ℕ → ℕ → Bool
+abbrev pub Tests : ℕ → ℕ → ℕ → ℕ → Bool
 Tests p r q s = nat_lt p q || (nat_eq p q && nat_le r s)
 
-goes_on : (p r q s t u : ℕ) → Tests p r q s ≡ true → Tests q s t u ≡ true → Tests p r t u ≡ true
+pub goes_on : (p r q s t u : ℕ) → Tests p r q s ≡ true → Tests q s t u ≡ true → Tests p r t u ≡ true
 goes_on p r q s t u h k = grind (arith, nat_tests)
 
 stays_out : (p r q s t u : ℕ) → Tests p r q s ≡ false → Tests q s t u ≡ false → Tests p r t u ≡ false

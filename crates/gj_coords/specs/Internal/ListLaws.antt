@@ -1,4 +1,4 @@
--- The reader of a list tells its least fault.
+-- The reader of a list reports its least fault.
 use Rattle.std.specs.Prelude.{◌≡◌, ℕ, ◌≤◌, refl}
 use Rattle.std.specs.List.{flat_map}
 use Rattle.gj_json.specs.Tree.{Tree, constant, number, string, array, object}

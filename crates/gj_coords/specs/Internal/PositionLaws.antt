@@ -1,4 +1,4 @@
--- The reader of a position tells its least fault and its first values.
+-- The reader of a position reports its least fault and its first values.
 use Rattle.std.specs.Prelude.{◌≡◌, ℕ, zero, suc, ◌+◌, List, [], ◌∷◌, ◌++◌, Option, Some, None, Bool, true, false, ◌&&◌, if◌then◌else◌, is_some, refl, map, take}
 use Rattle.std.specs.Prelude.{drop, nat_lt}
 use Rattle.std.specs.List.{flat_map}

@@ -1,4 +1,4 @@
--- The reader of a position tells what is worth a warning in it.
+-- The reader of a position reports what is worth a warning in it.
 use Rattle.std.specs.Prelude.{◌≡◌, ℕ, zero, suc, ◌+◌, List, [], ◌∷◌, ◌++◌, Option, Some, None, is_none, is_some, Bool, true, false, ◌&&◌, not, refl, take}
 use Rattle.std.specs.Prelude.{length, nat_lt, if◌then◌else◌}
 use Rattle.std.specs.List.{flat_map}
@@ -81,7 +81,7 @@ none_or_some : (corner : Option Corner) → is_none corner ≡ not (is_some corn
 none_or_some None = refl
 none_or_some (Some corner) = refl
 
--- three lists, one behind the other
+-- three lists, one after another
 three_noted : (w : Warned) (place count : ℕ) (corner : Option Corner) (precise : KindWarnings) (long outside : Bool) (numbers : List Warning) →
     nat_lt 3 count ≡ long → is_none corner ≡ outside → ((a : Warnings) → with_noted a W4 precise ≡ joined a (warnings_of numbers)) →
     all_in (position_noted w place count corner precise) ≡ joined (all_in w) (warnings_of (warned_if long place W3 ++ (warned_if outside place W5 ++ numbers)))

@@ -30,7 +30,7 @@ abbrev pub first_or : Option Values → Values → Values
 first_or None values = values
 first_or (Some first) values = first
 
--- a position without a fault behind others without one
+-- a position without a fault after others without one
 abbrev pub sound_joined : Positions → Values → Option Corner → Positions
 sound_joined s values corner = record s {
   first = Some (first_or s.first values);
@@ -71,7 +71,7 @@ ring_gathering = record {
 
 -- ---- what is worth a warning in a linear ring
 
--- the first ring of a polygon is the exterior one, and those behind it are holes
+-- the first ring of a polygon is the exterior one, and those after it are holes
 abbrev pub role_behind : ℕ → RingRole
 role_behind zero = Exterior
 role_behind (suc n) = Hole
@@ -84,7 +84,7 @@ runs_wrong Hole turn = wrong_for_hole turn
 abbrev pub ring_noted : RingRole → Warned → ℕ → Option Fault → Turn → Warned → Warned
 ring_noted role w place fault turn positions = taken (noted_when (is_none fault && runs_wrong role turn) w W2 place) positions
 
--- as a ring of a polygon behind so many others
+-- as a ring of a polygon after so many others
 abbrev pub ring_judged : Judgement LinearRing
 ring_judged = record {
   fault_of = λ ring. ring.fault;

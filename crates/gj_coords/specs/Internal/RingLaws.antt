@@ -1,4 +1,4 @@
--- The reader of a linear ring tells its least fault.
+-- The reader of a linear ring reports its least fault.
 use Rattle.std.specs.Prelude.{◌≡◌, ℕ, List, [], ◌∷◌, ◌++◌, Option, Some, None, is_none, Bool, true, false, ◌&&◌, not, refl, if◌then◌else◌}
 use Rattle.std.specs.List.{flat_map}
 use Rattle.std.proofs.Common.{arith, sym, ◌∙◌, ap, append-nil}

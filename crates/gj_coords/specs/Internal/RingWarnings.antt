@@ -1,4 +1,4 @@
--- What the reader of some positions tells of them: what is worth a warning, and how they run as a linear ring.
+-- What the reader of some positions reports of them: what is worth a warning, and how they run as a linear ring.
 use Rattle.std.specs.Prelude.{◌≡◌, ◌<◌, ◌^◌, List, [], ◌∷◌, Option, Some, None, true, refl, map, length}
 use Rattle.std.specs.List.{flat_map}
 use Rattle.std.proofs.Common.{◌∙◌, ap}

@@ -1,4 +1,4 @@
--- Where a position that is told as one changes nothing but what is gathered of positions, and their count.
+-- Where a position that is reported as one changes nothing but what is gathered of positions, and their count.
 use Rattle.std.specs.Prelude.{◌≡◌, ℕ, min, ◌<◌, ◌≤◌, Option, Some, None, Bool, true, false}
 use Rattle.gj_json.specs.declared.flat.Flat.{Flat}
 use Rattle.gj_json.specs.declared.flat.Numbered.{Numbered}
@@ -80,7 +80,7 @@ IsSteady Second floor s = IsSecond floor s
 IsSteady Third floor s = IsThird floor s
 IsSteady OrEmpty floor s = ⊥
 
--- what a position more, which is told as one, then changes
+-- what a position more, which is reported as one, then changes
 abbrev pub third_steady : Flat → InnerArray → InnerArray
 third_steady f s = record s { numbers = array_counted s.numbers; positions = position_added s.positions (flat_position f) }
 
@@ -101,7 +101,7 @@ pub record IsPast (floor : ℕ) (position : Flat) : Type 0 where
   pub second : floor < position.second.place
   pub third : IsThirdPast floor position.third
 
--- it is a position that was told as one
+-- it is a position that was reported as one
 abbrev pub is_whole : Depth → Bool
 is_whole OrEmpty = true
 is_whole _ = false

@@ -38,7 +38,7 @@ pub record IsSmall (corner : Corner) : Type 0 where
   pub x : FitsSigned w32 corner.x
   pub y : FitsSigned w32 corner.y
 
--- the last of a corner and those behind it
+-- the last of a corner and those after it
 abbrev pub last_from : Corner → List Corner → Corner
 last_from a [] = a
 last_from a (b ∷ more) = last_from b more

@@ -22,7 +22,7 @@ use Rattle.gj_coords.specs.Internal.AllCorners.{with_corner, all_corners, turn_o
 use Rattle.gj_coords.specs.Internal.WindingGather.{no_winding, term_of, corner_added, winding_added, all_added, turn_in, last_from, last_corner, IsSmall, Runs}
 use Rattle.gj_coords.specs.Internal.WindingGather.{HasRun, StandsFor}
 
--- ---- one corner behind the others
+-- ---- one corner after the others
 
 swapped : (a b : ℤ) → a +ℤ b ≡ b +ℤ a
 swapped a b = omega (arith, ints)

@@ -10,11 +10,11 @@ use Rattle.gj_json.specs.Grammar.{Then, letters_of, Spells, SpellsElements, Spel
 use Rattle.gj_json.specs.Text.{IsText, SpellsMark}
 use Rattle.gj_json.specs.Events.{Timed, timed, events, elements_events, members_events, mark_events, text_events, all_events}
 
--- what stands behind something is no longer than both
+-- what stands after something is no longer than both
 rest_fits : {First Rest : ℕ → List ℕ → Type 0} {start : ℕ} {bytes : List ℕ} (h : Then First Rest start bytes) → length h.first + length h.rest ≤ length bytes
 rest_fits h = rw (h.joined, length-append h.first h.rest) (omega arith)
 
--- and one byte shorter behind a byte
+-- and one byte shorter after a byte
 behind_byte : {Rest : ℕ → List ℕ → Type 0} {start : ℕ} {bytes : List ℕ} (b : ℕ) (h : Then (λ n xs. xs ≡ b ∷ []) Rest start bytes)
     → length h.rest + 1 ≤ length bytes
 behind_byte b h = let e : length h.first ≡ 1 = ap length h.before in let f = rest_fits h in omega arith

@@ -1,4 +1,4 @@
--- Which events are complete in a front of a text.
+-- Which events are complete in a prefix of a text.
 use Rattle.std.proofs.Common.{◌≡◌, ℕ, ◌+◌, ◌≤◌, ◌<◌, Bool, true, false, if◌then◌else◌, nat_le, List, [], ◌∷◌, ◌++◌, length, map, refl, ap, arith}
 use Rattle.std.proofs.lemmas.Bool.Decides.{nat_tests}
 use Rattle.std.specs.List.{AllByRecursion}
@@ -57,7 +57,7 @@ in_time_on m n (x ∷ xs) l h = (omega (arith, h.0), in_time_on m n xs l h.1)
 
 -- ---- what is spelled later is complete later
 
-constant_long : (which : Constant) → 0 < length (letters_of which)
+pub constant_long : (which : Constant) → 0 < length (letters_of which)
 constant_long Null = omega arith
 constant_long True = omega arith
 constant_long False = omega arith

@@ -353,7 +353,7 @@ module _ (value : Option Exact) (words : Words) where
   two_tells start n true e = (ap (λ k. timed (k + 1) 0 What.Mark ∷ []) (sym e), (tt, tt))
   two_tells start n false e = tt
 
-  -- what a byte tells, from what the reader keeps
+  -- what a byte reports, from what the reader keeps
   pub step_tells : (state : Broken) (mode : Mode) (turn : NumberTurn) (levels : List Level) (start n b : ℕ) → StandsAs state mode levels
       → Turns (under_of state) b turn → HasValue (under_of state) turn value → HasWords (under_of state) words → EdgeAt state start n
       → Tells (seen state) (start_after mode start n) n (emitted mode turn (move_of mode turn (inner_of levels) words b) value start n) (step state n b)

@@ -204,7 +204,7 @@ none_under nothing may_end value e = tt
 none_under (text_under so_far state) may_end value e = tt
 none_under (number_under so_far) may_end value e = cc
 
--- behind a value that nothing is around
+-- after a value that nothing is around
 pub whole_ends : (reader : Reader) (bytes : List ℕ) → reader.fault ≡ None → reader.mode ≡ ValueDone → inner_of (levels_in reader.levels) ≡ None
     → StandsFor reader bytes → Ends reader.limits reader.offset bytes (Some None)
 whole_ends reader bytes live done outer h =

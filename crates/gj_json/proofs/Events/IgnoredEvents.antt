@@ -118,7 +118,7 @@ module _ (floor : ℕ) where
         (byte_within mid new b result (rw e h) t).0;
   }
 
--- what was told within is heard so, where that does not matter
+-- what was reported within is heard so, where that does not matter
 pub feeds_by : {before within after : List Event → Type 0} (old new : Reader) (given : List ℕ)
     → ((events inner : List Event) → before events → within inner → after (events ++ inner)) → Feeds (λ events. events ≡ []) within old new given
     → Feeds before after old new given
@@ -146,7 +146,7 @@ pub to_as : {before after : List Event → Type 0} (m n : ℕ) (old new : Reader
 to_as {before} m n old new given fault passes f =
     record { feeds = feeds_by {before = before} {within = λ events. Leaves m events n} old new given passes f.feeds; refused = f.refused }
 
--- where no level has opened or closed, nothing was told so far
+-- where no level has opened or closed, nothing was reported so far
 nothing_yet : (floor : ℕ) (old mid : Reader) (events : List Event) → mid.levels ≡ old.levels → events ≡ [] → Leaves (above floor old) events (above floor mid)
 nothing_yet floor old mid events e h = rw h (ap (λ ls. length (levels_in ls) - floor) (sym e))
 

@@ -26,13 +26,13 @@ front_late : (n : ℕ) (xs ys : List Timed) → Late n (xs ++ ys) → Late n xs 
 front_late n [] ys h = (tt, h)
 front_late n (x ∷ xs) ys h = let g = front_late n xs ys h.1 in ((h.0, g.0), g.1)
 
-shut : (n place close : ℕ) → close + 1 ≤ n → is_open n place close ≡ 0
+pub shut : (n place close : ℕ) → close + 1 ≤ n → is_open n place close ≡ 0
 shut n place close h = let e : (nat_lt place n && nat_le n close) ≡ false = grind (arith, nat_tests) in rw e refl
 
 unopened : (n place close : ℕ) → n < place + 1 → is_open n place close ≡ 0
 unopened n place close h = let e : (nat_lt place n && nat_le n close) ≡ false = grind (arith, nat_tests) in rw e refl
 
-opened : (n place close : ℕ) → place + 1 ≤ n → n < close + 1 → is_open n place close ≡ 1
+pub opened : (n place close : ℕ) → place + 1 ≤ n → n < close + 1 → is_open n place close ≡ 1
 opened n place close h k = let e : (nat_lt place n && nat_le n close) ≡ true = grind (arith, nat_tests) in rw e refl
 
 mutual

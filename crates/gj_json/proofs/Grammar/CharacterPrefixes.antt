@@ -42,7 +42,7 @@ tail_goes (suc more) bounds lb value lv left b [] h l u =
 tail_goes zero bounds lb value lv left b (c ∷ bytes) h l u = absurd h
 tail_goes (suc more) bounds lb value lv left b (c ∷ bytes) h l u = (h.0, h.1, tail_goes more Any lb (value * 64 + c % 64) lv left b bytes h.2 l u)
 
--- what the machine's step by b says, behind these bytes of a character
+-- what the machine's step by b says, after these bytes of a character
 abbrev pub Begun : List ℕ → ℕ → StringStep → Type 0
 Begun bytes b string_ends = (bytes ≡ []) × (b ≡ quote_byte)
 Begun bytes b (string_goes [] next) = BeginsCharacter next (bytes ++ b ∷ [])

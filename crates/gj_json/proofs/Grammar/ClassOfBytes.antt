@@ -3,7 +3,7 @@ use Rattle.std.proofs.Common.{◌≡◌, ℕ, ◌==◌, ◌⊎◌, inl, inr, Boo
 use Rattle.std.proofs.lemmas.Bool.Decides.{nat_tests, eqb_tells}
 use Rattle.gj_json.specs.Bytes.{carriage_return, close_brace, close_bracket, colon as colon_byte, comma as comma_byte, line_feed, minus_sign, nine_digit}
 use Rattle.gj_json.specs.Bytes.{open_brace, open_bracket, quote as quote_byte, space, tab, zero_digit as zero_byte}
-use Rattle.gj_json.specs.Internal.NamedBytes.{letter_f, letter_n, letter_t}
+use Rattle.gj_json.specs.Internal.NamedBytes.{letter_f, letter_n, letter_t, mark_first}
 use Rattle.gj_json.specs.Bytes.{IsDigit}
 use Rattle.gj_number.specs.Bytes.{IsNumberByte, plus_sign, decimal_point, lower_e, upper_e}
 use Rattle.gj_number.specs.Grammar.{BeginsNumber}
@@ -81,3 +81,8 @@ number_classes b h = elim h [
   | inr (inr (inr (inr (inl e)))) ↦ inr (at b lower_e other refl e)
   | inr (inr (inr (inr (inr e)))) ↦ inr (at b upper_e other refl e)
 ]
+
+-- the first byte of a mark is of none of the classes that are named
+pub class_mark : (b : ℕ) → b ≡ mark_first → class_of b ≡ other
+unfolding class_of
+class_mark b e = rw e refl

@@ -128,7 +128,7 @@ unicode_taken xs n b u h0 h1 h2 h3 =
 pub character_read : (bytes : List ℕ) → IsCharacter bytes → AreCharacters bytes
 character_read bytes h = (h.0 ∷ [], as_read bytes (h.0 ∷ []) Plain (content_on bytes (h.0 ∷ []) (bytes, [], sym (append-nil bytes), h.1, refl)))
 
--- as are those that a count tells, where it may tell of none
+-- as are those that a count says, where it may say none
 pub characters_read_at : (piece : List ℕ) (n : ℕ) → (0 < n → IsCharacter (take n piece)) → AreCharacters (take n piece)
 characters_read_at piece zero h = ([], (refl, refl))
 characters_read_at piece (suc n) h = character_read (take (suc n) piece) (h (omega arith))

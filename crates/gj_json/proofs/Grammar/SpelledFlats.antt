@@ -30,7 +30,7 @@ item_is numbered start before digits behind w p v x = record {
 pub no_more : (b n : ℕ) → b ≡ close_bracket → IsMore [] n n (b ∷ [])
 no_more b n e = record { elements = end_of_array; spelled = (ap (λ x. x ∷ []) e, refl); flat = refl; told = refl }
 
--- an item, and what stands behind it
+-- an item, and what stands after it
 behind_item : {K : ℕ → List ℕ → Type 0} (numbered : Numbered) (n : ℕ) (xs ys : List ℕ) (i : IsItem numbered n xs) → K (n + length xs) ys
     → Then White (Then (Spells (number numbered.place i.literal i.end)) (Then White K)) n (xs ++ ys)
 behind_item {K} numbered n xs ys i k =

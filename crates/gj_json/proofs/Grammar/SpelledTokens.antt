@@ -46,7 +46,7 @@ leads_joined : (a b c : Mode) (xs ys : List ℕ) → Leads a xs b → Leads b ys
 leads_joined a b c [] ys h g = let P : Mode → Type 0 = λ m. Leads m ys c in subst P (sym h) g
 leads_joined a b c (x ∷ xs) ys h g = (h.0, h.1, leads_joined h.0 b c xs ys h.2 g)
 
-colon_by : LeadsBy ColonDue colon_byte ValueDue
+pub colon_by : LeadsBy ColonDue colon_byte ValueDue
 colon_by = record { moves = λ turn inner words. rw (class_is colon_class colon_byte refl (λ e. cc)) refl; on = refl }
 
 -- a colon, and white space around it

@@ -9,7 +9,7 @@ use Rattle.gj_json.specs.declared.mode.Bounds.TheVariants.{Any, AfterE0, AfterED
 use Rattle.gj_json.specs.Characters.{IsUtf8}
 use Rattle.gj_json.specs.Utf8Bytes.{Lead, lead, lead_of, low_of, high_of}
 
--- the bytes of a character behind its first, of which so many follow the next, which lies within the bounds
+-- the bytes of a character after its first, of which so many follow the next, which lies within the bounds
 abbrev pub IsTail : ℕ → Bounds → ℕ → ℕ → List ℕ → Type 0
 IsTail zero bounds value c bytes = (b : ℕ) × (bytes ≡ b ∷ []) × (low_of bounds ≤ b) × (b ≤ high_of bounds) × (c ≡ value * 64 + b % 64)
 IsTail (suc more) bounds value c bytes =

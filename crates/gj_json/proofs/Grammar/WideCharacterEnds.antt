@@ -97,7 +97,7 @@ follows p a h = or_true (leb 0xC2 a) (leb 0xE0 p) (large 0xE0 p h)
 
 -- ---- some bytes
 
--- how many of them are whole characters, by what stands behind them and before that
+-- how many of them are whole characters, by what stands after them and before that
 record Whole (p : ℕ) (xs : List ℕ) (n : ℕ) : Type 0 where
   pub k : ℕ
   pub characters : AreCharacters (take k xs)
@@ -249,7 +249,7 @@ whole p (a ∷ b ∷ c ∷ d ∷ xs) (suc (suc (suc n))) l f w none =
           )
     ]
 
--- ---- behind a first character
+-- ---- after a first character
 
 module _ (piece : List ℕ) (first n : ℕ) (some : 0 < first) (within : first < length piece) (character : IsCharacter (take first piece))
     (last : get_or piece (first - 1) 0 ≤ 0xBF) (begins : is_tail (get_or piece first 0) ≡ false)

@@ -1,4 +1,4 @@
--- Which number or string is under way behind a byte.
+-- Which number or string is under way after a byte.
 use Rattle.std.proofs.Common.{◌≡◌, ℕ, ◌+◌, ◌==◌, Bool, true, false, if◌then◌else◌, List, [], ◌∷◌, ◌++◌, Option, Some, None, refl, sym, subst, ◌∙◌}
 use Rattle.gj_json.specs.Internal.NamedBytes.{mark_first, mark_second, mark_third}
 use Rattle.gj_json.specs.declared.class.Class.{Class}
@@ -174,7 +174,7 @@ run_begun (b ∷ bytes) s last n u e = go (λ next. run_begun bytes next last (n
     go on None c f = let g = sym (run_none bytes (n + 1)) ∙ f in cc
     go on (Some next) c f = on next (came_begun (under_of s) b (under_of next) c) f
 
--- ---- the mode tells whether a number is under way
+-- ---- the mode shows whether a number is under way
 
 abbrev pub has_number : Under → Bool
 has_number (number so_far) = true

@@ -4,7 +4,6 @@ use Rattle.std.proofs.Common.{append_assoc, append-nil, eqb-true}
 use Rattle.gj_json.specs.Bytes.{colon as colon_byte, open_brace, open_bracket, quote as quote_byte}
 use Rattle.gj_json.specs.Internal.NamedBytes.{mark_first, mark_second, mark_third}
 use Rattle.gj_json.specs.declared.constant.Constant.{Constant}
-use Rattle.gj_json.specs.declared.constant.Constant.TheVariants.{Null, True, False}
 use Rattle.gj_json.specs.Tree.{Text, Tree, constant, number, string, array, object, end_of_array, element, Members, end_of_object, member}
 use Rattle.gj_json.specs.Grammar.{Then, White, Exactly, Ends, Quoted, letters_of, Spells, SpellsElements, SpellsMembers, SpellsMoreMembers}
 use Rattle.gj_json.specs.Text.{SpellsMark}
@@ -13,7 +12,7 @@ use Rattle.gj_json.specs.declared.class.Class.{Class}
 use Rattle.gj_json.specs.declared.class.Class.TheVariants.{White as white, OpenArray as open_array, CloseArray as close_array, OpenObject as open_object}
 use Rattle.gj_json.specs.declared.class.Class.TheVariants.{CloseObject as close_object, Comma as comma, Colon as colon, Quote as quote}
 use Rattle.gj_json.specs.declared.class.Class.TheVariants.{NumberStart as number_start, Letter as letter, Other as other}
-use Rattle.gj_json.specs.Internal.ByteClasses.{class_of, Means, first_letter}
+use Rattle.gj_json.specs.Internal.ByteClasses.{class_of, Means}
 use Rattle.gj_json.proofs.Grammar.ClassOfBytes.{means}
 use Rattle.gj_json.proofs.Grammar.SpelledForms
 use Rattle.gj_number.proofs.Grammar.DecidedNumbers.{number as decided_number}
@@ -23,23 +22,14 @@ use Rattle.gj_json.specs.Internal.TextMachine.{Broken, text_due, mark_one, mark_
 use Rattle.gj_json.specs.Internal.TextMachine.{begin_value, after_value, value_due, value_done, array_opened, object_opened, constant_on}
 use Rattle.gj_json.specs.Internal.TextMachine.{number_on as number_on_leaf, string_on, name_due, name_on as name_on_leaf, colon_due, step_value_due}
 use Rattle.gj_json.specs.Internal.TextMachine.{step_array_opened, step_object_opened, step_name_due, step_colon_due, step_constant, step_number, step_string}
-use Rattle.gj_json.specs.Internal.TextMachine.{step_name, step_leaf, step, letters_after, back_members, begins_number, is_number, string_next, StringStep}
+use Rattle.gj_json.specs.Internal.TextMachine.{step_name, step_leaf, step, back_members, begins_number, is_number, string_next, StringStep}
 use Rattle.gj_json.specs.Internal.TextMachine.{string_ends, string_goes, string_refuses, to, begin_name}
-use Rattle.gj_json.proofs.Machine.Completions.{TextFrom, After, AfterName, Completes, CompletesFrom, Goes, StringRest, StringOn, Due}
+use Rattle.gj_json.proofs.Machine.Completions.{TextFrom, After, AfterName, Completes, CompletesFrom, Goes, StringRest, StringOn, Due, spelled}
 use Rattle.gj_json.proofs.Grammar.SpelledTexts
-
--- the place that a form begins by is where it stands
-pub placed : {p : ℕ} {F K : ℕ → List ℕ → Type 0} {n : ℕ} {bytes : List ℕ} → Then (λ s bs. (p ≡ s) × F s bs) K n bytes → (p ≡ n) × Then F K n bytes
-placed h = (h.before.0, SpelledForms.joins h.first h.rest h.joined h.before.1 h.after)
 
 -- what stands at a place begins there
 here : {F K : ℕ → List ℕ → Type 0} {n : ℕ} {bytes : List ℕ} → Then F K n bytes → Then (λ s bs. (n ≡ s) × F s bs) K n bytes
 here h = SpelledForms.joins h.first h.rest h.joined (refl, h.before) h.after
-
-spelled : (which : Constant) → letters_of which ≡ first_letter which ∷ letters_after which
-spelled Null = refl
-spelled True = refl
-spelled False = refl
 
 quoted_back : {content : List ℕ} {end : ℕ} {K : ℕ → List ℕ → Type 0} {n b : ℕ} {rest : List ℕ} → b ≡ quote_byte
     → Then (StringOn plain content end) K (n + 1) rest → Then (Quoted n content end) K n (b ∷ rest)

@@ -1,4 +1,4 @@
--- Nothing is left to the end of a text only behind a value that nothing is around.
+-- Nothing is left to the end of a text only after a value that nothing is around.
 use Rattle.std.proofs.Common.{◌≡◌, ℕ, Bool, true, false, not, List, [], ◌∷◌, ◌++◌, length, Option, Some, None, refl, sym, ap, ◌∙◌, arith}
 use Rattle.std.specs.Option.{is_some}
 use Rattle.std.proofs.lemmas.List.{length-append}

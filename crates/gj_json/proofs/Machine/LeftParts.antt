@@ -39,7 +39,7 @@ text_extends mark_one T n bytes h = h.0
 text_extends mark_two T n bytes h = h.0
 text_extends (begun marked s) T n bytes h = (h.0, leaf_extends s.stack s.leaf T.value n bytes h.1)
 
--- a text is the state that its front leads to, with what is under way ended and what is open closed
+-- a text is the state that its prefix leads to, with what is under way ended and what is open closed
 pub run_extends : (bytes rest : List ℕ) (T : Text) (s : Broken) → run bytes ≡ Some s → IsText T (bytes ++ rest) → Extends s T
 run_extends bytes rest T s e h =
     let g = text_goes_on T bytes rest h in

@@ -1,4 +1,4 @@
--- The refusal of an input is told by its longest front that is viable, and there is one refusal or an admitted text.
+-- The refusal of an input is decided by its longest prefix that is viable, and there is one refusal or an admitted text.
 use Rattle.std.proofs.Common.{◌≡◌, ◌≢◌, ℕ, zero, suc, ◌+◌, ◌≤◌, ◌<◌, ◌⊎◌, ◌↔◌, inl, inr, min, List, [], ◌∷◌, ◌++◌, length, take, drop, get_or, Bool, true}
 use Rattle.std.proofs.Common.{false, if◌then◌else◌, Option, Some, None, refl, sym, ap, subst, ◌∙◌, arith, append_assoc, drop-cons}
 use Rattle.std.proofs.lemmas.List.{length-append, length-take-le, take_at, take-take, take_all, take-append-drop, append-nil}
@@ -18,20 +18,16 @@ use Rattle.gj_json.specs.Broken.{broken_depth}
 use Rattle.gj_json.proofs.Machine.CompletableStates.{FitsRun, viable_fits, fits_viable}
 use Rattle.gj_json.proofs.Machine.StateDepths.{broken_fits, fit_broken}
 use Rattle.gj_json.proofs.Machine.ReachedStates.{reached}
-use Rattle.gj_json.proofs.Machine.Completions.{Goes, TextFrom}
-use Rattle.gj_json.proofs.Readers.ReadBytes.{some_viable, well_viable}
-use Rattle.gj_json.proofs.Machine.MachineTexts.{text_goes_on, Finishes, text_finishes, finishes_text}
+use Rattle.gj_json.proofs.Readers.ReadBytes.{some_viable, well_viable, none_viable}
+use Rattle.gj_json.proofs.Machine.MachineTexts.{Finishes, text_finishes, finishes_text}
 
--- ---- what is viable is told by the machine's run
-
-refused : (bytes : List ℕ) → run bytes ≡ None → IsViable bytes → ⊥
-refused bytes e v = let g = text_goes_on v.1 bytes v.0 v.2 in let k : Goes (TextFrom v.1 (length bytes) v.0) None = rw e at g in k
+-- ---- what is viable is shown by the machine's run
 
 pub viable_or_not : (d : ℕ) (bytes : List ℕ) → IsViableWithin d bytes ⊎ (IsViableWithin d bytes → ⊥)
 viable_or_not d bytes = go (run bytes) refl
   where
     go : (o : Option Broken) → run bytes ≡ o → IsViableWithin d bytes ⊎ (IsViableWithin d bytes → ⊥)
-    go None e = inr (λ v. refused bytes e (v.0, v.1, v.2.0))
+    go None e = inr (λ v. none_viable bytes e (v.0, v.1, v.2.0))
     go (Some s) e = elim (leb_tells (broken_depth s) d) [
       | inl l ↦ inl (well_viable d bytes s e (fit_broken d s l.1))
       | inr l ↦ inr (λ v. let f : FitsRun d (Some s) = (let g = viable_fits d bytes v in rw e at g) in omega (arith, l.1, broken_fits d s f))
@@ -41,7 +37,7 @@ pub any_viable_or_not : (bytes : List ℕ) → IsViable bytes ⊎ (IsViable byte
 any_viable_or_not bytes = go (run bytes) refl
   where
     go : (o : Option Broken) → run bytes ≡ o → IsViable bytes ⊎ (IsViable bytes → ⊥)
-    go None e = inr (refused bytes e)
+    go None e = inr (none_viable bytes e)
     go (Some s) e = let r = reached bytes s e in inl (some_viable (r.depth + 0) bytes s e (r.fits 0))
 
 finish_fits : (d : ℕ) (stack : List Frame) (leaf : Leaf) (T : Tree) (n : ℕ) → finish_leaf stack leaf n ≡ Some T → FitsLeaf d stack leaf → depth T ≤ d
@@ -83,7 +79,7 @@ text_or_not bytes = go (run bytes) refl
     go None e = inr (λ text h. let g = text_finishes text bytes h in let k : Finishes text (length bytes) None = rw e at g in k)
     go (Some s) e = ends (finish s (length bytes)) s e refl
 
--- ---- fronts
+-- ---- prefixes
 
 pub front_viable : (d : ℕ) (bytes more : List ℕ) → IsViableWithin d (bytes ++ more) → IsViableWithin d bytes
 front_viable d bytes more v = (more ++ v.0, v.1, ((rw append_assoc at v.2.0), v.2.1))
@@ -95,7 +91,7 @@ shorter_viable d m n bytes l v =
     let P : List ℕ → Type 0 = λ xs. IsViableWithin d xs in
     front_viable d (take m bytes) (drop m (take n bytes)) (subst P e v)
 
--- the longest viable front among those of n bytes at most
+-- the longest viable prefix among those of n bytes at most
 abbrev Best : ℕ → List ℕ → ℕ → Type 0
 Best d bytes n = (k : ℕ) × (k ≤ n) × IsViableWithin d (take k bytes) × ((m : ℕ) → m ≤ n → IsViableWithin d (take m bytes) → m ≤ k)
 
@@ -123,7 +119,7 @@ some_longest limits bytes =
 pub one_longest : (limits : Allowed) (bytes : List ℕ) (k m : ℕ) → IsLongest limits bytes k → IsLongest limits bytes m → k ≡ m
 one_longest limits bytes k m a b = omega (arith, a.longest m b.within b.allowed b.viable, b.longest k a.within a.allowed a.viable)
 
--- ---- where a byte is refused
+-- ---- where a byte is none_viable
 
 pub record Fronts (bytes good : List ℕ) (byte place : ℕ) : Type 0 where
   pub before : take place bytes ≡ good
@@ -150,7 +146,7 @@ stops limits bytes k l v = record {
   viable = v;
 }
 
--- the first k bytes are viable, and no front that is longer
+-- the first k bytes are viable, and no prefix that is longer
 longest_at : (limits : Allowed) (bytes : List ℕ) (k : ℕ) → k ≤ length bytes → k ≤ limits.bytes → IsViableWithin limits.depth (take k bytes)
     → (IsViableWithin limits.depth (take (k + 1) bytes) → ⊥) → IsLongest limits bytes k
 longest_at limits bytes k l m v never = record {
@@ -167,7 +163,7 @@ stop_viable : (limits : Allowed) (bytes : List ℕ) (place : ℕ) → Stops limi
 stop_viable limits bytes place s = let f = fronts limits bytes place s in let P : List ℕ → Type 0 =
     λ xs. IsViableWithin limits.depth xs in subst P (sym f.before) s.viable
 
--- a refusal is at the end of the longest viable front
+-- a refusal is at the end of the longest viable prefix
 pub refused_longest : (limits : Allowed) (bytes : List ℕ) (cause : Cause) (place : ℕ) → RefusedFor cause limits bytes place → IsLongest limits bytes place
 refused_longest limits bytes Syntax place r =
     let f = fronts limits bytes place r.0 in

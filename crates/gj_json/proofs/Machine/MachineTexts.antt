@@ -50,7 +50,7 @@ start_text T bytes h =
     let P : Tree → Type 0 = λ t. Then (SpellsMark T.marked) (Then White (Then (Spells t) White)) 0 bytes in
     subst P (sym e) (SpelledForms.joins g.first g.rest g.joined g.before (SpelledForms.rebuilt w w.after.after.0))
 
--- The main lemma: a text goes on from the state that its front leads to.
+-- The main lemma: a text goes on from the state that its prefix leads to.
 pub text_goes_on : (T : Text) (bytes rest : List ℕ) → IsText T (bytes ++ rest) → Goes (TextFrom T (length bytes) rest) (run bytes)
 text_goes_on T bytes rest h =
     let e : 0 + length bytes ≡ length bytes = omega arith in

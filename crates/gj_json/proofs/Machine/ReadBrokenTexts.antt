@@ -6,18 +6,18 @@ use Rattle.gj_json.specs.Bytes.{comma as comma_byte}
 use Rattle.gj_json.specs.Internal.NamedBytes.{mark_first, mark_second, mark_third}
 use Rattle.gj_json.specs.declared.constant.Constant.{Constant}
 use Rattle.gj_json.specs.declared.constant.Constant.TheVariants.{Null, True, False}
-use Rattle.gj_json.specs.declared.class.Class.TheVariants.{Letter as letter, Other as other}
+use Rattle.gj_json.specs.declared.class.Class.TheVariants.{Letter as letter}
 use Rattle.gj_json.specs.declared.mode.StringState.{StringState}
 use Rattle.gj_json.specs.declared.mode.StringState.TheVariants.{Plain as plain}
 use Rattle.gj_json.specs.Tree.{Tree, constant, number, string, array, object}
 use Rattle.gj_json.specs.Characters.{SpellsContent}
 use Rattle.gj_json.specs.Grammar.{Then, White, Exactly, Quoted, letters_of, Spells}
-use Rattle.gj_json.specs.Internal.ByteClasses.{class_of, first_letter}
+use Rattle.gj_json.specs.Internal.ByteClasses.{first_letter}
 use Rattle.gj_json.specs.Broken.{Member, Frame, in_array, in_object, Leaf, value_due, value_done, array_opened, object_opened, constant_on, number_on}
 use Rattle.gj_json.specs.Broken.{string_on, name_due, name_on, colon_due, Partial, Broken, text_due, mark_one, mark_two, begun, BeginsCharacter, BeginsQuoted}
 use Rattle.gj_json.specs.Broken.{ElementsSoFar, MembersSoFar, Named, ArrayOpened, ObjectOpened, Opened, IsDue, Behind, SpellsLeaf, SpellsBroken}
 use Rattle.gj_json.specs.Internal.TextMachine.{step_leaf, run_from, run, letters_after}
-use Rattle.gj_json.proofs.Grammar.ClassOfBytes.{class_is}
+use Rattle.gj_json.proofs.Grammar.ClassOfBytes.{class_is, class_mark}
 use Rattle.gj_json.proofs.Grammar.SpelledForms
 use Rattle.gj_json.proofs.Machine.BytesUnderWay.{run_none}
 use Rattle.gj_json.proofs.Grammar.CharacterPrefixes.{content_to, character_to}
@@ -198,10 +198,6 @@ leaf_leads stack (colon_due place done np name ne) m bytes h =
     m bytes h
 
 -- ---- a whole text
-
-class_mark : (b : ℕ) → b ≡ mark_first → class_of b ≡ other
-unfolding class_of
-class_mark b e = rw e refl
 
 marked_goes : (bytes : List ℕ) (s : Partial)
     → Then (Exactly (mark_first ∷ mark_second ∷ mark_third ∷ [])) (Opened s.stack (Then White (SpellsLeaf s.stack s.leaf))) 0 bytes

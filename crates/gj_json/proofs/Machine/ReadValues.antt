@@ -89,7 +89,7 @@ text_leads {on} stack t (b ∷ bytes) so_far content state last n h =
     leads_byte (t.goes so_far state n b h.0 h.1 h.3)
     (subst P (append_assoc so_far h.0 h.2 ∙ sym (ap (λ c. so_far ++ c) h.4)) (text_leads stack t bytes (so_far ++ h.0) h.2 h.1 last (n + 1) h.5))
 
--- behind the opening quote
+-- after the opening quote
 pub inner_leads : {on : List ℕ → StringState → Leaf} {over : List ℕ → ℕ → Leaf} (stack : List Frame) (t : InQuotes stack on over) (content : List ℕ) (end n : ℕ)
     (bytes : List ℕ) → Then (λ here inner. SpellsContent content inner) (Then (Exactly (quote_byte ∷ [])) (Ends end)) n bytes
     → Leads (at stack (on [] plain)) n bytes (at stack (over content end))

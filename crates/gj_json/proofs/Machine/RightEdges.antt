@@ -22,7 +22,7 @@ letters_spelled Null b e = (rw e refl, λ f. cc)
 letters_spelled True b e = (rw e refl, λ f. cc)
 letters_spelled False b e = (rw e refl, λ f. cc)
 
--- a quote, and nothing behind it
+-- a quote, and nothing after it
 pub quote_begins : {n b : ℕ} → b ≡ quote_byte → BeginsQuoted n [] plain n (b ∷ [])
 quote_begins e = (refl, SpelledForms.byte_more e (SpelledForms.joins [] [] refl refl refl))
 
@@ -50,7 +50,7 @@ nothing_more {P} {n} {b} w = record {
 
 -- ---- strings
 
--- behind an opening quote, where the character under way goes on or ends
+-- after an opening quote, where the character under way goes on or ends
 content_adds : {n b : ℕ} (so_far more : List ℕ) (state next : StringState) → string_next state b ≡ string_goes more next
     → Adds n (b ∷ []) (Then (λ here inner. SpellsContent so_far inner) (λ here inner. BeginsCharacter state inner))
     (Then (λ here inner. SpellsContent (so_far ++ more) inner) (λ here inner. BeginsCharacter next inner))

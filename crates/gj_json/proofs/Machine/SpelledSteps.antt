@@ -1,4 +1,4 @@
--- Each step of the machine: what the bytes spell before it, they spell behind it with one byte more.
+-- Each step of the machine: what the bytes spell before it, they spell after it with one byte more.
 use Rattle.std.proofs.Common.{◌≡◌, ℕ, ◌+◌, ◌==◌, Bool, true, false, if◌then◌else◌, List, [], ◌∷◌, ◌++◌, length, Option, Some, None, refl, sym, ap, subst, ◌∙◌}
 use Rattle.std.proofs.Common.{arith, append_assoc, append-nil, eqb-true}
 use Rattle.std.proofs.lemmas.List.{length-append}
@@ -34,7 +34,7 @@ abbrev pub Keeps : ℕ → List ℕ → Option Partial → Type 0
 Keeps m bytes None = Unit {0}
 Keeps m bytes (Some s) = Opened s.stack (Then White (SpellsLeaf s.stack s.leaf)) m bytes
 
--- ---- a byte b at the place n, behind the bytes q from the place m on
+-- ---- a byte b at the place n, after the bytes q from the place m on
 
 module _ (m n b : ℕ) (q : List ℕ) (e : m + length q ≡ n) where
   put : {K L : ℕ → List ℕ → Type 0} (stack : List Frame) → Adds n (b ∷ []) K L → Opened stack K m q → Opened stack L m (q ++ b ∷ [])
@@ -96,7 +96,7 @@ module _ (m n b : ℕ) (q : List ℕ) (e : m + length q ≡ n) where
       put stack (then_adds (object_adds place done (then_adds (then_adds (follows (SpelledForms.byte_more w (nothing tt))))))) h
   keeps_colon stack place done np name ne _ k w h = tt
 
-  -- after a value, with or without white space behind it
+  -- after a value, with or without white space after it
   keeps_after : (stack : List Frame) (t : Tree) (c : Class) → Means c b → Opened stack (Then White (Then (Spells t) White)) m q
       → Keeps m (q ++ b ∷ []) (after_value stack t n c)
   keeps_after [] t white w h = put [] (then_adds (then_adds (behind_adds t w))) h

@@ -4,7 +4,6 @@ use Rattle.std.proofs.Common.{append_assoc, append-nil, eq-eqb}
 use Rattle.gj_json.specs.Bytes.{colon as colon_byte, open_brace, open_bracket, quote as quote_byte}
 use Rattle.gj_json.specs.Internal.NamedBytes.{mark_first, mark_second, mark_third}
 use Rattle.gj_json.specs.declared.constant.Constant.{Constant}
-use Rattle.gj_json.specs.declared.constant.Constant.TheVariants.{Null, True, False}
 use Rattle.std.proofs.lemmas.Bool.Decides.{eqb_tells}
 use Rattle.gj_json.specs.Tree.{Text, Tree, constant, number, string, array, object, Elements, end_of_array, element, Members, end_of_object, member}
 use Rattle.gj_json.specs.Grammar.{Then, White, Exactly, Ends, Quoted, letters_of, Spells, SpellsElements, SpellsMoreElements, SpellsMembers, SpellsMoreMembers}
@@ -14,9 +13,8 @@ use Rattle.gj_json.specs.Characters.{SpellsContent}
 use Rattle.gj_json.specs.declared.class.Class.{Class}
 use Rattle.gj_json.specs.declared.class.Class.TheVariants.{White as white, OpenArray as open_array, CloseArray as close_array, OpenObject as open_object}
 use Rattle.gj_json.specs.declared.class.Class.TheVariants.{CloseObject as close_object, Comma as comma, Colon as colon, Quote as quote, Letter as letter}
-use Rattle.gj_json.specs.declared.class.Class.TheVariants.{Other as other}
 use Rattle.gj_json.specs.Internal.ByteClasses.{class_of, first_letter}
-use Rattle.gj_json.proofs.Grammar.ClassOfBytes.{class_is, starts_number, number_classes}
+use Rattle.gj_json.proofs.Grammar.ClassOfBytes.{class_is, starts_number, number_classes, class_mark}
 use Rattle.gj_json.proofs.Grammar.SpelledForms
 use Rattle.gj_number.proofs.Grammar.DecidedNumbers.{number as decided_number, begins, no_number}
 use Rattle.gj_json.proofs.Grammar.NumberPrefixes.{stops}
@@ -27,17 +25,12 @@ use Rattle.gj_json.specs.Internal.TextMachine.{begin_value, after_value, value_d
 use Rattle.gj_json.specs.Internal.TextMachine.{number_on as number_on_leaf, string_on, name_due, name_on as name_on_leaf, colon_due, step_value_due}
 use Rattle.gj_json.specs.Internal.TextMachine.{step_array_opened, step_object_opened, step_name_due, step_colon_due, step_constant, step_number, step_string}
 use Rattle.gj_json.specs.Internal.TextMachine.{step_name, step_leaf, step, letters_after, back_elements, back_members, begins_number, is_number, string_next}
-use Rattle.gj_json.proofs.Machine.Completions.{TextFrom, After, AfterName, Completes, CompletesFrom, Goes, StringOn, Due}
+use Rattle.gj_json.proofs.Machine.Completions.{TextFrom, After, AfterName, Completes, CompletesFrom, Goes, StringOn, Due, spelled}
 use Rattle.gj_json.proofs.Grammar.SpelledTexts
 
 -- the place that a form begins by is where it stands
 pub placed : {p : ℕ} {F K : ℕ → List ℕ → Type 0} {n : ℕ} {bytes : List ℕ} → Then (λ s bs. (p ≡ s) × F s bs) K n bytes → (p ≡ n) × Then F K n bytes
 placed h = (h.before.0, SpelledForms.joins h.first h.rest h.joined h.before.1 h.after)
-
-spelled : (which : Constant) → letters_of which ≡ first_letter which ∷ letters_after which
-spelled Null = refl
-spelled True = refl
-spelled False = refl
 
 constant_begun : (stack : List Frame) (T : Tree) (n b : ℕ) (rest : List ℕ) (which : Constant) (place : ℕ)
     → Then (Spells (constant which place)) (After stack (constant which place) T) n (b ∷ rest)
@@ -69,7 +62,7 @@ object_begun stack T n b rest place members close h =
     (let P : ℕ → Type 0 = λ p. Then White (Then (SpellsMembers members close) (After stack (object p members close) T)) (n + 1) rest in
     (members, close, subst P g.0 (SpelledForms.then_left j.1)))
 
--- what stands behind an opening quote
+-- what stands after an opening quote
 quoted_on : {place : ℕ} {content : List ℕ} {end : ℕ} {K : ℕ → List ℕ → Type 0} {n b : ℕ} {rest : List ℕ} → Then (Quoted place content end) K n (b ∷ rest)
     → (place ≡ n) × (b ≡ quote_byte) × Then (StringOn plain content end) K (n + 1) rest
 quoted_on {place} {content} {end} {K} {n} {b} {rest} h =
@@ -132,7 +125,7 @@ on_more_elements stack place done t T n b rest (element v more) close h =
     (n + 1) rest = SpelledForms.left4 g.1 in
     (v, SpelledForms.behind (λ m r j. (more, close, j)) k))
 
--- behind the name of a member
+-- after the name of a member
 name_on : (stack : List Frame) (place : ℕ) (done : List Member) (np : ℕ) (name : List ℕ) (ne : ℕ) (T : Tree) (n : ℕ) (rest : List ℕ) (v : Tree) (more : Members)
     (close : ℕ)
     → Then (Then White (Then (Exactly (colon_byte ∷ [])) (Then White (Then (Spells v) (Then White (SpellsMoreMembers more close))))))
@@ -362,10 +355,6 @@ forward_leaf stack (name_on_leaf place done np so_far state) T n b rest h = on_n
 forward_leaf stack (colon_due place done np name ne) T n b rest h = on_colon_due stack place done np name ne T n b rest h
 
 -- ---- a whole text
-
-class_mark : (b : ℕ) → b ≡ mark_first → class_of b ≡ other
-unfolding class_of
-class_mark b e = rw e refl
 
 pub with_mark-goes : (T : Text) (n : ℕ) (rest : List ℕ) (marked : Bool) (o : Option Partial) → T.marked ≡ marked → Goes (CompletesFrom T.value n rest) o
     → Goes (TextFrom T n rest) (with_mark marked o)

@@ -1,4 +1,4 @@
--- A byte that the machine takes: the bytes with it are spelled as the state behind it.
+-- A byte that the machine takes: the bytes with it are spelled as the state after it.
 use Rattle.std.proofs.Common.{◌≡◌, ◌≢◌, ℕ, ◌+◌, List, [], ◌∷◌, ◌++◌, length, refl, sym, ap, ◌∙◌, arith, append_assoc, append-nil}
 use Rattle.std.proofs.lemmas.List.{length-append}
 use Rattle.gj_json.specs.Bytes.{open_bracket, close_bracket, open_brace, close_brace, IsWhite}
@@ -10,7 +10,7 @@ use Rattle.gj_json.proofs.Grammar.SpelledForms
 
 -- ---- what stands at the end of a form
 
--- bytes up to the place n that are K's are L's with the tail behind them
+-- bytes up to the place n that are K's are L's with the tail after them
 pub record Adds (n : ℕ) (tail : List ℕ) (K L : ℕ → List ℕ → Type 0) : Type 0 where
   pub on : (m : ℕ) (bytes : List ℕ) → m + length bytes ≡ n → K m bytes → L m (bytes ++ tail)
 
@@ -64,15 +64,15 @@ whites (c ∷ bytes) m b w h = (h.0, whites bytes m b w h.1)
 pub white_adds : {n b : ℕ} → IsWhite b → Adds n (b ∷ []) White White
 white_adds {n} {b} w = record { on = λ m bytes e h. whites bytes m b w h }
 
--- white space, and behind it what L says of the tail
+-- white space, and after it what L says of the tail
 pub follows : {L : ℕ → List ℕ → Type 0} {n : ℕ} {tail : List ℕ} → L n tail → Adds n tail White (Then White L)
 follows {L} {n} {tail} l = record { on = λ m bytes e h. SpelledForms.joins bytes tail refl h (SpelledForms.moved L (sym e) refl l) }
 
--- a value, and no white space behind it
+-- a value, and no white space after it
 pub alone : {K L : ℕ → List ℕ → Type 0} {n : ℕ} {tail : List ℕ} → Adds n tail K L → Adds n tail K (Then L White)
 alone {K} {L} {n} {tail} a = record { on = λ m bytes e h. SpelledForms.joins (bytes ++ tail) [] (sym (append-nil (bytes ++ tail))) (a.on m bytes e h) tt }
 
--- a value that has ended has white space behind it
+-- a value that has ended has white space after it
 pub ended_white : {A : ℕ → List ℕ → Type 0} (t : Tree) {n : ℕ} → Adds n [] (Then A (Then (Spells t) (Behind t))) (Then A (Then (Spells t) White))
 ended_white t {n} = then_adds (then_adds (record { on = λ m bytes e h. (let k = white_behind t m bytes h in rw (append-nil bytes) k) }))
   where

@@ -50,12 +50,12 @@ leads_on {s} {t} {u} {n} {bytes} first rest e k l = record {
       ∙ ap (λ o. run_from o (n + length first) rest) (k.goes marked) ∙ l.goes marked;
 }
 
--- one form, and behind it another
+-- one form, and after it another
 pub then_leads : {A K : ℕ → List ℕ → Type 0} {s t u : Partial} {n : ℕ} {bytes : List ℕ} → (h : Then A K n bytes) → Leads s n h.first t
     → Leads t (n + length h.first) h.rest u → Leads s n bytes u
 then_leads h k l = leads_on h.first h.rest h.joined k l
 
--- one byte, and behind it another form
+-- one byte, and after it another form
 pub byte_leads : {K : ℕ → List ℕ → Type 0} {s t u : Partial} {n a : ℕ} {bytes : List ℕ} → (h : Then (Exactly (a ∷ [])) K n bytes)
     → step_leaf s.stack s.leaf n a ≡ Some t → ((rest : List ℕ) → K (n + 1) rest → Leads t (n + 1) rest u) → Leads s n bytes u
 byte_leads {K} {s} {t} {u} {n} {a} {bytes} h e k =

@@ -65,7 +65,7 @@ module _ (last around : List PathStep) (is : IsSmall (advanced around) → last 
   closes [] k s d l = absurd (omega (arith, l))
   closes (e ∷ es) k s d l = after e.what es (closes es) k s d l
 
--- none of them has to be told
+-- none of them has to be reported
 pub follows_closed : (p closed last : List PathStep) → closed ≡ outer_steps p → (IsSmall (advanced closed) → last ≡ advanced closed) → (t : List PathStep)
     → p ≡ t → (inner : List Event) → Leaves 1 inner 0 → Follows last inner t
 follows_closed p closed last c a t e inner l =

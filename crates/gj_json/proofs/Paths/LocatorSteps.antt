@@ -1,4 +1,4 @@
--- What a piece leaves of a locator, and the path that it tells.
+-- What a piece leaves of a locator, and the path that it reports.
 use Rattle.std.proofs.Common.{◌≡◌, ℕ, ◌+◌, ◌-◌, ◌≤◌, List, [], ◌++◌, length, take, Option, Some, None, Result, Ok, Err, refl, sym, ap, subst, ◌∙◌, arith}
 use Rattle.std.proofs.Common.{append_assoc}
 use Rattle.std.specs.Prelude.{MatchResult}
@@ -43,7 +43,7 @@ all_taken bytes n e = rw e (take-length bytes)
 abbrev Heard : Locator → List Event → Type 0
 Heard locator events = Follows (inner_steps locator.trail) events []
 
--- what the reader told of a piece, by how many bytes it took
+-- what the reader reported of a piece, by how many bytes it took
 hears_to : (old new : Reader) (heard : List Event → Type 0) (events : List Event) (bytes given : List ℕ) (result : Result (Unit {0}) JsonFault)
     → StandsFor new (bytes ++ given)
     → MatchResult result (λ done. new.fault ≡ None) (λ fault. new.fault ≡ Some fault) → HearsBy heard events bytes given result

@@ -1,4 +1,4 @@
--- Rows of the paths that fronts of texts lead to.
+-- Rows of the paths that prefixes of texts lead to.
 use Rattle.std.proofs.Common.{◌≡◌, false, [], ◌∷◌, codes, refl}
 use Rattle.gj_json.specs.declared.names.Known.{Known}
 use Rattle.gj_json.specs.declared.path.PathStep.TheVariants.{Index, Member}

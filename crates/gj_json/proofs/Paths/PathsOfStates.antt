@@ -1,4 +1,4 @@
--- The path that a front of a text leads to, by the state of the machine.
+-- The path that a prefix of a text leads to, by the state of the machine.
 use Rattle.std.proofs.Common.{◌≡◌, ℕ, ◌+◌, ◌==◌, ◌≤◌, Bool, true, false, if◌then◌else◌, List, [], ◌∷◌, ◌++◌, length, Option, Some, None, unwrap_or, refl, sym}
 use Rattle.std.proofs.Common.{ap, ◌∙◌, arith}
 use Rattle.std.proofs.lemmas.Bool.Decides.{nat_tests}
@@ -108,7 +108,7 @@ back_members_path n (m ∷ done) more h w =
 
 -- ---- around a value
 
--- what the elements lead to, from the value behind those that have ended
+-- what the elements lead to, from the value after those that have ended
 abbrev at_element : ℕ → ℕ → Option (List PathStep) → Elements → Option (List PathStep)
 at_element n i o more = option_or (by_step (Index i) o) (elements_path n (i + 1) more)
 
@@ -132,7 +132,7 @@ object_path n place close done np name ne t more o p c h w e =
     back_members_path n done (member np name ne t more) h w ∙ rw e refl in
     rw (opened n place close p c, k) refl
 
--- a closing bracket stands behind what is yet to come
+-- a closing bracket stands after what is yet to come
 close_behind : (elements : Elements) (close n : ℕ) (bytes : List ℕ) → SpellsMoreElements elements close n bytes → n ≤ close
 close_behind end_of_array close n bytes h = omega (arith, h.1)
 close_behind (element v more) close n bytes h = omega (arith, close_behind more close _ _ h.after.after.after.after)

@@ -9,7 +9,7 @@ use Rattle.std.proofs.lemmas.Simd.{mask_l-mod, leading_from_mask_l}
 use lib.Lanes.{zip2, sel_l, mask_l, top, Each1}
 use Rattle.gj_json.specs.Characters.{escape_of, hex_of}
 use Rattle.gj_json.specs.Internal.EscapeRuns.{lower_of, upper_of, wanted_at, wanted_of, may_follow, wrong_at, wrong_of, NoneWrong}
-use Rattle.gj_json.proofs.Pieces.LaneTests.{equal}
+use Rattle.gj_json.proofs.Pieces.LaneTests.{equal, top_c}
 use Rattle.gj_json.proofs.Pieces.WideRuns.{sixteen, sixteen_long, sixteen_at}
 
 -- ---- the kinds that are wanted
@@ -71,10 +71,6 @@ has : (t u : Bool) (b : ℕ) → b < 256
 has true u b h = agree_below_at (λ b. eqb (bit_and (kind_of b) 7) 0) (λ b. not (may_follow b)) 256 b follows h
 has false true b h = agree_below_at (λ b. eqb (bit_and (kind_of b) 32) 0) (λ b. not (eqb b 92)) 256 b begins h
 has false false b h = agree_below_at (λ b. eqb (bit_and (kind_of b) 24) 0) (λ b. not (is_some (hex_of b))) 256 b digits h
-
-top_c : (s : Bool) → top 7 (cond s 255 0) ≡ s
-top_c true = refl
-top_c false = refl
 
 lanes : (n : ℕ) (ps qs rs hs : List ℕ) → length ps ≡ n → length qs ≡ n → length rs ≡ n → length hs ≡ n → Each1 (Fits w8) hs
     → map (top 7) (zip2 equal (zip2 bit_and (zip2 bit_and (map lower_of hs) (map upper_of hs)) (wanted_of ps qs rs)) (replicate n 0)) ≡ wrong_of ps qs rs hs

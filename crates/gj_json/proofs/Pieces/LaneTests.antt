@@ -29,6 +29,14 @@ equal a b = cond (eqb a b) 255 0
 abbrev pub less : ℕ → ℕ → ℕ
 less a b = cond (ltb a b) 255 0
 
+abbrev pub differs : ℕ → ℕ → ℕ
+differs a b = cond (not (eqb a b)) 255 0
+
+-- the upper bit of what a comparison holds
+pub top_c : (s : Bool) → top 7 (cond s 255 0) ≡ s
+top_c true = refl
+top_c false = refl
+
 pub either : (f g : ℕ → ℕ) (v : List ℕ) {xs ys : List ℕ} → xs ≡ map f v → ys ≡ map g v → zip2 bit_or xs ys ≡ map (λ x. bit_or (f x) (g x)) v
 either f g v e h = zip2_of_maps bit_or f g v e h
 
@@ -41,7 +49,7 @@ module _ (q : ℕ → Bool) where
       not_not true = refl
       not_not false = refl
 
-  -- a vector, and what comes behind it
+  -- a vector, and what comes after it
   split : (piece : List ℕ) (at n : ℕ) → at + n ≤ length piece
       → prefix_len q (drop at piece) ≡ cond (eqb (prefix_len q (chunk at n piece)) n) (n + prefix_len q (drop (at + n) piece)) (prefix_len q (chunk at n piece))
   split piece at n room =
@@ -49,7 +57,7 @@ module _ (q : ℕ → Bool) where
       ap (prefix_len q) (chunk-drop at n piece) ∙ prefix_len-append q v (drop (at + n) piece)
       ∙ ap (λ l. cond (eqb (prefix_len q v) l) (l + prefix_len q (drop (at + n) piece)) (prefix_len q v)) (length-chunk at n piece room)
 
-  -- where no lane fails the test, the run goes on behind them
+  -- where no lane fails the test, the run goes on after them
   pub lanes_on : (piece : List ℕ) (at n : ℕ) → at + n ≤ length piece → mask_l (map (λ b. not (q b)) (chunk at n piece)) ≡ 0
       → prefix_len q (drop at piece) ≡ n + prefix_len q (drop (at + n) piece)
   lanes_on piece at n room none =
@@ -107,7 +115,7 @@ module _ (q : ℕ → Bool) (piece : List ℕ) (index : ℕ) (block : List ℕ) 
       ∙ ap (count_trailing_zeros 64) (sym lanes) in
       omega (arith, run, end)
 
--- and the bytes behind the last block
+-- and the bytes after the last block
 pub rest_stops : (q : ℕ → Bool) (piece rest : List ℕ) (index : ℕ) → rest ≡ drop (length piece / 16 * 16) piece → index ≡ length piece / 16
     → prefix_len q piece ≡ index * 16 + prefix_len q (drop (index * 16) piece)
     → index * 16 + prefix_len q rest ≡ prefix_len q piece

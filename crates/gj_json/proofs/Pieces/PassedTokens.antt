@@ -1,4 +1,4 @@
--- Tokens that stand whole and open and close nothing: a string, a literal name, a number with the comma behind it, a name,
+-- Tokens that stand whole and open and close nothing: a string, a literal name, a number with the comma after it, a name,
 -- a colon and a comma.
 use Rattle.std.proofs.Common.{◌≡◌, ℕ, zero, suc, ◌+◌, ◌-◌, ◌≤◌, ◌<◌, Bool, true, false, List, [], ◌∷◌, ◌++◌, get_or, length, take, take-add, drop, Option, Some}
 use Rattle.std.proofs.Common.{None, refl, sym, ap, subst, ◌∙◌, arith, append_assoc}
@@ -29,8 +29,8 @@ use Rattle.gj_json.specs.Ignored.{levels_behind, Leaves}
 use Rattle.gj_json.specs.Internal.StayingEvents.{Stays}
 use Rattle.gj_json.specs.Internal.OpenLevels.{levels_in, inner_of, outer_of}
 use Rattle.gj_json.specs.Limits.{Allowed}
-use Rattle.gj_json.specs.Internal.TextMachine.{Member, Frame, Leaf, value_due, value_done, array_opened, object_opened, constant_on, number_on, string_on}
-use Rattle.gj_json.specs.Internal.TextMachine.{name_due, name_on, colon_due, Partial, Broken, text_due, mark_one, mark_two, begun, step_leaf, letters_after, to}
+use Rattle.gj_json.specs.Internal.TextMachine.{Member, Frame, Leaf, value_done, constant_on, string_on}
+use Rattle.gj_json.specs.Internal.TextMachine.{colon_due, Partial, Broken, text_due, begun, letters_after}
 use Rattle.gj_json.specs.Internal.TextMachine.{run_from, run}
 use Rattle.gj_json.specs.Internal.Transitions.{move_of, after_move}
 use Rattle.gj_json.specs.Names.{known_of, word_of}
@@ -38,7 +38,7 @@ use Rattle.gj_json.specs.Internal.ContentWords.{Words}
 use Rattle.gj_json.specs.Internal.QuietBytes.{Reads}
 use Rattle.gj_json.specs.Internal.ReaderStep.{opened}
 use Rattle.gj_json.specs.Internal.SeenEvents.{seen, partial_timed, stack_timed, done_members, EdgeAt}
-use Rattle.gj_json.specs.Internal.ReaderState.{StandsWell, StandsAs, FitsLeaf, FitsName, FitsBroken, levels_of}
+use Rattle.gj_json.specs.Internal.ReaderState.{StandsWell, StandsAs, FitsLeaf, FitsBroken}
 use Rattle.gj_json.specs.Internal.WholeTokens.{bracket_of, names, may_begin, IsString, Lands}
 use Rattle.gj_json.specs.Tree.{Tree, constant, string, depth}
 use Rattle.gj_json.specs.Internal.ToldEvents.{ending_event, event_at, opening_of, closing_of, is_on, in_number, text_state, NumberTurn}
@@ -47,7 +47,7 @@ use Rattle.gj_json.proofs.Grammar.CharacterPrefixes.{StringTo}
 use Rattle.gj_json.proofs.Grammar.ClassOfBytes.{class_is}
 use Rattle.gj_json.proofs.Machine.BytesUnderWay.{mode_under, mode_state}
 use Rattle.gj_json.proofs.Readers.CallsInTurn.{feeds_nothing, front_skipped, piece_all, rest_all}
-use Rattle.gj_json.proofs.Pieces.TakenFlats.{IsDue, is_due, levels-length, After, seen_between, taken_feeds}
+use Rattle.gj_json.proofs.Pieces.TakenFlats.{IsDue, is_due, After, seen_between, taken_feeds}
 use Rattle.gj_json.proofs.Events.IgnoredEvents.{leaves_more, all_by, all_more}
 use Rattle.gj_json.proofs.Machine.ValuePaths.{Leads, at, leads_none, leads_byte, leads_on, run_from-append}
 use Rattle.gj_json.proofs.Readers.NumberUnderWay.{own_turn, own_turns, own_value, own_words, keeps_none}
@@ -58,8 +58,9 @@ use Rattle.gj_json.proofs.Pieces.PieceRests.{rest_of}
 use Rattle.gj_json.proofs.Pieces.QuietModes.{reads_more}
 use Rattle.gj_json.proofs.Grammar.SpelledTexts.{quote_on}
 use Rattle.gj_json.proofs.Events.EventTimes.{told}
-use Rattle.gj_json.proofs.Pieces.TakenTokens.{open_taken, end_closes, number_then, number_closed}
+use Rattle.gj_json.proofs.Pieces.TakenTokens.{open_taken, end_closes, number_then, number_closed, IsNaming, is_naming}
 use Rattle.gj_json.proofs.Machine.ReadValues.{InQuotes, a_string, a_name, text_leads, letters_lead}
+use Rattle.gj_json.proofs.Readers.Simulation.{levels_length}
 use Rattle.gj_number.specs.Grammar.{IsNumber}
 use Rattle.gj_number.specs.Value.{value_of}
 
@@ -132,7 +133,7 @@ value_seen marked s stack t e =
 value_token : (state : Broken) (levels : List Level) (d n : ℕ) (given : List ℕ) (i : IsDue state levels d) (t : Tree) → length levels ≤ d → depth t ≡ 0
     → Leads i.partial n given (at i.stack (value_done t)) → Token state levels d ValueDone n given (value_events t)
 value_token state levels d n given i t nested flat leads =
-    let e : length levels ≡ length i.stack = ap length i.around ∙ levels-length i.stack in
+    let e : length levels ≡ length i.stack = ap length i.around ∙ levels_length i.stack in
     record {
       marked = i.marked;
       from = i.partial;
@@ -171,61 +172,6 @@ pub constant_token : (state : Broken) (levels : List Level) (d n : ℕ) (which :
 constant_token state levels d n which i nested = value_token state levels d n _ i (constant which n) nested refl (constant_leads state levels d n i which)
 
 -- ---- names
-
--- where a name may begin: the object around it
-pub record IsNaming (state : Broken) (levels : List Level) (d : ℕ) : Type 0 where
-  pub marked : Bool
-  pub partial : Partial
-  pub stack : List Frame
-  pub place : ℕ
-  pub done : List Member
-  pub is : state ≡ begun marked partial
-  pub begins : (n : ℕ) → step_leaf partial.stack partial.leaf n quote_byte ≡ to stack (name_on place done n [] plain)
-  pub around : levels ≡ Object ∷ levels_of stack
-  pub fits : FitsName d stack done
-  pub before : partial_timed partial ≡ stack_timed stack ++ (timed (place + 1) place What.OpenObject ∷ done_members done)
-
-leaf_naming : (marked : Bool) (stack : List Frame) (leaf : Leaf) (mode : Mode) (levels : List Level) (d : ℕ) → names mode ≡ true
-    → StandsAs (begun marked (at stack leaf)) mode levels → FitsBroken d (begun marked (at stack leaf)) → IsNaming (begun marked (at stack leaf)) levels d
-leaf_naming marked stack (object_opened place) mode levels d w a f = record {
-  marked = marked;
-  partial = at stack (object_opened place);
-  stack = stack;
-  place = place;
-  done = [];
-  is = refl;
-  begins = λ n. rw (class_is quote_class quote_byte refl (λ e. cc)) refl;
-  around = a.1;
-  fits = (f.0, tt, f.1);
-  before = refl;
-}
-leaf_naming marked stack (name_due place done) mode levels d w a f = record {
-  marked = marked;
-  partial = at stack (name_due place done);
-  stack = stack;
-  place = place;
-  done = done;
-  is = refl;
-  begins = λ n. rw (class_is quote_class quote_byte refl (λ e. cc)) refl;
-  around = a.1;
-  fits = f;
-  before = refl;
-}
-leaf_naming marked stack value_due mode levels d w a f = let x = rw (a.0) at w in cc
-leaf_naming marked stack (array_opened place) mode levels d w a f = let x = rw (a.0) at w in cc
-leaf_naming marked stack (value_done t) mode levels d w a f = let x = rw (a.0) at w in cc
-leaf_naming marked stack (constant_on which place left) mode levels d w a f = let x = rw (a.0.1) at w in cc
-leaf_naming marked stack (number_on place so_far) mode levels d w a f = let x = rw (a.0) at w in cc
-leaf_naming marked stack (string_on place so_far state) mode levels d w a f = let x = rw (a.0) at w in cc
-leaf_naming marked stack (name_on place done np so_far state) mode levels d w a f = let x = rw (a.0) at w in cc
-leaf_naming marked stack (colon_due place done np name ne) mode levels d w a f = let x = rw (a.0) at w in cc
-
-pub is_naming : (state : Broken) (mode : Mode) (levels : List Level) (d : ℕ) → names mode ≡ true → StandsAs state mode levels → FitsBroken d state
-    → IsNaming state levels d
-is_naming text_due mode levels d w a f = let x = rw (a.0) at w in cc
-is_naming mark_one mode levels d w a f = let x = rw (a.0) at w in cc
-is_naming mark_two mode levels d w a f = let x = rw (a.0) at w in cc
-is_naming (begun marked s) mode levels d w a f = leaf_naming marked s.stack s.leaf mode levels d w a f
 
 name_seen : (marked : Bool) (s : Partial) (stack : List Frame) (place : ℕ) (done : List Member) (np : ℕ) (name : List ℕ) (ne : ℕ)
     → partial_timed s ≡ stack_timed stack ++ (timed (place + 1) place What.OpenObject ∷ done_members done)
@@ -270,7 +216,7 @@ token_feeds old new given next es live p room t stays = record {
   levels = p.levels;
 }
 
--- the same of the front of a piece
+-- as above, of the prefix of a piece
 front_feeds : (old new : Reader) (piece given : List ℕ) (n : ℕ) (next : Mode) (es : List Event) → take n piece ≡ given → n ≤ length piece → old.fault ≡ None
     → Passed n next old new → old.offset + length piece ≤ old.limits.bytes
     → ((state : Broken) → StandsAs state old.mode (levels_in old.levels) → FitsBroken old.limits.depth state
@@ -468,7 +414,7 @@ level_within floor old new given w f =
     → Type 0 = λ xs. P xs (above floor new) in
     subst Q (sym e) (subst (λ m. P [] m) (ap (λ ls. length (levels_in ls) - floor) (sym f.levels)) (l (above floor old) (omega arith))))) f.feeds
 
--- ---- a token at the front of a piece
+-- ---- a token at the start of a piece
 
 pub quoted_is : (piece : List ℕ) (r : ℕ) → 0 < length piece → get_or piece 0 0 ≡ quote_byte → (cs : List ℕ)
     × Reads plain (take r (take (length piece - 1) (drop 1 piece))) cs plain → 1 + r < length piece → get_or piece (1 + r) 0 ≡ quote_byte
@@ -577,7 +523,7 @@ closed_level floor old new piece level some live done room made w p =
     (λ events e. (let P : List Event → Type 0 =
     λ xs. Leaves (above floor old) (xs ++ event_at (old.offset + 1 - 1) (closing_of level) ∷ []) (above floor new) in subst P (sym e) leaves))
 
--- ---- a number, and the byte behind it, within levels that are open
+-- ---- a number, and the byte after it, within levels that are open
 
 number_leaves : (m n place : ℕ) (value : Option Exact) → 0 < m → n ≡ m → Leaves m (event_at place (What.Number value) ∷ []) n
 number_leaves zero n place value w e = absurd (omega arith)

@@ -21,6 +21,6 @@ cut_byte piece a c w v =
     let f : suc a ≡ a + 1 = omega arith in
     ap (λ n. take n (drop a piece)) e ∙ ap (λ xs. take (suc (c - (a + 1))) xs) (drop-cons piece a 0 w ∙ ap (λ n. get_or piece a 0 ∷ drop n piece) f)
 
--- a front of the rest of a piece
+-- a prefix of the rest of a piece
 pub cut_front : (piece : List ℕ) (at n : ℕ) → cut piece at (at + n) ≡ take n (take (length piece - at) (drop at piece))
 cut_front piece at n = let e : at + n - at ≡ n = omega arith in ap (λ k. take k (drop at piece)) e ∙ ap (λ xs. take n xs) (sym (rest_of piece at))

@@ -13,7 +13,7 @@ pub more_within : (piece : List ℕ) (at n : ℕ) → at ≤ length piece → n 
 more_within piece at n w h = let e : length (take (length piece - at) (drop at piece)) ≡ length (drop at piece) =
     ap length (rest_of piece at) in omega (arith, e, length-drop at piece)
 
--- bytes before a piece, a front of it, and a front of its rest
+-- bytes before a piece, a prefix of it, and a prefix of its rest
 pub front_and_more : (bytes piece : List ℕ) (at n : ℕ)
     → (bytes ++ take at piece) ++ take n (take (length piece - at) (drop at piece)) ≡ bytes ++ take (at + n) piece
 front_and_more bytes piece at n =

@@ -74,7 +74,7 @@ plain_run xs = let h =
 pub white_run : (mode : Mode) → PassesWhite mode → (xs : List ℕ) → AllByRecursion (IsQuiet mode) (take (prefix_len is_white xs) xs)
 white_run mode h xs = all_run is_white (IsQuiet mode) (quiet_white mode h) xs
 
--- ---- one front of a piece after another
+-- ---- one prefix of a piece after another
 
 pub joined : (a b c : StringState) (xs ys cs ds : List ℕ) → Reads a xs cs b → Reads b ys ds c → Reads a (xs ++ ys) (cs ++ ds) c
 joined a b c [] ys cs ds h g = let P : StringState → Type 0 = λ s. Reads s ys ds c in rw (h.1) (subst P (sym h.0) g)

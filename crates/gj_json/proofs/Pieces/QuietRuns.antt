@@ -168,7 +168,7 @@ module _ (limits : Allowed) (levels : List Level) (start : ℕ) where
             (no_number mode turn (own_value (under_of k.state)) start (free_of_number mode b next q)) refl,
       )
 
-  -- the number under way behind the bytes
+  -- the number under way after the bytes
   record AfterDigits (from to : ℕ) (bytes run all so_far : List ℕ) : Type 0 where
     pub well : StandsWell limits NumberOn levels start to all
     pub under : under_of well.state ≡ number so_far
@@ -222,7 +222,7 @@ module _ (limits : Allowed) (levels : List Level) (start : ℕ) where
           let d = digits_well run so_far offset bytes k.well e f.1 room in
           (record { well = d.well; keeps = rw (d.under) f.0 }, d.nothing_more)
 
-  -- the string under way behind the bytes
+  -- the string under way after the bytes
   record AfterText (on : StringState → Mode) (from to : ℕ) (bytes run all so_far : List ℕ) (last : StringState) : Type 0 where
     pub well : StandsWell limits (on last) levels start to all
     pub under : under_of well.state ≡ text so_far last

@@ -48,7 +48,7 @@ text_skips old mid new given characters count first last mode a n p m r holds =
 run_slice : (piece : List ℕ) (at n : ℕ) → take (at + n - at) (drop at piece) ≡ take n (take (length piece - at) (drop at piece))
 run_slice piece at n = let e : at + n - at ≡ n = omega arith in ap (λ k. take k (drop at piece)) e ∙ ap (λ xs. take n xs) (sym (rest_of piece at))
 
--- what has been read of a string behind so many bytes, and what is kept of it
+-- what has been read of a string after so many bytes, and what is kept of it
 abbrev pub HasRead : StringState → List ℕ → ℕ → StringState → Content → Content → Type 0
 HasRead first piece at here old new =
     (characters : List ℕ) × Reads first (take at piece) characters here × ((so_far : List ℕ) → Holds old so_far → Holds new (so_far ++ characters))

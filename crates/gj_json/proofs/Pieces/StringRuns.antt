@@ -1,4 +1,4 @@
--- Where a run of characters goes on: behind bytes that some byte of a character may follow.
+-- Where a run of characters goes on: after bytes that some byte of a character may follow.
 use Rattle.std.proofs.Common.{◌≡◌, ℕ, zero, suc, ◌==◌, ◌+◌, ◌≤◌, Bool, true, false, inl, inr, List, [], ◌∷◌, ◌++◌, length, take, slice_index, Option, Some}
 use Rattle.std.proofs.Common.{None, is_some, refl, subst, ◌∙◌, arith}
 use Rattle.std.specs.List.{AllByRecursion}
@@ -61,7 +61,7 @@ lead_c2 : string_next Plain character_byte ≡ string_goes [] (InCharacter 0 Any
 unfolding plain_step lead_of
 lead_c2 = refl
 
--- where a run goes on, a character is under way behind it
+-- where a run goes on, a character is under way after it
 abbrev begun_in : Mode → Mode
 begun_in (StringOn state) = StringOn (InCharacter 0 Any 2)
 begun_in (NameOn state) = NameOn (InCharacter 0 Any 2)
@@ -143,7 +143,7 @@ elsewhere_c2 (NameOn state) under inner e n =
     rw (escaped_c2 state (λ f. let P : StringState → Type 0 = λ s. is_between (NameOn s) ≡ false in let k = subst P f e in cc)) refl
 elsewhere_c2 ColonDue under inner e n = rw class_c2 refl
 
--- ---- so the byte tells where a run goes on
+-- ---- so the byte shows where a run goes on
 
 module _ (reader : Reader) (bytes : List ℕ) (live : reader.fault ≡ None) (h : StandsFor reader bytes) where
   follows : (move : Move)

@@ -29,7 +29,7 @@ use Rattle.gj_json.specs.Flat.{flat_events}
 use Rattle.gj_json.specs.Internal.SpelledNumbers.{IsFlat}
 use Rattle.gj_json.specs.Internal.FlatParts.{awaits, cut}
 use Rattle.gj_json.specs.Internal.OpenLevels.{levels_in, inner_of}
-use Rattle.gj_json.specs.Internal.TextMachine.{Frame, in_array, in_object, Leaf, value_due, value_done, array_opened, object_opened, constant_on, number_on}
+use Rattle.gj_json.specs.Internal.TextMachine.{Frame, in_array, Leaf, value_due, value_done, array_opened, object_opened, constant_on, number_on}
 use Rattle.gj_json.specs.Internal.TextMachine.{string_on, name_due, name_on, colon_due, Partial, Broken, text_due, mark_one, mark_two, begun, begin_value}
 use Rattle.gj_json.specs.Internal.TextMachine.{step_leaf, to, run_from, run}
 use Rattle.gj_json.specs.Internal.Transitions.{IsMode, move_of}
@@ -55,6 +55,7 @@ use Rattle.gj_json.proofs.Pieces.QuietModes.{quiet_leads}
 use Rattle.gj_json.proofs.Machine.MachineTexts.{text_goes_on}
 use Rattle.gj_json.proofs.Events.EventTimes.{told}
 use Rattle.gj_json.proofs.Machine.ReadValues.{elements_lead}
+use Rattle.gj_json.proofs.Readers.Simulation.{levels_length}
 
 -- ---- the machine
 
@@ -121,12 +122,7 @@ is_due mark_one mode levels d w a f = let x = rw (a.0) at w in cc
 is_due mark_two mode levels d w a f = let x = rw (a.0) at w in cc
 is_due (begun marked s) mode levels d w a f = leaf_due marked s.stack s.leaf mode levels d w a f
 
-pub levels-length : (stack : List Frame) → length (levels_of stack) ≡ length stack
-levels-length [] = refl
-levels-length (in_array place done ∷ stack) = let e = levels-length stack in omega (arith, e)
-levels-length (in_object place done np name ne ∷ stack) = let e = levels-length stack in omega (arith, e)
-
--- ---- what is complete behind it
+-- ---- what is complete after it
 
 module _ (limits : Allowed) (levels : List Level) (start : ℕ) where
   -- the events that a state has seen are those that are complete
@@ -145,7 +141,7 @@ module _ (limits : Allowed) (levels : List Level) (start : ℕ) where
       let u : IsText T (bytes ++ (given ++ rest)) = rw (append_assoc bytes given rest) at t in
       well_seen next to (bytes ++ given) w T rest t ∙ e ∙ ap (λ xs. xs ++ es) (sym (well_seen mode from bytes k T (given ++ rest) u))
 
-  -- bytes behind which nothing is under way but a literal name at the most, and these events more are complete
+  -- bytes after which nothing is under way but a literal name at the most, and these events more are complete
   pub record After (mode : Mode) (from to : ℕ) (bytes given : List ℕ) (es : List Event) : Type 0 where
     pub well : StandsWell limits mode levels start to (bytes ++ given)
     pub keeps : (literal : Literal) (content : Content) → Keeps (under_of well.state) literal content
@@ -175,7 +171,7 @@ module _ (limits : Allowed) (levels : List Level) (start : ℕ) where
       run_from-append bytes given (Some text_due) 0 ∙ ap (λ o. run_from o (0 + length bytes) given) (k.runs ∙ ap (λ (s : Broken). Some s) i.is)
       ∙ ap (λ n. run_from (Some (begun i.marked i.partial)) n given) z ∙ leads.goes i.marked in
       let r = reached (bytes ++ given) next runs in
-      let n : length levels ≡ length i.stack = ap length i.around ∙ levels-length i.stack in
+      let n : length levels ≡ length i.stack = ap length i.around ∙ levels_length i.stack in
       let well : StandsWell limits ValueDone levels start (offset + length given) (bytes ++ given) = record {
         state = next;
         runs = runs;
@@ -204,7 +200,7 @@ module _ (limits : Allowed) (levels : List Level) (start : ℕ) where
       (begins offset open_bracket open_array (at stack (array_opened offset)) (class_is open_array open_bracket refl (λ e. cc)) refl) spelled)
       deep room
 
-  -- a comma behind an element of an array
+  -- a comma after an element of an array
   comma_well : (mode : Mode) (offset : ℕ) (bytes : List ℕ) → StandsWell limits mode levels start offset bytes → mode ≡ ValueDone → inner_of levels ≡ Some Array
       → offset < limits.bytes → After ValueDue offset (offset + 1) bytes (comma ∷ []) []
   comma_well mode offset bytes k m i room =
@@ -269,7 +265,7 @@ comma_feeds {heard} old new live done inner room p =
     taken_feeds old new (comma ∷ []) ValueDue [] live p
     (λ bytes k. comma_well old.limits (levels_in old.levels) old.start old.mode old.offset bytes k done inner room) (λ events h. rw append-nil h)
 
--- an array, and the comma behind it
+-- an array, and the comma after it
 pub with_comma : {before after : List Event → Type 0} (old mid new : Reader) (piece : List ℕ) (n : ℕ) → n < length piece
     → old.offset + length piece ≤ old.limits.bytes → FeedsAll before after old mid (take n piece) → get_or piece n 0 ≡ comma → mid.mode ≡ ValueDone
     → inner_of (levels_in mid.levels) ≡ Some Array → Passed 1 ValueDue mid new → FeedsAll before after old new (take (n + 1) piece)
@@ -281,7 +277,7 @@ with_comma {before} {after} old mid new piece n w room f b done inner p =
     let Q : ℕ → Type 0 = λ x. P (take n piece ++ x ∷ []) in
     subst P (sym (take_more piece n 0 w)) (subst Q (sym b) (feeds_all_on old mid new (take n piece) (comma ∷ []) f g))
 
--- an array at the front of a piece
+-- an array at the start of a piece
 pub flat_taken : {before after : List Event → Type 0} (old new : Reader) (flat : Flat) (piece : List ℕ) (n : ℕ) → old.fault ≡ None → awaits old.mode ≡ true
     → length (levels_in old.levels) < old.limits.depth → old.offset + length piece ≤ old.limits.bytes → n ≤ length piece
     → IsFlat flat old.offset (take n piece) → Passed n ValueDone old new → ((events : List Event) → before events → after (events ++ flat_events flat))

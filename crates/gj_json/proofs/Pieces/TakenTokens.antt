@@ -43,7 +43,7 @@ use Rattle.gj_json.specs.Broken.{BeginsNumber as NumberBegun}
 use Rattle.gj_json.specs.Internal.QuietBytes.{Leads as LeadsOn, Reads}
 use Rattle.gj_json.specs.Reader.{Completed}
 use Rattle.gj_json.specs.Internal.SeenEvents.{seen, InTime, BegunAs, EdgeAt, partial_timed, stack_timed, done_members}
-use Rattle.gj_json.specs.Internal.ReaderState.{StandsWell, StandsAs, LeafAs, FitsName, FitsBroken, levels_of}
+use Rattle.gj_json.specs.Internal.ReaderState.{StandsWell, StandsAs, LeafAs, FitsBroken, FitsName, levels_of}
 use Rattle.gj_json.specs.Internal.ReaderStep.{opened}
 use Rattle.gj_json.specs.Internal.ToldEvents.{ending_event, emitted, event_at, opening_of, closing_of, is_on, in_number, text_state, start_after, NumberTurn}
 use Rattle.gj_json.specs.Internal.WholeTokens.{IsQuoted, Lands, names, may_begin, bracket_of}
@@ -212,7 +212,7 @@ after_next inner c next ending e = go inner c (after_move inner c) refl e
 
 module _ (limits : Allowed) (levels : List Level) (start offset : ℕ) (bytes : List ℕ) (b : ℕ) (k : StandsWell limits ValueDone levels start offset bytes)
     (room : offset < limits.bytes) where
-  done_go : (next : Mode) (ending : Ending) → after_move (inner_of levels) (class_of b) ≡ Go next ending
+  pub done_go : (next : Mode) (ending : Ending) → after_move (inner_of levels) (class_of b) ≡ Go next ending
       → Moved limits next levels offset (offset + 1) bytes (b ∷ []) []
   done_go next ending e =
       let u = under_of k.state in
@@ -221,7 +221,7 @@ module _ (limits : Allowed) (levels : List Level) (start offset : ℕ) (bytes : 
       byte_moved limits levels start ValueDone next levels offset bytes b k turn (own_value u) [] (own_turns u b) (own_has u turn) room (rw e at f)
       (rw (e, (after_next (inner_of levels) (class_of b) next ending e).nothing start) refl)
 
-  done_close : (level : Level) → after_move (inner_of levels) (class_of b) ≡ Close level
+  pub done_close : (level : Level) → after_move (inner_of levels) (class_of b) ≡ Close level
       → Moved limits ValueDone (outer_of levels) offset (offset + 1) bytes (b ∷ []) (event_at offset (closing_of level) ∷ [])
   done_close level e =
       let u = under_of k.state in
@@ -276,7 +276,7 @@ Begins s stack = (n b : ℕ) (c : Class) (next : Partial) → class_of b ≡ c �
 quoted_end : (content given : List ℕ) (n : ℕ) → IsQuoted content given → n + 1 + length content + 1 ≡ n + length given
 quoted_end content given n q = omega (arith, ap length q.spelled, length-append content (quote_byte ∷ []))
 
-string_leads : (content given : List ℕ) (n : ℕ) → IsQuoted content given → (s : Partial) (stack : List Frame) → Begins s stack
+pub string_leads : (content given : List ℕ) (n : ℕ) → IsQuoted content given → (s : Partial) (stack : List Frame) → Begins s stack
     → Leads s n given (at stack (value_done (string n content (n + length given))))
 string_leads content given n q s stack begins =
     let opens : step_leaf s.stack s.leaf n quote_byte ≡ to stack (string_on n [] Plain) =
@@ -305,7 +305,7 @@ constant_leads which given n e s stack begins = let P : List ℕ → Type 0 =
     go False = leads_byte (begins n _ (letter False) (at stack (constant_on False n (letters_after False))) (class_is (letter False) _ refl (λ e. cc)) refl)
         (letters_lead stack False n _ _ (n + 1))
 
--- a value that is no array and no object, at the front of a piece
+-- a value that is no array and no object, at the start of a piece
 module _ {before after : List Event → Type 0} (old new : Reader) (piece : List ℕ) (n : ℕ) (live : old.fault ≡ None) (due : awaits old.mode ≡ true)
     (room : old.offset + length piece ≤ old.limits.bytes) (w : n ≤ length piece) (p : Passed n ValueDone old new) where
   value_taken : (t : Tree) → depth t ≡ 0 → ((s : Partial) (stack : List Frame) → Begins s stack → Leads s old.offset (take n piece) (at stack (value_done t)))
@@ -332,8 +332,8 @@ module _ {before after : List Event → Type 0} (old new : Reader) (piece : List
 
 -- ---- a name
 
--- where a name may begin: what is open around it, and what has been seen
-record IsNaming (state : Broken) (levels : List Level) (d : ℕ) : Type 0 where
+-- where a name may begin: the object around it
+pub record IsNaming (state : Broken) (levels : List Level) (d : ℕ) : Type 0 where
   pub marked : Bool
   pub partial : Partial
   pub stack : List Frame
@@ -346,36 +346,31 @@ record IsNaming (state : Broken) (levels : List Level) (d : ℕ) : Type 0 where
   pub before : partial_timed partial ≡ stack_timed stack ++ (timed (place + 1) place What.OpenObject ∷ done_members done)
 
 leaf_naming : (marked : Bool) (stack : List Frame) (leaf : Leaf) (mode : Mode) (levels : List Level) (d : ℕ) → names mode ≡ true
-    → StandsAs (begun marked (at stack leaf)) mode levels → FitsBroken d (begun marked (at stack leaf))
-    → IsNaming (begun marked (at stack leaf)) levels d
-leaf_naming marked stack (name_due place done) mode levels d w a f =
-    record {
-      marked = marked;
-      partial = at stack (name_due place done);
-      stack = stack;
-      place = place;
-      done = done;
-      is = refl;
-      begins =
-          λ n. rw (class_is quote quote_byte refl (λ e. cc)) refl;
-      around = a.1;
-      fits = f;
-      before = refl;
-    }
-leaf_naming marked stack (object_opened place) mode levels d w a f =
-    record {
-      marked = marked;
-      partial = at stack (object_opened place);
-      stack = stack;
-      place = place;
-      done = [];
-      is = refl;
-      begins =
-          λ n. rw (class_is quote quote_byte refl (λ e. cc)) refl;
-      around = a.1;
-      fits = (f.0, tt, f.1);
-      before = refl;
-    }
+    → StandsAs (begun marked (at stack leaf)) mode levels → FitsBroken d (begun marked (at stack leaf)) → IsNaming (begun marked (at stack leaf)) levels d
+leaf_naming marked stack (object_opened place) mode levels d w a f = record {
+  marked = marked;
+  partial = at stack (object_opened place);
+  stack = stack;
+  place = place;
+  done = [];
+  is = refl;
+  begins = λ n. rw (class_is quote quote_byte refl (λ e. cc)) refl;
+  around = a.1;
+  fits = (f.0, tt, f.1);
+  before = refl;
+}
+leaf_naming marked stack (name_due place done) mode levels d w a f = record {
+  marked = marked;
+  partial = at stack (name_due place done);
+  stack = stack;
+  place = place;
+  done = done;
+  is = refl;
+  begins = λ n. rw (class_is quote quote_byte refl (λ e. cc)) refl;
+  around = a.1;
+  fits = f;
+  before = refl;
+}
 leaf_naming marked stack value_due mode levels d w a f = let x = rw (a.0) at w in cc
 leaf_naming marked stack (array_opened place) mode levels d w a f = let x = rw (a.0) at w in cc
 leaf_naming marked stack (value_done t) mode levels d w a f = let x = rw (a.0) at w in cc
@@ -385,7 +380,7 @@ leaf_naming marked stack (string_on place so_far state) mode levels d w a f = le
 leaf_naming marked stack (name_on place done np so_far state) mode levels d w a f = let x = rw (a.0) at w in cc
 leaf_naming marked stack (colon_due place done np name ne) mode levels d w a f = let x = rw (a.0) at w in cc
 
-is_naming : (state : Broken) (mode : Mode) (levels : List Level) (d : ℕ) → names mode ≡ true → StandsAs state mode levels → FitsBroken d state
+pub is_naming : (state : Broken) (mode : Mode) (levels : List Level) (d : ℕ) → names mode ≡ true → StandsAs state mode levels → FitsBroken d state
     → IsNaming state levels d
 is_naming text_due mode levels d w a f = let x = rw (a.0) at w in cc
 is_naming mark_one mode levels d w a f = let x = rw (a.0) at w in cc
@@ -421,7 +416,7 @@ module _ (limits : Allowed) (levels : List Level) (start : ℕ) where
       ∙ sym (append_assoc (mark_events marked) (stack_timed stack ++ (opening ∷ done_members done)) last) in
       rw e (ap told g ∙ map-append (λ (x : Timed). x.event) (mark_events marked ++ (stack_timed stack ++ (opening ∷ done_members done))) last)
 
-  name_well : (mode : Mode) (offset : ℕ) (bytes : List ℕ) (k : StandsWell limits mode levels start offset bytes) → names mode ≡ true → (content given : List ℕ)
+  pub name_well : (mode : Mode) (offset : ℕ) (bytes : List ℕ) (k : StandsWell limits mode levels start offset bytes) → names mode ≡ true → (content given : List ℕ)
       → IsQuoted content given → offset + length given ≤ limits.bytes
       → Moved limits ColonDue levels offset (offset + length given) bytes given (event_at offset (What.Name (known_of content)) ∷ [])
   name_well mode offset bytes k w content given q room =
@@ -485,7 +480,7 @@ fits_in : (d : ℕ) (mode : Mode) (levels : List Level) (o : Option Broken) {A :
 fits_in d mode levels None a g = g
 fits_in d mode levels (Some s) a g = (g.0, g.1 a)
 
-open_well : (limits : Allowed) (levels : List Level) (start : ℕ) (mode : Mode) (offset : ℕ) (bytes : List ℕ) → StandsWell limits mode levels start offset bytes
+pub open_well : (limits : Allowed) (levels : List Level) (start : ℕ) (mode : Mode) (offset : ℕ) (bytes : List ℕ) → StandsWell limits mode levels start offset bytes
     → may_begin mode ≡ true → (level : Level) → offset < limits.bytes → length levels + 1 ≤ limits.depth
     → Moved limits (opened level) (level ∷ levels) offset (offset + 1) bytes (bracket_of level ∷ []) (event_at offset (opening_of level) ∷ [])
 open_well limits levels start mode offset bytes k w level room deep =
@@ -524,7 +519,7 @@ awaits_free ValueDue e = refl
 awaits_free ArrayOpened e = refl
 awaits_free _ e = cc
 
--- behind the digits of a number
+-- after the digits of a number
 record Digits (limits : Allowed) (levels : List Level) (from to : ℕ) (bytes given : List ℕ) : Type 0 where
   pub well : StandsWell limits NumberOn levels from to (bytes ++ given)
   pub under : under_of well.state ≡ number given

@@ -6,16 +6,10 @@ use Rattle.std.proofs.lemmas.Simd.{mask_l-mod}
 use lib.Lanes.{zip2, sel_l, mask_l, top, Each1}
 use Rattle.gj_json.specs.declared.wide.TheConstants.{BEFORE}
 use Rattle.gj_json.specs.Internal.WideCharacters.{is_tail, is_stop, lower_of, upper_of, kind_at, kinds_of, ends_at, ends_of}
+use Rattle.gj_json.proofs.Pieces.LaneTests.{differs, top_c}
 
 abbrev pub at_most : ℕ → ℕ → ℕ
 at_most a b = cond (leb a b) 255 0
-
-abbrev pub differs : ℕ → ℕ → ℕ
-differs a b = cond (not (eqb a b)) 255 0
-
-top_c : (s : Bool) → top 7 (cond s 255 0) ≡ s
-top_c true = refl
-top_c false = refl
 
 -- ---- the kinds
 

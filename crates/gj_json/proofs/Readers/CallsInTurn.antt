@@ -92,7 +92,7 @@ taken_within reader bytes h = go reader.fault refl
 
 -- ---- the bytes that were taken
 
--- nothing was taken: nothing is told
+-- nothing was taken: nothing is reported
 nothing : (n m : ℕ) (bytes : List ℕ) → m ≡ n → Completed n m bytes []
 nothing n m bytes e = λ T rest t. rw e (sym (append-nil (events_by n T)))
 
@@ -256,7 +256,7 @@ feeds_on {before} {middle} {after} first next last xs ys f g = record {
   told = λ bytes events h k. hears_both {before = before} {middle = middle} {after = after} first next last xs ys bytes events f g h k;
 }
 
--- what comes behind a refused byte changes nothing
+-- what comes after a refused byte changes nothing
 pub feeds_more : {before after : List Event → Type 0} (old new : Reader) (given more : List ℕ) (fault : JsonFault) → Feeds before after old new given
     → new.fault ≡ Some fault → Feeds before after old new (given ++ more)
 feeds_more {before} {after} old new given more fault f e = record {
@@ -302,7 +302,7 @@ byte_to old new b result fault live room nested w e =
 pub completed_at : (m n : ℕ) (bytes : List ℕ) (es fs : List Event) → m ≡ n → fs ≡ es → Completed m (m + 1) bytes es → Completed n (n + 1) bytes fs
 completed_at m n bytes es fs e f h = rw (f, ← e) h
 
--- what a byte tells, and whether it is refused
+-- what a byte reports, and whether it is refused
 pub byte_told : {before after : List Event → Type 0} (old new : Reader) (b : ℕ) (bytes : List ℕ) (events : List Event) (result : Result Move JsonFault)
     → old.fault ≡ None → StandsFor old bytes
     → Takes before after old new b result → before events → IfOk result (λ done. HearsTwo after events bytes b)
@@ -320,7 +320,7 @@ pub byte_refusal : (old new : Reader) (result : Result Move JsonFault) → old.f
 byte_refusal old new result live (took made r o f l) = rw r (f ∙ live)
 byte_refusal old new result live (refused fault r o f l) = rw r f
 
--- the byte behind the most that are allowed
+-- the byte after the most that are allowed
 pub length_stands : {A : Type 0} (old new : Reader) (b : ℕ) (bytes : List ℕ) (fault : JsonFault) (result : Result A JsonFault) → result ≡ Err fault
     → old.fault ≡ None → old.offset ≡ old.limits.bytes → IsRefusedWith Length old new fault → StandsFor old bytes
     → StandsFor new (bytes ++ b ∷ []) × Answers old.limits (bytes ++ b ∷ []) result
@@ -352,7 +352,7 @@ pub feeds_to_on : {before middle after : List Event → Type 0} (first next last
 feeds_to_on first next last xs ys more fault f g =
     record { feeds = feeds_more first last (xs ++ ys) more fault (feeds_on first next last xs ys f g.feeds) g.refused; refused = g.refused }
 
--- ---- quiet bytes and then a byte, from the front of a piece
+-- ---- quiet bytes and then a byte, from the start of a piece
 
 pub front_skipped : {heard : List Event → Type 0} (old mid : Reader) (piece : List ℕ) (n : ℕ) → old.fault ≡ None → n ≤ length piece
     → old.offset + length piece ≤ old.limits.bytes → Skips old mid (take n piece) → FeedsAll heard heard old mid (take n piece)
@@ -361,7 +361,7 @@ front_skipped old mid piece n live w room s = skip_feeds old mid (take n piece) 
 byte_taken : (piece : List ℕ) (n : ℕ) → n < length piece → take n piece ++ get_or piece n 0 ∷ [] ≡ take (n + 1) piece
 byte_taken piece n w = sym (take_more piece n 0 w)
 
--- a front of a piece that was taken, and the byte behind it
+-- a prefix of a piece that was taken, and the byte after it
 module _ {before middle after : List Event → Type 0} (old mid new : Reader) (piece : List ℕ) (n : ℕ) (result : Result Move JsonFault) (w : n < length piece)
     (room : old.offset + length piece ≤ old.limits.bytes) (f : FeedsAll before middle old mid (take n piece))
     (t : Takes middle after mid new (get_or piece n 0) result) where
@@ -383,7 +383,7 @@ module _ {before middle after : List Event → Type 0} (old mid new : Reader) (p
       ap (λ xs. xs ++ drop (n + 1) piece) (byte_taken piece n w) ∙ take-append-drop (n + 1) piece in
       subst P k (feeds_to_on old mid new (take n piece) (get_or piece n 0 ∷ []) (drop (n + 1) piece) fault f g)
 
--- ---- one front of a piece after another
+-- ---- one prefix of a piece after another
 
 pub piece_all : {before middle after : List Event → Type 0} (first next last : Reader) (piece : List ℕ) (at n : ℕ)
     → FeedsAll before middle first next (take at piece) → FeedsAll middle after next last (take n (drop at piece))

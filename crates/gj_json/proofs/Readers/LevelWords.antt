@@ -1,5 +1,5 @@
 -- Words of bits keep as many levels as their counts say.
-use Rattle.std.proofs.Common.{◌≡◌, ◌≢◌, ℕ, zero, suc, ◌+◌, ◌*◌, ◌≤◌, ◌<◌, ◌/◌, ◌%◌, List, ◌∷◌, ◌++◌, length, get_or, set, refl, ap, arith, add-one}
+use Rattle.std.proofs.Common.{◌≡◌, ◌≢◌, ℕ, zero, suc, ◌+◌, ◌-◌, ◌*◌, ◌≤◌, ◌<◌, ◌/◌, ◌%◌, List, ◌∷◌, ◌++◌, length, get_or, set, refl, ap, arith, add-one}
 use Rattle.std.proofs.lemmas.List.{get_or-set_same, get_or-set_other, length-append}
 use Rattle.std.specs.Prelude.{slice_set}
 use Rattle.gj_json.specs.declared.levels.Levels.{Levels}
@@ -7,7 +7,7 @@ use Rattle.gj_json.specs.declared.levels.Level.{Level}
 use Rattle.gj_json.specs.declared.levels.Level.TheVariants.{Array, Object}
 use Rattle.gj_json.specs.declared.levels.TheConstants.{WORD}
 use Rattle.gj_json.specs.declared.limits.TheConstants.{MOST_LEVELS}
-use Rattle.gj_json.specs.Internal.OpenLevels.{level_of, bit_of, levels_at, full_levels, levels_in}
+use Rattle.gj_json.specs.Internal.OpenLevels.{level_of, bit_of, levels_at, full_levels, levels_in, outer_of}
 
 length-levels_at : (count bits : ℕ) → length (levels_at count bits) ≡ count
 length-levels_at zero bits = refl
@@ -44,3 +44,21 @@ bit_level Object = refl
 pub pushed_full : (level : Level) (bit inner count full : ℕ) (words : List ℕ) → bit ≡ bit_of level → count ≡ WORD → full < length words
     → levels_at 1 bit ++ full_levels (full + 1) (slice_set words full inner) ≡ level ∷ (levels_at count inner ++ full_levels full words)
 pushed_full level bit inner count full words b e l = rw (b, bit_level level, full_more words full inner l, e) refl
+
+-- the lowest bits of the word of the innermost levels
+three_inner : (count inner : ℕ) (around : List Level) → 2 < count → inner % 8 ≡ 3
+    → levels_at count inner ++ around ≡ Object ∷ Object ∷ Array ∷ (levels_at (count - 3) (inner / 2 / 2 / 2) ++ around)
+three_inner zero inner around few bits = absurd (omega arith)
+three_inner (suc zero) inner around few bits = absurd (omega arith)
+three_inner (suc (suc zero)) inner around few bits = absurd (omega arith)
+three_inner (suc (suc (suc count))) inner around few bits =
+    let one : inner % 2 ≡ 1 = omega arith in
+    let two : inner / 2 % 2 ≡ 1 = omega arith in
+    let three : inner / 2 / 2 % 2 ≡ 0 = omega arith in
+    let left : suc (suc (suc count)) - 3 ≡ count = omega arith in
+    rw (one, two, three, left) refl
+
+pub in_feature : (l : Levels) → 2 < l.count → l.inner % 8 ≡ 3
+    → levels_in l ≡ Object ∷ Object ∷ Array ∷ outer_of (outer_of (outer_of (levels_in l)))
+unfolding levels_in
+in_feature l few bits = rw (three_inner l.count l.inner (full_levels l.full l.outer) few bits) refl

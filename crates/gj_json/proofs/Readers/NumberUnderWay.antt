@@ -58,13 +58,13 @@ own_has nothing turn = tt
 own_has (text so_far state) turn = tt
 own_has (number so_far) turn = λ e. refl
 
--- where a number is under way behind a byte of a number
+-- where a number is under way after a byte of a number
 pub came_number : (so_far : List ℕ) (b : ℕ) (u : Under) → has_number u ≡ true → ComesFrom (number so_far) b u → u ≡ number (so_far ++ b ∷ [])
 came_number so_far b nothing e c = cc
 came_number so_far b (text xs st) e c = cc
 came_number so_far b (number xs) e c = rw (c.0) refl
 
--- where a string is under way behind a byte of a string
+-- where a string is under way after a byte of a string
 pub came_text : (so_far more : List ℕ) (state next : StringState) (b : ℕ) → string_next state b ≡ string_goes more next → (u : Under)
     → state_under u ≡ Some next → ComesFrom (text so_far state) b u → u ≡ text (so_far ++ more) next
 came_text so_far more state next b n nothing e c = cc
@@ -80,7 +80,7 @@ keeps_none nothing literal content e f = tt
 keeps_none (text so_far state) literal content e f = cc
 keeps_none (number so_far) literal content e f = cc
 
--- what is kept behind the byte
+-- what is kept after the byte
 pub keeps_on : (before after : Under) (old new : Reader) (b : ℕ) (turn : NumberTurn) → ComesFrom before b after → Keeps before old.literal old.content
     → Turns before b turn → LiteralGoes old new b turn → ContentGoes old new b
     → in_number old.mode ≡ has_number before → in_number new.mode ≡ has_number after → text_state old.mode ≡ state_under before

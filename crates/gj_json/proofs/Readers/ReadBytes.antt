@@ -117,7 +117,7 @@ module _ (limits : Allowed) (mode : Mode) (levels : List Level) (start offset : 
       let r = run-push bytes b k.state k.runs ∙ e in
       (stop k, room, some_viable (limits.depth + 1) (bytes ++ b ∷ []) next r f, too_deep next inner level r a l)
 
-  -- the state behind a byte that passes
+  -- the state after a byte that passes
   unfoldable pub passed : (k : Old) (next : Broken) (mode' : Mode) (levels' : List Level) (es : List Event) → offset < limits.bytes
       → step k.state (length bytes) b ≡ Some next → StandsAs next mode' levels' → FitsBroken limits.depth next
       → Tells (seen k.state) (start_after mode start offset) offset es (Some next)
@@ -151,7 +151,7 @@ pub well_of : (reader : Reader) (bytes : List ℕ) → reader.fault ≡ None →
     → StandsWell reader.limits reader.mode (levels_in reader.levels) reader.start reader.offset bytes
 well_of reader bytes live h = (open_of reader bytes live h).well
 
--- what is kept of the number under way behind the byte
+-- what is kept of the number under way after the byte
 next_keeps : (old new : Reader) (b : ℕ) (bytes : List ℕ)
     (k : StandsOpen old.limits old.mode (levels_in old.levels) old.literal old.content old.start old.offset bytes) (turn : NumberTurn)
     → Turns (under_of k.well.state) b turn → LiteralGoes old new b turn → ContentGoes old new b

@@ -1,4 +1,4 @@
--- What a byte does to a reader does not hang on its literal and its content.
+-- What a byte does to a reader does not depend on its literal and its content.
 use Rattle.std.proofs.Common.{inl, inr, ◌≡◌, ℕ, true, false, List, [], ◌∷◌, ◌++◌, length, Option, Some, None, Result, Ok, Err, refl, sym, ap, subst, ◌∙◌, arith}
 use Rattle.gj_json.specs.declared.fault.JsonFault.{JsonFault}
 use Rattle.gj_json.specs.declared.fault.Cause.{Cause}
@@ -129,7 +129,7 @@ ends_tells old value b e = ap (λ xs. xs ++ made_by old Ends b) (first old.mode 
 pub other_tells : (old : Reader) (turn : NumberTurn) (value : Option Exact) (b : ℕ) → in_number old.mode ≡ false → told_by old turn value b ≡ made_by old turn b
 other_tells old turn value b e = ap (λ xs. xs ++ made_by old turn b) (no_number old.mode turn value old.start e)
 
--- ---- what is left behind a byte
+-- ---- what is left after a byte
 
 passes_after : (old mid new : Reader) (mode : Mode) (levels : List Level) → Alike new mid → Passes mode levels old mid → Passes mode levels old new
 passes_after old mid new mode levels a p = record {

@@ -30,7 +30,7 @@ wrong_at fifth second last here =
     not (if last == backslash then may_follow here else
     (if fifth == letter_u || (second == backslash && not (last == letter_u)) then here == backslash else is_some (hex_of here)))
 
--- the same at each of some bytes
+-- as above, at each of some bytes
 abbrev pub wrong_of : List ℕ → List ℕ → List ℕ → List ℕ → List Bool
 wrong_of (p ∷ fifth) (q ∷ second) (r ∷ last) (a ∷ here) = wrong_at p q r a ∷ wrong_of fifth second last here
 wrong_of _ _ _ _ = []

@@ -40,7 +40,7 @@ pub record Skips (old new : Reader) (given : List ℕ) : Type 0 where
   pub offset : new.offset ≡ old.offset + length given
   pub by : SkipsBy old new given
 
--- so many bytes were passed over, and this is the mode behind them
+-- so many bytes were passed over, and this is the mode after them
 pub record Passed (count : ℕ) (mode : Mode) (old new : Reader) : Type 0 where
   pub limits : new.limits ≡ old.limits
   pub fault : new.fault ≡ old.fault

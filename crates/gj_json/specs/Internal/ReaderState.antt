@@ -94,7 +94,7 @@ pub record StandsWell (limits : Allowed) (mode : Mode) (levels : List Level) (st
   pub within : offset ≤ limits.bytes
   pub timely : IsTimely state start offset
 
--- a byte was refused behind those that were taken
+-- a byte was refused after those that were taken
 pub record StandsRefused (limits : Allowed) (fault : JsonFault) (mode : Mode) (levels : List Level) (start offset : ℕ) (bytes : List ℕ) : Type 0 where
   pub by_byte : IsByByte fault.cause
   pub refusal : IsRefusal limits bytes fault

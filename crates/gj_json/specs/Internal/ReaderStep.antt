@@ -23,7 +23,7 @@ abbrev pub opened : Level → Mode
 opened Array = ArrayOpened
 opened Object = ObjectOpened
 
--- a byte was taken, and these are the mode and the levels behind it
+-- a byte was taken, and these are the mode and the levels after it
 pub record Passes (mode : Mode) (levels : List Level) (old new : Reader) : Type 0 where
   pub limits : new.limits ≡ old.limits
   pub fault : new.fault ≡ old.fault
@@ -61,7 +61,7 @@ Applied (Open level) old new result =
     × (length (levels_in old.levels) < old.limits.depth → PassesTo (Open level) (opened level) (level ∷ levels_in old.levels) old new result)
 Applied (Close level) old new result = PassesTo (Close level) ValueDone (outer_of (levels_in old.levels)) old new result
 
--- a byte that is refused tells nothing
+-- a byte that is refused reports nothing
 abbrev pub told_on : Result Move JsonFault → List Event → List Event
 told_on (Ok made) events = events
 told_on (Err fault) events = []

@@ -32,7 +32,7 @@ abbrev pub under_of : Broken → Under
 under_of (begun marked s) = under_leaf s.leaf
 under_of _ = nothing
 
--- the second is under way behind the byte, where the first was before it
+-- the second is under way after the byte, where the first was before it
 abbrev pub ComesFrom : Under → ℕ → Under → Type 0
 ComesFrom before b nothing = Unit {0}
 ComesFrom nothing b (number so_far) = (so_far ≡ b ∷ []) × BeginsNumber so_far

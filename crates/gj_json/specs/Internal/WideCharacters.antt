@@ -24,7 +24,7 @@ is_narrow here next = here == 0xE0 && nat_lt next 0xA0 || here == 0xED && nat_le
 abbrev pub ends_at : ℕ → ℕ → ℕ → Bool
 ends_at before here next = is_stop here || (goes_on before here && not (is_tail next) || not (goes_on before here) && is_tail next) || is_narrow here next
 
--- the same at each of some bytes
+-- as above, at each of some bytes
 abbrev pub ends_of : List ℕ → List ℕ → List ℕ → List Bool
 ends_of (p ∷ before) (a ∷ here) (b ∷ next) = ends_at p a b ∷ ends_of before here next
 ends_of _ _ _ = []
@@ -48,6 +48,6 @@ kinds_of _ _ = []
 abbrev pub EndsThere : List ℕ → ℕ → Type 0
 EndsThere piece i = ends_at (get_or piece (i - 1) 0) (get_or piece i 0) (get_or piece (i + 1) 0) ≡ true
 
--- at none of these bytes, of which the first is behind the first of the piece
+-- at none of these bytes, of which the first is after the first of the piece
 abbrev pub NoneEnds : List ℕ → ℕ → Type 0
 NoneEnds piece count = (i : ℕ) → i + 1 < count → ends_at (get_or piece i 0) (get_or piece (i + 1) 0) (get_or piece (i + 2) 0) ≡ false

@@ -115,7 +115,7 @@ impl Reader {
         Ok(made)
     }
 
-    /// Takes a byte that goes on in no number and ends no character of a string, and tells what it ends, opens or closes.
+    /// Takes a byte that goes on in no number and ends no character of a string, and reports what it ends, opens or closes.
     ///
     /// The mode is handed in so that each caller's is known where it is inlined.
     #[inline(always)]
@@ -143,7 +143,7 @@ impl Reader {
         Ok(made)
     }
 
-    /// Takes the byte after the number under way, which has this value, and tells the number before all else.
+    /// Takes the byte after the number under way, which has this value, and reports the number before all else.
     #[inline(always)]
     fn take_after_number<S: EventSink>(
         &mut self,
@@ -248,7 +248,7 @@ impl Reader {
         Ok(made)
     }
 
-    /// Takes a byte that the limit on the bytes allows, tells the events that it completes, and answers the move that it makes.
+    /// Takes a byte that the limit on the bytes allows, reports the events that it completes, and answers the move that it makes.
     pub(super) fn take_byte<S: EventSink>(
         &mut self,
         byte: u8,

@@ -57,7 +57,7 @@ impl Reader {
     }
 
     /// Takes an array of two or three ordinary numbers that stands whole at the start of the piece, in an array with a comma
-    /// after it and the white space after that, and tells it at once: how many bytes. Where none does, nothing is taken.
+    /// after it and the white space after that, and reports it at once: how many bytes. Where none does, nothing is taken.
     #[inline(always)]
     fn take_flat<S: EventSink>(
         &mut self,

@@ -12,7 +12,7 @@ impl Reader {
     ghost use Rattle.gj_json.specs.Ignored.{Leaves};
     ghost use Rattle.gj_json.specs.Internal.FedReader.{FeedsAll, FeedsTo, FeedsWithin, FeedsWithinTo};
 
-    /// Takes bytes from the front of the piece, one at least, where some levels above the floor are open: how many.
+    /// Takes bytes from the start of the piece, one at least, where some levels above the floor are open: how many.
     fn take_some_within(&mut self, piece: &[u8], floor: u16) -> Result<usize, JsonFault>
         requires live { self.old.fault ≡ None }
         requires some { 0 < length piece.now }
@@ -33,7 +33,7 @@ impl Reader {
         }
     }
 
-    /// Takes bytes from the front of the piece until the levels above the floor have closed: how many.
+    /// Takes bytes from the start of the piece until the levels above the floor have closed: how many.
     fn take_within(&mut self, piece: &[u8], floor: u16) -> Result<usize, JsonFault>
         requires live { self.old.fault ≡ None }
         requires room { self.old.offset + length piece.now ≤ self.old.limits.bytes }
@@ -63,7 +63,7 @@ impl Reader {
         Ok(at)
     }
 
-    /// Takes bytes from the front of the piece whose events do not matter to the sink: how many.
+    /// Takes bytes from the start of the piece whose events do not matter to the sink: how many.
     #[inline(never)]
     pub(super) fn take_ignored<S: EventSink>(
         &mut self,
@@ -88,7 +88,7 @@ impl Reader {
         taken
     }
 
-    /// The same, told at once where no container has just been opened.
+    /// As `take_ignored`, and at once nothing where no container has just been opened.
     #[inline(always)]
     pub(super) fn take_if_opened<S: EventSink>(
         &mut self,
@@ -145,7 +145,7 @@ impl Reader {
         0
     }
 
-    /// The same, told at once where no such array or object has just been opened, or fewer than `least` bytes are left.
+    /// As `take_missed`, and at once nothing where no such container has just been opened, or fewer than `least` bytes are left.
     ///
     /// Where it ends only after the piece, or a byte in it is refused, these bytes are read again with their events. So no other
     /// is tried in the piece then, and none where less is left than the last one had: each byte is read twice at the most.

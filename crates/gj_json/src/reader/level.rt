@@ -20,7 +20,7 @@ use gj_number::read_short;
 impl Reader {
     ghost use Rattle.gj_json.specs.Internal.FedReader.{FeedsLevel, FeedsWithin};
 
-    /// Takes the string at the front of the piece, where it stands whole, and the comma after it: how many bytes.
+    /// Takes the string at the start of the piece, where it stands whole, and the comma after it: how many bytes.
     #[inline(always)]
     fn pass_text(&mut self, piece: &[u8]) -> usize
         requires some { 0 < length piece.now }
@@ -46,7 +46,7 @@ impl Reader {
         self.skip(count, Mode::ValueDone)
     }
 
-    /// Takes the literal name at the front of the piece, where it stands whole, and the comma after it: how many bytes.
+    /// Takes the literal name at the start of the piece, where it stands whole, and the comma after it: how many bytes.
     #[inline(always)]
     fn pass_constant(&mut self, which: Constant, piece: &[u8]) -> usize
         requires live { self.old.fault ≡ None }
@@ -67,7 +67,7 @@ impl Reader {
         count + self.pass_comma(&piece[count..])
     }
 
-    /// Takes the name at the front of the piece, where it stands whole: how many bytes.
+    /// Takes the name at the start of the piece, where it stands whole: how many bytes.
     #[inline(always)]
     fn pass_name(&mut self, piece: &[u8]) -> usize
         requires some { 0 < length piece.now }
@@ -87,7 +87,7 @@ impl Reader {
         self.skip(count, Mode::ColonDue)
     }
 
-    /// Takes the colon at the front of the piece, and the white space after it: how many bytes.
+    /// Takes the colon at the start of the piece, and the white space after it: how many bytes.
     #[inline(always)]
     fn pass_colon(&mut self, piece: &[u8]) -> usize
         requires some { 0 < length piece.now }
@@ -103,7 +103,7 @@ impl Reader {
         self.skip(space_end(piece, 1), Mode::ValueDue)
     }
 
-    /// Takes the comma at the front of the piece: how many bytes.
+    /// Takes the comma at the start of the piece: how many bytes.
     #[inline(always)]
     fn pass_comma(&mut self, piece: &[u8]) -> usize
         requires some { 0 < length piece.now }
@@ -122,7 +122,7 @@ impl Reader {
         }
     }
 
-    /// Takes the ordinary number at the front of the piece, and the byte after it, mostly a comma: how many bytes, or 0 where
+    /// Takes the ordinary number at the start of the piece, and the byte after it, mostly a comma: how many bytes, or 0 where
     /// that byte ends no value.
     #[inline(always)]
     fn pass_number(&mut self, piece: &[u8], floor: u16) -> usize
@@ -158,7 +158,7 @@ impl Reader {
         }
     }
 
-    /// Takes the bracket at the front of the piece that opens a level: 1, or 0 where it opens one level too many.
+    /// Takes the bracket at the start of the piece that opens a level: 1, or 0 where it opens one level too many.
     #[inline(always)]
     fn pass_open(&mut self, level: Level, piece: &[u8], floor: u16) -> usize
         requires some { 0 < length piece.now }
@@ -179,7 +179,7 @@ impl Reader {
         self.skip(1, opened_mode(level))
     }
 
-    /// Takes the bracket at the front of the piece that closes the innermost level: 1, or 0 where there is none.
+    /// Takes the bracket at the start of the piece that closes the innermost level: 1, or 0 where there is none.
     #[inline(always)]
     fn pass_close(&mut self, piece: &[u8], floor: u16) -> usize
         requires some { 0 < length piece.now }
@@ -201,7 +201,7 @@ impl Reader {
         }
     }
 
-    /// Takes the literal name at the front of the piece, as above, or the bracket that opens a level: how many bytes.
+    /// Takes the literal name at the start of the piece, as above, or the bracket that opens a level: how many bytes.
     #[inline(always)]
     fn pass_value(&mut self, piece: &[u8], floor: u16) -> usize
         requires some { 0 < length piece.now }
@@ -224,7 +224,7 @@ impl Reader {
         }
     }
 
-    /// Takes the value at the front of the piece, where it stands whole, and the comma after it, or the bracket that opens it; a
+    /// Takes the value at the start of the piece, where it stands whole, and the comma after it, or the bracket that opens it; a
     /// number with the byte after it: how many bytes.
     #[inline(always)]
     fn pass_element(&mut self, piece: &[u8], floor: u16) -> usize
@@ -248,7 +248,7 @@ impl Reader {
         self.pass_value(piece, floor)
     }
 
-    /// Takes the name at the front of the piece, its colon and its value, and the comma after that: how many bytes.
+    /// Takes the name at the start of the piece, its colon and its value, and the comma after that: how many bytes.
     #[inline(always)]
     fn pass_member(&mut self, piece: &[u8], floor: u16) -> usize
         requires some { 0 < length piece.now }
@@ -274,7 +274,7 @@ impl Reader {
         named + self.pass_element(&piece[named..], floor)
     }
 
-    /// Takes the member at the front of the piece, as above, or the white space there: how many bytes.
+    /// Takes the member at the start of the piece, as above, or the white space there: how many bytes.
     #[inline(always)]
     fn pass_member_or_white(&mut self, piece: &[u8], floor: u16) -> usize
         requires some { 0 < length piece.now }
@@ -295,7 +295,7 @@ impl Reader {
         }
     }
 
-    /// Takes members from the front of the piece, one after another, with the white space between them: how many bytes.
+    /// Takes members from the start of the piece, one after another, with the white space between them: how many bytes.
     #[inline(always)]
     fn pass_members(&mut self, piece: &[u8], floor: u16) -> usize
         requires live { self.old.fault ≡ None }
@@ -322,7 +322,7 @@ impl Reader {
         at
     }
 
-    /// Takes white space, or tokens that stand whole at the front of the piece: how many bytes.
+    /// Takes white space, or tokens that stand whole at the start of the piece: how many bytes.
     #[inline(always)]
     fn pass_token(&mut self, piece: &[u8], floor: u16) -> usize
         requires some { 0 < length piece.now }
@@ -359,7 +359,7 @@ impl Reader {
         }
     }
 
-    /// Takes whole tokens from the front of the piece, as long as levels above the floor are open: how many bytes.
+    /// Takes whole tokens from the start of the piece, as long as levels above the floor are open: how many bytes.
     pub(super) fn pass_tokens(&mut self, piece: &[u8], floor: u16) -> usize
         requires live { self.old.fault ≡ None }
         requires room { self.old.offset + length piece.now ≤ self.old.limits.bytes }

@@ -24,7 +24,7 @@ fn is_value_due(mode: Mode) -> bool
 impl Reader {
     ghost use Rattle.gj_json.specs.Internal.FedReader.{Passed, Skips, FeedsAll, FeedsTo};
 
-    /// Passes over so many bytes, behind which this is the mode.
+    /// Passes over so many bytes, after which this is the mode.
     pub(super) fn skip(&mut self, count: usize, mode: Mode) -> usize
         requires room { self.old.offset + count ≤ self.old.limits.bytes }
         requires small { self.old.limits.bytes ≤ 2 ^ 60 }
@@ -37,7 +37,7 @@ impl Reader {
         count
     }
 
-    /// Passes over so many bytes, behind which a value is due, as mostly it was before.
+    /// Passes over so many bytes, after which a value is due, as mostly it was before.
     #[inline(always)]
     pub(super) fn skip_to_value(&mut self, count: usize) -> usize
         requires room { self.old.offset + count ≤ self.old.limits.bytes }
@@ -52,7 +52,7 @@ impl Reader {
         self.skip(count, Mode::ValueDue)
     }
 
-    /// Takes the bytes at the front of the piece that go on in the number under way: how many.
+    /// Takes the bytes at the start of the piece that go on in the number under way: how many.
     fn skip_number(&mut self, piece: &[u8]) -> usize
         requires room { self.old.offset + length piece.now ≤ self.old.limits.bytes }
         requires small { self.old.limits.bytes ≤ 2 ^ 60 }
@@ -64,7 +64,7 @@ impl Reader {
         self.skip(count, Mode::NumberOn)
     }
 
-    /// Takes the bytes at the front of the piece that complete nothing and open or close nothing: how many.
+    /// Takes the bytes at the start of the piece that complete nothing and open or close nothing: how many.
     pub(super) fn skip_quiet(&mut self, piece: &[u8]) -> usize
         requires room { self.old.offset + length piece.now ≤ self.old.limits.bytes }
         requires small { self.old.limits.bytes ≤ 2 ^ 60 }
@@ -85,7 +85,7 @@ impl Reader {
         }
     }
 
-    /// The same, where white space before a token is most of them.
+    /// As `skip_quiet`, for a piece in which white space before a token is most of them.
     #[inline(always)]
     pub(super) fn skip_white(&mut self, piece: &[u8]) -> usize
         requires room { self.old.offset + length piece.now ≤ self.old.limits.bytes }
@@ -99,7 +99,7 @@ impl Reader {
         }
     }
 
-    /// The same, told at once where the first byte is none of them.
+    /// As `skip_quiet`, and at once nothing where the first byte is none of them.
     #[inline(always)]
     pub(super) fn skip_front(&mut self, piece: &[u8]) -> usize
         requires some { 0 < length piece.now }
@@ -120,7 +120,7 @@ impl Reader {
         }
     }
 
-    /// Takes bytes from the front of the piece, one at least: how many.
+    /// Takes bytes from the start of the piece, one at least: how many.
     fn take_some<S: EventSink>(&mut self, piece: &[u8], sink: &mut S) -> Result<usize, JsonFault>
         requires live { self.old.fault ≡ None }
         requires some { 0 < length piece.now }
@@ -144,7 +144,7 @@ impl Reader {
         }
     }
 
-    /// Takes bytes from the front of the piece whose events do not matter to the sink, told at once where there are none:
+    /// Takes bytes from the start of the piece whose events do not matter to the sink, and at once none where there are none:
     /// how many.
     #[inline(always)]
     fn take_if_ignored<S: EventSink>(

@@ -61,13 +61,13 @@ fn is_cut(piece: &[u8]) -> bool {
     true
 }
 
-/// How many numbers an array has at the least that is not told at once.
+/// How many numbers an array has at the least that is not reported at once.
 const MANY: u8 = 4;
 
-/// A number of more bytes with the byte after it is hardly one that is told at once.
+/// A number of more bytes with the byte after it is hardly one that is reported at once.
 const LONG: usize = 20;
 
-/// Whether this byte is one of arrays of numbers that are not told at once: so many numbers were in the last of them.
+/// Whether this byte is one of arrays of numbers that are not reported at once: so many numbers were in the last of them.
 #[inline(always)]
 fn goes_on(byte: u8, numbers: u8) -> bool {
     match byte {
@@ -77,7 +77,7 @@ fn goes_on(byte: u8, numbers: u8) -> bool {
     }
 }
 
-/// How many numbers are in the array after a token that begins by this byte and has so many bytes. One that is not told at
+/// How many numbers are in the array after a token that begins by this byte and has so many bytes. One that is not reported at
 /// once counts as many.
 #[inline(always)]
 fn numbers_with(byte: u8, count: usize, numbers: u8) -> u8 {
@@ -123,7 +123,7 @@ impl Reader {
         self.skip(count, Mode::ValueDone)
     }
 
-    /// The same, at once where it is a usual one.
+    /// As `take_plain_text`, at once where the string is a usual one.
     #[inline(always)]
     fn take_text<S: EventSink>(&mut self, piece: &[u8], sink: &mut S) -> usize
         requires some { 0 < length piece.now }
@@ -177,9 +177,9 @@ impl Reader {
         self.skip(name + colon, Mode::ValueDue)
     }
 
-    /// The same, at once where it is a usual one with its colon behind it.
+    /// As `take_plain_name`, at once where the name is a usual one with its colon after it.
     #[inline(always)]
-    fn take_named<S: EventSink>(&mut self, piece: &[u8], sink: &mut S) -> usize
+    pub(super) fn take_named<S: EventSink>(&mut self, piece: &[u8], sink: &mut S) -> usize
         requires some { 0 < length piece.now }
         requires live { self.old.fault ≡ None }
         requires due { names self.old.mode ≡ true }
@@ -224,7 +224,12 @@ impl Reader {
 
     /// Takes the bracket that opens a level: 1, or 0 where it opens one level too many.
     #[inline(always)]
-    fn take_open<S: EventSink>(&mut self, level: Level, piece: &[u8], sink: &mut S) -> usize
+    pub(super) fn take_open<S: EventSink>(
+        &mut self,
+        level: Level,
+        piece: &[u8],
+        sink: &mut S,
+    ) -> usize
         requires some { 0 < length piece.now }
         requires begins { get_or piece.now 0 0 ≡ bracket_of level }
         requires live { self.old.fault ≡ None }
@@ -342,7 +347,7 @@ impl Reader {
 
     /// Takes the byte after a value, where it is a comma, a closing bracket or white space: 1, or 0.
     #[inline(always)]
-    fn take_end<S: EventSink>(&mut self, piece: &[u8], sink: &mut S) -> usize
+    pub(super) fn take_end<S: EventSink>(&mut self, piece: &[u8], sink: &mut S) -> usize
         requires some { 0 < length piece.now }
         requires live { self.old.fault ≡ None }
         requires done { self.old.mode ≡ ValueDone }
@@ -377,7 +382,7 @@ impl Reader {
                 }
                 text + self.take_end(&piece[text..], sink)
             }
-            b'{' => self.take_open(Level::Object, piece, sink),
+            b'{' => self.take_object(piece, sink),
             b'[' => {
                 // No array of numbers begins so.
                 if piece.len() > 1 && piece[1] == b'[' {
@@ -419,7 +424,7 @@ impl Reader {
         }
     }
 
-    /// Takes the bracket of an array, and the numbers in it: how many bytes. Where those are not such as are told at once,
+    /// Takes the bracket of an array, and the numbers in it: how many bytes. Where those are not such as are reported at once,
     /// the arrays after it are taken so too, since they mostly are alike.
     #[inline(never)]
     fn take_rows<S: EventSink>(&mut self, piece: &[u8], sink: &mut S) -> usize
@@ -484,12 +489,12 @@ impl Reader {
             return self.take_white(piece, sink);
         }
         match self.mode {
-            Mode::ValueDone => self.take_end(piece, sink),
+            Mode::ValueDone => self.take_ends(piece, sink),
             Mode::NameDue | Mode::ObjectOpened => {
                 if sink.ignored() > 0 {
                     return 0;
                 }
-                let named = self.take_named(piece, sink);
+                let named = self.take_member(piece, sink);
                 if named == 0 || named == piece.len() {
                     return named;
                 }
@@ -569,8 +574,8 @@ impl Reader {
         }
     }
 
-    /// Takes the tokens that stand whole at the start of the piece, the text's first bracket among them: how many bytes, told
-    /// at once where no token is due or the piece is short.
+    /// Takes the tokens that stand whole at the start of the piece, the text's first bracket among them: how many bytes, and
+    /// at once none where no token is due or the piece is short.
     #[inline(always)]
     pub(super) fn take_if_token<S: EventSink>(&mut self, piece: &[u8], sink: &mut S) -> usize
         requires live { self.old.fault ≡ None }

@@ -17,7 +17,7 @@ none_after : (bytes : List ℕ) → state_after None bytes ≡ None
 none_after [] = refl
 none_after (b ∷ bytes) = refl
 
--- the state behind the bytes is the one of the scan that they lead to
+-- the state after the bytes is the one of the scan that they lead to
 scanned : (bytes : List ℕ) (s t : Scan) → Reaches s bytes t → state_after (Some s.state) bytes ≡ Some t.state
 scanned [] s t h = ap (λ u. Some u.state) h
 scanned (b ∷ bytes) s t h =

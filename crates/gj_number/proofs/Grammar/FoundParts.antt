@@ -43,9 +43,9 @@ fails_all : (p : ℕ → Bool) → ((b : ℕ) → IsDigit b → p b ≡ false) �
 fails_all p f [] h = tt
 fails_all p f (x ∷ xs) h = (f x h.0, fails_all p f xs h.1)
 
-all_on : (P : ℕ → Type 0) (xs ys : List ℕ) → AllByRecursion P xs → AllByRecursion P ys → AllByRecursion P (xs ++ ys)
-all_on P [] ys h k = k
-all_on P (x ∷ xs) ys h k = (h.0, all_on P xs ys h.1 k)
+pub all-append : (P : ℕ → Type 0) (xs ys : List ℕ) → AllByRecursion P xs → AllByRecursion P ys → AllByRecursion P (xs ++ ys)
+all-append P [] ys h k = k
+all-append P (x ∷ xs) ys h k = (h.0, all-append P xs ys h.1 k)
 
 -- ---- bytes
 
@@ -76,12 +76,12 @@ fraction_digits digits bytes h = elim h [ inl e ↦ rw (e.1) tt | inr e ↦ all_
 
 pub parts_digits : (parts : Parts) (literal : List ℕ) → Spells parts literal → AllByRecursion IsDigit (parts.natural ++ parts.fraction)
 parts_digits parts literal h =
-    all_on IsDigit parts.natural parts.fraction (natural_digits parts.natural h.spells_natural)
+    all-append IsDigit parts.natural parts.fraction (natural_digits parts.natural h.spells_natural)
     (fraction_digits parts.fraction h.behind_point h.spells_fraction)
 
 -- ---- the parts
 
--- a literal's sign, and what stands behind it
+-- a literal's sign, and what stands after it
 sign_split : (negative : Bool) (sign natural tail literal : List ℕ) → literal ≡ sign ++ (natural ++ tail) → SpellsSign negative sign → IsNatural natural
     → (is_negative literal ≡ negative) × (unsigned_of literal ≡ natural ++ tail)
 sign_split negative sign [] tail literal e s n = absurd n
@@ -127,7 +127,7 @@ found parts literal h =
     let b = fraction_ends parts.fraction h.behind_point h.spells_fraction in
     let c = exponent_ends parts.exponent h.behind_digits h.spells_exponent in
     let digits = natural_digits parts.natural h.spells_natural in
-    let front = all_on (Fails is_exponent_letter) parts.natural h.behind_point (fails_all is_exponent_letter digit_no_letter parts.natural digits) b.2 in
+    let front = all-append (Fails is_exponent_letter) parts.natural h.behind_point (fails_all is_exponent_letter digit_no_letter parts.natural digits) b.2 in
     let joined : unsigned_of literal ≡ (parts.natural ++ h.behind_point) ++ h.behind_digits =
     a.1 ∙ sym (append_assoc parts.natural h.behind_point h.behind_digits) in
     let s : significand_of literal ≡ parts.natural ++ h.behind_point =

@@ -148,7 +148,7 @@ unsigned_on s parts behind_point behind_digits z f n p x =
       },
     )
 
--- the state behind a number's sign
+-- the state after a number's sign
 abbrev behind_sign : Bool → State
 behind_sign false = Start
 behind_sign true = AfterMinus

@@ -40,7 +40,7 @@ zero_is b m = (omega arith, omega arith)
 first_is : (b : ℕ) → IsFirstDigit b → IsDigit b
 first_is b m = (omega arith, omega arith)
 
--- ---- one byte more in front
+-- ---- one byte more at the start
 
 unsigned_zero : (b : ℕ) (bytes : List ℕ) → b ≡ zero_digit → Rest AfterZero bytes → IsUnsigned (b ∷ bytes)
 unsigned_zero b bytes m k = (b ∷ [], k.0, k.1, ap (λ xs. b ∷ xs) k.2, inl (m, refl), k.3, k.4)

@@ -13,7 +13,7 @@ scaled_below n i j k h e =
     let l : 10 ^ (i + j) ≤ 10 ^ k = pow-le-pow_right {n = 10} (omega arith) e in
     omega arith
 
--- with a digit more behind it
+-- with a digit more after it
 pub digit_below : (n i j digit : ℕ) → n < 10 ^ i → digit < 10 ^ j → n * 10 ^ j + digit < 10 ^ (i + j)
 digit_below n i j digit h k =
     let step : n + 1 ≤ 10 ^ i = omega arith in
@@ -69,7 +69,7 @@ pub head_small : (head count : ℕ) → head < 10 ^ min count 19 → count < 19 
 head_small head count h k = let l : 10 ^ min count 19 ≤ 10 ^ 18 =
     (let e : min count 19 ≤ 18 = omega arith in pow-le-pow_right {n = 10} (omega arith) e) in omega arith
 
--- behind the first digits there is room for another
+-- after the first digits there is room for another
 pub rest_small : (rest count : ℕ) → rest < 10 ^ (count - 19) → count < 30 → rest < 10 ^ 11
 rest_small rest count h few =
     let e : count - 19 ≤ 11 = omega arith in

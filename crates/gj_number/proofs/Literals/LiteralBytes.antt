@@ -75,7 +75,7 @@ value_by bytes t h n = go p.0 p.1 (subst P (one_scan start k.0 t bytes k.1 h) k.
 
 -- ---- runs of digits
 
--- the scan behind digits before the point
+-- the scan after digits before the point
 pub natural_on : (t : Scan) (digits : List ℕ) → t.state ≡ InNatural → All IsDigit digits
     → Reaches t digits (record t { whole = fold with_digit t.whole digits })
 natural_on t digits e h =
@@ -84,7 +84,7 @@ natural_on t digits e h =
     (at s t.negative (fold with_digit t.whole digits) t.fraction t.exponent_negative t.exponent) in
     subst P (sym e) (natural_run t.negative t.whole t.fraction t.exponent_negative t.exponent digits (recursion_from_All IsDigit digits h))
 
--- the scan behind digits behind the point
+-- the scan after digits after the point
 pub fraction_on : (t : Scan) (digits : List ℕ) → t.state ≡ InFraction → All IsDigit digits
     → Reaches t digits (record t { whole = fold with_digit t.whole digits; fraction = t.fraction + length digits })
 fraction_on t digits e h =
@@ -94,7 +94,7 @@ fraction_on t digits e h =
     subst P (sym e) (fraction_run t.negative t.whole t.fraction (t.fraction + length digits) t.exponent_negative t.exponent digits refl
     (recursion_from_All IsDigit digits h))
 
--- the scan behind digits of the exponent
+-- the scan after digits of the exponent
 pub exponent_on : (t : Scan) (digits : List ℕ) → t.state ≡ InExponent → All IsDigit digits
     → Reaches t digits (record t { exponent = fold with_digit t.exponent digits })
 exponent_on t digits e h =
@@ -103,7 +103,7 @@ exponent_on t digits e h =
     (at s t.negative t.whole t.fraction t.exponent_negative (fold with_digit t.exponent digits)) in
     subst P (sym e) (exponent_run t.negative t.whole t.fraction t.exponent_negative t.exponent digits (recursion_from_All IsDigit digits h))
 
--- the scan behind the first digits behind the point
+-- the scan after the first digits after the point
 pub behind_point : (t : Scan) (digits : List ℕ) → t.state ≡ AfterPoint → 0 < length digits → All IsDigit digits
     → Reaches t digits (record t { state = InFraction; whole = fold with_digit t.whole digits; fraction = t.fraction + length digits })
 behind_point t [] e some h = absurd (omega arith)

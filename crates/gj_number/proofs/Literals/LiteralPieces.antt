@@ -1,4 +1,4 @@
--- The front of a piece that a literal takes, run by run and byte by byte.
+-- The prefix of a piece that a literal takes, run by run and byte by byte.
 use Rattle.std.proofs.Common.{◌≡◌, ℕ, ◌+◌, ◌-◌, ◌<◌, ◌≤◌, Some, List, [], ◌∷◌, ◌++◌, take, drop, get_or, length, sym, ◌∙◌, ap, subst, arith, append_assoc}
 use Rattle.std.proofs.Common.{length-drop}
 use Rattle.std.proofs.Math.Seq.{take-add}
@@ -20,7 +20,7 @@ pub one_more : (bytes piece : List ℕ) (i : ℕ) → take (i + 1) piece ≡ tak
     → (bytes ++ take i piece) ++ get_or piece i 0 ∷ [] ≡ bytes ++ take (i + 1) piece
 one_more bytes piece i e = append_assoc bytes (take i piece) (get_or piece i 0 ∷ []) ∙ ap (λ xs. bytes ++ xs) (sym e)
 
--- the scan behind the first byte of a piece
+-- the scan after the first byte of a piece
 pub reaches_first : (bytes piece : List ℕ) (t : Scan) (state : State) → 0 < length piece → Reaches start bytes t
     → next_of t.state (class_of (get_or piece 0 0)) ≡ Some state
     → Reaches start (bytes ++ take 1 piece) (taken state (get_or piece 0 0) t)
@@ -32,7 +32,7 @@ reaches_first bytes piece t state some h e =
 pub run_more : (bytes piece : List ℕ) (i n : ℕ) → (bytes ++ take i piece) ++ take n (drop i piece) ≡ bytes ++ take (i + n) piece
 run_more bytes piece i n = append_assoc bytes (take i piece) (take n (drop i piece)) ∙ ap (λ xs. bytes ++ xs) (sym (take-add i n piece))
 
--- the bytes so far with digits, a point and the digits behind it
+-- the bytes so far with digits, a point and the digits after it
 pub decimal_more : (bytes piece : List ℕ) (n m : ℕ) → n < length piece → get_or piece n 0 ≡ decimal_point
     → (bytes ++ take n piece) ++ decimal_point ∷ take m (drop (n + 1) piece) ≡ bytes ++ take (n + 1 + m) piece
 decimal_more bytes piece n m h e = rw (take-add (n + 1) m piece, take_more piece n 0 h, e) (simp append_assoc)

@@ -64,7 +64,7 @@ too_many kept count pending places whole fraction digit h k many d e fraction' =
     let power = thirty (count + pending) many in
     ends_here whole digit fraction' h k (inl (omega arith))
 
--- the same, for what is kept
+-- as above, for what is kept
 kept_on : (kept count pending places whole fraction digit kept' count' pending' places' : ℕ) → 0 < digit → digit < 10
     → AddsOne kept count pending digit kept' count' pending' → places' ≤ 1400
     → HasNoDigit kept count pending places whole fraction ⊎ HasDigits kept count pending places whole fraction → fraction ≡ places
@@ -172,7 +172,7 @@ past_natural kept count pending places whole s full old = elim old [
   ]
 ]
 
--- a zero behind the point, with how many places and pending are counted now
+-- a zero after the point, with how many places and pending are counted now
 pub zero_fraction : (kept count pending places whole fraction pending' places' : ℕ) → IsKept kept count pending places whole fraction
     → (count ≡ 0 → pending' ≡ pending) → (count ≢ 0 → pending' + places ≡ pending + places') → (places < 1400 → places' ≡ places + 1)
     → (1400 ≤ places → places' ≡ places)

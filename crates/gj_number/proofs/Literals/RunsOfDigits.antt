@@ -14,7 +14,7 @@ use Rattle.gj_number.proofs.Shorts.PiecePrefixes.{first_is}
 use Rattle.gj_number.proofs.Literals.OneDigitMore.{at_least}
 use Rattle.gj_number.proofs.Value.NormalForm.{ten_above_zero}
 
--- digits with zeros behind them are no zero
+-- digits with zeros after them are no zero
 pub some_times : (head zeros : ℕ) → 0 < head → 0 < head * 10 ^ zeros
 some_times head zeros h = let p = ten_above_zero zeros in let m = mul-le-mul_right (10 ^ zeros) h in omega arith
 
@@ -76,7 +76,7 @@ kept_run kept head count zeros all total whole k is sum d =
     let w : whole ≡ kept * 10 ^ zeros = rw tens_is at d.whole_is in
     (rw (w, k, is) refl, rw (sum, is, ← k) (at_least kept count zeros d.least))
 
--- a digit more behind a first digit that is no zero
+-- a digit more after a first digit that is no zero
 pub digit_more : (all total whole digit : ℕ) → (whole ≡ all) × (10 ^ total ≤ 10 * all) → (whole * 10 + digit ≡ all * 10 + digit)
     × (10 ^ (total + 1) ≤ 10 * (all * 10 + digit))
 digit_more all total whole digit h = let p : 10 ^ (total + 1) ≡ 10 ^ total * 10 = rw add-one (pow-suc 10 total) in (omega arith, omega arith)
@@ -132,7 +132,7 @@ nothing_of kept count pending places whole fraction none h = elim h [
   | inr o ↦ elim o [ inl d ↦ absurd (let e = d.some in omega arith) | inr l ↦ absurd (let e = l.0 in omega arith) ]
 ]
 
--- and so it is behind more zeros
+-- and so it is after more zeros
 pub zeros_more : (kept count pending places whole fraction more whole' places' : ℕ) → HasNoDigit kept count pending places whole fraction → whole' ≡ 0
     → places' ≡ min (places + more) 1400
     → HasNoDigit kept count pending places' whole' (fraction + more)

@@ -4,7 +4,7 @@ use Rattle.std.proofs.lemmas.List.{take-append-le, drop-append-le, get_or_append
 use Rattle.gj_number.specs.Exact.{Exact}
 use Rattle.gj_number.specs.Short.{StartsWithNumber, StartsWithPair}
 
--- the number that bytes start with, where it ends before their end, is that of the bytes with more behind them
+-- the number that bytes start with, where it ends before their end, is that of the bytes with more after them
 pub number_there : (piece more : List ℕ) (e : Exact) (n : ℕ) → n < length piece → StartsWithNumber (piece ++ more) e n → StartsWithNumber piece e n
 number_there piece more e n within h =
     let taken : take n (piece ++ more) ≡ take n piece = take-append-le n piece more (omega arith) in

@@ -1,4 +1,4 @@
--- The number at the front of a piece: its digits, its parts and its end.
+-- The number at the start of a piece: its digits, its parts and its end.
 use Rattle.std.proofs.Common.{zero, suc, ◌≡◌, ℕ, ◌+◌, ◌-◌, ◌*◌, ◌%◌, ◌^◌, ◌<◌, ◌≤◌, Bool, true, false, ◌==◌, ◌⊎◌, List, [], ◌∷◌, ◌++◌, length, take, drop}
 use Rattle.std.proofs.Common.{get_or, All, fold, inl, inr, refl, sym, ◌∙◌, ap, subst, arith, append_assoc, append-nil, length-append, length-drop}
 use Rattle.std.proofs.Math.Nat.{pow-suc, mul-le-mul_right, le-mul_of_pos_right}
@@ -67,7 +67,7 @@ sign_is : (piece : List ℕ) → 0 < length piece → (get_or piece 0 0 ≡ minu
 sign_is [] some e = absurd (omega arith)
 sign_is (x ∷ piece) some e = ap (λ y. y ∷ []) e
 
--- ---- the front
+-- ---- the prefix
 
 -- ---- a number with no point, and one with a point
 
@@ -121,7 +121,7 @@ pub sign_at : (piece : List ℕ) (negative : Bool) → (get_or piece 0 0 == minu
 sign_at piece false e some = refl
 sign_at piece true e some = sign_is piece some (grind (arith, nat_tests))
 
--- the slice behind a place
+-- the slice after a place
 pub spells_rest : (piece : List ℕ) (i before count value : ℕ) → SpellsOn (take (length piece - i) (drop i piece)) before count value
     → SpellsOn (drop i piece) before count value
 spells_rest piece i before count value h = let P : List ℕ → Type 0 = λ xs. SpellsOn xs before count value in subst P (rest_is piece i) h
@@ -134,7 +134,7 @@ below_power piece count value h =
     let P : ℕ → Type 0 = λ k. number_of (take count piece) < 10 ^ k in
     rw (h.value_is) (subst P long b)
 
--- behind a first zero no digit stands
+-- after a first zero no digit stands
 pub one_of : (piece : List ℕ) (first n : ℕ) → (get_or piece first 0 ≡ zero_digit → n ≡ 1) → get_or (drop first piece) 0 0 ≡ zero_digit → n ≡ 1
 one_of piece first n h e = let z : first + 0 ≡ first = omega arith in h (ap (λ k. get_or piece k 0) (sym z) ∙ sym (get_or-drop first piece 0 0) ∙ e)
 
@@ -155,7 +155,7 @@ apart : (n : ℕ) (xs : List ℕ) → fold with_digit n xs ≡ n * 10 ^ length x
 apart n [] = omega arith
 apart n (b ∷ xs) = rw (pow-suc 10 (length xs)) (omega (arith, apart (with_digit n b) xs, apart (with_digit 0 b) xs))
 
--- behind a number of so many digits there is room for the rest
+-- after a number of so many digits there is room for the rest
 pub joined_fits : (natural count places behind : ℕ) (rest : List ℕ) → natural < 10 ^ count → SpellsOn rest 0 places behind → places ≤ 18 - count → count ≤ 18
     → natural * 10 ^ places + behind < 10 ^ 18
 joined_fits natural count places behind rest n k few most =
@@ -178,7 +178,7 @@ joined_spells natural places behind rest k =
     let v = k.value_is in
     record { within = k.within; digits = k.digits; value_is = omega arith }
 
--- the digits behind these go on
+-- the digits after these go on
 pub spells_more : (piece : List ℕ) (before n m first all : ℕ) → SpellsOn piece before n first → SpellsOn (drop n piece) first m all
     → SpellsOn piece before (n + m) all
 spells_more piece before n m first all h k =

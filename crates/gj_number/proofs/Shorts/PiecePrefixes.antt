@@ -8,14 +8,14 @@ pub first_is : (piece : List ℕ) → 0 < length piece → get_or piece 0 0 ∷ 
 first_is [] h = absurd (omega arith)
 first_is (b ∷ piece) h = refl
 
--- the slice behind a place is all that is left
+-- the slice after a place is all that is left
 pub rest_is : (piece : List ℕ) (i : ℕ) → take (length piece - i) (drop i piece) ≡ drop i piece
 rest_is piece i = rw (← length-drop i piece) (take-length (drop i piece))
 
--- and what stands behind its first element
+-- and what stands after its first element
 pub behind_is : (piece : List ℕ) (i : ℕ) → drop 1 (take (length piece - i) (drop i piece)) ≡ drop (i + 1) piece
 behind_is piece i = rw (rest_is piece i) (drop-drop 1 i piece)
 
--- a front of a front
+-- a prefix of a prefix
 pub front_is : (piece : List ℕ) (m n : ℕ) → m ≤ length piece → n ≤ length (take m piece) → take n (take m piece) ≡ take n piece
 front_is piece m n h k = take-take n m piece (omega (arith, length-take-le m piece h))

@@ -22,7 +22,7 @@ run_found xs n k w h next r = elim (cases_lt n k) [
   | inr m ↦ elim (cases_lt k n) [ inl l ↦ absurd (r.ends (digit_at xs n k l w h)) | inr o ↦ omega arith ]
 ]
 
--- what is left of a run, in the slice behind a place in it
+-- what is left of a run, in the slice after a place in it
 pub rest_of_run : (xs : List ℕ) (i k : ℕ) → i ≤ k → IsRun xs k → IsRun (take (length xs - i) (drop i xs)) (k - i)
 rest_of_run xs i k le r =
     let within = r.within in
@@ -36,7 +36,7 @@ rest_of_run xs i k le r =
       ends = λ d. r.ends (rw (← at) d);
     })
 
--- digits behind a number make it no less
+-- digits after a number make it no less
 pub fold_grows : (n : ℕ) (digits : List ℕ) → n ≤ fold with_digit n digits
 fold_grows n [] = omega arith
 fold_grows n (b ∷ digits) = let more = fold_grows (with_digit n b) digits in omega arith

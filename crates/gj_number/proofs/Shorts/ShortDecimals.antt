@@ -120,7 +120,7 @@ magnitude_up e up h = rw h (div-one (e.digits * 10 ^ up))
 magnitude_down : (e : Exact) (down : ℕ) → e.power +ℤ pos 7 ≡ negsuc down → cut_magnitude e ≡ e.digits / 10 ^ suc down
 magnitude_down e down h = let one : e.digits * 1 ≡ e.digits = omega arith in rw (h, one) refl
 
--- at most seven digits stand behind the point
+-- at most seven digits stand after the point
 pub cut_raised : (negative : Bool) (all places : ℕ) → all < 10 ^ 18 → places ≤ 7 → cut_magnitude (short_value negative all places) ≡ all * 10 ^ (7 - places)
 cut_raised negative all places small few = elim (eqb_tells all 0) [
   | inl e ↦ rw (e.1, short_zero negative places) (omega arith)
@@ -162,14 +162,14 @@ cut_lowered negative all places down small is = elim (eqb_tells all 0) [
       ]
 ]
 
--- more than seven digits stand behind the point exactly where the digits beyond the seventh are not all zeros
+-- more than seven digits stand after the point exactly where the digits beyond the seventh are not all zeros
 places_zero : (e : Exact) (up tens places : ℕ) → e.power ≡ pos tens -ℤ pos places → up + places ≡ tens → places_of e ≡ 0
 places_zero e up tens places h k = let p : pos tens -ℤ pos places ≡ pos up = omega (arith, ints) in rw (h, p) refl
 
 places_below : (e : Exact) (down tens places : ℕ) → e.power ≡ pos tens -ℤ pos places → down + 1 + tens ≡ places → places_of e ≡ down + 1
 places_below e down tens places h k = let p : pos tens -ℤ pos places ≡ negsuc down = omega (arith, ints) in rw (h, p) (omega arith)
 
--- how many digits stand behind the point
+-- how many digits stand after the point
 pub short_places : (negative : Bool) (all places : ℕ) (e : Exact) (k : IsShort negative all places e) → places_of e ≡ places - k.tens
 short_places negative all places e k = elim (cases_lt k.tens places) [
   | inl some ↦ places_below e (places - k.tens - 1) k.tens places k.power (omega arith) ∙ omega arith

@@ -25,7 +25,7 @@ use Rattle.gj_number.proofs.Grammar.SpelledParts.{number_from}
 use Rattle.gj_number.proofs.Grammar.FoundParts.{value_is, parts_digits}
 use Rattle.gj_number.proofs.Literals.LiteralBytes.{begins_none}
 
--- what is made of parts, behind which a byte stands that no number has
+-- what is made of parts, after which a byte stands that no number has
 front_is : (piece : List ℕ) (n up all places : ℕ) (parts : Parts) → Spells parts (take n piece) → all ≡ whole_of parts * 10 ^ up → all < 10 ^ 18 → places ≤ 18
     → unsigned_abs parts.exponent ≤ 1000
     → scale_of parts ≡ pos up -ℤ pos places → n < length piece → class_of (get_or piece n 0) ≡ Other

@@ -50,7 +50,7 @@ far_natural whole (suc d) k h = ends_here whole (suc d) 0 (omega arith) k (inl (
     far : (10 ^ 30 ≤ h.digits) ⊎ (30 ≤ h.tens)
     far = elim h.far [ inl f ↦ inl f | inr g ↦ elim g [ inl f ↦ inr (omega arith) | inr f ↦ absurd (omega arith) ] ]
 
--- one digit more behind the point
+-- one digit more after the point
 pub far_fraction : (whole fraction digit : ℕ) → digit < 10 → IsFar whole fraction → IsFar (whole * 10 + digit) (fraction + 1)
 far_fraction whole fraction zero k h = record {
   digits = h.digits;
@@ -88,7 +88,7 @@ far_of kept count pending places whole fraction e h = elim h [
   | inr o ↦ elim o [ inl d ↦ absurd (let f = d.few in omega arith) | inr l ↦ l.1 ]
 ]
 
--- and digits behind it change nothing
+-- and digits after it change nothing
 pub passed_natural : (kept count pending places whole : ℕ) (digits : List ℕ) → count ≡ 31 → All IsDigit digits → IsKept kept count pending places whole 0
     → IsKept kept count pending places (fold with_digit whole digits) 0
 passed_natural kept count pending places whole digits e h old =

@@ -7,7 +7,7 @@ use Rattle.gj_number.specs.Internal.KeptParts.{kept_number, HasDigits, IsKept, A
 abbrev pub kept_of : Digits → ℕ
 kept_of d = kept_number d.head d.rest d.count
 
--- these are the digits of this number, of which so many stand behind the point
+-- these are the digits of this number, of which so many stand after the point
 abbrev pub Keeps : Digits → ℕ → ℕ → Type 0
 Keeps d whole fraction = IsKept (kept_of d) d.count d.pending d.places whole fraction
 
@@ -19,7 +19,7 @@ AddsDigit old new digit = AddsOne (kept_of old) old.count old.pending digit (kep
 abbrev pub RunKeeps : Run → ℕ → Type 0
 RunKeeps run whole = (whole ≡ run.all) × (10 ^ run.total ≤ 10 * run.all)
 
--- the same of the digits alone
+-- as above, of the digits alone
 abbrev pub KeepsAll : Digits → ℕ → Type 0
 KeepsAll d whole = HasDigits (kept_of d) d.count d.pending 0 whole 0
 

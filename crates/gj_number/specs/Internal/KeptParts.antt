@@ -12,7 +12,7 @@ abbrev pub last_digit : ℕ → ℕ → ℕ → ℕ
 last_digit head rest count = if nat_le 1 count && nat_le count 30 then kept_number head rest count % 10 else 1
 
 -- With no exponent from -1,000 to 1,000 is such a number held, whatever digits follow: it has more than thirty digits,
--- or its last digit but zeros stands too far before the point or behind it.
+-- or its last digit but zeros stands too far before the point or after it.
 pub record IsFar (whole fraction : ℕ) : Type 0 where
   pub digits : ℕ
   pub tens : ℕ
@@ -40,14 +40,14 @@ pub record HasDigits (kept count pending places whole fraction : ℕ) : Type 0 w
   pub behind : pending + fraction ≡ tens + places
   pub places_is : places ≡ min fraction 1400
 
--- what is kept of this number and this many digits behind its point
+-- what is kept of this number and this many digits after its point
 abbrev pub IsKept : ℕ → ℕ → ℕ → ℕ → ℕ → ℕ → Type 0
 IsKept kept count pending places whole fraction =
     HasNoDigit kept count pending places whole fraction
     ⊎ HasDigits kept count pending places whole fraction
     ⊎ ((count ≡ 31) × IsFar whole fraction)
 
--- A digit that is no zero is added behind the pending zeros. Where that makes more than thirty digits, only so much is known.
+-- A digit that is no zero is added after the pending zeros. Where that makes more than thirty digits, only so much is known.
 pub record AddsOne (kept count pending digit kept' count' pending' : ℕ) : Type 0 where
   pub few : count + pending < 30 → count' ≡ count + pending + 1
   pub digits : count + pending < 30 → kept' ≡ kept * 10 ^ (pending + 1) + digit
@@ -64,6 +64,6 @@ limited_power power = if nat_le (unsigned_abs power) power_limit then Some power
 abbrev pub limited_cut : ℕ → Option ℕ
 limited_cut magnitude = if nat_lt magnitude cut_limit then Some magnitude else None
 
--- the same of a limit that it may reach
+-- as above, of a limit that it may reach
 abbrev pub limited_to : ℕ → ℕ → Option ℕ
 limited_to most magnitude = if nat_le magnitude most then Some magnitude else None

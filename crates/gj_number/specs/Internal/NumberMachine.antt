@@ -32,7 +32,7 @@ Means Other b = Unit {0}
 
 -- ---- states
 
--- the state behind a byte of this class, if one may stand there
+-- the state after a byte of this class, if one may stand there
 abbrev pub next_of : State → Class → Option State
 next_of Start Minus = Some AfterMinus
 next_of Start Zero = Some AfterZero
@@ -68,13 +68,13 @@ may_end_in InFraction = true
 may_end_in InExponent = true
 may_end_in _ = false
 
--- the state behind some bytes, if each of them may stand where it does
+-- the state after some bytes, if each of them may stand where it does
 abbrev pub state_after : Option State → List ℕ → Option State
 state_after state [] = state
 state_after None (b ∷ bytes) = None
 state_after (Some state) (b ∷ bytes) = state_after (next_of state (class_of b)) bytes
 
--- no digit behind the point has come here
+-- no digit after the point has come here
 abbrev pub is_before_fraction : State → Bool
 is_before_fraction Start = true
 is_before_fraction AfterMinus = true
@@ -85,7 +85,7 @@ is_before_fraction _ = false
 
 -- ---- what has been read
 
--- a literal so far: the number that its digits spell, how many of them stand behind the point, and its exponent
+-- a literal so far: the number that its digits spell, how many of them stand after the point, and its exponent
 pub record Scan : Type 0 where
   pub state : State
   pub negative : Bool
@@ -97,7 +97,7 @@ pub record Scan : Type 0 where
 abbrev pub start : Scan
 start = record { state = Start; negative = false; whole = 0; fraction = 0; exponent_negative = false; exponent = 0 }
 
--- the same with the byte that leads to this state
+-- as above, with the byte that leads to this state
 abbrev pub taken : State → ℕ → Scan → Scan
 taken AfterMinus b t = record t { state = AfterMinus; negative = true }
 taken InNatural b t = record t { state = InNatural; whole = with_digit t.whole b }

@@ -279,7 +279,7 @@ object_answers place close ms had done rest e = elim (members_cut ms [] (blank p
         run_end [] ys z = refl
         run_end (x ∷ xs) ys z = run_end xs ys (step x z)
 
--- the first event of a value, and those behind it
+-- the first event of a value, and those after it
 value_answers : (v : Tree) (had : Warnings) (done rest : List Told) → told v ≡ done ++ rest → Answers v (map event_of done) (run done (due_root had))
 value_answers v had [] rest e = before_value v had
 value_answers (constant Null place) had (x ∷ d) rest e =

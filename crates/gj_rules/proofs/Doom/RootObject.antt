@@ -27,7 +27,7 @@ use Rattle.gj_rules.specs.Internal.EventSteps.{State, step, run}
 use Rattle.gj_rules.specs.Internal.Summaries.{no_shapes, shapes_of, asked}
 use Rattle.gj_rules.specs.Internal.LabelledEvents.{Told, plain, told, members_told}
 use Rattle.gj_json.specs.declared.constant.Constant.TheVariants.{Null, True, False}
-use Rattle.gj_rules.proofs.Objects.GrowingFaults.{Keeps, lesser_first, Worse, worse_same, worse_twice, worse_named, lost_worse, TypeGrows, type_same, Grows}
+use Rattle.gj_rules.proofs.Objects.GrowingFaults.{Keeps, lesser_first, Worse, worse_same, worse_twice, worse_named, lost_worse, type_same, Grows}
 use Rattle.gj_rules.proofs.Objects.GrowingFaults.{grows_same, grows_joined, grows_shapes}
 use Rattle.gj_rules.proofs.Texts.ValuesByEvents.{st, due_st}
 use Rattle.gj_rules.proofs.Objects.OneMember.{same_is}
@@ -36,6 +36,7 @@ use Rattle.gj_rules.proofs.Objects.AllMembers.{repeated_after}
 use Rattle.gj_rules.proofs.Objects.AskedShapes.{TypeStays}
 use Rattle.gj_rules.proofs.Doom.InsideValues.{Thru, thru_run, thru_at, root, on_due, array_rest, object_rest}
 use Rattle.gj_rules.proofs.Doom.OutermostMembers.{own, first_what, own_value, own_part, names_value, or_word, typed_by, first_type_member, first_type_name}
+use Rattle.gj_rules.proofs.Texts.OneFlatMore.{run-append}
 
 -- ---- after whole members
 
@@ -142,10 +143,6 @@ filled_worse Id v f b e c = (grows_joined Id (least (judge Id v)) f).worse
 filled_worse Crs v f b e c = worse_same f
 filled_worse Other v f b e c = worse_same f
 
-type_goes : (o x : Option TypeValue) → TypeStays o x → TypeGrows o x
-type_goes None x h = tt
-type_goes (Some value) x h = h
-
 lost_member : (before : List Known) (name : List ℕ) (place end : ℕ) (v : Tree) (f : MemberSlots) → Shows before f
     → Keeps (is_lost f) (is_lost (member_taken place (known_of name) v f))
 lost_member before name place end v f h =
@@ -154,7 +151,7 @@ lost_member before name place end v f h =
     (worse_named n place f (is_known n) (slot_of n f) refl)
     (filled_worse (due_after n f) v (named n place f) (same TypeName (due_after n f)) refl (due_shapes before n place f h)) in
     lost_worse f (member_taken place n v f) worse
-    (type_goes f.type_value (member_taken place n v f).type_value (stays_after (member place name end v end_of_object) f h.typed))
+    (stays_after (member place name end v end_of_object) f h.typed)
 
 pub lost_members : (ms : Members) (before : List Known) (f : MemberSlots) → Shows before f → Keeps (is_lost f) (is_lost (members_taken ms f))
 lost_members end_of_object before f h = λ e. e
@@ -164,7 +161,7 @@ lost_members (member place name end v more) before f h = λ e.
 
 -- ---- what some events have shown
 
--- behind the members of the names `before`, with which the object f was shown, and these events of members it is g
+-- after the members of the names `before`, with which the object f was shown, and these events of members it is g
 pub record Here (before : List Known) (f g : MemberSlots) (shown : List What) : Type 0 where
   pub repeated : is_some g.repeated ≡ (is_some f.repeated || repeats before (names shown))
   pub type_word : word_in g.type_value ≡ or_word (word_in f.type_value) (first_type shown)
@@ -208,7 +205,7 @@ word_one None (Some value) b v e = cc
 word_one None None true v e = refl
 word_one None None false v e = refl
 
--- the word of the first type behind one member more
+-- the word of the first type after one member more
 word_more : (name : List ℕ) (place end : ℕ) (v : Tree) (f : MemberSlots) → is_some f.type_value ≡ is_some f.type_name
     → word_in (member_taken place (known_of name) v f).type_value ≡ or_word (word_in f.type_value) (typed_by (same TypeName (known_of name)) v)
 word_more name place end v f e = ap word_in (type_one name place end v f) ∙ word_one f.type_name f.type_value (same TypeName (known_of name)) v e
@@ -226,7 +223,7 @@ mentions_first true true r = refl
 mentions_first true false r = refl
 mentions_first false m r = refl
 
--- behind a whole member
+-- after a whole member
 here_more : (before : List Known) (name : List ℕ) (place end : ℕ) (v : Tree) (f g : MemberSlots) (shown : List What) → Shows before f
     → Here (known_of name ∷ before) (member_taken place (known_of name) v f) g shown → Here before f g (W.Name (known_of name) ∷ (first_what v ∷ shown))
 here_more before name place end v f g shown h more =
@@ -268,7 +265,7 @@ here_inside before name place end v f g shown h none a b c =
 
 -- ---- from event to event
 
--- the state behind some events of members, of which all come to h
+-- the state after some events of members, of which all come to h
 pub record Cut (before : List Known) (f h : MemberSlots) (a : Findings) (shown : List What) (s : State) : Type 0 where
   pub here : Here before f (root s) shown
   pub onward : Keeps (is_lost (root s)) (is_lost h)
@@ -349,7 +346,7 @@ inside_value before name place end v f a done more y h e t =
       still = at.1;
     }
 
--- behind the first event of the value of `type`
+-- after the first event of the value of `type`
 abbrev After : MemberSlots → Findings → List Told → State → State → Type 0
 After f a [] s t = ⊥
 After f a (x ∷ xs) s t = Thru f f a xs (step x s) t
@@ -409,7 +406,7 @@ inside_type before name place end v f a [] more y h e t =
           (ap word_in (kept_typed n place f.slots (is_known n) (slot_of n f.slots))
           ∙ (or_none (word_in f.slots.type_value) ∙ ap (λ o. or_word (word_in f.slots.type_value) o) (sym (first_type_name n))));
       onward = subst (λ (g : MemberSlots). Keeps (is_lost f1) (is_lost g)) (sym is)
-          (lost_worse f1 f2 (typed_worse (place_of v) (type_of v) f1) (subst (λ (o : Option TypeValue). TypeGrows o f2.type_value) (sym none) tt));
+          (lost_worse f1 f2 (typed_worse (place_of v) (type_of v) f1) (subst (λ (o : Option TypeValue). TypeStays o f2.type_value) (sym none) tt));
       still = refl;
     }
 inside_type before name place end v f a (x ∷ d) more y h e t =
@@ -466,16 +463,12 @@ value_run before n place v f a h = go (due_after n f.slots) (same TypeName (due_
         subst (λ (m : Known). run (told v) (due_st m v f1 [] a) ≡ st 0 Names (F.filled m v f1) [] a) (same_is TypeName due t)
         (after_run (type_set (place_of v) (type_of v) f1.slots) a (told v) _ _ (after_type v f1 a))
 
-run_both : (xs ys : List Told) (s : State) → run (xs ++ ys) s ≡ run ys (run xs s)
-run_both [] ys s = refl
-run_both (x ∷ xs) ys s = run_both xs ys (step x s)
-
 pub members_run : (ms : Members) (before : List Known) (f : Frame) (a : Findings) → Shows before f.slots
     → run (members_told ms) (st 0 Names f [] a) ≡ st 0 Names (F.members_taken ms f) [] a
 members_run end_of_object before f a h = refl
 members_run (member place name end v more) before f a h =
     let n : Known = known_of name in
-    run_both (told v) (members_told more) (due_st (due_after n f.slots) v (F.named n place f) [] a)
+    run-append (told v) (members_told more) (due_st (due_after n f.slots) v (F.named n place f) [] a)
     ∙ (ap (λ (s : State). run (members_told more) s) (value_run before n place v f a h)
     ∙ members_run more (n ∷ before) (F.member_taken place n v f) a (shows_more before name place end v f.slots h))
 
@@ -510,7 +503,7 @@ cut_more before name place end v f h a later s c =
     let n : Known = known_of name in
     let there : State = run later (st 0 Names (F.member_taken place n v f) [] a) in
     let comes : run (told v ++ later) (due_st (due_after n f.slots) v (F.named n place f) [] a) ≡ there =
-    run_both (told v) later (due_st (due_after n f.slots) v (F.named n place f) [] a) ∙ ap (λ (z : State). run later z) (value_run before n place v f a s) in
+    run-append (told v) later (due_st (due_after n f.slots) v (F.named n place f) [] a) ∙ ap (λ (z : State). run later z) (value_run before n place v f a s) in
     let at : Cut before f.slots h a (W.Name n ∷ (first_what v ∷ own 1 later)) there = record {
       here = here_more before name place end v f.slots (root there) (own 1 later) s c.here;
       onward = c.onward;

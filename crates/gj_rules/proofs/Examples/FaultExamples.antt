@@ -775,7 +775,7 @@ position_of_five = refl
 
 -- ---- open objects with a role
 
--- a front of n bytes has so many arrays and objects open, so many of which are objects with a role
+-- a prefix of n bytes has so many arrays and objects open, so many of which are objects with a role
 abbrev IsOpen : Tree → ℕ → ℕ → ℕ → Type 0
 IsOpen value n levels judged = (open_in n value ≡ levels) × (judged_in n Role.Root value ≡ judged)
 

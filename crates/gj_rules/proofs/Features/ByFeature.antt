@@ -1,12 +1,12 @@
 -- What is found in a FeatureCollection is what is found in it without its features, and in these.
-use Rattle.std.proofs.Common.{◌≡◌, ℕ, ◌+◌, nat_le, Bool, true, false, if◌then◌else◌, List, [], ◌∷◌, ◌++◌, Option, Some, None, refl, sym, ap, ◌∙◌, append_assoc}
+use Rattle.std.proofs.Common.{◌≡◌, ℕ, ◌+◌, nat_le, Bool, true, false, List, [], ◌∷◌, ◌++◌, Option, Some, None, refl, sym, ap, ◌∙◌, append_assoc}
 use Rattle.std.specs.List.{flat_map, AllByRecursion}
 use Rattle.gj_json.specs.declared.names.Known.TheVariants.{Coordinates, Geometries, Geometry, Properties, Features, Bbox}
 use Rattle.gj_json.specs.Tree.{Tree, constant, number, string, array, object, Members, Text}
 use Rattle.gj_coords.specs.declared.fault.Fault.{Fault}
 use Rattle.gj_coords.specs.declared.fault.Rule.TheVariants.{G8}
 use Rattle.gj_coords.specs.declared.kind.Kind.TheVariants.{W1}
-use Rattle.gj_coords.specs.Fault.{comes_first, lesser, least}
+use Rattle.gj_coords.specs.Fault.{lesser, least}
 use Rattle.gj_coords.specs.Internal.LeastLaws.{least-append}
 use Rattle.gj_coords.specs.CoordinateWarnings.{warned_if}
 use Rattle.gj_coords.specs.Warnings.{Warning}
@@ -19,24 +19,13 @@ use Rattle.gj_rules.specs.FeatureFindings.{FeatureFinding, finding_of, unless_br
 use Rattle.gj_rules.specs.FeatureFindings.{complete_in, findings_by, members_emptied, without_features, own_faults, own_warnings, names_collection}
 use Rattle.gj_rules.specs.FeatureFindings.{IsCollection, least_found, warnings_found}
 use Rattle.gj_rules.proofs.Features.OwnText.{own_first, own_type, own_repeated, own_crs, own_box, due_each, features_each}
+use Rattle.gj_coords.proofs.Readers.LeastOfSome.{least_none}
 
 -- ---- lists
 
-no_parts : {A : Type 0} (xs ys : List A) → xs ++ ys ≡ [] → (xs ≡ []) × (ys ≡ [])
+pub no_parts : {A : Type 0} (xs ys : List A) → xs ++ ys ≡ [] → (xs ≡ []) × (ys ≡ [])
 no_parts [] ys e = (refl, e)
 no_parts (x ∷ xs) ys e = cc
-
-some_least : (fault : Fault) (o : Option Fault) → lesser (Some fault) o ≡ None → ⊥
-some_least fault None e = cc
-some_least fault (Some other) e = go (comes_first fault other) e
-  where
-    go : (t : Bool) → (if t then Some fault else Some other) ≡ None → ⊥
-    go true f = let g : false ≡ true = cc in cc
-    go false f = let g : false ≡ true = cc in cc
-
-none_least : (all : List Fault) → least all ≡ None → all ≡ []
-none_least [] e = refl
-none_least (fault ∷ more) e = absurd (some_least fault (least more) e)
 
 -- ---- the findings
 
@@ -56,7 +45,7 @@ all_sound index (v ∷ vs) e =
 
 sound_all : (index : ℕ) (vs : List Tree) → AllByRecursion (λ finding. finding.fault ≡ None) (findings_from index vs) → of_features vs ≡ []
 sound_all index [] h = refl
-sound_all index (v ∷ vs) h = rw (none_least (faults Role.Feature v) h.0) (sound_all (index + 1) vs h.1)
+sound_all index (v ∷ vs) h = rw ((least_none (faults Role.Feature v)).0 h.0) (sound_all (index + 1) vs h.1)
 
 warned_all : (index : ℕ) (vs : List Tree) → of_features vs ≡ [] → flat_map (λ v. warnings Role.Feature v) vs ≡ warnings_found (findings_from index vs)
 warned_all index [] e = refl

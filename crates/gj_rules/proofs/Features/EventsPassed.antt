@@ -5,10 +5,13 @@ use Rattle.std.proofs.lemmas.Bool.Decides.{nat_tests}
 use Rattle.std.proofs.lemmas.List.{length-append}
 use Rattle.gj_json.specs.declared.event.Event.{Event}
 use Rattle.gj_json.specs.declared.event.What.{What}
-use Rattle.gj_json.specs.declared.names.Known.TheVariants.{Id}
+use Rattle.gj_json.specs.declared.names.Known.TheVariants.{Id, TypeName, Geometry, Coordinates}
 use Rattle.gj_json.specs.declared.flat.Flat.{Flat}
 use Rattle.gj_json.specs.declared.flat.Numbered.{Numbered}
 use Rattle.gj_json.specs.Flat.{number_event, numbers_of, flat_events}
+use Rattle.gj_json.specs.declared.head.Located.{Located}
+use Rattle.gj_json.specs.declared.head.Typed.{Typed}
+use Rattle.gj_json.specs.Head.{typed_events, located_events}
 use Rattle.gj_json.specs.Ignored.{levels_behind, Leaves}
 use Rattle.gj_rules.specs.declared.feature.Feature.{Feature}
 use Rattle.gj_rules.specs.declared.feature_count.FeatureCount.{FeatureCount}
@@ -16,8 +19,9 @@ use Rattle.gj_rules.specs.declared.feature_count.Stage.{Stage}
 use Rattle.gj_rules.specs.Internal.FrameMeaning.{Frame}
 use Rattle.gj_rules.specs.Internal.EventSteps.{State, run, start}
 use Rattle.gj_rules.specs.Internal.LabelledEvents.{Told, event_of, text_told}
-use Rattle.gj_rules.specs.Internal.FeatureSteps.{heard, count, counted, count_at, inner_step, tells, tells_at, features_in, no_count, concerned, ignored_of}
+use Rattle.gj_rules.specs.Internal.FeatureSteps.{heard, count, counted, count_at, inner_step, tells, tells_at, features_in, no_count, concerned, ignored_of, starts_at, list_step}
 use Rattle.gj_rules.specs.Internal.FeatureSteps.{FeaturesAre}
+use Rattle.gj_rules.proofs.Features.CleanFeatures.{opens, opens_untold}
 use Rattle.gj_rules.proofs.Features.FeaturesSoFar.{small, count-last, heard-last}
 use Rattle.gj_rules.proofs.Texts.OneEventMore.{last_told}
 
@@ -87,33 +91,33 @@ tells_quiet what place top c e = tells_levels what place top c.inner c.stage c.i
 abbrev with_levels : ℕ → FeatureCount → FeatureCount
 with_levels n c = record c { inner = n }
 
-quiet_step : (event : Event) (s : State) (d : FeatureCount) (n : ℕ) → d.inner ≡ suc n → counted event s d ≡ with_levels (levels_behind event.what (suc n)) d
-quiet_step event s d n e = rw e (ap (λ k. with_levels k d) (inner_is event.what n))
-
-quiet_tells : (event : Event) (s : State) (d : FeatureCount) (n : ℕ) → d.inner ≡ suc n → tells event s d ≡ []
-quiet_tells event s d n e = rw e refl
-
-one_quiet : (Says : List Feature → Type 0) (c : FeatureCount) (event : Event) (events : List Event) (n : ℕ) → c.inner ≡ suc n → FeaturesAre Says c events
-    → FeaturesAre Says (with_levels (levels_behind event.what (suc n)) c) (events ++ event ∷ [])
-one_quiet Says c event events n i h text done rest split e d few =
+-- an event that does this to the count, whatever the rules keep, and tells none
+one_event : (Says : List Feature → Type 0) (c after : FeatureCount) (event : Event) (events : List Event) → ((s : State) → counted event s c ≡ after)
+    → ((s : State) → tells event s c ≡ []) → FeaturesAre Says c events → FeaturesAre Says after (events ++ event ∷ [])
+one_event Says c after event events counts none h text done rest split e d few =
     let k = last_told done events event e in
     let front : List Told = k.0 in
     let x : Told = k.1 in
     let whole : text_told text ≡ front ++ (x ∷ rest) = split ∙ (ap (λ (ts : List Told). ts ++ rest) k.2 ∙ append_assoc front (x ∷ []) rest) in
     let was = h text front (x ∷ rest) whole k.3 d few in
-    let before : FeatureCount = count front start no_count in
-    let inner : before.inner ≡ suc n = ap (λ (z : FeatureCount). z.inner) (sym was.0) ∙ i in
-    let same : counted (event_of x) (run front start) before ≡ with_levels (levels_behind event.what (suc n)) c =
-    quiet_step (event_of x) (run front start) before n inner
-    ∙ (ap (λ (y : Event). with_levels (levels_behind y.what (suc n)) before) k.4
-    ∙ ap (λ (z : FeatureCount). with_levels (levels_behind event.what (suc n)) z) (sym was.0)) in (
-      sym same ∙ (sym (count-last front x start no_count) ∙ ap (λ (ts : List Told). count ts start no_count) (sym k.2)),
+    let s : State = run front start in
+    let same : after ≡ counted (event_of x) s (count front start no_count) =
+    sym (counts s) ∙ (ap (λ (y : Event). counted y s c) (sym k.4) ∙ ap (λ (z : FeatureCount). counted (event_of x) s z) was.0) in
+    let untold : tells (event_of x) s (count front start no_count) ≡ [] =
+    ap (λ (z : FeatureCount). tells (event_of x) s z) (sym was.0) ∙ (ap (λ (y : Event). tells y s c) k.4 ∙ none s) in (
+      same ∙ (sym (count-last front x start no_count) ∙ ap (λ (ts : List Told). count ts start no_count) (sym k.2)),
       subst Says
           (sym (append-nil (features_in (heard front start no_count)))
-          ∙ (ap (λ fs. features_in (heard front start no_count) ++ fs) (sym (quiet_tells (event_of x) (run front start) before n inner))
+          ∙ (ap (λ fs. features_in (heard front start no_count) ++ fs) (sym untold)
           ∙ (sym (heard-last front x) ∙ ap (λ (ts : List Told). features_in (heard ts start no_count)) (sym k.2))))
           was.1,
     )
+
+one_quiet : (Says : List Feature → Type 0) (c : FeatureCount) (event : Event) (events : List Event) (n : ℕ) → c.inner ≡ suc n → FeaturesAre Says c events
+    → FeaturesAre Says (with_levels (levels_behind event.what (suc n)) c) (events ++ event ∷ [])
+one_quiet Says c event events n i h =
+    one_event Says c (with_levels (levels_behind event.what (suc n)) c) event events
+    (λ s. rw i (ap (λ k. with_levels k c) (inner_is event.what n))) (λ s. rw i refl) h
 
 -- of so many levels more than have to close, they leave so many more than are left
 pub quiet_events : (Says : List Feature → Type 0) (inner : List Event) (c : FeatureCount) (events : List Event) (more levels left : ℕ) → c.inner ≡ more + levels
@@ -160,10 +164,72 @@ quiet_flat Says flat c events l h = go c.inner refl
         subst (λ z. FeaturesAre Says z (events ++ flat_events flat)) same
         (quiet_events Says (flat_events flat) c events 0 (suc n) (suc n) (omega (arith, e)) (flat_leaves flat n) h)
 
+-- ---- the beginning of an object
+
+-- an event that does not concern the count
+one_passed : (Says : List Feature → Type 0) (c : FeatureCount) (event : Event) (events : List Event) → concerned event.what c.inner c.stage c.id_due ≡ false
+    → FeaturesAre Says c events → FeaturesAre Says (with_levels (levels_behind event.what c.inner) c) (events ++ event ∷ [])
+one_passed Says c event events quiet h =
+    one_event Says c (with_levels (levels_behind event.what c.inner) c) event events
+    (λ s. counts_quiet event.what event.place (starts_at s.core.skipped s.core.mode) c quiet) (λ s. tells_quiet event.what event.place s.core.top c quiet) h
+
+-- among the members of an element the start of an object does not concern it
+opens_quiet : (n : ℕ) → concerned What.OpenObject n Stage.Element false ≡ false
+opens_quiet zero = refl
+opens_quiet (suc n) = refl
+
+-- after the start of an object that does not concern it
+abbrev pub opened : FeatureCount → FeatureCount
+opened c = with_levels (levels_behind What.OpenObject c.inner) c
+
+abbrev InMembers : FeatureCount → Type 0
+InMembers c = (c.stage ≡ Stage.Element) × (c.id_due ≡ false)
+
+-- the type of an object, of which neither part concerns an element
+typed_passed : (Says : List Feature → Type 0) (typed : Typed) (c : FeatureCount) (events : List Event) → InMembers c → FeaturesAre Says c events
+    → FeaturesAre Says c (events ++ record { place = typed.place + 1; what = What.Name TypeName } ∷ record { place = typed.word_at; what = What.Text typed.word } ∷ [])
+typed_passed Says typed c events m h =
+    let name : Event = record { place = typed.place + 1; what = What.Name TypeName } in
+    let text : Event = record { place = typed.word_at; what = What.Text typed.word } in
+    let two = one_passed Says c text (events ++ name ∷ []) (rw (m.0, m.1) refl) (one_passed Says c name events refl h) in
+    subst (λ es. FeaturesAre Says c es) (append_assoc events (name ∷ []) (text ∷ [])) two
+
+pub typed_inside : (Says : List Feature → Type 0) (typed : Typed) (c : FeatureCount) (events : List Event) → InMembers c → FeaturesAre Says c events
+    → FeaturesAre Says (opened c) (events ++ typed_events typed)
+typed_inside Says typed c events m h =
+    let first : Event = record { place = typed.place; what = What.OpenObject } in
+    let inside = one_passed Says c first events (rw (m.0, m.1) (opens_quiet c.inner)) h in
+    let all = typed_passed Says typed (opened c) (events ++ first ∷ []) m
+    inside in
+    subst (λ es. FeaturesAre Says (opened c) es) (append_assoc events (first ∷ []) _) all
+
+pub located_inside : (Says : List Feature → Type 0) (located : Located) (c : FeatureCount) (events : List Event) → InMembers c → FeaturesAre Says c events
+    → FeaturesAre Says (opened c) (events ++ located_events located)
+located_inside Says located c events m h =
+    let name : Event = record { place = located.place; what = What.Name Geometry } in
+    let last : Event = record { place = located.coordinates; what = What.Name Coordinates } in
+    let typed = typed_inside Says located.typed c (events ++ name ∷ []) m (one_passed Says c name events refl h) in
+    let all = one_passed Says (opened c) last ((events ++ name ∷ []) ++ typed_events located.typed) refl typed in
+    subst (λ es. FeaturesAre Says (opened c) es)
+    (ap (λ es. es ++ last ∷ []) (append_assoc events (name ∷ []) (typed_events located.typed))
+    ∙ append_assoc events (name ∷ typed_events located.typed) (last ∷ []))
+    all
+
+-- an element that is an object begins
+pub typed_element : (Says : List Feature → Type 0) (typed : Typed) (c : FeatureCount) (events : List Event) → c.inner ≡ 0 → c.stage ≡ Stage.List
+    → FeaturesAre Says c events → FeaturesAre Says (list_step What.OpenObject typed.place c) (events ++ typed_events typed)
+typed_element Says typed c events none list h =
+    let first : Event = record { place = typed.place; what = What.OpenObject } in
+    let begun : FeatureCount = list_step What.OpenObject typed.place c in
+    let start_of = one_event Says c begun first events (λ s. opens c typed.place (starts_at s.core.skipped s.core.mode) none list)
+    (λ s. opens_untold c typed.place s.core.top none list) h in
+    subst (λ es. FeaturesAre Says begun es) (append_assoc events (first ∷ []) _)
+    (typed_passed Says typed begun (events ++ first ∷ []) (refl, refl) start_of)
+
 -- ---- levels that are ignored
 
 -- this is the count, as far as it is small
-same_count : (Says : List Feature → Type 0) (c after : FeatureCount) (events : List Event) → (c.inner < 2 ^ 63 → after ≡ c) → FeaturesAre Says c events
+pub same_count : (Says : List Feature → Type 0) (c after : FeatureCount) (events : List Event) → (c.inner < 2 ^ 63 → after ≡ c) → FeaturesAre Says c events
     → FeaturesAre Says after events
 same_count Says c after events same h text done rest split e d few =
     let was = h text done rest split e d few in

@@ -1,4 +1,4 @@
--- The events of a text tell what is found in its features, each with the last event of the feature.
+-- The events of a text report what is found in its features, each with the last event of the feature.
 use Rattle.std.proofs.Common.{◌≡◌, ℕ, suc, ◌+◌, ◌≤◌, Bool, true, false, if◌then◌else◌, List, [], ◌∷◌, ◌++◌, Option, Some, None, refl, sym, ap, subst, ◌∙◌}
 use Rattle.std.proofs.Common.{arith, append_assoc, append-nil}
 use Rattle.gj_json.specs.declared.constant.Constant.TheVariants.{Null, True, False}
@@ -171,7 +171,7 @@ run_element v f a d =
 abbrev timed : ℕ → Tree → TimedFeature
 timed i v = record { at = complete_at v; feature = feature_of i v }
 
--- the features that are told in front of the rest of the events, and some count after them
+-- the features that are reported before the rest of the events, and some count after them
 abbrev Tells : List Told → State → FeatureCount → List TimedFeature → List Told → State → Stage → Type 0
 Tells events s c features rest t stage =
     (j : ℕ) × (q : ℕ) × (e : Option ℕ) × (b : Bool) × (heard events s c ≡ features ++ heard rest t (at_stage stage j q e b))
@@ -277,7 +277,7 @@ root_holds Geometry = omega arith
 root_holds Features = omega arith
 root_holds _ = tt
 
--- the state behind the value of a member of the text's object
+-- the state after the value of a member of the text's object
 run_root : (place : ℕ) (k : Known) (v : Tree) (f : Frame) (a : Findings) → 1 + depth v ≤ most_levels → f.slots.role ≡ Role.Root
     → run (told v) (due_st (due_after k f) v (named k place f) [] a) ≡ st 0 Names (member_taken place k v f) [] a
 run_root place k v f a m e =
@@ -298,7 +298,7 @@ still_there place k v f true slot e h =
     rw (is_features k e) (slot-own Features place v f.slots refl ∙ ap (λ o. or_slot o (Some (first_slot place v f))) h)
 still_there place k v f false slot e h = slot-other Features k place v f.slots refl e ∙ h
 
--- behind the first `features`
+-- after the first `features`
 after_features : (ms : Members) (rest : List Told) (f : Frame) (a : Findings) (i p : ℕ) (d : Option ℕ) (b : Bool) (slot : Slot)
     → 1 + members_depth ms ≤ most_levels
     → f.slots.role ≡ Role.Root → slot_of Features f.slots ≡ Some slot
@@ -394,6 +394,6 @@ marked_told : (marked : Bool) (v : Tree) → depth v ≤ most_levels → heard (
 marked_told true v m = root_told v (marked_kept true) m
 marked_told false v m = root_told v (marked_kept false) m
 
--- all events of a text tell its features, each with the event that completes it
+-- all events of a text report its features, each with the event that completes it
 pub text_heard : (text : Text) → depth text.value ≤ most_levels → heard (text_told text) start no_count ≡ timed_from 0 (features_of text.value)
 text_heard text m = marked_told text.marked text.value m

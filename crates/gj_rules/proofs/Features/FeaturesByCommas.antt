@@ -20,7 +20,7 @@ use Rattle.gj_rules.proofs.Texts.EventOrder.{then_length}
 
 -- ---- how many commas stand in the first bytes
 
-abbrev one_if : ℕ → ℕ
+abbrev pub one_if : ℕ → ℕ
 one_if b = cond (is_comma b) 1 0
 
 commas_grow : (i j : ℕ) (bytes : List ℕ) → i ≤ j → commas (take i bytes) ≤ commas (take j bytes)

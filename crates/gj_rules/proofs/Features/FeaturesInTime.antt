@@ -11,7 +11,8 @@ use Rattle.gj_coords.specs.Items.{items, elements_of}
 use Rattle.gj_rules.specs.FeatureFindings.{complete_at, complete_in, elements_if, features_of, findings_from, findings_by}
 use Rattle.gj_rules.specs.Members.{same}
 use Rattle.gj_rules.specs.TextWarnings.{first_value}
-use Rattle.gj_rules.proofs.Texts.EventOrder.{then_length, ends_at, quoted_ends, closed_at, constant_long}
+use Rattle.gj_rules.proofs.Texts.EventOrder.{then_length, ends_at, quoted_ends, closed_at}
+use Rattle.gj_json.proofs.Events.EventTimes.{constant_long}
 
 -- ---- each of some values is complete later than the one before it
 

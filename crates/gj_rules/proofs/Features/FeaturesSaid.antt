@@ -1,4 +1,4 @@
--- What is told of features says what is found in them.
+-- What is reported of features says what is found in them.
 use Rattle.std.proofs.Common.{◌≡◌, ℕ, suc, ◌+◌, ◌<◌, ◌^◌, nat_le, Bool, true, false, if◌then◌else◌, List, [], ◌∷◌, ◌++◌, length, length-append, Option, Some}
 use Rattle.std.proofs.Common.{None, refl, sym, arith}
 use Rattle.std.proofs.lemmas.List.{length-map}
@@ -72,7 +72,7 @@ few_complete n (v ∷ vs) h = cut (nat_le (complete_at v) n) (few_complete n vs 
     cut true on = (h.0, on)
     cut false on = tt
 
--- ---- what is told says what is found
+-- ---- what is reported says what is found
 
 warned_says : (o : Option Fault) (kept : Warnings) (all : List Warning) → kept ≡ warnings_of all → kept_unless o kept ≡ warnings_of (unless_broken o all)
 warned_says None kept all e = e

@@ -1,4 +1,4 @@
--- What the events in the first bytes of a text tell of its features, and what one event more tells.
+-- What the events in the first bytes of a text report of its features, and what one event more reports.
 use Rattle.std.proofs.Common.{◌≡◌, ℕ, zero, suc, ◌+◌, ◌<◌, ◌≤◌, ◌^◌, nat_le, Bool, true, false, List, [], ◌∷◌, ◌++◌, map, length, Option, inl, inr, refl, sym}
 use Rattle.std.proofs.Common.{ap, subst, ◌∙◌, arith, append_assoc, append-nil}
 use Rattle.std.proofs.lemmas.Bool.{cases_lt}
@@ -26,14 +26,11 @@ use Rattle.gj_rules.specs.Internal.FeatureSteps.{TimedFeature, heard, count, cou
 use Rattle.gj_rules.specs.Internal.FeatureSteps.{inner_step, tells, tells_at, timed_at, timed_from, feature_of, features_from, features_by, features_in}
 use Rattle.gj_rules.specs.Internal.FeatureSteps.{no_count, starts_at, FeaturesAre, Stand}
 use Rattle.gj_rules.proofs.Features.FeatureEvents.{text_heard}
-use Rattle.gj_rules.proofs.Texts.EventOrder.{Late, InOrder, late_after, by_late, by_in_time, in_order}
+use Rattle.gj_rules.proofs.Texts.EventOrder.{Late, InOrder, late_after, by_late, by_in_time, in_order, InTime}
 use Rattle.gj_rules.proofs.Texts.OneEventMore.{last_told, none_told}
 use Rattle.gj_rules.proofs.Texts.TimedEvents.{timed_of, text-timed, text-events}
 
 -- ---- the events in the first bytes
-
-abbrev InTime : ℕ → List Told → Type 0
-InTime n xs = AllByRecursion (λ x. at_of x ≤ n) xs
 
 record Cut (n : ℕ) (xs : List Told) : Type 0 where
   done : List Told
@@ -69,7 +66,7 @@ cut_at n (x ∷ xs) i =
       complete = ap (λ (es : List Event). event_of x ∷ es) h.complete ∙ sym (by_in_time n x xs l);
     }
 
--- ---- what they tell
+-- ---- what they report
 
 heard-append : (xs ys : List Told) (s : State) (c : FeatureCount) → heard (xs ++ ys) s c ≡ heard xs s c ++ heard ys (run xs s) (count xs s c)
 heard-append [] ys s c = refl
@@ -120,7 +117,7 @@ soon_are n (x ∷ xs) ys i (v ∷ vs) h k e =
     let g : nat_le (complete_at v) n ≡ true = grind (arith, nat_tests) in
     rw g (ap (λ (t : TimedFeature). t.feature ∷ features_in xs) p ∙ ap (λ fs. feature_of i v ∷ fs) (soon_are n xs ys (suc i) vs h.1 k q))
 
--- what was told of a prefix of a text is what the definition lists of it
+-- what was reported of a prefix of a text is what the definition lists of it
 pub features_are : (Says : List Feature → Type 0) (c : FeatureCount) (text : Text) (bytes : List ℕ) (n : ℕ) → IsText text bytes → depth text.value ≤ most_levels
     → length (all_events text) < 2 ^ 63
     → FeaturesAre Says c (events_by n text) → Says (features_by n text)
@@ -139,7 +136,7 @@ all_in : (i : ℕ) (vs : List Tree) → features_in (timed_from i vs) ≡ featur
 all_in i [] = refl
 all_in i (v ∷ vs) = ap (λ fs. feature_of i v ∷ fs) (all_in (suc i) vs)
 
--- what was told of a whole text is what the definition lists of it
+-- what was reported of a whole text is what the definition lists of it
 pub all_features_are : (Says : List Feature → Type 0) (c : FeatureCount) (text : Text) → depth text.value ≤ most_levels → length (all_events text) < 2 ^ 63
     → FeaturesAre Says c (all_events text) → Says (features_from 0 (features_of text.value))
 all_features_are Says c text d few h =

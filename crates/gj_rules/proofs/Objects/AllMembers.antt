@@ -21,6 +21,7 @@ use Rattle.gj_rules.specs.Internal.OpenMembers.{filled, member_taken, members_ta
 use Rattle.gj_coords.specs.Internal.LeastLaws.{lesser-none, lesser_assoc, least-append}
 use Rattle.gj_rules.proofs.Objects.AskedShapes.{TypeStays, asked_twice}
 use Rattle.gj_rules.proofs.Objects.OneMember.{same_is, slot-other, slot-own, or_slot, slot_from}
+use Rattle.gj_rules.proofs.Objects.MemberSlots.{kept_shapes, kept_repeated, kept_type}
 
 -- ---- what no member changes
 
@@ -103,13 +104,9 @@ type_from (Some slot) had found = had
 type_from None had None = had
 type_from None had (Some value) = Some value
 
-with_slot_type : (m : Known) (s : Slot) (f : MemberSlots) → (with_slot m s f).type_value ≡ f.type_value
-with_slot_type TypeName s f = refl
-with_slot_type _ s f = refl
-
 joined_type : (m : Known) (x : Option Fault) (o : Option Slot) (f : MemberSlots) → (joined_to m x o f).type_value ≡ f.type_value
 joined_type m x None f = refl
-joined_type m x (Some slot) f = with_slot_type m (record { name_at = slot.name_at; fault = lesser slot.fault x }) f
+joined_type m x (Some slot) f = kept_type m (record { name_at = slot.name_at; fault = lesser slot.fault x }) f
 
 filled_type : (m : Known) (v : Tree) (f : MemberSlots) → same TypeName m ≡ false → (filled m v f).type_value ≡ f.type_value
 filled_type TypeName v f e = cc
@@ -125,7 +122,7 @@ filled_type Id v f e = joined_type Id (least (judge Id v)) f.id f
 
 named_type : (m : Known) (place : ℕ) (f : MemberSlots) (k : Bool) (o : Option Slot) → (if k then named_known m place o f else f).type_value ≡ f.type_value
 named_type m place f true (Some slot) = refl
-named_type m place f true None = with_slot_type m (record { name_at = place; fault = None }) f
+named_type m place f true None = kept_type m (record { name_at = place; fault = None }) f
 named_type m place f false o = refl
 
 due_no_type : (m : Known) (f : MemberSlots) (k u : Bool) (o : Option Slot) → uses f.role m ≡ u → same TypeName m ≡ false
@@ -206,13 +203,9 @@ shapes_from used (Some slot) known had found = had
 shapes_from used None known had None = had
 shapes_from used None known had (Some first) = if used then asked known (shapes_of first.value) else had
 
-with_slot_shapes : (m : Known) (s : Slot) (f : MemberSlots) → (with_slot m s f).shapes ≡ f.shapes
-with_slot_shapes TypeName s f = refl
-with_slot_shapes _ s f = refl
-
 joined_shapes : (m : Known) (x : Option Fault) (o : Option Slot) (f : MemberSlots) → (joined_to m x o f).shapes ≡ f.shapes
 joined_shapes m x None f = refl
-joined_shapes m x (Some slot) f = with_slot_shapes m (record { name_at = slot.name_at; fault = lesser slot.fault x }) f
+joined_shapes m x (Some slot) f = kept_shapes m (record { name_at = slot.name_at; fault = lesser slot.fault x }) f
 
 filled_shapes : (m : Known) (v : Tree) (f : MemberSlots) → same Coordinates m ≡ false → (filled m v f).shapes ≡ f.shapes
 filled_shapes Coordinates v f e = cc
@@ -228,7 +221,7 @@ filled_shapes Id v f e = joined_shapes Id (least (judge Id v)) f.id f
 
 named_shapes : (m : Known) (place : ℕ) (f : MemberSlots) (k : Bool) (o : Option Slot) → (if k then named_known m place o f else f).shapes ≡ f.shapes
 named_shapes m place f true (Some slot) = refl
-named_shapes m place f true None = with_slot_shapes m (record { name_at = place; fault = None }) f
+named_shapes m place f true None = kept_shapes m (record { name_at = place; fault = None }) f
 named_shapes m place f false o = refl
 
 due_no_shapes : (m : Known) (f : MemberSlots) (k u : Bool) (o : Option Slot) → uses f.role m ≡ u → same Coordinates m ≡ false
@@ -296,13 +289,9 @@ shapes_after (member place name end value more) f h =
 
 -- ---- repeated names
 
-with_slot_repeated : (m : Known) (s : Slot) (f : MemberSlots) → (with_slot m s f).repeated ≡ f.repeated
-with_slot_repeated TypeName s f = refl
-with_slot_repeated _ s f = refl
-
 joined_repeated : (m : Known) (x : Option Fault) (o : Option Slot) (f : MemberSlots) → (joined_to m x o f).repeated ≡ f.repeated
 joined_repeated m x None f = refl
-joined_repeated m x (Some slot) f = with_slot_repeated m (record { name_at = slot.name_at; fault = lesser slot.fault x }) f
+joined_repeated m x (Some slot) f = kept_repeated m (record { name_at = slot.name_at; fault = lesser slot.fault x }) f
 
 filled_repeated : (m : Known) (v : Tree) (f : MemberSlots) → (filled m v f).repeated ≡ f.repeated
 filled_repeated TypeName v f = refl
@@ -319,7 +308,7 @@ filled_repeated Id v f = joined_repeated Id (least (judge Id v)) f.id f
 named_repeated : (m : Known) (place : ℕ) (f : MemberSlots) (k : Bool) (o : Option Slot)
     → (if k then named_known m place o f else f).repeated ≡ lesser f.repeated (least (again k (is_some o) place))
 named_repeated m place f true (Some slot) = refl
-named_repeated m place f true None = with_slot_repeated m (record { name_at = place; fault = None }) f ∙ sym (lesser-none f.repeated)
+named_repeated m place f true None = kept_repeated m (record { name_at = place; fault = None }) f ∙ sym (lesser-none f.repeated)
 named_repeated m place f false o = sym (lesser-none f.repeated)
 
 -- the names of the slots that are set

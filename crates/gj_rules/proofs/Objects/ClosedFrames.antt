@@ -1,4 +1,4 @@
--- At its close a frame tells what is found in its object.
+-- At its close a frame reports what is found in its object.
 use Rattle.std.proofs.Common.{◌≡◌, ℕ, Bool, true, false, if◌then◌else◌, Option, Some, None, refl, sym, ap, ◌∙◌}
 use Rattle.gj_json.specs.declared.names.Known.{Known}
 use Rattle.gj_json.specs.declared.names.Known.TheVariants.{Coordinates, Geometries, Geometry, Features, Bbox}
@@ -43,7 +43,7 @@ value_is : (n : Known) (ms : Members) → value_in (first n ms) ≡ first_value 
 value_is n end_of_object = refl
 value_is n (member place name end value more) = value_step (same n (known_of name)) _ (first n more) (first_value n more) (value_is n more)
 
--- ---- what hangs on the type
+-- ---- what depends on the type
 
 -- the six types have five sorts of warnings
 abbrev like : Simple → Simple
@@ -137,7 +137,7 @@ fields_are : (f g : Frame) → f.slots ≡ g.slots → f.gathered.own ≡ g.gath
     → f.gathered.geometry ≡ g.gathered.geometry → f.gathered.features ≡ g.gathered.features → f ≡ g
 fields_are f g a b c d e = λ i. record { slots = a i; gathered = record { own = b i; geometries = c i; geometry = d i; features = e i } }
 
--- the warnings of an object that hang on no type
+-- the warnings of an object that depend on no type
 abbrev own_kept : Members → Warnings
 own_kept ms = joined (warnings_of (crs_warnings ms)) (or_none (first_kept Bbox ms))
 

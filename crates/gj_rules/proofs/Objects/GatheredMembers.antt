@@ -25,7 +25,7 @@ use Rattle.gj_rules.specs.TextWarnings.{crs_warnings}
 use Rattle.gj_rules.proofs.Objects.OneMember.{same_is, due_other, slot-other, slot-own, or_slot, slot_from}
 use Rattle.gj_rules.proofs.Objects.AllMembers.{member_object}
 
--- the slot of a name is set behind its member
+-- the slot of a name is set after its member
 or_set : (o : Option Slot) (u : Bool) (x : First) → (s : Slot) × (or_slot o (slot_from u (Some x)) ≡ Some s)
 or_set None u x = (_, refl)
 or_set (Some s) u x = (s, refl)
@@ -190,7 +190,7 @@ own_step m place v f false false d e =
     (due_other Bbox m (is_known m) (uses f.slots.role m) (slot_of m f.slots) f.slots.role refl refl d)
     ∙ (at_not_crs m place f.gathered e ∙ sym (nothing_more f.gathered.own))
 
--- what the first `bbox` adds behind a member
+-- what the first `bbox` adds after a member
 own_from_set : (o : Option Slot) (s : Slot) (found : Option Warnings) → o ≡ Some s → own_from o found ≡ None
 own_from_set o s found e = rw e refl
 

@@ -17,7 +17,8 @@ use Rattle.gj_rules.specs.Members.{is_known, same}
 use Rattle.gj_rules.specs.Internal.OpenMembers.{slot_of, with_slot, joined, joined_to, shapes_set, named_known, repeated_at}
 use Rattle.gj_rules.specs.Internal.Summaries.{no_shapes, shape_for}
 use Rattle.gj_rules.proofs.Objects.OneMember.{same_is, slot_of-other}
-use Rattle.gj_rules.proofs.Objects.MemberSlots.{slot_of-with}
+use Rattle.gj_rules.proofs.Objects.MemberSlots.{slot_of-with, kept_shapes, kept_repeated, kept_type}
+use Rattle.gj_rules.proofs.Objects.AskedShapes.{TypeStays}
 
 -- ---- truth
 
@@ -145,38 +146,21 @@ all_worse f g w =
     (and_keeps (fails_as Word.GeometryCollection f) _ (fails_as Word.GeometryCollection g) _ (fails_worse Word.GeometryCollection f g w)
     (and_keeps (fails_as Word.Feature f) _ (fails_as Word.Feature g) _ (fails_worse Word.Feature f g w) (fails_worse Word.FeatureCollection f g w))))))))
 
--- a `type` may come where there was none
-abbrev pub TypeGrows : Option TypeValue → Option TypeValue → Type 0
-TypeGrows None new = Unit {0}
-TypeGrows (Some value) new = new ≡ Some value
-
-type_worse : (f g : MemberSlots) (old new : Option TypeValue) → Worse f g → TypeGrows old new → Keeps (type_lost old f) (type_lost new g)
+type_worse : (f g : MemberSlots) (old new : Option TypeValue) → Worse f g → TypeStays old new → Keeps (type_lost old f) (type_lost new g)
 type_worse f g None None w t = all_worse f g w
 type_worse f g None (Some value) w t = λ e. fails_worse value.word f g w (each_fails value.word f e)
 type_worse f g (Some value) new w t = subst (λ (o : Option TypeValue). Keeps (fails_as value.word f) (type_lost o g)) (sym t) (fails_worse value.word f g w)
 
-pub lost_worse : (f g : MemberSlots) → Worse f g → TypeGrows f.type_value g.type_value → Keeps (is_lost f) (is_lost g)
+pub lost_worse : (f g : MemberSlots) → Worse f g → TypeStays f.type_value g.type_value → Keeps (is_lost f) (is_lost g)
 lost_worse f g w t =
     or_keeps (is_some f.repeated) _ (is_some g.repeated) _ w.repeated
     (or_keeps (slot_fails f.bbox) _ (slot_fails g.bbox) _ (w.values Bbox) (type_worse f g f.type_value g.type_value w t))
 
-pub type_same : (o p : Option TypeValue) → p ≡ o → TypeGrows o p
+pub type_same : (o p : Option TypeValue) → p ≡ o → TypeStays o p
 type_same None p e = tt
 type_same (Some value) p e = e
 
 -- ---- a slot
-
-kept_shapes : (m : Known) (s : Slot) (f : MemberSlots) → (with_slot m s f).shapes ≡ f.shapes
-kept_shapes TypeName s f = refl
-kept_shapes _ s f = refl
-
-kept_repeated : (m : Known) (s : Slot) (f : MemberSlots) → (with_slot m s f).repeated ≡ f.repeated
-kept_repeated TypeName s f = refl
-kept_repeated _ s f = refl
-
-pub kept_type : (m : Known) (s : Slot) (f : MemberSlots) → (with_slot m s f).type_value ≡ f.type_value
-kept_type TypeName s f = refl
-kept_type _ s f = refl
 
 -- of the slots, what may be said of the one that was set holds of each
 each_slot : (P : Option Slot → Option Slot → Type 0) → ((o : Option Slot) → P o o) → (m : Known) (s : Slot) (f : MemberSlots) → P (slot_of m f) (Some s)

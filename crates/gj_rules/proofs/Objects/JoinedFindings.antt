@@ -42,7 +42,7 @@ taken_twice name f x y a b k =
     let e : taken_any name y b (taken_any name x a f) ≡ first = ap (λ (s : MemberSlots). record first { slots = s }) (joined-twice name f.slots x y k) in
     e ∙ ap (λ (g : MemberWarnings). record first { gathered = g }) (gathered_twice name a b f.gathered)
 
--- what is shown hangs on nothing that is gathered
+-- what is shown depends on nothing that is gathered
 pub members_shown : (ms : Members) (f : Frame) → (members_taken ms f).slots ≡ S.members_taken ms f.slots
 members_shown end_of_object f = refl
 members_shown (member place name end value more) f = members_shown more (member_taken place (known_of name) value f)

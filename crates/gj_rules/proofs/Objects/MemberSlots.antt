@@ -32,6 +32,19 @@ slot_of-with Other s f e = cc
 slot_of-with Crs s f e = cc
 slot_of-with _ s f e = refl
 
+-- what is no slot stays
+pub kept_shapes : (name : Known) (s : Slot) (f : MemberSlots) → (with_slot name s f).shapes ≡ f.shapes
+kept_shapes TypeName s f = refl
+kept_shapes _ s f = refl
+
+pub kept_repeated : (name : Known) (s : Slot) (f : MemberSlots) → (with_slot name s f).repeated ≡ f.repeated
+kept_repeated TypeName s f = refl
+kept_repeated _ s f = refl
+
+pub kept_type : (name : Known) (s : Slot) (f : MemberSlots) → (with_slot name s f).type_value ≡ f.type_value
+kept_type TypeName s f = refl
+kept_type _ s f = refl
+
 -- no other fault changes nothing
 none_joined : (name : Known) (f : MemberSlots) (o : Option Slot) → slot_of name f ≡ o → joined_to name None o f ≡ f
 none_joined name f None e = refl

@@ -1,15 +1,16 @@
 -- Where no value that a summary takes is due.
 use Rattle.std.proofs.Common.{◌≡◌, ℕ, zero, suc, ◌<◌, false, List, [], refl, arith}
 use Rattle.gj_json.specs.declared.event.What.{What}
-use Rattle.gj_json.specs.declared.names.Known.TheVariants.{Coordinates, Bbox}
+use Rattle.gj_json.specs.declared.names.Known.TheVariants.{Coordinates, Bbox, Geometry}
 use Rattle.gj_coords.specs.declared.coordinates.Coordinates as C
 use Rattle.gj_coords.specs.declared.bbox.Bbox as B
 use Rattle.gj_rules.specs.Internal.FrameMeaning.{Findings, Frame}
 use Rattle.gj_rules.specs.declared.mode.Mode.{Mode}
 use Rattle.gj_rules.specs.declared.mode.Mode.TheVariants.{RootDue, Names, Due, Elements, Done}
+use Rattle.gj_rules.specs.declared.role.Role.{Role}
 use Rattle.gj_rules.specs.declared.rules.FramedRules.{FramedRules}
 use Rattle.gj_rules.specs.Internal.RulesState.{core_of, top_of, Holds, HoldsIn}
-use Rattle.gj_rules.specs.Internal.EventSteps.{Core, names_step, core_step, is_feeding, skip}
+use Rattle.gj_rules.specs.Internal.EventSteps.{Core, pushed, names_step, core_step, is_feeding, skip}
 
 holds : (k : ℕ) (m : Mode) (c : C.Coordinates) (b : B.Bbox) → is_feeding 0 m ≡ false → HoldsIn k m c b []
 holds (suc k) m c b e = tt
@@ -44,3 +45,24 @@ pub names : {frames : ℕ} (rules : FramedRules frames) (what : What) (place : �
     → names_step what place (core_of rules) ≡ core_step (record { place = place; what = what }) (core_of rules)
 names rules what place p q =
     named_at rules.skipped rules.mode what place (top_of rules) (core_of rules).outer (core_of rules).answer (core_of rules) refl p q
+
+-- where a geometry or a feature may open
+geometry_at : (k : ℕ) (m : Mode) (place : ℕ) (f : Frame) (o : List Frame) (a : Findings) (s : Core)
+    → s ≡ record { skipped = k; mode = m; top = f; outer = o; answer = a } → k ≡ 0 → m ≡ Due Geometry
+    → pushed Role.Geometry place s ≡ core_step (record { place = place; what = What.OpenObject }) s
+geometry_at k m place f o a s e p q = rw (e, p, q) refl
+
+pub opens_geometry : {frames : ℕ} (rules : FramedRules frames) (place : ℕ) → rules.skipped ≡ 0 → rules.mode ≡ Due Geometry
+    → pushed Role.Geometry place (core_of rules) ≡ core_step (record { place = place; what = What.OpenObject }) (core_of rules)
+opens_geometry rules place p q =
+    geometry_at rules.skipped rules.mode place (top_of rules) (core_of rules).outer (core_of rules).answer (core_of rules) refl p q
+
+feature_at : (k : ℕ) (m : Mode) (place : ℕ) (f : Frame) (o : List Frame) (a : Findings) (s : Core)
+    → s ≡ record { skipped = k; mode = m; top = f; outer = o; answer = a } → k ≡ 0 → m ≡ Elements Role.Feature
+    → pushed Role.Feature place s ≡ core_step (record { place = place; what = What.OpenObject }) s
+feature_at k m place f o a s e p q = rw (e, p, q) refl
+
+pub opens_feature : {frames : ℕ} (rules : FramedRules frames) (place : ℕ) → rules.skipped ≡ 0 → rules.mode ≡ Elements Role.Feature
+    → pushed Role.Feature place (core_of rules) ≡ core_step (record { place = place; what = What.OpenObject }) (core_of rules)
+opens_feature rules place p q =
+    feature_at rules.skipped rules.mode place (top_of rules) (core_of rules).outer (core_of rules).answer (core_of rules) refl p q

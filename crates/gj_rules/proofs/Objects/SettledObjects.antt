@@ -69,7 +69,7 @@ optional_is : (o : Option First) → F.slot_fault (slot_from true o) ≡ least (
 optional_is None = refl
 optional_is (Some first) = refl
 
--- joined in front of what is known of the rest
+-- joined before what is known of the rest
 also : (x : Option Fault) (xs : List Fault) (y : Option Fault) (ys : List Fault) → x ≡ least xs → y ≡ least ys → lesser x y ≡ least (xs ++ ys)
 also x xs y ys e f = ap (λ z. lesser z y) e ∙ (ap (λ z. lesser (least xs) z) f ∙ sym (least-append xs ys))
 

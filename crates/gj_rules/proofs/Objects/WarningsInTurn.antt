@@ -14,10 +14,6 @@ to_none w = joined_none_first w
 pub with_none : (w : Warnings) → joined w no_warnings ≡ w
 with_none w = joined_none_last w
 
--- some and others
-pub in_turn : (a b c : Warnings) → joined (joined a b) c ≡ joined a (joined b c)
-in_turn a b c = joined_assoc a b c
-
 -- some and one more
 pub and_one : (a b : Warnings) (kind : Kind) (place : ℕ) → added (joined a b) kind place ≡ joined a (added b kind place)
 and_one a b kind place = added_is (joined a b) kind place ∙ (joined_assoc a b _ ∙ ap (joined a) (sym (added_is b kind place)))

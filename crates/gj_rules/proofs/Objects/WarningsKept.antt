@@ -36,7 +36,7 @@ both_is None b = sym (joined_none_first (or_none b))
 both_is (Some a) None = sym (joined_none_last a)
 both_is (Some a) (Some b) = refl
 
--- of two lists, one behind the other
+-- of two lists, one after another
 append_is : (a b : Warnings) (xs ys : List Warning) → a ≡ warnings_of xs → b ≡ warnings_of ys → joined a b ≡ warnings_of (xs ++ ys)
 append_is a b xs ys e f = ap (λ (w : Warnings). joined w b) e ∙ (ap (joined (warnings_of xs)) f ∙ sym (warnings_of-append xs ys))
 
@@ -45,7 +45,7 @@ one_more a place xs e =
     added_is a W7 place ∙ (joined_comm a (warnings_of (warning_at place W7 ∷ []))
     ∙ append_is (warnings_of (warning_at place W7 ∷ [])) a (warning_at place W7 ∷ []) xs refl e)
 
--- those of an object that hang on its type, given those of its coordinates and of its first members
+-- those of an object that depend on its type, given those of its coordinates and of its first members
 typed_is : (word : Word) (role : Role) (place : ℕ) (o : Option Tree) (a b c : Warnings) (xs ys zs : List Warning)
     → ((simple : Simple) → simple_kept simple o ≡ warnings_of (simple_warnings simple o)) → a ≡ warnings_of xs → b ≡ warnings_of ys → c ≡ warnings_of zs
     → typed_kept word role place o a b c ≡ warnings_of (typed_warnings word role place o xs ys zs)

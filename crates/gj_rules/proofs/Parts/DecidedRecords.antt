@@ -18,7 +18,7 @@ use Rattle.gj_rules.proofs.Parts.CountedParts.{entries-append}
 use Rattle.gj_rules.proofs.Parts.OneFinding.{some_findings}
 use Rattle.gj_rules.proofs.Parts.RecordSteps.{open_of, over_of, over_more}
 
--- ---- what is found, with more behind it
+-- ---- what is found, with more after it
 
 both_found : (framing : Framing) (levels : ℕ) (entries others : List Entry) (found more : List Record) → AreFindings framing levels entries found
     → AreFindings framing levels others more
@@ -90,7 +90,7 @@ decided_lasts some s bytes more found h fails = by_test s.is_over refl
           sym (whole_both (SeqVerdict.Valid 0 _) found rest.0 ∙ whole_stays (whole_of found) rest.0 (fails e)),
         )
 
--- what was told so far
+-- what was reported so far
 pub whole_so_far : (s : Records) (bytes : List ℕ) (found : List Record) → StandsFor s bytes found → s.whole ≡ whole_of found
 whole_so_far s bytes found h = by_test s.is_over refl
   where

@@ -1,6 +1,6 @@
 -- What `Records` stand for, from step to step.
 use Rattle.std.proofs.Common.{◌≡◌, ℕ, zero, suc, ◌+◌, ◌-◌, ◌<◌, ◌≤◌, Bool, true, false, ◌&&◌, not, List, [], ◌∷◌, ◌++◌, length, length-append, take, drop}
-use Rattle.std.proofs.Common.{append_assoc, append-nil, refl, ap, sym, subst, ◌∙◌, arith}
+use Rattle.std.proofs.Common.{append_assoc, append-nil, refl, ap, sym, subst, ◌∙◌, arith, take-add}
 use Rattle.std.proofs.lemmas.List.{take_all, length-drop}
 use Rattle.gj_json.specs.Limits.{Allowed}
 use Rattle.gj_coords.specs.Internal.KeptWarnings.{no_warnings}
@@ -18,7 +18,6 @@ use Rattle.gj_rules.specs.RecordFindings.{IsFinding, AreFindings, AreAllFindings
 use Rattle.gj_rules.specs.Records.{Part, Entry, part_at, entry_at, entry_if, counts, entries_of, is_void, is_counted, number_after, at_least_one, number_from}
 use Rattle.gj_rules.specs.Records.{first_number, separator_of, parts_from, parts_of, entries_in}
 use Rattle.gj_rules.specs.RecordsStand.{StandsBy, StandsFor, HaveTold, HaveToldIf, HaveToldAllIf}
-use Rattle.gj_rules.proofs.Sequences.SequenceSteps.{take_further}
 use Rattle.gj_rules.proofs.Parts.CountedParts.{next_number, next_entries}
 use Rattle.gj_rules.proofs.Parts.FoundRecords.{found-append, whole-append}
 use Rattle.gj_rules.proofs.Parts.PartCuts.{other-append, one_part, first_part, void-append, but_last-append, short_parts, long_parts, short_whole, long_whole}
@@ -63,7 +62,7 @@ so_far s bytes found h = by_test s.is_over refl
         let P : List Part → Type 0 = λ ps. AreFindings s.framing s.limits.depth (entries_in s.framing ps) found in
         subst P (sym (long_whole s.framing s.limits bytes k.beyond)) k.are
 
--- ---- what was told
+-- ---- what was reported
 
 pub have_told : (told : List Record → Type 0) (s : Records) (bytes : List ℕ) (before found more : List Record) → StandsFor s bytes (found ++ more)
     → told (before ++ (found ++ more)) → HaveTold told s bytes before found
@@ -96,7 +95,7 @@ then_told first second s t bytes more before found h step =
     have_told second t more before found (h.more ++ k.more) (subst P (append_assoc found h.more k.more) k.stands)
     (subst T (append_assoc found h.more k.more) k.heard)
 
--- no record was told before
+-- no record was reported before
 pub then_if : (b : Bool) (first second : List Record → Type 0) (s t : Records) (bytes more : List ℕ) (before found : List Record)
     → HaveToldIf false first s bytes before found
     → ((all : List Record) → StandsFor s bytes all → first (before ++ all) → HaveToldIf b second t more before all) → HaveToldIf b second t more before found
@@ -206,7 +205,7 @@ next_open s t bytes found all h b framing over room stands start end limits void
     not_not true = refl
     not_not false = refl
 
--- ---- the open record is told
+-- ---- the open record is reported
 
 -- the finding of the open record, and the verdict of all with it
 pub told_next : (before after_it : List Record → Type 0) (ending : RecordEnd) (next : ℕ) (s t : Records) (bytes : List ℕ) (earlier found : List Record)
@@ -348,7 +347,7 @@ pub further_at : (P : List ℕ → Type 0) (bytes piece : List ℕ) (n m : ℕ) 
 further_at P bytes piece n m l h =
     let rest : take (length piece - n) (drop n piece) ≡ drop n piece = take_all (length piece - n) (drop n piece) (omega (arith, length-drop n piece)) in
     subst P (append_assoc bytes (take n piece) (take m (take (length piece - n) (drop n piece)))
-    ∙ ap (λ xs. bytes ++ xs) (ap (λ xs. take n piece ++ take m xs) rest ∙ sym (take_further piece n m))) h
+    ∙ ap (λ xs. bytes ++ xs) (ap (λ xs. take n piece ++ take m xs) rest ∙ sym (take-add n m piece))) h
 
 pub further : (told : List Record → Type 0) (s : Records) (bytes piece : List ℕ) (n m : ℕ) (before found : List Record) → n ≤ length piece
     → HaveTold told s ((bytes ++ take n piece) ++ take m (take (length piece - n) (drop n piece))) before found
@@ -360,7 +359,7 @@ kept_on a b c h k = record { limits = k.limits ∙ h.limits; framing = k.framing
 
 -- ---- the end of the input
 
--- nothing is left to tell
+-- nothing is left to report
 pub finished_none : (told : List Record → Type 0) (s : Records) (bytes : List ℕ) (earlier found : List Record)
     → (s.is_over ≡ false → counts s.framing s.number Input s.is_void ≡ false)
     → StandsFor s bytes found → told (earlier ++ found) → HaveToldAllIf false told s.framing s.limits bytes earlier found s.whole
@@ -370,7 +369,7 @@ finished_none told s bytes earlier found live h was = by_test s.is_over refl
     by_test true e = ends_over told s bytes earlier found (over_of s bytes found e h) was
     by_test false e = ends_open told s bytes earlier found (open_of s bytes found e h) (live e) was
 
--- the open record is told
+-- the open record is reported
 pub finished_some : (before after_it : List Record → Type 0) (s t : Records) (bytes : List ℕ) (next : ℕ) (earlier found : List Record) → (s.is_over ≡ true → ⊥)
     → (s.is_over ≡ false → counts s.framing s.number Input s.is_void ≡ true)
     → TellsOne before after_it Input next s t → StandsFor s bytes found → before (earlier ++ found)

@@ -102,7 +102,7 @@ cut_as is_cut place (byte ∷ more) = by_test (cut_as is_cut (place + 1) more) (
           records = rw e h.records;
         }
 
--- ---- what is told of them
+-- ---- what is reported of them
 
 -- as many, in order, counted on from a number
 abbrev Shown : ℕ → ℕ → List SequenceRecord → List Record → Type 0

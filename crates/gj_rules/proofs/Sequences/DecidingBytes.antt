@@ -63,7 +63,7 @@ stray_append (byte ∷ done) given more = refl
 pub regroup : (done given more : List ℕ) → (done ++ separator ∷ given) ++ more ≡ done ++ separator ∷ (given ++ more)
 regroup done given more = append_assoc done (separator ∷ given) more
 
--- ---- viable fronts
+-- ---- viable prefixes
 
 pub viable_front : (levels : ℕ) (xs ys : List ℕ) → IsViableWithin levels (xs ++ ys) → IsViableWithin levels xs
 viable_front levels xs ys h =
@@ -191,7 +191,7 @@ first_failing limits all done w number r after verdict begun valid counted split
     } in
     subst P (sym begun) f
 
--- ---- the byte behind the last that is allowed
+-- ---- the byte after the last that is allowed
 
 module _ (some_verdict : (limits : Allowed) (bytes : List ℕ) → (verdict : Verdict) × IsVerdict limits bytes verdict) where
   cut_off : (levels : ℕ) (given : List ℕ) (own : Verdict) → IsViableWithin levels given → IsVerdict (own_limits levels given) given own
@@ -265,7 +265,7 @@ module _ (some_verdict : (limits : Allowed) (bytes : List ℕ) → (verdict : Ve
             (subst R last (cut_record limits.depth (length done + 1) given k.viable)) refl;
       }
 
--- ---- a separator behind a record that fails
+-- ---- a separator after a record that fails
 
 pub settled_failing : (one : (limits : Allowed) (bytes : List ℕ) (first second : Verdict) → IsVerdict limits bytes first → IsVerdict limits bytes second
     → first ≡ second)

@@ -1,4 +1,4 @@
--- The places that a verdict tells are those of what it says.
+-- The places that a verdict names are those of what it says.
 use Rattle.std.proofs.Common.{◌≡◌, ◌<◌, ◌==◌, ℕ, ◌≤◌, List, length, Bool, true, false, if◌then◌else◌, Some, None, refl, sym, ◌∙◌, arith}
 use Rattle.std.proofs.lemmas.Bool.Decides.{nat_tests}
 use Rattle.gj_json.specs.Limits.{Allowed}
@@ -15,7 +15,7 @@ use Rattle.gj_rules.specs.Verdict.{Judgement, valid, broken, refused, IsJudgemen
 use Rattle.gj_rules.specs.declared.verdict.Verdict.{Verdict}
 use Rattle.gj_rules.specs.declared.verdict.Verdict.TheVariants.{Valid, Broken, NotJson}
 
--- the first place that is told is the least of the list
+-- the first place that is named is the least of the list
 first_told : (told : Warnings) (kind : Kind) (warnings : List Warning) → StandsFor told warnings → first_in kind told ≡ first_of kind warnings
 first_told told kind warnings stands = by_count ((kept told kind).count == 0) refl
   where
@@ -29,7 +29,7 @@ first_told told kind warnings stands = by_count ((kept told kind).count == 0) re
     by_count true h = first_is_none (kept told kind) kind warnings (kept_of told kind warnings stands) (zero_count (kept told kind).count h)
     by_count false h = first_is (kept told kind) kind warnings (kept_of told kind warnings stands) (some_count (kept told kind).count h)
 
--- the law of what is told of an input
+-- the law of what is reported of an input
 abbrev pub PlacesWithin : Type 0
 PlacesWithin = (limits : Allowed) (bytes : List ℕ) (judgement : Judgement) (place : ℕ) → IsJudgement limits bytes judgement → IsPlaceIn place judgement
     → place ≤ length bytes

@@ -9,7 +9,7 @@ record_at start bytes is_cut = record { start = start; bytes = bytes; is_cut = i
 
 -- ---- bytes without a separator
 
--- the first is none, nor is any behind it
+-- the first is none, nor is any after it
 pub first_plain : (byte : ℕ) (more : List ℕ) → has_separator (byte ∷ more) ≡ false → is_separator byte ≡ false
 first_plain byte more h = by_test (is_separator byte) refl h
   where

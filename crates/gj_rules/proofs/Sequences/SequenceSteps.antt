@@ -1,6 +1,6 @@
 -- What a sequence stands for, from step to step.
 use Rattle.std.proofs.Common.{◌≡◌, ◌⊎◌, inl, inr, ⊎_elim, ℕ, zero, suc, ◌+◌, ◌-◌, ◌<◌, ◌≤◌, Bool, true, false, List, [], ◌∷◌, ◌++◌, length, length-append, take}
-use Rattle.std.proofs.Common.{drop, append_assoc, append-nil, Option, Some, None, refl, ap, sym, subst, ◌∙◌, arith}
+use Rattle.std.proofs.Common.{drop, append_assoc, append-nil, Option, Some, None, refl, ap, sym, subst, ◌∙◌, arith, take-add}
 use Rattle.std.proofs.lemmas.List.{take_all, length-drop}
 use Rattle.gj_json.specs.declared.fault.JsonFault.{JsonFault}
 use Rattle.gj_json.specs.Limits.{Allowed}
@@ -78,7 +78,7 @@ pub decided_stands : (s new : Sequence) (bytes : List ℕ) (place : ℕ) (verdic
     → IsSettled s.limits bytes place verdict → StandsFor new bytes
 decided_stands s new bytes place verdict e h = let P : Sequence → Type 0 = λ x. StandsFor x bytes in subst P (sym e) h
 
--- more bytes behind those that decided
+-- more bytes after those that decided
 settled_more : (limits : Allowed) (bytes more : List ℕ) (place : ℕ) (verdict : SeqVerdict) → IsSettled limits bytes place verdict
     → IsSettled limits (bytes ++ more) place verdict
 settled_more limits bytes more place verdict h =
@@ -147,7 +147,7 @@ was_failing (Valid x) e = cc
 was_failing (Broken fault) e = refl
 was_failing (NotJson fault) e = refl
 
--- the record's verdict, at its place behind the separator
+-- the record's verdict, at its place after the separator
 pub placed : (levels : ℕ) (s : Sequence) (bytes : List ℕ) (h : IsLive s bytes) (k : IsIn s bytes) (verdict other : Verdict) → verdict ≡ other
     → IsRecordVerdict s.record.limits.depth (record_at s.record.start k.given false) verdict
     → IsRecordVerdict s.limits.depth (record_at (length k.done + 1) k.given false) other
@@ -174,7 +174,7 @@ refused_run s bytes run h k own fault some plain room wide e lasting =
     (plain-append k.given run k.plain plain)
     (omega (arith, length-append k.given run, some)) k.valid k.counted (subst L h.depth lasting))
 
--- a record that fails, and the separator behind it
+-- a record that fails, and the separator after it
 pub failing_closed : (one : (limits : Allowed) (bytes : List ℕ) (first second : Verdict) → IsVerdict limits bytes first → IsVerdict limits bytes second
     → first ≡ second)
     (s : Sequence) (bytes : List ℕ) (h : IsLive s bytes) (k : IsIn s bytes) (verdict : Verdict) (place : ℕ) → s.record.end < s.limits.bytes → 0 < length k.given
@@ -187,7 +187,7 @@ failing_closed one s bytes h k verdict place short some e v fails =
     (settled_failing one s.limits bytes k.done k.given s.warnings s.records verdict (known_of s bytes h k) (omega (arith, h.taken, short)) some
     (placed 0 s bytes h k verdict verdict refl v) fails)
 
--- the byte behind the last that is allowed
+-- the byte after the last that is allowed
 pub long_run : (some : (limits : Allowed) (bytes : List ℕ) → (verdict : Verdict) × IsVerdict limits bytes verdict) (s : Sequence) (bytes : List ℕ)
     (byte place : ℕ) (h : IsLive s bytes) → s.record.end ≡ s.limits.bytes → 1 ≤ s.limits.bytes
     → place ≡ s.record.end → IsSettled s.limits (bytes ++ byte ∷ []) place (SeqVerdict.Record s.records (not_json place Length))
@@ -206,7 +206,7 @@ stray_run s bytes byte h none e =
     let Q : ℕ → Type 0 = λ n. IsSettled s.limits (byte ∷ []) 0 (SeqVerdict.Record n (not_json 0 Syntax)) in
     subst P (sym b.none) (subst Q (sym none) (settled_stray s.limits byte e))
 
--- ---- records behind the open one
+-- ---- records after the open one
 
 -- the first separator
 pub first_begun : (bytes : List ℕ) → bytes ≡ [] → is_stray (bytes ++ separator ∷ []) ≡ false
@@ -354,23 +354,6 @@ pub fed_answers : (s : Sequence) (limits : Allowed) (bytes : List ℕ) (progress
 fed_answers s limits bytes Progress.Open e f h = fed_undecided s limits bytes e (sym f) h
 fed_answers s limits bytes Progress.Decided e f h = fed_decided s limits bytes e (sym f) h
 
-none_taken : (k j : ℕ) (none : List ℕ) → none ≡ [] → take k none ≡ take j none
-none_taken k j none e = nothing k ∙ sym (nothing j)
-  where
-    nothing : (n : ℕ) → take n none ≡ none
-    nothing n = take_all n none (let l : length none ≡ 0 = ap length e in omega (arith, l))
-
-pub take_further : (xs : List ℕ) (n m : ℕ) → take (n + m) xs ≡ take n xs ++ take m (drop n xs)
-take_further xs zero m = ap (λ k. take k xs) (zero_on m)
-  where
-    zero_on : (k : ℕ) → 0 + k ≡ k
-    zero_on k = omega arith
-take_further [] (suc n) m = none_taken (suc n + m) m [] refl
-take_further (x ∷ xs) (suc n) m = ap (λ k. take k (x ∷ xs)) (one_on n m) ∙ ap (λ ys. x ∷ ys) (take_further xs n m)
-  where
-    one_on : (k j : ℕ) → suc k + j ≡ suc (k + j)
-    one_on k j = omega arith
-
 pub rest_fed : (s : Sequence) (bytes piece : List ℕ) (n : ℕ) → is_decided s ≡ true → StandsFor s (bytes ++ take n piece) → StandsFor s (bytes ++ piece)
 rest_fed s bytes piece n settled h =
     let P : List ℕ → Type 0 = λ bs. StandsFor s bs in
@@ -382,11 +365,11 @@ rest_fed s bytes piece n settled h =
     both [] (suc k) = refl
     both (x ∷ xs) (suc k) = ap (λ ys. x ∷ ys) (both xs k)
 
--- what a step took of the rest of a piece, behind what was taken before
+-- what a step took of the rest of a piece, after what was taken before
 pub taken_further : (s : Sequence) (bytes piece : List ℕ) (n m : ℕ) → n ≤ length piece
     → StandsFor s ((bytes ++ take n piece) ++ take m (take (length piece - n) (drop n piece))) → StandsFor s (bytes ++ take (n + m) piece)
 taken_further s bytes piece n m l h =
     let P : List ℕ → Type 0 = λ bs. StandsFor s bs in
     let rest : take (length piece - n) (drop n piece) ≡ drop n piece = take_all (length piece - n) (drop n piece) (omega (arith, length-drop n piece)) in
     subst P (append_assoc bytes (take n piece) (take m (take (length piece - n) (drop n piece)))
-    ∙ ap (λ xs. bytes ++ xs) (ap (λ xs. take n piece ++ take m xs) rest ∙ sym (take_further piece n m))) h
+    ∙ ap (λ xs. bytes ++ xs) (ap (λ xs. take n piece ++ take m xs) rest ∙ sym (take-add n m piece))) h

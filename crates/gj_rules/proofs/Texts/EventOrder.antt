@@ -3,8 +3,6 @@ use Rattle.std.proofs.Common.{◌≡◌, ℕ, ◌+◌, ◌≤◌, ◌<◌, Bool,
 use Rattle.std.proofs.lemmas.Bool.Decides.{nat_tests}
 use Rattle.std.proofs.lemmas.List.{length-append, append-nil}
 use Rattle.std.specs.List.{AllByRecursion}
-use Rattle.gj_json.specs.declared.constant.Constant.{Constant}
-use Rattle.gj_json.specs.declared.constant.Constant.TheVariants.{Null, True, False}
 use Rattle.gj_json.specs.declared.event.What.TheVariants as What
 use Rattle.gj_json.specs.Bytes.{mark_bytes}
 use Rattle.gj_json.specs.Events.{by}
@@ -14,11 +12,15 @@ use Rattle.gj_json.specs.Tree as Tree
 use Rattle.gj_json.specs.Tree.{Tree, constant, number, string, array, object, end_of_array, element, Members, end_of_object, member, Text}
 use Rattle.gj_rules.proofs.Texts.TimedEvents.{timed_of}
 use Rattle.gj_rules.specs.Internal.LabelledEvents.{Told, plain, event_of, at_of, told, elements_told, members_told, mark_told, text_told}
+use Rattle.gj_json.proofs.Events.EventTimes.{constant_long}
 
 -- ---- order
 
 abbrev pub Late : ℕ → List Told → Type 0
 Late n xs = AllByRecursion (λ x. n < at_of x) xs
+
+abbrev pub InTime : ℕ → List Told → Type 0
+InTime n xs = AllByRecursion (λ x. at_of x ≤ n) xs
 
 abbrev pub After : ℕ → List Told → Type 0
 After m xs = AllByRecursion (λ x. m ≤ at_of x) xs
@@ -50,7 +52,7 @@ pub late_back : (n : ℕ) (xs ys : List Told) → Late n (xs ++ ys) → Late n y
 late_back n [] ys h = h
 late_back n (x ∷ xs) ys h = late_back n xs ys h.1
 
--- which events are complete in a front
+-- which events are complete in a prefix
 pub by_late : (n : ℕ) (xs : List Told) → Late n xs → by n (map timed_of xs) ≡ []
 by_late n [] h = refl
 by_late n (x ∷ xs) h = let e : nat_le (at_of x) n ≡ false = (let l : n < at_of x = h.0 in grind (arith, nat_tests)) in rw e (by_late n xs h.1)
@@ -79,11 +81,6 @@ chain_order m (x ∷ xs) h = (chain_after (at_of x) (at_of x) xs (omega arith) h
 
 pub then_length : {First Rest : ℕ → List ℕ → Type 0} {n : ℕ} {bytes : List ℕ} → (h : Then First Rest n bytes) → length bytes ≡ length h.first + length h.rest
 then_length h = ap length h.joined ∙ length-append h.first h.rest
-
-pub constant_long : (which : Constant) → 0 < length (letters_of which)
-constant_long Null = omega arith
-constant_long True = omega arith
-constant_long False = omega arith
 
 -- where what is spelled ends
 pub ends_at : {A : ℕ → List ℕ → Type 0} {n end : ℕ} {bytes : List ℕ} → Then A (Ends end) n bytes → end ≡ n + length bytes

@@ -1,5 +1,5 @@
--- At each front of a text the frames in use are those of its open objects that have a role.
-use Rattle.std.proofs.Common.{◌≡◌, ℕ, suc, ◌+◌, ◌<◌, ◌≤◌, Bool, true, false, not, ◌&&◌, if◌then◌else◌, nat_le, nat_lt, List, [], ◌∷◌, ◌++◌, map, length}
+-- At each prefix of a text the frames in use are those of its open objects that have a role.
+use Rattle.std.proofs.Common.{◌≡◌, ℕ, suc, ◌+◌, ◌<◌, ◌≤◌, Bool, true, false, not, ◌&&◌, if◌then◌else◌, nat_lt, List, [], ◌∷◌, ◌++◌, map, length}
 use Rattle.std.proofs.Common.{is_some, inl, inr, Option, Some, None, refl, sym, ap, subst, ◌∙◌, arith, append_assoc}
 use Rattle.std.proofs.lemmas.Bool.{cases_lt}
 use Rattle.std.proofs.lemmas.Bool.Decides.{nat_tests}
@@ -43,11 +43,12 @@ use Rattle.gj_rules.proofs.Objects.SettledObjects.{none_set}
 use Rattle.gj_rules.proofs.Texts.TimedEvents.{timed_of, told-events}
 use Rattle.gj_rules.proofs.Objects.JoinedFindings.{taken_none, taken_twice}
 use Rattle.gj_rules.proofs.Texts.ValuesByEvents.{known_list}
+use Rattle.gj_json.proofs.Events.OpenContainers.{opened, shut}
 
 abbrev pub frames_of : State → ℕ
 frames_of s = frames_by s.core.mode s.core.outer
 
--- Behind the events that are complete in n bytes there are c frames. The letters for the parts of a state are those of
+-- After the events that are complete in n bytes there are c frames. The letters for the parts of a state are those of
 -- the proofs that events lead to an answer.
 abbrev pub Cut : ℕ → List Told → State → ℕ → Type 0
 Cut n [] s c = frames_of s ≡ c
@@ -57,7 +58,7 @@ cut_late : (n : ℕ) (xs : List Told) (s : State) (c : ℕ) → Late n xs → Cu
 cut_late n [] s c l h = h
 cut_late n (x ∷ xs) s c l h = h.1 l.0
 
--- where an event is late, so are those behind it
+-- where an event is late, so are those after it
 cut_behind : (n m : ℕ) (xs rest : List Told) (s : State) (c : ℕ) → After m (xs ++ rest) → Cut n rest s c → n < m → frames_of s ≡ c
 cut_behind n m xs rest s c i h l = cut_late n rest s c (late_behind n m xs rest l i) h
 
@@ -219,14 +220,14 @@ cut_value name q v rest f o a n c i h = let s = some_told v in cut_fed name q v 
 
 -- ---- what has a role
 
--- the count of the value that is due behind a name
+-- the count of the value that is due after a name
 abbrev pub due_judged : Known → ℕ → ℕ → ℕ → ℕ
 due_judged Geometry g gs fs = g
 due_judged Geometries g gs fs = gs
 due_judged Features g gs fs = fs
 due_judged _ g gs fs = 0
 
--- it is judged where its name gives a role and is the first of its kind
+-- it is checked where its name gives a role and is the first of its kind
 due_counted : (name : Known) (r : Role) (slot : Option Slot) (b : Bool) (g gs fs : ℕ) → (is_known name ≡ true → is_some slot ≡ b)
     → due_judged (if is_known name then due_known name slot r else Other) g gs fs ≡ counted name (not b && gives r name) g gs fs
 due_counted Geometry r (Some s) true g gs fs h = refl
@@ -253,18 +254,6 @@ due_counted _ _ None b g gs fs h = refl
 blank_mentions : (r : Role) (place : ℕ) → Mentions [] (blank r place).slots
 blank_mentions r place = record { each = λ n k. ap is_some (none_set r place n) }
 
-pub opened : (n place close : ℕ) → place + 1 ≤ n → n < close + 1 → is_open n place close ≡ 1
-opened n place close a b =
-    let e : nat_lt place n ≡ true = grind (arith, nat_tests) in
-    let f : nat_le n close ≡ true = grind (arith, nat_tests) in
-    rw (e, f) refl
-
-shut : (n place close : ℕ) → place + 1 ≤ n → close + 1 ≤ n → is_open n place close ≡ 0
-shut n place close a b =
-    let e : nat_lt place n ≡ true = grind (arith, nat_tests) in
-    let f : nat_le n close ≡ false = grind (arith, nat_tests) in
-    rw (e, f) refl
-
 -- the roles of objects below others
 abbrev pub IsInner : Role → Type 0
 IsInner Role.Root = ⊥
@@ -289,7 +278,7 @@ cut_close : (r : Role) → IsInner r → (place close : ℕ) (ms : Members) (res
 cut_close r q place close ms rest f o a n c p i h =
     let inner : Frame = members_taken ms (blank r place) in
     let e : inner.slots.role ≡ r = frame_role ms (blank r place) in (
-      λ l. let d : c ≡ is_open n place close + c = omega (arith, shut n place close p l) in
+      λ l. let d : c ≡ is_open n place close + c = omega (arith, shut n place close l) in
           subst (λ x. Cut n rest (behind close inner.slots.role (settled inner) f o a) x) d
           (subst (λ (x : Role). Cut n rest (behind close x (settled inner) f o a) c) (sym e)
           (subst (λ (s : State). Cut n rest s c) (sym (behind_idle close r (settled inner) f o a))
@@ -451,7 +440,7 @@ mutual
       (ap (λ (x : Option Fault). taken_any (member_of r) x (all_kept r (element v more)) f) (least-append (faults r v) (all_faults r more))
       ∙ sym (taken_twice (member_of r) f (least (faults r v)) (least (all_faults r more)) (kept r v) (all_kept r more) (known_list r q))) h))))
 
-  -- the members behind those of the names `before`
+  -- the members after those of the names `before`
   cut_members : (ms : Members) (rest : List Told) (f : Frame) (o : List Frame) (a : Findings) (n c : ℕ) (r : Role) (before : List Known)
       → Mentions before f.slots → f.slots.role ≡ r → InOrder (members_told ms ++ rest)
       → Cut n rest (st 0 Names (members_taken ms f) o a) c → Cut n (members_told ms ++ rest) (st 0 Names f o a) (members_judged n r before ms + c)
@@ -497,7 +486,7 @@ cut_root (object place ms close) had n i =
           (before_none (is_open n place close) (members_judged n Role.Root [] ms))
           (cut_members ms (last ∷ []) (blank Role.Root place) [] (had_found had) n (is_open n place close) Role.Root []
           (blank_mentions Role.Root place) refl i.1
-          (λ k. sym (shut n place close l k), λ k. sym (opened n place close l k))),
+          (λ k. sym (shut n place close k), λ k. sym (opened n place close l k))),
       λ l. sym (late_value (object place ms close) n Role.Root (l, late_after n (place + 1) (members_told ms ++ last ∷ []) l i.0)),
     )
   where
@@ -511,7 +500,7 @@ cut_marked false v n i = cut_root v (marked_kept false) n i
 cut_text : (text : Text) (n : ℕ) → InOrder (text_told text) → Cut n (text_told text) start (judged_at n text)
 cut_text text n i = cut_marked text.marked text.value n i
 
--- the events that are complete in n bytes, and the frames behind them
+-- the events that are complete in n bytes, and the frames after them
 pub record Front (n : ℕ) (xs : List Told) (s : State) (c : ℕ) : Type 0 where
   pub done : List Told
   pub rest : List Told

@@ -1,5 +1,5 @@
--- What was told of the bytes of a linter, from call to call.
-use Rattle.std.proofs.Common.{◌≡◌, ℕ, ◌+◌, ◌-◌, ◌^◌, ◌<◌, ◌≤◌, Bool, true, false, if◌then◌else◌, List, [], ◌∷◌, ◌++◌, length, take, Option, Some, None, Result}
+-- What was reported of the bytes of a linter, from call to call.
+use Rattle.std.proofs.Common.{◌≡◌, ℕ, ◌+◌, ◌-◌, ◌^◌, ◌<◌, ◌≤◌, List, [], ◌++◌, length, take, Option, Some, None, Result}
 use Rattle.std.proofs.Common.{Ok, Err, refl, sym, ap, subst, ◌∙◌, arith, append_assoc, append-nil, length-append}
 use Rattle.std.specs.Option.{option_to_list}
 use Rattle.std.proofs.lemmas.List.{take-append-le, length-map}
@@ -14,7 +14,7 @@ use Rattle.gj_json.specs.Refusal.{IsAdmitted}
 use Rattle.gj_json.specs.Text.{IsText}
 use Rattle.gj_json.specs.Tree.{Tree, Text, depth}
 use Rattle.gj_coords.specs.declared.fault.Fault.{Fault}
-use Rattle.gj_coords.specs.Fault.{least, lesser, comes_first}
+use Rattle.gj_coords.specs.Fault.{least}
 use Rattle.gj_coords.specs.declared.simple.Simple.{Simple}
 use Rattle.gj_coords.specs.declared.warnings.Warnings.{Warnings}
 use Rattle.gj_coords.specs.CoordinateWarnings.{coordinates_warnings}
@@ -30,10 +30,11 @@ use Rattle.gj_rules.specs.TextWarnings.{text_warnings}
 use Rattle.gj_rules.specs.Verdict.{IsVerdict}
 use Rattle.gj_rules.specs.Internal.VerdictParts.{verdict_of}
 use Rattle.gj_rules.proofs.Objects.WarningsKept.{text_is}
+use Rattle.gj_coords.proofs.Readers.LeastOfSome.{least_none}
 
 -- ---- a piece
 
--- the events of more bytes were told
+-- the events of more bytes were reported
 more_told : (Old New : List Event → Type 0) (bytes more taken : List ℕ) (m : ℕ) (k : AreToldOf Old bytes (length bytes))
     → Hears New k.events (length bytes) m taken → taken ≡ bytes ++ more → AreToldOf New taken m
 more_told Old New bytes more taken m k h e = record {
@@ -57,7 +58,7 @@ pub told_so : (Old New : List Event → Type 0) (taken : List ℕ) (n : ℕ) →
     → AreToldOf New taken n
 told_so Old New taken n so k = record { events = k.events; told = so k.events k.told; complete = k.complete }
 
--- the front of a piece behind the bytes before it
+-- the prefix of a piece after the bytes before it
 front : (bytes given : List ℕ) (p : ℕ) → length bytes ≤ p → take p (bytes ++ given) ≡ bytes ++ take (p - length bytes) given
 front bytes given p l = let e : p ≡ length bytes + (p - length bytes) =
     omega arith in ap (λ n. take n (bytes ++ given)) e ∙ take-append-add bytes given (p - length bytes)
@@ -106,22 +107,10 @@ was_live reader result x again e = go (refusal_of reader) refl
 
 -- ---- the end
 
-some_least : (fault : Fault) (o : Option Fault) → lesser (Some fault) o ≡ None → ⊥
-some_least fault None e = cc
-some_least fault (Some other) e = go (comes_first fault other) e
-  where
-    go : (t : Bool) → (if t then Some fault else Some other) ≡ None → ⊥
-    go true f = let g : false ≡ true = cc in cc
-    go false f = let g : false ≡ true = cc in cc
-
-none_least : (faults : List Fault) → least faults ≡ None → faults ≡ []
-none_least [] e = refl
-none_least (fault ∷ faults) e = absurd (some_least fault (least faults) e)
-
 pub text_verdict : (limits : Allowed) (bytes : List ℕ) (text : Text) → IsAdmitted limits text bytes → (o : Option Fault) (w : Warnings)
     → o ≡ least (text_faults text) → w ≡ warnings_of (text_warnings text)
     → IsVerdict limits bytes (verdict_of o w)
-text_verdict limits bytes text a None w e f = (text, a, none_least (text_faults text) (sym e), f)
+text_verdict limits bytes text a None w e f = (text, a, (least_none (text_faults text)).0 (sym e), f)
 text_verdict limits bytes text a (Some fault) w e f = (text, a, sym e)
 
 -- without that of a byte order mark
@@ -134,7 +123,7 @@ fewer_of_value text =
           (events text.value),
     ) (omega arith)
 
--- the verdict of an admitted text whose events were told
+-- the verdict of an admitted text whose events were reported
 pub end_verdict : {frames : ℕ} (limits : Allowed) (bytes : List ℕ) (Told : List Event → Type 0) (after : FramedRules frames) (last : Option Event)
     (o : Option Fault) (w : Warnings) → limits.depth ≤ levels_within frames → limits.bytes ≤ 2 ^ 60 → AreToldOf Told bytes (length bytes)
     → (f : (text : Text) × IsAdmitted limits text bytes × (all_events text ≡ events_by (length bytes) text ++ option_to_list last))

@@ -28,7 +28,7 @@ use Rattle.gj_rules.proofs.Texts.FramesInUse.{front_text}
 use Rattle.gj_rules.proofs.Texts.TimedEvents.{text-timed, text-events}
 use Rattle.gj_rules.proofs.Texts.ValuesByEvents.{Good, Fits, Leads, leads_at, text_found, lead_text}
 
--- ---- the events that were told
+-- ---- the events that were reported
 
 pub none_told : (done : List Told) → map event_of done ≡ [] → done ≡ []
 none_told [] e = refl

@@ -21,7 +21,7 @@ use Rattle.gj_rules.specs.Internal.LabelledEvents.{Told, event_of, text_told}
 use Rattle.gj_rules.proofs.Texts.ValuesByEvents.{Fits, Leads, leads_at, text_found, lead_text}
 use Rattle.gj_rules.proofs.Texts.OneEventMore.{core, with_feed, step_fed, fits_of, good_core, holds_names, ended_names}
 
--- ---- the events that were told
+-- ---- the events that were reported
 
 split_told : (done : List Told) (events fs : List Event) → map event_of done ≡ events ++ fs → (front : List Told) × (xs : List Told) × (done ≡ front ++ xs)
     × (map event_of front ≡ events) × (map event_of xs ≡ fs)
@@ -73,7 +73,7 @@ outcome_stands old new v taken (y ∷ ys) e h = h
 
 -- ---- a value does not end within an array of numbers
 
--- an event behind which an array is open, if it is one of an array of numbers
+-- an event after which an array is open, if it is one of an array of numbers
 abbrev inner : What → Bool
 inner What.OpenArray = true
 inner (What.Number value) = true

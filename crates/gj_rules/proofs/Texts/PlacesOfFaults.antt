@@ -1,4 +1,4 @@
--- The places that the faults and the warnings of a text tell are places of it.
+-- The places that the faults and the warnings of a text name are places of it.
 use Rattle.std.proofs.Common.{◌≡◌, ℕ, zero, suc, ◌+◌, ◌≤◌, Bool, true, false, if◌then◌else◌, List, [], ◌∷◌, ◌++◌, length, length-append, take, drop, Option}
 use Rattle.std.proofs.Common.{Some, None, is_some, ap, ◌∙◌, subst, arith}
 use Rattle.std.specs.List.{AllByRecursion, flat_map}

@@ -1,4 +1,4 @@
--- The places that the warnings of a text tell are places of it.
+-- The places that the warnings of a text name are places of it.
 use Rattle.std.proofs.Common.{◌≡◌, ℕ, ◌≤◌, Bool, true, false, not, ◌&&◌, if◌then◌else◌, nat_lt, List, [], ◌∷◌, length, take, Option, Some, None, unwrap_or}
 use Rattle.std.proofs.Common.{refl, ap, sym, ◌∙◌, arith}
 use Rattle.std.specs.List.{AllByRecursion, flat_map}

@@ -2,13 +2,11 @@
 use Rattle.std.proofs.Common.{◌≡◌, ℕ, ◌+◌, ◌*◌, ◌≤◌, ◌⊎◌, inl, inr, Bool, true, false, not, ◌&&◌, if◌then◌else◌, nat_le, nat_lt, List, [], ◌∷◌, ◌++◌, refl}
 use Rattle.std.proofs.Common.{arith}
 use Rattle.std.proofs.lemmas.Bool.{cases_lt}
-use Rattle.std.proofs.lemmas.Bool.Decides.{nat_tests}
-use Rattle.std.specs.List.{AllByRecursion}
 use Rattle.gj_json.specs.declared.names.Known.{Known}
 use Rattle.gj_json.specs.declared.names.Known.TheVariants.{Geometries, Geometry, Features}
 use Rattle.gj_json.specs.declared.event.What.TheVariants as What
 use Rattle.gj_json.specs.Names.{known_of}
-use Rattle.gj_json.specs.Open.{is_open, open_in, elements_open, members_open, open_at}
+use Rattle.gj_json.specs.Open.{open_in, elements_open, members_open, open_at}
 use Rattle.gj_json.specs.Text.{IsText}
 use Rattle.gj_json.specs.Tree as Tree
 use Rattle.gj_json.specs.Tree.{Tree, constant, number, string, array, object, end_of_array, element, Members, end_of_object, member, Text}
@@ -16,8 +14,9 @@ use Rattle.gj_rules.specs.declared.role.Role.{Role}
 use Rattle.gj_rules.specs.Judged.{gives, counted, judged_in, list_judged, elements_judged, members_judged, judged_at}
 use Rattle.gj_rules.specs.Members.{mentions}
 use Rattle.gj_rules.specs.Internal.LabelledEvents.{Told, plain, at_of, told, elements_told, members_told, mark_told}
-use Rattle.gj_rules.proofs.Texts.FramesInUse.{late_elements, late_members, opened}
-use Rattle.gj_rules.proofs.Texts.EventOrder.{Late, After, InOrder, order_behind, late_after, late_behind, late_front, in_order}
+use Rattle.gj_rules.proofs.Texts.FramesInUse.{late_elements, late_members}
+use Rattle.gj_rules.proofs.Texts.EventOrder.{Late, After, InOrder, order_behind, late_after, late_behind, late_front, in_order, InTime}
+use Rattle.gj_json.proofs.Events.OpenContainers.{opened, shut}
 
 -- ---- each of them is open
 
@@ -66,9 +65,6 @@ mutual
 
 -- ---- what is complete is not open
 
-abbrev pub InTime : ℕ → List Told → Type 0
-InTime n xs = AllByRecursion (λ x. at_of x ≤ n) xs
-
 in_time_front : (n : ℕ) (xs ys : List Told) → InTime n (xs ++ ys) → InTime n xs
 in_time_front n [] ys h = tt
 in_time_front n (x ∷ xs) ys h = (h.0, in_time_front n xs ys h.1)
@@ -76,15 +72,6 @@ in_time_front n (x ∷ xs) ys h = (h.0, in_time_front n xs ys h.1)
 in_time_back : (n : ℕ) (xs ys : List Told) → InTime n (xs ++ ys) → InTime n ys
 in_time_back n [] ys h = h
 in_time_back n (x ∷ xs) ys h = in_time_back n xs ys h.1
-
-both : (b : Bool) → (b && false) ≡ false
-both true = refl
-both false = refl
-
-closed_zero : (n place close : ℕ) → close + 1 ≤ n → is_open n place close ≡ 0
-closed_zero n place close l =
-    let e : nat_le n close ≡ false = grind (arith, nat_tests) in
-    rw (e, both (nat_lt place n)) refl
 
 mutual
   done_value : (v : Tree) (n : ℕ) (r : Role) → InTime n (told v) → judged_in n r v ≡ 0
@@ -96,7 +83,7 @@ mutual
       let l = in_time_back n (members_told ms) (plain (close + 1) close What.CloseObject ∷ []) h.1 in
       omega (
         arith,
-        closed_zero n place close l.0,
+        shut n place close l.0,
         done_members ms n r []
             (in_time_front n (members_told ms) (plain (close + 1) close What.CloseObject ∷ []) h.1),
       )

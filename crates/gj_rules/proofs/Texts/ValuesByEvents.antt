@@ -56,7 +56,7 @@ pub record Fits (feed : Feed) (rest : List Told) : Type 0 where
 
 -- with so many frames
 module _ (frames : ℕ) where
-  -- before the event x and those behind it
+  -- before the event x and those after it
   abbrev pub GoodAt : ℕ → Mode → Told → List Told → State → Type 0
   GoodAt (suc k) m x xs s = suc k < most_skipped
   GoodAt zero (Due Coordinates) x xs s = Fits s.feed (x ∷ xs)
@@ -201,7 +201,7 @@ behind_idle close Role.Geometry found f o a = refl
 behind_idle close Role.Part found f o a = refl
 behind_idle close Role.Feature found f o a = refl
 
--- the value behind a name is due
+-- the value after a name is due
 abbrev pub due_st : Known → Tree → Frame → List Frame → Findings → State
 due_st name v f o a = record { core = record { skipped = 0; mode = Due name; top = f; outer = o; answer = a }; feed = due_feed name v }
 

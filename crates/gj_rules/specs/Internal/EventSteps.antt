@@ -74,7 +74,7 @@ abbrev pub word_in : What → Word
 word_in (What.Text word) = word
 word_in _ = Word.Other
 
--- what the first event of the value of a member tells
+-- what the first event of the value of a member shows
 abbrev pub opening_fault : Known → What → ℕ → Option Fault
 opening_fault Geometries what place = Some (fault_at place G17)
 opening_fault Features what place = Some (fault_at place G17)
@@ -137,7 +137,7 @@ idle = record { value = constant Null 0; taken = []; left = [] }
 abbrev pub fresh : Tree → Feed
 fresh value = record { value = value; taken = []; left = value_events value }
 
--- for the value behind a name
+-- for the value after a name
 abbrev pub due_feed : Known → Tree → Feed
 due_feed Coordinates value = fresh value
 due_feed Bbox value = fresh value

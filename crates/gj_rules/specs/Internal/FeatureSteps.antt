@@ -1,4 +1,4 @@
--- What an event tells of the features of a text, beside what it does to what the rules keep.
+-- What an event reports of the features of a text, beside what it does to what the rules keep.
 use Rattle.std.specs.Prelude.{◌≡◌, ℕ, zero, suc, ◌<◌, ◌≤◌, ◌^◌, nat_le, if◌then◌else◌, Bool, true, false, List, [], ◌∷◌, ◌++◌, map, length, Option, Some, None}
 use Rattle.gj_json.specs.declared.event.Event.{Event}
 use Rattle.gj_json.specs.declared.event.What.{What}
@@ -30,7 +30,7 @@ use Rattle.gj_rules.specs.Internal.LabelledEvents as L
 use Rattle.gj_rules.specs.Internal.LabelledEvents.{event_of, at_of, text_told}
 use Rattle.gj_rules.specs.Internal.TextKept.{or_none, kept}
 
--- ---- what is told of a feature
+-- ---- what is reported of a feature
 
 abbrev pub kept_unless : Option Fault → Warnings → Warnings
 kept_unless None kept = kept
@@ -157,7 +157,7 @@ is_scalar (What.Text word) = true
 is_scalar (What.Number value) = true
 is_scalar _ = false
 
--- ---- what an event tells
+-- ---- what an event reports
 
 -- an object has ended, in which this is found
 abbrev pub feature_found : Findings → ℕ → FeatureCount → Feature
@@ -202,7 +202,7 @@ pub record TimedFeature : Type 0 where
 abbrev pub timed_at : ℕ → List Feature → List TimedFeature
 timed_at at features = map (λ feature. record { at = at; feature = feature }) features
 
--- what the events tell from a state on, and the count behind them
+-- what the events report from a state on, and the count after them
 abbrev pub heard : List L.Told → State → FeatureCount → List TimedFeature
 heard [] s c = []
 heard (x ∷ xs) s c = timed_at (at_of x) (tells (event_of x) s c) ++ heard xs (step x s) (counted (event_of x) s c)
@@ -221,12 +221,12 @@ timed_from index (value ∷ more) = record { at = complete_at value; feature = f
 abbrev pub features_in : List TimedFeature → List Feature
 features_in all = map (λ (x : TimedFeature). x.feature) all
 
--- after these events of a text of fewer than 2^63 events this is the count, and what they tell was told
+-- after these events of a text of fewer than 2^63 events this is the count, and what they report was reported
 abbrev pub FeaturesAre : (List Feature → Type 0) → FeatureCount → List Event → Type 0
 FeaturesAre Told c events = (text : Text) (done rest : List L.Told) → text_told text ≡ done ++ rest → map event_of done ≡ events
     → depth text.value ≤ most_levels → length (text_told text) < 2 ^ 63
     → (c ≡ count done start no_count) × Told (features_in (heard done start no_count))
 
--- rules and a count were told these events, and this holds of what these tell
+-- these events were reported to rules and a count, and this holds of what these report
 abbrev pub Stand : (List Feature → Type 0) → FramedRules MOST_FRAMES → FeatureCount → List Event → Type 0
 Stand Told rules c events = RulesStandFor rules events × FeaturesAre Told c events

@@ -40,7 +40,7 @@ taken_any name fault warnings frame = record { slots = MemberSlots.joined name f
 abbrev pub named : Known → ℕ → Frame → Frame
 named name place frame = record { slots = MemberSlots.named name place frame.slots; gathered = gathered_at name place frame.gathered }
 
--- as the first member of which name the value behind a name is judged, `Other` where it is not
+-- as the first member of which name the value after a name is checked, `Other` where it is not
 abbrev pub due_after : Known → Frame → Known
 due_after name frame = MemberSlots.due_after name frame.slots
 

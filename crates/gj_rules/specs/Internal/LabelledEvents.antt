@@ -1,4 +1,4 @@
--- The events of a text with their times, where that of a name has with it the value behind the name.
+-- The events of a text with their times, where that of a name has with it the value after the name.
 use Rattle.std.specs.Prelude.{ℕ, ◌+◌, Bool, true, false, List, [], ◌∷◌, ◌++◌, length}
 use Rattle.gj_json.specs.declared.event.Event.{Event}
 use Rattle.gj_json.specs.declared.names.Known.{Known}
@@ -18,7 +18,7 @@ abbrev pub event_of : Told → Event
 event_of (named at place name value) = record { place = place; what = What.Name name }
 event_of (plain at place what) = record { place = place; what = what }
 
--- the length of the front of the text in which it is complete
+-- the length of the prefix of the text in which it is complete
 abbrev pub at_of : Told → ℕ
 at_of (named at place name value) = at
 at_of (plain at place what) = at

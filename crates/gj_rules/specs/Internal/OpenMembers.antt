@@ -116,7 +116,7 @@ abbrev pub due_known : Known → Option Slot → Role → Known
 due_known name (Some slot) role = Other
 due_known name None role = used role name
 
--- as the first member of which name the value behind a name is judged, `Other` where it is not
+-- as the first member of which name the value after a name is checked, `Other` where it is not
 abbrev pub due_after : Known → MemberSlots → Known
 due_after name slots = if is_known name then due_known name (slot_of name slots) slots.role else Other
 

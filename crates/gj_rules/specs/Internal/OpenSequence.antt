@@ -15,7 +15,7 @@ closed place (byte ∷ more) =
     then record { start = place + 1; bytes = up_to_separator (more ++ separator ∷ []); is_cut = false } ∷ closed (place + 1) more
     else closed (place + 1) more
 
--- a record is open, of which these bytes came behind the separator before it
+-- a record is open, of which these bytes came after the separator before it
 pub record IsIn (s : Sequence) (bytes : List ℕ) : Type 0 where
   pub done : List ℕ
   pub given : List ℕ

@@ -75,7 +75,7 @@ shapes_of value = record {
 abbrev pub shape_found : Simple → Shapes → Findings
 shape_found simple shapes = record { fault = shape_for simple shapes; warned = warned_for simple shapes }
 
--- the same for each type
+-- as above, for each type
 abbrev pub alike : Findings → Shapes
 alike found = record { point = found; multi_point = found; line_string = found.fault; multi_line_string = found; polygon = found; multi_polygon = found }
 

@@ -94,7 +94,7 @@ abbrev mutual
 abbrev pub judged_kept : Known → Tree → Option Warnings
 judged_kept name value = selected_kept name value (kept Role.Geometry value) (list_kept Role.Part value) (list_kept Role.Feature value)
 
--- behind a byte order mark
+-- after a byte order mark
 abbrev pub marked_kept : Bool → Warnings
 marked_kept true = added no_warnings W1 0
 marked_kept false = no_warnings

@@ -1,4 +1,4 @@
--- The places that a verdict tells, by what is kept of the warnings.
+-- The places that a verdict names, by what is kept of the warnings.
 use Rattle.std.specs.Prelude.{◌≡◌, ℕ, Some}
 use Rattle.gj_coords.specs.declared.kind.Kind.{Kind}
 use Rattle.gj_coords.specs.Internal.KeptWarnings.{first_in}

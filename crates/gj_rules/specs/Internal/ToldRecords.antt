@@ -1,4 +1,4 @@
--- What a call of `Records` tells of the open record, and what it leaves.
+-- What a call of `Records` reports of the open record, and what it leaves.
 use Rattle.std.specs.Prelude.{◌≡◌, ℕ, List, [], ◌∷◌, ◌++◌}
 use Rattle.gj_rules.specs.declared.records.framing.RecordEnd.{RecordEnd}
 use Rattle.gj_rules.specs.declared.records.record.Record.{Record}
@@ -7,7 +7,7 @@ use Rattle.gj_rules.specs.RecordFindings.{IsFinding, after}
 use Rattle.gj_rules.specs.Records.{part_at, entry_at}
 use Rattle.gj_rules.specs.Internal.OpenRecord.{StandsFor as RecordStandsFor}
 
--- what they are judged under, and how they are set apart
+-- what they are checked under, and how they are set apart
 pub record Keeps (old new : Records) : Type 0 where
   pub limits : new.limits ≡ old.limits
   pub framing : new.framing ≡ old.framing
@@ -20,7 +20,7 @@ pub record KeepsAll (old new : Records) : Type 0 where
   pub is_void : new.is_void ≡ old.is_void
   pub is_over : new.is_over ≡ old.is_over
 
--- the open record is told as it ends so, and one without a byte is open at the place
+-- the open record is reported as it ends so, and one without a byte is open at the place
 pub record TellsOne (before after_it : List Record → Type 0) (ending : RecordEnd) (next : ℕ) (old new : Records) : Type 0 where
   pub tells : (given : List ℕ) (records : List Record) → RecordStandsFor old.record given → before records →
       (found : Record) × IsFinding old.framing old.record.limits.depth (entry_at old.number (part_at old.record.start given ending)) found

@@ -17,7 +17,8 @@ impl<S: FeatureSink> FeatureRules<S> {
     ghost use Rattle.gj_rules.specs.Internal.Summaries.{none_found};
 
     /// A name. That of an `id` may matter to a feature.
-    #[inline(never)]
+    // Here the reader knows most names, so it is worth no call.
+    #[inline(always)]
     pub(super) fn tell_name(&mut self, name: Known, place: u64)
         ensures { (events : List Event) → Stand (S.told self.old.sink) self.old.rules self.old.count events
             → Stand (S.told self.new.sink) self.new.rules self.new.count (events ++ record { place = place; what = W.Name name } ∷ []) }
@@ -86,25 +87,25 @@ impl<S: FeatureSink> FeatureRules<S> {
         }
     }
 
-    /// The start of an object. Mostly it is a feature or a member of one.
+    /// The start of an object. Mostly it is one in a feature, since that of a feature is told as a head.
     #[inline(never)]
     pub(super) fn tell_open_object(&mut self, place: u64)
         ensures { (events : List Event) → Stand (S.told self.old.sink) self.old.rules self.old.count events
             → Stand (S.told self.new.sink) self.new.rules self.new.count (events ++ record { place = place; what = W.OpenObject } ∷ []) }
     {
-        if self.count.is_in_list() {
+        if !self.count.concerns(&What::OpenObject) {
+            self.tell_quiet(Event {
+                place,
+                what: What::OpenObject,
+            });
+        } else if self.count.is_in_list() {
             self.count.begin(place);
             self.rules.tell(Event {
                 place,
                 what: What::OpenObject,
             });
-        } else if self.count.concerns(&What::OpenObject) {
-            self.tell_outer_object(place);
         } else {
-            self.tell_quiet(Event {
-                place,
-                what: What::OpenObject,
-            });
+            self.tell_outer_object(place);
         }
     }
 

@@ -27,7 +27,7 @@ impl Frame {
         }
     }
 
-    /// Adds those that hang on its type, as one of this type.
+    /// Adds those that depend on its type, as one of this type.
     #[tactic(auto, using(crate::proofs::Objects::WarningsInTurn::with_none))]
     fn warn_as(&self, word: Word, warned: &mut Warned)
         ensures { all_in warned.new ≡ joined (all_in warned.old) (warned_as word (frame_in self.now)) }
@@ -46,7 +46,7 @@ impl Frame {
         }
     }
 
-    /// Adds those that hang on its type.
+    /// Adds those that depend on its type.
     #[tactic(auto, using(crate::proofs::Objects::WarningsInTurn::with_none))]
     fn warn_by_type(&self, warned: &mut Warned)
         ensures { all_in warned.new ≡ joined (all_in warned.old) (warned_by self.now.slots.type_value (frame_in self.now)) }

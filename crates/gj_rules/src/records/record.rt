@@ -1,4 +1,4 @@
-//! What is told of a record.
+//! What is reported of a record.
 ghost use Rattle.std.specs.Prelude.{◌≡◌, ◌∷◌, ◌++◌, [], List};
 
 use crate::sequence::SeqVerdict;
@@ -18,9 +18,9 @@ pub struct Record {
     pub verdict: Verdict,
 }
 
-/// What records are told to, in order.
+/// What records are reported to, in order.
 pub trait RecordSink {
-    /// The records that it was told so far may be these.
+    /// The records that were reported to it so far may be these.
     ghost told: { Self → List Record → Type 0 };
 
     ghost use Rattle.gj_rules.specs.declared.records.record.Record.{Record};

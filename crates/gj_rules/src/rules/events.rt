@@ -18,8 +18,8 @@ impl<const FRAMES: usize> FramedRules<FRAMES> {
     ghost use Rattle.gj_rules.specs.Internal.SkippedLevels.{most_skipped};
 
     /// An object with a role opens. Its frame is the next one: a text that is not too deep for the frames has no more open.
-    #[inline(never)]
-    fn push(&mut self, role: Role, place: u64)
+    #[inline(always)]
+    pub(super) fn push_frame(&mut self, role: Role, place: u64)
         ensures rests { is_feeding 0 self.new.mode ≡ false }
         ensures core { length (core_of self.old).outer + 1 < FRAMES → core_of self.new ≡ pushed role place (core_of self.old) }
     {
@@ -28,6 +28,15 @@ impl<const FRAMES: usize> FramedRules<FRAMES> {
         }
         self.frames[self.around as usize].again(role, place);
         self.mode = Mode::Names;
+    }
+
+    /// The same where it is told by itself.
+    #[inline(never)]
+    fn push(&mut self, role: Role, place: u64)
+        ensures rests { is_feeding 0 self.new.mode ≡ false }
+        ensures core { length (core_of self.old).outer + 1 < FRAMES → core_of self.new ≡ pushed role place (core_of self.old) }
+    {
+        self.push_frame(role, place);
     }
 
     /// The innermost object with a role closes.

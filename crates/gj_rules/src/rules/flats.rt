@@ -1,4 +1,4 @@
-//! Arrays of numbers that are told at once.
+//! Arrays of numbers that are reported at once.
 
 ghost use Rattle.std.specs.Prelude.{◌≡◌, ◌++◌, List, IsTrue};
 ghost use Rattle.gj_json.specs.declared.event.Event.{Event};

@@ -12,7 +12,7 @@ impl<const FRAMES: usize> FramedRules<FRAMES> {
     ghost use Rattle.gj_rules.specs.Rules.{StandsFor};
 
     #[inline(always)]
-    fn tell_what(&mut self, what: What, place: u64)
+    pub(super) fn tell_what(&mut self, what: What, place: u64)
         ensures { (events : List Event) → StandsFor self.old events → StandsFor self.new (events ++ record { place = place; what = what } ∷ []) }
     {
         if self.is_feeding() {
@@ -38,8 +38,8 @@ impl<const FRAMES: usize> FramedRules<FRAMES> {
     }
 
     /// A name. Mostly it is one of an object with a role.
-    #[inline(never)]
-    pub(super) fn tell_name(&mut self, name: Known, place: u64)
+    #[inline(always)]
+    pub(super) fn tell_member(&mut self, name: Known, place: u64)
         ensures { (events : List Event) → StandsFor self.old events → StandsFor self.new (events ++ record { place = place; what = W.Name name } ∷ []) }
     {
         if self.is_at_names() {
@@ -47,6 +47,14 @@ impl<const FRAMES: usize> FramedRules<FRAMES> {
         } else {
             self.tell_inner_name(name, place);
         }
+    }
+
+    /// A name that is told by itself.
+    #[inline(never)]
+    pub(super) fn tell_name(&mut self, name: Known, place: u64)
+        ensures { (events : List Event) → StandsFor self.old events → StandsFor self.new (events ++ record { place = place; what = W.Name name } ∷ []) }
+    {
+        self.tell_member(name, place);
     }
 
     #[inline(never)]

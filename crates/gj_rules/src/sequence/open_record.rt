@@ -20,7 +20,7 @@ pub struct OpenRecord {
     limits: Limits,
     /// The place of its first byte.
     start: u64,
-    /// The place behind its last byte.
+    /// The place after its last byte.
     end: u64,
     /// Its last byte, or the separator before it.
     last: u8,
@@ -69,7 +69,7 @@ impl OpenRecord {
         self.start
     }
 
-    /// The place behind its last byte: how many bytes of the input were taken.
+    /// The place after its last byte: how many bytes of the input were taken.
     #[inline]
     pub fn end(&self) -> u64
         ensures value { result ≡ self.now.end }

@@ -1,4 +1,4 @@
--- What two writers hold of the records that were told, and what was read of an input.
+-- What two writers hold of the records that were reported, and what was read of an input.
 use Rattle.std.specs.Prelude.{◌≡◌, ℕ, List, Option, Some, None}
 use Rattle.gj_rules.specs.declared.records.record.Record.{Record}
 use Rattle.gj_rules.specs.declared.records.Records.{Records}
@@ -16,7 +16,7 @@ HoldsUnless (Some stop) bytes records valid broken counts = Unit {0}
 abbrev pub HoldsRecords : {A : Type 0} → Option (List ℕ) → Option A → Option (List ℕ) → Option (List ℕ) → Counts → List Record → Type 0
 HoldsRecords known stop valid broken counts records = (bytes : List ℕ) → known ≡ Some bytes → HoldsUnless stop bytes records valid broken counts
 
--- the records were fed all these bytes, or enough of them that no further one matters, and a sink was told what they have found
+-- the records were fed all these bytes, or enough of them that no further one matters, and what they have found was reported to a sink
 pub record AreRead (told : List Record → Type 0) (records : Records) (bytes : List ℕ) : Type 0 where
   pub found : List Record
   pub stands : StandsFor records bytes found

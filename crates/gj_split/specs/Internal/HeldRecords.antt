@@ -1,4 +1,4 @@
--- What two writers hold of the features that were told, and what a linter was fed.
+-- What two writers hold of the features that were reported, and what a linter was fed.
 use Rattle.std.specs.Prelude.{◌≡◌, ℕ, List, [], ◌++◌, Option, Some, None}
 use Rattle.std.specs.Io.KnownBytes.{Appends}
 use Rattle.std.specs.List.{AllByRecursion}
@@ -15,7 +15,7 @@ use Rattle.gj_split.specs.declared.splitter.Counts.{Counts}
 
 -- ---- what is held
 
--- those of features that were told, each of which ends where its bytes show
+-- those of features that were reported, each of which ends where its bytes show
 pub record AreHeldAsTold (bytes : List ℕ) (features : List Feature) (valid broken : Option (List ℕ)) (counts : Counts) : Type 0 where
   pub held : AreHeld (told_split bytes features) valid broken counts
   pub ended : AllByRecursion (EndsKnown bytes) features

@@ -1,4 +1,4 @@
--- What is written of features that were told, by their places in the bytes of the text.
+-- What is written of features that were reported, by their places in the bytes of the text.
 use Rattle.std.specs.Prelude.{◌≡◌, ℕ, ◌+◌, Bool, true, not, ◌||◌, ◌==◌, List, [], ◌∷◌, Option, Some, None, drop}
 use Rattle.gj_json.specs.Bytes.{open_bracket, open_brace}
 use Rattle.gj_rules.specs.declared.feature.Feature.{Feature}
@@ -17,7 +17,7 @@ told_end bytes feature = end_told feature.place feature.close bytes
 abbrev pub told_bytes : List ℕ → Feature → List ℕ
 told_bytes bytes feature = bytes_between feature.place (told_end bytes feature) bytes
 
--- each feature that was told belongs to one part
+-- each feature that was reported belongs to one part
 abbrev pub told_split : List ℕ → List Feature → Split
 told_split bytes [] = record { valid = []; broken = [] }
 told_split bytes (feature ∷ more) = with_feature feature.fault (told_bytes bytes feature) (told_split bytes more)

@@ -3,6 +3,7 @@
 ghost use Rattle.std.specs.Prelude.{◌≤◌, length};
 
 mod flats;
+mod heads;
 mod lanes;
 mod limits;
 mod runs;

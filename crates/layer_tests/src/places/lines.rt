@@ -31,3 +31,21 @@ fn counts_lines_and_characters(rt: HostRuntime) {
         }
     }
 }
+
+#[test]
+fn counts_the_lines_of_a_long_piece(rt: HostRuntime) {
+    let mut text = [b' '; 2000];
+    for end in text.iter_mut().skip(9).step_by(10) {
+        *end = b'\n';
+    }
+    let rows: [(usize, (u64, u64), &str); 5] = [
+        (9, (1, 10), "within the first line"),
+        (25, (3, 6), "few bytes"),
+        (165, (17, 6), "some vectors of 16 bytes"),
+        (785, (79, 6), "a row of 768 bytes"),
+        (2000, (201, 1), "rows, vectors and a few bytes"),
+    ];
+    for (length, place, row) in rows {
+        assert_eq!(rt; place_behind(&text[..length], 2000), place, "{row}");
+    }
+}

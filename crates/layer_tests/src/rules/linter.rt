@@ -1,6 +1,7 @@
 //! A linter over pieces.
 
 mod doomed;
+mod heads;
 mod made;
 
 use gj_coords::{Fault, KINDS, Kind, Rule, Warnings};

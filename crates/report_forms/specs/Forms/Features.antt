@@ -46,12 +46,12 @@ note_word (Code.Kind kind) = codes "warning"
 note_word (Code.Cause cause) = codes "not JSON"
 note_word code = codes "broken"
 
--- what is told fails a file
+-- what is reported fails a file
 abbrev pub note_fails : Bool → Kinds → Code → Bool
 note_fails strict allowed (Code.Kind kind) = fails strict allowed kind
 note_fails strict allowed code = true
 
--- an `id` behind these bytes, where there is one
+-- an `id` after these bytes, where there is one
 unfoldable pub some_id : List ℕ → List ℕ → List ℕ
 some_id before id = before ++ shown_name id
 
@@ -191,7 +191,7 @@ sarif_more name count = codes "{\"level\":\"note\",\"message\":{\"text\":\"" ++ 
 
 -- ---- by the form that is asked for
 
--- the level of what is told
+-- the level of what is reported
 abbrev pub level_in : Bool → Kinds → Entry → List ℕ
 level_in strict allowed entry = level_of (note_fails strict allowed entry.note.told.code)
 
@@ -208,7 +208,7 @@ IsEntry Format.Sarif style is_first entry strict allowed bytes =
 abbrev pub TellsEntry : Format → Style → Bool → Entry → Bool → Kinds → Vec ℕ Global → Vec ℕ Global → Type 0
 TellsEntry format style is_first entry strict allowed old new = (bytes : List ℕ) × IsEntry format style is_first entry strict allowed bytes × Adds old new bytes
 
--- the line on those that are not told
+-- the line on those that are not reported
 abbrev pub IsMore : Format → Style → Bool → List ℕ → ℕ → List ℕ → Type 0
 IsMore Format.Text style is_first name count bytes = bytes ≡ text_more count
 IsMore Format.Lines style is_first name count bytes = bytes ≡ lines_more style name count
@@ -219,7 +219,7 @@ IsMore Format.Sarif style is_first name count bytes = bytes ≡ break_unless is_
 abbrev pub TellsMore : Format → Style → Bool → List ℕ → ℕ → Vec ℕ Global → Vec ℕ Global → Type 0
 TellsMore format style is_first name count old new = (bytes : List ℕ) × IsMore format style is_first name count bytes × Adds old new bytes
 
--- whether a log has no result yet, once one was told
+-- whether a log has no result yet, once one was reported
 abbrev pub first_behind : Format → Bool → Bool
 first_behind Format.Sarif is_first = false
 first_behind format is_first = is_first

@@ -44,7 +44,7 @@ github_message report told count =
     ++ (and_record (record_of report.finding)
     ++ (and_times count ++ (codes ", at byte " ++ (decimal told.place ++ (and_path (path_of report told) ++ codes "\n"))))))
 
--- the command for what is told at a place, so often
+-- the command for what is reported at a place, so often
 unfoldable pub github_command : Report → List ℕ → Told → ℕ → List ℕ
 github_command report level told count =
     github_file level report.name.now

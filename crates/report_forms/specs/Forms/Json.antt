@@ -84,7 +84,7 @@ json_objects report None = []
 abbrev pub json_kind : Report → Warnings → Kind → List (List ℕ)
 json_kind report warnings kind = json_objects report (warning_of kind warnings)
 
--- each behind a comma
+-- each after a comma
 abbrev pub behind_commas : List (List ℕ) → List ℕ
 behind_commas items = flat_map (λ item. 44 ∷ item) items
 

@@ -1,4 +1,4 @@
--- The form `lines`: a line for each thing that is told, and behind a fault the line of the file around it.
+-- The form `lines`: a line for each thing that is reported, and after a fault the line of the file around it.
 use Rattle.std.specs.Prelude.{◌≡◌, ℕ, false, List, [], ◌∷◌, ◌++◌, Option, Some, None, codes, replicate, chars, encode_utf8_all, if◌then◌else◌, nat_lt}
 use Rattle.std.specs.Fmt.{decimal}
 use Rattle.std.specs.List.{flat_map}
@@ -27,7 +27,7 @@ use Rattle.report_forms.specs.declared.formats.lines.Style.{Style}
 use Rattle.report_forms.specs.Names.{shown_name}
 use Rattle.report_forms.specs.Forms.Messages.{path_text}
 
--- ---- colour: what begins a part, behind an escape character, and what ends it
+-- ---- colour: what begins a part, after an escape character, and what ends it
 
 abbrev pub begun_in_colour : Part → List ℕ
 begun_in_colour Part.Name = codes "[1m"
@@ -107,7 +107,7 @@ lines_warnings style report warnings = flat_map (lines_kind style report warning
 unfoldable pub lines_not_valid : Style → List ℕ → List ℕ
 lines_not_valid style name = beginning Part.Name style ++ (shown_name name ++ (ending style ++ codes ": not valid\n"))
 
--- where there is no fault to tell
+-- where there is no fault to report
 abbrev pub lines_rest : Style → Report → Option Warnings → List ℕ
 lines_rest style report (Some warnings) = lines_warnings style report warnings
 lines_rest style report None = lines_not_valid style report.name.now

@@ -4,19 +4,10 @@ use Rattle.std.specs.Fmt.{decimal}
 use Rattle.gj_json.specs.declared.path.Path.{Path}
 use Rattle.gj_json.specs.declared.path.PathStep.{PathStep}
 use Rattle.gj_json.specs.Path.{steps_of}
-use Rattle.gj_json.specs.declared.path.PathStep.TheVariants.{Index, Member}
-use Rattle.gj_json.specs.Texts.{name_text}
-use Rattle.std.specs.List.{flat_map}
+unfoldable pub use Rattle.gj_json.specs.Texts.{steps_text}
+pub use Rattle.gj_json.specs.Texts.{step_text}
 
 -- ---- a path, from the root
-
-abbrev pub step_text : PathStep → List ℕ
-step_text (Index index) = codes "[" ++ (decimal index ++ codes "]")
-step_text (Member name) = codes "." ++ name_text name
-
--- of all steps, from the root
-unfoldable pub steps_text : List PathStep → List ℕ
-steps_text steps = flat_map step_text steps
 
 unfoldable pub path_text : List PathStep → List ℕ
 path_text steps = codes "$" ++ steps_text steps

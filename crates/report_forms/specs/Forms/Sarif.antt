@@ -24,6 +24,7 @@ use Rattle.report_forms.specs.Forms.Messages.{and_record, and_times, level_of, p
 use Rattle.report_forms.specs.Names.{digit_in}
 use Rattle.report_forms.specs.Passing.{fails}
 use Rattle.report_forms.specs.CodeLines.{rules, causes}
+pub use Rattle.gj_rules.specs.Records.{are_none as is_nothing}
 
 -- ---- a reference to a file
 
@@ -68,7 +69,7 @@ unfoldable pub region : Report → ℕ → List ℕ
 region report place =
     codes ",\"region\":{" ++ (region_start_of (spot_of report place) ++ (codes "\"byteOffset\":" ++ (decimal place ++ codes ",\"byteLength\":0}")))
 
--- none where no place is told
+-- none where no place is reported
 abbrev pub region_if : Code → List ℕ → List ℕ
 region_if Code.NotValid bytes = []
 region_if code bytes = bytes
@@ -80,7 +81,7 @@ abbrev pub logical_location_of : Option Path → List ℕ
 logical_location_of (Some path) = logical_location (steps_of path)
 logical_location_of None = []
 
--- what is told at a place, so often
+-- what is reported at a place, so often
 unfoldable pub sarif_result : Report → List ℕ → Told → ℕ → List ℕ
 sarif_result report level told count =
     codes "{\"ruleId\":\""
@@ -138,15 +139,11 @@ next_results is_first (first ∷ more) = break_unless is_first ++ (first ++ behi
 unfoldable pub sarif_unread : List ℕ → List ℕ → List ℕ
 sarif_unread name reason = codes "{\"level\":\"error\",\"message\":{\"text\":" ++ (reason ++ (codes "}" ++ (location name ++ codes "}}]}")))
 
-abbrev pub is_nothing : List ℕ → Bool
-is_nothing [] = true
-is_nothing (byte ∷ more) = false
-
--- behind those before it
+-- after those before it
 abbrev pub next_unread : List ℕ → List ℕ → List ℕ → List ℕ
 next_unread before name reason = break_unless (is_nothing before) ++ sarif_unread name reason
 
--- ---- what comes before the results, and behind them
+-- ---- what comes before the results, and after them
 
 unfoldable pub name_and_text : Code → List ℕ
 name_and_text code = code_name code ++ (codes ": " ++ code_text code)
@@ -183,13 +180,18 @@ sarif_causes = flat_map (λ (cause : Cause). rule_and_break (Code.Cause cause)) 
 unfoldable pub sarif_kinds : List ℕ
 sarif_kinds = flat_map (λ (kind : Kind). break_and_warning (Code.Kind kind)) kinds
 
--- what comes before the first result: the program and its rules
+-- the head of a log: the form, its version and the program
+abbrev pub sarif_head : List ℕ
+sarif_head =
+    codes "{\"$schema\":\"https://json.schemastore.org/sarif-2.1.0.json\",\"version\":\"2.1.0\",\"runs\":[{\"columnKind\":\"unicodeCodePoints\",\"tool\":{\"driver\":{\"name\":\"geolint-files\",\"version\":\"0.1.0\",\"rules\":[\n"
+
+-- what comes before the first result: the head and the rules of the program
 unfoldable pub sarif_begin : List ℕ
 sarif_begin =
-    codes "{\"$schema\":\"https://json.schemastore.org/sarif-2.1.0.json\",\"version\":\"2.1.0\",\"runs\":[{\"columnKind\":\"unicodeCodePoints\",\"tool\":{\"driver\":{\"name\":\"geolint-files\",\"version\":\"0.1.0\",\"rules\":[\n"
+    sarif_head
     ++ (sarif_rules ++ (sarif_causes ++ (sarif_rule Code.NotValid (codes "error") ++ (sarif_kinds ++ codes "]}},\"results\":[\n"))))
 
--- what comes behind the last: whether each file was read, and those that were not
+-- what comes after the last: whether each file was read, and those that were not
 unfoldable pub sarif_end : List ℕ → List ℕ
 sarif_end unread =
     codes "],\"invocations\":[{\"executionSuccessful\":"

@@ -5,7 +5,7 @@ use Rattle.geolint_report.specs.declared.texts.TheConstants.{CODES}
 use Rattle.geolint_report.specs.Slots.{slot_of, more}
 use Rattle.report_forms.specs.declared.summary.Summary.{Summary}
 
--- one file more of these kinds, of which these codes are told
+-- one file more of these kinds, of which these codes are reported
 pub record Adds (old new : Summary) (valid warned broken refused not_valid : Bool) (told : Code → Bool) : Type 0 where
   pub valid_is : new.valid ≡ more valid old.valid
   pub warned_is : new.warned ≡ more warned old.warned

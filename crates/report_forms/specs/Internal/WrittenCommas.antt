@@ -6,7 +6,7 @@ abbrev pub is_none_yet : List (List ℕ) → Bool
 is_none_yet [] = true
 is_none_yet (item ∷ more) = false
 
--- behind none, or behind others
+-- after none, or after others
 abbrev pub next_items : Bool → List (List ℕ) → List ℕ
 next_items true items = with_commas items
 next_items false items = behind_commas items

@@ -7,9 +7,9 @@ use Rattle.gj_json.specs.Locator.{StandsFor}
 use Rattle.gj_json.specs.Path.{path_at}
 use Rattle.gj_json.specs.Refusal.{IsRefusal}
 use Rattle.gj_json.specs.Text.{IsText, IsViableWithin}
-use Rattle.geolint.proofs.ReadVerdicts.{given_more}
 use Rattle.geolint.proofs.PathSearches.{path_found, path_refused, taken_again}
 use Rattle.geolint.proofs.locate.locate_reader.Goals as goal
+use Rattle.geolint_report.proofs.PieceReads.{given_more}
 
 -- how many bytes of a piece are wanted
 record Wanted (count before wanted : ℕ) : Type 0 where

@@ -1,6 +1,6 @@
 -- What was taken up to the place.
 use Rattle.std.proofs.Common.{◌≡◌, ◌≤◌, ℕ, ◌+◌, ◌-◌, true, false, if◌then◌else◌, List, ◌++◌, length, length-drop, take, drop, append_assoc, sym, ap, subst, ◌∙◌}
-use Rattle.std.proofs.Common.{arith}
+use Rattle.std.proofs.Common.{arith, take-add}
 use Rattle.std.proofs.lemmas.List.{take_all}
 use Rattle.gj_rules.specs.FeatureFindings.{commas}
 use Rattle.gj_rules.specs.FeatureLinter.{refusal_of}
@@ -9,7 +9,7 @@ use Rattle.geolint_c.specs.declared.latest.TheConstants.{ROOM}
 use Rattle.geolint_c.specs.Features.{Judges, tells_more}
 use Rattle.geolint_c.specs.Internal.Pulling.{Takes, most_in}
 use Rattle.geolint_c.specs.Handle.{AnswersBy, status_of}
-use Rattle.geolint_c.proofs.PulledFeatures.{take_more, room_for}
+use Rattle.geolint_c.proofs.PulledFeatures.{room_for}
 use Rattle.geolint_c.proofs.features.take.Goals as goal
 
 -- what stands from one place to a later one
@@ -18,7 +18,7 @@ further : (P : List ℕ → Type 0) (bytes piece : List ℕ) (at more : ℕ) →
 further P bytes piece at more h =
     let e : (at + more) - at ≡ more = omega arith in
     subst P (append_assoc bytes (take at piece) (take ((at + more) - at) (drop at piece))
-    ∙ ap (λ xs. bytes ++ xs) (ap (λ n. take at piece ++ take n (drop at piece)) e ∙ sym (take_more piece at more))) h
+    ∙ ap (λ xs. bytes ++ xs) (ap (λ n. take at piece ++ take n (drop at piece)) e ∙ sym (take-add at more piece))) h
 
 pub loop-at-init : goal.loop-at-init
 loop-at-init c = record {

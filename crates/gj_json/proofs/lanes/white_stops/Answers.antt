@@ -1,16 +1,13 @@
 -- The table, read at the lower halves, and the bytes that differ from what it says.
-use Rattle.std.proofs.Common.{ℕ, eqb, cond, get_or, bit_and, not, refl, sym, arith}
+use Rattle.std.proofs.Common.{get_or, bit_and, not, refl, sym, arith}
 use Rattle.std.proofs.lemmas.List.{map-id}
 use Rattle.std.proofs.lemmas.Nat.{and_le_r}
 use Rattle.std.proofs.lemmas.Simd.{zip2_splat, zip2_of_maps}
 use Rattle.gj_json.specs.Internal.QuietBytes.{is_white}
 use Rattle.gj_json.specs.declared.lanes.TheConstants.{WHITE}
 use Rattle.gj_json.proofs.Pieces.LaneTables.{lower_ok, looked_up}
-use Rattle.gj_json.proofs.Pieces.LaneTests.{mask_is}
+use Rattle.gj_json.proofs.Pieces.LaneTests.{mask_is, differs}
 use Rattle.gj_json.proofs.lanes.white_stops.Goals as goal
-
-abbrev differs : ℕ → ℕ → ℕ
-differs a b = cond (not (eqb a b)) 255 0
 
 pub swizzle-same : goal.swizzle-same
 swizzle-same c = lower_ok c.args.lanes c.fits-lanes.0

@@ -1,8 +1,8 @@
-use Rattle.std.proofs.Common.{◌≡◌, ℕ, List, length, Some, refl, sym, subst, ◌∙◌}
+use Rattle.std.proofs.Common.{length, refl, sym, subst, ◌∙◌}
 use Rattle.gj_json.specs.Limits.{Allowed}
 use Rattle.gj_json.specs.Refusal.{IsAdmitted}
 use Rattle.gj_split.specs.Split.{split_of, IsValidSequence}
-use Rattle.gj_split.proofs.Outcomes.{ok_both, on_map, err_gives, err_on}
+use Rattle.gj_split.proofs.Outcomes.{ok_both, on_map, err_gives, err_on, same_held}
 use Rattle.gj_split.proofs.WholeReadings.{verdict_read, whole_read}
 use Rattle.gj_split.proofs.reading.split.Goals as goal
 
@@ -24,9 +24,6 @@ returns-in-None-clause-apart g c =
     h bytes text k.source_bytes
     (whole_read _ c.feed_all.new.linter c.args.limits same c.one_refusal.ensures.never_both bytes text
     (c.in-None.ensures.read refl bytes k.source_bytes (c.new-linter.ensures.stands (c.new.ensures.held bytes k))) admitted) admitted)
-
-same_held : (xs ys : List ℕ) → Some xs ≡ Some ys → xs ≡ ys
-same_held xs ys e = cc
 
 pub returns-in-None-clause-sequence : goal.returns-in-None-clause-sequence
 returns-in-None-clause-sequence g c =

@@ -20,7 +20,8 @@ returns-in-Ok-eq0-clause-read g c = λ e bytes k s t.
     (c.loop-turn.invariant.read bytes k s t).1
 
 -- what is fed after the bytes before it
-read_more : (told : List Record → Type 0) (records : Records) (before part both : List ℕ) (found : List Record) → HaveTold told records (before ++ part) [] found
+read_more : (told : List Record → Type 0) (records : Records) (before part both : List ℕ) (found : List Record)
+    → HaveTold told records (before ++ part) [] found
     → before ++ part ≡ both → AreRead told records both
 read_more told records before part both found h e =
     record { found = found ++ h.more; stands = subst (λ xs. StandsFor records xs (found ++ h.more)) e h.stands; heard = h.heard }
@@ -45,8 +46,8 @@ returns-then-is_over-clause-read g c = λ e bytes k s t.
     let before = (c.loop-turn.invariant.read bytes k s t).1 in
     let over : IsTrue c.is_over.result = search rules in
     read_all _ c.feed.new.self c.in-Some.next bytes (λ some more found h. c.is_over.ensures.lasting some more found h over)
-    (read_more _ c.feed.new.self (take c.loop-turn.at bytes) _ _ before.found (c.feed.ensures.told (take c.loop-turn.at bytes) [] before.found before.stands before.heard)
-    fed)
+    (read_more _ c.feed.new.self (take c.loop-turn.at bytes) _ _ before.found
+    (c.feed.ensures.told (take c.loop-turn.at bytes) [] before.found before.stands before.heard) fed)
 
 pub loop-turn-preserved : goal.loop-turn-preserved
 loop-turn-preserved g c =

@@ -1,11 +1,11 @@
-use Rattle.std.proofs.Common.{◌≡◌, ◌<◌, ◌↔◌, ℕ, List, length, Some, IsTrue, refl, sym, subst, ◌∙◌}
+use Rattle.std.proofs.Common.{◌<◌, ◌↔◌, length, IsTrue, refl, sym, subst, ◌∙◌}
 use Rattle.gj_json.specs.Limits.{Allowed}
 use Rattle.gj_rules.specs.declared.records.framing.Framing.{Framing}
 use Rattle.gj_rules.specs.RecordFindings.{AreAllFindings, IsWholeVerdict}
 use Rattle.gj_rules.specs.RecordsStand.{framing_of, limits_of}
 use Rattle.gj_split.specs.RecordSplit.{split_records}
 use Rattle.gj_split.specs.Split.{IsValidSequence}
-use Rattle.gj_split.proofs.Outcomes.{if_map, on_map}
+use Rattle.gj_split.proofs.Outcomes.{if_map, on_map, same_held}
 use Rattle.gj_split.proofs.records.split_records.Goals as goal
 
 pub returns-in-None-clause-verdict : goal.returns-in-None-clause-verdict
@@ -32,9 +32,6 @@ returns-in-None-clause-apart g c =
     h bytes found k.source_bytes (c.in-None.ensures.read refl bytes k.source_bytes c.new-records.ensures.stands (c.of_records-splitter.ensures.held bytes k))
     (subst (λ (f : Framing). AreAllFindings f (limits_of c.feed_records.new.records) bytes found) (sym framing)
     (subst (λ (l : Allowed). AreAllFindings c.args.framing l bytes found) (sym limits) a)))
-
-same_held : (xs ys : List ℕ) → Some xs ≡ Some ys → xs ≡ ys
-same_held xs ys e = cc
 
 pub returns-in-None-clause-sequence : goal.returns-in-None-clause-sequence
 returns-in-None-clause-sequence g c =

@@ -13,7 +13,8 @@ returns-then-byte-eq10 g c = λ bytes k.
     let is : nat_eq (get_or c.read_at.new.piece 0 0) line_feed ≡ true = eq-eqb _ _ c.if-byte-eq10.true in
     sym (read_text _ g.R.Ranges.text c.args.found.now.place (c.args.found.now.end - 1) c.args.found.now.end c.in-Ok._count c.read_at.new.piece bytes
     c.in-Ok.ensures.bytes k c.in-Ok._count-test.1 one end from
-    ∙ ap (λ t. if t then bytes_between c.args.found.now.place (c.args.found.now.end - 1) bytes else bytes_between c.args.found.now.place c.args.found.now.end bytes) is)
+    ∙ ap (λ t. if t then bytes_between c.args.found.now.place (c.args.found.now.end - 1) bytes
+    else bytes_between c.args.found.now.place c.args.found.now.end bytes) is)
 
 pub returns-else-byte-eq10 : goal.returns-else-byte-eq10
 returns-else-byte-eq10 g c = λ bytes k.
@@ -23,4 +24,5 @@ returns-else-byte-eq10 g c = λ bytes k.
     let is : nat_eq (get_or c.read_at.new.piece 0 0) line_feed ≡ false = ne_eqb _ _ c.if-byte-eq10.false in
     sym (read_text _ g.R.Ranges.text c.args.found.now.place (c.args.found.now.end - 1) c.args.found.now.end c.in-Ok._count c.read_at.new.piece bytes
     c.in-Ok.ensures.bytes k c.in-Ok._count-test.1 one end from
-    ∙ ap (λ t. if t then bytes_between c.args.found.now.place (c.args.found.now.end - 1) bytes else bytes_between c.args.found.now.place c.args.found.now.end bytes) is)
+    ∙ ap (λ t. if t then bytes_between c.args.found.now.place (c.args.found.now.end - 1) bytes
+    else bytes_between c.args.found.now.place c.args.found.now.end bytes) is)

@@ -1,8 +1,9 @@
-use Rattle.std.proofs.Common.{◌≡◌, ◌∙◌, sym, ap, List, Bool, refl}
+use denote.Enum.Bare.{same_true}
+use Rattle.std.proofs.Common.{◌≡◌, ◌∙◌, sym, ap, List, Bool, refl, rules}
 use Rattle.std.specs.Cmp.{booleans_Decides}
 use Rattle.std.proofs.lemmas.Bool.{not-false}
 use Rattle.std.proofs.lemmas.Slice.Eq.{slice_eq-Decides}
-use Rattle.report_forms.specs.declared.options.Kinds.{Kinds}
+use Rattle.gj_rules.specs.contracts.records.framing.Framing.{the_type}
 use Rattle.part_lines.proofs.SameSettings.{same_text}
 use Rattle.part_lines.proofs.joining.check_line.Goals as goal
 
@@ -20,5 +21,6 @@ returns-else-line-first-3 c =
       bytes = sym c.bytes.ensures.value ∙ (c.if-bytes.false ∙ c.bytes-else-ne-2.ensures.value);
       strict = (booleans_Decides one.strict other.strict).0 (not-false _ c.if-line-first-2.false);
       allowed = allowed;
+      framing = same_true the_type (search rules) _ _ (not-false _ (sym c.ne-else-ne-3.ensures ∙ c.if-ne-4.false));
       parts = c.if-line-first-3.false;
     }

@@ -6,16 +6,9 @@ use Rattle.gj_json.specs.declared.path.PathStep.{PathStep}
 use Rattle.gj_json.specs.declared.path.PathStep.TheVariants.{Index}
 use Rattle.gj_json.specs.Path.{steps_of}
 use Rattle.report_forms.specs.Forms.Messages.{step_text, steps_text}
-use Rattle.report_forms.proofs.JoinedElements.{lines-more}
 use Rattle.report_forms.proofs.formats.put_steps.Goals as goal
 use Rattle.report_forms.proofs.formats.put_steps.Goals.{in-Some+in_ok-put_step, in_default}
-
--- with the step itself in the place of that at its index
-more_at : (steps : List PathStep) (i : ℕ) (step : PathStep) → i < length steps → get_or steps i (Index 0) ≡ step
-    → flat_map step_text (take (i + 1) steps) ≡ flat_map step_text (take i steps) ++ step_text step
-more_at steps i step within e =
-    subst (λ (s : PathStep). flat_map step_text (take (i + 1) steps) ≡ flat_map step_text (take i steps) ++ step_text s) e
-    (lines-more step_text steps i (Index 0) within)
+use Rattle.geolint_report.proofs.ElementsInTurn.{part-more}
 
 pub loop-i-preserved : goal.loop-i-preserved
 loop-i-preserved c =
@@ -24,7 +17,7 @@ loop-i-preserved c =
     elim c.match-step.branch [
       | in-Some+in_ok-put_step w ↦
           let here = get_or_from_slice_get steps c.loop-i.i w.in-Some.step (Index 0) (sym c.step.ensures ∙ w.in-Some.is) in
-          let more = more_at steps c.loop-i.i w.in-Some.step within here in
+          let more = part-more step_text steps c.loop-i.i w.in-Some.step (Index 0) within here in
           let before = flat_map step_text (take c.loop-i.i steps) in
           let start = c.args.line.now.items in
           rw (w.line-is) (record {

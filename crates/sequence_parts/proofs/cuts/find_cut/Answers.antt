@@ -1,5 +1,5 @@
-use Rattle.std.proofs.Common.{arith, ◌≡◌, ◌<◌, ◌≤◌, ◌+◌, ◌∙◌, ℕ, List, ap, subst, refl, min, length}
-use Rattle.std.specs.Prelude.{Option}
+use Rattle.std.proofs.Common.{arith, ◌≡◌, ◌<◌, ◌≤◌, ◌+◌, ◌-◌, ◌∙◌, ℕ, List, ap, subst, min, length, take, get_or}
+use Rattle.std.specs.Prelude.{Option, nat_eq}
 use Rattle.std.specs.Option.{SomeIff}
 use Rattle.geolint_report.specs.Every.{GaveBy}
 use Rattle.sequence_parts.proofs.SearchedBytes.{search_found, search_more}
@@ -16,7 +16,7 @@ returns-in-Some-clause-cut g c =
     let capped : c.lesser-until.result ≡ min c.args.until c.args.limits.bytes =
     c.lesser-until.ensures ∙ ap (λ (n : ℕ). min c.args.until n) c.bytes.ensures.value in
     let is = subst (λ (n : ℕ). SomeIff c.before-in-Some.result (at < n) at) capped c.before-in-Some.ensures in
-    search_found known c.args.limits c.args.from place count c.args.until c.in-Some.index piece c.loop-place.follows_separator c.before-in-Some.result
+    search_found known c.args.framing c.args.limits c.args.from place count c.args.until c.in-Some.index piece c.loop-place.follows_separator c.before-in-Some.result
     c.requires c.loop-place.invariant.from gave c.in-Some.ensures is c.loop-place.invariant.searched
 
 pub loop-place-preserved : goal.loop-place-preserved
@@ -31,7 +31,8 @@ loop-place-preserved g c =
       from = omega (arith, c.loop-place.invariant.from);
       text = c.read_from-in-loop-place.ensures.text ∙ c.loop-place.invariant.text;
       unfailed = c.in_ok-count.ensures.failed ∙ c.loop-place.invariant.unfailed;
-      searched = search_more known c.args.limits c.args.from place count piece c.loop-place.follows_separator _
-          (omega (arith, c.requires, c.loop-place.invariant.from)) gave (omega (arith, c.if-count-eq0.false)) bound c.in_default.ensures refl
+      searched = search_more known c.args.framing c.args.limits c.args.from place count piece c.loop-place.follows_separator _
+          (omega (arith, c.requires, c.loop-place.invariant.from)) gave (omega (arith, c.if-count-eq0.false)) bound c.in_default.ensures
+          (ap (nat_eq (get_or (take count piece) (count - 1) 0)) c.separator-separator.ensures)
           c.loop-place.invariant.searched;
     }

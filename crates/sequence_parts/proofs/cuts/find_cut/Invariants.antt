@@ -7,7 +7,7 @@ invariant-loop-place g l = record {
   from : l.fn.from ≤ l.place;
   text : g.S.Source.text l.source ≡ g.S.Source.text l.fn.source;
   unfailed : g.S.Source.failed_reads l.source ≡ g.S.Source.failed_reads l.fn.source;
-  searched : AreSearchedTo (g.S.Source.text l.fn.source) l.fn.limits l.fn.from l.place l.follows_separator;
+  searched : AreSearchedTo (g.S.Source.text l.fn.source) l.fn.framing l.fn.limits l.fn.from l.place l.follows_separator;
 }
 
 abbrev pub decreases-loop-place : goal.decreases-loop-place

@@ -4,6 +4,6 @@ use Rattle.sequence_parts.proofs.cuts.first_begin.Given as goal
 
 abbrev pub invariant-loop-i : goal.invariant-loop-i
 invariant-loop-i l = record {
-  follows : l.follows ≡ follows_at l.follows_separator l.piece l.i;
-  none : NoneBegins l.follows_separator l.piece l.i;
+  follows : l.follows ≡ follows_at l.framing l.follows_separator l.piece l.i;
+  none : NoneBegins l.framing l.follows_separator l.piece l.i;
 }

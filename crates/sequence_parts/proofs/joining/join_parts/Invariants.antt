@@ -1,9 +1,16 @@
-use Rattle.std.proofs.Common.{ℕ, List}
+use Rattle.std.proofs.Common.{◌≤◌, ℕ, List, length}
 use Rattle.std.specs.List.{All}
 use Rattle.gj_json.specs.Limits.{Allowed}
-use Rattle.sequence_parts.specs.Checked.{IsPartOf}
+use Rattle.gj_rules.specs.declared.records.framing.Framing.{Framing}
+use Rattle.sequence_parts.specs.Checked.{AreAllParts, IsPartOf}
+use Rattle.sequence_parts.specs.Internal.Covered.{GoTo}
 use Rattle.sequence_parts.specs.Internal.JoinedSoFar.{IsJoinedTo}
 use Rattle.sequence_parts.proofs.joining.join_parts.Given as goal
 
 abbrev pub invariant-loop-part : goal.invariant-loop-part
-invariant-loop-part l = (limits : Allowed) (text : List ℕ) → All (IsPartOf limits text) l.parts → IsJoinedTo limits text l.end l.whole
+invariant-loop-part l = record {
+  joined : (framing : Framing) (limits : Allowed) (text : List ℕ) → All (IsPartOf framing limits text) l.parts → IsJoinedTo framing limits text l.end l.whole;
+  within : l.part-index ≤ length l.parts;
+  covered : (framing : Framing) (limits : Allowed) (text : List ℕ) → AreAllParts framing limits text l.parts
+      → GoTo framing limits text (length l.parts) l.part-index l.end;
+}

@@ -7,16 +7,9 @@ use Rattle.gj_json.specs.declared.path.PathStep.TheVariants.{Index}
 use Rattle.gj_json.specs.Path.{steps_of}
 use Rattle.geolint.specs.Report.{step_text, steps_text}
 use Rattle.geolint.specs.Room.{written_in}
-use Rattle.geolint.proofs.RoomWrites.{lines-more}
 use Rattle.geolint.proofs.report.path.push_steps.Goals as goal
 use Rattle.geolint.proofs.report.path.push_steps.Goals.{in-Some, in_default}
-
--- with the step itself in the place of that at its index
-more_at : (steps : List PathStep) (i : ℕ) (step : PathStep) → i < length steps → get_or steps i (Index 0) ≡ step
-    → flat_map step_text (take (i + 1) steps) ≡ flat_map step_text (take i steps) ++ step_text step
-more_at steps i step within e =
-    subst (λ (s : PathStep). flat_map step_text (take (i + 1) steps) ≡ flat_map step_text (take i steps) ++ step_text s) e
-    (lines-more step_text steps i (Index 0) within)
+use Rattle.geolint_report.proofs.ElementsInTurn.{part-more}
 
 pub loop-i-preserved : goal.loop-i-preserved
 loop-i-preserved c =
@@ -25,7 +18,7 @@ loop-i-preserved c =
     elim c.match-step.branch [
       | in-Some w ↦
           let here = get_or_from_slice_get steps c.loop-i.i w.in-Some.step (Index 0) (sym c.step.ensures ∙ w.in-Some.is) in
-          let more = more_at steps c.loop-i.i w.in-Some.step within here in
+          let more = part-more step_text steps c.loop-i.i w.in-Some.step (Index 0) within here in
           let before = flat_map step_text (take c.loop-i.i steps) in
           let start = written_in c.args.room.now in
           rw (w.room-is) (record {

@@ -4,15 +4,15 @@ use Rattle.gj_coords.specs.declared.kind.Kind.TheVariants.{W1}
 use Rattle.gj_coords.specs.Warnings.{kinds}
 use Rattle.geolint.specs.Room.{written_in}
 use Rattle.geolint.specs.VerdictReport.{told_line, told_lines}
-use Rattle.geolint.proofs.RoomWrites.{lines-more}
 use Rattle.geolint.proofs.report.warnings.push_warnings.Goals as goal
+use Rattle.geolint_report.proofs.ElementsInTurn.{parts-more}
 
 pub loop-kind-preserved : goal.loop-kind-preserved
 loop-kind-preserved c =
     let line = told_line c.args.warnings.now in
     let before = flat_map line (take c.loop-kind.kind-index kinds) in
     let here = line (get_or kinds c.loop-kind.kind-index W1) in
-    let more = lines-more line kinds c.loop-kind.kind-index W1 c.loop-kind-test.true in
+    let more = parts-more line kinds c.loop-kind.kind-index W1 c.loop-kind-test.true in
     let start = written_in c.args.room.now in
     record {
       done = c.push_kind.ensures.line ∙ ap (λ (xs : List ℕ). xs ++ here) c.loop-kind.invariant.done ∙ append_assoc start before here

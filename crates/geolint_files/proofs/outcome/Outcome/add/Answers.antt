@@ -1,7 +1,7 @@
 use Rattle.std.proofs.Common.{ap, sym, ◌∙◌}
 use Rattle.geolint_files.specs.declared.outcome.Outcome.{Outcome}
 use Rattle.geolint_files.specs.Outcome.{worse}
-use Rattle.geolint_files.proofs.WorstOutcome.{worst-more}
+use Rattle.geolint_files.proofs.Runs.WorstOutcome.{worst-more}
 use Rattle.geolint_files.proofs.outcome.Outcome.add.Goals as goal
 
 pub returns : goal.returns

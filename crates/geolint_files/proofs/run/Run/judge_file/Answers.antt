@@ -1,5 +1,5 @@
 use Rattle.std.proofs.lemmas.Result.{on_ok_weaker}
-use Rattle.geolint_files.proofs.ToldFiles.{TellsFiles-one}
+use Rattle.geolint_files.proofs.Runs.ToldFiles.{TellsFiles-one}
 use Rattle.geolint_files.proofs.run.Run.judge_file.Goals as goal
 
 pub returns-in-Some : goal.returns-in-Some

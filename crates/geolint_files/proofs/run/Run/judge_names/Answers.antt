@@ -1,6 +1,6 @@
 use Rattle.std.proofs.Common.{refl}
 use Rattle.std.proofs.lemmas.Result.{on_ok_weaker}
-use Rattle.geolint_files.proofs.ToldFiles.{TellsFiles-none, TellsFiles-then}
+use Rattle.geolint_files.proofs.Runs.ToldFiles.{TellsFiles-none, TellsFiles-then}
 use Rattle.geolint_files.proofs.run.Run.judge_names.Goals as goal
 
 pub loop-init : goal.loop-init

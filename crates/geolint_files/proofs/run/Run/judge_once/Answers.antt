@@ -5,7 +5,7 @@ use Rattle.geolint_report.specs.declared.judge.Reading.{Reading}
 use Rattle.geolint_report.specs.Judged.{Finds}
 use Rattle.report_forms.specs.Passing.{passes}
 use Rattle.geolint_files.specs.Run.{judged, not_read}
-use Rattle.geolint_files.proofs.ToldFiles.{TellsFile-after}
+use Rattle.geolint_files.proofs.Runs.ToldFiles.{TellsFile-after}
 use Rattle.geolint_files.proofs.run.Run.judge_once.Goals as goal
 
 pub returns-in-Ok : goal.returns-in-Ok

@@ -1,5 +1,5 @@
 use Rattle.std.proofs.lemmas.Result.{on_ok_weaker}
-use Rattle.geolint_files.proofs.ToldFiles.{TellsFiles-none, TellsFiles-then}
+use Rattle.geolint_files.proofs.Runs.ToldFiles.{TellsFiles-none, TellsFiles-then}
 use Rattle.geolint_files.proofs.run.Run.judge_order.Goals as goal
 
 pub loop-path-init : goal.loop-path-init

@@ -1,4 +1,4 @@
-use Rattle.geolint_files.proofs.ToldFiles.{TellsFiles-then}
+use Rattle.geolint_files.proofs.Runs.ToldFiles.{TellsFiles-then}
 use Rattle.geolint_files.proofs.run.Run.judge_path.Goals as goal
 
 pub loop-preserved : goal.loop-preserved

@@ -9,8 +9,8 @@ use Rattle.geolint_report.specs.Judged.{framing_in}
 use Rattle.geolint_files.specs.Listed.{IsListedOnce}
 use Rattle.geolint_files.specs.Run.{judged, not_read, listed}
 use Rattle.geolint_files.specs.Told.{reading_of}
-use Rattle.geolint_files.proofs.ListedFiles.{asked-every, asked-slowly}
-use Rattle.geolint_files.proofs.ToldFiles.{TellsFile-after}
+use Rattle.geolint_files.proofs.Runs.ListedFiles.{asked-every, asked-slowly}
+use Rattle.geolint_files.proofs.Runs.ToldFiles.{TellsFile-after}
 use Rattle.geolint_files.proofs.run.Run.list_once.Goals as goal
 
 pub returns-in-Some : goal.returns-in-Some

@@ -2,7 +2,7 @@ use Rattle.std.proofs.Common.{refl, subst, List, ℕ}
 use Rattle.std.specs.Prelude.{Option}
 use Rattle.std.proofs.lemmas.Result.{on_ok_weaker}
 use Rattle.geolint_files.specs.Listed.{ArePlacedLines}
-use Rattle.geolint_files.proofs.ListedFiles.{TellsFile-listed}
+use Rattle.geolint_files.proofs.Runs.ListedFiles.{TellsFile-listed}
 use Rattle.geolint_files.proofs.run.Run.list_placed.Goals as goal
 
 pub returns : goal.returns
@@ -12,7 +12,8 @@ returns g c = λ asked.
     let (report, name, finding, sites, tells) = c.in_ok-tell_found.ensures.told in
     on_ok_weaker c.tell_placed.result (λ told.
     let (lines, are, more) = told in
-    let placed = subst (λ (text : Option (List ℕ)). ArePlacedLines c.args.reading c.args.asked c.args.self.now.options.most limits c.args.name.now text notes.notes.items notes.count lines)
+    let placed = subst (λ (text : Option (List ℕ)).
+    ArePlacedLines c.args.reading c.args.asked c.args.self.now.options.most limits c.args.name.now text notes.notes.items notes.count lines)
     c.tell_found.ensures.text are in (
       report,
       name,

@@ -8,8 +8,8 @@ use Rattle.geolint_report.specs.Judged.{Finds, framing_in}
 use Rattle.geolint_files.specs.Listed.{ArePlacedLines, IsListedTwice}
 use Rattle.geolint_files.specs.Run.{judged, not_read, listed}
 use Rattle.geolint_files.specs.Told.{reading_of, HasSites}
-use Rattle.geolint_files.proofs.ListedFiles.{asked-every, asked-slowly}
-use Rattle.geolint_files.proofs.ToldFiles.{TellsFile-after}
+use Rattle.geolint_files.proofs.Runs.ListedFiles.{asked-every, asked-slowly}
+use Rattle.geolint_files.proofs.Runs.ToldFiles.{TellsFile-after}
 use Rattle.geolint_files.proofs.run.Run.list_twice.Goals as goal
 
 pub returns-in-Some : goal.returns-in-Some
@@ -30,7 +30,8 @@ returns-in-Some g c =
     let found = subst (λ (given : Finding). Finds reading limits had left given) (sym finding) (c.in-Ok.ensures.found slow) in
     let with_text = subst (λ (t : Option (List ℕ)). HasSites reading limits t (g.S.Source.failed_reads c.judge_every.new.reader) middle report) text sites in
     let with_sites = subst (λ (n : ℕ). HasSites reading limits (g.S.Source.text c.args.source.now) n middle report) c.in-Ok.ensures.failed with_text in
-    let placed = subst (λ (t : Option (List ℕ)). ArePlacedLines reading c.args.asked old.options.most limits c.args.name.now t notes.notes.items notes.count lines) text are in (
+    let placed = subst (λ (t : Option (List ℕ)).
+    ArePlacedLines reading c.args.asked old.options.most limits c.args.name.now t notes.notes.items notes.count lines) text are in (
       listed report lines notes.tally,
       subst (λ (r : Reading). IsListedTwice r c.args.asked old.options.most limits c.args.name.now had (g.S.Source.text c.args.source.now)
           (g.S.Source.failed_reads c.args.source.now) (g.S.Source.failed_reads c.list_placed.new.source) (listed report lines notes.tally))
@@ -59,8 +60,8 @@ returns-in-None g c =
     let with_sites = subst
     (λ (n : ℕ). HasSites reading limits (g.S.Source.text c.args.source.now) n (failed_reads after) report) c.in-Ok.ensures.failed with_text in (
       judged report,
-      subst (λ (r : Reading). IsListedTwice r c.args.asked old.options.most limits c.args.name.now had (g.S.Source.text c.args.source.now) (failed_reads c.args.source.now)
-          (failed_reads after) (judged report)) c.reading-reading.ensures
+      subst (λ (r : Reading). IsListedTwice r c.args.asked old.options.most limits c.args.name.now had (g.S.Source.text c.args.source.now)
+          (failed_reads c.args.source.now) (failed_reads after) (judged report)) c.reading-reading.ensures
           (name, (left, found), with_sites),
       TellsFile-after g.W.Write.contents _ old _ c.tell_refused.new.self
           (record { same = record { options = refl; style = refl; outcome = refl; summary = refl; tally = refl }; out = refl; log = refl; line = refl }) tells,

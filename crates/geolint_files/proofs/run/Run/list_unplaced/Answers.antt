@@ -1,6 +1,6 @@
 use Rattle.std.proofs.Common.{refl}
 use Rattle.std.proofs.lemmas.Result.{on_ok_weaker}
-use Rattle.geolint_files.proofs.ListedFiles.{TellsFile-listed}
+use Rattle.geolint_files.proofs.Runs.ListedFiles.{TellsFile-listed}
 use Rattle.geolint_files.proofs.run.Run.list_unplaced.Goals as goal
 
 pub returns : goal.returns

@@ -5,7 +5,7 @@ use Rattle.geolint_report.specs.declared.every.listing.Asked.{Asked}
 use Rattle.geolint_report.specs.Cursors.{StandBy}
 use Rattle.geolint_report.specs.Judged.{framing_in}
 use Rattle.geolint_files.specs.Listed.{asked_after, AreEntriesOf, AreNextBy, IsPlaced}
-use Rattle.geolint_files.proofs.ListedFiles.{IsTold, IsTold-none, IsTold-more, none-told, StandBy-then}
+use Rattle.geolint_files.proofs.Runs.ListedFiles.{IsTold, IsTold-none, IsTold-more, none-told, StandBy-then}
 use Rattle.geolint_files.proofs.run.Run.tell_further.Goals as goal
 
 pub loop-init : goal.loop-init
@@ -39,7 +39,9 @@ loop-preserved g c =
           (subst (λ (t : Option (List ℕ)). AreNextBy framing (asked_after c.args.asked c.args.most c.loop.told) c.args.limits t notes) here
           (subst (λ (a : Asked). AreNextBy framing a c.args.limits (g.S.Source.text c.loop.source) notes) c.asked_after-next.ensures next)) count
           (lines, subst (λ (t : Option (List ℕ)). AreEntriesOf (IsPlaced framing t) name notes lines) here are, tells));
-      stand = λ stand. StandBy-then framing text (g.S.Source.text c.loop.source) c.loop.cursors c.tell_next.new.cursors here (c.tell_next.ensures.stand framing) (before.stand stand);
+      stand = λ stand.
+          StandBy-then framing text (g.S.Source.text c.loop.source) c.loop.cursors c.tell_next.new.cursors here (c.tell_next.ensures.stand framing)
+          (before.stand stand);
       text = c.tell_next.ensures.text ∙ here;
     }
 

@@ -2,7 +2,7 @@ use Rattle.std.proofs.Common.{◌≡◌}
 use Rattle.geolint_report.specs.Cursors.{StandBy}
 use Rattle.geolint_report.specs.Judged.{framing_in}
 use Rattle.geolint_files.specs.Listed.{IsPlaced}
-use Rattle.geolint_files.proofs.ListedFiles.{IsTold}
+use Rattle.geolint_files.proofs.Runs.ListedFiles.{IsTold}
 use Rattle.geolint_files.proofs.run.Run.tell_further.Given as goal
 
 -- the notes of the readings so far are told

@@ -3,8 +3,8 @@ use Rattle.std.specs.Prelude.{Vec}
 use Rattle.std.specs.declared.alloc.Global.{Global}
 use Rattle.std.specs.Io.KnownBytes.{Appends}
 use Rattle.report_forms.specs.declared.formats.sarif.Log.{Log}
-use Rattle.geolint_files.proofs.ListedFiles.{TellsLines-of, TellsLines-shown}
-use Rattle.geolint_files.proofs.ToldFiles.{on_ok}
+use Rattle.geolint_files.proofs.Runs.ListedFiles.{TellsLines-of, TellsLines-shown}
+use Rattle.geolint_files.proofs.Runs.ToldFiles.{on_ok}
 use Rattle.geolint_files.proofs.run.Run.tell_more.Goals as goal
 
 pub returns : goal.returns

@@ -5,7 +5,7 @@ use Rattle.geolint_report.specs.declared.every.listing.Note.{Note}
 use Rattle.geolint_report.specs.Cursors.{StandBy}
 use Rattle.geolint_report.specs.Judged.{framing_in}
 use Rattle.geolint_files.specs.Listed.{AreEntriesOf, IsPlaced}
-use Rattle.geolint_files.proofs.ListedFiles.{StandBy-then, TellsLines-after, TellsLines-none}
+use Rattle.geolint_files.proofs.Runs.ListedFiles.{StandBy-then, TellsLines-after, TellsLines-none}
 use Rattle.geolint_files.proofs.run.Run.tell_next.Goals as goal
 
 pub returns-in_err-tell_notes-in-Some-clause-stand : goal.returns-in_err-tell_notes-in-Some-clause-stand

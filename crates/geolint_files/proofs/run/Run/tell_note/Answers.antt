@@ -3,7 +3,7 @@ use Rattle.std.specs.Prelude.{Vec}
 use Rattle.std.specs.declared.alloc.Global.{Global}
 use Rattle.std.specs.Io.KnownBytes.{Appends}
 use Rattle.report_forms.specs.declared.formats.sarif.Log.{Log}
-use Rattle.geolint_files.proofs.ListedFiles.{TellsLines-of}
+use Rattle.geolint_files.proofs.Runs.ListedFiles.{TellsLines-of}
 use Rattle.geolint_files.proofs.run.Run.tell_note.Goals as goal
 
 pub returns : goal.returns

@@ -3,7 +3,7 @@ use Rattle.std.specs.Prelude.{Option}
 use Rattle.geolint_report.specs.Cursors.{StandBy}
 use Rattle.geolint_files.specs.Listed.{IsPlaced}
 use Rattle.geolint_files.specs.Run.{feature_line}
-use Rattle.geolint_files.proofs.ListedFiles.{none-told, more-told, whole-told, StandBy-then}
+use Rattle.geolint_files.proofs.Runs.ListedFiles.{none-told, more-told, whole-told, StandBy-then}
 use Rattle.geolint_files.proofs.run.Run.tell_notes.Goals as goal
 
 pub loop-note-init : goal.loop-note-init

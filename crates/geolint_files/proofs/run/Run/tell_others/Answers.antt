@@ -2,8 +2,8 @@ use Rattle.std.proofs.Common.{arith, ◌≡◌, ℕ, sym, subst}
 use Rattle.std.proofs.lemmas.Result.{on_ok_weaker}
 use Rattle.geolint_files.specs.Internal.RunState.{TellsLines}
 use Rattle.geolint_files.specs.Listed.{others_of}
-use Rattle.geolint_files.proofs.ListedFiles.{TellsLines-none, others_of-some}
-use Rattle.geolint_files.proofs.ToldFiles.{on_ok}
+use Rattle.geolint_files.proofs.Runs.ListedFiles.{TellsLines-none, others_of-some}
+use Rattle.geolint_files.proofs.Runs.ToldFiles.{on_ok}
 use Rattle.geolint_files.proofs.run.Run.tell_others.Goals as goal
 
 pub returns-then-count-eq0 : goal.returns-then-count-eq0

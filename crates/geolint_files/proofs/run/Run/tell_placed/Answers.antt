@@ -7,7 +7,7 @@ use Rattle.geolint_report.specs.Cursors.{StandBy}
 use Rattle.geolint_report.specs.Judged.{framing_in}
 use Rattle.geolint_files.specs.Internal.RunState.{TellsLines, ToldFurther}
 use Rattle.geolint_files.specs.Listed.{AreEntriesOf, IsPlaced, most_of, others_of}
-use Rattle.geolint_files.proofs.ListedFiles.{all-placed}
+use Rattle.geolint_files.proofs.Runs.ListedFiles.{all-placed}
 use Rattle.geolint_files.proofs.run.Run.tell_placed.Goals as goal
 
 pub returns : goal.returns

@@ -1,6 +1,6 @@
 use Rattle.std.proofs.Common.{refl}
 use Rattle.std.proofs.lemmas.Result.{on_ok_weaker}
-use Rattle.geolint_files.proofs.ToldFiles.{TellsFile-after}
+use Rattle.geolint_files.proofs.Runs.ToldFiles.{TellsFile-after}
 use Rattle.geolint_files.proofs.run.Run.tell_refused.Goals as goal
 
 pub returns-clause-told : goal.returns-clause-told

@@ -1,7 +1,7 @@
 use Rattle.std.proofs.Common.{refl}
 use Rattle.std.proofs.lemmas.Result.{on_ok_weaker}
 use Rattle.geolint_report.specs.Sought.{AreSought}
-use Rattle.geolint_files.proofs.ToldFiles.{TellsFile-after, sought-told}
+use Rattle.geolint_files.proofs.Runs.ToldFiles.{TellsFile-after, sought-told}
 use Rattle.geolint_files.proofs.run.Run.tell_sought.Goals as goal
 
 pub returns-clause-told : goal.returns-clause-told

@@ -3,7 +3,7 @@ use Rattle.std.proofs.lemmas.Result.{on_ok_weaker}
 use Rattle.geolint_report.specs.declared.every.listing.Note.{Note}
 use Rattle.geolint_files.specs.Internal.RunState.{TellsLines}
 use Rattle.geolint_files.specs.Listed.{IsUnplaced, others_of}
-use Rattle.geolint_files.proofs.ListedFiles.{none-told, more-told-in, whole-told, all-told}
+use Rattle.geolint_files.proofs.Runs.ListedFiles.{none-told, more-told-in, whole-told, all-told}
 use Rattle.geolint_files.proofs.run.Run.tell_unplaced.Goals as goal
 
 pub loop-note-init : goal.loop-note-init

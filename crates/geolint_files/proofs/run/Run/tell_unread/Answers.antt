@@ -8,7 +8,7 @@ use Rattle.report_forms.specs.declared.formats.sarif.Log.{Log}
 use Rattle.report_forms.specs.declared.summary.Summary.{Summary}
 use Rattle.report_forms.specs.Forms.{KeepsUnread}
 use Rattle.report_forms.specs.FileCounts.{Counts}
-use Rattle.geolint_files.proofs.ToldFiles.{on_ok, kept-Appends, TellsFile-of, TellsFiles-one}
+use Rattle.geolint_files.proofs.Runs.ToldFiles.{on_ok, kept-Appends, TellsFile-of, TellsFiles-one}
 use Rattle.geolint_files.proofs.run.Run.tell_unread.Goals as goal
 
 pub returns-clause-told : goal.returns-clause-told

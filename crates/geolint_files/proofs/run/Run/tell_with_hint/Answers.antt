@@ -10,7 +10,7 @@ use Rattle.report_forms.specs.Forms.{IsReport, first_after}
 use Rattle.report_forms.specs.FileCounts.{Counts}
 use Rattle.geolint_files.specs.declared.outcome.Outcome.{Outcome}
 use Rattle.geolint_files.specs.Outcome.{outcome_of, worst}
-use Rattle.geolint_files.proofs.ToldFiles.{on_ok, TellsFile-of}
+use Rattle.geolint_files.proofs.Runs.ToldFiles.{on_ok, TellsFile-of}
 use Rattle.geolint_files.proofs.run.Run.tell_with_hint.Goals as goal
 
 pub returns : goal.returns

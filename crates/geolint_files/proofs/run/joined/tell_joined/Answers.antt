@@ -1,6 +1,9 @@
 use Rattle.std.proofs.Common.{[], ◌∷◌, List, subst, ap, ◌∙◌}
+use Rattle.geolint_report.specs.declared.judge.Finding.{Finding}
 use Rattle.report_forms.specs.declared.options.Options.{Options}
-use Rattle.geolint_files.specs.Run.{judged, worst_of, IsWholeReport}
+use Rattle.geolint_files.specs.JoinedRun.{IsFileOf}
+use Rattle.geolint_files.specs.Listed.{asked_in}
+use Rattle.geolint_files.specs.Run.{worst_of, IsWholeReport}
 use Rattle.geolint_files.proofs.run.joined.tell_joined.Goals as goal
 
 pub returns : goal.returns
@@ -9,16 +12,16 @@ returns g c =
     let contents = g.W.Write.contents in
     let held = contents c.args.out in
     let begun = c.in_ok-begin.ensures held c.in_ok-run.ensures.fresh in
-    let (report, named, found, tells) = c.in_ok-tell_known.ensures in
+    let (file, of_it, tells) = c.in_ok-tell_known.ensures in
     let told = tells.tells held run.options run.style [] begun in
-    let (bytes, whole, out) = c.in_ok-end.ensures.told held run.options run.style (judged report ∷ []) told in
+    let (bytes, whole, out) = c.in_ok-end.ensures.told held run.options run.style (file ∷ []) told in
     record {
-      report = report;
-      named = named;
-      found = found;
+      file = file;
+      of_it = subst (λ (options : Options). IsFileOf options c.args.notes (asked_in options) c.args.name.now (Finding.Sequence c.args.verdict) file)
+          (begun.options_are ∙ c.in_ok-run.ensures.options) of_it;
       style = run.style;
       bytes = bytes;
-      whole = subst (λ (options : Options). IsWholeReport options run.style (judged report ∷ []) bytes) c.in_ok-run.ensures.options whole;
+      whole = subst (λ (options : Options). IsWholeReport options run.style (file ∷ []) bytes) c.in_ok-run.ensures.options whole;
       out = out;
-      worst_is = c.end.ensures.outcome ∙ told.outcome ∙ ap (λ (options : Options). worst_of options (judged report ∷ [])) c.in_ok-run.ensures.options;
+      worst_is = c.end.ensures.outcome ∙ told.outcome ∙ ap (λ (options : Options). worst_of options (file ∷ [])) c.in_ok-run.ensures.options;
     }

@@ -1,7 +1,7 @@
 use Rattle.std.proofs.Common.{◌≡◌, ◌++◌, ◌+◌, ◌-◌, ◌∙◌, refl, sym, ap, arith, length, drop, reverse, ℕ, Vec, Global, get_or}
 use Rattle.std.proofs.lemmas.List.{map-append}
 use Rattle.geolint_files.specs.Walk.{entries_in, entry_name, named_in}
-use Rattle.geolint_files.proofs.WalkedEntries.{entries_step, joined, no_entries}
+use Rattle.geolint_files.proofs.Walks.WalkedEntries.{entries_step, joined, no_entries}
 use Rattle.geolint_files.proofs.walk.Walk.push_entries.Goals as goal
 
 pub loop-i-init : goal.loop-i-init

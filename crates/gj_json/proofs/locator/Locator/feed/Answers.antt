@@ -1,4 +1,4 @@
--- The steps follow what the reader tells of the piece.
+-- The steps follow what the reader reports of the piece.
 use Rattle.gj_json.proofs.Paths.LocatorSteps.{fed_on}
 use Rattle.gj_json.proofs.locator.Locator.feed.Goals as goal
 

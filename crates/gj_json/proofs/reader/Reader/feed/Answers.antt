@@ -1,4 +1,4 @@
--- The piece up to what is allowed, and the byte behind it.
+-- The piece up to what is allowed, and the byte after it.
 use Rattle.std.proofs.Common.{◌-◌, ◌<◌, length, arith}
 use Rattle.gj_json.specs.Internal.FedReader.{FeedsTo}
 use Rattle.gj_json.proofs.Readers.CallsInTurn

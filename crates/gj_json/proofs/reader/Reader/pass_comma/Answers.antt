@@ -1,4 +1,4 @@
--- Behind a comma the next element or the next name is due.
+-- After a comma the next element or the next name is due.
 use Rattle.std.proofs.Common.{◌≡◌, ◌∙◌, ap, sym, Some}
 use Rattle.gj_json.specs.Internal.OpenLevels.{levels_in, inner_of}
 use Rattle.gj_json.specs.declared.levels.Level.{Level}

@@ -1,4 +1,4 @@
--- A number has ended where the byte behind it ends a value.
+-- A number has ended where the byte after it ends a value.
 use Rattle.std.proofs.Common.{◌≡◌, get_or, refl, sym, ap, ◌∙◌, arith, length, Some}
 use Rattle.gj_json.specs.Internal.ByteClasses.{class_of}
 use Rattle.gj_json.specs.Internal.OpenLevels.{levels_in, inner_of, outer_of}

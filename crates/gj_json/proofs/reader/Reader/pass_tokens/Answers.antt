@@ -1,4 +1,4 @@
--- The tokens, one behind another.
+-- The tokens, one after another.
 use Rattle.std.proofs.Common.{◌≡◌, ◌+◌, ℕ, take, subst, arith}
 use Rattle.gj_json.specs.Internal.FedReader.{FeedsWithin}
 use Rattle.gj_json.proofs.Pieces.PieceRests.{more_within}

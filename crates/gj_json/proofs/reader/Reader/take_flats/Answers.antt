@@ -1,4 +1,4 @@
--- The arrays, one behind another.
+-- The arrays, one after another.
 use Rattle.std.proofs.Common.{◌≡◌, ◌∙◌, sym, ◌+◌, ℕ, take, subst, arith}
 use Rattle.gj_json.specs.Internal.FedReader.{FeedsAll}
 use Rattle.gj_json.proofs.Readers.CallsInTurn

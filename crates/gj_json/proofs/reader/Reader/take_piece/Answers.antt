@@ -1,4 +1,4 @@
--- The piece, front by front, and behind each what does not matter to the sink.
+-- The piece, prefix by prefix, and after each what does not matter to the sink.
 use Rattle.std.proofs.Common.{◌+◌}
 use Rattle.gj_json.proofs.Readers.CallsInTurn
 use Rattle.gj_json.proofs.Pieces.PieceRests.{more_within}

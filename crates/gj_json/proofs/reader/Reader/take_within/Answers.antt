@@ -1,4 +1,4 @@
--- The piece, front by front, within levels that are open.
+-- The piece, prefix by prefix, within levels that are open.
 use Rattle.std.proofs.Common.{◌+◌}
 use Rattle.gj_json.proofs.Readers.CallsInTurn
 use Rattle.gj_json.proofs.Events.IgnoredEvents.{all_more, to_more}

@@ -1,4 +1,4 @@
--- Zeros, and digits behind them.
+-- Zeros, and digits after them.
 use Rattle.std.proofs.Common.{◌≡◌, ℕ, ◌+◌, List, take, fold, All, inl, subst, ◌∙◌, ap, arith}
 use Rattle.gj_number.specs.Bytes.{IsDigit}
 use Rattle.gj_number.specs.Internal.KeptDigits.{Keeps, kept_of}

@@ -1,4 +1,4 @@
--- A front of the piece, run by run and byte by byte.
+-- A prefix of the piece, run by run and byte by byte.
 use Rattle.std.proofs.Common.{ℕ, ◌+◌, ◌≤◌, List, ◌++◌, take, length, sym, subst, arith}
 use Rattle.std.proofs.lemmas.List.{take_more}
 use Rattle.gj_number.specs.Grammar.{BeginsNumber}

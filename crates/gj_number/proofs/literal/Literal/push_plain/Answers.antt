@@ -1,4 +1,4 @@
--- Digits, and a point with digits behind it.
+-- Digits, and a point with digits after it.
 use Rattle.std.proofs.Common.{◌≡◌, ℕ, ◌+◌, ◌<◌, Some, List, ◌∷◌, ◌++◌, get_or, take, drop, fold, length, refl, sym, subst, ◌∙◌, arith, length-drop}
 use Rattle.std.proofs.lemmas.Bool.Decides.{nat_tests}
 use Rattle.std.proofs.lemmas.List.{length-take-le}

@@ -1,4 +1,4 @@
--- What the features were told to is handed out as it lies.
+-- What the features were reported to is handed out as it lies.
 use Rattle.std.proofs.Common.{sym, subst, ◌∙◌}
 use Rattle.gj_rules.specs.FeatureFindings.{feature_findings}
 use Rattle.gj_rules.specs.FeaturesTold.{TellFindings}

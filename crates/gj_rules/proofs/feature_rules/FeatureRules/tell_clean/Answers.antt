@@ -1,4 +1,4 @@
--- The feature that ends is told as the definition says.
+-- The feature that ends is reported as the definition says.
 use Rattle.std.proofs.Common.{Some, sym, ◌∙◌}
 use Rattle.gj_rules.specs.CleanFeature.{feature_of}
 use Rattle.gj_rules.specs.Internal.FeatureSteps.{starts_at}

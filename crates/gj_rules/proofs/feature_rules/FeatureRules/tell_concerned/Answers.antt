@@ -1,4 +1,4 @@
--- One event more tells what the definition says that it completes.
+-- One event more reports what the definition says that it completes.
 use Rattle.std.proofs.Common.{◌++◌, sym, ap, subst, ◌∙◌, append-nil}
 use Rattle.std.specs.Option.{option_to_list}
 use Rattle.gj_rules.specs.Internal.FeatureSteps.{count_at}

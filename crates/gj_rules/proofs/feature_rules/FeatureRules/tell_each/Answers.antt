@@ -1,15 +1,10 @@
 -- The events, one after another.
-use Rattle.std.proofs.Common.{◌≡◌, ◌∷◌, ◌++◌, [], List, subst, append_assoc}
+use Rattle.std.proofs.Common.{List, subst}
 use Rattle.gj_json.specs.declared.event.Event.{Event}
 use Rattle.gj_rules.specs.Internal.FeatureSteps.{Stand}
 use Rattle.gj_rules.proofs.feature_rules.FeatureRules.tell_each.Goals as goal
 use Rattle.gj_rules.proofs.feature_rules.FeatureRules.tell_each.Goals.{in-Some, in_default}
-
-four : (xs : List Event) (a b c d : Event) → (((xs ++ a ∷ []) ++ b ∷ []) ++ c ∷ []) ++ d ∷ [] ≡ xs ++ (a ∷ b ∷ c ∷ d ∷ [])
-four xs a b c d = simp append_assoc
-
-five : (xs : List Event) (a b c d e : Event) → ((((xs ++ a ∷ []) ++ b ∷ []) ++ c ∷ []) ++ d ∷ []) ++ e ∷ [] ≡ xs ++ (a ∷ b ∷ c ∷ d ∷ e ∷ [])
-five xs a b c d e = simp append_assoc
+use Rattle.gj_json.proofs.Events.EventsInTurn.{four, five}
 
 pub returns : goal.returns
 returns g c = λ events h.

@@ -1,4 +1,4 @@
--- An event that concerns no feature changes the levels alone, and tells none.
+-- An event that concerns no feature changes the levels alone, and reports none.
 use Rattle.std.proofs.Common.{None, sym, subst, ◌∙◌, append-nil}
 use Rattle.gj_rules.specs.Internal.FeatureSteps.{starts_at}
 use Rattle.gj_rules.specs.Internal.RulesState.{core_of}

@@ -1,4 +1,4 @@
--- After a refusal no input is a text; before one, the rules were told the events that each text has which begins so.
+-- After a refusal no input is a text; before one, the events that each text has which begins so were reported to the rules.
 use Rattle.std.proofs.Common.{List, ◌++◌, length, arith, sym, subst, ◌∙◌}
 use Rattle.gj_json.specs.declared.event.Event.{Event}
 use Rattle.gj_rules.specs.Linter.{StandsFor}

@@ -1,4 +1,4 @@
--- The objects with a role are those of the events that the rules were told.
+-- The objects with a role are those of the events that were reported to the rules.
 use Rattle.std.proofs.Common.{List, sym, subst, arith}
 use Rattle.gj_json.specs.declared.event.Event.{Event}
 use Rattle.gj_rules.specs.Rules.{StandsFor as RulesStandFor}

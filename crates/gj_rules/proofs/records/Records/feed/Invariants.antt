@@ -1,4 +1,4 @@
--- What was told of the bytes up to the place.
+-- What was reported of the bytes up to the place.
 use Rattle.std.proofs.Common.{ℕ, ◌-◌, ◌≤◌, List, ◌++◌, length, take}
 use Rattle.gj_rules.specs.declared.records.record.Record.{Record}
 use Rattle.gj_rules.specs.Internal.ToldRecords.{Keeps}

@@ -1,4 +1,4 @@
--- What was told where they lay.
+-- What was reported where they lay.
 use Rattle.gj_rules.proofs.records.Records.finish.Goals as goal
 
 pub returns : goal.returns

@@ -1,4 +1,4 @@
--- By what was told so far.
+-- By what was reported so far.
 use Rattle.std.proofs.Common.{ap, sym, ◌∙◌}
 use Rattle.gj_rules.specs.SequenceStands.{is_valid_sequence}
 use Rattle.gj_rules.proofs.Parts.DecidedRecords.{decided_lasts, whole_so_far, fits_so_far}

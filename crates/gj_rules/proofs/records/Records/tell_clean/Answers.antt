@@ -1,4 +1,4 @@
--- The record that is told has no warning.
+-- The record that is reported has no warning.
 use Rattle.std.proofs.Common.{ap, refl, sym, subst, ◌∙◌}
 use Rattle.gj_coords.specs.declared.warnings.Warnings.{Warnings}
 use Rattle.gj_rules.specs.declared.records.framing.RecordEnd.TheVariants.{Separator}

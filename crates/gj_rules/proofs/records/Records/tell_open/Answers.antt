@@ -1,4 +1,4 @@
--- The record that is told is the open one.
+-- The record that is reported is the open one.
 use Rattle.std.proofs.Common.{ap, refl, sym, ◌∙◌}
 use Rattle.gj_rules.specs.declared.records.record.Record.{Record}
 use Rattle.gj_rules.specs.RecordFindings.{after}

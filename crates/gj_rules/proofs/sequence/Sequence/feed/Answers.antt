@@ -1,4 +1,4 @@
--- The bytes up to the place were taken, and those behind a byte that decided change nothing.
+-- The bytes up to the place were taken, and those after a byte that decided change nothing.
 use Rattle.std.proofs.Common.{rules, ◌≡◌, ℕ, true, false, List, ◌++◌, take, ap, sym, subst, ◌∙◌}
 use Rattle.std.proofs.lemmas.List.{take_all}
 use Rattle.gj_rules.specs.SequenceStands.{StandsFor, is_decided}

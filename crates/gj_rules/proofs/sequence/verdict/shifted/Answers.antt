@@ -1,4 +1,4 @@
--- No place passes the end of what fits, since none that the verdict tells does.
+-- No place passes the end of what fits, since none that the verdict names does.
 use Rattle.std.proofs.Common.{ℕ, ◌+◌, ◌≤◌, ◌^◌, refl, arith}
 use Rattle.gj_rules.specs.Internal.ToldPlaces.{TellsPlace}
 use Rattle.gj_rules.specs.declared.verdict.Verdict.{Verdict}

@@ -5,8 +5,8 @@ use Rattle.gj_coords.specs.Warnings.{kinds}
 use Rattle.report_forms.specs.Forms.Json.{json_kind, json_warnings, with_commas}
 use Rattle.report_forms.specs.Internal.WrittenCommas.{is_none_yet, next_items}
 use Rattle.report_forms.proofs.CommasBetween.{commas-more, none-more}
-use Rattle.report_forms.proofs.JoinedElements.{parts-more}
 use Rattle.report_forms.proofs.formats.json.put_warnings.Goals as goal
+use Rattle.geolint_report.proofs.ElementsInTurn.{parts-more}
 
 pub loop-kind-preserved : goal.loop-kind-preserved
 loop-kind-preserved c =

@@ -4,8 +4,8 @@ use Rattle.gj_coords.specs.declared.kind.Kind.TheVariants.{W1}
 use Rattle.gj_coords.specs.Warnings.{kinds}
 use Rattle.geolint_report.specs.declared.every.listing.Note.{Note}
 use Rattle.geolint_report.specs.Every.{Keeps, kind_notes}
-use Rattle.geolint_report.proofs.KeptNotes.{parts-more}
 use Rattle.geolint_report.proofs.every.listing.Listing.add_kinds.Goals as goal
+use Rattle.geolint_report.proofs.ElementsInTurn.{parts-more}
 
 pub loop-kind-init : goal.loop-kind-init
 loop-kind-init c = record {

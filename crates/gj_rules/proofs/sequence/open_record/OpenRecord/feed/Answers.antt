@@ -1,4 +1,4 @@
--- The bytes of the run are behind those before it.
+-- The bytes of the run are after those before it.
 use Rattle.std.proofs.Common.{[], ◌++◌, length-append, ◌∙◌, arith}
 use Rattle.std.proofs.Math.Bridge.{le_prop}
 use Rattle.std.proofs.Math.Logic.{∥∥₁_elim, ∥∥₁_map}

@@ -1,4 +1,4 @@
--- The verdict of a record that a separator ends, and of which the linter tells nothing.
+-- The verdict of a record that a separator ends, and of which the linter reports nothing.
 use Rattle.std.proofs.Common.{length, ap, refl, sym, subst, ◌∙◌, arith}
 use Rattle.gj_json.specs.Limits.{Allowed}
 use Rattle.gj_coords.specs.Internal.KeptWarnings.{no_warnings}

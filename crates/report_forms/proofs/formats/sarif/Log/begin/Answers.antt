@@ -1,6 +1,6 @@
 use Rattle.std.proofs.Common.{ℕ, List, ◌++◌, codes}
 use Rattle.geolint_report.specs.declared.texts.Code.{Code}
-use Rattle.report_forms.specs.Forms.Sarif.{sarif_begin, sarif_rules, sarif_causes, sarif_rule, sarif_kinds}
+use Rattle.report_forms.specs.Forms.Sarif.{sarif_begin, sarif_head, sarif_rules, sarif_causes, sarif_rule, sarif_kinds}
 use Rattle.report_forms.proofs.JoinedElements.{behind}
 use Rattle.report_forms.proofs.formats.sarif.Log.begin.Goals as goal
 
@@ -16,8 +16,7 @@ returns c =
     let rest2 : List ℕ = part3 ++ rest3 in
     let part2 : List ℕ = sarif_rules in
     let rest1 : List ℕ = part2 ++ rest2 in
-    let part1 : List ℕ =
-    codes "{\"$schema\":\"https://json.schemastore.org/sarif-2.1.0.json\",\"version\":\"2.1.0\",\"runs\":[{\"columnKind\":\"unicodeCodePoints\",\"tool\":{\"driver\":{\"name\":\"geolint-files\",\"version\":\"0.1.0\",\"rules\":[\n" in
+    let part1 : List ℕ = sarif_head in
     behind c.put-2.result c.args.line.now.items c.put.new.line.items c.put-2.new.line.items part1 rest1 c.in_ok-put.ensures
     (behind c.put-2.result c.put.new.line.items c.put_rules.new.line.items c.put-2.new.line.items part2 rest2 c.in_ok-put_rules.ensures
     (behind c.put-2.result c.put_rules.new.line.items c.put_causes.new.line.items c.put-2.new.line.items part3 rest3 c.in_ok-put_causes.ensures

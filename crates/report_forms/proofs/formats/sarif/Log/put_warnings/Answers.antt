@@ -4,9 +4,9 @@ use Rattle.gj_coords.specs.declared.kind.Kind.TheVariants.{W1}
 use Rattle.gj_coords.specs.Warnings.{kinds}
 use Rattle.report_forms.specs.Forms.Sarif.{sarif_kind, sarif_warnings, next_results}
 use Rattle.report_forms.specs.Internal.WrittenCommas.{is_none_yet}
-use Rattle.report_forms.proofs.JoinedElements.{parts-more}
 use Rattle.report_forms.proofs.ResultsBetween.{results-more, none-of-more}
 use Rattle.report_forms.proofs.formats.sarif.Log.put_warnings.Goals as goal
+use Rattle.geolint_report.proofs.ElementsInTurn.{parts-more}
 
 pub loop-kind-preserved : goal.loop-kind-preserved
 loop-kind-preserved c =

@@ -30,9 +30,10 @@ use Rattle.geolint_files.specs.declared.run.Run.{Run}
 use Rattle.geolint_files.specs.Outcome.{worst}
 use Rattle.geolint_files.specs.Internal.RunState.{HasTold, TellsFile, TellsLines, ToldFurther, SameTold}
 use Rattle.geolint_files.specs.Listed.{asked_in, asked_by}
-use Rattle.geolint_files.specs.Listed.{IsEntryOf, AreEntriesOf, AreLinesOf, others_of, asked_when, asked_after, AreNextBy, AreFurther, joined, most_of, IsPlaced, ArePlacedLines}
+use Rattle.geolint_files.specs.Listed.{IsEntryOf, AreEntriesOf, AreLinesOf, others_of, asked_when, asked_after, AreNextBy, AreFurther, joined, most_of}
+use Rattle.geolint_files.specs.Listed.{IsPlaced, ArePlacedLines}
 use Rattle.geolint_report.specs.Judged.{framing_in}
-use Rattle.geolint_files.proofs.ToldFiles.{tallies-append, tallies-none}
+use Rattle.geolint_files.proofs.Runs.ToldFiles.{tallies-append, tallies-none}
 use Rattle.geolint_files.specs.Run.{ToldFile, judged, listed, FeatureLine, others_line, finding_in, tallies_in, outcome_in, Written}
 use Rattle.geolint_files.specs.Run.{AddsFiles, AddsLine, AddsLines, begun}
 
@@ -417,7 +418,8 @@ pub all-placed : {W : Type 0} (contents : W → Option (List ℕ)) (reading : Re
 all-placed contents reading asked most limits name text held count told old middle last new small first (further, found, only, is, more) others =
     let right = IsPlaced (framing_in reading) text in
     let all = held ++ joined further in
-    let (lines, are, tells) = all-told contents right name all count old last new (both-told contents right name held (joined further) old middle last first more)
+    let (lines, are, tells) = all-told contents right name all count old last new
+    (both-told contents right name held (joined further) old middle last first more)
     (subst (λ (n : ℕ). TellsLines contents (others_of name n) last new) (others-left count told held (joined further) small is) others) in
     (lines, (further, found, only, are), tells)
 

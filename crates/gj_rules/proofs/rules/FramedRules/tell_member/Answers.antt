@@ -3,7 +3,7 @@ use Rattle.gj_json.specs.declared.event.What.TheVariants as W
 use Rattle.gj_rules.specs.Internal.EventSteps.{is_feeding}
 use Rattle.gj_rules.proofs.Objects.RestingSummaries.{names}
 use Rattle.gj_rules.proofs.Texts.OneEventMore.{told_on, steps_taken}
-use Rattle.gj_rules.proofs.rules.FramedRules.tell_name.Goals as goal
+use Rattle.gj_rules.proofs.rules.FramedRules.tell_member.Goals as goal
 
 pub returns-then-is_at_names : goal.returns-then-is_at_names
 returns-then-is_at_names g c = λ events h.

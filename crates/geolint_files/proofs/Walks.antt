@@ -1,0 +1,2 @@
+-- The walk over the entries of folders.
+pub mod WalkedEntries

@@ -1,0 +1,9 @@
+-- Some events, reported one after another, are a list of them.
+use Rattle.std.proofs.Common.{◌≡◌, ◌∷◌, ◌++◌, [], List, append_assoc}
+use Rattle.gj_json.specs.declared.event.Event.{Event}
+
+pub four : (xs : List Event) (a b c d : Event) → (((xs ++ a ∷ []) ++ b ∷ []) ++ c ∷ []) ++ d ∷ [] ≡ xs ++ (a ∷ b ∷ c ∷ d ∷ [])
+four xs a b c d = simp append_assoc
+
+pub five : (xs : List Event) (a b c d e : Event) → ((((xs ++ a ∷ []) ++ b ∷ []) ++ c ∷ []) ++ d ∷ []) ++ e ∷ [] ≡ xs ++ (a ∷ b ∷ c ∷ d ∷ e ∷ [])
+five xs a b c d e = simp append_assoc

@@ -1,0 +1,286 @@
+-- The beginnings of objects, taken at once: the tokens that they are, one after another.
+use Rattle.std.proofs.Common.{◌≡◌, ℕ, ◌+◌, ◌≤◌, ◌<◌, true, List, [], ◌∷◌, ◌++◌, codes, length, take, take-add, drop, None, refl, sym, ap, subst, ◌∙◌, arith, append_assoc}
+use Rattle.std.proofs.lemmas.List.{length-append, length-take-le}
+use Rattle.std.specs.List.{AllByRecursion}
+use Rattle.gj_json.specs.Bytes.{IsWhite, open_brace, close_brace, comma, colon}
+use Rattle.gj_json.specs.declared.class.Class.TheVariants.{CloseObject as close_class, Comma as comma_class, White as white_class}
+use Rattle.gj_json.specs.declared.event.Event.{Event}
+use Rattle.gj_json.specs.declared.event.What.{What}
+use Rattle.gj_json.specs.declared.levels.Level.{Level}
+use Rattle.gj_json.specs.declared.levels.Level.TheVariants.{Array, Object}
+use Rattle.gj_json.specs.declared.mode.Ending.{Ending}
+use Rattle.gj_json.specs.declared.mode.Mode.{Mode}
+use Rattle.gj_json.specs.declared.mode.Mode.TheVariants.{ValueDue, ValueDone, ArrayOpened, NameDue, ColonDue}
+use Rattle.gj_json.specs.declared.names.Known.TheVariants.{TypeName, Geometry, Coordinates}
+use Rattle.gj_json.specs.declared.names.Word.{Word}
+use Rattle.gj_json.specs.declared.reader.Reader.{Reader}
+use Rattle.gj_json.specs.Limits.{Allowed}
+use Rattle.gj_json.specs.Names.{known_of, word_of}
+use Rattle.gj_json.specs.Text.{IsText}
+use Rattle.gj_json.specs.Tree.{string}
+use Rattle.gj_json.specs.Events.{events_by}
+use Rattle.gj_json.specs.Internal.FedReader.{FeedsAll}
+use Rattle.gj_json.specs.Internal.FlatParts.{awaits}
+use Rattle.gj_json.specs.Internal.OpenLevels.{levels_in}
+use Rattle.gj_json.specs.Internal.QuietBytes.{IsQuiet, Leads}
+use Rattle.gj_json.specs.Internal.ReaderState.{StandsWell}
+use Rattle.gj_json.specs.Internal.ReaderStep.{opened}
+use Rattle.gj_json.specs.Internal.ToldEvents.{event_at}
+use Rattle.gj_json.specs.Internal.WholeHeads.{quoted, named, BeginsTyped, IsTyped, IsLocated}
+use Rattle.gj_json.specs.Internal.WholeTokens.{IsQuoted, Lands, names, may_begin}
+use Rattle.gj_json.proofs.Grammar.ClassOfBytes.{class_is}
+use Rattle.gj_json.proofs.Grammar.SpelledTokens.{colon_by}
+use Rattle.gj_json.proofs.Grammar.UsualTokens.{plain}
+use Rattle.gj_json.proofs.Pieces.QuietModes.{quiet_leads}
+use Rattle.gj_json.proofs.Pieces.QuietRuns.{quiet_run}
+use Rattle.gj_json.proofs.Pieces.TakenFlats.{all_quiet, value_well}
+use Rattle.gj_json.proofs.Pieces.TakenTokens.{Moved, lands_feeds, done_go, done_close, string_leads, name_well, open_well}
+
+-- ---- bytes that lead from one mode to another, wherever they stand, and what is complete behind them
+
+record Carries (limits : Allowed) (mode : Mode) (levels : List Level) (next : Mode) (after : List Level) (given : List ℕ) (es : ℕ → List Event) : Type 0 where
+  pub moved : (start offset : ℕ) (bytes : List ℕ) → StandsWell limits mode levels start offset bytes → offset + length given ≤ limits.bytes
+      → Moved limits next after offset (offset + length given) bytes given (es offset)
+
+module _ (limits : Allowed) where
+  both : (mode mid next : Mode) (levels around after : List Level) (xs ys : List ℕ) (es fs : ℕ → List Event) → Carries limits mode levels mid around xs es
+      → Carries limits mid around next after ys fs → Carries limits mode levels next after (xs ++ ys) (λ n. es n ++ fs (n + length xs))
+  both mode mid next levels around after xs ys es fs f g = record {
+    moved = λ start offset bytes k room.
+        let l = length-append xs ys in
+        let a = f.moved start offset bytes k (omega (arith, room, l)) in
+        let b = g.moved a.start (offset + length xs) (bytes ++ xs) a.well (omega (arith, room, l)) in
+        let e : offset + length xs + length ys ≡ offset + length (xs ++ ys) = omega (arith, l) in
+        let P : ℕ → Type 0 = λ n. Moved limits next after offset n bytes (xs ++ ys) (es offset ++ fs (offset + length xs)) in
+        let Q : List ℕ → Type 0 = λ zs. StandsWell limits next after b.start (offset + length xs + length ys) zs in
+        subst P e (record {
+          start = b.start;
+          well = subst Q (append_assoc bytes xs ys) b.well;
+          more = λ T rest t.
+              let u : IsText T (((bytes ++ xs) ++ ys) ++ rest) = rw (append_assoc bytes xs ys) t in
+              let v : IsText T ((bytes ++ xs) ++ (ys ++ rest)) = rw (append_assoc (bytes ++ xs) ys rest) at u in
+              b.more T rest u ∙ ap (λ zs. zs ++ fs (offset + length xs)) (a.more T (ys ++ rest) v)
+              ∙ append_assoc (events_by offset T) (es offset) (fs (offset + length xs));
+        });
+  }
+
+  quiet : (mode next : Mode) (levels : List Level) (given : List ℕ) → Leads mode given next → Carries limits mode levels next levels given (λ n. [])
+  quiet mode next levels given leads = record {
+    moved = λ start offset bytes k room.
+        let g = quiet_run limits levels start given mode next offset bytes k room leads in record { start = start; well = g.0; more = g.1 };
+  }
+
+  white_names : (gap : List ℕ) → AllByRecursion IsWhite gap → AllByRecursion (IsQuiet NameDue) gap
+  white_names [] h = tt
+  white_names (x ∷ xs) h = (record { moves = λ turn inner words. rw (class_is white_class x h.0 (λ e. cc)) refl; on = refl }, white_names xs h.1)
+
+  -- a name, its colon and white space
+  name_carries : (mode : Mode) (levels : List Level) (content gap : List ℕ) → names mode ≡ true → IsQuoted content (quoted content)
+      → AllByRecursion IsWhite gap
+      → Carries limits mode levels ValueDue levels (named content gap) (λ n. event_at n (What.Name (known_of content)) ∷ [])
+  name_carries mode levels content gap w q white =
+      both mode ColonDue ValueDue levels levels levels (quoted content) (colon ∷ gap) (λ n. event_at n (What.Name (known_of content)) ∷ []) (λ n. [])
+      (record { moved = λ start offset bytes k room. name_well limits levels start mode offset bytes k w content (quoted content) q room })
+      (quiet ColonDue ValueDue levels (colon ∷ gap) (ValueDue, colon_by, quiet_leads ValueDue gap (all_quiet gap white)))
+
+  -- a string in an object, the comma after it and white space
+  text_carries : (levels : List Level) (content given gap : List ℕ) → length levels + 1 ≤ limits.depth → IsQuoted content given → AllByRecursion IsWhite gap
+      → Carries limits ValueDue (Object ∷ levels) NameDue (Object ∷ levels) (given ++ (comma ∷ gap)) (λ n. event_at n (What.Text (word_of content)) ∷ [])
+  text_carries levels content given gap deep q white =
+      let all = Object ∷ levels in
+      both ValueDue ValueDone NameDue all all all given (comma ∷ gap) (λ n. event_at n (What.Text (word_of content)) ∷ []) (λ n. [])
+      (record {
+        moved = λ start offset bytes k room.
+            let g = value_well limits all start ValueDue offset bytes k refl (string offset content (offset + length given)) given
+            (string_leads content given offset q) (omega (arith, deep)) room in record { start = start; well = g.well; more = g.more };
+      })
+      (both ValueDone NameDue NameDue all all all (comma ∷ []) gap (λ n. []) (λ n. [])
+      (record {
+        moved = λ start offset bytes k room.
+            done_go limits all start offset bytes comma k (omega (arith, room)) NameDue Ending.Item (rw (class_is comma_class comma refl (λ e. cc)) refl);
+      })
+      (quiet NameDue NameDue all gap (quiet_leads NameDue gap (white_names gap white))))
+
+  type_quoted : IsQuoted (codes "type") (quoted (codes "type"))
+  type_quoted = record { spelled = refl; reads = plain (codes "type") }
+
+  type_known : known_of (codes "type") ≡ TypeName
+  unfolding known_of
+  type_known = refl
+
+  -- an object that begins by its type
+  abbrev typed_told : List ℕ → Word → ℕ → List Event
+  typed_told gap word n =
+      event_at n What.OpenObject ∷ event_at (n + 1) (What.Name TypeName) ∷ event_at (n + 1 + length (named (codes "type") gap)) (What.Text word) ∷ []
+
+  typed_carries : (mode : Mode) (levels : List Level) (place word_at : ℕ) (word : Word) (gap bytes : List ℕ) → may_begin mode ≡ true
+      → length levels + 1 ≤ limits.depth → AllByRecursion IsWhite gap → BeginsTyped place word_at word gap bytes
+      → Carries limits mode levels NameDue (Object ∷ levels) bytes (typed_told gap word)
+  typed_carries mode levels place word_at word gap bytes w deep white h =
+      let all = Object ∷ levels in
+      let name = named (codes "type") gap in
+      let text = h.type_bytes ++ (comma ∷ gap) in
+      let whole = both mode (opened Object) NameDue levels all all (open_brace ∷ []) (name ++ text) (λ n. event_at n What.OpenObject ∷ [])
+      (λ n. event_at n (What.Name (known_of (codes "type"))) ∷ event_at (n + length name) (What.Text (word_of h.content)) ∷ [])
+      (record { moved = λ start offset bytes k room. open_well limits levels start mode offset bytes k w Object (omega (arith, room)) deep })
+      (both (opened Object) ValueDue NameDue all all all name text (λ n. event_at n (What.Name (known_of (codes "type"))) ∷ [])
+      (λ n. event_at n (What.Text (word_of h.content)) ∷ []) (name_carries (opened Object) all (codes "type") gap refl type_quoted white)
+      (text_carries levels h.content h.type_bytes gap deep h.is_quoted white)) in
+      let P : List ℕ → Type 0 = λ xs. Carries limits mode levels NameDue all xs (typed_told gap word) in
+      subst P (sym h.spelled) (rw (type_known, h.known_as) at whole)
+
+  geometry_quoted : IsQuoted (codes "geometry") (quoted (codes "geometry"))
+  geometry_quoted = record { spelled = refl; reads = plain (codes "geometry") }
+
+  geometry_known : known_of (codes "geometry") ≡ Geometry
+  unfolding known_of
+  geometry_known = refl
+
+  coordinates_quoted : IsQuoted (codes "coordinates") (quoted (codes "coordinates"))
+  coordinates_quoted = record { spelled = refl; reads = plain (codes "coordinates") }
+
+  coordinates_known : known_of (codes "coordinates") ≡ Coordinates
+  unfolding known_of
+  coordinates_known = refl
+
+  -- a member `geometry` up to its coordinates
+  abbrev located_told : List ℕ → List ℕ → Word → ℕ → List Event
+  located_told gap object_bytes word n =
+      let bracket = n + length (named (codes "geometry") gap) in
+      event_at n (What.Name Geometry) ∷ (typed_told gap word bracket ++ event_at (bracket + length object_bytes) (What.Name Coordinates) ∷ [])
+
+  located_carries : (mode : Mode) (levels : List Level) (bracket word_at : ℕ) (word : Word) (gap object_bytes : List ℕ) → names mode ≡ true
+      → length levels + 1 ≤ limits.depth → AllByRecursion IsWhite gap → BeginsTyped bracket word_at word gap object_bytes
+      → Carries limits mode levels ValueDue (Object ∷ levels)
+      (named (codes "geometry") gap ++ (object_bytes ++ named (codes "coordinates") gap)) (located_told gap object_bytes word)
+  located_carries mode levels bracket word_at word gap object_bytes w deep white h =
+      let all = Object ∷ levels in
+      let first = named (codes "geometry") gap in
+      let last = named (codes "coordinates") gap in
+      let whole = both mode ValueDue ValueDue levels levels all first (object_bytes ++ last) (λ n. event_at n (What.Name (known_of (codes "geometry"))) ∷ [])
+      (λ n. typed_told gap word n ++ event_at (n + length object_bytes) (What.Name (known_of (codes "coordinates"))) ∷ [])
+      (name_carries mode levels (codes "geometry") gap w geometry_quoted white)
+      (both ValueDue NameDue ValueDue levels all all object_bytes last (typed_told gap word)
+      (λ n. event_at n (What.Name (known_of (codes "coordinates"))) ∷ [])
+      (typed_carries ValueDue levels bracket word_at word gap object_bytes refl deep white h)
+      (name_carries NameDue all (codes "coordinates") gap refl coordinates_quoted white)) in
+      rw (geometry_known, coordinates_known) at whole
+
+  -- the end of an object in an object, with the end of that and the comma after it, and an object that begins by its type
+  close_carries : (levels : List Level) → Carries limits ValueDone (Object ∷ levels) ValueDone levels (close_brace ∷ []) (λ n. event_at n What.CloseObject ∷ [])
+  close_carries levels = record {
+    moved = λ start offset bytes k room.
+        done_close limits (Object ∷ levels) start offset bytes close_brace k (omega (arith, room)) Object
+        (rw (class_is close_class close_brace refl (λ e. cc)) refl);
+  }
+
+  next_carries : (around : List Level) (word_at : ℕ) (word : Word) (gap bytes : List ℕ) → length around + 2 ≤ limits.depth → AllByRecursion IsWhite gap
+      → BeginsTyped 0 word_at word gap bytes
+      → Carries limits ValueDone (Object ∷ Object ∷ Array ∷ around) NameDue (Object ∷ Array ∷ around) (close_brace ∷ close_brace ∷ comma ∷ bytes)
+      (λ n. event_at n What.CloseObject ∷ event_at (n + 1) What.CloseObject ∷ typed_told gap word (n + 1 + 1 + 1))
+  next_carries around word_at word gap bytes deep white h =
+      let first = Object ∷ Object ∷ Array ∷ around in
+      let second = Object ∷ Array ∷ around in
+      let third = Array ∷ around in
+      both ValueDone ValueDone NameDue first second second (close_brace ∷ []) (close_brace ∷ comma ∷ bytes) (λ n. event_at n What.CloseObject ∷ [])
+      (λ n. event_at n What.CloseObject ∷ typed_told gap word (n + 1 + 1)) (close_carries second)
+      (both ValueDone ValueDone NameDue second third second (close_brace ∷ []) (comma ∷ bytes) (λ n. event_at n What.CloseObject ∷ [])
+      (λ n. typed_told gap word (n + 1)) (close_carries third)
+      (both ValueDone ValueDue NameDue third third second (comma ∷ []) bytes (λ n. []) (typed_told gap word)
+      (record {
+        moved = λ start offset bytes k room.
+            done_go limits third start offset bytes comma k (omega (arith, room)) ValueDue Ending.Item (rw (class_is comma_class comma refl (λ e. cc)) refl);
+      })
+      (typed_carries ValueDue third 0 word_at word gap bytes refl (omega (arith, deep)) white h)))
+
+-- ---- from reader to reader
+
+begins_of : (mode : Mode) → awaits mode ≡ true → may_begin mode ≡ true
+begins_of ValueDue e = refl
+begins_of ArrayOpened e = refl
+begins_of _ e = cc
+
+pub typed_taken : {before after : List Event → Type 0} (old new : Reader) (piece : List ℕ) (count word_at : ℕ) (word : Word) → old.fault ≡ None
+    → awaits old.mode ≡ true → old.offset + length piece ≤ old.limits.bytes → count ≤ length piece → length (levels_in old.levels) < old.limits.depth
+    → IsTyped piece count word_at word → Lands count NameDue (Object ∷ levels_in old.levels) old new
+    → ((events : List Event) → before events → after (events ++ (event_at old.offset What.OpenObject ∷ event_at (old.offset + 1) (What.Name TypeName)
+    ∷ event_at (old.offset + word_at) (What.Text word) ∷ [])))
+    → FeedsAll before after old new (take count piece)
+typed_taken {before} {after} old new piece count word_at word live due room w deep h p heard =
+    let levels = levels_in old.levels in
+    let long : length (take count piece) ≡ count = length-take-le count piece w in
+    let carries =
+    typed_carries old.limits old.mode levels 0 word_at word h.gap (take count piece) (begins_of old.mode due) (omega (arith, deep)) h.white h.begins in
+    let e : old.offset + word_at ≡ old.offset + 1 + length (named (codes "type") h.gap) = omega (arith, h.begins.word_place) in
+    let P : ℕ → Type 0 = λ n. Lands n NameDue (Object ∷ levels) old new in
+    let Q : ℕ → Type 0 = λ n. (events : List Event) → before events
+    → after (events ++ (event_at old.offset What.OpenObject ∷ event_at (old.offset + 1) (What.Name TypeName) ∷ event_at n (What.Text word) ∷ [])) in
+    lands_feeds {before = before} {after = after} old new (take count piece) NameDue (Object ∷ levels) (typed_told old.limits h.gap word old.offset) live
+    (subst P (sym long) p) refl (λ bytes k. carries.moved old.start old.offset bytes k (omega (arith, long, room, w))) (subst Q e heard)
+
+pub located_taken : {before after : List Event → Type 0} (old new : Reader) (piece : List ℕ) (count bracket word_at coordinates : ℕ) (word : Word)
+    → old.fault ≡ None → names old.mode ≡ true → old.offset + length piece ≤ old.limits.bytes → count ≤ length piece
+    → length (levels_in old.levels) < old.limits.depth → IsLocated piece count bracket word_at coordinates word
+    → Lands count ValueDue (Object ∷ levels_in old.levels) old new
+    → ((events : List Event) → before events → after (events ++ (event_at old.offset (What.Name Geometry)
+    ∷ event_at (old.offset + bracket) What.OpenObject ∷ event_at (old.offset + bracket + 1) (What.Name TypeName)
+    ∷ event_at (old.offset + word_at) (What.Text word) ∷ event_at (old.offset + coordinates) (What.Name Coordinates) ∷ [])))
+    → FeedsAll before after old new (take count piece)
+located_taken {before} {after} old new piece count bracket word_at coordinates word live due room w deep h p heard =
+    let levels = levels_in old.levels in
+    let first = named (codes "geometry") h.gap in
+    let long : length (take count piece) ≡ count = length-take-le count piece w in
+    let carries = located_carries old.limits old.mode levels bracket word_at word h.gap h.object_bytes due (omega (arith, deep)) h.white h.begins in
+    let C : List ℕ → Type 0 =
+    λ xs. Carries old.limits old.mode levels ValueDue (Object ∷ levels) xs (located_told old.limits h.gap h.object_bytes word) in
+    let whole : C (take count piece) = subst C (sym h.spelled) carries in
+    let e : old.offset + bracket ≡ old.offset + length first = omega (arith, h.bracket_place) in
+    let f : old.offset + word_at ≡ old.offset + length first + 1 + length (named (codes "type") h.gap) =
+    omega (arith, h.bracket_place, h.begins.word_place) in
+    let g : old.offset + coordinates ≡ old.offset + length first + length h.object_bytes = omega (arith, h.bracket_place, h.coordinates_place) in
+    let P : ℕ → Type 0 = λ n. Lands n ValueDue (Object ∷ levels) old new in
+    let told : ℕ → ℕ → ℕ → List Event =
+    λ m n k. event_at old.offset (What.Name Geometry) ∷ event_at m What.OpenObject ∷ event_at (m + 1) (What.Name TypeName) ∷ event_at n (What.Text word)
+    ∷ event_at k (What.Name Coordinates) ∷ [] in
+    let same : told (old.offset + bracket) (old.offset + word_at) (old.offset + coordinates) ≡ located_told old.limits h.gap h.object_bytes word old.offset =
+    rw (e, f, g) refl in
+    let Q : List Event → Type 0 = λ es. (events : List Event) → before events → after (events ++ es) in
+    lands_feeds {before = before} {after = after} old new (take count piece) ValueDue (Object ∷ levels)
+    (located_told old.limits h.gap h.object_bytes word old.offset) live
+    (subst P (sym long) p) refl (λ bytes k. whole.moved old.start old.offset bytes k (omega (arith, long, room, w))) (subst Q same heard)
+
+pub next_taken : {before after : List Event → Type 0} (old new : Reader) (piece : List ℕ) (count word_at : ℕ) (word : Word) (around : List Level)
+    → old.fault ≡ None → old.mode ≡ ValueDone → old.offset + length piece ≤ old.limits.bytes → 3 + count ≤ length piece
+    → take 3 piece ≡ close_brace ∷ close_brace ∷ comma ∷ [] → levels_in old.levels ≡ Object ∷ Object ∷ Array ∷ around
+    → IsTyped (drop 3 piece) count word_at word → Lands (3 + count) NameDue (Object ∷ Array ∷ around) old new
+    → ((events : List Event) → before events → after (events ++ (event_at old.offset What.CloseObject ∷ event_at (old.offset + 1) What.CloseObject
+    ∷ event_at (old.offset + 3) What.OpenObject ∷ event_at (old.offset + 3 + 1) (What.Name TypeName) ∷ event_at (old.offset + 3 + word_at) (What.Text word)
+    ∷ [])))
+    → FeedsAll before after old new (take (3 + count) piece)
+next_taken {before} {after} old new piece count word_at word around live done room w ends levels h p heard =
+    let given = take count (drop 3 piece) in
+    let all = close_brace ∷ close_brace ∷ comma ∷ given in
+    let same : take (3 + count) piece ≡ all = take-add 3 count piece ∙ ap (λ xs. xs ++ given) ends in
+    let long : length (take (3 + count) piece) ≡ 3 + count = length-take-le (3 + count) piece w in
+    let deep : length around + 2 ≤ old.limits.depth = omega (arith, old.nested, ap length levels) in
+    let carries = next_carries old.limits around word_at word h.gap given deep h.white h.begins in
+    let e : old.offset + 3 ≡ old.offset + 1 + 1 + 1 = omega arith in
+    let f : old.offset + 3 + word_at ≡ old.offset + 1 + 1 + 1 + 1 + length (named (codes "type") h.gap) = omega (arith, h.begins.word_place) in
+    let told : ℕ → ℕ → List Event =
+    λ m n. event_at old.offset What.CloseObject ∷ event_at (old.offset + 1) What.CloseObject ∷ event_at m What.OpenObject
+    ∷ event_at (m + 1) (What.Name TypeName) ∷ event_at n (What.Text word) ∷ [] in
+    let all_told : List Event =
+    event_at old.offset What.CloseObject ∷ event_at (old.offset + 1) What.CloseObject ∷ typed_told old.limits h.gap word (old.offset + 1 + 1 + 1) in
+    let alike : told (old.offset + 3) (old.offset + 3 + word_at) ≡ all_told = rw (f, e) refl in
+    let P : ℕ → Type 0 = λ n. Lands n NameDue (Object ∷ Array ∷ around) old new in
+    let Q : List Event → Type 0 = λ es. (events : List Event) → before events → after (events ++ es) in
+    let S : List ℕ → Type 0 = λ xs. FeedsAll before after old new xs in
+    let n : length all ≡ 3 + count = ap length (sym same) ∙ long in
+    let from : (bytes : List ℕ) → StandsWell old.limits old.mode (levels_in old.levels) old.start old.offset bytes
+    → StandsWell old.limits ValueDone (Object ∷ Object ∷ Array ∷ around) old.start old.offset bytes =
+    λ bytes k. (let M : Mode → Type 0 = λ m. StandsWell old.limits m (Object ∷ Object ∷ Array ∷ around) old.start old.offset bytes in
+    let L : List Level → Type 0 = λ ls. StandsWell old.limits old.mode ls old.start old.offset bytes in
+    subst M done (subst L levels k)) in
+    subst S (sym same)
+    (lands_feeds {before = before} {after = after} old new all NameDue (Object ∷ Array ∷ around) all_told live (subst P (sym n) p) refl
+    (λ bytes k. carries.moved old.start old.offset bytes (from bytes k) (omega (arith, n, room, w))) (subst Q alike heard))

@@ -1,0 +1,25 @@
+-- The beginning of a feature, by its bytes, with spaces.
+use Rattle.std.proofs.Common.{inl, [], ◌∷◌, codes, refl}
+use Rattle.gj_json.specs.Bytes.{space}
+use Rattle.gj_json.specs.Names.{word_of}
+use Rattle.gj_json.specs.Internal.WholeHeads.{IsTyped}
+use Rattle.gj_json.specs.declared.names.Word.TheVariants.{Feature}
+use Rattle.gj_json.proofs.Grammar.UsualTokens.{by_first, plain}
+use Rattle.gj_json.proofs.heads.spaced_typed.Goals as goal
+
+pub returns-then-eq-clause-usual : goal.returns-then-eq-clause-usual
+unfolding word_of
+returns-then-eq-clause-usual c = λ some.
+    by_first (λ piece. IsTyped piece 20 9 Feature) 20 c.args.piece.now c.as_slice.result.now
+    (codes "{\"type\": \"Feature\", ") c.if-eq.ensures c.as_slice.ensures (record {
+      gap = space ∷ [];
+      white = (inl refl, tt);
+      begins = record {
+        content = codes "Feature";
+        type_bytes = codes "\"Feature\"";
+        is_quoted = record { spelled = refl; reads = plain (codes "Feature") };
+        known_as = refl;
+        spelled = refl;
+        word_place = refl;
+      };
+    })

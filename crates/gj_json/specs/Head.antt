@@ -1,0 +1,24 @@
+-- The beginnings of objects that are told at once: the events that each stands for.
+use Rattle.std.specs.Prelude.{◌+◌, List, [], ◌∷◌, ◌++◌}
+use Rattle.gj_json.specs.declared.event.Event.{Event}
+use Rattle.gj_json.specs.declared.event.What.{What}
+use Rattle.gj_json.specs.declared.head.Head.{Head}
+use Rattle.gj_json.specs.declared.head.Located.{Located}
+use Rattle.gj_json.specs.declared.head.Typed.{Typed}
+use Rattle.gj_json.specs.declared.names.Known.TheVariants.{TypeName, Geometry, Coordinates}
+
+-- the bracket, the name `type` right after it, and the type
+abbrev pub typed_events : Typed → List Event
+typed_events typed =
+    record { place = typed.place; what = What.OpenObject } ∷ record { place = typed.place + 1; what = What.Name TypeName }
+    ∷ record { place = typed.word_at; what = What.Text typed.word } ∷ []
+
+-- the name `geometry`, the beginning of its object, and the name `coordinates`
+abbrev pub located_events : Located → List Event
+located_events located =
+    record { place = located.place; what = What.Name Geometry }
+    ∷ (typed_events located.typed ++ record { place = located.coordinates; what = What.Name Coordinates } ∷ [])
+
+abbrev pub head_events : Head → List Event
+head_events (Head.Object typed) = typed_events typed
+head_events (Head.Geometry located) = located_events located

@@ -1,0 +1,40 @@
+-- The beginnings of objects that are told at once, as they are read.
+use Rattle.std.specs.Prelude.{◌≡◌, ℕ, ◌+◌, List, [], ◌∷◌, ◌++◌, codes, length, take}
+use Rattle.std.specs.List.{AllByRecursion}
+use Rattle.gj_json.specs.Bytes.{IsWhite, open_brace, comma, colon, quote}
+use Rattle.gj_json.specs.declared.names.Word.{Word}
+use Rattle.gj_json.specs.Names.{word_of}
+use Rattle.gj_json.specs.Internal.WholeTokens.{IsQuoted}
+
+abbrev pub quoted : List ℕ → List ℕ
+quoted content = quote ∷ (content ++ quote ∷ [])
+
+-- a name, its colon, and what white space comes after it
+abbrev pub named : List ℕ → List ℕ → List ℕ
+named name gap = quoted name ++ (colon ∷ gap)
+
+-- an object begins at a place by its type, which stands at another: the white space after the colon and that after the comma
+-- are alike
+pub record BeginsTyped (place word_at : ℕ) (word : Word) (gap bytes : List ℕ) : Type 0 where
+  pub content : List ℕ
+  pub type_bytes : List ℕ
+  pub is_quoted : IsQuoted content type_bytes
+  pub known_as : word_of content ≡ word
+  pub spelled : bytes ≡ open_brace ∷ (named (codes "type") gap ++ (type_bytes ++ (comma ∷ gap)))
+  pub word_place : word_at ≡ place + 1 + length (named (codes "type") gap)
+
+-- a piece starts with an object that begins so
+pub record IsTyped (piece : List ℕ) (count word_at : ℕ) (word : Word) : Type 0 where
+  pub gap : List ℕ
+  pub white : AllByRecursion IsWhite gap
+  pub begins : BeginsTyped 0 word_at word gap (take count piece)
+
+-- a piece starts with a member `geometry` that begins so and goes on by its coordinates
+pub record IsLocated (piece : List ℕ) (count bracket word_at coordinates : ℕ) (word : Word) : Type 0 where
+  pub gap : List ℕ
+  pub white : AllByRecursion IsWhite gap
+  pub object_bytes : List ℕ
+  pub begins : BeginsTyped bracket word_at word gap object_bytes
+  pub spelled : take count piece ≡ named (codes "geometry") gap ++ (object_bytes ++ named (codes "coordinates") gap)
+  pub bracket_place : bracket ≡ length (named (codes "geometry") gap)
+  pub coordinates_place : coordinates ≡ bracket + length object_bytes

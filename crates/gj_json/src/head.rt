@@ -1,0 +1,35 @@
+//! The beginnings of features and geometries as most writers put them, which are told at once.
+
+ghost use Rattle.std.specs.Prelude.{◌<◌};
+
+use crate::names::Word;
+
+/// The beginning of an object by its type, as `{"type":"Feature",`. The name stands right after the bracket.
+#[derive(Clone, Copy)]
+pub struct Typed {
+    /// The place of `{`, as bytes from the start of the text.
+    pub place: u64,
+    /// The place of the type.
+    pub word_at: u64,
+    pub word: Word,
+    ghost on: { place < word_at },
+}
+
+/// The beginning of a member `geometry` up to its coordinates, as `"geometry":{"type":"Point","coordinates":`.
+#[derive(Clone, Copy)]
+pub struct Located {
+    /// The place of the name `geometry`.
+    pub place: u64,
+    pub typed: Typed,
+    /// The place of the name `coordinates`.
+    pub coordinates: u64,
+}
+
+/// A beginning that is told at once.
+#[derive(Clone, Copy)]
+pub enum Head {
+    /// Of an object.
+    Object(Typed),
+    /// Of a member `geometry`.
+    Geometry(Located),
+}

@@ -1,0 +1,203 @@
+//! The beginnings of features and geometries as most writers put them, each told from others by a comparison of words.
+
+ghost use Rattle.std.specs.Prelude.{◌≡◌, ◌+◌, ◌<◌, ◌≤◌, ◌∷◌, [], length, take, drop};
+ghost use Rattle.gj_json.specs.Bytes.{close_brace, comma};
+ghost use Rattle.gj_json.specs.Internal.WholeHeads.{IsTyped, IsLocated};
+ghost use Rattle.gj_json.specs.declared.heads.TheConstants.{ROOM};
+
+use crate::names::Word;
+use crate::usual::usual_text;
+
+/// A shorter piece is not looked at: it may have no room for each of them.
+const ROOM: usize = 50;
+
+/// The beginning of an object by its type: how many bytes it has, or 0 where there is none, and where the type stands.
+#[derive(Clone, Copy)]
+pub struct UsualTyped {
+    pub count: usize,
+    pub word_at: usize,
+    pub word: Word,
+}
+
+/// The beginning of a member `geometry`: how many bytes it has up to its coordinates, or 0 where there is none, and where
+/// the bracket, the type and the second name stand.
+#[derive(Clone, Copy)]
+pub struct UsualLocated {
+    pub count: usize,
+    pub bracket: usize,
+    pub word_at: usize,
+    pub word: Word,
+    pub coordinates: usize,
+}
+
+const NOT_TYPED: UsualTyped = UsualTyped {
+    count: 0,
+    word_at: 0,
+    word: Word::Other,
+};
+
+const NOT_LOCATED: UsualLocated = UsualLocated {
+    count: 0,
+    bracket: 0,
+    word_at: 0,
+    word: Word::Other,
+    coordinates: 0,
+};
+
+/// The beginning of an object of a usual type that the piece starts with, with no white space in it.
+#[inline(always)]
+fn dense_typed(piece: &[u8]) -> UsualTyped
+    requires room { ROOM ≤ length piece.now }
+    ensures within { result.count ≤ length piece.now }
+    ensures on { 0 < result.count → 0 < result.word_at }
+    ensures few { result.word_at ≤ result.count }
+    ensures usual { 0 < result.count → IsTyped piece.now result.count result.word_at result.word }
+{
+    if &piece[..8] == b"{\"type\":".as_slice() {
+        let text = usual_text(&piece[8..]);
+        if text.count == 0 {
+            return NOT_TYPED;
+        }
+        let at = 8 + text.count;
+        if piece[at] == b',' {
+            return UsualTyped {
+                count: at + 1,
+                word_at: 8,
+                word: text.word,
+            };
+        }
+    }
+    NOT_TYPED
+}
+
+/// The same of a feature, with a space after each colon and comma.
+#[inline(always)]
+fn spaced_typed(piece: &[u8]) -> UsualTyped
+    requires room { ROOM ≤ length piece.now }
+    ensures within { result.count ≤ length piece.now }
+    ensures on { 0 < result.count → 0 < result.word_at }
+    ensures few { result.word_at ≤ result.count }
+    ensures usual { 0 < result.count → IsTyped piece.now result.count result.word_at result.word }
+{
+    if &piece[..20] == b"{\"type\": \"Feature\", ".as_slice() {
+        return UsualTyped {
+            count: 20,
+            word_at: 9,
+            word: Word::Feature,
+        };
+    }
+    NOT_TYPED
+}
+
+/// The same with either.
+#[inline(always)]
+pub fn usual_typed(piece: &[u8]) -> UsualTyped
+    ensures within { result.count ≤ length piece.now }
+    ensures on { 0 < result.count → 0 < result.word_at }
+    ensures few { result.word_at ≤ result.count }
+    ensures usual { 0 < result.count → IsTyped piece.now result.count result.word_at result.word }
+{
+    if piece.len() < ROOM {
+        return NOT_TYPED;
+    }
+    let dense = dense_typed(piece);
+    if dense.count > 0 {
+        return dense;
+    }
+    spaced_typed(piece)
+}
+
+/// The beginning of the next feature, after the two brackets and the comma that the piece starts with.
+#[inline(always)]
+pub fn next_typed(piece: &[u8]) -> UsualTyped
+    ensures within { 0 < result.count → 3 + result.count ≤ length piece.now }
+    ensures few { result.word_at ≤ result.count }
+    ensures on { 0 < result.count → 0 < result.word_at }
+    ensures ends { 0 < result.count → take 3 piece.now ≡ close_brace ∷ close_brace ∷ comma ∷ [] }
+    ensures usual { 0 < result.count → IsTyped (drop 3 piece.now) result.count result.word_at result.word }
+{
+    if piece.len() < ROOM {
+        return NOT_TYPED;
+    }
+    if &piece[..3] == b"}},".as_slice() {
+        return usual_typed(&piece[3..]);
+    }
+    NOT_TYPED
+}
+
+/// The beginning of a member `geometry` of a usual type that the piece starts with, with no white space in it.
+#[inline(always)]
+fn dense_located(piece: &[u8]) -> UsualLocated
+    requires room { ROOM ≤ length piece.now }
+    ensures within { result.count ≤ length piece.now }
+    ensures on { 0 < result.count → result.bracket < result.word_at }
+    ensures word_few { result.word_at ≤ result.count }
+    ensures few { result.coordinates ≤ result.count }
+    ensures usual { 0 < result.count → IsLocated piece.now result.count result.bracket result.word_at result.coordinates result.word }
+{
+    if &piece[..19] == b"\"geometry\":{\"type\":".as_slice() {
+        let text = usual_text(&piece[19..]);
+        if text.count == 0 {
+            return NOT_LOCATED;
+        }
+        let at = 19 + text.count;
+        if &piece[at..at + 15] == b",\"coordinates\":".as_slice() {
+            return UsualLocated {
+                count: at + 15,
+                bracket: 11,
+                word_at: 19,
+                word: text.word,
+                coordinates: at + 1,
+            };
+        }
+    }
+    NOT_LOCATED
+}
+
+/// The same with a space after each colon and comma.
+#[inline(always)]
+fn spaced_located(piece: &[u8]) -> UsualLocated
+    requires room { ROOM ≤ length piece.now }
+    ensures within { result.count ≤ length piece.now }
+    ensures on { 0 < result.count → result.bracket < result.word_at }
+    ensures word_few { result.word_at ≤ result.count }
+    ensures few { result.coordinates ≤ result.count }
+    ensures usual { 0 < result.count → IsLocated piece.now result.count result.bracket result.word_at result.coordinates result.word }
+{
+    if &piece[..21] == b"\"geometry\": {\"type\": ".as_slice() {
+        let text = usual_text(&piece[21..]);
+        if text.count == 0 {
+            return NOT_LOCATED;
+        }
+        let at = 21 + text.count;
+        if &piece[at..at + 17] == b", \"coordinates\": ".as_slice() {
+            return UsualLocated {
+                count: at + 17,
+                bracket: 12,
+                word_at: 21,
+                word: text.word,
+                coordinates: at + 2,
+            };
+        }
+    }
+    NOT_LOCATED
+}
+
+/// The same with either.
+#[inline(always)]
+pub fn usual_located(piece: &[u8]) -> UsualLocated
+    ensures within { result.count ≤ length piece.now }
+    ensures on { 0 < result.count → result.bracket < result.word_at }
+    ensures word_few { result.word_at ≤ result.count }
+    ensures few { result.coordinates ≤ result.count }
+    ensures usual { 0 < result.count → IsLocated piece.now result.count result.bracket result.word_at result.coordinates result.word }
+{
+    if piece.len() < ROOM {
+        return NOT_LOCATED;
+    }
+    let dense = dense_located(piece);
+    if dense.count > 0 {
+        return dense;
+    }
+    spaced_located(piece)
+}

@@ -1,0 +1,13 @@
+-- The events, one after another.
+use Rattle.std.proofs.Common.{◌≡◌, ◌∷◌, ◌++◌, [], List, subst, append_assoc}
+use Rattle.gj_json.specs.declared.event.Event.{Event}
+use Rattle.gj_rules.specs.Internal.FeatureSteps.{Stand}
+use Rattle.gj_rules.proofs.feature_rules.FeatureRules.tell_each_typed.Goals as goal
+
+three : (xs : List Event) (a b c : Event) → ((xs ++ a ∷ []) ++ b ∷ []) ++ c ∷ [] ≡ xs ++ (a ∷ b ∷ c ∷ [])
+three xs a b c = simp append_assoc
+
+pub returns : goal.returns
+returns g c = λ events h.
+    let H : List Event → Type 0 = λ es. Stand (g.S.FeatureSink.told c.tell-3.new.self.sink) c.tell-3.new.self.rules c.tell-3.new.self.count es in
+    subst H (three events _ _ _) (c.tell-3.ensures _ (c.tell-2.ensures _ (c.tell.ensures events h)))

@@ -1,0 +1,15 @@
+use Rattle.std.proofs.Common.{◌≡◌, false, refl, ◌∙◌}
+use Rattle.gj_rules.specs.Internal.EventSteps.{is_feeding}
+use Rattle.gj_rules.proofs.Objects.RestingSummaries.{rests, opens_feature}
+use Rattle.gj_rules.proofs.Texts.OneEventMore.{told_on, steps_taken}
+use Rattle.gj_rules.proofs.rules.FramedRules.open_feature.Goals as goal
+
+pub returns : goal.returns
+returns g c = λ events h.
+    let old = c.args.self.now in
+    let new = c.push_frame.new.self in
+    let none : is_feeding old.skipped old.mode ≡ false = rw (c.requires.skipped, c.requires.mode) refl in
+    told_on old new _ events
+    (steps_taken old new _ none
+    (λ few room. c.push_frame.ensures.core (room c.requires.skipped) ∙ opens_feature old c.args.place c.requires.skipped c.requires.mode)
+    (rests new c.push_frame.ensures.rests)) h

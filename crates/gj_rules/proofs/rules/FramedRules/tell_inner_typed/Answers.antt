@@ -1,0 +1,12 @@
+use Rattle.std.proofs.Common.{◌≡◌, ◌∷◌, ◌++◌, [], List, subst, append_assoc}
+use Rattle.gj_json.specs.declared.event.Event.{Event}
+use Rattle.gj_rules.specs.Rules.{StandsFor}
+use Rattle.gj_rules.proofs.rules.FramedRules.tell_inner_typed.Goals as goal
+
+three : (xs : List Event) (a b c : Event) → ((xs ++ a ∷ []) ++ b ∷ []) ++ c ∷ [] ≡ xs ++ (a ∷ b ∷ c ∷ [])
+three xs a b c = simp append_assoc
+
+pub returns : goal.returns
+returns g c = λ events h.
+    let H : List Event → Type 0 = λ es. StandsFor c.tell_text.new.self es in
+    subst H (three events _ _ _) (c.tell_text.ensures _ (c.tell_name.ensures _ (c.tell_open_object.ensures events h)))

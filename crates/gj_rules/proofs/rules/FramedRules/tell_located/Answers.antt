@@ -1,0 +1,22 @@
+-- The name, the beginning of the object, and the name in it.
+use Rattle.std.proofs.Common.{◌≡◌, ◌∷◌, ◌++◌, [], List, subst, append_assoc}
+use Rattle.gj_json.specs.declared.event.Event.{Event}
+use Rattle.gj_rules.specs.Rules.{StandsFor}
+use Rattle.gj_rules.proofs.rules.FramedRules.tell_located.Goals as goal
+use Rattle.gj_rules.proofs.rules.FramedRules.tell_located.Goals.{then-is_at_geometry, else-is_at_geometry}
+
+by_parts : (xs : List Event) (a b c d e : Event) → (((xs ++ a ∷ []) ++ b ∷ []) ++ (c ∷ d ∷ [])) ++ e ∷ [] ≡ xs ++ (a ∷ b ∷ c ∷ d ∷ e ∷ [])
+by_parts xs a b c d e = simp append_assoc
+
+by_object : (xs : List Event) (a b c d e : Event) → ((xs ++ a ∷ []) ++ (b ∷ c ∷ d ∷ [])) ++ e ∷ [] ≡ xs ++ (a ∷ b ∷ c ∷ d ∷ e ∷ [])
+by_object xs a b c d e = simp append_assoc
+
+pub returns : goal.returns
+returns g c = λ events h.
+    let H : List Event → Type 0 = λ es. StandsFor c.tell_member-2.new.self es in
+    let named = c.tell_member.ensures events h in
+    elim c.if-is_at_geometry.branch [
+      | then-is_at_geometry w ↦ subst H (by_parts events _ _ _ _ _)
+          (c.tell_member-2.ensures _ (rw (w.self-is) (w.tell_type.ensures _ (w.open_geometry.ensures _ named))))
+      | else-is_at_geometry w ↦ subst H (by_object events _ _ _ _ _) (c.tell_member-2.ensures _ (rw (w.self-is) (w.tell_inner_typed.ensures _ named)))
+    ]

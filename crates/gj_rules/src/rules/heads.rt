@@ -1,0 +1,114 @@
+//! Beginnings of objects that are told at once.
+
+ghost use Rattle.std.specs.Prelude.{◌≡◌, ◌+◌, ◌++◌, ◌∷◌, [], List, IsTrue};
+ghost use Rattle.gj_json.specs.declared.event.Event.{Event};
+ghost use Rattle.gj_json.specs.declared.event.What.TheVariants as W;
+ghost use Rattle.gj_json.specs.Head.{typed_events, located_events};
+
+use super::FramedRules;
+use crate::mode::Mode;
+use crate::role::Role;
+use gj_json::{Known, Located, Typed, What};
+
+impl<const FRAMES: usize> FramedRules<FRAMES> {
+    ghost use Rattle.gj_rules.specs.Rules.{StandsFor};
+
+    /// Whether an object that opens next is the value of a member `geometry`.
+    #[inline(always)]
+    fn is_at_geometry(&self) -> bool
+        ensures skipped { IsTrue result → self.now.skipped ≡ 0 }
+        ensures mode { IsTrue result → self.now.mode ≡ Mode.Due Known.Geometry }
+    {
+        if self.skipped > 0 {
+            return false;
+        }
+        match self.mode {
+            Mode::Due(Known::Geometry) => true,
+            _ => false,
+        }
+    }
+
+    /// Whether an object that opens next is a feature.
+    #[inline(always)]
+    fn is_at_features(&self) -> bool
+        ensures skipped { IsTrue result → self.now.skipped ≡ 0 }
+        ensures mode { IsTrue result → self.now.mode ≡ Mode.Elements Role.Feature }
+    {
+        if self.skipped > 0 {
+            return false;
+        }
+        match self.mode {
+            Mode::Elements(Role::Feature) => true,
+            _ => false,
+        }
+    }
+
+    /// A geometry opens.
+    #[inline(always)]
+    fn open_geometry(&mut self, place: u64)
+        requires skipped { self.old.skipped ≡ 0 }
+        requires mode { self.old.mode ≡ Mode.Due Known.Geometry }
+        ensures { (events : List Event) → StandsFor self.old events → StandsFor self.new (events ++ record { place = place; what = W.OpenObject } ∷ []) }
+    {
+        self.push_frame(Role::Geometry, place);
+    }
+
+    /// A feature opens.
+    #[inline(always)]
+    fn open_feature(&mut self, place: u64)
+        requires skipped { self.old.skipped ≡ 0 }
+        requires mode { self.old.mode ≡ Mode.Elements Role.Feature }
+        ensures { (events : List Event) → StandsFor self.old events → StandsFor self.new (events ++ record { place = place; what = W.OpenObject } ∷ []) }
+    {
+        self.push_frame(Role::Feature, place);
+    }
+
+    /// The type of the object that has just opened.
+    // Here it is known that a name is due, which spares the looks.
+    #[inline(always)]
+    fn tell_type(&mut self, typed: &Typed)
+        ensures { (events : List Event) → StandsFor self.old events
+            → StandsFor self.new (events ++ record { place = typed.now.place + 1; what = W.Name Known.TypeName }
+            ∷ record { place = typed.now.word_at; what = W.Text typed.now.word } ∷ []) }
+    {
+        self.tell_what(What::Name(Known::TypeName), typed.place + 1);
+        self.tell_what(What::Text(typed.word), typed.word_at);
+    }
+
+    /// The beginning of an object. Mostly it is a feature.
+    #[inline(never)]
+    pub(super) fn tell_typed(&mut self, typed: &Typed)
+        ensures { (events : List Event) → StandsFor self.old events → StandsFor self.new (events ++ typed_events typed.now) }
+    {
+        if self.is_at_features() {
+            self.open_feature(typed.place);
+            self.tell_type(typed);
+        } else {
+            self.tell_inner_typed(typed);
+        }
+    }
+
+    #[inline(never)]
+    fn tell_inner_typed(&mut self, typed: &Typed)
+        ensures { (events : List Event) → StandsFor self.old events → StandsFor self.new (events ++ typed_events typed.now) }
+    {
+        self.tell_open_object(typed.place);
+        self.tell_name(Known::TypeName, typed.place + 1);
+        self.tell_text(typed.word, typed.word_at);
+    }
+
+    /// The beginning of a member `geometry`. Mostly it is the first one of a feature.
+    #[inline(never)]
+    pub(super) fn tell_located(&mut self, located: &Located)
+        ensures { (events : List Event) → StandsFor self.old events → StandsFor self.new (events ++ located_events located.now) }
+    {
+        self.tell_member(Known::Geometry, located.place);
+        if self.is_at_geometry() {
+            self.open_geometry(located.typed.place);
+            self.tell_type(&located.typed);
+        } else {
+            self.tell_inner_typed(&located.typed);
+        }
+        self.tell_member(Known::Coordinates, located.coordinates);
+    }
+}

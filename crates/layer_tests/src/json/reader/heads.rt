@@ -1,0 +1,60 @@
+//! Beginnings of features and geometries that come at once, beside their bytes in turn, in texts and in changed ones.
+
+use super::flats::{expect_same, padded};
+use gj_json::Limits;
+use std::process::Abort;
+
+/// A feature and a geometry without white space, the same with spaces, a name that is twice there, and other orders.
+const TEXTS: [&str; 9] = [
+    "[{\"type\":\"Feature\",\"id\":1},{\"type\":\"Feature\",\"geometry\":{\"type\":\"Point\",\"coordinates\":[1,2]}}]",
+    "[{\"type\": \"Feature\", \"geometry\": {\"type\": \"LineString\", \"coordinates\": [[1, 2], [3, 4]]}}]",
+    "{\"geometry\":{\"type\":\"Polygon\",\"coordinates\":[[]]},\"geometry\":{\"type\":\"Feature\",\"coordinates\":{}}}",
+    "{\"geometry\": {\"type\":\"Point\",\"coordinates\":[1,2]},\"geometry\":{\"type\": \"Point\", \"coordinates\": 0}}",
+    "{\"type\":\"Feature\",\"type\":\"Feature\",\"a\":{\"type\":\"Feature\",\"b\":[{\"type\": \"Feature\", \"c\":1}]}}",
+    "[{\"a\":{\"b\":1}},{\"type\":\"Feature\",\"c\":[{\"d\":{}},{\"type\": \"Feature\", \"e\":2}]}]",
+    "[[{\"a\":{}},{\"type\":\"Feature\",\"b\":{}}],{\"c\":{\"d\":{\"e\":1}},\"type\":\"Feature\"}]",
+    "{\"a\":{\"b\":{\"c\":1}},\"d\":[{\"e\":{\"f\":[]}}, {\"type\":\"Feature\",\"g\":0}]}",
+    "{\"geometry\":{\"type\":\"MultiPoint\",\"coordinates\":[]},\"g\":{\"type\":\"Pointy\",\"coordinates\":[]}}",
+];
+
+/// Each byte changed to each of these.
+fn expect_each(rt: &impl Abort, limits: Limits, text: &str) {
+    for index in 0..text.len() {
+        for byte in b"\"\\,:}] gtFn{" {
+            let mut piece = padded(text.as_bytes());
+            if index < 128 {
+                piece[index] = *byte;
+            }
+            expect_same(rt, limits, &piece, text, index, *byte);
+        }
+    }
+}
+
+#[test]
+fn heads_are_their_bytes_in_turn(rt: HostRuntime) {
+    for text in TEXTS {
+        expect_each(&rt, Limits::usual(), text);
+    }
+}
+
+#[test]
+fn heads_keep_to_the_depth(rt: HostRuntime) {
+    for depth in 1..4 {
+        if let Some(limits) = Limits::new(depth, 1_000) {
+            for text in TEXTS {
+                expect_same(&rt, limits, &padded(text.as_bytes()), text, 0, 0);
+            }
+        }
+    }
+}
+
+/// A head is told where enough bytes come after it in the piece, and else token by token.
+#[test]
+fn heads_keep_to_the_piece(rt: HostRuntime) {
+    for text in TEXTS {
+        let piece = padded(text.as_bytes());
+        for count in 0..piece.len() {
+            expect_same(&rt, Limits::usual(), &piece[..count], text, count, 0);
+        }
+    }
+}

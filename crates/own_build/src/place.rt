@@ -1,0 +1,62 @@
+//! Where the text stands in the bytes of a program.
+ghost use Rattle.std.specs.Prelude.{◌≡◌};
+ghost use Rattle.own_build.specs.BuildPlaces.{IsBuildPlace, IsWithin, is_text};
+
+use memchr::memchr;
+use memchr::memmem::rfind;
+
+/// What stands before the text. It stands among the program's constants too, with another of them after it.
+const MARK: [u8; 14] = *b"geolint-build:";
+
+/// The bytes of a file from one place up to another.
+#[derive(Clone, Copy, Debug, PartialEq, Eq)]
+pub struct BuildPlace {
+    pub start: usize,
+    pub end: usize,
+}
+
+/// Whether these bytes after a mark begin as the text does, which says the commit in its first line.
+// No constant has these two bytes, or it might stand after the mark.
+fn is_text(rest: &[u8]) -> bool
+    ensures { result ≡ is_text rest.now }
+{
+    rest.len() > 1 && rest[0] == b'\n' && rest[1] == b'c'
+}
+
+/// Where the text on a program's build stands in the bytes of its file: after the last mark, up to the next NUL. `None` where
+/// no text follows that mark.
+pub fn build_place(file: &[u8]) -> Option<BuildPlace>
+    ensures place { IsBuildPlace file.now result }
+    ensures within { IsWithin file.now result }
+{
+    let Some(mark) = rfind(file, &MARK) else {
+        return None;
+    };
+    let start = mark + MARK.len();
+    let rest = &file[start..];
+    if !is_text(rest) {
+        return None;
+    }
+    match memchr(0, rest) {
+        Some(count) => Some(BuildPlace {
+            start: start + 1,
+            end: start + count,
+        }),
+        None => None,
+    }
+}
+
+#[cfg(test)]
+mod tests {
+    use super::{BuildPlace, build_place};
+
+    #[test]
+    fn the_text_after_the_last_mark(rt: HostRuntime) {
+        let file = b"geolint-build:%s\0geolint-build:\ncommit: 1\nproved by: 2\n\0more\0";
+        assert_eq!(rt; build_place(file), Some(BuildPlace { start: 32, end: 55 }));
+        assert_eq!(rt; &file[32..55], b"commit: 1\nproved by: 2\n".as_slice());
+        assert_eq!(rt; build_place(b"geolint-build:\ncommit: 1\n"), None);
+        assert_eq!(rt; build_place(b"geolint-build:\ntext\0"), None);
+        assert_eq!(rt; build_place(b""), None);
+    }
+}
