@@ -1,7 +1,5 @@
 use Rattle.std.proofs.Common.{◌≡◌, ◌*◌, ◌/◌, ◌-◌, ◌^◌, ◌∙◌, arith}
 use Rattle.std.proofs.Math.Nat.{div-mul-le_self}
-use Rattle.gj_number.specs.Exact.{cut_magnitude}
-use Rattle.gj_number.specs.Short.{exact_of}
 use Rattle.gj_number.proofs.Shorts.ShortDecimals.{cut_lowered, precise_is, not_precise, unequal_iff, differ_iff}
 use Rattle.gj_number.proofs.short.Short.is_more_than.Goals as goal
 

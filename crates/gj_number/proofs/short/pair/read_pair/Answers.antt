@@ -1,4 +1,4 @@
-use Rattle.std.proofs.Common.{◌≡◌, ◌∙◌, ap, List, ◌+◌, ◌-◌, ◌==◌, ◌^◌, ◌<◌, ◌≤◌, ℕ, get_or, take, drop, length, subst, sym, refl, arith}
+use Rattle.std.proofs.Common.{◌≡◌, ◌∙◌, ap, List, ◌+◌, ◌-◌, ◌==◌, ◌^◌, ◌<◌, ◌≤◌, ℕ, get_or, take, drop, length, subst, sym, arith}
 use mir.Val.{bool_byte}
 use Rattle.gj_number.specs.Bytes.{minus_sign, space, close_bracket}
 use Rattle.gj_number.specs.Short.{StartsUsual}
