@@ -1,6 +1,6 @@
 -- The rest of a piece, as a slice has it.
 use Rattle.std.proofs.Common.{◌≡◌, ℕ, ◌+◌, ◌-◌, ◌≤◌, ◌<◌, List, [], ◌∷◌, ◌++◌, get_or, length, take, drop, take-add, ap, sym, ◌∙◌, arith, append_assoc}
-use Rattle.std.proofs.lemmas.List.{length-drop, take-append-drop, take_more}
+use Rattle.std.proofs.lemmas.List.{length-drop, drop-drop, take-append-drop, take_more}
 use Rattle.std.proofs.Math.Seq.{take-length}
 
 pub take_all_of : (xs : List ℕ) (n : ℕ) → n ≡ length xs → take n xs ≡ xs
@@ -25,3 +25,23 @@ front_and_rest bytes piece at =
 
 pub front_and_byte : (bytes piece : List ℕ) (at : ℕ) → at < length piece → (bytes ++ take at piece) ++ get_or piece at 0 ∷ [] ≡ bytes ++ take (at + 1) piece
 front_and_byte bytes piece at w = append_assoc bytes (take at piece) _ ∙ ap (λ xs. bytes ++ xs) (sym (take_more piece at 0 w))
+
+-- ---- a rest of a piece, and what is left of it after so many bytes
+
+rest_length : (rest : List ℕ) (n : ℕ) → length (take (length rest - n) (drop n rest)) ≡ length rest - n
+rest_length rest n = ap length (rest_of rest n) ∙ length-drop n rest
+
+module _ (piece rest : List ℕ) (n : ℕ) (within : length rest ≤ length piece) (few : n ≤ length rest) where
+  pub left_within : length (take (length rest - n) (drop n rest)) ≤ length piece
+  left_within = omega (arith, rest_length rest n)
+
+  pub left_smaller : 0 < n → length (take (length rest - n) (drop n rest)) < length rest
+  left_smaller some = omega (arith, rest_length rest n)
+
+  pub left_at : length piece - length rest + n ≡ length piece - length (take (length rest - n) (drop n rest))
+  left_at = omega (arith, rest_length rest n)
+
+  pub left_is : rest ≡ drop (length piece - length rest) piece
+      → take (length rest - n) (drop n rest) ≡ drop (length piece - length (take (length rest - n) (drop n rest))) piece
+  left_is e =
+      rest_of rest n ∙ ap (drop n) e ∙ drop-drop n (length piece - length rest) piece ∙ ap (λ k. drop k piece) left_at

@@ -31,7 +31,7 @@ use Rattle.gj_json.specs.Internal.ReaderStep.{Applied, PassesTo, RefusesWith, Is
 use Rattle.gj_json.proofs.Readers.ReadBytes.{pushed, completed, stop, well_viable, well_of, open_of, refuses_on, lasts}
 use Rattle.gj_json.proofs.Events.EventsOfSteps.{emitted_few}
 use Rattle.gj_json.proofs.Pieces.QuietRuns.{quiet_run, digits_run, text_run}
-use Rattle.gj_json.proofs.Pieces.PieceRests.{take_all_of, rest_of}
+use Rattle.gj_json.proofs.Pieces.PieceRests.{take_all_of, rest_of, left_at}
 
 -- ---- what a reader that stands for bytes says of them
 
@@ -397,6 +397,16 @@ pub piece_to : {before middle after : List Event → Type 0} (first next last : 
 piece_to {before} {middle} {after} first next last piece at fault f g =
     let P : List ℕ → Type 0 = λ xs. FeedsTo before after first last xs fault in
     subst P (append-nil (take at piece ++ drop at piece) ∙ take-append-drop at piece) (feeds_to_on first next last (take at piece) (drop at piece) [] fault f g)
+
+-- the same, of a rest of the piece
+pub piece_left : {before middle after : List Event → Type 0} (first next last : Reader) (piece rest : List ℕ) (n : ℕ) → length rest ≤ length piece
+    → rest ≡ drop (length piece - length rest) piece → n ≤ length rest → FeedsAll before middle first next (take (length piece - length rest) piece)
+    → FeedsAll middle after next last (take n rest)
+    → FeedsAll before after first last (take (length piece - length (take (length rest - n) (drop n rest))) piece)
+piece_left {before} {middle} {after} first next last piece rest n within e few f g =
+    let P : List ℕ → Type 0 = λ xs. FeedsAll middle after next last (take n xs) in
+    let Q : ℕ → Type 0 = λ k. FeedsAll before after first last (take k piece) in
+    subst Q (left_at piece rest n within few) (piece_all first next last piece (length piece - length rest) n f (subst P e g))
 
 pub rest_all : {before after : List Event → Type 0} (old new : Reader) (piece : List ℕ) (at n : ℕ)
     → FeedsAll before after old new (take n (take (length piece - at) (drop at piece))) → FeedsAll before after old new (take n (drop at piece))

@@ -110,16 +110,16 @@ impl Reader {
         }
         let in_array = self.is_in_array();
         let mut flat = Flat::blank();
-        let mut at = 0;
-        while at < piece.len() && piece[at] == b'[' {
-            let Some(count) = self.take_flat(&piece[at..], in_array, &mut flat, sink) else {
-                return at;
+        let mut rest = piece;
+        while !rest.is_empty() && rest[0] == b'[' {
+            let Some(count) = self.take_flat(rest, in_array, &mut flat, sink) else {
+                return piece.len() - rest.len();
             };
-            at += count;
+            rest = &rest[count..];
             if !is_due(self.mode) {
-                return at;
+                return piece.len() - rest.len();
             }
         }
-        at
+        piece.len() - rest.len()
     }
 }

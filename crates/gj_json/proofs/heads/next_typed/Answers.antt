@@ -1,5 +1,5 @@
 -- The end of a feature, by its bytes.
-use Rattle.std.proofs.Common.{List, ℕ, take, drop, sym, subst, ◌∙◌}
+use Rattle.std.proofs.Common.{List, ℕ, take, sym, subst, ◌∙◌}
 use Rattle.std.proofs.lemmas.Slice.Eq.{bytes_eq-Decides}
 use Rattle.gj_json.specs.Internal.WholeHeads.{IsTyped}
 use Rattle.gj_json.proofs.Pieces.PieceRests.{rest_of}
