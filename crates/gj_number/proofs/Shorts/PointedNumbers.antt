@@ -4,6 +4,7 @@ use Rattle.std.proofs.Common.{map, take, drop, get_or, leb, All, Fits, refl, sym
 use lib.Lanes.{Each1, mask_l}
 use lib.Count.{count_trailing_zeros}
 use Rattle.std.proofs.lemmas.List.{get_or-drop, drop-append-le, length-append}
+use Rattle.std.proofs.lemmas.Bool.{cases_lt}
 use Rattle.std.proofs.lemmas.List.Sums.{prefix_len-le-length}
 use Rattle.std.proofs.lemmas.Simd.{trailing_mask_l}
 use mir.Val.{bool_byte}
@@ -129,6 +130,26 @@ module _ (piece : List ℕ) (negative : Bool) (n behind : ℕ) (s : StartsSigned
 
     pub usual_one : get_or piece (bool_byte negative) 0 ≡ zero_digit → natural ≡ 1
     usual_one = (natural_allowed piece (bool_byte negative) _ _ (laid piece negative n s u.number) natural is.0).1
+
+-- ---- a point after the first digit
+
+pub one_before_point : (piece : List ℕ) (first natural : ℕ) → natural ≤ length (drop first piece) → All IsDigit (take natural (drop first piece))
+    → get_or piece (first + 1) 0 ≡ decimal_point → natural ≤ 1
+one_before_point piece first natural within digits point = elim (cases_lt 1 natural) [
+  | inl l ↦
+      let there : get_or (drop first piece) 1 0 ≡ get_or piece (first + 1) 0 = get_or-drop first piece 1 0 in
+      let d = digit_at (drop first piece) natural 1 l within digits in
+      let low = d.0 in
+      absurd (omega arith)
+  | inr m ↦ omega arith
+]
+
+pub point_after_one : (piece : List ℕ) (first natural fraction value : ℕ) → SpellsUnsigned (drop first piece) natural fraction (natural + 1 + fraction) value
+    → natural ≡ 1 → get_or piece (first + 1) 0 ≡ decimal_point
+point_after_one piece first natural fraction value k one = elim k.shape [
+  | inl s ↦ (let e = s.1 in absurd (omega arith))
+  | inr s ↦ ap (λ i. get_or piece (first + i) 0) (sym one) ∙ sym (get_or-drop first piece natural 0) ∙ s.1
+]
 
 -- ---- where the second number begins
 

@@ -3,7 +3,7 @@
 //! Most positions are two numbers of a few digits before a point and up to a dozen after it. Such numbers are found by
 //! a few comparisons, and the digits of both make their values together.
 ghost use mir.Val.{bool_byte};
-ghost use Rattle.std.specs.Prelude.{◌≡◌, ◌==◌, ℕ, ◌+◌, ◌^◌, ◌<◌, ◌≤◌, length, get_or, false, IsTrue, IfSome};
+ghost use Rattle.std.specs.Prelude.{◌≡◌, ◌==◌, ℕ, ◌+◌, ◌^◌, ◌<◌, ◌≤◌, length, get_or, IfSome};
 ghost use Rattle.std.specs.List.{fold};
 ghost use Rattle.std.specs.Option.{IsSome};
 ghost use Rattle.std.specs.Simd.Lanes.{Each1};
@@ -113,17 +113,6 @@ pub fn read_last_pair(piece: &[u8], first: &mut Short, second: &mut Short) -> Op
     Some(pair)
 }
 
-/// Whether more than one digit stands before a point.
-///
-/// It is a function of its own, so that it is asked after a first zero alone: the byte is compared first.
-#[inline(never)]
-fn is_several(natural: usize) -> bool
-    ensures several { IsTrue result → 1 < natural }
-    ensures one { result ≡ false → natural ≤ 1 }
-{
-    natural > 1
-}
-
 /// The number that the piece starts with, where one to three digits stand before its point, it ends within sixteen bytes
 /// after its sign, and this byte stands after it.
 #[inline(always)]
@@ -144,7 +133,8 @@ fn digits_before(piece: &[u8], negative: bool, after: u8) -> Option<Digits>
     let Some(found) = pointed_prefix(&piece[first..]) else {
         return None;
     };
-    if piece[first] == b'0' && is_several(found.natural) {
+    // The byte after a zero is compared, and not the count, so that mostly the zero alone is.
+    if piece[first] == b'0' && piece[first + 1] != b'.' {
         return None;
     }
     let length = first + (found.natural + 1 + found.fraction);

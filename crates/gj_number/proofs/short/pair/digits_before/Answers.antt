@@ -7,9 +7,9 @@ use Rattle.gj_number.specs.Internal.DigitLanes.{with_value}
 use Rattle.gj_number.specs.Internal.DigitRuns.{SpellsUnsigned}
 use Rattle.gj_number.proofs.Shorts.PiecePrefixes.{rest_is}
 use Rattle.gj_number.proofs.Shorts.NumberPrefixes.{sign_at, sign_length, one_of, short_small, short_plain}
-use Rattle.gj_number.proofs.Shorts.PointedNumbers.{slice_pointed, usual_one, usual_length}
+use Rattle.gj_number.proofs.Shorts.PointedNumbers.{slice_pointed, usual_one, usual_length, one_before_point, point_after_one}
 use Rattle.gj_number.proofs.short.pair.digits_before.Goals as goal
-use Rattle.gj_number.proofs.short.pair.digits_before.Goals.{else-piece-first-eq48-via-then-piece-first-eq48+else-is_several}
+use Rattle.gj_number.proofs.short.pair.digits_before.Goals.{else-piece-first-eq48-via-then-piece-first-eq48+else-piece-first-ne46}
 use Rattle.gj_number.proofs.short.pair.digits_before.Goals.{else-piece-first-eq48-via-else-piece-first-eq48}
 
 pub returns-clause-small : goal.returns-clause-small
@@ -23,7 +23,12 @@ returns-clause-small c =
     let value = fold with_value 0 found.digits in
     let P : List ℕ → Type 0 = λ xs. SpellsUnsigned xs found.natural found.fraction bytes value in
     let lead : get_or piece first 0 ≡ zero_digit → found.natural ≡ 1 = λ z. elim c.else-piece-first-eq48.branch [
-      | else-piece-first-eq48-via-then-piece-first-eq48+else-is_several w ↦ (let some = c.in-Some.ensures.some in let h = w.is_several.ensures.one w.if-is_several.false in omega arith)
+      | else-piece-first-eq48-via-then-piece-first-eq48+else-piece-first-ne46 w ↦
+          (let some = c.in-Some.ensures.some in
+          let all = subst P (rest_is piece first) c.in-Some.ensures.spells in
+          let few = c.in-Some.ensures.few in
+          let h = one_before_point piece first found.natural (omega (arith, length-drop first piece)) all.natural_digits w.if-piece-first-ne46.false in
+          omega arith)
       | else-piece-first-eq48-via-else-piece-first-eq48 w ↦ absurd (w.if-piece-first-eq48.false z)
     ] in
     let s = short_small piece negative first found.natural found.fraction bytes value (sign_at piece negative c.requires.sign (omega arith))
@@ -42,7 +47,12 @@ returns-clause-spells c =
     let value = fold with_value 0 found.digits in
     let P : List ℕ → Type 0 = λ xs. SpellsUnsigned xs found.natural found.fraction bytes value in
     let lead : get_or piece first 0 ≡ zero_digit → found.natural ≡ 1 = λ z. elim c.else-piece-first-eq48.branch [
-      | else-piece-first-eq48-via-then-piece-first-eq48+else-is_several w ↦ (let some = c.in-Some.ensures.some in let h = w.is_several.ensures.one w.if-is_several.false in omega arith)
+      | else-piece-first-eq48-via-then-piece-first-eq48+else-piece-first-ne46 w ↦
+          (let some = c.in-Some.ensures.some in
+          let all = subst P (rest_is piece first) c.in-Some.ensures.spells in
+          let few = c.in-Some.ensures.few in
+          let h = one_before_point piece first found.natural (omega (arith, length-drop first piece)) all.natural_digits w.if-piece-first-ne46.false in
+          omega arith)
       | else-piece-first-eq48-via-else-piece-first-eq48 w ↦ absurd (w.if-piece-first-eq48.false z)
     ] in
     short_plain piece negative first found.natural found.fraction bytes value (sign_at piece negative c.requires.sign (omega arith))
@@ -52,8 +62,8 @@ returns-clause-spells c =
 pub returns-in_default-clause-taken : goal.returns-in_default-clause-taken
 returns-in_default-clause-taken c = λ n u. c.in_default.ensures.taken _ _ (slice_pointed c.args.piece.now c.args.negative n c.args.after c.requires.sign u)
 
-pub returns-then-is_several-clause-taken : goal.returns-then-is_several-clause-taken
-returns-then-is_several-clause-taken c = λ n u.
+pub returns-then-piece-first-ne46-clause-taken : goal.returns-then-piece-first-ne46-clause-taken
+returns-then-piece-first-ne46-clause-taken c = λ n u.
     let piece = c.args.piece.now in
     let negative = c.args.negative in
     let first = bool_byte negative in
@@ -62,7 +72,9 @@ returns-then-is_several-clause-taken c = λ n u.
     let is = c.in-Some.ensures in
     let one = usual_one piece negative n c.args.after c.requires.sign u found.natural found.fraction _ _ is.spells is.point is.ends is.few
     (omega (arith, length-drop first piece, length-take (length piece - first) (drop first piece))) c.if-piece-first-eq48.true in
-    absurd (omega (arith, c.is_several.ensures.several c.if-is_several.true))
+    let P : List ℕ → Type 0 =
+    λ xs. SpellsUnsigned xs found.natural found.fraction (found.natural + 1 + found.fraction) (fold with_value 0 found.digits) in
+    absurd (c.if-piece-first-ne46.true (point_after_one piece first found.natural found.fraction _ (subst P (rest_is piece first) is.spells) one))
 
 pub returns-then-piece-length-clause-taken : goal.returns-then-piece-length-clause-taken
 returns-then-piece-length-clause-taken c = λ n u.
