@@ -182,6 +182,17 @@ impl FeatureCount {
         }
     }
 
+    /// Whether an element is open.
+    #[inline(always)]
+    pub fn is_element_open(&self) -> bool
+        ensures { IsTrue result → self.now.stage ≡ Stage.Element }
+    {
+        match self.stage {
+            Stage::Element => true,
+            _ => false,
+        }
+    }
+
     /// Whether the next event is one of an element, and of no value in it.
     #[inline(always)]
     pub fn is_in_element(&self) -> bool
@@ -317,6 +328,6 @@ impl FeatureCount {
         self.inner = self
             .inner
             .saturating_sub(levels as u64)
-            .saturating_add(left as u64);
+            .wrapping_add(left as u64);
     }
 }

@@ -176,6 +176,7 @@ impl<S: FeatureSink> EventSink for FeatureRules<S> {
         }
     }
 
+    #[inline(always)]
     fn tell_head(&mut self, head: Head) {
         match head {
             Head::Object(typed) => self.tell_typed(&typed),

@@ -20,7 +20,7 @@ use Rattle.gj_rules.specs.Internal.FrameMeaning.{Frame}
 use Rattle.gj_rules.specs.Internal.EventSteps.{State, run, start}
 use Rattle.gj_rules.specs.Internal.LabelledEvents.{Told, event_of, text_told}
 use Rattle.gj_rules.specs.Internal.FeatureSteps.{heard, count, counted, count_at, inner_step, tells, tells_at, features_in, no_count, concerned, ignored_of, starts_at, list_step}
-use Rattle.gj_rules.specs.Internal.FeatureSteps.{FeaturesAre}
+use Rattle.gj_rules.specs.Internal.FeatureSteps.{FeaturesAre, no_level}
 use Rattle.gj_rules.proofs.Features.CleanFeatures.{opens, opens_untold}
 use Rattle.gj_rules.proofs.Features.FeaturesSoFar.{small, count-last, heard-last}
 use Rattle.gj_rules.proofs.Texts.OneEventMore.{last_told}
@@ -85,6 +85,11 @@ tells_levels _ place top zero Stage.Element i p d b e = refl
 
 pub tells_quiet : (what : What) (place : ℕ) (top : Frame) (c : FeatureCount) → concerned what c.inner c.stage c.id_due ≡ false → TellsNone what place top c
 tells_quiet what place top c e = tells_levels what place top c.inner c.stage c.index c.place c.id c.id_due e
+
+-- an end that concerns the count is in no value that holds no feature
+pub ends_outside : (n : ℕ) → no_level n true ≡ true → n ≡ 0
+ends_outside zero e = refl
+ends_outside (suc n) e = cc
 
 -- ---- events within levels
 
@@ -174,7 +179,7 @@ one_passed Says c event events quiet h =
     (λ s. counts_quiet event.what event.place (starts_at s.core.skipped s.core.mode) c quiet) (λ s. tells_quiet event.what event.place s.core.top c quiet) h
 
 -- among the members of an element the start of an object does not concern it
-opens_quiet : (n : ℕ) → concerned What.OpenObject n Stage.Element false ≡ false
+pub opens_quiet : (n : ℕ) → concerned What.OpenObject n Stage.Element false ≡ false
 opens_quiet zero = refl
 opens_quiet (suc n) = refl
 

@@ -5,7 +5,7 @@ ghost use Rattle.gj_json.specs.Head.{typed_events, located_events};
 
 use super::FeatureRules;
 use crate::feature::FeatureSink;
-use gj_json::{Event, EventSink, Head, Known, Located, Typed, What};
+use gj_json::{Event, EventSink, Known, Located, Typed, What};
 
 impl<S: FeatureSink> FeatureRules<S> {
     ghost use Rattle.gj_rules.specs.Internal.FeatureSteps.{Stand};
@@ -18,10 +18,10 @@ impl<S: FeatureSink> FeatureRules<S> {
     {
         if self.count.is_in_list() {
             self.count.begin(typed.place);
-            self.rules.tell_head(Head::Object(*typed));
+            self.rules.tell_typed(typed);
         } else if self.count.is_in_members() {
             self.count.pass_by(&What::OpenObject);
-            self.rules.tell_head(Head::Object(*typed));
+            self.rules.tell_typed(typed);
         } else {
             self.tell_each_typed(typed);
         }
@@ -54,7 +54,7 @@ impl<S: FeatureSink> FeatureRules<S> {
     {
         if self.count.is_in_members() {
             self.count.pass_by(&What::OpenObject);
-            self.rules.tell_head(Head::Geometry(*located));
+            self.rules.tell_located(located);
         } else {
             self.tell_each_located(located);
         }

@@ -1,5 +1,5 @@
 //! An event by its kind. Mostly a few looks show that it matters to no feature, or that nothing is found in one.
-ghost use Rattle.std.specs.Prelude.{◌≡◌, [], ◌∷◌, ◌++◌, List, true};
+ghost use Rattle.std.specs.Prelude.{◌≡◌, [], ◌∷◌, ◌++◌, List, true, false};
 ghost use Rattle.gj_json.specs.declared.event.Event.{Event};
 ghost use Rattle.gj_json.specs.declared.event.What.TheVariants as W;
 
@@ -11,7 +11,7 @@ impl<S: FeatureSink> FeatureRules<S> {
     ghost use Rattle.gj_json.specs.declared.names.Known.{Known};
     ghost use Rattle.gj_rules.specs.declared.feature_count.Stage.{Stage};
     ghost use Rattle.gj_rules.specs.declared.mode.Mode.{Mode};
-    ghost use Rattle.gj_rules.specs.Internal.FeatureSteps.{Stand, is_scalar};
+    ghost use Rattle.gj_rules.specs.Internal.FeatureSteps.{Stand, concerned, is_scalar};
     ghost use Rattle.gj_rules.specs.Internal.FrameCalls.{settled};
     ghost use Rattle.gj_rules.specs.Internal.RulesState.{core_of};
     ghost use Rattle.gj_rules.specs.Internal.Summaries.{none_found};
@@ -25,11 +25,19 @@ impl<S: FeatureSink> FeatureRules<S> {
     {
         match name {
             Known::Id => self.tell_id(place),
-            _ => self.tell_quiet(Event {
-                place,
-                what: What::Name(name),
-            }),
+            _ => self.tell_quiet_name(name, place),
         }
+    }
+
+    /// A name that matters to no feature.
+    // To tell it as an event of any kind would make `tell` too large to be inlined.
+    #[inline(always)]
+    fn tell_quiet_name(&mut self, name: Known, place: u64)
+        requires quiet { concerned (W.Name name) self.old.count.inner self.old.count.stage self.old.count.id_due ≡ false }
+        ensures { (events : List Event) → Stand (S.told self.old.sink) self.old.rules self.old.count events
+            → Stand (S.told self.new.sink) self.new.rules self.new.count (events ++ record { place = place; what = W.Name name } ∷ []) }
+    {
+        self.rules.tell_name(name, place);
     }
 
     /// A name `id`.
@@ -93,14 +101,8 @@ impl<S: FeatureSink> FeatureRules<S> {
         ensures { (events : List Event) → Stand (S.told self.old.sink) self.old.rules self.old.count events
             → Stand (S.told self.new.sink) self.new.rules self.new.count (events ++ record { place = place; what = W.OpenObject } ∷ []) }
     {
-        if !self.count.concerns(&What::OpenObject) {
+        if self.count.is_in_members() {
             self.tell_quiet(Event {
-                place,
-                what: What::OpenObject,
-            });
-        } else if self.count.is_in_list() {
-            self.count.begin(place);
-            self.rules.tell(Event {
                 place,
                 what: What::OpenObject,
             });
@@ -128,10 +130,11 @@ impl<S: FeatureSink> FeatureRules<S> {
     /// The end of a feature, or of an object around it. Mostly nothing is found in it.
     #[inline(never)]
     fn tell_end(&mut self, place: u64)
+        requires inner { self.old.count.inner ≡ 0 }
         ensures { (events : List Event) → Stand (S.told self.old.sink) self.old.rules self.old.count events
             → Stand (S.told self.new.sink) self.new.rules self.new.count (events ++ record { place = place; what = W.CloseObject } ∷ []) }
     {
-        if self.count.is_in_element() && self.rules.is_clean_at_names() {
+        if self.count.is_element_open() && self.rules.is_clean_feature() {
             self.tell_clean(place);
         } else {
             self.tell_found(place);
@@ -176,10 +179,18 @@ impl<S: FeatureSink> FeatureRules<S> {
         ensures { (events : List Event) → Stand (S.told self.old.sink) self.old.rules self.old.count events
             → Stand (S.told self.new.sink) self.new.rules self.new.count (events ++ record { place = place; what = W.OpenObject } ∷ []) }
     {
-        self.tell_any(Event {
-            place,
-            what: What::OpenObject,
-        });
+        if self.count.is_in_list() {
+            self.count.begin(place);
+            self.rules.tell(Event {
+                place,
+                what: What::OpenObject,
+            });
+        } else {
+            self.tell_any(Event {
+                place,
+                what: What::OpenObject,
+            });
+        }
     }
 
     #[inline(never)]

@@ -13,6 +13,7 @@ impl Frame {
     ghost use Rattle.gj_rules.specs.Internal.FrameReading.{frame_in, found_in, counted_in};
     ghost use Rattle.gj_rules.specs.Internal.FrameCalls.{collected, warned_as, warned_by, settled};
     ghost use Rattle.gj_rules.specs.Internal.Summaries.{none_found};
+    ghost use Rattle.gj_rules.specs.declared.role.Role.{Role};
 
     /// Adds those of a GeometryCollection: of its geometries, and that it is one of another's (RFC 7946, section 3.1.8).
     #[tactic(auto, using(crate::proofs::Objects::WarningsInTurn::and_one))]
@@ -65,6 +66,15 @@ impl Frame {
     {
         self.gathered.is_nothing()
             && (self.slots.is_unwarned() && (!self.slots.is_nested() && self.slots.is_sound()))
+    }
+
+    /// The same of an object that stands as a feature. With its role and its type known, fewer looks show it.
+    #[inline]
+    pub fn is_clean_element(&self) -> bool
+        ensures role { IsTrue result → self.now.slots.role ≡ Role.Feature }
+        ensures clean { IsTrue result → settled (frame_in self.now) ≡ none_found }
+    {
+        self.gathered.is_nothing() && (self.slots.is_unwarned() && self.slots.is_sound_element())
     }
 
     /// Sets what is found in the object, at its close.

@@ -13,6 +13,7 @@ impl MemberSlots {
     ghost use Rattle.gj_coords.specs.Internal.KeptWarnings.{no_warnings};
     ghost use Rattle.gj_rules.specs.Internal.Summaries.{warned_for};
     ghost use Rattle.gj_rules.specs.Internal.FrameCalls.{is_nested};
+    ghost use Rattle.gj_rules.specs.declared.role.Role.{Role};
 
     /// Whether it has the members of a geometry with coordinates, and nothing is wrong with any.
     fn is_sound_simple(&self, simple: Simple) -> bool
@@ -79,6 +80,21 @@ impl MemberSlots {
         match self.type_value {
             Some(value) => self.role.allows(value.word) && self.is_sound_as(value.word),
             None => false,
+        }
+    }
+
+    /// The same of an object that stands as a feature, where it names itself one.
+    #[inline]
+    pub fn is_sound_element(&self) -> bool
+        ensures role { IsTrue result → self.now.role ≡ Role.Feature }
+        ensures none { IsTrue result → settled (slots_in self.now) ≡ None }
+    {
+        if self.repeated.is_some() || self.present.bbox {
+            return false;
+        }
+        match (self.role, self.type_value) {
+            (Role::Feature, Some(value)) => value.word == Word::Feature && self.is_sound_feature(),
+            _ => false,
         }
     }
 

@@ -50,9 +50,9 @@ impl<const FRAMES: usize> FramedRules<FRAMES> {
         }
     }
 
-    /// Whether an end of an object here is that of the innermost one with a role, in which a few looks show that nothing is found.
+    /// Whether an end of an object here is that of one that stands as a feature, and a few looks show that nothing is found in it.
     #[inline]
-    pub(crate) fn is_clean_at_names(&self) -> bool
+    pub(crate) fn is_clean_feature(&self) -> bool
         ensures skipped { IsTrue result → self.now.skipped ≡ 0 }
         ensures mode { IsTrue result → self.now.mode ≡ Mode.Names }
         ensures clean { IsTrue result → settled (core_of self.now).top ≡ none_found }
@@ -60,7 +60,7 @@ impl<const FRAMES: usize> FramedRules<FRAMES> {
         if !self.is_at_names() {
             return false;
         }
-        self.is_top_clean()
+        self.frames[self.around as usize].is_clean_element()
     }
 
     /// The end of such an object.

@@ -77,7 +77,7 @@ impl<const FRAMES: usize> FramedRules<FRAMES> {
 
     /// The beginning of an object. Mostly it is a feature.
     #[inline(never)]
-    pub(super) fn tell_typed(&mut self, typed: &Typed)
+    pub(crate) fn tell_typed(&mut self, typed: &Typed)
         ensures { (events : List Event) → StandsFor self.old events → StandsFor self.new (events ++ typed_events typed.now) }
     {
         if self.is_at_features() {
@@ -99,7 +99,7 @@ impl<const FRAMES: usize> FramedRules<FRAMES> {
 
     /// The beginning of a member `geometry`. Mostly it is the first one of a feature.
     #[inline(never)]
-    pub(super) fn tell_located(&mut self, located: &Located)
+    pub(crate) fn tell_located(&mut self, located: &Located)
         ensures { (events : List Event) → StandsFor self.old events → StandsFor self.new (events ++ located_events located.now) }
     {
         self.tell_member(Known::Geometry, located.place);

@@ -51,7 +51,7 @@ impl<const FRAMES: usize> FramedRules<FRAMES> {
 
     /// A name that is told by itself.
     #[inline(never)]
-    pub(super) fn tell_name(&mut self, name: Known, place: u64)
+    pub(crate) fn tell_name(&mut self, name: Known, place: u64)
         ensures { (events : List Event) → StandsFor self.old events → StandsFor self.new (events ++ record { place = place; what = W.Name name } ∷ []) }
     {
         self.tell_member(name, place);

@@ -1,0 +1,13 @@
+-- Nothing is found in the feature where none of these looks shows anything: it is no GeometryCollection of another's.
+use Rattle.std.proofs.Common.{◌≡◌, false, ap}
+use Rattle.gj_rules.specs.declared.role.Role.{Role}
+use Rattle.gj_rules.specs.Internal.FrameCalls.{is_nested}
+use Rattle.gj_rules.specs.Internal.FrameReading.{frame_in}
+use Rattle.gj_rules.proofs.Objects.CleanFrames.{clean_is}
+use Rattle.gj_rules.proofs.frame.Frame.is_clean_element.Goals as goal
+
+pub returns-then-is_unwarned-clause-clean : goal.returns-then-is_unwarned-clause-clean
+returns-then-is_unwarned-clause-clean c = λ e.
+    let f = frame_in c.args.self.now in
+    let own : is_nested f.slots.role f.slots.type_value ≡ false = ap (λ (role : Role). is_nested role f.slots.type_value) (c.is_sound_element.ensures.role e) in
+    clean_is f (c.is_nothing.ensures c.if-is_nothing.true) (c.is_unwarned.ensures c.if-is_unwarned.true) own (c.is_sound_element.ensures.none e)
