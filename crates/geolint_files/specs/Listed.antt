@@ -6,6 +6,7 @@ use Rattle.gj_json.specs.Limits.{Allowed}
 use Rattle.gj_rules.specs.declared.records.framing.Framing.{Framing}
 use Rattle.report_forms.specs.declared.every.entry.Entry.{Entry}
 use Rattle.geolint_report.specs.declared.every.listing.Asked.{Asked}
+use Rattle.geolint_report.specs.declared.every.cursor.Mark.{Mark}
 use Rattle.geolint_report.specs.declared.every.listing.Note.{Note}
 use Rattle.geolint_report.specs.declared.every.tally.Tally.{Tally}
 use Rattle.geolint_report.specs.declared.judge.Reading.{Reading}
@@ -75,15 +76,27 @@ AreListed Right framing asked limits name had lines tally =
 
 -- ---- a source that is read once
 
+-- this is said of the place, and nothing of an `id`
+abbrev pub IsMarkedBy : (Note → Option Mark → Type 0) → Entry → Type 0
+IsMarkedBy Says entry = Says entry.note entry.mark × (entry.id.now ≡ [])
+
+abbrev pub IsNoMark : Note → Option Mark → Type 0
+IsNoMark note mark = mark ≡ None
+
 -- nothing is known of the place
 abbrev pub IsUnplaced : Entry → Type 0
-IsUnplaced entry = (entry.mark ≡ None) × (entry.id.now ≡ [])
+IsUnplaced = IsMarkedBy IsNoMark
 
--- what is reported of a source that had these bytes; where its features are not reported, as of a file of which only the report is asked
+-- the line and the column, where they are said, are those of the place in these bytes, and no path is said
+abbrev pub IsSpotBy : Option (List ℕ) → Note → Option Mark → Type 0
+IsSpotBy had note None = ⊤
+IsSpotBy had note (Some mark) = IsMarkBy None had note.told.place mark × (mark.path ≡ None)
+
+-- what is reported of a source that had these bytes: of its places at most the lines and columns; where its features are not reported, as of a file of which only the report is asked
 abbrev pub IsListedOnce : Reading → Asked → Allowed → List ℕ → Option (List ℕ) → (failed now_failed : ℕ) → ToldFile → Type 0
 IsListedOnce reading asked limits name had failed now_failed (listed report lines tally) =
     (report.name.now ≡ name) × (report.sites ≡ None) × (now_failed ≡ failed) × ((left : Option (List ℕ)) × Finds reading limits had left report.finding)
-    × AreListed IsUnplaced (framing_in reading) asked limits name had lines tally
+    × AreListed (IsMarkedBy (IsSpotBy had)) (framing_in reading) asked limits name had lines tally
 IsListedOnce reading asked limits name had failed now_failed file = IsToldOnce reading limits name had failed now_failed file
 
 -- ---- a source that is read again

@@ -1,6 +1,6 @@
 -- Lemmas on where the count of a code lies, and on counts with one more.
 use Rattle.std.specs.Prelude.{cond}
-use Rattle.std.proofs.Common.{arith, refl, nat_le, ◌≢◌, inl, inr, set, length, ◌≡◌, ◌≤◌, ◌<◌, ◌+◌, ◌-◌, ℕ, Bool, true, false, List, [], ◌∷◌, ◌++◌, get_or, ap}
+use Rattle.std.proofs.Common.{arith, nat_le, inl, inr, set, length, ◌≡◌, ◌≤◌, ◌<◌, ◌+◌, ◌-◌, ℕ, Bool, true, false, List, [], ◌∷◌, ◌++◌, get_or, ap}
 use Rattle.std.proofs.Common.{sym, ◌∙◌, nat_eq}
 use Rattle.std.specs.Io.Iter.{u64_saturate}
 use Rattle.std.specs.List.{count_by}

@@ -32,7 +32,7 @@ right-sought text sites i site right sought =
     each-set (λ (s : Site). s.is_found ≡ true → IsSpot text s.place s.spot) sites i site right (λ found. search (rules, sought, found))
 
 -- a place in a text is the same place in a longer one
-IsSpot-longer : (text more : List ℕ) (place : ℕ) (spot : Spot) → IsSpot text place spot → IsSpot (text ++ more) place spot
+pub IsSpot-longer : (text more : List ℕ) (place : ℕ) (spot : Spot) → IsSpot text place spot → IsSpot (text ++ more) place spot
 IsSpot-longer text more place spot is =
     let sum = length-append text more in
     let within = is.within in

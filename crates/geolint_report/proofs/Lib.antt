@@ -16,3 +16,4 @@ mod TalliedNotes
 mod KeptNotes
 mod KeptRecords
 mod CursorPlaces
+mod PlacedNotes

@@ -9,7 +9,7 @@ use Rattle.geolint_report.specs.declared.every.tally.Tally.{Tally}
 use Rattle.geolint_report.specs.declared.texts.Code.{Code}
 use Rattle.geolint_report.specs.declared.texts.TheConstants.{CODES}
 use Rattle.geolint_report.specs.Slots.{same, slot_of, more}
-use Rattle.geolint_report.specs.Tallies.{is_fault, of_broken, notes_code, count_of, Tallies, total, IsTotal}
+use Rattle.geolint_report.specs.Tallies.{is_fault, of_broken, notes_code, count_of, Tallies, total}
 use Rattle.geolint_report.proofs.CodeSlots.{more-counted}
 
 pub Tallies-more : (old new : Tally) (notes : List Note) (note : Note) → new.broken ≡ more (is_fault note.told.code) old.broken

@@ -14,4 +14,5 @@ pub mod Tallies
 pub mod Every
 pub mod Marks
 pub mod Cursors
+pub mod Spots
 pub mod Internal

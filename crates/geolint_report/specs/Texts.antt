@@ -5,7 +5,6 @@ use Rattle.gj_coords.specs.Fault.{number_of}
 use Rattle.gj_coords.specs.Warnings.{kind_number}
 use Rattle.gj_coords.specs.Texts.{rule_text, kind_text}
 use Rattle.gj_json.specs.Texts.{cause_text}
-use Rattle.gj_json.specs.declared.fault.Cause.{Cause}
 use Rattle.geolint_report.specs.declared.texts.Code.{Code}
 pub use Rattle.gj_json.specs.Texts.{cause_number}
 

@@ -6,5 +6,6 @@ pub mod id;
 pub mod listing;
 pub mod reading;
 pub mod records;
+pub mod spots;
 pub mod tally;
 pub mod text_path;

@@ -3,3 +3,4 @@ mod CountedBytes
 mod CountedPieces
 mod KeptLines
 mod Lanes
+mod Recalled

@@ -3,3 +3,4 @@ pub mod Counting
 pub mod Strings
 pub mod Excerpts
 pub mod Keeping
+pub mod Recalling

@@ -2,13 +2,15 @@
 //!
 //! `Lines` counts the line and the column of a place, however the text comes in pieces (`specs/Lines.antt`). `json_string`
 //! writes bytes as a JSON string that reads back as the same characters. `Excerpt` keeps the part of a line around a place
-//! in fixed memory.
+//! in fixed memory, and `Recent` the last bytes of a text that is read once, for the places among them.
 #![tactic(auto)]
 
 mod excerpt;
 mod lines;
+mod recent;
 mod string;
 
 pub use excerpt::{Excerpt, Shown};
 pub use lines::Lines;
+pub use recent::Recent;
 pub use string::json_string;

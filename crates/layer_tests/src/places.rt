@@ -1,3 +1,4 @@
 //! Places in a text.
 mod excerpt;
 mod lines;
+mod recent;

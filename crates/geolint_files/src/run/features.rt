@@ -11,7 +11,8 @@ use geolint_report::every::cursor::{Cursors, Mark};
 use geolint_report::every::further::read_further;
 use geolint_report::every::id::Id;
 use geolint_report::every::listing::{Asked, Item, Note, Notes, notes_for};
-use geolint_report::every::reading::judge_every;
+use geolint_report::every::reading::{judge_every, judge_followed};
+use geolint_report::every::spots::{Follower, Spots};
 use geolint_report::hints::feed_before_fault;
 use geolint_report::judge::{Finding, Reading};
 use geolint_report::source::{Rewind, Source};
@@ -85,7 +86,7 @@ impl<'a, W: Write + Drop> Run<'a, W> {
     ghost use Rattle.geolint_report.specs.Judged.{framing_in};
     ghost use Rattle.geolint_files.specs.Told.{HasSites, reading_of};
     ghost use Rattle.geolint_report.specs.Cursors.{StandBy};
-    ghost use Rattle.geolint_files.specs.Listed.{asked_for, AreLinesOf, AreEntriesOf, others_of, IsUnplaced, IsPlaced, IsListedOnce, IsListedTwice};
+    ghost use Rattle.geolint_files.specs.Listed.{asked_for, AreLinesOf, AreEntriesOf, others_of, IsMarkedBy, IsPlaced, IsListedOnce, IsListedTwice};
     ghost use Rattle.geolint_files.specs.Listed.{ArePlacedLines, AreNextBy};
     ghost use Rattle.report_forms.specs.Forms.Features.{TellsEntry, TellsMore, first_behind};
     ghost use Rattle.geolint_files.specs.Internal.RunState.{TellsFile, TellsLines, ToldFurther, SameTold};
@@ -101,7 +102,8 @@ impl<'a, W: Write + Drop> Run<'a, W> {
         }
     }
 
-    /// Reports what a source has that can be read once only: no line and no path is known of its places.
+    /// Reports what a source has that can be read once only. Its last bytes are kept, so the lines and columns of places among them
+    /// are known when its features are reported. No path is known.
     pub fn list_once<S: Source>(
         &mut self,
         name: &[u8],
@@ -116,31 +118,34 @@ impl<'a, W: Write + Drop> Run<'a, W> {
     {
         let reading = self.reading(name);
         self.progress.add_file(None);
-        match judge_every(
+        let mut spots = Spots::new(self.rt.alloc());
+        match judge_followed(
             self.rt.alloc(),
             source,
             self.options.limits,
             reading,
             asked,
             &mut self.progress,
+            &mut spots,
         ) {
             Ok(found) => match notes_for(found.0, found.1, asked)? {
-                Some(notes) => self.list_unplaced(name, found.0, &notes),
+                Some(notes) => self.list_followed(name, found.0, &notes, &spots),
                 None => self.tell(name, found.0, None),
             },
             Err(error) => self.tell_unread(name, &error),
         }
     }
 
-    /// Reports a file that was checked, and then notes, of whose places nothing is known.
-    pub fn list_unplaced(
+    /// Reports a file that was checked, and then notes, of whose places is said what the follower says.
+    pub fn list_followed<F: Follower>(
         &mut self,
         name: &[u8],
         finding: Finding,
         notes: &Notes,
+        follower: &F,
     ) -> Result<(), Failure>
         ensures { (self.old.options.every ≡ Every.Nothing → ⊥)
-            → OnOk result ((lines : List FeatureLine) × AreLinesOf IsUnplaced name.now notes.now.notes.items notes.now.count lines
+            → OnOk result ((lines : List FeatureLine) × AreLinesOf (IsMarkedBy (F.says follower.now)) name.now notes.now.notes.items notes.now.count lines
             × TellsFile W.contents (listed (record {
               name = name.entry;
               finding = finding;
@@ -152,17 +157,24 @@ impl<'a, W: Write + Drop> Run<'a, W> {
     {
         self.tell(name, finding, None)?;
         self.tally.add(&notes.tally);
-        self.tell_unplaced(name, notes)
+        self.tell_followed(name, notes, follower)
     }
 
-    /// Reports notes, of whose places nothing is known.
-    fn tell_unplaced(&mut self, name: &[u8], notes: &Notes) -> Result<(), Failure>
+    /// Reports notes, of whose places is said what the follower says.
+    fn tell_followed<F: Follower>(
+        &mut self,
+        name: &[u8],
+        notes: &Notes,
+        follower: &F,
+    ) -> Result<(), Failure>
         ensures { OnOk result
-            ((lines : List FeatureLine) × AreLinesOf IsUnplaced name.now notes.now.notes.items notes.now.count lines
+            ((lines : List FeatureLine) × AreLinesOf (IsMarkedBy (F.says follower.now)) name.now notes.now.notes.items notes.now.count lines
             × TellsLines W.contents lines self.old self.new) }
     {
-        for note in &notes.notes {
-            self.tell_note(name, *note, None, b"")?;
+        for index in 0..notes.notes.len() {
+            let note = &notes.notes[index];
+            let mark = follower.mark_at(index, note);
+            self.tell_note(name, *note, mark, b"")?;
         }
         self.tell_others(name, others(notes.count, notes.notes.len() as u64))
     }

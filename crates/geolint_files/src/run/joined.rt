@@ -6,6 +6,7 @@ ghost use Rattle.geolint_files.specs.JoinedRun.{IsJoinedRun};
 use super::features::asked_in;
 use super::{Ended, Failure, Run};
 use crate::words::Order;
+use geolint_report::every::spots::Unplaced;
 use geolint_report::every::listing::{Asked, Notes};
 use geolint_report::judge::Finding;
 use geolint_report::source::Rewind;
@@ -109,7 +110,7 @@ impl<'a, W: Write + Drop> Run<'a, W> {
                 let reading = self.reading(name);
                 self.list_placed(name, finding, &mut source, reading, asked, notes)
             }
-            None => self.list_unplaced(name, finding, notes),
+            None => self.list_followed(name, finding, notes, &Unplaced),
         }
     }
 }

@@ -144,6 +144,13 @@ impl Listing {
         }
     }
 
+    /// The notes that are kept so far.
+    pub fn notes(&self) -> &[Note]
+        ensures { result.now ≡ self.now.notes.items }
+    {
+        self.notes.as_slice()
+    }
+
     /// The notes, where they are those that were asked for and all of these could be kept.
     pub fn into_notes(self, asked: Asked) -> Result<Notes, AllocError>
         ensures asked { IfOk result (λ notes. self.asked ≡ asked) }

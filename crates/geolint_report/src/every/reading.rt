@@ -1,12 +1,14 @@
 //! The first reading of a file of which each feature or each record is reported.
-ghost use Rattle.std.specs.Prelude.{◌≡◌, IfOk, None};
+ghost use Rattle.std.specs.Prelude.{◌≡◌, [], IfOk, None};
 ghost use Rattle.geolint_report.specs.declared.judge.Finding.{Finding};
 ghost use Rattle.geolint_report.specs.declared.judge.Reading.{Reading};
 ghost use Rattle.geolint_report.specs.Every.{ListsFor};
+ghost use Rattle.geolint_report.specs.Spots.{FollowedFrom};
 ghost use Rattle.geolint_report.specs.Judged.{CountsFailure, Finds, JudgesRead, framing_in};
 
 use crate::every::listing::{Asked, Listing};
 use crate::every::records::judge_records;
+use crate::every::spots::{Follower, Unplaced};
 use crate::judge::{Finding, PIECE, Reading};
 use crate::progress::Meter;
 use crate::source::Source;
@@ -31,9 +33,29 @@ pub fn judge_every<S: Source>(
     ensures text { S.text reader.new ≡ S.text reader.old }
     ensures failed { CountsFailure (S.failed_reads reader.old) (S.failed_reads reader.new) result }
 {
+    judge_followed(alloc, reader, limits, reading, asked, meter, &mut Unplaced)
+}
+
+/// The same of a source that is followed while it is read, so that the places of what is reported are known without a second
+/// reading.
+pub fn judge_followed<S: Source, F: Follower>(
+    alloc: Global,
+    reader: &mut S,
+    limits: Limits,
+    reading: Reading,
+    asked: Asked,
+    meter: &mut Meter,
+    follower: &mut F,
+) -> io::Result<(Finding, Listing)>
+    ensures found { (reading ≡ Reading.Quick → ⊥) → IfOk result (λ found. Finds reading limits (S.remaining reader.old) (S.remaining reader.new) found.0) }
+    ensures listed { IfOk result (λ found. ListsFor (framing_in reading) found.0 limits (S.remaining reader.old) found.1) }
+    ensures text { S.text reader.new ≡ S.text reader.old }
+    ensures failed { CountsFailure (S.failed_reads reader.old) (S.failed_reads reader.new) result }
+    ensures followed { F.follows follower.old [] → IfOk result (λ found. FollowedFrom (S.remaining reader.old) (S.remaining reader.new) (F.follows follower.new)) }
+{
     match reading {
         Reading::Text | Reading::Quick => {
-            match judge_features(alloc, reader, limits, asked, meter) {
+            match judge_features(alloc, reader, limits, asked, meter, follower) {
                 Ok(found) => Ok((Finding::Text(found.0), found.1)),
                 Err(error) => Err(error),
             }
@@ -41,12 +63,28 @@ pub fn judge_every<S: Source>(
         Reading::Sequence => {
             let _most = limits.bytes();
             sequence_by_records();
-            match judge_records(alloc, reader, limits, Framing::Sequence, asked, meter) {
+            match judge_records(
+                alloc,
+                reader,
+                limits,
+                Framing::Sequence,
+                asked,
+                meter,
+                follower,
+            ) {
                 Ok(found) => Ok((Finding::Sequence(found.0), found.1)),
                 Err(error) => Err(error),
             }
         }
-        Reading::Lines => match judge_records(alloc, reader, limits, Framing::Lines, asked, meter) {
+        Reading::Lines => match judge_records(
+            alloc,
+            reader,
+            limits,
+            Framing::Lines,
+            asked,
+            meter,
+            follower,
+        ) {
             Ok(found) => Ok((Finding::Sequence(found.0), found.1)),
             Err(error) => Err(error),
         },
@@ -55,17 +93,19 @@ pub fn judge_every<S: Source>(
 
 /// The verdict of one text, as [`judge`](crate::judge::judge) finds it, and what is reported of its features. No read
 /// follows a refusal.
-pub fn judge_features<S: Source>(
+pub fn judge_features<S: Source, F: Follower>(
     alloc: Global,
     reader: &mut S,
     limits: Limits,
     asked: Asked,
     meter: &mut Meter,
+    follower: &mut F,
 ) -> io::Result<(Verdict, Listing)>
     ensures verdict { IfOk result (λ found. JudgesRead limits (S.remaining reader.old) (S.remaining reader.new) found.0) }
     ensures listed { IfOk result (λ found. ListsFor None (Finding.Text found.0) limits (S.remaining reader.old) found.1) }
     ensures text { S.text reader.new ≡ S.text reader.old }
     ensures failed { CountsFailure (S.failed_reads reader.old) (S.failed_reads reader.new) result }
+    ensures followed { F.follows follower.old [] → IfOk result (λ found. FollowedFrom (S.remaining reader.old) (S.remaining reader.new) (F.follows follower.new)) }
 {
     let _most = limits.bytes();
     let mut linter = FeatureLinter::new(limits, Listing::new(alloc, asked));
@@ -78,7 +118,9 @@ pub fn judge_features<S: Source>(
             Ok(count) => {
                 offset += count as u64;
                 meter.add_bytes(count);
-                match linter.feed(&piece[..count]) {
+                let progress = linter.feed(&piece[..count]);
+                follower.follow(&piece[..count], linter.sink().notes());
+                match progress {
                     Progress::Open => {}
                     Progress::Refused(_) => return Ok(linter.finish()),
                 }

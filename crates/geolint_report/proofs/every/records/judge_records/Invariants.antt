@@ -1,4 +1,4 @@
-use Rattle.std.proofs.Common.{ℕ, List, length, ◌-◌, ◌≤◌, ◌≡◌}
+use Rattle.std.proofs.Common.{ℕ, [], List, length, ◌-◌, ◌≤◌, ◌≡◌}
 use Rattle.std.specs.Io.KnownBytes.{Consumes}
 use Rattle.gj_rules.specs.declared.records.record.Record.{Record}
 use Rattle.gj_rules.specs.RecordsStand.{StandsFor, limits_of, framing_of}
@@ -9,7 +9,8 @@ abbrev pub invariant-loop-error : goal.invariant-loop-error
 invariant-loop-error g l = record {
   read : (read : List ℕ) × (found : List Record) × Consumes (g.S.Source.remaining l.initial.reader) (g.S.Source.remaining l.reader) read
       × (length read ≡ l.offset)
-      × StandsFor l.records read found × KeepsRecords l.listing found;
+      × StandsFor l.records read found × KeepsRecords l.listing found
+      × (g.F.Follower.follows l.initial.follower [] → g.F.Follower.follows l.follower read);
   framing : framing_of l.records ≡ l.fn.framing;
   limits : limits_of l.records ≡ l.fn.limits;
   unfailed : g.S.Source.failed_reads l.reader ≡ g.S.Source.failed_reads l.initial.reader;

@@ -1,4 +1,4 @@
-use Rattle.std.proofs.Common.{rules, arith, ◌≡◌, ◌<◌, ◌≤◌, ◌∙◌, List, ap, length, subst, sym, true, IsTrue}
+use Rattle.std.proofs.Common.{rules, arith, ◌≡◌, ◌∙◌, List, ap, length, sym, IsTrue}
 use Rattle.geolint_report.specs.declared.every.listing.Note.{Note}
 use Rattle.geolint_report.proofs.KeptNotes.{window-still}
 use Rattle.geolint_report.proofs.every.listing.Listing.keep_within.Goals as goal

@@ -7,7 +7,7 @@ use Rattle.geolint_report.specs.declared.judge.Finding.{Finding}
 use Rattle.geolint_report.specs.declared.judge.Reading.{Reading}
 use Rattle.geolint_report.specs.Judged.{Finds}
 use Rattle.geolint_report.proofs.KeptRecords.{Judges-as}
-use Rattle.geolint_report.proofs.every.reading.judge_every.Goals as goal
+use Rattle.geolint_report.proofs.every.reading.judge_followed.Goals as goal
 
 -- a text sequence is what its records make it
 pub returns-in-Ok-judge_records-clause-found : goal.returns-in-Ok-judge_records-clause-found
