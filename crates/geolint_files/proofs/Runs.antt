@@ -2,3 +2,4 @@
 pub mod WorstOutcome
 pub mod ToldFiles
 pub mod ListedFiles
+pub mod FollowedFiles

@@ -1,5 +1,5 @@
 -- Where notes stand in a source that is read once.
-use Rattle.std.specs.Prelude.{◌≡◌, ℕ, List, [], ◌∷◌, Option, Some, None, ⊤}
+use Rattle.std.specs.Prelude.{◌≡◌, ℕ, List, [], ◌∷◌, ◌++◌, Option, Some, None, ⊤}
 use Rattle.std.specs.Io.KnownBytes.{Consumes}
 use Rattle.gj_places.specs.Recalling.{Recalls}
 use Rattle.geolint_report.specs.declared.every.cursor.Mark.{Mark}
@@ -23,11 +23,12 @@ AreAllRight bytes (placed ∷ more) = IsRight bytes placed.place placed.spot × 
 abbrev pub AreSpots : Spots → List ℕ → Type 0
 AreSpots spots bytes = Recalls spots.recent bytes × AreAllRight bytes spots.placed.items
 
--- a mark of a note has its place, and the line and the column that the place has in the bytes that came, and no path
+-- a mark of a note has its place, no path, and the line and the column that the place has in each text that begins with the bytes that came
 abbrev pub SaysSpot : Spots → Note → Option Mark → Type 0
 SaysSpot spots note None = ⊤
 SaysSpot spots note (Some mark) =
-    (mark.place ≡ note.told.place) × (mark.path ≡ None) × ((bytes : List ℕ) → AreSpots spots bytes → IsSpot bytes mark.place mark.spot)
+    (mark.place ≡ note.told.place) × (mark.path ≡ None)
+    × ((bytes more : List ℕ) → AreSpots spots bytes → IsSpot (bytes ++ more) mark.place mark.spot)
 
 -- the bytes that were read between two states of a source came to it
 abbrev pub FollowedFrom : Option (List ℕ) → Option (List ℕ) → (List ℕ → Type 0) → Type 0

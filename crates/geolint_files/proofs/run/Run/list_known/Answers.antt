@@ -17,7 +17,7 @@ returns-in-Some g c =
 pub returns-in-None : goal.returns-in-None
 returns-in-None g c =
     let asked = asked-every c.args.self.now.options Reading.Text c.args.asked c.requires in
-    on_ok_weaker c.list_unplaced.result (λ told.
+    on_ok_weaker c.list_followed.result (λ told.
     let (lines, are, tells) = told in
     (_, lines, refl, refl, (refl, inr are), tells))
-    (c.list_unplaced.ensures asked)
+    (c.list_followed.ensures asked)

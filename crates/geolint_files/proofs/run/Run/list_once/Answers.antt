@@ -10,6 +10,7 @@ use Rattle.geolint_files.specs.Listed.{IsListedOnce}
 use Rattle.geolint_files.specs.Run.{judged, not_read, listed}
 use Rattle.geolint_files.specs.Told.{reading_of}
 use Rattle.geolint_files.proofs.Runs.ListedFiles.{asked-every, asked-slowly}
+use Rattle.geolint_files.proofs.Runs.FollowedFiles.{lines-by}
 use Rattle.geolint_files.proofs.Runs.ToldFiles.{TellsFile-after}
 use Rattle.geolint_files.proofs.run.Run.list_once.Goals as goal
 
@@ -23,7 +24,8 @@ returns-in-Some g c =
     let kept = rw (c.in-Some.is) at c.in_ok-notes-in-Ok.ensures in
     let had = g.S.Source.remaining c.args.source.now in
     let failed = g.S.Source.failed_reads c.args.source.now in
-    let left = g.S.Source.remaining c.judge_every.new.reader in
+    let left = g.S.Source.remaining c.judge_followed.new.reader in
+    let followed = c.in-Ok.ensures.followed c.new-spots.ensures in
     let asked = asked-every old.options (reading_of old.options c.args.name.now) c.args.asked c.requires in
     let slow : reading ≡ Reading.Quick → ⊥ =
     λ quick. asked-slowly (reading_of old.options c.args.name.now) (asked_in old.options) c.args.asked c.requires (sym c.reading-reading.ensures ∙ quick) in
@@ -37,20 +39,21 @@ returns-in-Some g c =
       hint =
           None;
     } in
-    on_ok_weaker c.list_unplaced.result (λ told.
+    on_ok_weaker c.list_followed.result (λ told.
     let (lines, are, tells) = told in (
       listed report lines notes.tally,
-      subst (λ (r : Reading). IsListedOnce r c.args.asked limits c.args.name.now had failed (g.S.Source.failed_reads c.judge_every.new.reader)
+      subst (λ (r : Reading). IsListedOnce r c.args.asked limits c.args.name.now had failed (g.S.Source.failed_reads c.judge_followed.new.reader)
           (listed report lines notes.tally)) c.reading-reading.ensures (
             refl,
             refl,
             c.in-Ok.ensures.failed,
             (left, c.in-Ok.ensures.found slow),
-            (notes.notes.items, notes.count, kept (framing_in reading) limits had c.in-Ok.ensures.listed, are),
+            (notes.notes.items, notes.count, kept (framing_in reading) limits had c.in-Ok.ensures.listed,
+            lines-by had left c.judge_followed.new.follower c.args.name.now notes.notes.items notes.count lines followed are),
           ),
-      TellsFile-after g.W.Write.contents _ old _ c.list_unplaced.new.self
+      TellsFile-after g.W.Write.contents _ old _ c.list_followed.new.self
           (record { same = record { options = refl; style = refl; outcome = refl; summary = refl; tally = refl }; out = refl; log = refl; line = refl }) tells,
-    )) (c.list_unplaced.ensures asked)
+    )) (c.list_followed.ensures asked)
 
 pub returns-in-None : goal.returns-in-None
 returns-in-None g c =
@@ -60,7 +63,7 @@ returns-in-None g c =
     let finding = c.in-Ok.found.0 in
     let had = g.S.Source.remaining c.args.source.now in
     let failed = g.S.Source.failed_reads c.args.source.now in
-    let left = g.S.Source.remaining c.judge_every.new.reader in
+    let left = g.S.Source.remaining c.judge_followed.new.reader in
     let slow : reading ≡ Reading.Quick → ⊥ =
     λ quick. asked-slowly (reading_of old.options c.args.name.now) (asked_in old.options) c.args.asked c.requires (sym c.reading-reading.ensures ∙ quick) in
     let report : Report =
@@ -75,7 +78,7 @@ returns-in-None g c =
     } in
     on_ok_weaker c.tell.result (λ told. (
       judged report,
-      subst (λ (r : Reading). IsListedOnce r c.args.asked limits c.args.name.now had failed (g.S.Source.failed_reads c.judge_every.new.reader) (judged report))
+      subst (λ (r : Reading). IsListedOnce r c.args.asked limits c.args.name.now had failed (g.S.Source.failed_reads c.judge_followed.new.reader) (judged report))
           c.reading-reading.ensures
           (refl, refl, refl, c.in-Ok.ensures.failed, (left, c.in-Ok.ensures.found slow)),
       TellsFile-after g.W.Write.contents _ old _ c.tell.new.self

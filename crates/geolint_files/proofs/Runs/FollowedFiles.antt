@@ -1,0 +1,39 @@
+-- What is said of the places of notes while a source is read once.
+use Rattle.std.proofs.Common.{◌≡◌, sym, subst, ℕ, List, [], ◌∷◌, ◌++◌}
+use Rattle.std.specs.Prelude.{Option, Some, None}
+use Rattle.std.specs.Io.KnownBytes.{Consumes}
+use Rattle.geolint_report.specs.declared.every.cursor.Mark.{Mark}
+use Rattle.geolint_report.specs.declared.every.listing.Note.{Note}
+use Rattle.geolint_report.specs.declared.every.spots.Spots.{Spots}
+use Rattle.geolint_report.specs.Sites.{IsSpot, LeadsTo}
+use Rattle.geolint_report.specs.Spots.{AreSpots, SaysSpot, FollowedFrom}
+use Rattle.geolint_files.specs.Listed.{AreEntriesOf, AreLinesOf, IsMarkedBy, IsSpotBy}
+use Rattle.geolint_files.specs.Run.{FeatureLine, feature_line, others_line}
+use Rattle.report_forms.specs.declared.every.entry.Entry.{Entry}
+
+-- what is said by the bytes that were read holds of all that the source had
+spot-by : (had left : Option (List ℕ)) (read : List ℕ) (spots : Spots) (note : Note) (mark : Option Mark) → Consumes had left read → AreSpots spots read
+    → SaysSpot spots note mark → IsSpotBy had note mark
+spot-by had left read spots note None took are says = tt
+spot-by None left read spots note (Some mark) took are (place, path, spot) = (place, path)
+spot-by (Some text) None read spots note (Some mark) took are says = absurd took
+spot-by (Some text) (Some rest) read spots note (Some mark) took are (place, path, spot) =
+    let there : IsSpot text mark.place mark.spot = subst (λ (bytes : List ℕ). IsSpot bytes mark.place mark.spot) (sym took) (spot read rest are) in
+    ((place, subst (λ (p : ℕ). IsSpot text p mark.spot) place there, subst (LeadsTo None text note.told.place) (sym path) tt), path)
+
+entries-by : (had left : Option (List ℕ)) (read : List ℕ) (spots : Spots) (name : List ℕ) (notes : List Note) (lines : List FeatureLine)
+    → Consumes had left read → AreSpots spots read
+    → AreEntriesOf (IsMarkedBy (SaysSpot spots)) name notes lines → AreEntriesOf (IsMarkedBy (IsSpotBy had)) name notes lines
+entries-by had left read spots name [] [] took kept are = tt
+entries-by had left read spots name [] (line ∷ lines) took kept are = absurd are
+entries-by had left read spots name (note ∷ notes) [] took kept are = absurd are
+entries-by had left read spots name (note ∷ notes) (others_line told count ∷ lines) took kept are = absurd are.0
+entries-by had left read spots name (note ∷ notes) (feature_line entry ∷ lines) took kept ((named, noted, (says, id)), are) =
+    ((named, noted, (spot-by had left read spots entry.note entry.mark took kept says, id)), entries-by had left read spots name notes lines took kept are)
+
+-- so it is of all lines
+pub lines-by : (had left : Option (List ℕ)) (spots : Spots) (name : List ℕ) (notes : List Note) (count : ℕ) (lines : List FeatureLine)
+    → FollowedFrom had left (AreSpots spots) → AreLinesOf (IsMarkedBy (SaysSpot spots)) name notes count lines
+    → AreLinesOf (IsMarkedBy (IsSpotBy had)) name notes count lines
+lines-by had left spots name notes count lines (read, took, kept) are =
+    record { entries = are.entries; are = entries-by had left read spots name notes are.entries took kept are.are; all = are.all }
