@@ -1,3 +1,4 @@
 mod LinesOfParts
 mod DoubledWarnings
 mod SameSettings
+mod WrittenItems
