@@ -1,6 +1,7 @@
 """geolint.dask on the workers of a scheduler: what it says of each file is what one reading says, also where a worker is killed.
 
-    dask_workers.py FOLDER SCHEDULER    FOLDER has sequences, of each NAME.geojsons the report in json NAME.report, and a program `kills`
+    dask_workers.py FOLDER SCHEDULER    FOLDER has sequences, of each NAME.geojsons the report in json NAME.report, and a program `kills`;
+                                        each.found has each finding of `broken`, and first.found the first one
 
 Each worker has geolint-files in PATH. It is run by the Python that has Debian's package python3-distributed."""
 
@@ -14,8 +15,8 @@ from checks import ended, wants
 import geolint.dask
 
 
-def report_of(folder, name):
-    with open(f"{folder}/{name}.report", encoding="utf-8") as file:
+def report_of(folder, name, ending="report"):
+    with open(f"{folder}/{name}.{ending}", encoding="utf-8") as file:
         return [json.loads(line) for line in file]
 
 
@@ -40,6 +41,10 @@ def main(folder, file):
         strict = [{**it, "passes": False} for it in report_of(folder, "right")]
         wants("with an option", check(paths[0], parts=3, options=["--strict"]), strict)
         whole = [it for name in names for it in report_of(folder, name)]
+        each = report_of(folder, "each", "found")
+        wants("each finding, in 7 parts", check(paths[1], parts=7, every="warnings"), each)
+        wants("each finding, the file as a whole", check([paths[1]], every="warnings"), each)
+        wants("the first finding", check(paths[1], parts=7, every="faults", most=1), report_of(folder, "first", "found"))
         wants("many files", check(paths), whole)
         wants("many files, in two tasks", check(iter(paths), parts=2), whole)
         wants("no file", check([]), [])

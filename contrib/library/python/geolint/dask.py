@@ -3,6 +3,7 @@
     client = distributed.Client("scheduler:8786")
     found = geolint.dask.check("/data/roads.geojsons", parts=512)           # one file of records, cut by bytes
     found = geolint.dask.check(["/data/a.geojson", "/data/towns"])          # files, and folders of them
+    found = geolint.dask.check("/data/roads.geojsons", every="faults")      # and each record of it that has a fault
     print(all(file["passes"] for file in found))
 
 Each worker has geolint-files in PATH, and the files by the same names; it does not need this package. What a worker that is lost
@@ -27,6 +28,8 @@ def check(
     options: Iterable[str] = (),
     client: Optional[Any] = None,
     program: str = "geolint-files",
+    every: Optional[str] = None,
+    most: Optional[int] = None,
 ) -> List[Dict[str, Any]]:
     """What is found in each file, as `geolint-files --format json` says it.
 
@@ -34,17 +37,23 @@ def check(
     not given, and what is found is what one reading of it finds. Many paths are checked each as a whole, by so many tasks. Names that
     are not absolute begin at the current folder of this process.
 
-    `options` are those of geolint-files, as "--strict". The client is the current one where none is given. A file of several that
+    With `every`, which is "faults" or "warnings", the findings of each feature or record follow those of their file, at most `most`
+    of a file (1000 where the number is not given; 0 lifts this limit).
+
+    `options` are other options of geolint-files, as "--strict". The client is the current one where none is given. A file of several that
     cannot be read is in the answer with its reason; one path that cannot be is an OSError.
     """
     client = client or distributed.get_client()
     count = parts or 4 * max(1, sum(client.nthreads().values()))
-    words = list(options)
+    listing = [] if every is None else [f"--every={every}"]
+    if most is not None:
+        listing += ["--most", str(most)]
+    words = [*options, *listing]
     if isinstance(paths, (str, os.PathLike)):
         name = os.path.abspath(paths)
         calls = [[program, "--part", f"{number}/{count}", *words, "--", name] for number in range(1, count + 1)]
         lines = "".join(_outputs(_run(client, calls), [0]))
-        return _objects(_outputs(_run(client, [[program, "--join", "--format", "json"]], lines), [0, 1]))
+        return _objects(_outputs(_run(client, [[program, "--join", *listing, "--format", "json"]], lines), [0, 1]))
     names = [os.path.abspath(path) for path in paths]
     most = -(-len(names) // count) or 1
     words = [program, "--format", "json", "--allow-empty", *words, "--"]
