@@ -2,3 +2,4 @@ mod LinesOfParts
 mod DoubledWarnings
 mod SameSettings
 mod WrittenItems
+mod ReadItems

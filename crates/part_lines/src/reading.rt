@@ -1,16 +1,29 @@
 //! A line is read.
 
-ghost use Rattle.std.specs.Prelude.{◌≡◌, Bool, IfSome, Some};
+ghost use Rattle.std.specs.Prelude.{◌≡◌, ℕ, Bool, IfSome, IfOk, Some, None, option_map, map, codes, replicate};
+ghost use Rattle.gj_coords.specs.Warnings.{warning_at};
+ghost use Rattle.gj_coords.specs.WarningsStand.{StandsFor};
+ghost use Rattle.gj_coords.specs.declared.kind.Kind.{Kind};
+ghost use Rattle.gj_json.specs.Limits.{most};
 ghost use Rattle.gj_rules.specs.declared.records.framing.Framing.{Framing};
+ghost use Rattle.geolint_report.specs.Texts.{code_name};
+ghost use Rattle.geolint_report.specs.declared.texts.Code.{Code};
+ghost use Rattle.serde_json.specs.Data.{Data};
+ghost use Rattle.serde_json.specs.Read.{read};
+ghost use Rattle.serde_json.specs.View.{view, items_view};
+ghost use Rattle.part_lines.specs.LineObject.{number_in, text_in, truth_in, array_in, IsFileIn, IsSettingsIn, IsShareIn, IsLineIn};
+ghost use Rattle.part_lines.specs.LineObject.{IsPlaceIn, IsRecordIn, IsWarningIn, AreWarningsOf, AreWarningsIn, IsVerdictIn};
+ghost use Rattle.part_lines.specs.LineObject.{IsNoteIn, AreNotes, AreNotesIn, IsListedIn, IsListedIf};
 ghost use Rattle.part_lines.specs.Lines.{every_word, framing_word};
+ghost use Rattle.part_lines.specs.declared.line.FileState.{FileState};
 
 use crate::line::{FileState, Listed, PartLine, Settings};
 use crate::warnings::warnings_at;
 use geolint_report::every::listing::{Asked, Item, Note, Notes};
 use geolint_report::every::tally::Tally;
 use geolint_report::report::Told;
-use geolint_report::texts::{CAUSES, CODES, Code, RULES};
-use gj_coords::{Fault, KINDS, Kind, Rule, Warnings};
+use geolint_report::texts::{CODES, Code};
+use gj_coords::{Fault, Kind, Rule, Warnings};
 use gj_json::{Cause, JsonFault, Limits};
 use gj_rules::{Framing, SeqVerdict, Verdict};
 use report_forms::options::Kinds;
@@ -38,34 +51,44 @@ impl From<AllocError> for NoLine {
 }
 
 /// Reads the line of a part, with or without its LF.
-pub fn read_line(alloc: Global, text: &str) -> Result<PartLine, NoLine> {
-    let value = match Value::from_str(alloc, text) {
-        Ok(value) => value,
-        Err(error) if error.is_memory() => return Err(NoLine::Memory),
-        Err(_) => return Err(NoLine::NoPart),
-    };
-    match number_of(&value, "geolint_part") {
+pub fn read_line(alloc: Global, text: &str) -> Result<PartLine, NoLine>
+    ensures { IfOk result (λ line. (it : Data) × (read text.now ≡ Some it) × IsLineIn it line) }
+{
+    let value = parse(alloc, text)?;
+    read_value(alloc, &value)
+}
+
+fn parse(alloc: Global, text: &str) -> Result<Value, NoLine>
+    ensures { IfOk result (λ value. read text.now ≡ Some (view value)) }
+{
+    match Value::from_str(alloc, text) {
+        Ok(value) => Ok(value),
+        Err(error) if error.is_memory() => Err(NoLine::Memory),
+        Err(_) => Err(NoLine::NoPart),
+    }
+}
+
+fn read_value(alloc: Global, value: &Value) -> Result<PartLine, NoLine>
+    ensures { IfOk result (IsLineIn (view value.now)) }
+{
+    match number_of(value, "geolint_part") {
         Some(VERSION) => {}
         Some(_) => return Err(NoLine::OtherVersion),
         None => return Err(NoLine::NoPart),
     }
-    let Some(file) = read_file(alloc, &value)? else {
+    let Some(file) = read_file(alloc, value)? else {
         return Err(NoLine::NoPart);
     };
-    let (Some(settings), Some(share), Some(checked)) = (
-        read_settings(&value),
-        read_share(&value),
-        read_checked(&value),
-    ) else {
+    let Some(settings) = read_settings(value) else {
         return Err(NoLine::NoPart);
     };
-    let listed = match value.get("every") {
-        None => None,
-        Some(_) => match read_listed(alloc, &value, checked.begin)? {
-            Some(listed) => Some(listed),
-            None => return Err(NoLine::NoPart),
-        },
+    let Some(share) = read_share(value) else {
+        return Err(NoLine::NoPart);
     };
+    let Some(checked) = read_checked(value) else {
+        return Err(NoLine::NoPart);
+    };
+    let listed = read_listed_if(alloc, value, checked.begin)?;
     Ok(PartLine {
         file,
         settings,
@@ -75,22 +98,43 @@ pub fn read_line(alloc: Global, text: &str) -> Result<PartLine, NoLine> {
     })
 }
 
-fn number_of(value: &Value, name: &str) -> Option<u64> {
-    value.get(name)?.as_u64()
+/// The member of this name, where it is a whole number.
+fn number_of(value: &Value, name: &str) -> Option<u64>
+    ensures { result ≡ number_in name.now (view value.now) }
+{
+    value.get(name).and_then(Value::as_u64)
 }
 
-fn text_of<'a>(value: &'a Value, name: &str) -> Option<&'a str> {
-    value.get(name)?.as_str()
+/// Where it is a string.
+fn text_of<'a>(value: &'a Value, name: &str) -> Option<&'a str>
+    ensures { option_map (λ text. text.now) result ≡ text_in name.now (view value.now) }
+{
+    value.get(name).and_then(Value::as_str)
 }
 
-fn read_file(alloc: Global, value: &Value) -> Result<Option<FileState>, AllocError> {
-    let Some(path) = text_of(value, "path") else {
-        return Ok(None);
-    };
-    let Some(modified) = text_of(value, "modified") else {
-        return Ok(None);
-    };
-    let Some(size) = number_of(value, "size") else {
+/// Where it is an array.
+fn array_of<'a>(value: &'a Value, name: &str) -> Option<&'a Vec<Value>>
+    ensures { option_map (λ items. items_view items.now.items) result ≡ array_in name.now (view value.now) }
+{
+    value.get(name).and_then(Value::as_array)
+}
+
+/// Where it is `true` or `false`.
+fn truth_of(value: &Value, name: &str) -> Option<bool>
+    ensures { result ≡ truth_in name.now (view value.now) }
+{
+    value.get(name).and_then(Value::as_bool)
+}
+
+fn read_file(alloc: Global, value: &Value) -> Result<Option<FileState>, AllocError>
+    ensures found { IfOk result (λ found. IfSome found (IsFileIn (view value.now))) }
+    ensures none { IfOk result (λ found. found ≡ None → (file : FileState) → ¬ (IsFileIn (view value.now) file)) }
+{
+    let (Some(path), Some(modified), Some(size)) = (
+        text_of(value, "path"),
+        text_of(value, "modified"),
+        number_of(value, "size"),
+    ) else {
         return Ok(None);
     };
     Ok(Some(FileState {
@@ -112,107 +156,220 @@ fn framing_named(name: &str) -> Option<Framing>
     }
 }
 
-fn read_settings(value: &Value) -> Option<Settings> {
-    let limits = Limits::new(Limits::usual().depth(), number_of(value, "max_bytes")?)?;
-    let mut allowed = Kinds::none();
-    for name in value.get("allow")?.as_array()? {
-        allowed.insert(kind_named(name.as_str()?)?);
-    }
+fn read_settings(value: &Value) -> Option<Settings>
+    ensures { IfSome result (IsSettingsIn (view value.now)) }
+{
+    let framing = framing_named(text_of(value, "framing")?)?;
+    let limits = read_limits(value)?;
+    let strict = truth_of(value, "strict")?;
+    let allowed = read_allowed(value)?;
     Some(Settings {
-        framing: framing_named(text_of(value, "framing")?)?,
+        framing,
         limits,
-        strict: value.get("strict")?.as_bool()?,
+        strict,
         allowed,
     })
 }
 
-fn read_share(value: &Value) -> Option<Share> {
+fn read_limits(value: &Value) -> Option<Limits>
+    ensures bytes { IfSome result (λ limits. number_in (codes "max_bytes") (view value.now) ≡ Some limits.bytes) }
+    ensures depth { IfSome result (λ limits. limits.depth ≡ most.depth) }
+{
+    Limits::new(Limits::usual().depth(), number_of(value, "max_bytes")?)
+}
+
+/// No clause says which: [`Kinds::insert`] has none.
+fn read_allowed(value: &Value) -> Option<Kinds> {
+    let mut allowed = Kinds::none();
+    for name in array_of(value, "allow")? {
+        allowed.insert(kind_named(name.as_str()?)?);
+    }
+    Some(allowed)
+}
+
+fn read_share(value: &Value) -> Option<Share>
+    ensures { IfSome result (IsShareIn (view value.now)) }
+{
     Share::new(number_of(value, "part")?, number_of(value, "parts")?)
 }
 
-fn read_checked(value: &Value) -> Option<CheckedPart> {
+fn read_checked(value: &Value) -> Option<CheckedPart>
+    ensures { IfSome result (λ part. (number_in (codes "begin") (view value.now) ≡ Some part.begin) × (number_in (codes "end") (view value.now) ≡ Some part.end)
+        × IsVerdictIn (view value.now) part.begin part.verdict) }
+{
     let begin = number_of(value, "begin")?;
-    let verdict = match number_of(value, "records") {
-        Some(records) => SeqVerdict::Valid {
-            records,
-            warnings: read_warnings(value, begin)?,
-        },
-        None => SeqVerdict::Record {
-            number: number_of(value, "record")?,
-            verdict: read_fault(text_of(value, "fault")?, read_place(value, begin)?)?,
-        },
-    };
+    let end = number_of(value, "end")?;
+    let verdict = read_verdict(value, begin)?;
     Some(CheckedPart {
         begin,
-        end: number_of(value, "end")?,
+        end,
         verdict,
     })
 }
 
-/// A place of a part, which the line counts from the start of the file.
-fn read_place(value: &Value, begin: u64) -> Option<u64> {
-    number_of(value, "at")?.checked_sub(begin)
-}
-
-fn read_warnings(value: &Value, begin: u64) -> Option<Warnings> {
-    let mut all = Warnings::none();
-    for found in value.get("warnings")?.as_array()? {
-        let kind = kind_named(text_of(found, "kind")?)?;
-        let count = u32::try_from(number_of(found, "count")?).ok()?;
-        all = all.join(warnings_at(kind, read_place(found, begin)?, count));
-    }
-    Some(all)
-}
-
-/// A letter and a number, as G15.
-fn code_in(name: &str) -> Option<(u8, u8)> {
-    match name.as_bytes() {
-        [letter, tens, ones] if tens.is_ascii_digit() && ones.is_ascii_digit() => {
-            Some((*letter, (tens - b'0') * 10 + (ones - b'0')))
+fn read_verdict(value: &Value, begin: u64) -> Option<SeqVerdict>
+    ensures { IfSome result (IsVerdictIn (view value.now) begin) }
+{
+    match number_of(value, "records") {
+        Some(records) => {
+            let warnings = read_warnings(value, begin)?;
+            Some(SeqVerdict::Valid { records, warnings })
         }
-        [letter, ones] if ones.is_ascii_digit() => Some((*letter, ones - b'0')),
-        _ => None,
+        None => {
+            let number = number_of(value, "record")?;
+            let verdict = read_record(value, begin)?;
+            Some(SeqVerdict::Record { number, verdict })
+        }
     }
 }
 
-fn code_named(name: &str) -> Option<Code> {
-    match code_in(name)? {
-        (b'G', number) => Some(Code::Rule(rule_of(number)?)),
-        (b'W', number) => Some(Code::Kind(kind_of(number)?)),
-        (b'J', number) => Some(Code::Cause(cause_of(number)?)),
-        _ => None,
-    }
-}
-
-fn kind_named(name: &str) -> Option<Kind> {
-    match code_named(name)? {
-        Code::Kind(kind) => Some(kind),
-        _ => None,
-    }
-}
-
-fn kind_of(number: u8) -> Option<Kind> {
-    KINDS.get(number.checked_sub(1)? as usize).copied()
-}
-
-fn rule_of(number: u8) -> Option<Rule> {
-    RULES.get(number.checked_sub(1)? as usize).copied()
-}
-
-fn cause_of(number: u8) -> Option<Cause> {
-    CAUSES.get(number.checked_sub(1)? as usize).copied()
-}
-
-fn read_fault(name: &str, place: u64) -> Option<Verdict> {
-    match code_named(name)? {
+/// The fault of a record.
+fn read_record(value: &Value, begin: u64) -> Option<Verdict>
+    ensures { IfSome result (IsRecordIn (view value.now) begin) }
+{
+    let place = read_place(value, begin)?;
+    match code_named(text_of(value, "fault")?)? {
         Code::Rule(rule) => Some(Verdict::Broken(Fault { place, rule })),
         Code::Cause(cause) => Some(Verdict::NotJson(JsonFault { place, cause })),
         _ => None,
     }
 }
 
+/// A place of a part, which the line counts from the start of the file.
+fn read_place(value: &Value, begin: u64) -> Option<u64>
+    ensures { IfSome result (IsPlaceIn (view value.now) begin) }
+{
+    number_of(value, "at")?.checked_sub(begin)
+}
+
+fn read_warnings(value: &Value, begin: u64) -> Option<Warnings>
+    ensures { IfSome result (AreWarningsIn (view value.now) begin) }
+{
+    let found = array_of(value, "warnings")?;
+    read_each_warning(found.as_slice(), begin)
+}
+
+fn read_each_warning(found: &[Value], begin: u64) -> Option<Warnings>
+    ensures { IfSome result (AreWarningsOf begin (map view found.now)) }
+{
+    let mut all = Warnings::none();
+    for one in found {
+        let more = read_warning(one, begin)?;
+        all = all.join(more);
+    }
+    Some(all)
+}
+
+fn read_warning(value: &Value, begin: u64) -> Option<Warnings>
+    ensures { IfSome result (λ all. (kind : Kind) × (count : ℕ) × (place : ℕ) × IsWarningIn (view value.now) begin kind count place
+        × StandsFor all (replicate count (warning_at place kind))) }
+{
+    let kind = kind_named(text_of(value, "kind")?)?;
+    let count = read_count(value)?;
+    let place = read_place(value, begin)?;
+    Some(warnings_at(kind, place, count))
+}
+
+fn read_count(value: &Value) -> Option<u32>
+    ensures { IfSome result (λ count. number_in (codes "count") (view value.now) ≡ Some count) }
+{
+    u32::try_from(number_of(value, "count")?).ok()
+}
+
+/// The code of this name, as G15.
+fn code_named(name: &str) -> Option<Code>
+    ensures { IfSome result (λ code. code_name code ≡ name.now) }
+{
+    if let Some(rule) = rule_named(name) {
+        return Some(Code::Rule(rule));
+    }
+    if let Some(kind) = kind_named(name) {
+        return Some(Code::Kind(kind));
+    }
+    if let Some(cause) = cause_named(name) {
+        return Some(Code::Cause(cause));
+    }
+    None
+}
+
+fn rule_named(name: &str) -> Option<Rule>
+    ensures { IfSome result (λ rule. code_name (Code.Rule rule) ≡ name.now) }
+{
+    match name {
+        "G1" => Some(Rule::G1),
+        "G2" => Some(Rule::G2),
+        "G3" => Some(Rule::G3),
+        "G4" => Some(Rule::G4),
+        "G5" => Some(Rule::G5),
+        "G6" => Some(Rule::G6),
+        "G7" => Some(Rule::G7),
+        "G8" => Some(Rule::G8),
+        "G9" => Some(Rule::G9),
+        "G10" => Some(Rule::G10),
+        "G11" => Some(Rule::G11),
+        "G12" => Some(Rule::G12),
+        "G13" => Some(Rule::G13),
+        "G14" => Some(Rule::G14),
+        "G15" => Some(Rule::G15),
+        "G16" => Some(Rule::G16),
+        "G17" => Some(Rule::G17),
+        "G18" => Some(Rule::G18),
+        "G19" => Some(Rule::G19),
+        "G20" => Some(Rule::G20),
+        "G21" => Some(Rule::G21),
+        _ => None,
+    }
+}
+
+fn kind_named(name: &str) -> Option<Kind>
+    ensures { IfSome result (λ kind. code_name (Code.Kind kind) ≡ name.now) }
+{
+    match name {
+        "W1" => Some(Kind::W1),
+        "W2" => Some(Kind::W2),
+        "W3" => Some(Kind::W3),
+        "W4" => Some(Kind::W4),
+        "W5" => Some(Kind::W5),
+        "W6" => Some(Kind::W6),
+        "W7" => Some(Kind::W7),
+        "W8" => Some(Kind::W8),
+        "W9" => Some(Kind::W9),
+        _ => None,
+    }
+}
+
+fn cause_named(name: &str) -> Option<Cause>
+    ensures { IfSome result (λ cause. code_name (Code.Cause cause) ≡ name.now) }
+{
+    match name {
+        "J1" => Some(Cause::Syntax),
+        "J2" => Some(Cause::Truncated),
+        "J3" => Some(Cause::Depth),
+        "J4" => Some(Cause::Length),
+        _ => None,
+    }
+}
+
 /// The notes on the records of a part.
-fn read_listed(alloc: Global, value: &Value, begin: u64) -> Result<Option<Listed>, AllocError> {
+fn read_listed_if(
+    alloc: Global,
+    value: &Value,
+    begin: u64,
+) -> Result<Option<Listed>, NoLine>
+    ensures { IfOk result (IsListedIf (view value.now) begin) }
+{
+    if value.get("every").is_none() {
+        return Ok(None);
+    }
+    match read_listed(alloc, value, begin)? {
+        Some(listed) => Ok(Some(listed)),
+        None => Err(NoLine::NoPart),
+    }
+}
+
+fn read_listed(alloc: Global, value: &Value, begin: u64) -> Result<Option<Listed>, AllocError>
+    ensures { IfOk result (λ found. IfSome found (IsListedIn (view value.now) begin)) }
+{
     let (Some(asked), Some(tally), Some(count)) = (
         read_asked(value),
         read_tally(value),
@@ -220,9 +377,35 @@ fn read_listed(alloc: Global, value: &Value, begin: u64) -> Result<Option<Listed
     ) else {
         return Ok(None);
     };
-    let Some(found) = value.get("listed").and_then(|list| list.as_array()) else {
-        return Ok(None);
-    };
+    match read_notes(alloc, value, begin)? {
+        Some(notes) => Ok(Some(Listed {
+            asked,
+            notes: Notes {
+                notes,
+                count,
+                tally,
+            },
+        })),
+        None => Ok(None),
+    }
+}
+
+fn read_notes(alloc: Global, value: &Value, begin: u64) -> Result<Option<Vec<Note>>, AllocError>
+    ensures { IfOk result (λ found. IfSome found (λ notes. AreNotesIn (view value.now) begin notes.items)) }
+{
+    match array_of(value, "listed") {
+        Some(found) => read_each_note(alloc, found.as_slice(), begin),
+        None => Ok(None),
+    }
+}
+
+fn read_each_note(
+    alloc: Global,
+    found: &[Value],
+    begin: u64,
+) -> Result<Option<Vec<Note>>, AllocError>
+    ensures { IfOk result (λ all. IfSome all (λ notes. AreNotes begin (map view found.now) notes.items)) }
+{
     let mut notes = Vec::new(alloc);
     for one in found {
         let Some(note) = read_note(one, begin) else {
@@ -233,14 +416,7 @@ fn read_listed(alloc: Global, value: &Value, begin: u64) -> Result<Option<Listed
             Err(failed) => return Err(AllocError::from(failed)),
         }
     }
-    Ok(Some(Listed {
-        asked,
-        notes: Notes {
-            notes,
-            count,
-            tally,
-        },
-    }))
+    Ok(Some(notes))
 }
 
 /// Whether warnings are listed, by this word.
@@ -255,33 +431,51 @@ fn every_named(name: &str) -> Option<bool>
     }
 }
 
-fn read_asked(value: &Value) -> Option<Asked> {
+fn read_asked(value: &Value) -> Option<Asked>
+    ensures every { IfSome result (λ asked. text_in (codes "every") (view value.now) ≡ Some (every_word asked.with_warnings)) }
+    ensures room { IfSome result (λ asked. number_in (codes "most") (view value.now) ≡ Some asked.room) }
+    ensures skipped { IfSome result (λ asked. asked.skipped ≡ 0) }
+{
+    let with_warnings = every_named(text_of(value, "every")?)?;
+    let room = number_of(value, "most")?;
     Some(Asked {
-        with_warnings: every_named(text_of(value, "every")?)?,
+        with_warnings,
         skipped: 0,
-        room: number_of(value, "most")?,
+        room,
     })
 }
 
-fn read_tally(value: &Value) -> Option<Tally> {
-    let mut counts = [0; CODES];
-    for found in value.get("counts")?.as_array()? {
-        let slot = code_named(text_of(found, "code")?)?.slot();
-        *counts.get_mut(slot)? = number_of(found, "count")?;
-    }
+fn read_tally(value: &Value) -> Option<Tally>
+    ensures items { IfSome result (λ tally. number_in (codes "items") (view value.now) ≡ Some tally.items) }
+    ensures broken { IfSome result (λ tally. number_in (codes "items_broken") (view value.now) ≡ Some tally.broken) }
+{
+    let items = number_of(value, "items")?;
+    let broken = number_of(value, "items_broken")?;
+    let counts = read_counts(value)?;
     Some(Tally {
-        items: number_of(value, "items")?,
-        broken: number_of(value, "items_broken")?,
+        items,
+        broken,
         counts,
     })
 }
 
-fn read_note(value: &Value, begin: u64) -> Option<Note> {
+fn read_counts(value: &Value) -> Option<[u64; CODES]> {
+    let mut counts = [0; CODES];
+    for found in array_of(value, "counts")? {
+        let slot = code_named(text_of(found, "code")?)?.slot();
+        *counts.get_mut(slot)? = number_of(found, "count")?;
+    }
+    Some(counts)
+}
+
+fn read_note(value: &Value, begin: u64) -> Option<Note>
+    ensures { IfSome result (λ note. (number : ℕ) × IsNoteIn (view value.now) begin note number) }
+{
+    let number = number_of(value, "record")?;
+    let code = code_named(text_of(value, "code")?)?;
+    let place = read_place(value, begin)?;
     Some(Note {
-        item: Item::Record(number_of(value, "record")?),
-        told: Told {
-            code: code_named(text_of(value, "code")?)?,
-            place: read_place(value, begin)?,
-        },
+        item: Item::Record(number),
+        told: Told { code, place },
     })
 }
