@@ -29,8 +29,7 @@ warnings-more begin [] warnings it kind many place are is =
     (kind, many, place, [], is, ap (λ (ws : List Warning). ws ++ more) are ∙ sym (append-nil more), refl)
 warnings-more begin (one ∷ items) warnings it kind many place are is =
     let more = replicate many (warning_at place kind) in
-    let (k, m, p, rest, first, split, others) = are in
-    (
+    let (k, m, p, rest, first, split, others) = are in (
       k,
       m,
       p,

@@ -351,11 +351,7 @@ fn cause_named(name: &str) -> Option<Cause>
 }
 
 /// The notes on the records of a part.
-fn read_listed_if(
-    alloc: Global,
-    value: &Value,
-    begin: u64,
-) -> Result<Option<Listed>, NoLine>
+fn read_listed_if(alloc: Global, value: &Value, begin: u64) -> Result<Option<Listed>, NoLine>
     ensures { IfOk result (IsListedIf (view value.now) begin) }
 {
     if value.get("every").is_none() {

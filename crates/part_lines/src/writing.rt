@@ -270,11 +270,7 @@ fn put_warning(
     put(out, b"}")
 }
 
-fn put_listed_if(
-    listed: &Option<Listed>,
-    begin: u64,
-    out: &mut Vec<u8>,
-) -> Result<(), AllocError>
+fn put_listed_if(listed: &Option<Listed>, begin: u64, out: &mut Vec<u8>) -> Result<(), AllocError>
     ensures { OnOk result (Adds out.old out.new (listed_text_of begin listed.now)) }
 {
     match listed {
