@@ -1,14 +1,15 @@
 -- What is read of the items of an array, with one item more.
-use Rattle.std.proofs.Common.{◌≡◌, ℕ, ◌+◌, ◌<◌, ◌≤◌, List, [], ◌∷◌, ◌++◌, length, get_or, take, refl, ap, sym, subst, ◌∙◌, append_assoc, append-nil}
-use Rattle.std.specs.Prelude.{map, replicate}
+use Rattle.std.proofs.Common.{◌≡◌, ℕ, ◌+◌, zero, suc, ◌<◌, ◌≤◌, arith, Option, Some, None, List, [], ◌∷◌, ◌++◌, length, get_or, take, refl, ap, sym, subst, ◌∙◌, append_assoc, append-nil}
+use Rattle.std.specs.Prelude.{map, replicate, IfSome}
+use Rattle.std.specs.List.{All}
 use Rattle.std.proofs.lemmas.List.{take_more, take_all, get_or-map, length-map}
 use Rattle.gj_coords.specs.Warnings.{Warning, warning_at}
 use Rattle.gj_coords.specs.WarningsStand.{StandsFor}
 use Rattle.gj_coords.specs.declared.kind.Kind.{Kind}
 use Rattle.gj_coords.specs.declared.warnings.Warnings.{Warnings}
 use Rattle.geolint_report.specs.declared.every.listing.Note.{Note}
-use Rattle.serde_json.specs.Data.{Data}
-use Rattle.serde_json.specs.View.{view}
+use Rattle.serde_json.specs.Data.{Data, Items, no_items, item}
+use Rattle.serde_json.specs.View.{view, items_of}
 use Rattle.serde_json.specs.declared.value.Value.{Value}
 use Rattle.part_lines.specs.LineObject.{IsWarningIn, AreWarnings, AreWarningsOf, IsNoteIn, AreNotes}
 
@@ -61,3 +62,54 @@ notes-more begin [] notes it note number are is = (note, number, [], is, ap (λ 
 notes-more begin (one ∷ items) notes it note number are is =
     let (n, k, rest, first, split, others) = are in
     (n, k, rest ++ note ∷ [], first, ap (λ (ns : List Note). ns ++ note ∷ []) split, notes-more begin items rest it note number others is)
+
+-- ---- where an item is not read
+
+pub seen-here : (values : List Value) (i : ℕ) (value : Value) → i < length values → value ≡ get_or values i value
+    → (i < length (map view values)) × (get_or (map view values) i (view value) ≡ view value)
+seen-here values i value within is = (
+  subst (λ (n : ℕ). i < n) (sym (length-map values view)) within,
+  get_or-map view values i value (view value) within ∙ ap view (sym is),
+)
+
+warning-at : (begin : ℕ) (items : List Data) (warnings : List Warning) (i : ℕ) (d : Data) → AreWarnings begin items warnings → i < length items
+    → (kind : Kind) × (many : ℕ) × (place : ℕ) × IsWarningIn (get_or items i d) begin kind many place
+warning-at begin [] warnings i d are within = absurd (omega arith)
+warning-at begin (one ∷ items) warnings zero d are within = let (k, m, p, rest, first, split, others) = are in (k, m, p, first)
+warning-at begin (one ∷ items) warnings (suc i) d are within = let (k, m, p, rest, first, split, others) = are in warning-at begin items rest i d others (omega arith)
+
+pub no-warning : (begin : ℕ) (values : List Value) (i : ℕ) (value : Value) (all : Warnings) → i < length values → value ≡ get_or values i value
+    → ((kind : Kind) (many place : ℕ) → IsWarningIn (view value) begin kind many place → ⊥) → AreWarningsOf begin (map view values) all → ⊥
+no-warning begin values i value all within is none are =
+    let here = seen-here values i value within is in
+    let (kind, many, place, one) = warning-at begin (map view values) are.0 i (view value) are.1 here.0 in
+    none kind many place (subst (λ (it : Data). IsWarningIn it begin kind many place) here.1 one)
+
+pub not-all : (P : Data → Type 0) (values : List Value) (i : ℕ) (value : Value) → i < length values → value ≡ get_or values i value → (P (view value) → ⊥) → All P (map view values) → ⊥
+not-all P values i value within is none all =
+    let here = seen-here values i value within is in
+    none (subst P here.1 (all i (view value) here.0))
+
+-- ---- an array
+
+pub items_of-same : (one other : List Data) → items_of one ≡ items_of other → one ≡ other
+items_of-same [] [] is = refl
+items_of-same [] (it ∷ more) is = absurd cc
+items_of-same (it ∷ more) [] is = absurd cc
+items_of-same (it ∷ more) (that ∷ others) is =
+    let rest : items_of more ≡ items_of others = cc in
+    let same : more ≡ others = items_of-same more others rest in
+    cc
+
+pub weaker : {T : Type 0} (o : Option T) (P Q : T → Type 0) → ((x : T) → P x → Q x) → IfSome o P → IfSome o Q
+weaker (Some x) P Q step is = step x is
+weaker None P Q step is = is
+
+-- the array of these values
+pub array-is : (found : Option Items) (values slice : List Value) → Some (items_of (map view values)) ≡ found → slice ≡ values → found ≡ Some (items_of (map view slice))
+array-is found values slice is same = sym is ∙ ap (λ (vs : List Value). Some (items_of (map view vs))) (sym same)
+
+pub same-items : (found : Option Items) (items : List Data) (values : List Value) → found ≡ Some (items_of items) → found ≡ Some (items_of (map view values)) → items ≡ map view values
+same-items found items values one other =
+    let is : items_of items ≡ items_of (map view values) = cc in
+    items_of-same items (map view values) is

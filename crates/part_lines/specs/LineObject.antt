@@ -1,16 +1,18 @@
 -- What a line says: the members of its object, and what is read of each.
-use Rattle.std.specs.Prelude.{◌≡◌, ℕ, ◌+◌, Bool, List, [], ◌∷◌, ◌++◌, Option, Some, None, option_and_then, codes, string_bytes, replicate}
+use Rattle.std.specs.Prelude.{◌≡◌, ℕ, ◌+◌, ◌<◌, ◌^◌, Bool, List, [], ◌∷◌, ◌++◌, Option, Some, None, option_and_then, codes, string_bytes, replicate}
+use Rattle.std.specs.List.{All}
 use Rattle.gj_coords.specs.Warnings.{Warning, warning_at}
 use Rattle.gj_coords.specs.WarningsStand.{StandsFor}
 use Rattle.gj_coords.specs.declared.kind.Kind.{Kind}
 use Rattle.gj_coords.specs.declared.warnings.Warnings.{Warnings}
-use Rattle.gj_json.specs.Limits.{most}
+use Rattle.gj_json.specs.Limits.{IsAllowed, most}
 use Rattle.gj_rules.specs.declared.sequence.verdict.SeqVerdict.{SeqVerdict}
 use Rattle.gj_rules.specs.declared.verdict.Verdict.{Verdict}
 use Rattle.geolint_report.specs.Texts.{code_name}
 use Rattle.geolint_report.specs.declared.every.listing.Item.{Item}
 use Rattle.geolint_report.specs.declared.every.listing.Note.{Note}
 use Rattle.geolint_report.specs.declared.texts.Code.{Code}
+use Rattle.sequence_parts.specs.declared.checked.CheckedPart.{CheckedPart}
 use Rattle.sequence_parts.specs.declared.ranges.Share.{Share}
 use Rattle.serde_json.specs.Data.{Data, Items}
 use Rattle.serde_json.specs.Find.{get, as_number, as_u64, as_str, as_bool, as_array}
@@ -42,12 +44,21 @@ pub record IsFileIn (it : Data) (file : FileState) : Type 0 where
   pub size : number_in (codes "size") it ≡ Some file.size
   pub modified : text_in (codes "modified") it ≡ Some (string_bytes file.modified)
 
--- but for the kinds that are allowed
+-- it is the name of a kind of warning
+abbrev pub IsKindName : Data → Type 0
+IsKindName it = (kind : Kind) × (as_str it ≡ Some (code_name (Code.Kind kind)))
+
+-- some kinds: no clause says which, since `Kinds::insert` has none
+abbrev pub IsAllowedIn : Data → Type 0
+IsAllowedIn it = (items : List Data) × (array_in (codes "allow") it ≡ Some (items_of items)) × All IsKindName items
+
 pub record IsSettingsIn (it : Data) (settings : Settings) : Type 0 where
   pub framing : text_in (codes "framing") it ≡ Some (framing_word settings.framing)
   pub max_bytes : number_in (codes "max_bytes") it ≡ Some settings.limits.bytes
+  pub limits : IsAllowed settings.limits.depth settings.limits.bytes
   pub depth : settings.limits.depth ≡ most.depth
   pub strict : truth_in (codes "strict") it ≡ Some settings.strict
+  pub allow : IsAllowedIn it
 
 pub record IsShareIn (it : Data) (share : Share) : Type 0 where
   pub part : number_in (codes "part") it ≡ Some share.number
@@ -68,6 +79,7 @@ IsRecordIn it begin (Verdict.Valid warnings) = ⊥
 pub record IsWarningIn (it : Data) (begin : ℕ) (kind : Kind) (many place : ℕ) : Type 0 where
   pub name : text_in (codes "kind") it ≡ Some (code_name (Code.Kind kind))
   pub count : number_in (codes "count") it ≡ Some many
+  pub fits : many < 2 ^ 32
   pub at : IsPlaceIn it begin place
 
 -- those of each item, one after another
@@ -87,6 +99,11 @@ abbrev pub IsVerdictIn : Data → ℕ → SeqVerdict → Type 0
 IsVerdictIn it begin (SeqVerdict.Valid records warnings) = (number_in (codes "records") it ≡ Some records) × AreWarningsIn it begin warnings
 IsVerdictIn it begin (SeqVerdict.Record number verdict) =
     (number_in (codes "records") it ≡ None) × (number_in (codes "record") it ≡ Some number) × IsRecordIn it begin verdict
+
+pub record IsCheckedIn (it : Data) (part : CheckedPart) : Type 0 where
+  pub begin : number_in (codes "begin") it ≡ Some part.begin
+  pub end : number_in (codes "end") it ≡ Some part.end
+  pub verdict : IsVerdictIn it part.begin part.verdict
 
 -- ---- the notes on records
 
@@ -125,7 +142,5 @@ pub record IsLineIn (it : Data) (line : PartLine) : Type 0 where
   pub file : IsFileIn it line.file
   pub settings : IsSettingsIn it line.settings
   pub share : IsShareIn it line.share
-  pub begin : number_in (codes "begin") it ≡ Some line.checked.begin
-  pub end : number_in (codes "end") it ≡ Some line.checked.end
-  pub verdict : IsVerdictIn it line.checked.begin line.checked.verdict
+  pub checked : IsCheckedIn it line.checked
   pub listed : IsListedIf it line.checked.begin line.listed

@@ -1,21 +1,32 @@
 //! A line is read.
 
-ghost use Rattle.std.specs.Prelude.{◌≡◌, ℕ, Bool, IfSome, IfOk, Some, None, option_map, map, codes, replicate};
+ghost use Rattle.std.specs.Prelude.{◌≡◌, ◌≢◌, ◌<◌, ◌^◌, ℕ, Bool, IfSome, IsSome, IfOk, Some, None, Err, option_map, map, codes, replicate};
+ghost use Rattle.std.specs.List.{All};
 ghost use Rattle.gj_coords.specs.Warnings.{warning_at};
 ghost use Rattle.gj_coords.specs.WarningsStand.{StandsFor};
 ghost use Rattle.gj_coords.specs.declared.kind.Kind.{Kind};
-ghost use Rattle.gj_json.specs.Limits.{most};
+ghost use Rattle.gj_coords.specs.declared.fault.Rule.{Rule};
+ghost use Rattle.gj_coords.specs.declared.warnings.Warnings.{Warnings};
+ghost use Rattle.gj_json.specs.Limits.{IsAllowed, most};
+ghost use Rattle.gj_json.specs.declared.fault.Cause.{Cause};
 ghost use Rattle.gj_rules.specs.declared.records.framing.Framing.{Framing};
+ghost use Rattle.gj_rules.specs.declared.sequence.verdict.SeqVerdict.{SeqVerdict};
+ghost use Rattle.gj_rules.specs.declared.verdict.Verdict.{Verdict};
 ghost use Rattle.geolint_report.specs.Texts.{code_name};
 ghost use Rattle.geolint_report.specs.declared.texts.Code.{Code};
 ghost use Rattle.serde_json.specs.Data.{Data};
+ghost use Rattle.serde_json.specs.Find.{get, as_str};
 ghost use Rattle.serde_json.specs.Read.{read};
 ghost use Rattle.serde_json.specs.View.{view, items_view};
-ghost use Rattle.part_lines.specs.LineObject.{number_in, text_in, truth_in, array_in, IsFileIn, IsSettingsIn, IsShareIn, IsLineIn};
+ghost use Rattle.part_lines.specs.LineObject.{number_in, text_in, truth_in, array_in, IsFileIn, IsSettingsIn, IsKindName, IsAllowedIn, IsShareIn, IsCheckedIn, IsLineIn};
 ghost use Rattle.part_lines.specs.LineObject.{IsPlaceIn, IsRecordIn, IsWarningIn, AreWarningsOf, AreWarningsIn, IsVerdictIn};
 ghost use Rattle.part_lines.specs.LineObject.{IsNoteIn, AreNotes, AreNotesIn, IsListedIn, IsListedIf};
 ghost use Rattle.part_lines.specs.Lines.{every_word, framing_word};
 ghost use Rattle.part_lines.specs.declared.line.FileState.{FileState};
+ghost use Rattle.part_lines.specs.declared.line.PartLine.{PartLine};
+ghost use Rattle.part_lines.specs.declared.line.Settings.{Settings};
+ghost use Rattle.sequence_parts.specs.declared.checked.CheckedPart.{CheckedPart};
+ghost use Rattle.sequence_parts.specs.declared.ranges.Share.{Share};
 
 use crate::line::{FileState, Listed, PartLine, Settings};
 use crate::warnings::warnings_at;
@@ -45,6 +56,11 @@ pub enum NoLine {
 }
 
 impl From<AllocError> for NoLine {
+    ghost use Rattle.std.specs.Prelude.{◌≡◌};
+    ghost use Rattle.part_lines.specs.declared.reading.NoLine.TheVariants.{Memory};
+
+    ghost from_gives = { λ _ error. error ≡ Memory };
+
     fn from(_error: AllocError) -> NoLine {
         NoLine::Memory
     }
@@ -52,14 +68,18 @@ impl From<AllocError> for NoLine {
 
 /// Reads the line of a part, with or without its LF.
 pub fn read_line(alloc: Global, text: &str) -> Result<PartLine, NoLine>
-    ensures { IfOk result (λ line. (it : Data) × (read text.now ≡ Some it) × IsLineIn it line) }
+    ensures line { IfOk result (λ line. (it : Data) × (read text.now ≡ Some it) × IsLineIn it line) }
+    ensures refused { result ≡ Err NoLine.NoPart → (it : Data) → read text.now ≡ Some it → (line : PartLine) → line.listed ≡ None → ¬ (IsLineIn it line) }
+    ensures version { result ≡ Err NoLine.OtherVersion → (it : Data) → read text.now ≡ Some it → number_in (codes "geolint_part") it ≢ Some 1 }
 {
     let value = parse(alloc, text)?;
     read_value(alloc, &value)
 }
 
 fn parse(alloc: Global, text: &str) -> Result<Value, NoLine>
-    ensures { IfOk result (λ value. read text.now ≡ Some (view value)) }
+    ensures value { IfOk result (λ value. read text.now ≡ Some (view value)) }
+    ensures refused { result ≡ Err NoLine.NoPart → read text.now ≡ None }
+    ensures version { result ≢ Err NoLine.OtherVersion }
 {
     match Value::from_str(alloc, text) {
         Ok(value) => Ok(value),
@@ -69,7 +89,9 @@ fn parse(alloc: Global, text: &str) -> Result<Value, NoLine>
 }
 
 fn read_value(alloc: Global, value: &Value) -> Result<PartLine, NoLine>
-    ensures { IfOk result (IsLineIn (view value.now)) }
+    ensures line { IfOk result (IsLineIn (view value.now)) }
+    ensures refused { result ≡ Err NoLine.NoPart → (line : PartLine) → line.listed ≡ None → ¬ (IsLineIn (view value.now) line) }
+    ensures version { result ≡ Err NoLine.OtherVersion → number_in (codes "geolint_part") (view value.now) ≢ Some 1 }
 {
     match number_of(value, "geolint_part") {
         Some(VERSION) => {}
@@ -157,7 +179,8 @@ fn framing_named(name: &str) -> Option<Framing>
 }
 
 fn read_settings(value: &Value) -> Option<Settings>
-    ensures { IfSome result (IsSettingsIn (view value.now)) }
+    ensures some { IfSome result (IsSettingsIn (view value.now)) }
+    ensures none { result ≡ None → (settings : Settings) → ¬ (IsSettingsIn (view value.now) settings) }
 {
     let framing = framing_named(text_of(value, "framing")?)?;
     let limits = read_limits(value)?;
@@ -174,28 +197,50 @@ fn read_settings(value: &Value) -> Option<Settings>
 fn read_limits(value: &Value) -> Option<Limits>
     ensures bytes { IfSome result (λ limits. number_in (codes "max_bytes") (view value.now) ≡ Some limits.bytes) }
     ensures depth { IfSome result (λ limits. limits.depth ≡ most.depth) }
+    ensures allowed { IfSome result (λ limits. IsAllowed limits.depth limits.bytes) }
+    ensures none { result ≡ None → (bytes : ℕ) → IsAllowed most.depth bytes → number_in (codes "max_bytes") (view value.now) ≢ Some bytes }
 {
     Limits::new(Limits::usual().depth(), number_of(value, "max_bytes")?)
 }
 
 /// No clause says which: [`Kinds::insert`] has none.
-fn read_allowed(value: &Value) -> Option<Kinds> {
+fn read_allowed(value: &Value) -> Option<Kinds>
+    ensures some { IfSome result (λ allowed. IsAllowedIn (view value.now)) }
+    ensures none { result ≡ None → ¬ (IsAllowedIn (view value.now)) }
+{
+    let found = array_of(value, "allow")?;
+    read_each_kind(found.as_slice())
+}
+
+fn read_each_kind(found: &[Value]) -> Option<Kinds>
+    ensures some { IfSome result (λ allowed. All IsKindName (map view found.now)) }
+    ensures none { result ≡ None → ¬ (All IsKindName (map view found.now)) }
+{
     let mut allowed = Kinds::none();
-    for name in array_of(value, "allow")? {
-        allowed.insert(kind_named(name.as_str()?)?);
+    for one in found {
+        let kind = read_kind(one)?;
+        allowed.insert(kind);
     }
     Some(allowed)
 }
 
+fn read_kind(value: &Value) -> Option<Kind>
+    ensures some { IfSome result (λ kind. as_str (view value.now) ≡ Some (code_name (Code.Kind kind))) }
+    ensures none { result ≡ None → ¬ (IsKindName (view value.now)) }
+{
+    kind_named(value.as_str()?)
+}
+
 fn read_share(value: &Value) -> Option<Share>
-    ensures { IfSome result (IsShareIn (view value.now)) }
+    ensures some { IfSome result (IsShareIn (view value.now)) }
+    ensures none { result ≡ None → (share : Share) → ¬ (IsShareIn (view value.now) share) }
 {
     Share::new(number_of(value, "part")?, number_of(value, "parts")?)
 }
 
 fn read_checked(value: &Value) -> Option<CheckedPart>
-    ensures { IfSome result (λ part. (number_in (codes "begin") (view value.now) ≡ Some part.begin) × (number_in (codes "end") (view value.now) ≡ Some part.end)
-        × IsVerdictIn (view value.now) part.begin part.verdict) }
+    ensures some { IfSome result (IsCheckedIn (view value.now)) }
+    ensures none { result ≡ None → (part : CheckedPart) → ¬ (IsCheckedIn (view value.now) part) }
 {
     let begin = number_of(value, "begin")?;
     let end = number_of(value, "end")?;
@@ -208,7 +253,8 @@ fn read_checked(value: &Value) -> Option<CheckedPart>
 }
 
 fn read_verdict(value: &Value, begin: u64) -> Option<SeqVerdict>
-    ensures { IfSome result (IsVerdictIn (view value.now) begin) }
+    ensures some { IfSome result (IsVerdictIn (view value.now) begin) }
+    ensures none { result ≡ None → (verdict : SeqVerdict) → ¬ (IsVerdictIn (view value.now) begin verdict) }
 {
     match number_of(value, "records") {
         Some(records) => {
@@ -225,32 +271,37 @@ fn read_verdict(value: &Value, begin: u64) -> Option<SeqVerdict>
 
 /// The fault of a record.
 fn read_record(value: &Value, begin: u64) -> Option<Verdict>
-    ensures { IfSome result (IsRecordIn (view value.now) begin) }
+    ensures some { IfSome result (IsRecordIn (view value.now) begin) }
+    ensures none { result ≡ None → (verdict : Verdict) → ¬ (IsRecordIn (view value.now) begin verdict) }
 {
     let place = read_place(value, begin)?;
-    match code_named(text_of(value, "fault")?)? {
-        Code::Rule(rule) => Some(Verdict::Broken(Fault { place, rule })),
-        Code::Cause(cause) => Some(Verdict::NotJson(JsonFault { place, cause })),
-        _ => None,
+    let name = text_of(value, "fault")?;
+    if let Some(rule) = rule_named(name) {
+        return Some(Verdict::Broken(Fault { place, rule }));
     }
+    let cause = cause_named(name)?;
+    Some(Verdict::NotJson(JsonFault { place, cause }))
 }
 
 /// A place of a part, which the line counts from the start of the file.
 fn read_place(value: &Value, begin: u64) -> Option<u64>
-    ensures { IfSome result (IsPlaceIn (view value.now) begin) }
+    ensures some { IfSome result (IsPlaceIn (view value.now) begin) }
+    ensures none { result ≡ None → (place : ℕ) → ¬ (IsPlaceIn (view value.now) begin place) }
 {
     number_of(value, "at")?.checked_sub(begin)
 }
 
 fn read_warnings(value: &Value, begin: u64) -> Option<Warnings>
-    ensures { IfSome result (AreWarningsIn (view value.now) begin) }
+    ensures some { IfSome result (AreWarningsIn (view value.now) begin) }
+    ensures none { result ≡ None → (all : Warnings) → ¬ (AreWarningsIn (view value.now) begin all) }
 {
     let found = array_of(value, "warnings")?;
     read_each_warning(found.as_slice(), begin)
 }
 
 fn read_each_warning(found: &[Value], begin: u64) -> Option<Warnings>
-    ensures { IfSome result (AreWarningsOf begin (map view found.now)) }
+    ensures some { IfSome result (AreWarningsOf begin (map view found.now)) }
+    ensures none { result ≡ None → (all : Warnings) → ¬ (AreWarningsOf begin (map view found.now) all) }
 {
     let mut all = Warnings::none();
     for one in found {
@@ -261,8 +312,9 @@ fn read_each_warning(found: &[Value], begin: u64) -> Option<Warnings>
 }
 
 fn read_warning(value: &Value, begin: u64) -> Option<Warnings>
-    ensures { IfSome result (λ all. (kind : Kind) × (count : ℕ) × (place : ℕ) × IsWarningIn (view value.now) begin kind count place
+    ensures some { IfSome result (λ all. (kind : Kind) × (count : ℕ) × (place : ℕ) × IsWarningIn (view value.now) begin kind count place
         × StandsFor all (replicate count (warning_at place kind))) }
+    ensures none { result ≡ None → (kind : Kind) (count place : ℕ) → ¬ (IsWarningIn (view value.now) begin kind count place) }
 {
     let kind = kind_named(text_of(value, "kind")?)?;
     let count = read_count(value)?;
@@ -271,7 +323,9 @@ fn read_warning(value: &Value, begin: u64) -> Option<Warnings>
 }
 
 fn read_count(value: &Value) -> Option<u32>
-    ensures { IfSome result (λ count. number_in (codes "count") (view value.now) ≡ Some count) }
+    ensures some { IfSome result (λ count. number_in (codes "count") (view value.now) ≡ Some count) }
+    ensures fits { IfSome result (λ count. count < 2 ^ 32) }
+    ensures none { result ≡ None → (count : ℕ) → count < 2 ^ 32 → number_in (codes "count") (view value.now) ≢ Some count }
 {
     u32::try_from(number_of(value, "count")?).ok()
 }
@@ -293,7 +347,8 @@ fn code_named(name: &str) -> Option<Code>
 }
 
 fn rule_named(name: &str) -> Option<Rule>
-    ensures { IfSome result (λ rule. code_name (Code.Rule rule) ≡ name.now) }
+    ensures word { IfSome result (λ rule. code_name (Code.Rule rule) ≡ name.now) }
+    ensures all { (rule : Rule) → name.now ≡ code_name (Code.Rule rule) → IsSome result }
 {
     match name {
         "G1" => Some(Rule::G1),
@@ -322,7 +377,8 @@ fn rule_named(name: &str) -> Option<Rule>
 }
 
 fn kind_named(name: &str) -> Option<Kind>
-    ensures { IfSome result (λ kind. code_name (Code.Kind kind) ≡ name.now) }
+    ensures word { IfSome result (λ kind. code_name (Code.Kind kind) ≡ name.now) }
+    ensures all { (kind : Kind) → name.now ≡ code_name (Code.Kind kind) → IsSome result }
 {
     match name {
         "W1" => Some(Kind::W1),
@@ -339,7 +395,8 @@ fn kind_named(name: &str) -> Option<Kind>
 }
 
 fn cause_named(name: &str) -> Option<Cause>
-    ensures { IfSome result (λ cause. code_name (Code.Cause cause) ≡ name.now) }
+    ensures word { IfSome result (λ cause. code_name (Code.Cause cause) ≡ name.now) }
+    ensures all { (cause : Cause) → name.now ≡ code_name (Code.Cause cause) → IsSome result }
 {
     match name {
         "J1" => Some(Cause::Syntax),
@@ -352,7 +409,9 @@ fn cause_named(name: &str) -> Option<Cause>
 
 /// The notes on the records of a part.
 fn read_listed_if(alloc: Global, value: &Value, begin: u64) -> Result<Option<Listed>, NoLine>
-    ensures { IfOk result (IsListedIf (view value.now) begin) }
+    ensures listed { IfOk result (IsListedIf (view value.now) begin) }
+    ensures refused { result ≡ Err NoLine.NoPart → get (codes "every") (view value.now) ≢ None }
+    ensures version { result ≢ Err NoLine.OtherVersion }
 {
     if value.get("every").is_none() {
         return Ok(None);

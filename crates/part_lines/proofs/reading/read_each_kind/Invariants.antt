@@ -1,0 +1,10 @@
+use Rattle.std.proofs.Common.{take}
+use Rattle.std.specs.List.{All}
+use Rattle.std.specs.Prelude.{map}
+use Rattle.serde_json.specs.View.{view}
+use Rattle.part_lines.specs.LineObject.{IsKindName}
+use Rattle.part_lines.proofs.reading.read_each_kind.Given as goal
+
+-- those before this one
+abbrev pub invariant-loop-one : goal.invariant-loop-one
+invariant-loop-one l = All IsKindName (take l.one-index (map view l.found))
