@@ -6,3 +6,4 @@ pub mod Told
 pub mod Listed
 pub mod Internal
 pub mod JoinedRun
+pub mod AskedLine

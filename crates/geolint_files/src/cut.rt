@@ -1,4 +1,20 @@
 //! A file of records is checked in parts, and their lines are joined.
+//!
+//! No contract can say what an open file gives. Those here say which part a line is of and with which options, and that what is
+//! joined is the verdict of the file, if the lines are true.
+
+ghost use Rattle.std.specs.Prelude.{◌≡◌, ℕ, List, IfOk, Some};
+ghost use Rattle.std.specs.List.{All};
+ghost use Rattle.gj_json.specs.Limits.{Allowed};
+ghost use Rattle.gj_join.specs.Joined.{IsVerdictOf};
+ghost use Rattle.gj_rules.specs.declared.records.framing.Framing.{Framing};
+ghost use Rattle.part_lines.specs.Lines.{IsLineOf};
+ghost use Rattle.part_lines.specs.LineObject.{IsLineIn};
+ghost use Rattle.part_lines.specs.LineText.{line_text};
+ghost use Rattle.part_lines.specs.declared.line.PartLine.{PartLine};
+ghost use Rattle.serde_json.specs.Data.{Data};
+ghost use Rattle.serde_json.specs.Read.{read};
+ghost use Rattle.geolint_files.specs.AskedLine.{IsAskedLine};
 
 use crate::files::{look_up, reason};
 use crate::outcome::Outcome;
@@ -37,7 +53,9 @@ pub fn check_share(rt: &HostRuntime, order: &Order, share: Share) -> io::Result<
 }
 
 /// The line of a part of a file.
-fn line_of(rt: &HostRuntime, order: &Order, share: Share, name: &[u8]) -> io::Result<Vec<u8>> {
+fn line_of(rt: &HostRuntime, order: &Order, share: Share, name: &[u8]) -> io::Result<Vec<u8>>
+    ensures { IfOk result (λ bytes. (line : PartLine) × IsAskedLine order.now.options share line × (bytes.items ≡ line_text line)) }
+{
     let alloc = rt.alloc();
     let options = &order.options;
     let Some(framing) = framing_by(options.framing, name) else {
@@ -79,8 +97,14 @@ fn line_of(rt: &HostRuntime, order: &Order, share: Share, name: &[u8]) -> io::Re
             _ => None,
         },
     };
+    text_of(alloc, &line)
+}
+
+fn text_of(alloc: Global, line: &PartLine) -> io::Result<Vec<u8>>
+    ensures { IfOk result (λ bytes. bytes.items ≡ line_text line.now) }
+{
     let mut bytes = Vec::new(alloc);
-    put_line(alloc, &line, &mut bytes)?;
+    put_line(alloc, line, &mut bytes)?;
     Ok(bytes)
 }
 
@@ -162,7 +186,10 @@ fn join_given(
     alloc: Global,
     order: &Order,
     given: &Given,
-) -> Result<(SeqVerdict, Option<Notes>), Refusal> {
+) -> Result<(SeqVerdict, Option<Notes>), Refusal>
+    ensures { IfOk result (λ found. (framing : Framing) (limits : Allowed) (text : List ℕ) → All (IsLineOf framing limits text) given.now.lines.items
+        → IsVerdictOf framing limits text found.0) }
+{
     let lines = given.lines.as_slice();
     let verdict = join_lines(alloc, lines)?;
     match asked_in(&order.options) {
@@ -237,7 +264,9 @@ fn add_lines(alloc: Global, path: usize, bytes: &[u8], given: &mut Given) -> Res
     Ok(())
 }
 
-fn read_bytes(alloc: Global, text: &[u8]) -> Result<PartLine, NoLine> {
+fn read_bytes(alloc: Global, text: &[u8]) -> Result<PartLine, NoLine>
+    ensures { IfOk result (λ line. (it : Data) × (read text.now ≡ Some it) × IsLineIn it line) }
+{
     match str::from_utf8(text) {
         Ok(text) => read_line(alloc, text),
         Err(_) => Err(NoLine::NoPart),
