@@ -27,7 +27,7 @@
     last = level;
   }
   for (const it of seen("table")) wants(it.querySelector("th"), "a table without heads", it);
-  wants(document.querySelector("[aria-live=polite]") && document.querySelector("[role=alert]"), "nothing is told aloud (4.1.3)");
+  wants(document.querySelector("[aria-live=polite]") && document.querySelector("[role=alert]"), "nothing is read aloud (4.1.3)");
 
   // The keys (2.1.1, 2.4.3): what can be pressed can be reached.
   for (const it of all("[tabindex]")) wants(it.tabIndex <= 0, "an order of its own", it);

@@ -1,4 +1,4 @@
-// Judges each file of a folder by the sources of a folder, and compares with the report of geolint-files in the form json:
+// Checks each file of a folder by the sources of a folder, and compares with the report of geolint-files in the form json:
 //
 //     node compare.mjs SOURCES MODULE FOLDER REPORT [MOST]
 //

@@ -80,9 +80,9 @@ for (const line of readFileSync(`${folder}/expected.jsonl`, "utf8").trim().split
   const again = geolint.records(blob, { framing: "sequence", which: "all" });
   let all = 0;
   for await (const it of again) all += it.verdict === "valid" ? 1 : 0;
-  if (all !== count || again.verdict.records !== count) differs(name, "what is saved is judged", all, count, again.verdict);
+  if (all !== count || again.verdict.records !== count) differs(name, "what is saved is checked", all, count, again.verdict);
 }
-// Features that are longer than what is judged at once, some of them over the end of a piece that is read.
+// Features that are longer than what is checked at once, some of them over the end of a piece that is read.
 const long = Array.from({ length: 90 }, (_, i) => `{"type":"Feature","id":${i},"properties":{"pad":"${"é".repeat(100_000)}"},"geometry":{"type":"Point","coordinates":[1${i % 3 ? "" : ",2"}]}}`);
 const whole = Buffer.from(`{"type":"FeatureCollection","features":[\n${long.join(",\n")}\n]}`);
 for (const way of ways.slice(0, 2)) {

@@ -1,4 +1,4 @@
-/* Judges each file that is named, whole and in pieces of 37 bytes, and prints a line: the verdict with its rule and place, or each
+/* Checks each file that is named, whole and in pieces of 37 bytes, and prints a line: the verdict with its rule and place, or each
  * kind of warning with its count and its first place. */
 #include <geolint.h>
 #include <inttypes.h>

@@ -117,7 +117,7 @@ def reports(browser):
     of_features = [it for it in got if "feature" in it]
     got = [it for it in got if "feature" not in it]
     wants("the saved lines are the native report", got == wanted, [(a, b) for a, b in zip(got, wanted) if a != b][:1])
-    # Each of these files has one fault or one kind of warning, and where it lies in a feature it is told there too.
+    # Each of these files has one fault or one kind of warning, and where it lies in a feature it is reported there too.
     first = [{it["path"]: it for it in wanted}[it["path"]] for it in of_features]
     wants("with those of features", len(first) > 4 and all(a["offset"] == (b["offset"] if b["rule"] else b["warnings"][0]["offset"]) for a, b in zip(of_features, first)), of_features)
     browser.value("document.getElementById('save-sarif').click()")
@@ -167,7 +167,7 @@ def dropped(browser):
         browser.drop([f"{ROOT}/examples"])
         browser.wait(DONE.format(len(EXAMPLES) + 2))
         wants("a dropped folder", browser.value("[...document.querySelectorAll('h3')].some((it) => it.textContent === 'examples/faulty/open-ring.geojson')"))
-        wants("what was passed over is told", "passed over" in browser.value("document.getElementById('notice').textContent"))
+        wants("what was passed over is reported", "passed over" in browser.value("document.getElementById('notice').textContent"))
 
 
 def stopped(browser):
@@ -321,11 +321,11 @@ def listed(browser):
     browser.look(**PHONE)
     browser.shot(shots / f"{name}-list-phone.png")
     browser.look()
-    # The valid features, which are then judged.
+    # The valid features, which are then checked.
     browser.value("document.querySelector('.save-valid').click()")
     saved = browser.downloaded("many.valid.geojsons")
     wants("the valid features are saved unchanged", saved == "".join(f"\x1e{it}\n" for i, it in enumerate(features) if i % 6 == 5), saved[:200])
-    wants("that is told", browser.value("document.getElementById('status').textContent") == "2,000 valid ones of many.geojson are saved as a text sequence.",
+    wants("that is reported", browser.value("document.getElementById('status').textContent") == "2,000 valid ones of many.geojson are saved as a text sequence.",
           browser.value("document.getElementById('status').textContent"))
     (room / "saved.geojsons").write_text(saved)
     (room / "broken.ndjson").write_text(f'{POINT % 1}\r\n\n{RING % (2, 2, 2)}\n{POINT % 300}\n')

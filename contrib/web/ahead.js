@@ -1,10 +1,10 @@
-// Reads a file in a worker of its own, while another one judges what was read. Each piece goes over with its buffer, and the buffer
+// Reads a file in a worker of its own, while another one checks what was read. Each piece goes over with its buffer, and the buffer
 // comes back, so that nothing is copied.
 
 import { STRIDE } from "./lines.js";
 import { piecesOfBlob, roomsFor } from "./source.js";
 
-/** So many buffers: one is judged, the one before it may be read again, and the others are filled ahead. */
+/** The number of buffers: one is checked, the one before it may be read again, and the others are filled ahead. */
 const ROOMS = 5;
 
 /** In the worker that reads. A reading has a number, and ends where the next begins. */
@@ -41,7 +41,7 @@ export class Reader {
   }
 }
 
-/** In the worker that judges: files as inputs that a further worker of the same script reads. */
+/** In the worker that checks: files as inputs that a further worker of the same script reads. */
 export class ReadAhead {
   #worker = null;
   #turn = 0;

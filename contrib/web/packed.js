@@ -13,7 +13,7 @@ const numberOf = (rule) => (rule === null ? 0 : Number(rule.slice(1)));
 const placed = (it) => it ?? -1;
 const unplaced = (it) => (it < 0 ? null : it);
 
-/** Makes parts of findings that are told in brief. */
+/** Makes parts of findings that are reported in brief. */
 export class Packer {
   #room = new Float64Array(ROOM);
   #used = 0;

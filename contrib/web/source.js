@@ -51,7 +51,7 @@ class SlicedSource {
     }
   }
 
-  /** The next piece is read while this one is judged. */
+  /** The next piece is read while this one is checked. */
   async *#sliced() {
     let next = this.#input.read(0, Math.min(STRIDE, this.size));
     for (let at = 0; ; ) {
@@ -160,7 +160,7 @@ async function* piecesOfBytes(stream, rooms) {
       if (done) return;
     }
   } finally {
-    // Where the reading ends early, the stream is told so.
+    // If the reading ends early, the stream is cancelled.
     reader.cancel().catch(() => {});
   }
 }
@@ -184,7 +184,7 @@ async function* piecesOfStream(stream, rooms = null) {
       if (room) rooms.give(room);
     }
   } finally {
-    // Where the reading ends early, the stream is told so.
+    // If the reading ends early, the stream is cancelled.
     reader.cancel().catch(() => {});
   }
 }

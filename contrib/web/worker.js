@@ -6,16 +6,16 @@ import { Reader, ReadAhead } from "./ahead.js";
 import { unpacked, checksumOf } from "./unpack.js";
 import { Packer } from "./packed.js";
 
-/** The page is told how far the reading is no more often than this, in milliseconds. */
+/** How far the reading is, is reported to the page no more often than this, in milliseconds. */
 const PAUSE = 80;
-/** So many faults of a file are listed, and so many features with warnings; the others are counted. */
+/** How many faults of a file are listed at most, and how many features with warnings; the others are counted. */
 const MOST = 65_536;
 
 let geolint;
 const files = new ReadAhead();
 const reader = new Reader();
 
-/** Tells how far a reading is, with what else is told of it. */
+/** Reports how far a reading is, with what else is known of it. */
 function meter(kind, more = {}) {
   const begun = performance.now();
   let told = begun;

@@ -158,7 +158,7 @@ final class Misuse {
             }
         };
         Tally.refuses("a stream that fails", IOException.class, "cut", () -> Geolint.check(failing));
-        Tally.refuses("a stream that fails, judged", IOException.class, "cut", () -> new JudgingInputStream(failing).verdict());
+        Tally.refuses("a stream that fails, checked", IOException.class, "cut", () -> new JudgingInputStream(failing).verdict());
         InputStream lying = new InputStream() {
             @Override
             public int read() {
