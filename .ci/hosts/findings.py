@@ -68,7 +68,7 @@ class Reader:
 
 
 def shifted(verdict, by):
-    """A verdict with its places so many bytes further on, as plain values."""
+    """A verdict with its places moved on by this many bytes, as plain values."""
     place = None if verdict.place is None else verdict.place + by
     return verdict.name, verdict.rule, verdict.cause, place, tuple((w.kind, w.count, w.first + by) for w in verdict.warnings)
 

@@ -2,8 +2,8 @@
 
     service.py [--browser] [--gunicorn] FILE..
     service.py --at-once N [--features N] [--feature-bytes N] [--broken]
-                                  so many uploads, each of ten times so many features of so many bytes, all of them broken where that is
-                                  asked, for ten minutes at most
+                                  N uploads at once. Each has ten times --features features of --feature-bytes each, which are all broken
+                                  under --broken. For ten minutes at most
 
 It is run by the Python that has Debian's packages uvicorn and python3-multipart, and for a browser python3-websocket and chromium."""
 
@@ -197,7 +197,7 @@ class Upload:
         await self.writer.drain()
 
     async def round(self, count):
-        """So many features more, in pieces that the client need not hold all at once."""
+        """That many features more, in pieces that the client need not hold all at once."""
         step = max(1, 60_000 // len(self.feature))
         for at in range(0, count, step):
             await self.send(self.feature * min(step, count - at))
@@ -210,7 +210,7 @@ class Upload:
 
 
 async def stored_so_far(least):
-    """Waits until so many bytes are stored, but for what the server's files hold back."""
+    """Waits until that many bytes are stored, but for what the server's files hold back."""
     end = time.monotonic() + 120
     while time.monotonic() < end and sum(entry.stat().st_size for entry in os.scandir(folder)) < least:
         await asyncio.sleep(0.05)
@@ -226,7 +226,7 @@ async def one_more():
 
 
 async def at_once(count, features, feature_bytes, is_broken, rounds=10):
-    """So many uploads, all of them open at once: the memory once each round of their bytes is checked and stored, and how long another
+    """That many uploads, all of them open at once: the memory once each round of their bytes is checked and stored, and how long another
     upload takes while they wait and while they send."""
     empty = b'{"type":"Feature","geometry":{"type":"Point","coordinates":[%s]},"properties":{"x":""}},' % (b"1" if is_broken else b"1,2")
     Upload.feature = empty.replace(b'""', b'"' + b"y" * (feature_bytes - len(empty)) + b'"')

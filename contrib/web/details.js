@@ -5,7 +5,7 @@ import { calledOf, valueOf, writtenId, ID_REACH } from "./names.js";
 
 /** A name is sought in features that are no longer than this. */
 const NAME_REACH = 256 << 10;
-/** What is read again is read by at least so many bytes: findings lie one after the other. */
+/** The fewest bytes that are read again at once: findings lie one after the other. */
 const WINDOW = 256 << 10;
 
 /** The places of a finding, each once, in their order. */

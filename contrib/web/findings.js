@@ -2,7 +2,7 @@
 
 import { Details, placesOf } from "./details.js";
 
-/** So many bytes are checked before what they show is reported: in a text as [1,1,1] each second byte ends an element. */
+/** How many bytes are checked before what they show is reported: in a text as [1,1,1] each second byte ends an element. */
 const STEP = 64 << 10;
 /** The first bytes of a text, in which the names stand that can already show that it is not valid. */
 const EARLY = 64 << 10;

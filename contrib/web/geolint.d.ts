@@ -148,7 +148,7 @@ export interface Options extends Limits {
 export interface SearchOptions extends Limits {
   /** What is reported: what has a fault, also what has a warning (the default), or all. */
   which?: "faults" | "findings" | "all";
-  /** No more than so many faults are reported, and no more than so many features or records with warnings alone. `counts` has them all. */
+  /** The most faults that are reported, and the most features or records with warnings alone. `counts` has them all. */
   most?: number;
   /** Findings are reported in brief, which is faster where there are many of them: `completed` adds the rest. */
   isBrief?: boolean;
@@ -205,5 +205,5 @@ export function linesOfFindings(name: string, items: Found[], more?: number): st
 export function githubOfFindings(name: string, items: Found[], more?: number, fails?: (rule: string) => boolean): string;
 export function textOfFindings(items: Found[], more?: number): string;
 
-/** A path is given for places up to so many bytes from the start, and for all places inside features. */
+/** How many bytes from the start a place may be to get a path; places inside features always get one. */
 export const PATH_REACH: number;

@@ -3,7 +3,7 @@
 
 const LF = 10;
 const CR = 13;
-/** An input is read by so many bytes at once, and so many lie between two marks, at least. */
+/** How many bytes of an input are read at once, and how many lie between two marks, at least. */
 export const STRIDE = 1 << 20;
 /** How many bytes of a line are looked at on each side of a place, and how many characters are shown. */
 const AROUND = 256;

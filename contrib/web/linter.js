@@ -71,7 +71,7 @@ class Handle {
     return this.words[at / 4] + 2 ** 32 * this.words[at / 4 + 1];
   }
 
-  /** The report that stands `at` so many bytes from the start of the answer. Places are byte offsets from 0. */
+  /** The report that stands `at` bytes from the start of the answer. Places are byte offsets from 0. */
   reportAt(at) {
     if (this.wordAt(at) !== DONE) throw wrongState(this.wordAt(at));
     const [verdict, rule, cause] = [4, 8, 12].map((it) => this.wordAt(at + it));

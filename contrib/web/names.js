@@ -5,7 +5,7 @@ const NAMES = ["name", "Name", "NAME", "title", "Title", "label", "ref"];
 const LONGEST = 60;
 /** The most characters of an id as it is written. */
 const ID_LONGEST = 40;
-/** So many bytes hold so many characters. */
+/** The most bytes that as many characters take. */
 export const ID_REACH = 4 * ID_LONGEST;
 
 const isTold = (it) => (typeof it === "string" && it.trim() !== "") || Number.isFinite(it);

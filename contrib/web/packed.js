@@ -3,7 +3,7 @@
 
 const VERDICTS = ["valid", "broken", "not JSON"];
 const LETTERS = { broken: "G", "not JSON": "J" };
-/** So many numbers are kept of a finding, and so many more of each of its warnings. A place that is not there is -1. */
+/** How many numbers are kept of a finding, and how many more of each of its warnings. A place that is not there is -1. */
 const HEAD = 10;
 const WARNED = 5;
 /** A part has no more numbers than this. */

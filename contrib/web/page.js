@@ -18,9 +18,9 @@ let worker = null;
 let isReady = false;
 let current = null;
 let about = null;
-/** So many items are completed at once. */
+/** How many items are completed at once. */
 const BATCH = 1000;
-/** So many cards are drawn. */
+/** How many cards are drawn. */
 let shown = STEP;
 
 // ---- the checker

@@ -3,7 +3,7 @@
 
 import { make } from "./dom.js";
 
-/** So many rows are made beyond those that are seen, on each side. */
+/** How many rows are made beyond those that are seen, on each side. */
 const BEYOND = 8;
 const STEPS = { ArrowDown: () => 1, ArrowUp: () => -1, PageDown: (page) => page, PageUp: (page) => -page, Home: () => -Infinity, End: () => Infinity };
 

@@ -3,9 +3,9 @@
 import { HEAD } from "./hints.js";
 import { STRIDE } from "./lines.js";
 
-/** So many bytes of a stream are kept, for what is near the end of what was read. */
+/** How many bytes of a stream are kept, for what is near the end of what was read. */
 const KEPT = 16 << 20;
-/** A Blob is read by streams of so many. */
+/** How many bytes of a Blob one stream reads. */
 const STREAM = 1 << 30;
 
 /** What an input is read by: `pieces()` in order, of at most STRIDE bytes each, and `read(from, to)`, which is null for bytes that are gone. */
@@ -129,7 +129,7 @@ class FlowingSource {
   }
 }
 
-/** So many buffers for the pieces of an input of `size` bytes. */
+/** As many buffers as the pieces of an input of `size` bytes need. */
 export const roomsFor = (size, count) => Array.from({ length: count }, () => new ArrayBuffer(Math.min(STRIDE, size + 1)));
 
 /** Buffers that are used by turns. */

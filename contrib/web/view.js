@@ -6,7 +6,7 @@ import { make } from "./dom.js";
 import { listingOf, tableOfAll } from "./listing.js";
 import { calledOf } from "./names.js";
 
-/** So many rows of a table, and cards of a list, are drawn at once. */
+/** How many rows of a table, and cards of a list, are drawn at once. */
 export const STEP = 100;
 
 /** What is reported of a file: the fault, or each kind of warning. */

@@ -17,7 +17,7 @@ final class Huge {
 
     private Huge() {}
 
-    /** So many spaces, and then a text. */
+    /** As many spaces as asked for, and then a text. */
     private static final class Spaces extends InputStream {
         private long left = SPACES;
         private int next;

@@ -155,7 +155,7 @@ def text_of(call: Any, *number: int) -> str:
 
 
 def room(size: int) -> tuple[Any, int]:
-    """Memory of so many bytes, and the address in it where a handle lies."""
+    """Memory of this many bytes, and the address in it where a handle lies."""
     alignment = library.geolint_alignment()
     memory = ctypes.create_string_buffer(size + alignment)
     return memory, -(-ctypes.addressof(memory) // alignment) * alignment

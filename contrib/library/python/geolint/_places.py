@@ -72,7 +72,7 @@ class Seeker:
         self._ahead = 0
 
     def skip(self, start: int, count: int) -> None:
-        """Takes so many bytes, which lie at an address."""
+        """Takes this many bytes, which lie at an address."""
         self._lines = library.geolint_lines_feed(self._lines, start, count)
         ahead = min(self._ahead, count)
         library.geolint_locator_feed(self._at, start + ahead, count - ahead)

@@ -6,7 +6,7 @@ use std::io::{self, Read};
 const POINT: &str = r#"{"type":"Point","coordinates":[1,2]}"#;
 const BOTH: &str = r#"{"type":"FeatureCollection","features":[7,{"type":"Feature","id":3,"geometry":null,"properties":null}]}"#;
 
-/// Gives so many bytes at a time, and fails in the end where it is told to.
+/// Gives this many bytes at a time, and fails in the end where it is told to.
 struct Slow<'a> {
     text: &'a [u8],
     size: usize,

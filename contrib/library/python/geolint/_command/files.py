@@ -211,7 +211,7 @@ def _spots(file: Any, places: list[tuple[int, int]]) -> dict[int, Place]:
 
 
 def _slice(file: Any, place: int, before: int, after: int) -> tuple[bytes, bytes]:
-    """So many bytes before a place and from it on."""
+    """The bytes around a place: at most `before` of those before it, and at most `after` from it on."""
     start = max(0, place - before)
     file.seek(start)
     held = file.read(place - start + after)

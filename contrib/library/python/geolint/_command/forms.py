@@ -217,7 +217,7 @@ def _note_github(found: Found, note: Note, asked: Asked, colour: bool) -> str:
 
 
 def more(form: str, name: bytes, count: int, colour: bool) -> str:
-    """That so many findings of features are not listed."""
+    """The line that says how many findings of features are not listed."""
     if form == "json":
         return _dumped({"path": _string(name), "more": count})
     if form == "github":
