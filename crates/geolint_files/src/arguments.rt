@@ -14,7 +14,7 @@ const FIRST: u32 = 0x10_FF00;
 /// No word of a command line is longer on Linux.
 const LONGEST_WORD: usize = 1 << 17;
 
-/// The words after the program's name, as text.
+/// The words after the program's name, as text. An error is answered where there is no memory.
 pub fn given_words(rt: &HostRuntime) -> Result<Vec<String>, AllocError> {
     let mut room = Vec::new(rt.alloc());
     room.resize(LONGEST_WORD, 0u8)?;

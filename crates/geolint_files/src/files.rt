@@ -12,7 +12,8 @@ use std::str;
 /// The system's number for bytes that are no text (`EILSEQ`).
 const NO_TEXT: i32 = 84;
 
-/// What a name leads to.
+/// What a name leads to, links followed. An error is answered where it is no Unicode text, where there is nothing, or where it may not be
+/// looked at.
 pub fn look_up(rt: &HostRuntime, name: &[u8]) -> io::Result<(Spelled, Metadata)> {
     let spelled = spell(rt.alloc(), name)?;
     let metadata = spelled.metadata(rt)?;
@@ -53,12 +54,15 @@ pub fn spell(alloc: Global, name: &[u8]) -> io::Result<Spelled>
 impl Spelled {
     ghost use Rattle.std.specs.Prelude.{◌≡◌, string_bytes};
 
+    /// The name as std takes it.
     pub fn as_str(&self) -> &str
         ensures { result.now ≡ string_bytes self.now.text }
     {
         self.text.as_str()
     }
 
+    /// What the system says of what the name leads to, links followed. An error is answered where there is nothing, or it may not be
+    /// looked at.
     pub fn metadata(&self, rt: &HostRuntime) -> io::Result<Metadata> {
         fs::metadata(rt, self.text.as_str())
     }
@@ -68,6 +72,7 @@ impl Spelled {
         fs::symlink_metadata(rt, self.text.as_str())
     }
 
+    /// Opens it for reading. An error is answered where the system refuses.
     pub fn open(&self, rt: &HostRuntime) -> io::Result<File> {
         fs::open(rt, self.text.as_str())
     }

@@ -16,7 +16,7 @@ impl Outcome {
     ghost use Rattle.geolint_files.specs.declared.outcome.Outcome.{Outcome};
     ghost use Rattle.geolint_files.specs.Outcome.{status_of, outcome_of, worse, worst};
 
-    /// Of one file that was read.
+    /// The outcome of one file that was read.
     pub fn of(passes: bool) -> Outcome
         ensures { result ≡ outcome_of passes }
     {
@@ -26,7 +26,7 @@ impl Outcome {
         }
     }
 
-    /// The program's status.
+    /// The program's exit status: 0, 1 or 2.
     pub fn status(self) -> u8
         ensures { result ≡ status_of self }
     {
@@ -37,7 +37,7 @@ impl Outcome {
         }
     }
 
-    /// With one file more, the worst of all.
+    /// The worst of this outcome and that of one more file.
     pub fn add(&mut self, other: Outcome)
         ensures { (outcomes : List Outcome) → self.old ≡ worst outcomes → self.new ≡ worst (outcomes ++ other ∷ []) }
     {

@@ -56,6 +56,7 @@ fn ends_in(name: &[u8], ending: &[u8]) -> bool
 /// The files in folders that are passed over, since their names have other endings.
 #[derive(Drop)]
 pub struct Others {
+    /// How many they are.
     pub count: u64,
     /// The ending of the first one, with its dot; the whole name where it has none.
     pub ending: Vec<u8>,
@@ -66,6 +67,7 @@ impl Others {
     ghost use Rattle.std.specs.Io.Iter.{u64_saturate};
     ghost use Rattle.geolint_files.specs.Walk.{ending_of};
 
+    /// None yet.
     pub fn new(alloc: Global) -> Others
         ensures { (result.count ≡ 0) × (result.ending.items ≡ []) }
     {
@@ -114,6 +116,7 @@ fn start_after(byte: u8, place: usize, start: usize) -> usize
 /// A name that is still to be looked at.
 #[derive(Drop)]
 pub struct Pending {
+    /// The name, as the system or the words gave it.
     pub name: Vec<u8>,
     /// It was given and not found in a folder, so it is checked whatever it is called.
     pub is_given: bool,

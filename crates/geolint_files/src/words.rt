@@ -56,6 +56,7 @@ Examples:
 /// What the words ask for.
 #[derive(Drop)]
 pub struct Order {
+    /// How files are checked and reported.
     pub options: Options,
     /// What is to be explained, in place of a run.
     pub explained: Option<Topic>,
@@ -63,6 +64,7 @@ pub struct Order {
     pub paths: Vec<Vec<u8>>,
     /// The file with more names.
     pub list: Option<Vec<u8>>,
+    /// The byte that ends each name in it.
     pub name_end: NameEnd,
     /// The endings of names that are checked in a folder beside the usual ones, each with its dot.
     pub endings: Vec<Vec<u8>>,
@@ -83,7 +85,7 @@ pub struct Parts {
     pub overwrites: bool,
 }
 
-/// The order that the words give.
+/// The order that the words give. An error has the text for standard error, or that of `--help` and `--version`.
 pub fn order_in(alloc: Global, words: &[String]) -> Result<Order, Error> {
     let mut command = command(alloc)?;
     let matches = command.try_get_matches_from_mut(words)?;

@@ -24,7 +24,7 @@ pub fn joined_lines()
         → IsWholeVerdict Framing.Lines limits (first ++ second) (joined_verdict (length first) one other) }
 {}
 
-/// Three parts give the same, whichever two are joined first: the first has so many bytes, and the second so many.
+/// Three parts give the same, whichever two are joined first. The first has `end` bytes, and the second `more`.
 pub fn joined_in_any_grouping()
     ensures { (end more : ℕ) (one two three : SequenceJudgement) →
         joined_judgement (end + more) (joined_judgement end one two) three ≡ joined_judgement end one (joined_judgement more two three) }

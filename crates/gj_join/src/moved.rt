@@ -16,14 +16,14 @@ use gj_rules::Verdict;
 /// No place of a moved verdict is beyond this one.
 const GREATEST_PLACE: u64 = 1 << 61;
 
-/// Whether a place fits so many bytes further on.
+/// Whether a place that is moved on by `by` bytes is at most the greatest.
 fn place_fits(place: u64, by: u64) -> bool
     ensures { IsTrue result ↔ (place + by ≤ greatest_place) }
 {
     by <= GREATEST_PLACE && place <= GREATEST_PLACE - by
 }
 
-/// Whether the least place of a kind fits so many bytes further on.
+/// Whether the least place of a kind is.
 fn kind_fits(warnings: &Warnings, kind: Kind, by: u64) -> bool
     ensures { IsTrue result ↔ ((place : ℕ) → first_in kind warnings.now ≡ Some place → place + by ≤ greatest_place) }
 {
@@ -45,7 +45,7 @@ fn warnings_fit(warnings: &Warnings, by: u64) -> bool
     true
 }
 
-/// The warnings with each place so many bytes further on, where these fit.
+/// The warnings with each place moved on by `by` bytes. `None` where a place goes past 2^61.
 pub fn moved_warnings(warnings: Warnings, by: u64) -> Option<Warnings>
     ensures exact { IfSome result (λ moved. moved ≡ shifted warnings by) }
     ensures stands { IfSome result (λ moved. (list : List Warning) → StandsFor warnings list → StandsFor moved (map (shifted_by by) list)) }
@@ -58,7 +58,7 @@ pub fn moved_warnings(warnings: Warnings, by: u64) -> Option<Warnings>
     }
 }
 
-/// The verdict with each place so many bytes further on, where these fit.
+/// The verdict with each place moved on by `by` bytes. `None` where a place goes past 2^61.
 pub fn moved(verdict: Verdict, by: u64) -> Option<Verdict>
     ensures exact { IfSome result (λ moved. moved ≡ shifted_verdict by verdict) }
     ensures says { IfSome result (λ moved. (judgement : Judgement) → Says verdict judgement → Says moved (shifted_judgement by judgement)) }

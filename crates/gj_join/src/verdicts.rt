@@ -13,12 +13,12 @@ use crate::moved::{moved, moved_warnings};
 use gj_coords::Warnings;
 use gj_rules::{SeqVerdict, one_sequence_verdict};
 
-/// The verdict of a text sequence (RFC 8142) or of newline-delimited texts, given those of two parts, of which the first has so
-/// many bytes.
+/// The verdict of a text sequence (RFC 8142) or of newline-delimited texts, given those of two parts, of which the first has `end`
+/// bytes.
 ///
 /// The second part of a sequence begins with RS, and the first does not end with it. The first part of lines ends with LF. The
 /// first part is shorter than the limit on the bytes of the whole, and the limit for the second part is what it leaves. `None`
-/// where a number goes past 64 bits, which the verdicts of such parts under the usual limits never do.
+/// where the number of a record goes past 64 bits or a place past 2^61, which those of such parts under the usual limits never do.
 pub fn join(first: SeqVerdict, end: u64, second: SeqVerdict) -> Option<SeqVerdict>
     ensures joined { IfSome result (λ whole. (framing : Framing) (limits : Allowed) (part rest : List ℕ) → ArePartsOf framing limits part rest
         → end ≡ length part → IsVerdictOf framing limits part first → IsVerdictOf framing (limits_after limits end) rest second

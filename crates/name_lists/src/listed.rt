@@ -12,6 +12,7 @@ pub enum NameEnd {
 impl NameEnd {
     ghost use Rattle.name_lists.specs.Listed.{end_byte};
 
+    /// The byte itself: 10 or 0.
     pub(crate) fn byte(self) -> u8
         ensures { result ≡ end_byte self }
     {

@@ -11,7 +11,9 @@ const MARK: [u8; 14] = *b"geolint-build:";
 /// The bytes of a file from one place up to another.
 #[derive(Clone, Copy, Debug, PartialEq, Eq)]
 pub struct BuildPlace {
+    /// The byte offset of the first.
     pub start: usize,
+    /// The byte offset after the last.
     pub end: usize,
 }
 

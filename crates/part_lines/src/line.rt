@@ -9,7 +9,9 @@ use sequence_parts::{CheckedPart, Share};
 /// A file as the system showed it when a part of it was checked.
 #[derive(Debug, Drop, PartialEq, Eq)]
 pub struct FileState {
+    /// Its name, as it was given.
     pub path: String,
+    /// How many bytes it has.
     pub size: u64,
     /// When it was changed last: seconds and nanoseconds, with a dot between them.
     pub modified: String,
@@ -18,25 +20,36 @@ pub struct FileState {
 /// What decides whether the file passes, beside its bytes.
 #[derive(Clone, Copy, PartialEq, Eq)]
 pub struct Settings {
+    /// How its texts are divided.
     pub framing: Framing,
+    /// The limits of the whole file.
     pub limits: Limits,
+    /// A valid file with a warning does not pass.
     pub strict: bool,
+    /// The kinds of warning that pass all the same.
     pub allowed: Kinds,
 }
 
 /// The notes on the records of a part, and what was asked of these.
 #[derive(Drop)]
 pub struct Listed {
+    /// Which notes were asked for, and how many.
     pub asked: Asked,
+    /// The notes themselves, with the counts of all.
     pub notes: Notes,
 }
 
 /// One part of a file, and what was found of it.
 #[derive(Drop)]
 pub struct PartLine {
+    /// The file that it is a part of.
     pub file: FileState,
+    /// The options that it was checked with.
     pub settings: Settings,
+    /// Which part it is, of how many.
     pub share: Share,
+    /// Its bytes and their verdict.
     pub checked: CheckedPart,
+    /// The notes on its records, under `--every`.
     pub listed: Option<Listed>,
 }

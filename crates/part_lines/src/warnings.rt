@@ -6,7 +6,7 @@ ghost use Rattle.gj_coords.specs.WarningsStand.{StandsFor};
 
 use gj_coords::{Kind, Warnings};
 
-/// So many warnings of a kind at one place.
+/// As many warnings of a kind as `count` says, at one place.
 pub fn warnings_at(kind: Kind, place: u64, count: u32) -> Warnings
     ensures { StandsFor result (replicate count (warning_at place kind)) }
 {

@@ -26,8 +26,11 @@ use std::io::{self, ErrorKind};
 /// The bytes of a part, and their verdict by themselves: its places count from the first of them, and its records from 1.
 #[derive(Clone, Copy)]
 pub struct CheckedPart {
+    /// The byte offset of the first of them in the file.
     pub begin: u64,
+    /// The byte offset after the last of them.
     pub end: u64,
+    /// What they are by themselves: an offset in it counts from `begin`.
     pub verdict: SeqVerdict,
 }
 
@@ -35,7 +38,9 @@ pub struct CheckedPart {
 /// the verdict do.
 #[derive(Drop)]
 pub struct ListedPart {
+    /// The bytes and their verdict.
     pub part: CheckedPart,
+    /// None where no notes are asked for.
     pub notes: Option<Notes>,
 }
 

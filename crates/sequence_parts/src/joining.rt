@@ -22,7 +22,7 @@ pub enum Misfit {
     TooMany,
 }
 
-/// The verdict of an input of so many bytes, from those of all its parts in their order.
+/// The verdict of an input of `size` bytes, from those of all its parts in their order.
 ///
 /// A part with no byte may stand anywhere. Where the parts are all those of a text, they are in order.
 pub fn join_parts(parts: &[CheckedPart], size: u64) -> Result<SeqVerdict, Misfit>
@@ -53,7 +53,7 @@ pub fn join_parts(parts: &[CheckedPart], size: u64) -> Result<SeqVerdict, Misfit
     }
 }
 
-/// Of no byte.
+/// The verdict of no bytes, with which a join begins.
 pub fn nothing() -> SeqVerdict
     ensures { (framing : Framing) (limits : Allowed) → IsVerdictOf framing limits [] result }
 {

@@ -6,7 +6,9 @@ ghost use Rattle.sequence_parts.specs.Ranges.{range_begin};
 /// One of several parts, counted from 1.
 #[derive(Clone, Copy, Debug, PartialEq, Eq)]
 pub struct Share {
+    /// Which part it is, from 1 to `parts`.
     pub number: u64,
+    /// How many parts there are, at least 1.
     pub parts: u64,
     ghost some: { 0 < number },
     ghost within: { number ≤ parts },
@@ -16,7 +18,7 @@ impl Share {
     ghost use Rattle.std.specs.Prelude.{◌≡◌, ◌≤◌, ◌<◌, ◌-◌, ◌↔◌, IsSome, IfSome};
     ghost use Rattle.sequence_parts.specs.Ranges.{range_begin};
 
-    /// The part of this number of so many, or `None` where there is no such part.
+    /// The part of this number, of `parts` parts. `None` where the number is 0 or greater than `parts`.
     pub fn new(number: u64, parts: u64) -> Option<Share>
         ensures value { IfSome result (λ share. (share.number ≡ number) × (share.parts ≡ parts)) }
         ensures some { IsSome result ↔ ((0 < number) × (number ≤ parts)) }
@@ -28,7 +30,7 @@ impl Share {
         }
     }
 
-    /// Where its range begins in a text of so many bytes.
+    /// The byte offset where its range begins in a text of `size` bytes.
     pub fn from(self, size: u64) -> u64
         ensures value { result ≡ range_begin size self.parts (self.number - 1) }
         ensures within { result ≤ size }
@@ -36,7 +38,7 @@ impl Share {
         range_begin(size, self.parts, self.number - 1)
     }
 
-    /// Where its range ends, and the next begins.
+    /// The byte offset where its range ends in a text of `size` bytes, and the next begins.
     pub fn until(self, size: u64) -> u64
         ensures value { result ≡ range_begin size self.parts self.number }
         ensures within { result ≤ size }

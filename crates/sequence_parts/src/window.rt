@@ -10,6 +10,7 @@ use std::io;
 /// A source of the bytes of another from one place up to another.
 #[derive(Drop)]
 pub struct Window<S> {
+    /// The other source, which is read at byte offsets.
     pub source: S,
     /// The next byte.
     place: u64,
@@ -22,6 +23,7 @@ impl<S: Rewind> Window<S> {
     ghost use Rattle.std.specs.Option.{option_map};
     ghost use Rattle.sequence_parts.specs.Cuts.{bytes_between};
 
+    /// The bytes of a source from the offset `begin` up to the offset `end`, which is not less.
     pub fn new(source: S, begin: u64, end: u64) -> Window<S>
         requires { begin ≤ end }
         ensures bytes { ⟦<Window<S> as Source>⟧.remaining result ≡ option_map (bytes_between begin end) (S.text source) }

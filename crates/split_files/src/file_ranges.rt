@@ -17,7 +17,8 @@ pub struct FileRanges {
 }
 
 impl FileRanges {
-    /// Takes the file. It returns `None` for a folder, a pipe or a device, whose bytes cannot be read twice.
+    /// Takes the file. It returns `None` for a folder, a pipe or a device, whose bytes cannot be read twice. An
+    /// error is answered where the system does not say what it is.
     pub fn new(file: File) -> io::Result<Option<FileRanges>>
         ensures { IfOk result (λ taken. IfSome taken (λ ranges. IsFile (file_type (known_before ranges)))) }
     {

@@ -14,6 +14,7 @@ use std::io::{self, Write};
 /// the fault. A record has `record`, its number, in place of `index`; where it is not JSON, the cause is the rule.
 #[derive(Drop)]
 pub struct FindingList<W> {
+    /// What the lines are written to.
     pub out: W,
 }
 

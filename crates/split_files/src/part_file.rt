@@ -15,7 +15,7 @@ pub struct PartFile {
 }
 
 impl PartFile {
-    /// Takes an empty file.
+    /// Takes an empty file. An error is answered where there is no memory for the buffer.
     pub fn new(alloc: Global, file: File) -> Result<PartFile, AllocError> {
         match BufWriter::new(alloc, file) {
             Ok(out) => Ok(PartFile {
@@ -27,7 +27,8 @@ impl PartFile {
         }
     }
 
-    /// Cuts off what came after the last flush. A device has no length, and nothing is cut off.
+    /// Cuts off what came after the last flush. A device has no length, and nothing is cut off. An error is answered where the system
+    /// refuses.
     pub fn cut_back(self) -> io::Result<()> {
         let (file, _held) = self.out.into_parts();
         file.set_len(self.flushed)

@@ -22,6 +22,7 @@ pub struct Order<'a> {
     pub prefix: &'a str,
     /// Whether existing files of these names are overwritten.
     pub overwrites: bool,
+    /// The limits under which the file is checked.
     pub limits: Limits,
     /// How its texts are set apart, where it has more than one.
     pub framing: Option<Framing>,
@@ -51,7 +52,9 @@ impl Part {
 /// What came of a file that was split.
 #[derive(Clone, Copy)]
 pub struct Written {
+    /// What the file is as a whole.
     pub whole: Whole,
+    /// How many features or records each part has.
     pub counts: Counts,
 }
 

@@ -14,7 +14,7 @@ use gj_rules::{Linter, SeqVerdict};
 use std::io::Write;
 
 /// Reports a file of records of which the verdict is known, and the notes on its records where these are asked for. The report goes
-/// to the writer. The lines and columns of its places are sought in the source, where there is one.
+/// to the writer. The lines and columns of its places are found in the source, where there is one.
 pub fn tell_joined<W: Write + Drop, S: Rewind + Drop>(
     rt: &HostRuntime,
     order: &Order,
