@@ -46,6 +46,7 @@ fn to_text(alloc: Global, bytes: &[u8]) -> Result<String, AllocError> {
     Ok(text)
 }
 
+/// Appends a character for each byte that is no Unicode text.
 fn push_bytes(text: &mut String, bytes: &[u8]) -> Result<(), AllocError> {
     for byte in bytes {
         if let Some(c) = char::from_u32(FIRST + *byte as u32) {

@@ -147,6 +147,7 @@ fn end_by(rt: &HostRuntime, failure: &Failure) -> u8 {
     2
 }
 
+/// Whether a write failed since nobody reads the report any more.
 fn has_no_reader(error: &io::Error) -> bool
     ensures { IsTrue result ↔ (error_kind error.now ≡ BrokenPipe) }
 {
@@ -169,6 +170,7 @@ fn say_no_file(rt: &HostRuntime, others: &Others) -> io::Result<()> {
     }
 }
 
+/// The order that the arguments give, or none where they are wrong or ask for a text that is written here.
 fn read_order(rt: &HostRuntime) -> Result<Order, NoOrder> {
     let Ok(words) = given_words(rt) else {
         return Err(NoOrder::Failed);

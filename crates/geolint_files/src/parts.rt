@@ -34,6 +34,7 @@ pub fn set_apart(rt: &HostRuntime, order: &Order, parts: &Parts) -> bool {
     is_done
 }
 
+/// Writes the parts of the file at this path. An error is answered where a name is no Unicode text, or there is no memory.
 fn write_parts(
     rt: &HostRuntime,
     order: &Order,
@@ -124,6 +125,7 @@ fn put_undone(
     put(line, b"\n")
 }
 
+/// Puts a name, and why its file was not read.
 fn put_of_file(
     rt: &HostRuntime,
     path: &[u8],
@@ -135,6 +137,7 @@ fn put_of_file(
     put_reason(rt, error, line)
 }
 
+/// Puts that a file changed while it was read.
 fn put_changed(path: &[u8], line: &mut Vec<u8>) -> Result<(), AllocError> {
     put_name(path, line)?;
     put(line, b": the file changed while it was read")
@@ -155,6 +158,7 @@ fn put_part(part: Part, parts: &Parts, line: &mut Vec<u8>) -> Result<(), AllocEr
     put(line, part.ending().as_bytes())
 }
 
+/// Puts the system's reason, or that memory was refused.
 fn put_reason(rt: &HostRuntime, error: &io::Error, line: &mut Vec<u8>) -> Result<(), AllocError> {
     if is_memory(error) {
         return put(line, b"out of memory");

@@ -117,6 +117,7 @@ fn names_input(order: &Order) -> bool
     }
 }
 
+/// Whether one of the names is that of standard input.
 fn names_input_in(paths: &[Vec<u8>]) -> bool
     ensures { result ≡ list_any is_input_path paths.now }
 {
@@ -206,6 +207,7 @@ impl<'a, W: Write + Drop> Run<'a, W> {
     ghost use Rattle.geolint_files.specs.Run.{ToldFile, judged, not_read, finding_in, tallies_in, IsWholeReport, end_of, summary_in};
     ghost use Rattle.geolint_files.specs.Told.{reading_of, framing_by, IsToldOnce, IsToldTwice, HasSites};
 
+    /// A run that has reported nothing yet. An error is answered where there is no memory.
     fn new(
         rt: &HostRuntime,
         order: &'a Order,
@@ -285,6 +287,7 @@ impl<'a, W: Write + Drop> Run<'a, W> {
         Ok(())
     }
 
+    /// Appends what a log ends with, if that form is asked for.
     fn put_end(&mut self) -> Result<(), AllocError>
         ensures same { SameTold self.old self.new }
         ensures log { self.new.log ≡ self.old.log }
@@ -363,6 +366,7 @@ impl<'a, W: Write + Drop> Run<'a, W> {
         }
     }
 
+    /// Checks the files that a list names, one after the other. A list that cannot be read to its end is reported as a file is.
     fn judge_names<R: Read + Drop>(
         &mut self,
         reader: R,
@@ -460,6 +464,7 @@ impl<'a, W: Write + Drop> Run<'a, W> {
         Ok(())
     }
 
+    /// Checks what a name leads to, which is no folder. What cannot be opened is reported.
     fn judge_named(
         &mut self,
         name: &[u8],
@@ -712,6 +717,7 @@ impl<'a, W: Write + Drop> Run<'a, W> {
         self.show()
     }
 
+    /// Appends the line on a file that was not read in the form that is asked for, or keeps it for the end of a log.
     fn put_unread(&mut self, name: &[u8], reason: &str) -> Result<(), AllocError>
         ensures same { SameTold self.old self.new }
         ensures out { self.new.out ≡ self.old.out }

@@ -15,6 +15,7 @@ pub fn is_taken(name: &[u8], endings: &[Vec<u8>]) -> bool
     ends_in(name, b".geojson") || framing_of(name).is_some() || ends_in_one(name, endings)
 }
 
+/// Whether a name ends in one of the endings, in capitals or not.
 fn ends_in_one(name: &[u8], endings: &[Vec<u8>]) -> bool
     ensures { result ≡ ends_in_one name.now endings.now }
 {

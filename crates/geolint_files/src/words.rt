@@ -27,10 +27,13 @@ const MOST_BYTES: i64 = 1 << 60;
 /// The most findings that are listed of a file, where nothing is said.
 const MOST_TOLD: u64 = 1000;
 
+/// What `--version` says of a program from a checkout.
 const VERSION: &str = "0.1.0";
 
+/// The words for the forms of the report.
 const FORMATS: [&str; 5] = ["text", "lines", "json", "github", "sarif"];
 
+/// What `--help` says after the options.
 const AFTER_HELP: &str = "\
 A PATH is a file, a folder, or - for standard input. With no PATH and no --files-from, standard input is checked.
 
@@ -424,6 +427,7 @@ pub fn framing_in(given: &ArgMatches<'_>) -> Option<Framing>
     }
 }
 
+/// Which findings `--every` lists.
 fn every_in(given: &ArgMatches<'_>) -> Every
     ensures { result ≡ every_by (first_value (found_of given.now) (codes "every")) }
 {
@@ -434,6 +438,7 @@ fn every_in(given: &ArgMatches<'_>) -> Every
     }
 }
 
+/// How many findings of a file are listed at most.
 fn most_in(given: &ArgMatches<'_>) -> u64
     ensures { one_text (found_of given.now) (codes "most") ≡ None → result ≡ MOST_TOLD }
 {
@@ -443,6 +448,7 @@ fn most_in(given: &ArgMatches<'_>) -> u64
     }
 }
 
+/// The limits on each file, with the number of bytes that `--max-bytes` gives.
 fn limits_in(given: &ArgMatches<'_>) -> Limits
     ensures { one_text (found_of given.now) (codes "max-bytes") ≡ None → result ≡ most }
 {
@@ -475,6 +481,7 @@ fn kind_named(name: &str) -> Option<Kind>
         .find(|kind| name.eq_ignore_ascii_case(kind_name(*kind)))
 }
 
+/// The word of a kind of warning.
 fn kind_name(kind: Kind) -> &'static str
     ensures { result.now ≡ kind_name kind }
 {
@@ -491,6 +498,7 @@ fn kind_name(kind: Kind) -> &'static str
     }
 }
 
+/// The form of the report.
 fn format_in(given: &ArgMatches<'_>) -> Format
     ensures { result ≡ format_by (first_value (found_of given.now) (codes "format")) }
 {

@@ -33,7 +33,7 @@ fn kind_fits(warnings: &Warnings, kind: Kind, by: u64) -> bool
     }
 }
 
-/// Whether the least place of each kind does.
+/// Whether the least place of each kind is.
 fn warnings_fit(warnings: &Warnings, by: u64) -> bool
     ensures { IsTrue result ↔ WarningsFit by warnings.now }
 {

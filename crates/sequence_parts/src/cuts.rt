@@ -54,6 +54,7 @@ pub fn find_cut<S: Rewind>(
     Ok(None)
 }
 
+/// The lesser of two numbers.
 fn lesser(one: u64, other: u64) -> u64
     ensures { result ≡ min one other }
 {

@@ -48,6 +48,7 @@ impl Share {
     }
 }
 
+/// Where the range after `before` of `parts` ranges begins: their sizes differ by one byte at most.
 fn range_begin(size: u64, parts: u64, before: u64) -> u64
     requires some { 0 < parts }
     requires few { before ≤ parts }
@@ -58,6 +59,7 @@ fn range_begin(size: u64, parts: u64, before: u64) -> u64
     before * (size / parts) + lesser(before, size % parts)
 }
 
+/// The lesser of two numbers.
 fn lesser(one: u64, other: u64) -> u64
     ensures { result ≡ min one other }
 {

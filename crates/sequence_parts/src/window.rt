@@ -56,6 +56,7 @@ impl<S: Rewind> Source for Window<S> {
     }
 }
 
+/// How many of the bytes read are in the window.
 fn lesser(count: usize, left: u64) -> usize
     ensures { result ≡ min count left }
 {

@@ -51,6 +51,7 @@ fn are_alike(before: &Metadata, after: &Metadata) -> bool
 impl Ranges for FileRanges {
     ghost text = { None };
 
+    /// Reads bytes from a byte offset on.
     fn read_at(&self, place: u64, piece: &mut [u8]) -> io::Result<usize> {
         self.file.read_at(piece, place)
     }

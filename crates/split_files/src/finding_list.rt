@@ -52,6 +52,7 @@ impl<W: Write> BrokenList for FindingList<W> {
     }
 }
 
+/// Writes the beginning of a feature's line.
 #[tactic(auto, unfolding(crate::specs::Lines::feature_head))]
 fn put_feature_head<W: Write>(feature: &Feature, out: &mut W) -> io::Result<()>
     ensures { OnOk result (Appends (W.contents out.old) (W.contents out.new) (feature_head feature.now)) }
@@ -61,6 +62,7 @@ fn put_feature_head<W: Write>(feature: &Feature, out: &mut W) -> io::Result<()>
     write!(out, "{{\"index\":{index},\"offset\":{offset}")
 }
 
+/// Writes the beginning of a record's line.
 #[tactic(auto, unfolding(crate::specs::Lines::record_head))]
 fn put_record_head<W: Write>(found: &Record, out: &mut W) -> io::Result<()>
     ensures { OnOk result (Appends (W.contents out.old) (W.contents out.new) (record_head found.now)) }
@@ -70,6 +72,7 @@ fn put_record_head<W: Write>(found: &Record, out: &mut W) -> io::Result<()>
     write!(out, "{{\"record\":{number},\"offset\":{place}")
 }
 
+/// Writes the rest of a line: the rule that is broken.
 #[tactic(auto, unfolding(crate::specs::Lines::reason_text))]
 fn put_fault<W: Write>(fault: Fault, out: &mut W) -> io::Result<()>
     ensures { OnOk result (Appends (W.contents out.old) (W.contents out.new) (fault_text fault)) }
@@ -83,6 +86,7 @@ fn put_fault<W: Write>(fault: Fault, out: &mut W) -> io::Result<()>
     )
 }
 
+/// Writes the rest of a line: why the record is not JSON.
 #[tactic(auto, unfolding(crate::specs::Lines::reason_text))]
 fn put_refusal<W: Write>(fault: JsonFault, out: &mut W) -> io::Result<()>
     ensures { OnOk result (Appends (W.contents out.old) (W.contents out.new) (refusal_text fault)) }
@@ -96,6 +100,7 @@ fn put_refusal<W: Write>(fault: JsonFault, out: &mut W) -> io::Result<()>
     )
 }
 
+/// The number of a cause, as in J1.
 fn cause_number(cause: Cause) -> u8
     ensures { result ≡ cause_number cause }
 {

@@ -32,6 +32,7 @@ pub fn split_source<R: Ranges, V: Write + Drop, B: Write + Drop, L: BrokenList +
     }
 }
 
+/// What is left of a split of one text.
 fn of_text<V: Drop, B: Drop, L: Drop>(ended: Ended<Verdict, V, B, L>) -> Ended<Whole, V, B, L>
     ensures ok { IsOk result.outcome → IsOk ended.outcome }
     ensures counts { result.counts ≡ ended.counts }
@@ -47,6 +48,7 @@ fn of_text<V: Drop, B: Drop, L: Drop>(ended: Ended<Verdict, V, B, L>) -> Ended<W
     }
 }
 
+/// What is left of a split of records.
 fn of_records<V: Drop, B: Drop, L: Drop>(ended: Ended<Input, V, B, L>) -> Ended<Whole, V, B, L>
     ensures ok { IsOk result.outcome → IsOk ended.outcome }
     ensures counts { result.counts ≡ ended.counts }

@@ -108,6 +108,7 @@ pub fn split_file(rt: &HostRuntime, order: &Order<'_>) -> Result<Written, Undone
     }
 }
 
+/// The regular file of this name, or `None` for anything else.
 fn open(rt: &HostRuntime, name: &str) -> io::Result<Option<FileRanges>> {
     FileRanges::new(fs::open(rt, name)?)
 }

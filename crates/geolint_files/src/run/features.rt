@@ -366,6 +366,8 @@ impl<'a, W: Write + Drop> Run<'a, W> {
         Ok(())
     }
 
+    /// Reports a note with the line, the column and the path of its place, and the `id` of its feature, as a reading of the
+    /// source finds them.
     fn tell_at<S: Rewind>(
         &mut self,
         name: &[u8],
@@ -384,6 +386,7 @@ impl<'a, W: Write + Drop> Run<'a, W> {
         self.tell_note(name, *note, mark, id.bytes())
     }
 
+    /// Reports a note, with what was found of its place.
     fn tell_note(
         &mut self,
         name: &[u8],
@@ -405,6 +408,7 @@ impl<'a, W: Write + Drop> Run<'a, W> {
         Ok(())
     }
 
+    /// Appends the line on a note in the form that is asked for.
     fn put_entry(&mut self, entry: &Entry<'_>) -> Result<(), AllocError>
         ensures same { SameTold self.old self.new }
         ensures out { self.new.out ≡ self.old.out }
@@ -437,6 +441,7 @@ impl<'a, W: Write + Drop> Run<'a, W> {
         }
     }
 
+    /// Reports that `count` more notes are not reported.
     fn tell_more(&mut self, name: &[u8], count: u64) -> Result<(), Failure>
         ensures { OnOk result (TellsLines W.contents (others_line name.now count ∷ []) self.old self.new) }
     {
@@ -445,6 +450,7 @@ impl<'a, W: Write + Drop> Run<'a, W> {
         self.show()
     }
 
+    /// Appends the line on these in the form that is asked for.
     fn put_more(&mut self, name: &[u8], count: u64) -> Result<(), AllocError>
         ensures same { SameTold self.old self.new }
         ensures out { self.new.out ≡ self.old.out }
