@@ -126,7 +126,8 @@ def lists(folder):
 def alone():
     """What the command says of words that are wrong or that it does not have, and of a report that nobody reads."""
     for words in (
-        ["--explain", "G15"], ["--split", "x", "y"], ["--force"], ["--format", "sarif"], ["--format", "xml"], ["--allow", "W4,W10"], ["--max-bytes", "0"],
+        ["--explain", "G15"], ["--split", "x", "y"], ["--force"], ["--part", "1/2", "x"], ["--join"], ["--format", "sarif"], ["--format", "xml"],
+        ["--allow", "W4,W10"], ["--max-bytes", "0"],
         ["--seq", "--ndjson"], ["--every", "--quick"], ["--every=all"], ["--null"], ["--nonsense"], ["--ending", "."], ["--files-from", "-", "-"],
     ):
         out, said, status = ran(PYTHON, words)
