@@ -10,7 +10,7 @@ use std::fs::File;
 use std::io::{self, Write};
 use std::process::ExitCode;
 
-fn judge() -> io::Result<Verdict> {
+fn checked() -> io::Result<Verdict> {
     let linter = Linter::new(Limits::default())?;
     let store: Box<dyn Write> = match std::env::args_os().nth(1) {
         Some(path) => Box::new(File::create(path)?),
@@ -25,7 +25,7 @@ fn judge() -> io::Result<Verdict> {
 }
 
 fn main() -> ExitCode {
-    match judge().and_then(|verdict| writeln!(io::stdout(), "{verdict}").map(|()| verdict)) {
+    match checked().and_then(|verdict| writeln!(io::stdout(), "{verdict}").map(|()| verdict)) {
         Ok(verdict) if verdict.is_valid() => ExitCode::from(0),
         Ok(_) => ExitCode::from(1),
         Err(error) => {
