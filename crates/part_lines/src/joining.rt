@@ -20,7 +20,7 @@ use std::alloc::{AllocError, Global};
 pub enum Refusal {
     /// There is no line.
     None,
-    /// The line after so many others is of another file than the first.
+    /// The line at this index is of another file than the first.
     OtherFile(usize),
     /// It is of the same file, which has changed.
     Changed(usize),
@@ -106,7 +106,7 @@ fn check_line(first: &PartLine, line: &PartLine, index: usize) -> Result<(), Ref
     }
 }
 
-/// The parts of so many lines by their numbers, from 1 on.
+/// The parts of these lines by their numbers, from 1 on.
 fn in_order(alloc: Global, lines: &[PartLine]) -> Result<Vec<CheckedPart>, Refusal>
     ensures { IfOk result (λ parts. AreAmong (map checked_in lines.now) parts.items) }
 {

@@ -59,7 +59,7 @@ fn listed_in(line: &PartLine, index: usize, asked: Asked) -> Result<&Listed, Ref
     }
 }
 
-/// How many records a part has. Bytes before the first record of a sequence are told as one of number 0, and are none.
+/// How many records a part has. Bytes before the first record of a sequence are reported as one of number 0, and are none.
 fn records_in(listed: &Listed) -> u64 {
     let items = listed.notes.tally.items;
     match listed.notes.notes.as_slice().first() {
@@ -68,7 +68,7 @@ fn records_in(listed: &Listed) -> u64 {
     }
 }
 
-/// Adds the notes of a part that begins at a place, after so many records.
+/// Adds the notes of a part that begins at the byte offset `begin`, after `records` records.
 fn add_notes(
     listed: &Listed,
     begin: u64,
@@ -91,7 +91,7 @@ fn add_notes(
     Ok(())
 }
 
-/// A note of a part that begins at a place, after so many records.
+/// A note of a part that begins at the byte offset `begin`, after `records` records.
 fn moved(note: &Note, begin: u64, records: u64) -> Note {
     Note {
         item: Item::Record(note.item.number().saturating_add(records)),

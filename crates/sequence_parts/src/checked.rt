@@ -52,7 +52,7 @@ struct Bounds {
     ghost ordered: { begin ≤ end },
 }
 
-/// Checks the bytes of a part of a source of so many bytes, and no others. The limit on the bytes is that of the whole.
+/// Checks the bytes of a part of a source of `size` bytes, and no others. The limit on the bytes is that of the whole.
 ///
 /// An error is returned where a read failed, or where the source has changed.
 pub fn check_part<S: Rewind + Drop>(
@@ -219,7 +219,7 @@ fn reading_of(framing: Framing) -> Reading
     }
 }
 
-/// What the limit leaves to the bytes after so many, where that is something.
+/// What the limit leaves to the bytes from `begin` on. `None` if it leaves none.
 fn limits_left(limits: Limits, begin: u64) -> Option<Limits>
     ensures { IfSome result (λ left. left ≡ limits_after limits begin) }
 {

@@ -27,7 +27,7 @@ use std::io::Write;
 /// The most notes that are held at once.
 const MOST_HELD: u64 = 65_536;
 
-/// What is asked where so many notes are reported at most: 0 asks for all.
+/// What is asked if at most `most` notes are reported; 0 asks for all.
 fn asked_with(with_warnings: bool, most: u64) -> Asked
     ensures { result ≡ asked_with with_warnings most }
 {
@@ -38,7 +38,7 @@ fn asked_with(with_warnings: bool, most: u64) -> Asked
     }
 }
 
-/// How many notes are held at once, where so many are reported at most.
+/// How many notes are held at once, if at most `most` are reported.
 fn room_of(most: u64) -> u64
     ensures { result ≡ room_of most }
 {
@@ -63,7 +63,7 @@ pub fn asked_in(options: &Options) -> Option<Asked>
     }
 }
 
-/// What is asked of a further reading, where so many notes are reported of so many at most.
+/// What is asked of a further reading after `told` notes are reported, of `most` at most.
 fn asked_after(asked: Asked, most: u64, told: u64) -> Asked
     ensures { result ≡ asked_after asked most told }
 {
@@ -281,8 +281,8 @@ impl<'a, W: Write + Drop> Run<'a, W> {
         self.tell_others(name, others(notes.count, told))
     }
 
-    /// Reports the notes after so many, up to so many in all: each further reading finds as many as are held at once. It answers how
-    /// many notes are reported then.
+    /// Reports the notes after the first `held`, up to `most` in all: each further reading finds as many as are held at once. It
+    /// answers how many notes are reported then.
     fn tell_further<S: Rewind>(
         &mut self,
         name: &[u8],
@@ -469,7 +469,7 @@ impl<'a, W: Write + Drop> Run<'a, W> {
     }
 }
 
-/// How many of so many notes are not reported.
+/// How many of `count` notes are not reported, after `told` of them are.
 fn others(count: u64, told: u64) -> u64
     ensures left { result ≡ count - told }
     // as each u64 is
