@@ -36,8 +36,8 @@ pub fn judge_every<S: Source>(
     judge_followed(alloc, reader, limits, reading, asked, meter, &mut Unplaced)
 }
 
-/// The same of a source that is followed while it is read, so that the places of what is reported are known without a second
-/// reading.
+/// What a source is, as [`judge_every`] finds it, with a follower that gets its bytes as they come: it knows where the places of
+/// what is reported stand, without a second reading.
 pub fn judge_followed<S: Source, F: Follower>(
     alloc: Global,
     reader: &mut S,
