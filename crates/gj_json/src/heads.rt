@@ -5,6 +5,7 @@ ghost use Rattle.gj_json.specs.Bytes.{close_brace, comma};
 ghost use Rattle.gj_json.specs.Internal.WholeHeads.{IsTyped, IsLocated};
 ghost use Rattle.gj_json.specs.declared.heads.TheConstants.{ROOM};
 
+use crate::lanes::{begins, begins_long};
 use crate::names::Word;
 use crate::usual::usual_text;
 
@@ -53,7 +54,7 @@ fn dense_typed(piece: &[u8]) -> UsualTyped
     ensures few { result.word_at ≤ result.count }
     ensures usual { 0 < result.count → IsTyped piece.now result.count result.word_at result.word }
 {
-    if &piece[..8] == b"{\"type\":".as_slice() {
+    if begins(piece, b"{\"type\":        ", 8) {
         let text = usual_text(&piece[8..]);
         if text.count == 0 {
             return NOT_TYPED;
@@ -79,7 +80,7 @@ fn spaced_typed(piece: &[u8]) -> UsualTyped
     ensures few { result.word_at ≤ result.count }
     ensures usual { 0 < result.count → IsTyped piece.now result.count result.word_at result.word }
 {
-    if &piece[..20] == b"{\"type\": \"Feature\", ".as_slice() {
+    if begins_long(piece, b"{\"type\": \"Featur", b"e\",             ", 4) {
         return UsualTyped {
             count: 20,
             word_at: 9,
@@ -119,7 +120,7 @@ pub fn next_typed(piece: &[u8]) -> UsualTyped
     if piece.len() < ROOM {
         return NOT_TYPED;
     }
-    if &piece[..3] == b"}},".as_slice() {
+    if begins(piece, b"}},             ", 3) {
         return usual_typed(&piece[3..]);
     }
     NOT_TYPED
@@ -135,13 +136,13 @@ fn dense_located(piece: &[u8]) -> UsualLocated
     ensures few { result.coordinates ≤ result.count }
     ensures usual { 0 < result.count → IsLocated piece.now result.count result.bracket result.word_at result.coordinates result.word }
 {
-    if &piece[..19] == b"\"geometry\":{\"type\":".as_slice() {
+    if begins_long(piece, b"\"geometry\":{\"typ", b"e\":             ", 3) {
         let text = usual_text(&piece[19..]);
         if text.count == 0 {
             return NOT_LOCATED;
         }
         let at = 19 + text.count;
-        if &piece[at..at + 15] == b",\"coordinates\":".as_slice() {
+        if begins(&piece[at..], b",\"coordinates\": ", 15) {
             return UsualLocated {
                 count: at + 15,
                 bracket: 11,
@@ -164,13 +165,13 @@ fn spaced_located(piece: &[u8]) -> UsualLocated
     ensures few { result.coordinates ≤ result.count }
     ensures usual { 0 < result.count → IsLocated piece.now result.count result.bracket result.word_at result.coordinates result.word }
 {
-    if &piece[..21] == b"\"geometry\": {\"type\": ".as_slice() {
+    if begins_long(piece, b"\"geometry\": {\"ty", b"pe\":            ", 5) {
         let text = usual_text(&piece[21..]);
         if text.count == 0 {
             return NOT_LOCATED;
         }
         let at = 21 + text.count;
-        if &piece[at..at + 17] == b", \"coordinates\": ".as_slice() {
+        if piece[at] == b',' && begins(&piece[at + 1..], b" \"coordinates\": ", 16) {
             return UsualLocated {
                 count: at + 17,
                 bracket: 12,

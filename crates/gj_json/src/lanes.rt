@@ -1,15 +1,39 @@
 //! Runs of bytes at the start of a piece, found sixteen at a time.
 
-ghost use Rattle.std.specs.Prelude.{◌≡◌, map, not};
+ghost use Rattle.std.specs.Prelude.{◌≡◌, ◌≤◌, ◌+◌, ◌*◌, ◌++◌, length, map, not, take};
 ghost use Rattle.std.specs.List.{prefix_len};
 ghost use Rattle.std.specs.Simd.Lanes.{mask_l};
+ghost use Rattle.std.specs.Str.{bytes_eq};
 ghost use Rattle.gj_json.specs.Internal.QuietBytes.{is_plain, is_white};
 ghost use Rattle.gj_json.specs.Runs.{is_unescaped};
+ghost use Rattle.gj_json.specs.declared.lanes.TheConstants.{LANES};
 
 use std::simd::prelude::*;
 
 /// How many bytes are looked at together.
 pub const LANES: usize = 16;
+
+/// Whether the piece begins with so many bytes of the word.
+// A comparison of slices is a call, which costs as much as all else that tells a usual head from others.
+#[inline(always)]
+pub fn begins(piece: &[u8], word: &[u8; LANES], count: usize) -> bool
+    requires room { LANES ≤ length piece.now }
+    requires few { count ≤ LANES }
+    ensures { result ≡ bytes_eq (take count piece.now) (take count word.now) }
+{
+    let differing = u8x16::from_slice(piece).simd_ne(u8x16::from_array(*word));
+    differing.to_bitmask().trailing_zeros() as usize >= count
+}
+
+/// Whether the piece begins with a word, and then with so many bytes of the next.
+#[inline(always)]
+pub fn begins_long(piece: &[u8], word: &[u8; LANES], next: &[u8; LANES], count: usize) -> bool
+    requires room { 2 * LANES ≤ length piece.now }
+    requires few { count ≤ LANES }
+    ensures { result ≡ bytes_eq (take (LANES + count) piece.now) (word.now ++ take count next.now) }
+{
+    begins(piece, word, LANES) && begins(&piece[LANES..], next, count)
+}
 
 /// Whether the byte is a character by itself.
 fn is_plain(byte: u8) -> bool

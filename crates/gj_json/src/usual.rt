@@ -1,8 +1,10 @@
-//! The names and the types that most features have, each distinguished from others by a comparison of words.
+//! The names and the types that most features have, each distinguished from others by a comparison of words. A word is filled up
+//! with spaces to the length of a vector.
 
 ghost use Rattle.std.specs.Prelude.{◌<◌, ◌≤◌, length};
 ghost use Rattle.gj_json.specs.Internal.WholeTokens.{IsUsualName, IsUsualText};
 
+use crate::lanes::begins;
 use crate::names::{Known, Word};
 
 /// A shorter piece is not looked at: it may have no room for each of them.
@@ -43,7 +45,7 @@ pub fn usual_name(piece: &[u8]) -> UsualName
     }
     match piece[1] {
         b't' => {
-            if &piece[..7] == b"\"type\":".as_slice() {
+            if begins(piece, b"\"type\":         ", 7) {
                 return UsualName {
                     count: 6,
                     known: Known::TypeName,
@@ -51,7 +53,7 @@ pub fn usual_name(piece: &[u8]) -> UsualName
             }
         }
         b'g' => {
-            if &piece[..11] == b"\"geometry\":".as_slice() {
+            if begins(piece, b"\"geometry\":     ", 11) {
                 return UsualName {
                     count: 10,
                     known: Known::Geometry,
@@ -59,7 +61,7 @@ pub fn usual_name(piece: &[u8]) -> UsualName
             }
         }
         b'c' => {
-            if &piece[..14] == b"\"coordinates\":".as_slice() {
+            if begins(piece, b"\"coordinates\":  ", 14) {
                 return UsualName {
                     count: 13,
                     known: Known::Coordinates,
@@ -67,7 +69,7 @@ pub fn usual_name(piece: &[u8]) -> UsualName
             }
         }
         b'p' => {
-            if &piece[..13] == b"\"properties\":".as_slice() {
+            if begins(piece, b"\"properties\":   ", 13) {
                 return UsualName {
                     count: 12,
                     known: Known::Properties,
@@ -91,7 +93,7 @@ pub fn usual_text(piece: &[u8]) -> UsualText
     }
     match piece[1] {
         b'F' => {
-            if &piece[..9] == b"\"Feature\"".as_slice() {
+            if begins(piece, b"\"Feature\"       ", 9) {
                 return UsualText {
                     count: 9,
                     word: Word::Feature,
@@ -99,13 +101,13 @@ pub fn usual_text(piece: &[u8]) -> UsualText
             }
         }
         b'P' => {
-            if &piece[..7] == b"\"Point\"".as_slice() {
+            if begins(piece, b"\"Point\"         ", 7) {
                 return UsualText {
                     count: 7,
                     word: Word::Point,
                 };
             }
-            if &piece[..9] == b"\"Polygon\"".as_slice() {
+            if begins(piece, b"\"Polygon\"       ", 9) {
                 return UsualText {
                     count: 9,
                     word: Word::Polygon,
@@ -113,7 +115,7 @@ pub fn usual_text(piece: &[u8]) -> UsualText
             }
         }
         b'L' => {
-            if &piece[..12] == b"\"LineString\"".as_slice() {
+            if begins(piece, b"\"LineString\"    ", 12) {
                 return UsualText {
                     count: 12,
                     word: Word::LineString,

@@ -1,9 +1,7 @@
 -- A piece that starts with the known bytes of a member `geometry` around its type.
-use Rattle.std.proofs.Common.{◌≡◌, ℕ, ◌+◌, ◌-◌, ◌≤◌, ◌<◌, true, List, [], ◌∷◌, ◌++◌, codes, get_or, length, take, drop, take-add, refl, ap, sym, subst, ◌∙◌, arith, append_assoc}
+use Rattle.std.proofs.Common.{◌≡◌, ℕ, ◌+◌, ◌-◌, ◌≤◌, ◌<◌, List, [], ◌∷◌, ◌++◌, codes, get_or, length, take, drop, take-add, refl, ap, subst, ◌∙◌, arith, append_assoc}
 use Rattle.std.proofs.lemmas.List.{length-append, length-take-le, take_more}
-use Rattle.std.proofs.lemmas.Slice.Eq.{bytes_eq-Decides}
 use Rattle.std.specs.List.{AllByRecursion}
-use Rattle.std.specs.Str.{bytes_eq}
 use Rattle.gj_json.specs.Bytes.{IsWhite, open_brace, comma}
 use Rattle.gj_json.specs.declared.names.Word.{Word}
 use Rattle.gj_json.specs.Internal.FlatParts.{cut}
@@ -22,19 +20,15 @@ in_parts : (a b c d text gap last : List ℕ) → a ≡ b ++ (open_brace ∷ c) 
     → (a ++ text) ++ d ≡ b ++ ((open_brace ∷ (c ++ (text ++ (comma ∷ gap)))) ++ last)
 in_parts a b c d text gap last e f = rw (e, f) (simp append_assoc)
 
-pub located_by : (gap piece first last : List ℕ) (a n b coordinates : ℕ) (word : Word) → AllByRecursion IsWhite gap → true ≡ bytes_eq (take a piece) first
-    → first ≡ before_type gap → a ≡ length (before_type gap) → IsUsualText (take (length piece - a) (drop a piece)) n word
-    → n ≤ length (take (length piece - a) (drop a piece)) → true ≡ bytes_eq (take (a + n + b - (a + n)) (drop (a + n) piece)) last → last ≡ after_type gap
+pub located_by : (gap piece : List ℕ) (a n b coordinates : ℕ) (word : Word) → AllByRecursion IsWhite gap → take a piece ≡ before_type gap
+    → a ≡ length (before_type gap) → IsUsualText (take (length piece - a) (drop a piece)) n word
+    → n ≤ length (take (length piece - a) (drop a piece)) → take b (drop (a + n) piece) ≡ after_type gap
     → coordinates ≡ a + n + 1 + length gap → IsLocated piece (a + n + b) (length (named (codes "geometry") gap)) a coordinates word
-located_by gap piece first last a n b coordinates word white same is long usual few alike ends place =
+located_by gap piece a n b coordinates word white front long usual few rear place =
     let P : List ℕ → Type 0 = λ xs. IsUsualText xs n word in
     let u : IsUsualText (drop a piece) n word = subst P (rest_of piece a) usual in
     let text = take n (drop a piece) in
     let w : length text ≡ n = length-take-le n (drop a piece) (omega (arith, few, ap length (rest_of piece a))) in
-    let z : a + n + b - (a + n) ≡ b = omega arith in
-    let front : take a piece ≡ before_type gap = (bytes_eq-Decides (take a piece) first).0 (sym same) ∙ is in
-    let rear : take b (drop (a + n) piece) ≡ after_type gap =
-    ap (λ m. take m (drop (a + n) piece)) (sym z) ∙ ((bytes_eq-Decides (take (a + n + b - (a + n)) (drop (a + n) piece)) last).0 (sym alike) ∙ ends) in
     let object = open_brace ∷ (named (codes "type") gap ++ (text ++ (comma ∷ gap))) in
     let split : take (a + n + b) piece ≡ (take a piece ++ text) ++ take b (drop (a + n) piece) =
     take-add (a + n) b piece ∙ ap (λ xs. xs ++ take b (drop (a + n) piece)) (take-add a n piece) in
@@ -65,14 +59,13 @@ located_by gap piece first last a n b coordinates word white same is long usual 
       );
     }
 
-pub typed_by : (piece first : List ℕ) (a n : ℕ) (word : Word) → true ≡ bytes_eq (take a piece) first → first ≡ open_brace ∷ named (codes "type") []
+pub typed_by : (piece : List ℕ) (a n : ℕ) (word : Word) → take a piece ≡ open_brace ∷ named (codes "type") []
     → a ≡ length (open_brace ∷ named (codes "type") []) → IsUsualText (take (length piece - a) (drop a piece)) n word
     → n ≤ length (take (length piece - a) (drop a piece)) → a + n < length piece → get_or piece (a + n) 0 ≡ comma → IsTyped piece (a + n + 1) a word
-typed_by piece first a n word same is long usual few within ends =
+typed_by piece a n word front long usual few within ends =
     let P : List ℕ → Type 0 = λ xs. IsUsualText xs n word in
     let u : IsUsualText (drop a piece) n word = subst P (rest_of piece a) usual in
     let text = take n (drop a piece) in
-    let front : take a piece ≡ open_brace ∷ named (codes "type") [] = (bytes_eq-Decides (take a piece) first).0 (sym same) ∙ is in
     let split : take (a + n + 1) piece ≡ (take a piece ++ text) ++ comma ∷ [] =
     take_more piece (a + n) 0 within ∙ ap (λ b. take (a + n) piece ++ b ∷ []) ends ∙ ap (λ xs. xs ++ comma ∷ []) (take-add a n piece) in
     record {

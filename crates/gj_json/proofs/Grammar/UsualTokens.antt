@@ -8,6 +8,9 @@ use Rattle.gj_json.specs.declared.mode.StringState.TheVariants.{Plain}
 use Rattle.gj_json.specs.Internal.QuietBytes.{Reads, is_plain}
 use Rattle.gj_json.proofs.Pieces.QuietModes
 
+pub same_bytes : (xs ys : List ℕ) → true ≡ bytes_eq xs ys → xs ≡ ys
+same_bytes xs ys same = (bytes_eq-Decides xs ys).0 (sym same)
+
 pub by_first : (P : List ℕ → Type 0) (n : ℕ) (piece told first : List ℕ) → true ≡ bytes_eq (take n piece) told → told ≡ first → P (first ++ drop n piece)
     → P piece
 by_first P n piece told first same e h =

@@ -1,11 +1,15 @@
 -- The beginning of a member, by its bytes.
-use Rattle.std.proofs.Common.{◌+◌, [], refl, arith}
-use Rattle.gj_json.proofs.Grammar.UsualHeads.{located_by}
+use Rattle.std.proofs.Common.{◌≡◌, ◌+◌, [], take, drop, refl, sym, ap, ◌∙◌, arith}
+use Rattle.gj_json.proofs.Grammar.UsualHeads.{located_by, after_type}
+use Rattle.gj_json.proofs.Grammar.UsualTokens.{same_bytes}
+use Rattle.gj_json.proofs.Pieces.PieceRests.{rest_of}
 use Rattle.gj_json.proofs.heads.dense_located.Goals as goal
 
-pub returns-then-eq-2-clause-usual : goal.returns-then-eq-2-clause-usual
-returns-then-eq-2-clause-usual c = λ some.
+pub returns-then-begins-clause-usual : goal.returns-then-begins-clause-usual
+returns-then-begins-clause-usual c = λ some.
+    let piece = c.args.piece.now in
     let text = c.usual_text-text.result in
-    located_by [] c.args.piece.now c.as_slice.result.now c.as_slice-then-eq.result.now 19 text.count 15 (19 + text.count + 1) text.word tt c.if-eq.ensures
-    c.as_slice.ensures refl (c.usual_text-text.ensures.usual (omega arith)) c.usual_text-text.ensures.within c.if-eq-2.ensures c.as_slice-then-eq.ensures
-    (omega arith)
+    let at = 19 + text.count in
+    let rear : take 15 (drop at piece) ≡ after_type [] = ap (take 15) (sym (rest_of piece at)) ∙ same_bytes _ _ c.if-begins.ensures in
+    located_by [] piece 19 text.count 15 (at + 1) text.word tt (same_bytes _ _ c.if-begins_long.ensures) refl
+    (c.usual_text-text.ensures.usual (omega arith)) c.usual_text-text.ensures.within rear (omega arith)

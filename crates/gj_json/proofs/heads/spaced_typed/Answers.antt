@@ -7,11 +7,11 @@ use Rattle.gj_json.specs.declared.names.Word.TheVariants.{Feature}
 use Rattle.gj_json.proofs.Grammar.UsualTokens.{by_first, plain}
 use Rattle.gj_json.proofs.heads.spaced_typed.Goals as goal
 
-pub returns-then-eq-clause-usual : goal.returns-then-eq-clause-usual
+pub returns-then-begins_long-clause-usual : goal.returns-then-begins_long-clause-usual
 unfolding word_of
-returns-then-eq-clause-usual c = λ some.
-    by_first (λ piece. IsTyped piece 20 9 Feature) 20 c.args.piece.now c.as_slice.result.now
-    (codes "{\"type\": \"Feature\", ") c.if-eq.ensures c.as_slice.ensures (record {
+returns-then-begins_long-clause-usual c = λ some.
+    by_first (λ piece. IsTyped piece 20 9 Feature) 20 c.args.piece.now _
+    (codes "{\"type\": \"Feature\", ") c.if-begins_long.ensures refl (record {
       gap = space ∷ [];
       white = (inl refl, tt);
       begins = record {
