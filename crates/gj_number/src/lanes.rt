@@ -296,10 +296,33 @@ pub(crate) fn unsigned_prefix(piece: &[u8]) -> Option<Unsigned>
     })
 }
 
-/// As [`unsigned_prefix`], after the lanes and so many digits before a point were found: up to sixteen digits after the
-/// point are read as lanes of their own.
+/// As [`unsigned_prefix`], after the lanes and so many digits before a point were found.
+///
+/// Each usual count has a call of its own, so that the processor predicts it, and does not wait for it before it reads on.
 #[inline(always)]
 fn long_prefix(piece: &[u8], lanes: u8x16, natural: usize) -> Option<Unsigned>
+    requires room { 32 ≤ length piece.now }
+    requires some { natural < 16 }
+    requires lanes { lanes ≡ map lane_of (take 16 piece.now) }
+    requires digits { natural ≡ leading lanes }
+    requires point { get_or piece.now natural 0 ≡ decimal_point }
+    ensures few { IfSome result (λ found. found.natural + found.fraction ≤ 18) }
+    ensures within { IfSome result (λ found. found.length ≤ 19) }
+    ensures spells { IfSome result (λ found.
+        SpellsUnsigned piece.now found.natural found.fraction found.length found.value) }
+    ensures ends { IfSome result (λ found. IsDigit (get_or piece.now found.natural 0) → ⊥) }
+{
+    match natural {
+        1 => prefix_to(piece, lanes, 1),
+        2 => prefix_to(piece, lanes, 2),
+        3 => prefix_to(piece, lanes, 3),
+        _ => prefix_to(piece, lanes, natural),
+    }
+}
+
+/// As [`long_prefix`]: up to sixteen digits after the point are read as lanes of their own.
+#[inline(always)]
+fn prefix_to(piece: &[u8], lanes: u8x16, natural: usize) -> Option<Unsigned>
     requires room { 32 ≤ length piece.now }
     requires some { natural < 16 }
     requires lanes { lanes ≡ map lane_of (take 16 piece.now) }

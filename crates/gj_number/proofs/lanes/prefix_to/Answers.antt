@@ -5,7 +5,7 @@ use Rattle.std.specs.List.{fold}
 use Rattle.gj_number.specs.Internal.DigitLanes.{with_value}
 use Rattle.gj_number.proofs.Shorts.SixteenLanes.{moved_small}
 use Rattle.gj_number.proofs.Shorts.LongNumbers.{long_small, long_spell}
-use Rattle.gj_number.proofs.lanes.long_prefix.Goals as goal
+use Rattle.gj_number.proofs.lanes.prefix_to.Goals as goal
 
 pub numbers_of-before-requires-clause-first : goal.numbers_of-before-requires-clause-first
 numbers_of-before-requires-clause-first c =
