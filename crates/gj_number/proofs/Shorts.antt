@@ -7,7 +7,6 @@ pub mod ShortDecimals
 pub mod RunEnds
 pub mod SixteenLanes
 pub mod NumberPrefixes
-pub mod LongNumbers
 pub mod OrdinaryNumbers
 pub mod WrittenExponents
 pub mod NumberPairs

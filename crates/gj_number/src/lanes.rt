@@ -3,12 +3,11 @@ ghost use Rattle.std.specs.Prelude.{◌≡◌, ℕ, min, ◌-◌, ◌+◌, ◌*�
 ghost use Rattle.std.specs.List.{fold};
 ghost use Rattle.std.specs.Option.{IsSome};
 ghost use Rattle.std.specs.Simd.Lanes.{Each1, mask_l};
-ghost use Rattle.gj_number.specs.Bytes.{decimal_point, IsDigit};
+ghost use Rattle.gj_number.specs.Bytes.{IsDigit};
 ghost use Rattle.gj_number.specs.Internal.DigitLanes.{lane_of, with_value, by_twos, by_both, by_fours, leading};
 ghost use Rattle.gj_number.specs.Value.{with_digit};
 ghost use Rattle.gj_number.specs.Internal.DigitRuns.{IsRun, IsPointed, SpellsOn, SpellsUnsigned};
 
-use crate::tens::ten_to;
 use std::simd::prelude::*;
 
 /// Indices that move the first `count` lanes of a vector to its end, read from the index `count` on. 128 stands for no
@@ -256,12 +255,11 @@ pub(crate) struct Unsigned {
 }
 
 /// The digits that the first sixteen bytes of a piece begin with, and those after a point that follows. `None` says that
-/// no digit follows the point, or that there are more than eighteen digits, or sixteen before the point.
+/// they go on to the last of these bytes, or that no digit follows the point.
 #[inline(always)]
 pub(crate) fn unsigned_prefix(piece: &[u8]) -> Option<Unsigned>
-    requires { 32 ≤ length piece.now }
-    ensures few { IfSome result (λ found. found.natural + found.fraction ≤ 18) }
-    ensures within { IfSome result (λ found. found.length ≤ 19) }
+    requires { 16 ≤ length piece.now }
+    ensures few { IfSome result (λ found. found.length < 16) }
     ensures spells { IfSome result (λ found.
         SpellsUnsigned piece.now found.natural found.fraction found.length found.value) }
     ensures ends { IfSome result (λ found. IsDigit (get_or piece.now found.natural 0) → ⊥) }
@@ -281,11 +279,8 @@ pub(crate) fn unsigned_prefix(piece: &[u8]) -> Option<Unsigned>
         });
     }
     let rest = others >> (natural + 1);
-    if rest == 0 {
-        return long_prefix(piece, lanes, natural);
-    }
     let fraction = rest.trailing_zeros() as usize;
-    if fraction == 0 {
+    if rest == 0 || fraction == 0 {
         return None;
     }
     Some(Unsigned {
@@ -293,58 +288,6 @@ pub(crate) fn unsigned_prefix(piece: &[u8]) -> Option<Unsigned>
         fraction,
         length: natural + 1 + fraction,
         value: number_of(moved_to_end(without_lane(lanes, natural), natural + fraction)),
-    })
-}
-
-/// As [`unsigned_prefix`], after the lanes and so many digits before a point were found.
-///
-/// Each usual count has a call of its own, so that the processor predicts it, and does not wait for it before it reads on.
-#[inline(always)]
-fn long_prefix(piece: &[u8], lanes: u8x16, natural: usize) -> Option<Unsigned>
-    requires room { 32 ≤ length piece.now }
-    requires some { natural < 16 }
-    requires lanes { lanes ≡ map lane_of (take 16 piece.now) }
-    requires digits { natural ≡ leading lanes }
-    requires point { get_or piece.now natural 0 ≡ decimal_point }
-    ensures few { IfSome result (λ found. found.natural + found.fraction ≤ 18) }
-    ensures within { IfSome result (λ found. found.length ≤ 19) }
-    ensures spells { IfSome result (λ found.
-        SpellsUnsigned piece.now found.natural found.fraction found.length found.value) }
-    ensures ends { IfSome result (λ found. IsDigit (get_or piece.now found.natural 0) → ⊥) }
-{
-    match natural {
-        1 => prefix_to(piece, lanes, 1),
-        2 => prefix_to(piece, lanes, 2),
-        3 => prefix_to(piece, lanes, 3),
-        _ => prefix_to(piece, lanes, natural),
-    }
-}
-
-/// As [`long_prefix`]: up to sixteen digits after the point are read as lanes of their own.
-#[inline(always)]
-fn prefix_to(piece: &[u8], lanes: u8x16, natural: usize) -> Option<Unsigned>
-    requires room { 32 ≤ length piece.now }
-    requires some { natural < 16 }
-    requires lanes { lanes ≡ map lane_of (take 16 piece.now) }
-    requires digits { natural ≡ leading lanes }
-    requires point { get_or piece.now natural 0 ≡ decimal_point }
-    ensures few { IfSome result (λ found. found.natural + found.fraction ≤ 18) }
-    ensures within { IfSome result (λ found. found.length ≤ 19) }
-    ensures spells { IfSome result (λ found.
-        SpellsUnsigned piece.now found.natural found.fraction found.length found.value) }
-    ensures ends { IfSome result (λ found. IsDigit (get_or piece.now found.natural 0) → ⊥) }
-{
-    let more = lanes_of(&piece[natural + 1..]);
-    let fraction = leading_digits(more);
-    if fraction == 0 || natural + fraction > 18 {
-        return None;
-    }
-    let (before, after) = numbers_of(moved_to_end(lanes, natural), moved_to_end(more, fraction));
-    Some(Unsigned {
-        natural,
-        fraction,
-        length: natural + 1 + fraction,
-        value: before * ten_to(fraction) + after,
     })
 }
 

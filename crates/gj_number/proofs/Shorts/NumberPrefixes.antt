@@ -198,29 +198,31 @@ natural_fits natural count h most = let l = scaled_below natural count 0 18 h (o
 pub none_spells : (piece : List ℕ) (natural : ℕ) → SpellsOn piece natural 0 natural
 none_spells piece natural = record { within = omega arith; digits = (λ k d below. absurd (omega arith)); value_is = refl }
 
--- ---- a number of eighteen digits at the most
+-- ---- a number of sixteen bytes at the most
 
 module _ (piece : List ℕ) (negative : Bool) (first n m bytes value : ℕ) (sign : SpellsSign negative (take first piece))
     (k : SpellsUnsigned (drop first piece) n m bytes value) (some : 0 < n) (one : get_or (drop first piece) 0 0 ≡ zero_digit → n ≡ 1)
-    (few : n + m ≤ 18) (room : first + bytes ≤ length piece) where
+    (few : bytes ≤ 16) (room : first + 16 < length piece) where
   shapes : (bytes ≡ n) ⊎ (bytes ≡ n + 1 + m)
   shapes = elim k.shape [ inl s ↦ inl s.1 | inr s ↦ inr s.2 ]
 
-  n_within : n ≤ bytes
-  n_within = elim k.shape [ inl s ↦ (let e = s.1 in omega arith) | inr s ↦ (let e = s.2 in omega arith) ]
+  n_few : n ≤ 16
+  n_few = elim k.shape [ inl s ↦ (let e = s.1 in omega arith) | inr s ↦ (let e = s.2 in omega arith) ]
 
-  long : bytes ≤ length (drop first piece)
+  long : 16 ≤ length (drop first piece)
   long = omega (arith, length-drop first piece)
 
   spelled : SpellsOn (drop first piece) 0 n (number_of (take n (drop first piece)))
-  spelled = let l = n_within in let w = long in record { within = omega arith; digits = k.natural_digits; value_is = refl }
+  spelled = let l = n_few in let w = long in record { within = omega arith; digits = k.natural_digits; value_is = refl }
 
-  pub short_small : value < 10 ^ 18
+  pub short_small : (n + m ≤ 16) × (value < 10 ^ 18)
   short_small =
+      let l = n_few in
+      let few' : n + m ≤ 16 = elim k.shape [ inl s ↦ (let e = s.0 in omega arith) | inr s ↦ (let e = s.2 in omega arith) ] in
       let digits = take n (drop first piece) ++ take m (drop (n + 1) (drop first piece)) in
       let all : All IsDigit digits = All-append IsDigit _ _ k.natural_digits k.fraction_digits in
       let b : number_of digits < 10 ^ length digits = number_bounded digits (recursion_from_All IsDigit digits all) in
-      let len : length digits ≤ 18 =
+      let len : length digits ≤ 16 =
       omega (
         arith,
         length-append (take n (drop first piece)) (take m (drop (n + 1) (drop first piece))),
@@ -230,11 +232,11 @@ module _ (piece : List ℕ) (negative : Bool) (first n m bytes value : ℕ) (sig
       ) in
       let w = scaled_below (number_of digits) (length digits) 0 18 b (omega arith) in
       let v = k.value_is in
-      omega arith
+      (few', omega arith)
 
   pub short_plain : SpellsPlain piece negative value m (first + bytes)
   short_plain =
-      let l = n_within in
+      let l = n_few in
       let v = k.value_is in
       elim k.shape [
         | inl s ↦

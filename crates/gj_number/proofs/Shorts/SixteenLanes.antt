@@ -458,9 +458,6 @@ module _ (piece lanes : List ℕ) (long : 16 ≤ length piece) (fits : (k : ℕ)
   found : (natural ≡ leading lanes) × (natural < 16)
   found = first_other lanes mask (lanes_long piece lanes long fits e) m some
 
-  pub natural_leads : natural ≡ leading lanes
-  natural_leads = found.0
-
   pub natural_few : natural < 16
   natural_few = found.1
 

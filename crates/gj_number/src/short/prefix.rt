@@ -1,7 +1,7 @@
 //! The ordinary number that a piece starts with, read at once.
 //!
-//! Nearly all are read in lanes of sixteen bytes ([`short_number`]). One that these do not hold, or one before an unusual
-//! byte, is read by its runs of digits ([`long_number`]), so that each ordinary number is read. An exponent moves the point of
+//! Nearly all are read as sixteen bytes in lanes ([`short_number`]). A longer one, or one before an unusual byte, is
+//! read by its runs of digits ([`long_number`]), so that each ordinary number is read. An exponent moves the point of
 //! the digits before it, so a number with a small exponent is read as the ordinary number that it is equal to.
 ghost use Rattle.std.specs.Prelude.{◌≡◌, ◌↔◌, ℕ, ◌+◌, ◌-◌, ◌*◌, ◌^◌, ◌<◌, ◌≤◌, ◌∷◌, [], length, take, get_or, IsTrue};
 ghost use Rattle.gj_number.specs.Bytes.{zero_digit, IsDigit, IsExponentLetter, IsNumberByte};
@@ -83,8 +83,8 @@ fn read_copied(piece: &[u8], number: &mut Short) -> usize
     count
 }
 
-/// Reads the number, where it has no exponent, its digits before the point stand among the sixteen bytes after its sign, and
-/// one of the usual bytes stands after it.
+/// Reads the number, where it has no exponent, stands among the sixteen bytes after its sign, and one of the usual bytes
+/// stands after it.
 #[inline(always)]
 fn short_number(piece: &[u8], negative: bool, number: &mut Short) -> usize
     requires room { 40 ≤ length piece.now }

@@ -3,60 +3,46 @@ use Rattle.std.proofs.Common.{◌<◌, List, ℕ, subst, sym, ◌∙◌, ap, ari
 use Rattle.std.specs.Simd.Lanes.{Each1}
 use Rattle.std.specs.List.{fold}
 use Rattle.gj_number.specs.Internal.DigitLanes.{with_value}
-use Rattle.gj_number.proofs.Shorts.SixteenLanes.{natural_leads, natural_few, natural_ends, natural_small, natural_spell, both_few, both_small, both_spell}
+use Rattle.gj_number.proofs.Shorts.SixteenLanes.{natural_few, natural_ends, natural_small, natural_spell, both_few, both_small, both_spell}
 use Rattle.gj_number.proofs.lanes.unsigned_prefix.Goals as goal
 
 pub bounds-piece-natural : goal.bounds-piece-natural
 bounds-piece-natural c =
-    let few = natural_few c.args.piece.now _ (omega (arith, c.requires)) c.type_inv.piece c.lanes_of-lanes.ensures _ c.from_ten-others.ensures c.if-others-eq0.false in
+    let few = natural_few c.args.piece.now _ c.requires c.type_inv.piece c.lanes_of-lanes.ensures _ c.from_ten-others.ensures c.if-others-eq0.false in
     omega arith
 
 pub moved_to_end-requires : goal.moved_to_end-requires
 moved_to_end-requires c =
-    let few = natural_few c.args.piece.now _ (omega (arith, c.requires)) c.type_inv.piece c.lanes_of-lanes.ensures _ c.from_ten-others.ensures c.if-others-eq0.false in
+    let few = natural_few c.args.piece.now _ c.requires c.type_inv.piece c.lanes_of-lanes.ensures _ c.from_ten-others.ensures c.if-others-eq0.false in
     omega arith
 
 pub number_of-requires : goal.number_of-requires
 number_of-requires c =
     let P : List ℕ → Type 0 = λ xs. Each1 (λ x. x < 10) xs in
     subst P (sym c.moved_to_end.ensures)
-    (natural_small c.args.piece.now _ (omega (arith, c.requires)) c.type_inv.piece c.lanes_of-lanes.ensures _ c.from_ten-others.ensures c.if-others-eq0.false)
+    (natural_small c.args.piece.now _ c.requires c.type_inv.piece c.lanes_of-lanes.ensures _ c.from_ten-others.ensures c.if-others-eq0.false)
 
 pub returns-then-piece-natural-ne46-clause-few : goal.returns-then-piece-natural-ne46-clause-few
 returns-then-piece-natural-ne46-clause-few c =
-    let few = natural_few c.args.piece.now _ (omega (arith, c.requires)) c.type_inv.piece c.lanes_of-lanes.ensures _ c.from_ten-others.ensures c.if-others-eq0.false in
-    omega arith
-
-pub returns-then-piece-natural-ne46-clause-within : goal.returns-then-piece-natural-ne46-clause-within
-returns-then-piece-natural-ne46-clause-within c =
-    let few = natural_few c.args.piece.now _ (omega (arith, c.requires)) c.type_inv.piece c.lanes_of-lanes.ensures _ c.from_ten-others.ensures c.if-others-eq0.false in
-    omega arith
+    natural_few c.args.piece.now _ c.requires c.type_inv.piece c.lanes_of-lanes.ensures _ c.from_ten-others.ensures c.if-others-eq0.false
 
 pub returns-then-piece-natural-ne46-clause-spells : goal.returns-then-piece-natural-ne46-clause-spells
 returns-then-piece-natural-ne46-clause-spells c =
-    natural_spell c.args.piece.now _ (omega (arith, c.requires)) c.type_inv.piece c.lanes_of-lanes.ensures _ c.from_ten-others.ensures c.if-others-eq0.false _
+    natural_spell c.args.piece.now _ c.requires c.type_inv.piece c.lanes_of-lanes.ensures _ c.from_ten-others.ensures c.if-others-eq0.false _
     (c.number_of.ensures ∙ ap (fold with_value 0) c.moved_to_end.ensures)
 
 pub overflow_shr-rest : goal.overflow_shr-rest
 overflow_shr-rest c =
-    let few = natural_few c.args.piece.now _ (omega (arith, c.requires)) c.type_inv.piece c.lanes_of-lanes.ensures _ c.from_ten-others.ensures c.if-others-eq0.false in
+    let few = natural_few c.args.piece.now _ c.requires c.type_inv.piece c.lanes_of-lanes.ensures _ c.from_ten-others.ensures c.if-others-eq0.false in
     omega arith
-
-pub long_prefix-requires-clause-some : goal.long_prefix-requires-clause-some
-long_prefix-requires-clause-some c =
-    natural_few c.args.piece.now _ (omega (arith, c.requires)) c.type_inv.piece c.lanes_of-lanes.ensures _ c.from_ten-others.ensures c.if-others-eq0.false
-
-pub long_prefix-requires-clause-digits : goal.long_prefix-requires-clause-digits
-long_prefix-requires-clause-digits c =
-    natural_leads c.args.piece.now _ (omega (arith, c.requires)) c.type_inv.piece c.lanes_of-lanes.ensures _ c.from_ten-others.ensures c.if-others-eq0.false
 
 pub without_lane-requires : goal.without_lane-requires
 without_lane-requires c =
-    natural_few c.args.piece.now _ (omega (arith, c.requires)) c.type_inv.piece c.lanes_of-lanes.ensures _ c.from_ten-others.ensures c.if-others-eq0.false
+    natural_few c.args.piece.now _ c.requires c.type_inv.piece c.lanes_of-lanes.ensures _ c.from_ten-others.ensures c.if-others-eq0.false
 
 pub moved_to_end-requires-2 : goal.moved_to_end-requires-2
 moved_to_end-requires-2 c =
-    let few = both_few c.args.piece.now _ (omega (arith, c.requires)) c.type_inv.piece c.lanes_of-lanes.ensures _ c.from_ten-others.ensures c.if-others-eq0.false
+    let few = both_few c.args.piece.now _ c.requires c.type_inv.piece c.lanes_of-lanes.ensures _ c.from_ten-others.ensures c.if-others-eq0.false
     c.if-rest-eq0.false in
     omega arith
 
@@ -64,29 +50,23 @@ pub number_of-requires-2 : goal.number_of-requires-2
 number_of-requires-2 c =
     let P : List ℕ → Type 0 = λ xs. Each1 (λ x. x < 10) xs in
     subst P (sym (rw c.without_lane.ensures at c.moved_to_end-2.ensures))
-    (both_small c.args.piece.now _ (omega (arith, c.requires)) c.type_inv.piece c.lanes_of-lanes.ensures _ c.from_ten-others.ensures c.if-others-eq0.false
+    (both_small c.args.piece.now _ c.requires c.type_inv.piece c.lanes_of-lanes.ensures _ c.from_ten-others.ensures c.if-others-eq0.false
     c.if-rest-eq0.false)
 
 pub returns-clause-few : goal.returns-clause-few
 returns-clause-few c =
-    let few = both_few c.args.piece.now _ (omega (arith, c.requires)) c.type_inv.piece c.lanes_of-lanes.ensures _ c.from_ten-others.ensures c.if-others-eq0.false c.if-rest-eq0.false in
-    omega arith
-
-pub returns-clause-within : goal.returns-clause-within
-returns-clause-within c =
-    let few = both_few c.args.piece.now _ (omega (arith, c.requires)) c.type_inv.piece c.lanes_of-lanes.ensures _ c.from_ten-others.ensures c.if-others-eq0.false c.if-rest-eq0.false in
-    omega arith
+    both_few c.args.piece.now _ c.requires c.type_inv.piece c.lanes_of-lanes.ensures _ c.from_ten-others.ensures c.if-others-eq0.false c.if-rest-eq0.false
 
 pub returns-clause-spells : goal.returns-clause-spells
 returns-clause-spells c =
-    both_spell c.args.piece.now _ (omega (arith, c.requires)) c.type_inv.piece c.lanes_of-lanes.ensures _ c.from_ten-others.ensures c.if-others-eq0.false c.if-rest-eq0.false _
+    both_spell c.args.piece.now _ c.requires c.type_inv.piece c.lanes_of-lanes.ensures _ c.from_ten-others.ensures c.if-others-eq0.false c.if-rest-eq0.false _
     (c.number_of-2.ensures ∙ ap (fold with_value 0) (rw c.without_lane.ensures at c.moved_to_end-2.ensures)) c.if-piece-natural-ne46.false
     c.if-fraction-eq0.false
 
 pub returns-then-piece-natural-ne46-clause-ends : goal.returns-then-piece-natural-ne46-clause-ends
 returns-then-piece-natural-ne46-clause-ends c =
-    natural_ends c.args.piece.now _ (omega (arith, c.requires)) c.type_inv.piece c.lanes_of-lanes.ensures _ c.from_ten-others.ensures c.if-others-eq0.false
+    natural_ends c.args.piece.now _ c.requires c.type_inv.piece c.lanes_of-lanes.ensures _ c.from_ten-others.ensures c.if-others-eq0.false
 
 pub returns-clause-ends : goal.returns-clause-ends
 returns-clause-ends c =
-    natural_ends c.args.piece.now _ (omega (arith, c.requires)) c.type_inv.piece c.lanes_of-lanes.ensures _ c.from_ten-others.ensures c.if-others-eq0.false
+    natural_ends c.args.piece.now _ c.requires c.type_inv.piece c.lanes_of-lanes.ensures _ c.from_ten-others.ensures c.if-others-eq0.false

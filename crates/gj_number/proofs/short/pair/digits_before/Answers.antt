@@ -32,9 +32,9 @@ returns-clause-small c =
       | else-piece-first-eq48-via-else-piece-first-eq48 w ↦ absurd (w.if-piece-first-eq48.false z)
     ] in
     let s = short_small piece negative first found.natural found.fraction bytes value (sign_at piece negative c.requires.sign (omega arith))
-    (subst P (rest_is piece first) c.in-Some.ensures.spells) c.in-Some.ensures.some (one_of piece first found.natural lead) (omega (arith, c.in-Some.ensures.few))
-    (omega (arith, c.in-Some.ensures.few)) in
-    s
+    (subst P (rest_is piece first) c.in-Some.ensures.spells) c.in-Some.ensures.some (one_of piece first found.natural lead) c.in-Some.ensures.few
+    (omega arith) in
+    s.1
 
 pub returns-clause-spells : goal.returns-clause-spells
 returns-clause-spells c =
@@ -56,8 +56,8 @@ returns-clause-spells c =
       | else-piece-first-eq48-via-else-piece-first-eq48 w ↦ absurd (w.if-piece-first-eq48.false z)
     ] in
     short_plain piece negative first found.natural found.fraction bytes value (sign_at piece negative c.requires.sign (omega arith))
-    (subst P (rest_is piece first) c.in-Some.ensures.spells) c.in-Some.ensures.some (one_of piece first found.natural lead) (omega (arith, c.in-Some.ensures.few))
-    (omega (arith, c.in-Some.ensures.few))
+    (subst P (rest_is piece first) c.in-Some.ensures.spells) c.in-Some.ensures.some (one_of piece first found.natural lead) c.in-Some.ensures.few
+    (omega arith)
 
 pub returns-in_default-clause-taken : goal.returns-in_default-clause-taken
 returns-in_default-clause-taken c = λ n u. c.in_default.ensures.taken _ _ (slice_pointed c.args.piece.now c.args.negative n c.args.after c.requires.sign u)

@@ -17,9 +17,9 @@ invariant_of-number c =
     let some = first_some piece first found.natural c.in-Some.ensures.ends (c.leads.ensures.some c.if-not-leads.false) in
     let lead = c.leads.ensures.one c.if-not-leads.false in
     let small = short_small piece negative first found.natural found.fraction found.length found.value (sign_at piece negative c.requires.sign (omega arith))
-    (subst P (rest_is piece first) c.in-Some.ensures.spells) some (one_of piece first found.natural lead) c.in-Some.ensures.few
-    (omega (arith, c.in-Some.ensures.within)) in
-    record { small = small; few = (let l = c.in-Some.ensures.few in omega arith) }
+    (subst P (rest_is piece first) c.in-Some.ensures.spells) some (one_of piece first found.natural lead) (omega (arith, c.in-Some.ensures.few))
+    (omega arith) in
+    record { small = small.1; few = (let l = small.0 in omega arith) }
 
 pub returns : goal.returns
 returns c = λ positive.
@@ -35,8 +35,8 @@ returns c = λ positive.
     let sign = sign_at piece negative c.requires.sign (omega arith) in
     let one = one_of piece first found.natural lead in
     let small = short_small piece negative first found.natural found.fraction found.length found.value sign spells some one
-    c.in-Some.ensures.few (omega (arith, c.in-Some.ensures.within)) in
+    (omega (arith, c.in-Some.ensures.few)) (omega arith) in
     plain_front piece negative found.value found.fraction (first + found.length)
-    (short_plain piece negative first found.natural found.fraction found.length found.value sign spells some one c.in-Some.ensures.few
-    (omega (arith, c.in-Some.ensures.within)))
-    small (let l = c.in-Some.ensures.few in omega arith) (let f = c.in-Some.ensures.within in omega arith) (c.is_behind.ensures c.if-not-is_behind.false)
+    (short_plain piece negative first found.natural found.fraction found.length found.value sign spells some one (omega (arith, c.in-Some.ensures.few))
+    (omega arith))
+    small.1 (let l = small.0 in omega arith) (let f = c.in-Some.ensures.few in omega arith) (c.is_behind.ensures c.if-not-is_behind.false)
