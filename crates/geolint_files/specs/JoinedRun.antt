@@ -10,7 +10,7 @@ use Rattle.report_forms.specs.declared.formats.lines.Style.{Style}
 use Rattle.report_forms.specs.declared.options.Options.{Options}
 use Rattle.geolint_files.specs.declared.outcome.Outcome.{Outcome}
 use Rattle.geolint_files.specs.Listed.{AreLinesOf, ArePlacedLines, IsUnplaced, asked_in}
-use Rattle.geolint_files.specs.Run.{ToldFile, FeatureLine, judged, not_read, listed, worst_of, IsWholeReport}
+use Rattle.geolint_files.specs.Run.{ToldFile, FeatureLine, judged, listed, worst_of, IsWholeReport}
 
 -- the lines of these notes, with their places where the source is there, and their counts
 abbrev pub AreLinesOfNotes : Options → List ℕ → Asked → Notes → List FeatureLine → Tally → Type 0

@@ -1,5 +1,5 @@
 -- What is said of the places of notes while a source is read once.
-use Rattle.std.proofs.Common.{◌≡◌, sym, subst, ℕ, List, [], ◌∷◌, ◌++◌}
+use Rattle.std.proofs.Common.{sym, subst, ℕ, List, [], ◌∷◌}
 use Rattle.std.specs.Prelude.{Option, Some, None}
 use Rattle.std.specs.Io.KnownBytes.{Consumes}
 use Rattle.geolint_report.specs.declared.every.cursor.Mark.{Mark}
@@ -9,7 +9,6 @@ use Rattle.geolint_report.specs.Sites.{IsSpot, LeadsTo}
 use Rattle.geolint_report.specs.Spots.{AreSpots, SaysSpot, FollowedFrom}
 use Rattle.geolint_files.specs.Listed.{AreEntriesOf, AreLinesOf, IsMarkedBy, IsSpotBy}
 use Rattle.geolint_files.specs.Run.{FeatureLine, feature_line, others_line}
-use Rattle.report_forms.specs.declared.every.entry.Entry.{Entry}
 
 -- what is said by the bytes that were read holds of all that the source had
 spot-by : (had left : Option (List ℕ)) (read : List ℕ) (spots : Spots) (note : Note) (mark : Option Mark) → Consumes had left read → AreSpots spots read

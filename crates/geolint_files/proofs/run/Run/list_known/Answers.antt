@@ -1,8 +1,6 @@
 use Rattle.std.proofs.Common.{refl, inl, inr}
-use Rattle.std.specs.Prelude.{Option}
 use Rattle.std.proofs.lemmas.Result.{on_ok_weaker}
 use Rattle.geolint_report.specs.declared.judge.Reading.{Reading}
-use Rattle.geolint_report.specs.declared.report.Report.{Report}
 use Rattle.geolint_files.proofs.Runs.ListedFiles.{asked-every}
 use Rattle.geolint_files.proofs.run.Run.list_known.Goals as goal
 

@@ -55,8 +55,8 @@ returns-in-Some g c =
           (record { same = record { options = refl; style = refl; outcome = refl; summary = refl; tally = refl }; out = refl; log = refl; line = refl }) tells,
     )) (c.list_followed.ensures asked)
 
-pub returns-in-None : goal.returns-in-None
-returns-in-None g c =
+pub returns-in-Ok : goal.returns-in-Ok
+returns-in-Ok g c =
     let old = c.args.self.now in
     let limits = old.options.limits in
     let reading = c.reading-reading.result in
@@ -85,8 +85,8 @@ returns-in-None g c =
           (record { same = record { options = refl; style = refl; outcome = refl; summary = refl; tally = refl }; out = refl; log = refl; line = refl }) told,
     )) c.tell.ensures
 
-pub returns-in-Err : goal.returns-in-Err
-returns-in-Err g c =
+pub returns : goal.returns
+returns g c =
     on_ok_weaker c.tell_unread.result (λ told. (
       not_read c.args.name.now told.0,
       (refl, c.in-Err.ensures.failed),

@@ -1,4 +1,4 @@
-use Rattle.std.proofs.Common.{[], ◌∷◌, List, subst, ap, ◌∙◌}
+use Rattle.std.proofs.Common.{[], ◌∷◌, subst, ap, ◌∙◌}
 use Rattle.geolint_report.specs.declared.judge.Finding.{Finding}
 use Rattle.report_forms.specs.declared.options.Options.{Options}
 use Rattle.geolint_files.specs.JoinedRun.{IsFileOf}
