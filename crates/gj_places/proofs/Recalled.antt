@@ -25,9 +25,10 @@ right-within : (before part rest : List ℕ) (place n : ℕ) (lines : Lines) →
     → StandsFor lines (before ++ take n part) → Right place lines (before ++ (part ++ rest))
 right-within before part rest place n lines is within stands =
     let long : length (before ++ (part ++ rest)) ≡ length before + (length part + length rest) =
-        length-append before (part ++ rest) ∙ ap (λ (k : ℕ). length before + k) (length-append part rest) in
-    (omega (arith, is, within, long),
-    subst (StandsFor lines) (sym (ap (λ (k : ℕ). take k (before ++ (part ++ rest))) is ∙ taken-within before part rest n within)) stands)
+    length-append before (part ++ rest) ∙ ap (λ (k : ℕ). length before + k) (length-append part rest) in (
+      omega (arith, is, within, long),
+      subst (StandsFor lines) (sym (ap (λ (k : ℕ). take k (before ++ (part ++ rest))) is ∙ taken-within before part rest n within)) stands,
+    )
 
 pub right-in-older : (recent : Recent) (bytes : List ℕ) (place : ℕ) (lines : Lines) → (recalls : Recalls recent bytes)
     → recent.passed ≤ place → place < 2 ^ 64 - 1 → place - recent.passed ≤ length recent.older.items
@@ -43,15 +44,15 @@ pub right-in-newer : (recent : Recent) (bytes : List ℕ) (place : ℕ) (lines :
     → recent.passed ≤ place → place < 2 ^ 64 - 1 → length recent.older.items ≤ place - recent.passed
     → (place - recent.passed) - length recent.older.items ≤ length recent.newer.items
     → ((before : List ℕ) → StandsFor recent.at_newer before
-      → StandsFor lines (before ++ take ((place - recent.passed) - length recent.older.items) recent.newer.items))
+    → StandsFor lines (before ++ take ((place - recent.passed) - length recent.older.items) recent.newer.items))
     → (place ≤ length bytes) × StandsFor lines (take place bytes)
 right-in-newer recent bytes place lines recalls from small beyond within after =
     let exact = passed-is place recent.passed recalls.before recalls.passed from small in
     let front = recalls.before ++ recent.older.items in
     let long : length front ≡ length recalls.before + length recent.older.items = length-append recalls.before recent.older.items in
     let whole : bytes ≡ front ++ (recent.newer.items ++ []) =
-        recalls.all ∙ sym (append_assoc recalls.before recent.older.items recent.newer.items)
-        ∙ ap (λ (ys : List ℕ). front ++ ys) (sym (append-nil recent.newer.items)) in
+    recalls.all ∙ sym (append_assoc recalls.before recent.older.items recent.newer.items)
+    ∙ ap (λ (ys : List ℕ). front ++ ys) (sym (append-nil recent.newer.items)) in
     subst (Right place lines) (sym whole)
     (right-within front recent.newer.items [] place ((place - recent.passed) - length recent.older.items) lines (omega (arith, exact, from, long, beyond)) within
     (after front recalls.at_newer))

@@ -48,8 +48,12 @@ returns-in-Some g c =
             refl,
             c.in-Ok.ensures.failed,
             (left, c.in-Ok.ensures.found slow),
-            (notes.notes.items, notes.count, kept (framing_in reading) limits had c.in-Ok.ensures.listed,
-            lines-by had left c.judge_followed.new.follower c.args.name.now notes.notes.items notes.count lines followed are),
+            (
+              notes.notes.items,
+              notes.count,
+              kept (framing_in reading) limits had c.in-Ok.ensures.listed,
+              lines-by had left c.judge_followed.new.follower c.args.name.now notes.notes.items notes.count lines followed are,
+            ),
           ),
       TellsFile-after g.W.Write.contents _ old _ c.list_followed.new.self
           (record { same = record { options = refl; style = refl; outcome = refl; summary = refl; tally = refl }; out = refl; log = refl; line = refl }) tells,
