@@ -9,12 +9,14 @@ from typing import Any, Iterator, Optional
 from .._findings import features, records
 from .._hints import AROUND, HEAD, hint_around, place_of
 from .._linter import Linter, check_open
-from .._native import PIECE, address
+from .._native import PIECE, address, library
 from .._places import Place, Seeker
 from .._verdict import Finding, Verdict
 
 # The most findings of features that are held at once.
 MOST_HELD = 65536
+# How many bytes of what is read once are kept for the lines and columns of places among them, at least where it has that many.
+KEPT = 65536
 # How many bytes of a line are shown before its place and from it on, and how many characters of an `id`.
 EXCERPT, ID = 256, 40
 
@@ -85,6 +87,8 @@ class Found:
     note_count: int = 0
     tally: Tally = field(default_factory=Tally)
     spots: dict[int, Place] = field(default_factory=dict)
+    # Of the places of notes: of what is read once lines and columns alone.
+    note_spots: dict[int, Place] = field(default_factory=dict)
     excerpt: Optional[tuple[bytes, bytes]] = None
     # How many arrays and objects are open before the place, of a text that is not JSON; of others any number but 0.
     levels: int = 1
@@ -118,8 +122,38 @@ def _notes_of(finding: Finding, every: str) -> Iterator[Note]:
             yield Note(finding.number, finding.id, f"W{w.kind}", w.text, w.first, w.kind)
 
 
+class Recent:
+    """A file that is read once, of which the last bytes are kept, and where they stand."""
+
+    def __init__(self, file: Any) -> None:
+        self._file, self._held, self._start = file, bytearray(), 0
+        self._lines = library.geolint_lines_begin()
+
+    def _after(self, count: int) -> Any:
+        """The line and the column after this many of the bytes that are kept."""
+        before = bytes(self._held[:count])
+        return library.geolint_lines_feed(self._lines, address(before), count)
+
+    def read(self, size: int) -> bytes:
+        piece: bytes = self._file.read(size)
+        if (passed := len(self._held) - KEPT) > KEPT:
+            self._lines = self._after(passed)
+            self._start += passed
+            del self._held[:passed]
+        self._held += piece or b""
+        return piece
+
+    def place(self, offset: int) -> Optional[Place]:
+        """Where a place stands that is among the bytes that are kept, without its path."""
+        if not 0 <= offset - self._start <= len(self._held):
+            return None
+        at = self._after(offset - self._start)
+        return Place(offset, at.line, at.column, "")
+
+
 def _with_features(name: bytes, file: Any, asked: Asked) -> Found:
     room, count = min(asked.most or MOST_HELD, MOST_HELD), 0
+    spots: dict[int, Place] = {}
     notes: list[Note] = []
     tally = Tally()
     found = features(file, max_bytes=asked.max_bytes)
@@ -130,9 +164,11 @@ def _with_features(name: bytes, file: Any, asked: Asked) -> Found:
             tally.note(note)
             if len(notes) < room:
                 notes.append(note)
+                if isinstance(file, Recent) and (spot := file.place(note.place)):
+                    spots[note.place] = spot
     if found.verdict is not None and found.verdict.name == "not JSON":
         count, notes, tally = 0, [], Tally()
-    return Found(name, found.verdict, notes=notes, note_count=count, tally=tally)
+    return Found(name, found.verdict, notes=notes, note_count=count, tally=tally, note_spots=spots)
 
 
 def _of_records(name: bytes, file: Any, asked: Asked, framing: str) -> Found:
@@ -262,7 +298,7 @@ def read_again(file: Any, found: Found, state: tuple[int, int]) -> None:
         excerpt = before.rpartition(b"\n")[2], after.partition(b"\n")[0]
     hint = _hint(file, found)
     if _state(file) == state:
-        found.spots, found.notes, found.excerpt, found.hint = spots, notes, excerpt, hint
+        found.spots, found.note_spots, found.notes, found.excerpt, found.hint = spots, spots, notes, excerpt, hint
 
 
 def read_file(name: bytes, file: Any, asked: Asked, framing: Optional[str]) -> Found:

@@ -189,29 +189,30 @@ def _id(before: str, note: Note) -> str:
 
 
 def _note_lines(found: Found, note: Note, asked: Asked, colour: bool) -> str:
-    spot = found.spots.get(note.place)
+    spot = found.note_spots.get(note.place)
     word = _painted("warning" if note.kind else "fault", f"{'warning' if note.kind else 'broken'} {note.code}", colour)
-    place = f", {spot.path}" if spot else f", at byte {note.place}"
+    place = f", at byte {note.place}" if not spot else f", {spot.path}" if spot.path else ""
     return f"{_where(found.name, spot, colour)}: {word}: {note.text} (feature {note.feature}{_id(', id ', note)}{place})\n"
 
 
 def _note_text(found: Found, note: Note, asked: Asked, colour: bool) -> str:
-    spot = found.spots.get(note.place)
-    place = f"{note.place}, line {spot.line}, column {spot.column}, {spot.path}" if spot else f"{note.place}"
+    spot = found.note_spots.get(note.place)
+    path = f", {spot.path}" if spot and spot.path else ""
+    place = f"{note.place}, line {spot.line}, column {spot.column}{path}" if spot else f"{note.place}"
     word = "warning" if note.kind else "broken"
     return f"feature {note.feature}{_id(' id ', note)} {word} {note.code} at {place}: {note.text}\n"
 
 
 def _note_json(found: Found, note: Note, asked: Asked, colour: bool) -> str:
-    spot = found.spots.get(note.place)
+    spot = found.note_spots.get(note.place)
     head = {"path": _string(found.name), "feature": note.feature, "id": _string(note.id) if note.id else None}
-    return _dumped({**head, **_json_place(note.code, note.text, note.place, spot, spot.path if spot else None)})
+    return _dumped({**head, **_json_place(note.code, note.text, note.place, spot, (spot.path or None) if spot else None)})
 
 
 def _note_github(found: Found, note: Note, asked: Asked, colour: bool) -> str:
-    spot = found.spots.get(note.place)
+    spot = found.note_spots.get(note.place)
     level = "error" if note.kind is None or asked.fails(note.kind) else "warning"
-    path = f", {spot.path}" if spot else ""
+    path = f", {spot.path}" if spot and spot.path else ""
     head = f"{_github_file(level, found.name)}{_github_spot(spot)},title={note.code}"
     return f"{head}::{note.text}, feature {note.feature}{_in_message(_id(', id ', note))}, at byte {note.place}{path}\n"
 

@@ -10,7 +10,7 @@ from dataclasses import dataclass, field
 from typing import Any, Iterator, Optional
 
 from . import forms
-from .files import Asked, Found, Tally, read, read_file
+from .files import Asked, Found, Recent, Tally, read, read_file
 
 CODES = [*(f"G{n}" for n in range(1, 22)), *(f"W{n}" for n in range(1, 10)), *(f"J{n}" for n in range(1, 5))]
 _NO_INPUT = "a list cannot name standard input; ./- is a file of that name"
@@ -205,7 +205,8 @@ class Run:
     def stream(self, name: bytes, file: Any) -> None:
         """Checks what can be read once only."""
         try:
-            found = read(name, file, self.order.asked, self.framing(name))
+            source = Recent(file) if self.order.asked.every else file
+            found = read(name, source, self.order.asked, self.framing(name))
         except OSError as error:
             self.tell_unread(name, _reason(error))
             return
