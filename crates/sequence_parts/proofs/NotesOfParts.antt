@@ -3,6 +3,7 @@ use Rattle.std.proofs.Common.{◌≡◌, ◌<◌, ℕ, refl, subst, List, Some, 
 use Rattle.std.specs.Prelude.{Option, IfSome}
 use Rattle.std.specs.Option.{option_map}
 use Rattle.gj_json.specs.Limits.{Allowed}
+use Rattle.gj_join.specs.Parts.{limits_after}
 use Rattle.gj_rules.specs.declared.records.framing.Framing.{Framing}
 use Rattle.gj_rules.specs.declared.records.framing.Framing.TheVariants.{Sequence, Lines}
 use Rattle.geolint_report.specs.Every.{ListsFor, AreNotesBy}
@@ -12,7 +13,9 @@ use Rattle.geolint_report.specs.declared.every.listing.Listing.{Listing}
 use Rattle.geolint_report.specs.declared.every.listing.Notes.{Notes}
 use Rattle.geolint_report.specs.declared.judge.Finding.{Finding}
 use Rattle.geolint_report.specs.declared.judge.Reading.{Reading}
-use Rattle.sequence_parts.specs.Checked.{AreNotesIf, AreNotesBefore, reading_of}
+use Rattle.sequence_parts.specs.Checked.{AreNotesIf, AreNotesBefore, AreNoNotes, AreNotesOfPart, reading_of}
+use Rattle.sequence_parts.specs.Cuts.{bytes_between}
+use Rattle.sequence_parts.specs.declared.checked.CheckedPart.{CheckedPart}
 
 framed : (framing : Framing) → framing_in (reading_of framing) ≡ Some framing
 framed Sequence = refl
@@ -46,3 +49,11 @@ noted_bytes None had f framing limits left asked told begin end same_bytes same_
 noted_bytes (Some text) had f framing limits left asked told begin end same_bytes same_limits are =
     let by_bytes = subst (λ (o : Option (List ℕ)). AreNotesBefore framing left asked o told) same_bytes are in
     λ has. subst (λ (l : Allowed). AreNotesIf framing l asked (f text) told) same_limits by_bytes
+
+-- those of its bytes, and none where it has none
+pub notes-of-part : (known : Option (List ℕ)) (framing : Framing) (limits : Allowed) (asked : Option Asked) (part : CheckedPart) (told : Option Notes)
+    → IfSome known (λ text. part.begin < part.end
+    → AreNotesIf framing (limits_after limits part.begin) asked (bytes_between part.begin part.end text) told)
+    → (part.begin ≡ part.end → AreNoNotes asked told) → IfSome known (λ text. AreNotesOfPart framing limits asked text part told)
+notes-of-part None framing limits asked part told some empty = tt
+notes-of-part (Some text) framing limits asked part told some empty = record { some = some; empty = empty }

@@ -1,11 +1,12 @@
 -- What was found of the bytes of one part.
-use Rattle.std.specs.Prelude.{◌≡◌, ◌⊎◌, ℕ, suc, ◌≤◌, ◌<◌, List, length, get_or, Option, Some, None, IfSome, ⊤}
+use Rattle.std.specs.Prelude.{◌≡◌, ◌⊎◌, ℕ, suc, ◌≤◌, ◌<◌, List, [], length, get_or, Option, Some, None, IfSome}
 use Rattle.gj_json.specs.Limits.{Allowed}
 use Rattle.gj_join.specs.Joined.{IsVerdictOf}
 use Rattle.gj_join.specs.Parts.{limits_after}
 use Rattle.gj_rules.specs.declared.records.framing.Framing.{Framing}
 use Rattle.gj_rules.specs.declared.records.framing.Framing.TheVariants.{Sequence, Lines}
 use Rattle.geolint_report.specs.Every.{AreNotesIn}
+use Rattle.geolint_report.specs.Tallies.{Tallies}
 use Rattle.geolint_report.specs.declared.every.listing.Asked.{Asked}
 use Rattle.geolint_report.specs.declared.every.listing.Notes.{Notes}
 use Rattle.geolint_report.specs.declared.judge.Reading.{Reading}
@@ -39,13 +40,20 @@ reading_of Lines = Reading.Lines
 abbrev pub AreNotesIf : Framing → Allowed → Option Asked → List ℕ → Option Notes → Type 0
 AreNotesIf framing limits (Some asked) text (Some told) = AreNotesIn (Some framing) asked told.notes.items told.count told.tally limits text
 AreNotesIf framing limits (Some asked) text None = ⊥
-AreNotesIf framing limits None text told = ⊤
+AreNotesIf framing limits None text told = told ≡ None
 
 -- the same, where the reader told its bytes
 abbrev pub AreNotesBefore : Framing → Allowed → Option Asked → Option (List ℕ) → Option Notes → Type 0
 AreNotesBefore framing limits asked had told = IfSome had (λ text. AreNotesIf framing limits asked text told)
 
--- of a part that has bytes
-abbrev pub AreNotesOfPart : Framing → Allowed → Option Asked → List ℕ → CheckedPart → Option Notes → Type 0
-AreNotesOfPart framing limits asked text part told = part.begin < part.end
-    → AreNotesIf framing (limits_after limits part.begin) asked (bytes_between part.begin part.end text) told
+-- nothing is told, and nothing is counted
+abbrev pub AreNoNotes : Option Asked → Option Notes → Type 0
+AreNoNotes (Some asked) (Some told) = (told.notes.items ≡ []) × (told.count ≡ 0) × (told.tally.items ≡ 0) × Tallies told.tally []
+AreNoNotes (Some asked) None = ⊥
+AreNoNotes None told = told ≡ None
+
+-- those of its bytes, and none of a part that has no byte
+pub record AreNotesOfPart (framing : Framing) (limits : Allowed) (asked : Option Asked) (text : List ℕ) (part : CheckedPart) (told : Option Notes)
+    : Type 0 where
+  pub some : part.begin < part.end → AreNotesIf framing (limits_after limits part.begin) asked (bytes_between part.begin part.end text) told
+  pub empty : part.begin ≡ part.end → AreNoNotes asked told

@@ -3,7 +3,7 @@
 ghost use Rattle.std.specs.Prelude.{◌≡◌, ◌<◌, ◌≤◌, IfOk, IfSome, length};
 ghost use Rattle.gj_join.specs.Joined.{IsVerdictOf};
 ghost use Rattle.gj_join.specs.Parts.{limits_after};
-ghost use Rattle.sequence_parts.specs.Checked.{IsPartOf, AreNotesOfPart, AreNotesIf, AreNotesBefore, reading_of};
+ghost use Rattle.sequence_parts.specs.Checked.{IsPartOf, AreNotesOfPart, AreNotesIf, AreNoNotes, AreNotesBefore, reading_of};
 ghost use Rattle.geolint_report.specs.Judged.{Finds};
 ghost use Rattle.sequence_parts.specs.Cuts.{bytes_between};
 ghost use Rattle.sequence_parts.specs.Ranges.{ArePart, IsEnd};
@@ -150,6 +150,7 @@ fn check_bytes<S: Rewind + Drop>(
         → IsVerdictOf framing (limits_after limits bounds.begin) (bytes_between bounds.begin bounds.end text) found.0)) }
     ensures notes { IfOk result (λ found. IfSome (S.text source) (λ text. bounds.begin < bounds.end
         → AreNotesIf framing (limits_after limits bounds.begin) asked (bytes_between bounds.begin bounds.end text) found.1)) }
+    ensures none { IfOk result (λ found. bounds.begin ≡ bounds.end → AreNoNotes asked found.1) }
 {
     if bounds.begin == bounds.end {
         return Ok((nothing(), no_notes(alloc, asked)));
@@ -168,7 +169,9 @@ fn check_bytes<S: Rewind + Drop>(
 }
 
 /// Of no record.
-fn no_notes(alloc: Global, asked: Option<Asked>) -> Option<Notes> {
+fn no_notes(alloc: Global, asked: Option<Asked>) -> Option<Notes>
+    ensures { AreNoNotes asked result }
+{
     match asked {
         Some(_) => Some(Notes {
             notes: Vec::new(alloc),

@@ -1,3 +1,4 @@
+use Rattle.std.proofs.Common.{arith, rules}
 use Rattle.gj_join.specs.Parts.{limits_after}
 use Rattle.sequence_parts.specs.Cuts.{bytes_between}
 use Rattle.sequence_parts.proofs.NotesOfParts.{noted_bytes}
@@ -14,4 +15,5 @@ returns-in-Sequence g c =
           found.0 c.in-Sequence.verdict bounds.begin bounds.end c.new-window.ensures.bytes c.in-Sequence.is c.in-Some.ensures c.in_ok-found.ensures.found;
       notes = noted_bytes text _ (bytes_between bounds.begin bounds.end) c.args.framing (limits_after c.args.limits bounds.begin) c.in-Some.left c.args.asked
           found.1 bounds.begin bounds.end c.new-window.ensures.bytes c.in-Some.ensures c.in_ok-found.ensures.notes;
+      none = λ same. absurd (search (arith, rules, same));
     }

@@ -2,6 +2,7 @@ use Rattle.std.proofs.Common.{List, ℕ, subst}
 use Rattle.std.specs.Prelude.{Option, IfSome}
 use Rattle.sequence_parts.specs.Checked.{AreNotesOfPart}
 use Rattle.sequence_parts.specs.declared.checked.CheckedPart.{CheckedPart}
+use Rattle.sequence_parts.proofs.NotesOfParts.{notes-of-part}
 use Rattle.sequence_parts.proofs.PartBounds.{known_part}
 use Rattle.sequence_parts.proofs.checked.check_part.Goals as goal
 
@@ -18,4 +19,5 @@ returns-clause-notes g c =
     let found = c.in_ok-found.found in
     let part : CheckedPart = record { begin = bounds.begin; end = bounds.end; verdict = found.0 } in
     subst (λ (o : Option (List ℕ)). IfSome o (λ text. AreNotesOfPart c.args.framing c.args.limits c.args.asked text part found.1)) c.find_bounds.ensures.text
-    c.in_ok-found.ensures.notes
+    (notes-of-part (g.S.Source.text c.find_bounds.new.source) c.args.framing c.args.limits c.args.asked part found.1 c.in_ok-found.ensures.notes
+    c.in_ok-found.ensures.none)
