@@ -4,7 +4,7 @@ use Rattle.std.proofs.lemmas.List.{take-append-le}
 use Rattle.std.proofs.Math.Seq.{take-append-add}
 use Rattle.std.specs.Io.Iter.{u64_saturate}
 use Rattle.gj_places.specs.Counting.{StandsFor}
-use Rattle.gj_places.specs.Recalling.{Recalls}
+use Rattle.gj_places.specs.Recalling.{held, Recalls}
 use Rattle.gj_places.specs.declared.lines.Lines.{Lines}
 use Rattle.gj_places.specs.declared.recent.Recent.{Recent}
 
@@ -31,28 +31,28 @@ right-within before part rest place n lines is within stands =
     )
 
 pub right-in-older : (recent : Recent) (bytes : List ℕ) (place : ℕ) (lines : Lines) → (recalls : Recalls recent bytes)
-    → recent.passed ≤ place → place < 2 ^ 64 - 1 → place - recent.passed ≤ length recent.older.items
-    → ((before : List ℕ) → StandsFor recent.at_older before → StandsFor lines (before ++ take (place - recent.passed) recent.older.items))
+    → recent.passed ≤ place → place < 2 ^ 64 - 1 → place - recent.passed ≤ length (held recent.older)
+    → ((before : List ℕ) → StandsFor recent.at_older before → StandsFor lines (before ++ take (place - recent.passed) (held recent.older)))
     → (place ≤ length bytes) × StandsFor lines (take place bytes)
 right-in-older recent bytes place lines recalls from small within after =
     let exact = passed-is place recent.passed recalls.before recalls.passed from small in
     subst (Right place lines) (sym recalls.all)
-    (right-within recalls.before recent.older.items recent.newer.items place (place - recent.passed) lines (omega (arith, exact, from)) within
+    (right-within recalls.before (held recent.older) (held recent.newer) place (place - recent.passed) lines (omega (arith, exact, from)) within
     (after recalls.before recalls.at_older))
 
 pub right-in-newer : (recent : Recent) (bytes : List ℕ) (place : ℕ) (lines : Lines) → (recalls : Recalls recent bytes)
-    → recent.passed ≤ place → place < 2 ^ 64 - 1 → length recent.older.items ≤ place - recent.passed
-    → (place - recent.passed) - length recent.older.items ≤ length recent.newer.items
+    → recent.passed ≤ place → place < 2 ^ 64 - 1 → length (held recent.older) ≤ place - recent.passed
+    → (place - recent.passed) - length (held recent.older) ≤ length (held recent.newer)
     → ((before : List ℕ) → StandsFor recent.at_newer before
-    → StandsFor lines (before ++ take ((place - recent.passed) - length recent.older.items) recent.newer.items))
+    → StandsFor lines (before ++ take ((place - recent.passed) - length (held recent.older)) (held recent.newer)))
     → (place ≤ length bytes) × StandsFor lines (take place bytes)
 right-in-newer recent bytes place lines recalls from small beyond within after =
     let exact = passed-is place recent.passed recalls.before recalls.passed from small in
-    let front = recalls.before ++ recent.older.items in
-    let long : length front ≡ length recalls.before + length recent.older.items = length-append recalls.before recent.older.items in
-    let whole : bytes ≡ front ++ (recent.newer.items ++ []) =
-    recalls.all ∙ sym (append_assoc recalls.before recent.older.items recent.newer.items)
-    ∙ ap (λ (ys : List ℕ). front ++ ys) (sym (append-nil recent.newer.items)) in
+    let front = recalls.before ++ (held recent.older) in
+    let long : length front ≡ length recalls.before + length (held recent.older) = length-append recalls.before (held recent.older) in
+    let whole : bytes ≡ front ++ ((held recent.newer) ++ []) =
+    recalls.all ∙ sym (append_assoc recalls.before (held recent.older) (held recent.newer))
+    ∙ ap (λ (ys : List ℕ). front ++ ys) (sym (append-nil (held recent.newer))) in
     subst (Right place lines) (sym whole)
-    (right-within front recent.newer.items [] place ((place - recent.passed) - length recent.older.items) lines (omega (arith, exact, from, long, beyond)) within
+    (right-within front (held recent.newer) [] place ((place - recent.passed) - length (held recent.older)) lines (omega (arith, exact, from, long, beyond)) within
     (after front recalls.at_newer))

@@ -1,12 +1,60 @@
 //! The lines and columns of places among the last bytes of a text that is read once.
-ghost use Rattle.std.specs.Prelude.{◌++◌, List, ℕ};
+ghost use Rattle.std.specs.Prelude.{◌≤◌, ◌++◌, List, ℕ, length};
 ghost use Rattle.gj_places.specs.Counting.{StandsFor};
 
 use crate::lines::Lines;
-use arrayvec::ArrayVec;
 
 /// The number of bytes in each of the two parts that are kept.
-const PART: usize = 65_536;
+const ROOM: usize = 65_536;
+
+/// The most bytes that go into a part at once.
+const PIECE: usize = 16_384;
+
+/// Bytes of a text in a row.
+#[derive(Drop)]
+struct Part {
+    bytes: [u8; ROOM],
+    length: usize,
+    ghost fits: { length ≤ 65536 },
+}
+
+impl Part {
+    ghost use Rattle.std.specs.Prelude.{◌≡◌, ◌≤◌, ◌+◌, ◌++◌, [], length};
+    ghost use Rattle.gj_places.specs.Recalling.{held};
+
+    fn new() -> Part
+        ensures { held result ≡ [] }
+    {
+        Part {
+            bytes: [0; ROOM],
+            length: 0,
+        }
+    }
+
+    fn bytes(&self) -> &[u8]
+        ensures { result.now ≡ held self.now }
+    {
+        &self.bytes[..self.length]
+    }
+
+    /// Adds bytes at the end.
+    fn put(&mut self, bytes: &[u8])
+        requires { self.old.length + length bytes.now ≤ 65536 }
+        ensures held { held self.new ≡ held self.old ++ bytes.now }
+        ensures length { self.new.length ≡ self.old.length + length bytes.now }
+    {
+        let end = self.length + bytes.len();
+        self.bytes[self.length..end].copy_from_slice(bytes);
+        self.length = end;
+    }
+
+    fn clear(&mut self)
+        ensures held { held self.new ≡ [] }
+        ensures length { self.new.length ≡ 0 }
+    {
+        self.length = 0;
+    }
+}
 
 /// The last bytes of a text, and where they stand in it: at least 49,152 where the text has so many, and at most 131,072. The
 /// memory is fixed.
@@ -18,15 +66,16 @@ pub struct Recent {
     at_older: Lines,
     /// The place of the first byte of `newer`.
     at_newer: Lines,
-    older: ArrayVec<u8, PART>,
-    newer: ArrayVec<u8, PART>,
+    older: Part,
+    newer: Part,
 }
 
 impl Recent {
     ghost use Rattle.std.specs.Prelude.{◌≡◌, ◌≤◌, ◌<◌, ◌+◌, ◌-◌, ◌^◌, ℕ, ◌++◌, [], List, length, take, IfSome};
     ghost use Rattle.std.specs.Option.{IsSome};
     ghost use Rattle.gj_places.specs.Counting.{StandsFor};
-    ghost use Rattle.gj_places.specs.Recalling.{Recalls, KeepsMost};
+    ghost use Rattle.gj_places.specs.Recalling.{held, Recalls, KeepsMost};
+    ghost use Rattle.gj_places.specs.declared.recent.TheConstants.{PIECE};
 
     /// Of a text of which nothing was read.
     pub fn new() -> Recent
@@ -37,34 +86,47 @@ impl Recent {
             passed: 0,
             at_older: Lines::new(),
             at_newer: Lines::new(),
-            older: ArrayVec::new(),
-            newer: ArrayVec::new(),
+            older: Part::new(),
+            newer: Part::new(),
         }
     }
 
-    /// Takes the next bytes of the text, at most 16,384.
+    /// Takes the next bytes of the text.
     pub fn feed(&mut self, piece: &[u8])
-        requires { length piece.now ≤ 16384 }
         ensures recalls { (bytes : List ℕ) → Recalls self.old bytes → Recalls self.new (bytes ++ piece.now) }
         ensures most { KeepsMost self.old → KeepsMost self.new }
     {
-        if self.newer.remaining_capacity() < piece.len() {
+        let mut rest = piece;
+        while rest.len() > PIECE {
+            let (bytes, after) = rest.split_at(PIECE);
+            self.feed_few(bytes);
+            rest = after;
+        }
+        self.feed_few(rest);
+    }
+
+    fn feed_few(&mut self, piece: &[u8])
+        requires { length piece.now ≤ PIECE }
+        ensures recalls { (bytes : List ℕ) → Recalls self.old bytes → Recalls self.new (bytes ++ piece.now) }
+        ensures most { KeepsMost self.old → KeepsMost self.new }
+    {
+        if ROOM - self.newer.length < piece.len() {
             self.turn();
         }
-        let _fits = self.newer.try_extend_from_slice(piece);
+        self.newer.put(piece);
     }
 
     /// Forgets the older bytes: those that were the newer ones take their place.
     fn turn(&mut self)
         ensures recalls { (bytes : List ℕ) → Recalls self.old bytes → Recalls self.new bytes }
-        ensures older { self.new.older.items ≡ self.old.newer.items }
-        ensures newer { self.new.newer.items ≡ [] }
+        ensures older { held self.new.older ≡ held self.old.newer }
+        ensures newer { (held self.new.newer ≡ []) × (self.new.newer.length ≡ 0) }
     {
-        self.passed = self.passed.saturating_add(self.older.len() as u64);
+        self.passed = self.passed.saturating_add(self.older.length as u64);
         self.at_older = self.at_newer;
-        self.at_newer = after(self.at_newer, self.newer.as_slice());
+        self.at_newer = after(self.at_newer, self.newer.bytes());
         self.older.clear();
-        let _fits = self.older.try_extend_from_slice(self.newer.as_slice());
+        self.older.put(self.newer.bytes());
         self.newer.clear();
     }
 
@@ -78,12 +140,12 @@ impl Recent {
             return None;
         }
         let at = (place - self.passed) as usize;
-        if at <= self.older.len() {
-            return Some(after(self.at_older, &self.older.as_slice()[..at]));
+        if at <= self.older.length {
+            return Some(after(self.at_older, &self.older.bytes()[..at]));
         }
-        let rest = at - self.older.len();
-        if rest <= self.newer.len() {
-            Some(after(self.at_newer, &self.newer.as_slice()[..rest]))
+        let rest = at - self.older.length;
+        if rest <= self.newer.length {
+            Some(after(self.at_newer, &self.newer.bytes()[..rest]))
         } else {
             None
         }

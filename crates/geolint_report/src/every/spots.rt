@@ -1,5 +1,5 @@
 //! The lines and columns of what is reported of a source that is read once.
-ghost use Rattle.std.specs.Prelude.{◌≡◌, ◌≤◌, ◌++◌, ℕ, List, length, Option, None, ⊤};
+ghost use Rattle.std.specs.Prelude.{◌≡◌, ◌++◌, ℕ, List, Option, None, ⊤};
 
 use crate::every::cursor::Mark;
 use crate::every::listing::Note;
@@ -20,7 +20,6 @@ pub trait Follower {
 
     /// Takes the next bytes of the source, and all notes that are listed with them.
     fn follow(&mut self, piece: &[u8], notes: &[Note])
-        requires { length piece.now ≤ 16384 }
         ensures { (bytes : List ℕ) → follows self.old bytes → follows self.new (bytes ++ piece.now) };
 
     /// Where the place of a note stands, which has this index in the list.
