@@ -1,7 +1,7 @@
 -- Where notes stand in a source that is read once.
-use Rattle.std.specs.Prelude.{◌≡◌, ℕ, List, [], ◌∷◌, ◌++◌, Option, Some, None, ⊤}
+use Rattle.std.specs.Prelude.{◌≡◌, ◌≤◌, ◌<◌, ◌+◌, ◌-◌, ◌^◌, ℕ, List, [], ◌∷◌, ◌++◌, length, Option, Some, None, ⊤}
 use Rattle.std.specs.Io.KnownBytes.{Consumes}
-use Rattle.gj_places.specs.Recalling.{Recalls}
+use Rattle.gj_places.specs.Recalling.{Recalls, KeepsMost}
 use Rattle.geolint_report.specs.declared.every.cursor.Mark.{Mark}
 use Rattle.geolint_report.specs.declared.every.listing.Note.{Note}
 use Rattle.geolint_report.specs.declared.every.spots.Placed.{Placed}
@@ -21,7 +21,11 @@ AreAllRight bytes (placed ∷ more) = IsRight bytes placed.place placed.spot × 
 
 -- these bytes came, of which the last are kept
 abbrev pub AreSpots : Spots → List ℕ → Type 0
-AreSpots spots bytes = Recalls spots.recent bytes × AreAllRight bytes spots.placed.items
+AreSpots spots bytes = Recalls spots.recent bytes × KeepsMost spots.recent × AreAllRight bytes spots.placed.items
+
+-- a place among the last bytes of as many as are surely kept
+abbrev pub IsAmongLast : List ℕ → ℕ → Type 0
+IsAmongLast bytes place = (place ≤ length bytes) × (length bytes ≤ place + 49152) × (length bytes < 2 ^ 64 - 1)
 
 -- a mark of a note has its place, no path, and the line and the column that the place has in each text that begins with the bytes that came
 abbrev pub SaysSpot : Spots → Note → Option Mark → Type 0

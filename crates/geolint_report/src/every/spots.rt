@@ -60,7 +60,8 @@ pub struct Spots {
 
 impl Spots {
     ghost use Rattle.std.specs.Prelude.{◌≡◌, ℕ, List, [], IfSome, Option};
-    ghost use Rattle.geolint_report.specs.Spots.{AreSpots, IsRight};
+    ghost use Rattle.std.specs.Option.{IsSome};
+    ghost use Rattle.geolint_report.specs.Spots.{AreSpots, IsRight, IsAmongLast};
 
     /// Of a source of which nothing was read.
     pub fn new(alloc: Global) -> Spots
@@ -90,9 +91,10 @@ impl Spots {
         let _kept = self.placed.push(Placed { place, spot });
     }
 
-    /// The line and the column of a place among the last bytes.
+    /// The line and the column of a place among the last bytes: of each among those that are kept at least.
     fn spot_of(&self, place: u64) -> Option<Spot>
-        ensures { (bytes : List ℕ) → AreSpots self.now bytes → IsRight bytes place result }
+        ensures right { (bytes : List ℕ) → AreSpots self.now bytes → IsRight bytes place result }
+        ensures found { (bytes : List ℕ) → AreSpots self.now bytes → IsAmongLast bytes place → IsSome result }
     {
         match self.recent.lines_at(place) {
             Some(lines) => Some(Spot {

@@ -8,6 +8,6 @@ pub returns-then-placed-place : goal.returns-then-placed-place
 returns-then-placed-place c = λ bytes are.
     let placed = c.index-placed.result.now in
     let within : c.args.index < length c.args.self.now.placed.items = search (arith, rules) in
-    let there = AreAllRight-at bytes c.args.self.now.placed.items c.args.index placed within are.1 in
+    let there = AreAllRight-at bytes c.args.self.now.placed.items c.args.index placed within are.2 in
     let same : placed.place ≡ c.args.place = search rules in
     subst (λ (place : ℕ). IsRight bytes place placed.spot) same (subst (λ (p : Placed). IsRight bytes p.place p.spot) (sym c.index-placed.ensures) there)
