@@ -14,6 +14,8 @@ use gj_rules::{Linter, Verdict, one_verdict};
 ///
 /// No read follows the one whose bytes are refused. There is at most one read more than the input may have bytes. Where
 /// a read failed, the error has the number of bytes that had come before.
+// What is large lies in its frame alone, and not in those of the functions that call it.
+#[inline(never)]
 pub fn lint_reader<S: Source>(reader: &mut S, limits: Limits) -> Result<Verdict, ReadFault>
     ensures few { S.reads reader.new ≤ S.reads reader.old + (limits.bytes + 1) }
     ensures stops { StopsAtRefusal limits (S.remaining reader.old) (S.remaining reader.new) (S.reads reader.old) (S.reads reader.new) }

@@ -25,6 +25,8 @@ fn wanted(count: usize, before: u64) -> usize
 ///
 /// It reads up to that byte, and returns `None` where the input ends before or is refused there or before. Where a read
 /// failed, the error has the number of bytes that had come before.
+// What is large lies in its frame alone, and not in those of the functions that call it.
+#[inline(never)]
 pub fn locate_reader<S: Source>(
     reader: &mut S,
     limits: Limits,

@@ -23,6 +23,8 @@ use gj_rules::{Linter, Verdict, one_verdict};
 /// Reads an input until it ends or cannot be valid any more, and returns its warnings where it is valid.
 ///
 /// No read follows the piece that says no. Reads and errors are as `lint_reader` has them.
+// What is large lies in its frame alone, and not in those of the functions that call it.
+#[inline(never)]
 pub fn lint_quickly<S: Source>(
     reader: &mut S,
     limits: Limits,

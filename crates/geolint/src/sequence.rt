@@ -20,6 +20,8 @@ use gj_rules::{SeqVerdict, Sequence, Verdict, one_sequence_verdict};
 /// Reads a sequence until it ends or a byte decides that a record is not valid, and returns its verdict.
 ///
 /// No read follows the one with that byte. Reads and errors are as `lint_reader` has them.
+// What is large lies in its frame alone, and not in those of the functions that call it.
+#[inline(never)]
 pub fn lint_sequence<S: Source>(reader: &mut S, limits: Limits) -> Result<SeqVerdict, ReadFault>
     ensures few { S.reads reader.new ≤ S.reads reader.old + (limits.bytes + 1) }
     ensures stops { StopsAtDecision limits (S.remaining reader.old) (S.remaining reader.new) (S.reads reader.old) (S.reads reader.new) }
