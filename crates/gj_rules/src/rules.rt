@@ -337,6 +337,7 @@ impl<const FRAMES: usize> EventSink for FramedRules<FRAMES> {
         }
     }
 
+    #[inline(always)]
     fn tell_flat(&mut self, flat: &Flat) {
         if self.is_in_coordinates() {
             self.feed_flat(flat);

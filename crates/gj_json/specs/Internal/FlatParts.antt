@@ -1,9 +1,10 @@
 -- The parts of an array of numbers, as they are read.
-use Rattle.std.specs.Prelude.{◌≡◌, ℕ, ◌-◌, Bool, true, false, List, drop, map, Some, take}
+use Rattle.std.specs.Prelude.{◌≡◌, ℕ, ◌-◌, ◌<◌, Bool, true, false, List, drop, get_or, length, map, Some, take}
 use Rattle.gj_number.specs.Grammar.{IsNumber}
 use Rattle.gj_number.specs.Value.{value_of}
 use Rattle.gj_number.specs.Short.{exact_of}
 use Rattle.gj_number.specs.declared.short.Short.{Short}
+use Rattle.gj_json.specs.Bytes.{open_bracket}
 use Rattle.gj_json.specs.declared.flat.Numbered.{Numbered}
 use Rattle.gj_json.specs.declared.mode.Mode.{Mode}
 use Rattle.gj_json.specs.declared.mode.Mode.TheVariants.{ValueDue, ArrayOpened}
@@ -17,6 +18,12 @@ abbrev pub awaits : Mode → Bool
 awaits ValueDue = true
 awaits ArrayOpened = true
 awaits _ = false
+
+-- an array begins here, where one is due
+pub record IsDueAt (mode : Mode) (piece : List ℕ) : Type 0 where
+  pub due : awaits mode ≡ true
+  pub some : 0 < length piece
+  pub bracket : get_or piece 0 0 ≡ open_bracket
 
 -- the bytes from one index up to another
 abbrev pub cut : List ℕ → ℕ → ℕ → List ℕ

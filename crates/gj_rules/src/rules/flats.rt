@@ -28,6 +28,7 @@ impl<const FRAMES: usize> FramedRules<FRAMES> {
     }
 
     /// An array of numbers in the value of `coordinates`.
+    #[inline(always)]
     pub(super) fn feed_flat(&mut self, flat: &Flat)
         requires skipped { self.old.skipped ≡ 0 }
         requires mode { self.old.mode ≡ Mode.Due Known.Coordinates }
