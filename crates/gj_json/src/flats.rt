@@ -108,24 +108,26 @@ fn drop_third(third: &mut Option<Numbered>)
 }
 
 /// Reads the array of two or three ordinary numbers that stands whole at the start of a piece, which begins at the place
-/// `start`: how many bytes it has, or 0. Mostly it is a pair.
+/// `start`: how many bytes it has. Mostly it is a pair.
 #[inline(always)]
-pub fn read_flat(piece: &[u8], start: u64, flat: &mut Flat) -> usize
+pub fn read_flat(piece: &[u8], start: u64, flat: &mut Flat) -> Option<usize>
     requires some { 0 < length piece.now }
     requires bracket { get_or piece.now 0 0 ≡ open_bracket }
     requires small { start + length piece.now ≤ 2 ^ 60 }
-    ensures within { result ≤ length piece.now }
-    ensures flat { 0 < result → IsFlat flat.new start (take result piece.now) }
+    ensures some { IfSome result (λ count. 0 < count) }
+    ensures within { IfSome result (λ count. count ≤ length piece.now) }
+    ensures flat { IfSome result (λ count. IsFlat flat.new start (take count piece.now)) }
 {
     let Some(pair) = pair_after_bracket(piece, &mut flat.first.value, &mut flat.second.value) else {
-        return read_any_flat(piece, start, flat);
+        let count = read_any_flat(piece, start, flat);
+        return if count == 0 { None } else { Some(count) };
     };
     flat.place = start;
     flat.first.place = start + 1;
     flat.second.place = start + 1 + pair.second as u64;
     drop_third(&mut flat.third);
     flat.close = start + 1 + pair.end as u64;
-    pair.end + 2
+    Some(pair.end + 2)
 }
 
 /// As `read_flat`, of numbers of any length, with white space around them.

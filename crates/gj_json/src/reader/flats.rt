@@ -98,14 +98,13 @@ impl Reader {
         ensures feeds { IfSome result (λ taken. FeedsAll (S.heard sink.old) (S.heard sink.new) self.old self.new (take taken.count piece.now)) }
         ensures nothing { result ≡ None → FeedsAll (S.heard sink.old) (S.heard sink.new) self.old self.new [] }
     {
-        let count = read_flat(piece, self.offset, flat);
-        if count == 0 {
+        let Some(count) = read_flat(piece, self.offset, flat) else {
             return None;
-        }
+        };
         sink.tell_flat(flat);
         if in_array && begins_next(&piece[count..]) {
             return Some(Taken {
-                count: self.skip_to_value(count + 1),
+                count: self.skip(count + 1, Mode::ValueDue),
                 begins: true,
             });
         }

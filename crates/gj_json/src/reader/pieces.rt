@@ -2,24 +2,13 @@
 
 ghost use Rattle.std.specs.Prelude.{◌≡◌, ◌+◌, ◌^◌, ◌≤◌, ◌<◌, length, take, IfOk, IsTrue, MatchResult, None};
 ghost use Rattle.gj_json.specs.Internal.Transitions.{IsMode};
-ghost use Rattle.gj_json.specs.declared.mode.Mode.TheVariants.{NumberOn, ValueDue};
+ghost use Rattle.gj_json.specs.declared.mode.Mode.TheVariants.{NumberOn};
 
 use super::Reader;
 use crate::fault::JsonFault;
 use crate::mode::Mode;
 use crate::runs::{is_white, quiet_run, string_run};
 use crate::sink::EventSink;
-
-/// Whether a value is due.
-#[inline(always)]
-fn is_value_due(mode: Mode) -> bool
-    ensures { IsTrue result → mode ≡ ValueDue }
-{
-    match mode {
-        Mode::ValueDue => true,
-        _ => false,
-    }
-}
 
 impl Reader {
     ghost use Rattle.gj_json.specs.Internal.FedReader.{Passed, Skips, FeedsAll, FeedsTo};
@@ -35,21 +24,6 @@ impl Reader {
         self.mode = mode;
         self.offset += count as u64;
         count
-    }
-
-    /// Passes over so many bytes, after which a value is due, as mostly it was before.
-    #[inline(always)]
-    pub(super) fn skip_to_value(&mut self, count: usize) -> usize
-        requires room { self.old.offset + count ≤ self.old.limits.bytes }
-        requires small { self.old.limits.bytes ≤ 2 ^ 60 }
-        ensures count { result ≡ count }
-        ensures passed { Passed count ValueDue self.old self.new }
-    {
-        if is_value_due(self.mode) {
-            self.offset += count as u64;
-            return count;
-        }
-        self.skip(count, Mode::ValueDue)
     }
 
     /// Takes the bytes at the start of the piece that go on in the number under way: how many.

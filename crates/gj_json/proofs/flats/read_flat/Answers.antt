@@ -4,7 +4,7 @@ use Rattle.gj_json.proofs.Grammar.SpelledPairs.{pair_spelled}
 use Rattle.gj_json.proofs.flats.read_flat.Goals as goal
 
 pub returns-clause-flat : goal.returns-clause-flat
-returns-clause-flat c = λ some.
+returns-clause-flat c =
     let piece = c.args.piece.now in
     let start = c.args.start in
     let numbers = c.pair_after_bracket.new in
