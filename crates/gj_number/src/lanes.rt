@@ -1,10 +1,10 @@
 //! Sixteen bytes at once.
-ghost use Rattle.std.specs.Prelude.{◌≡◌, ℕ, min, ◌-◌, ◌+◌, ◌*◌, ◌<◌, ◌≤◌, ◌++◌, List, [], ◌∷◌, length, map, take, drop, nat_le, replicate, IfSome, All, get_or};
+ghost use Rattle.std.specs.Prelude.{◌≡◌, ℕ, min, ◌-◌, ◌+◌, ◌*◌, ◌^◌, ◌<◌, ◌≤◌, ◌++◌, List, [], ◌∷◌, length, map, take, drop, nat_le, replicate, IfSome, All, get_or};
 ghost use Rattle.std.specs.List.{fold};
 ghost use Rattle.std.specs.Option.{IsSome};
 ghost use Rattle.std.specs.Simd.Lanes.{Each1, mask_l};
 ghost use Rattle.gj_number.specs.Bytes.{IsDigit};
-ghost use Rattle.gj_number.specs.Internal.DigitLanes.{lane_of, with_value, by_twos, by_both, by_fours, leading};
+ghost use Rattle.gj_number.specs.Internal.DigitLanes.{lane_of, with_value, by_twos, by_both, by_fours, by_eights, leading};
 ghost use Rattle.gj_number.specs.Value.{with_digit};
 ghost use Rattle.gj_number.specs.Internal.DigitRuns.{IsRun, IsPointed, SpellsOn, SpellsUnsigned};
 
@@ -172,6 +172,17 @@ fn number_of(digits: u8x16) -> u64
     (first as u64 * 10_000 + second as u64) * 100_000_000 + (third as u64 * 10_000 + fourth as u64)
 }
 
+/// Each two of four numbers below 10^8 as one number.
+#[inline(always)]
+fn sixteens_of(eights: u32x4) -> u64x2
+    requires { Each1 (λ eight. eight < 10 ^ 8) eights }
+    ensures { result ≡ by_eights eights }
+{
+    let both = u64x2::from_le_bytes(eights.to_le_bytes());
+    let half = u64x2::splat(32);
+    ((both << half) >> half) * u64x2::splat(100_000_000) + (both >> half)
+}
+
 /// The two numbers that twice sixteen digits spell.
 #[inline(always)]
 pub(crate) fn numbers_of(first: u8x16, second: u8x16) -> (u64, u64)
@@ -181,11 +192,8 @@ pub(crate) fn numbers_of(first: u8x16, second: u8x16) -> (u64, u64)
     ensures second { result.1 ≡ fold with_value 0 second }
 {
     let (upper, lower) = fours_of(first).deinterleave(fours_of(second));
-    let [a, b, c, d] = (upper * u32x4::splat(10_000) + lower).to_array();
-    (
-        a as u64 * 100_000_000 + b as u64,
-        c as u64 * 100_000_000 + d as u64,
-    )
+    let [value, other] = sixteens_of(upper * u32x4::splat(10_000) + lower).to_array();
+    (value, other)
 }
 
 /// The first sixteen bytes of a piece, each less the byte of the digit 0: the lanes of digits are below 10.

@@ -25,7 +25,7 @@ use Rattle.gj_number.proofs.Shorts.NumberPrefixes.{digit_byte}
 use Rattle.gj_number.proofs.Shorts.RunEnds.{digit_at, run_found}
 use Rattle.gj_number.proofs.Shorts.PiecePrefixes.{rest_is}
 use Rattle.gj_number.proofs.Literals.RunsOfDigits.{parts_digits}
-use Rattle.gj_number.specs.Internal.DigitLanes.{lane_of, with_value, by_twos, by_both, by_fours, leading}
+use Rattle.gj_number.specs.Internal.DigitLanes.{lane_of, with_value, by_twos, by_both, by_fours, by_eights, leading}
 
 -- ---- four digits, by words of two
 
@@ -102,6 +102,47 @@ fours_are (_ ∷ []) (suc n) len = absurd (omega arith)
 fours_are (_ ∷ _ ∷ []) (suc n) len = absurd (omega arith)
 fours_are (_ ∷ _ ∷ _ ∷ []) (suc n) len = absurd (omega arith)
 
+-- ---- eight digits, by words of four
+
+abbrev pub eights_in : ℕ → ℕ → List ℕ
+eights_in zero x = []
+eights_in (suc n) x =
+    ((x % 18446744073709551616 * 4294967296 % 18446744073709551616 / 4294967296 * 100000000 % 18446744073709551616 + x % 18446744073709551616 / 4294967296)
+    % 18446744073709551616) ∷ eights_in n (x / 18446744073709551616)
+
+eight : (a b rest : ℕ) → a < 100000000 → b < 100000000 → ((a + 4294967296 * (b + 4294967296 * rest)) % 18446744073709551616 * 4294967296
+    % 18446744073709551616 / 4294967296 * 100000000 % 18446744073709551616 + (a + 4294967296 * (b + 4294967296 * rest)) % 18446744073709551616 / 4294967296)
+    % 18446744073709551616 ≡ a * 100000000 + b
+eight a b rest A B =
+    let e : (a + 4294967296 * (b + 4294967296 * rest)) % 18446744073709551616 ≡ a + 4294967296 * b = omega arith in
+    let up : (a + 4294967296 * b) * 4294967296 % 18446744073709551616 ≡ a * 4294967296 = omega arith in
+    rw (e, up) (omega arith)
+
+past_eight : (a b rest : ℕ) → a < 100000000 → b < 100000000 → (a + 4294967296 * (b + 4294967296 * rest)) / 18446744073709551616 ≡ rest
+past_eight a b rest A B = omega arith
+
+eights_is : (n : ℕ) (numbers : List ℕ) → length numbers ≡ 2 * n → Each1 (λ x. x < 10 ^ 8) numbers
+    → eights_in n (number_l 4294967296 numbers) ≡ by_eights numbers
+eights_is zero [] len all = refl
+eights_is (suc n) (a ∷ b ∷ numbers) len all =
+    let rest = number_l 4294967296 numbers in
+    (λ i. eight a b rest all.0 all.1.0 i ∷ eights_in n (past_eight a b rest all.0 all.1.0 i))
+    ∙ ap (λ xs. (a * 100000000 + b) ∷ xs) (eights_is n numbers (omega arith) all.1.1)
+eights_is zero (_ ∷ _) len all = absurd (omega arith)
+eights_is (suc n) [] len all = absurd (omega arith)
+eights_is (suc n) (_ ∷ []) len all = absurd (omega arith)
+
+words_small : (numbers : List ℕ) → Each1 (λ x. x < 10 ^ 8) numbers → number_l 4294967296 numbers < 4294967296 ^ length numbers
+words_small [] all = omega arith
+words_small (a ∷ numbers) all = let A = all.0 in let k = words_small numbers all.1 in let e = pow-suc 4294967296 (length numbers) in omega arith
+
+pub eights_are : (numbers : List ℕ) → length numbers ≡ 4 → Each1 (λ x. x < 10 ^ 8) numbers
+    → eights_in 2 (number_l 256 (digits_l 256 16 (number_l 4294967296 numbers))) ≡ by_eights numbers
+eights_are numbers len all =
+    let P : ℕ → Type 0 = λ n. number_l 4294967296 numbers < 4294967296 ^ n in
+    let few : number_l 4294967296 numbers < 4294967296 ^ 4 = subst P len (words_small numbers all) in
+    ap (eights_in 2) (bytes_back 16 (number_l 4294967296 numbers) (omega arith)) ∙ eights_is 2 numbers (omega arith) all
+
 -- four digits of four, as one number of sixteen
 joined : (p q r s : ℕ) → p < 10000 → q < 10000 → r < 10000 → s < 10000
     → (p * 10000 % 2 ^ 32 + q) % 2 ^ 32 * 100000000 + (r * 10000 % 2 ^ 32 + s) % 2 ^ 32 ≡ ((p * 10000 + q) * 10000 + r) * 10000 + s
@@ -133,6 +174,38 @@ pub second_joined : (xs ys : List ℕ) → length xs ≡ 16 → length ys ≡ 16
 second_joined xs ys len more all =
     let nil : by_fours ys ++ [] ≡ by_fours ys = append-nil (by_fours ys) in
     four_first xs (by_fours ys) len ∙ ap (λ zs. joined_at zs 0) (sym nil) ∙ fours_joined ys [] more all
+
+-- and of two of them
+abbrev pub eight_at : List ℕ → ℕ → ℕ
+eight_at fs i = (get_or fs i 0 * 10000 % 2 ^ 32 + get_or fs (i + 1) 0) % 2 ^ 32
+
+eight_small : (p q : ℕ) → p < 10000 → q < 10000 → (p * 10000 % 2 ^ 32 + q) % 2 ^ 32 < 10 ^ 8
+eight_small p q P Q = omega arith
+
+first_small : (xs gs : List ℕ) → length xs ≡ 16 → Each1 (λ x. x < 10) xs
+    → (eight_at (by_fours xs ++ gs) 0 < 10 ^ 8) × (eight_at (by_fours xs ++ gs) 2 < 10 ^ 8)
+first_small (a ∷ b ∷ c ∷ d ∷ x ∷ f ∷ g ∷ h ∷ p ∷ q ∷ r ∷ s ∷ t ∷ u ∷ v ∷ w ∷ []) gs len all = (
+  eight_small _ _ (small_four a b c d all.0 all.1.0 all.1.1.0 all.1.1.1.0)
+      (small_four x f g h all.1.1.1.1.0 all.1.1.1.1.1.0 all.1.1.1.1.1.1.0 all.1.1.1.1.1.1.1.0),
+  eight_small _ _ (small_four p q r s all.1.1.1.1.1.1.1.1.0 all.1.1.1.1.1.1.1.1.1.0 all.1.1.1.1.1.1.1.1.1.1.0 all.1.1.1.1.1.1.1.1.1.1.1.0)
+      (small_four t u v w all.1.1.1.1.1.1.1.1.1.1.1.1.0 all.1.1.1.1.1.1.1.1.1.1.1.1.1.0 all.1.1.1.1.1.1.1.1.1.1.1.1.1.1.0 all.1.1.1.1.1.1.1.1.1.1.1.1.1.1.1.0),
+)
+first_small _ gs len all = absurd (omega arith)
+
+second_small : (xs gs : List ℕ) → length xs ≡ 16 → (eight_at gs 0 < 10 ^ 8) × (eight_at gs 2 < 10 ^ 8)
+    → (eight_at (by_fours xs ++ gs) 4 < 10 ^ 8) × (eight_at (by_fours xs ++ gs) 6 < 10 ^ 8)
+second_small (a ∷ b ∷ c ∷ d ∷ x ∷ f ∷ g ∷ h ∷ p ∷ q ∷ r ∷ s ∷ t ∷ u ∷ v ∷ w ∷ []) gs len small = small
+second_small _ gs len small = absurd (omega arith)
+
+pub eights_small : (xs ys fs gs : List ℕ) → fs ≡ by_fours xs → gs ≡ by_fours ys → length xs ≡ 16 → length ys ≡ 16 → Each1 (λ x. x < 10) xs
+    → Each1 (λ x. x < 10) ys
+    → Each1 (λ x. x < 10 ^ 8) (eight_at (fs ++ gs) 0 ∷ eight_at (fs ++ gs) 2 ∷ eight_at (fs ++ gs) 4 ∷ eight_at (fs ++ gs) 6 ∷ [])
+eights_small xs ys fs gs e k len more all others =
+    let P : List ℕ → Type 0 = λ zs. (eight_at zs 0 < 10 ^ 8) × (eight_at zs 2 < 10 ^ 8) in
+    let one : P (by_fours xs ++ by_fours ys) = first_small xs (by_fours ys) len all in
+    let other : P (by_fours ys) = subst P (append-nil (by_fours ys)) (first_small ys [] more others) in
+    let two = second_small xs (by_fours ys) len other in
+    rw (e, k) (one.0, (one.1, (two.0, (two.1, tt))))
 
 -- ---- moved to the end
 

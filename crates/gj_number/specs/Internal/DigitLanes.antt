@@ -25,6 +25,11 @@ abbrev pub by_fours : List ℕ → List ℕ
 by_fours (a ∷ b ∷ c ∷ d ∷ digits) = (((a * 10 + b) * 10 + c) * 10 + d) ∷ by_fours digits
 by_fours _ = []
 
+-- each two numbers below 10^8 as one number
+abbrev pub by_eights : List ℕ → List ℕ
+by_eights (a ∷ b ∷ numbers) = (a * 100000000 + b) ∷ by_eights numbers
+by_eights _ = []
+
 -- how many of them come before the first that is no digit
 abbrev pub leading : List ℕ → ℕ
 leading lanes = prefix_len (λ x. not (nat_le 10 x)) lanes
