@@ -6,9 +6,10 @@ use Rattle.std.proofs.lemmas.Bool.{cases_Bool, false≢true}
 use Rattle.std.proofs.lemmas.List.{append-nil}
 use Rattle.gj_json.specs.Bytes.{line_feed}
 use Rattle.gj_json.specs.Limits.{Allowed}
-use Rattle.gj_rules.specs.Records.{Part, part_at, entry_at, entry_if, with_first, parts_from, parts_of, counts, is_counted, are_blank}
-use Rattle.gj_rules.specs.Records.{at_least_one, number_after, entries_from}
-use Rattle.gj_rules.specs.declared.records.framing.Framing.TheVariants.{Lines}
+use Rattle.gj_rules.specs.Records.{Part, part_at, entry_at, entry_if, with_first, parts_from, parts_of, counts, is_counted, is_void}
+use Rattle.gj_rules.specs.Records.{separator_of, at_least_one, number_after, entries_from}
+use Rattle.gj_rules.specs.declared.records.framing.Framing.{Framing}
+use Rattle.gj_rules.specs.declared.records.framing.Framing.TheVariants.{Sequence, Lines}
 use Rattle.gj_rules.specs.declared.records.framing.RecordEnd.{RecordEnd}
 use Rattle.gj_rules.specs.declared.records.framing.RecordEnd.TheVariants.{Separator, Input, Limit}
 use Rattle.gj_rules.specs.declared.records.record.Record.{Record}
@@ -16,6 +17,7 @@ use Rattle.gj_rules.specs.declared.verdict.Verdict.{Verdict}
 use Rattle.gj_rules.specs.RecordFindings.{IsOwnVerdict, IsNumberedVerdict, IsFinding, AreFindings, ended_as}
 use Rattle.gj_rules.specs.Sequence.{shifted_verdict, ends_in_line_feed}
 use Rattle.gj_rules.proofs.Parts.PartCuts.{short_parts}
+use Rattle.gj_join.specs.Joined.{moved_finding}
 use Rattle.gj_join.specs.Parts.{separator_last, ArePartsOf, limits_after}
 use Rattle.gj_join.proofs.JoinedRecords.{take-second, less-both}
 use Rattle.gj_join.proofs.MovedVerdicts.{verdict-twice, own-kept}
@@ -27,16 +29,16 @@ ended place [] = []
 ended place (byte ∷ more) =
     if nat_eq byte line_feed then part_at place [] Separator ∷ ended (place + 1) more else with_first place byte (ended (place + 1) more)
 
-first-length : (place byte : ℕ) (parts : List Part) → length (with_first place byte parts) ≡ length parts
+pub first-length : (place byte : ℕ) (parts : List Part) → length (with_first place byte parts) ≡ length parts
 first-length place byte [] = refl
 first-length place byte (part ∷ more) = refl
 
-first-append : (place byte : ℕ) (parts more : List Part) → 0 < length parts
+pub first-append : (place byte : ℕ) (parts more : List Part) → 0 < length parts
     → with_first place byte (parts ++ more) ≡ with_first place byte parts ++ more
 first-append place byte [] more some = absurd (omega (arith, some))
 first-append place byte (part ∷ parts) more some = refl
 
-some-ended : (place : ℕ) (bytes : List ℕ) → separator_last Lines bytes ≡ true → 0 < length (ended place bytes)
+pub some-ended : (place : ℕ) (bytes : List ℕ) → separator_last Lines bytes ≡ true → 0 < length (ended place bytes)
 some-ended place [] last = absurd (false≢true last)
 some-ended place (byte ∷ []) last = rw last (omega arith)
 some-ended place (byte ∷ next ∷ more) last =
@@ -72,15 +74,15 @@ first-moved : (by place other byte : ℕ) (parts : List Part) → other ≡ plac
 first-moved by place other byte [] same = refl
 first-moved by place other byte (part ∷ more) same = ap (λ (n : ℕ). part_at n (byte ∷ part.bytes) part.end ∷ map (moved_part by) more) same
 
-parts-moved : (last : RecordEnd) (by place other : ℕ) (bytes : List ℕ) → other ≡ place + by
-    → parts_from Lines last other bytes ≡ map (moved_part by) (parts_from Lines last place bytes)
-parts-moved last by place other [] same = ap (λ (n : ℕ). part_at n [] last ∷ []) same
-parts-moved last by place other (byte ∷ more) same =
-    let rest = parts-moved last by (place + 1) (other + 1) more (omega (arith, same)) in
-    elim (cases_Bool (nat_eq byte line_feed)) [
-      | inl e ↦ rw e (ap (λ (n : ℕ). part_at n [] Separator ∷ parts_from Lines last (other + 1) more) same
+pub parts-moved : (framing : Framing) (last : RecordEnd) (by place other : ℕ) (bytes : List ℕ) → other ≡ place + by
+    → parts_from framing last other bytes ≡ map (moved_part by) (parts_from framing last place bytes)
+parts-moved framing last by place other [] same = ap (λ (n : ℕ). part_at n [] last ∷ []) same
+parts-moved framing last by place other (byte ∷ more) same =
+    let rest = parts-moved framing last by (place + 1) (other + 1) more (omega (arith, same)) in
+    elim (cases_Bool (nat_eq byte (separator_of framing))) [
+      | inl e ↦ rw e (ap (λ (n : ℕ). part_at n [] Separator ∷ parts_from framing last (other + 1) more) same
           ∙ ap (λ (l : List Part). part_at (place + by) [] Separator ∷ l) rest)
-      | inr e ↦ rw e (ap (with_first other byte) rest ∙ first-moved by place other byte (parts_from Lines last (place + 1) more) same)
+      | inr e ↦ rw e (ap (with_first other byte) rest ∙ first-moved by place other byte (parts_from framing last (place + 1) more) same)
     ]
 
 -- ---- within the limits
@@ -88,7 +90,7 @@ parts-moved last by place other (byte ∷ more) same =
 both-parts : (last : RecordEnd) (first second : List ℕ) → separator_last Lines first ≡ true
     → parts_from Lines last 0 (first ++ second) ≡ ended 0 first ++ map (moved_part (length first)) (parts_from Lines last 0 second)
 both-parts last first second ends =
-    lines-append last 0 first second ends ∙ ap (λ (l : List Part). ended 0 first ++ l) (parts-moved last (length first) 0 (0 + length first) second refl)
+    lines-append last 0 first second ends ∙ ap (λ (l : List Part). ended 0 first ++ l) (parts-moved Lines last (length first) 0 (0 + length first) second refl)
 
 pub parts_of-parts : (limits : Allowed) (first second : List ℕ) → ArePartsOf Lines limits first second
     → parts_of Lines limits (first ++ second) ≡ ended 0 first ++ map (moved_part (length first)) (parts_of Lines (limits_after limits (length first)) second)
@@ -117,72 +119,77 @@ pub stays_some : (number : ℕ) → 0 < number → at_least_one number ≡ numbe
 stays_some zero some = absurd (omega (arith, some))
 stays_some (suc n) some = refl
 
--- whether a line counts does not depend on its number
-counts-any : (number other : ℕ) (end : RecordEnd) (is_void : Bool) → counts Lines number end is_void ≡ counts Lines other end is_void
-counts-any number other Separator is_void = refl
-counts-any number other Input is_void = refl
-counts-any number other Limit is_void = refl
+-- whether a part counts that is not the first does not depend on its number
+counts-any : (framing : Framing) (number other : ℕ) (end : RecordEnd) (is_void : Bool) → 0 < number → 0 < other
+    → counts framing number end is_void ≡ counts framing other end is_void
+counts-any Lines number other Separator is_void some more = refl
+counts-any Lines number other Input is_void some more = refl
+counts-any Lines number other Limit is_void some more = refl
+counts-any Sequence number other Separator is_void some more = refl
+counts-any Sequence number other Limit is_void some more = refl
+counts-any Sequence zero other Input is_void some more = absurd (omega (arith, some))
+counts-any Sequence (suc n) zero Input is_void some more = absurd (omega (arith, more))
+counts-any Sequence (suc n) (suc m) Input is_void some more = refl
 
-abbrev pub moved_finding : ℕ → ℕ → Record → Record
-moved_finding count by r = record { number = r.number + count; place = r.place + by; end = r.end + by; verdict = shifted_verdict by r.verdict }
+own_of : (framing : Framing) (levels number : ℕ) (part : Part) (verdict : Verdict) → 0 < number → IsNumberedVerdict framing levels number part verdict
+    → IsOwnVerdict framing levels part verdict
+own_of framing levels zero part verdict some h = absurd (omega (arith, some))
+own_of framing levels (suc n) part verdict some h = h
 
-own_of : (levels number : ℕ) (part : Part) (verdict : Verdict) → 0 < number → IsNumberedVerdict Lines levels number part verdict
-    → IsOwnVerdict Lines levels part verdict
-own_of levels zero part verdict some h = absurd (omega (arith, some))
-own_of levels (suc n) part verdict some h = h
+numbered : (framing : Framing) (levels number : ℕ) (part : Part) (verdict : Verdict) → 0 < number → IsOwnVerdict framing levels part verdict
+    → IsNumberedVerdict framing levels number part verdict
+numbered framing levels zero part verdict some h = absurd (omega (arith, some))
+numbered framing levels (suc n) part verdict some h = h
 
-numbered : (levels number : ℕ) (part : Part) (verdict : Verdict) → 0 < number → IsOwnVerdict Lines levels part verdict
-    → IsNumberedVerdict Lines levels number part verdict
-numbered levels zero part verdict some h = absurd (omega (arith, some))
-numbered levels (suc n) part verdict some h = h
-
-finding-moved : (levels count by number : ℕ) (part : Part) (found : Record) → 0 < number → IsFinding Lines levels (entry_at number part) found
-    → IsFinding Lines levels (entry_at (number + count) (moved_part by part)) (moved_finding count by found)
-finding-moved levels count by number part found some h =
-    let (own, is, e) = own_of levels number part found.verdict some h.verdict in
-    let ended = ended_as Lines part.end (ends_in_line_feed part.bytes) (length part.bytes) own in
+finding-moved : (framing : Framing) (levels count by number : ℕ) (part : Part) (found : Record) → 0 < number
+    → IsFinding framing levels (entry_at number part) found
+    → IsFinding framing levels (entry_at (number + count) (moved_part by part)) (moved_finding count by found)
+finding-moved framing levels count by number part found some h =
+    let (own, is, e) = own_of framing levels number part found.verdict some h.verdict in
+    let ended = ended_as framing part.end (ends_in_line_feed part.bytes) (length part.bytes) own in
     record {
       number = ap (λ (n : ℕ). n + count) h.number;
       place = ap (λ (n : ℕ). n + by) h.place;
       end = omega (arith, h.end);
-      verdict = numbered levels (number + count) (moved_part by part) (shifted_verdict by found.verdict) (omega (arith, some)) (
+      verdict = numbered framing levels (number + count) (moved_part by part) (shifted_verdict by found.verdict) (omega (arith, some)) (
         own,
         is,
-        ap (shifted_verdict by) e ∙ sym (verdict-twice part.start by ended (own-kept levels part own is)),
+        ap (shifted_verdict by) e ∙ sym (verdict-twice part.start by ended (own-kept framing levels part own is)),
       );
     }
 
 -- what was found in a moved part, whether it counts or not, and in those after it
-abbrev FoundMoved : (levels count by number : ℕ) (part : Part) (parts : List Part) → List Record → Bool → Type 0
-FoundMoved levels count by number part parts all t = AreFindings Lines levels (entry_if t (entry_at (number + count) (moved_part by part))
-    (entries_from Lines (number_after t (number + count)) (map (moved_part by) parts))) all
+abbrev FoundMoved : Framing → (levels count by number : ℕ) (part : Part) (parts : List Part) → List Record → Bool → Type 0
+FoundMoved framing levels count by number part parts all t = AreFindings framing levels (entry_if t (entry_at (number + count) (moved_part by part))
+    (entries_from framing (number_after t (number + count)) (map (moved_part by) parts))) all
 
-pub found-moved : (levels count by number : ℕ) (parts : List Part) (found : List Record) → 0 < number
-    → AreFindings Lines levels (entries_from Lines number parts) found
-    → AreFindings Lines levels (entries_from Lines (number + count) (map (moved_part by) parts)) (map (moved_finding count by) found)
-found-moved levels count by number [] [] some h = tt
-found-moved levels count by number [] (one ∷ found) some h = absurd h
-found-moved levels count by number (part ∷ parts) found some h =
-    by_test (λ n all s k. found-moved levels count by n parts all s k) (is_counted Lines number part) refl found h
+pub found-moved : (framing : Framing) (levels count by number : ℕ) (parts : List Part) (found : List Record) → 0 < number
+    → AreFindings framing levels (entries_from framing number parts) found
+    → AreFindings framing levels (entries_from framing (number + count) (map (moved_part by) parts)) (map (moved_finding count by) found)
+found-moved framing levels count by number [] [] some h = tt
+found-moved framing levels count by number [] (one ∷ found) some h = absurd h
+found-moved framing levels count by number (part ∷ parts) found some h =
+    by_test (λ n all s k. found-moved framing levels count by n parts all s k) (is_counted framing number part) refl found h
   where
-    by_test : ((n : ℕ) (all : List Record) → 0 < n → AreFindings Lines levels (entries_from Lines n parts) all
-        → AreFindings Lines levels (entries_from Lines (n + count) (map (moved_part by) parts)) (map (moved_finding count by) all))
-        → (b : Bool) → is_counted Lines number part ≡ b → (all : List Record)
-        → AreFindings Lines levels (entries_from Lines number (part ∷ parts)) all
-        → AreFindings Lines levels (entries_from Lines (number + count) (moved_part by part ∷ map (moved_part by) parts)) (map (moved_finding count by) all)
+    there : (b : Bool) → is_counted framing number part ≡ b → is_counted framing (number + count) (moved_part by part) ≡ b
+    there b e = counts-any framing (number + count) number part.end (is_void framing part.bytes) (omega (arith, some)) some ∙ e
+
+    by_test : ((n : ℕ) (all : List Record) → 0 < n → AreFindings framing levels (entries_from framing n parts) all
+        → AreFindings framing levels (entries_from framing (n + count) (map (moved_part by) parts)) (map (moved_finding count by) all))
+        → (b : Bool) → is_counted framing number part ≡ b → (all : List Record)
+        → AreFindings framing levels (entries_from framing number (part ∷ parts)) all
+        → AreFindings framing levels (entries_from framing (number + count) (moved_part by part ∷ map (moved_part by) parts)) (map (moved_finding count by) all)
     by_test again true e [] k = absurd (rw e at k)
     by_test again true e (one ∷ all) k =
         let (first, rest) = rw e at k in
-        let there = counts-any (number + count) number part.end (are_blank part.bytes) ∙ e in
         let next : number + 1 + count ≡ number + count + 1 = omega arith in
-        subst (FoundMoved levels count by number part parts (moved_finding count by one ∷ map (moved_finding count by) all)) (sym there) (
-          finding-moved levels count by number part one some first,
-          subst (λ (n : ℕ). AreFindings Lines levels (entries_from Lines n (map (moved_part by) parts)) (map (moved_finding count by) all)) next
+        subst (FoundMoved framing levels count by number part parts (moved_finding count by one ∷ map (moved_finding count by) all)) (sym (there true e)) (
+          finding-moved framing levels count by number part one some first,
+          subst (λ (n : ℕ). AreFindings framing levels (entries_from framing n (map (moved_part by) parts)) (map (moved_finding count by) all)) next
               (again (number + 1) all (omega (arith, some)) rest),
         )
     by_test again false e all k =
-        let there = counts-any (number + count) number part.end (are_blank part.bytes) ∙ e in
-        let here = subst (λ (n : ℕ). AreFindings Lines levels (entries_from Lines n parts) all) (stays_some number some) (rw e at k) in
-        subst (FoundMoved levels count by number part parts (map (moved_finding count by) all)) (sym there)
-        (subst (λ (n : ℕ). AreFindings Lines levels (entries_from Lines n (map (moved_part by) parts)) (map (moved_finding count by) all))
+        let here = subst (λ (n : ℕ). AreFindings framing levels (entries_from framing n parts) all) (stays_some number some) (rw e at k) in
+        subst (FoundMoved framing levels count by number part parts (map (moved_finding count by) all)) (sym (there false e))
+        (subst (λ (n : ℕ). AreFindings framing levels (entries_from framing n (map (moved_part by) parts)) (map (moved_finding count by) all))
         (sym (stays_some (number + count) (omega (arith, some)))) (again number all some here))

@@ -95,7 +95,7 @@ take-second n bytes next within =
     let sum : n ≡ length bytes + (n - length bytes) = omega (arith, within) in
     subst (λ (m : ℕ). take m (bytes ++ next) ≡ bytes ++ take (n - length bytes) next) (sym sum) (take-append-add bytes next (n - length bytes))
 
-begins-taken : (n : ℕ) (bytes : List ℕ) → 0 < n → begins_with_separator bytes ≡ true → begins_with_separator (take n bytes) ≡ true
+pub begins-taken : (n : ℕ) (bytes : List ℕ) → 0 < n → begins_with_separator bytes ≡ true → begins_with_separator (take n bytes) ≡ true
 begins-taken n [] some begins = absurd (false≢true begins)
 begins-taken zero (byte ∷ more) some begins = absurd (omega (arith, some))
 begins-taken (suc n) (byte ∷ more) some begins = begins

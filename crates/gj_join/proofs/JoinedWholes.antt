@@ -6,6 +6,7 @@ use Rattle.gj_coords.specs.Internal.KeptWarnings.{no_warnings, joined, shifted}
 use Rattle.gj_coords.specs.Internal.WarningLaws.{joined_none_last, joined_assoc}
 use Rattle.gj_coords.specs.declared.warnings.Warnings.{Warnings}
 use Rattle.gj_rules.specs.Records.{Part, Entry, part_at, is_counted, number_after, number_from, entries_from, parts_of}
+use Rattle.gj_rules.specs.declared.records.framing.Framing.{Framing}
 use Rattle.gj_rules.specs.declared.records.framing.Framing.TheVariants.{Lines}
 use Rattle.gj_rules.specs.declared.records.framing.RecordEnd.TheVariants.{Input}
 use Rattle.gj_rules.specs.declared.records.record.Record.{Record}
@@ -15,9 +16,9 @@ use Rattle.gj_rules.specs.declared.verdict.Verdict.TheVariants.{Valid, Broken, N
 use Rattle.gj_rules.specs.RecordFindings.{IsNumberedVerdict, AreFindings, AreAllFindings, IsWholeVerdict, joined_with, after, whole_from, whole_of}
 use Rattle.gj_rules.specs.Sequence.{shifted_verdict}
 use Rattle.gj_rules.proofs.Parts.CountedParts.{entries-append}
-use Rattle.gj_join.specs.Joined.{joined_verdict}
+use Rattle.gj_join.specs.Joined.{joined_verdict, moved_finding}
 use Rattle.gj_join.specs.Parts.{ArePartsOf, limits_after}
-use Rattle.gj_join.proofs.JoinedLines.{ended, moved_part, moved_finding, parts_of-parts, alone, stays_some, found-moved}
+use Rattle.gj_join.proofs.JoinedLines.{ended, moved_part, parts_of-parts, alone, stays_some, found-moved}
 use Rattle.gj_join.proofs.MovedVerdicts.{IsKept, KeepsSome, kept-none, kept-joined, shifted-none, shifted-joined, keeps-shifted, own-kept}
 
 -- ---- one record more
@@ -37,7 +38,7 @@ AllKeep (one ∷ found) = KeepsSome one.verdict × AllKeep found
 keeps-numbered : (levels number : ℕ) (part : Part) (verdict : Verdict) → IsNumberedVerdict Lines levels number part verdict → KeepsSome verdict
 keeps-numbered levels zero part verdict is = subst (λ (v : Verdict). KeepsSome v) (sym is) tt
 keeps-numbered levels (suc n) part verdict (own, is, e) =
-    subst (λ (v : Verdict). KeepsSome v) (sym e) (keeps-shifted part.start _ (own-kept levels part own is))
+    subst (λ (v : Verdict). KeepsSome v) (sym e) (keeps-shifted part.start _ (own-kept Lines levels part own is))
 
 all-keep : (levels : ℕ) (entries : List Entry) (found : List Record) → AreFindings Lines levels entries found → AllKeep found
 all-keep levels [] [] h = tt
@@ -123,13 +124,13 @@ counted levels n before (part ∷ parts) found records warnings h e =
 
 -- ---- both parts
 
-findings-append : (levels : ℕ) (entries others : List Entry) (found more : List Record) → AreFindings Lines levels entries found
-    → AreFindings Lines levels others more
-    → AreFindings Lines levels (entries ++ others) (found ++ more)
-findings-append levels [] others [] more h k = k
-findings-append levels [] others (one ∷ found) more h k = absurd h
-findings-append levels (entry ∷ entries) others [] more h k = absurd h
-findings-append levels (entry ∷ entries) others (one ∷ found) more h k = (h.0, findings-append levels entries others found more h.1 k)
+pub findings-append : (framing : Framing) (levels : ℕ) (entries others : List Entry) (found more : List Record) → AreFindings framing levels entries found
+    → AreFindings framing levels others more
+    → AreFindings framing levels (entries ++ others) (found ++ more)
+findings-append framing levels [] others [] more h k = k
+findings-append framing levels [] others (one ∷ found) more h k = absurd h
+findings-append framing levels (entry ∷ entries) others [] more h k = absurd h
+findings-append framing levels (entry ∷ entries) others (one ∷ found) more h k = (h.0, findings-append framing levels entries others found more h.1 k)
 
 number-some : (number : ℕ) (parts : List Part) → 0 < number → 0 < number_from Lines number parts
 number-some number [] some = some
@@ -141,10 +142,10 @@ number-some number (part ∷ parts) some = number-some (number_after (is_counted
     after-some false (suc n) s = omega arith
 
 -- how many records there are in lines that end
-abbrev records_in : List ℕ → ℕ
+abbrev pub records_in : List ℕ → ℕ
 records_in first = number_from Lines 1 (ended 0 first) - 1
 
-found-first : (limits : Allowed) (first second : List ℕ) (found : List Record) → ArePartsOf Lines limits first second
+pub found-first : (limits : Allowed) (first second : List ℕ) (found : List Record) → ArePartsOf Lines limits first second
     → AreAllFindings Lines limits first found
     → AreFindings Lines limits.depth (entries_from Lines 1 (ended 0 first)) found
 found-first limits first second found parts are =
@@ -162,10 +163,10 @@ findings-joined limits first second found more parts are of_rest =
     let a = length first in
     let rest = parts_of Lines (limits_after limits a) second in
     let next : 1 + records_in first ≡ number_from Lines 1 (ended 0 first) = omega (arith, number-some 1 (ended 0 first) (omega arith)) in
-    let moved = found-moved limits.depth (records_in first) a 1 rest more (omega arith) of_rest in
+    let moved = found-moved Lines limits.depth (records_in first) a 1 rest more (omega arith) of_rest in
     let there = subst (λ (n : ℕ). AreFindings Lines limits.depth (entries_from Lines n (map (moved_part a) rest)) (map (moved_finding (records_in first) a) more))
     next moved in
-    let both = findings-append limits.depth (entries_from Lines 1 (ended 0 first)) (entries_from Lines (number_from Lines 1 (ended 0 first)) (map (moved_part a) rest))
+    let both = findings-append Lines limits.depth (entries_from Lines 1 (ended 0 first)) (entries_from Lines (number_from Lines 1 (ended 0 first)) (map (moved_part a) rest))
     found (map (moved_finding (records_in first) a) more) (found-first limits first second found parts are) there in
     let entries : entries_from Lines 1 (parts_of Lines limits (first ++ second)) ≡ entries_from Lines 1 (ended 0 first)
     ++ entries_from Lines (number_from Lines 1 (ended 0 first)) (map (moved_part a) rest) =

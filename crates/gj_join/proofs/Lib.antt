@@ -4,3 +4,4 @@ mod JoinedGroups
 mod MovedVerdicts
 mod JoinedLines
 mod JoinedWholes
+pub mod JoinedFindings

@@ -1,5 +1,5 @@
 -- Verdicts and warnings so many bytes further on.
-use Rattle.std.proofs.Common.{arith, ◌≡◌, ◌+◌, ℕ, ap, sym, ◌∙◌, List, [], ◌++◌, length, map, Bool}
+use Rattle.std.proofs.Common.{arith, ◌≡◌, ◌+◌, ℕ, ap, sym, ◌∙◌, List, [], ◌++◌, length, map, Bool, true, false}
 use Rattle.std.proofs.lemmas.List.{map-append}
 use Rattle.gj_json.specs.Limits.{Allowed}
 use Rattle.gj_json.specs.declared.fault.Cause.{Cause}
@@ -12,13 +12,14 @@ use Rattle.gj_coords.specs.WarningsStand.{StandsFor}
 use Rattle.gj_coords.specs.declared.warnings.Warnings.{Warnings}
 use Rattle.gj_coords.proofs.Lists.ShiftedWarnings.{shifted_stands}
 use Rattle.gj_rules.specs.Records.{Part}
-use Rattle.gj_rules.specs.declared.records.framing.Framing.TheVariants.{Lines}
+use Rattle.gj_rules.specs.declared.records.framing.Framing.{Framing}
+use Rattle.gj_rules.specs.declared.records.framing.Framing.TheVariants.{Sequence, Lines}
 use Rattle.gj_rules.specs.declared.records.framing.RecordEnd.{RecordEnd}
 use Rattle.gj_rules.specs.declared.records.framing.RecordEnd.TheVariants.{Separator, Input, Limit}
 use Rattle.gj_rules.specs.declared.verdict.Verdict.{Verdict}
 use Rattle.gj_rules.specs.declared.verdict.Verdict.TheVariants.{Valid, Broken, NotJson}
 use Rattle.gj_rules.specs.RecordFindings.{ended_as}
-use Rattle.gj_rules.specs.Sequence.{shifted_verdict, cut_fault, ends_in_line_feed, own_limits}
+use Rattle.gj_rules.specs.Sequence.{shifted_verdict, cut_fault, if_ended, if_cut, ends_in_line_feed, own_limits}
 use Rattle.gj_rules.specs.TextWarnings.{text_warnings}
 use Rattle.gj_rules.specs.Verdict.{IsVerdict}
 use Rattle.gj_join.proofs.JoinedParts.{warnings-twice}
@@ -78,19 +79,32 @@ keeps-cut Truncated place end = tt
 keeps-cut Depth place end = tt
 keeps-cut Length place end = tt
 
-keeps-ended : (end : RecordEnd) (has_line_feed : Bool) (long : ℕ) (own : Verdict) → KeepsSome own → KeepsSome (ended_as Lines end has_line_feed long own)
-keeps-ended Separator has_line_feed long own kept = kept
-keeps-ended Input has_line_feed long own kept = kept
-keeps-ended Limit has_line_feed long (Valid warnings) kept = tt
-keeps-ended Limit has_line_feed long (Broken fault) kept = tt
-keeps-ended Limit has_line_feed long (NotJson fault) kept = keeps-cut fault.cause fault.place long
+keeps-if : (has_line_feed : Bool) (long : ℕ) (own : Verdict) → KeepsSome own → KeepsSome (if_ended has_line_feed long own)
+keeps-if true long own kept = kept
+keeps-if false long (Valid warnings) kept = tt
+keeps-if false long (Broken fault) kept = tt
+keeps-if false long (NotJson fault) kept = tt
+
+keeps-limit : (long : ℕ) (own : Verdict) → KeepsSome (if_cut long own)
+keeps-limit long (Valid warnings) = tt
+keeps-limit long (Broken fault) = tt
+keeps-limit long (NotJson fault) = keeps-cut fault.cause fault.place long
+
+keeps-ended : (framing : Framing) (end : RecordEnd) (has_line_feed : Bool) (long : ℕ) (own : Verdict) → KeepsSome own
+    → KeepsSome (ended_as framing end has_line_feed long own)
+keeps-ended Lines Separator has_line_feed long own kept = kept
+keeps-ended Lines Input has_line_feed long own kept = kept
+keeps-ended Lines Limit has_line_feed long own kept = keeps-limit long own
+keeps-ended Sequence Separator has_line_feed long own kept = keeps-if has_line_feed long own kept
+keeps-ended Sequence Input has_line_feed long own kept = keeps-if has_line_feed long own kept
+keeps-ended Sequence Limit has_line_feed long own kept = keeps-limit long own
 
 keeps-own : (limits : Allowed) (bytes : List ℕ) (own : Verdict) → IsVerdict limits bytes own → KeepsSome own
 keeps-own limits bytes (Valid warnings) is = (text_warnings is.0, is.3)
 keeps-own limits bytes (Broken fault) is = tt
 keeps-own limits bytes (NotJson fault) is = tt
 
-pub own-kept : (levels : ℕ) (part : Part) (own : Verdict) → IsVerdict (own_limits levels part.bytes) part.bytes own
-    → KeepsSome (ended_as Lines part.end (ends_in_line_feed part.bytes) (length part.bytes) own)
-own-kept levels part own is =
-    keeps-ended part.end (ends_in_line_feed part.bytes) (length part.bytes) own (keeps-own (own_limits levels part.bytes) part.bytes own is)
+pub own-kept : (framing : Framing) (levels : ℕ) (part : Part) (own : Verdict) → IsVerdict (own_limits levels part.bytes) part.bytes own
+    → KeepsSome (ended_as framing part.end (ends_in_line_feed part.bytes) (length part.bytes) own)
+own-kept framing levels part own is =
+    keeps-ended framing part.end (ends_in_line_feed part.bytes) (length part.bytes) own (keeps-own (own_limits levels part.bytes) part.bytes own is)

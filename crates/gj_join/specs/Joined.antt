@@ -1,5 +1,5 @@
 -- What an input of records is as a whole, given what two parts of it are.
-use Rattle.std.specs.Prelude.{◌≡◌, ℕ, ◌+◌, ◌≤◌, ◌<◌, ◌^◌, ◌++◌, List, map, Some}
+use Rattle.std.specs.Prelude.{◌≡◌, ℕ, zero, suc, ◌+◌, ◌≤◌, ◌<◌, ◌^◌, List, [], ◌∷◌, ◌++◌, length, map, Some}
 use Rattle.gj_json.specs.Limits.{Allowed}
 use Rattle.gj_coords.specs.Internal.KeptWarnings.{first_in, joined, shifted}
 use Rattle.gj_coords.specs.Warnings.{shifted_by}
@@ -10,6 +10,7 @@ use Rattle.gj_rules.specs.Sequence.{IsSequenceVerdict, SequenceJudgement, all_va
 use Rattle.gj_rules.specs.SequenceJudgement.{shifted_judgement}
 use Rattle.gj_rules.specs.declared.records.framing.Framing.{Framing}
 use Rattle.gj_rules.specs.declared.records.framing.Framing.TheVariants.{Sequence, Lines}
+use Rattle.gj_rules.specs.declared.records.record.Record.{Record}
 use Rattle.gj_rules.specs.declared.sequence.verdict.SeqVerdict.{SeqVerdict}
 use Rattle.gj_rules.specs.declared.verdict.Verdict.{Verdict}
 use Rattle.gj_rules.specs.declared.verdict.Verdict.TheVariants.{Valid, Broken, NotJson}
@@ -30,6 +31,31 @@ abbrev pub joined_judgement : ℕ → SequenceJudgement → SequenceJudgement �
 joined_judgement end (all_valid records warnings) (all_valid more others) = all_valid (records + more) (warnings ++ map (shifted_by end) others)
 joined_judgement end (all_valid records warnings) (failing number judgement) = failing (records + number) (shifted_judgement end judgement)
 joined_judgement end (failing number judgement) second = failing number judgement
+
+-- ---- what is found in each record
+
+-- after so many records, and so many bytes further on
+abbrev pub moved_finding : (count by : ℕ) → Record → Record
+moved_finding count by found = record {
+  number = found.number + count;
+  place = found.place + by;
+  end = found.end + by;
+  verdict = shifted_verdict by found.verdict;
+}
+
+-- the bytes before the first record of a sequence have the number 0, and are none
+abbrev pub one_if_numbered : ℕ → ℕ
+one_if_numbered zero = 0
+one_if_numbered (suc n) = 1
+
+-- how many records are among these
+abbrev pub records_among : List Record → ℕ
+records_among [] = 0
+records_among (found ∷ more) = one_if_numbered found.number + length more
+
+-- those of both parts: the numbers of the second count on, and its places begin where the first ends
+abbrev pub joined_findings : (end : ℕ) → List Record → List Record → List Record
+joined_findings end found more = found ++ map (moved_finding (records_among found) end) more
 
 -- ---- what fits into 64 bits
 

@@ -3,11 +3,12 @@
 ghost use Rattle.std.specs.Prelude.{◌≡◌, ◌++◌, ◌+◌, ℕ, List, length};
 ghost use Rattle.gj_json.specs.Limits.{Allowed};
 ghost use Rattle.gj_join.specs.Parts.{ArePartsOf, limits_after};
-ghost use Rattle.gj_join.specs.Joined.{joined_judgement, joined_verdict};
-ghost use Rattle.gj_rules.specs.RecordFindings.{IsWholeVerdict};
+ghost use Rattle.gj_join.specs.Joined.{joined_findings, joined_judgement, joined_verdict};
+ghost use Rattle.gj_rules.specs.RecordFindings.{AreAllFindings, IsWholeVerdict};
 ghost use Rattle.gj_rules.specs.Sequence.{SequenceJudgement};
 ghost use Rattle.gj_rules.specs.SequenceJudgement.{IsSequenceJudgement};
 ghost use Rattle.gj_rules.specs.declared.records.framing.Framing.{Framing};
+ghost use Rattle.gj_rules.specs.declared.records.record.Record.{Record};
 ghost use Rattle.gj_rules.specs.declared.sequence.verdict.SeqVerdict.{SeqVerdict};
 
 /// What a text sequence is, given what two parts of it are (RFC 8142).
@@ -28,4 +29,12 @@ pub fn joined_lines()
 pub fn joined_in_any_grouping()
     ensures { (end more : ℕ) (one two three : SequenceJudgement) →
         joined_judgement (end + more) (joined_judgement end one two) three ≡ joined_judgement end one (joined_judgement more two three) }
+{}
+
+/// What is found in the records of an input, given what is found in those of two parts of it: the numbers of the second count on
+/// from the records of the first, and its places begin where the first ends.
+pub fn joined_findings()
+    ensures { (framing : Framing) (limits : Allowed) (first second : List ℕ) (found more : List Record) → ArePartsOf framing limits first second
+        → AreAllFindings framing limits first found → AreAllFindings framing (limits_after limits (length first)) second more
+        → AreAllFindings framing limits (first ++ second) (joined_findings (length first) found more) }
 {}
