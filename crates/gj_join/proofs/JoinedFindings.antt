@@ -31,7 +31,7 @@ abbrev pub AllNumbered : List Record → Type 0
 AllNumbered [] = Unit {0}
 AllNumbered (one ∷ found) = (0 < one.number) × AllNumbered found
 
-all-among : (found : List Record) → AllNumbered found → records_among found ≡ length found
+pub all-among : (found : List Record) → AllNumbered found → records_among found ≡ length found
 all-among [] all = refl
 all-among (one ∷ found) all = by_number one.number all.0
   where

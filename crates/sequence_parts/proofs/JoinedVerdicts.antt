@@ -14,13 +14,13 @@ use Rattle.sequence_parts.specs.Checked.{IsPartOf, IsVerdictOfBytes}
 use Rattle.sequence_parts.specs.declared.checked.CheckedPart.{CheckedPart}
 use Rattle.sequence_parts.specs.Internal.JoinedSoFar.{IsJoinedTo}
 
-begins_taken : (framing : Framing) (n : ℕ) (bytes : List ℕ) → 0 < n → separator_first framing (take n bytes) ≡ separator_first framing bytes
+pub begins_taken : (framing : Framing) (n : ℕ) (bytes : List ℕ) → 0 < n → separator_first framing (take n bytes) ≡ separator_first framing bytes
 begins_taken framing zero bytes some = absurd (omega (arith, some))
 begins_taken framing (suc n) [] some = refl
 begins_taken framing (suc n) (byte ∷ more) some = refl
 
 -- nothing of the limit is used up before the first byte
-none_before : (limits : Allowed) → limits_after limits 0 ≡ limits
+pub none_before : (limits : Allowed) → limits_after limits 0 ≡ limits
 none_before limits = ap (λ (n : ℕ). record { depth = limits.depth; bytes = n }) (omega arith)
 
 pub first_part : (framing : Framing) (limits : Allowed) (text : List ℕ) (part : CheckedPart) → part.begin ≡ 0 → IsVerdictOfBytes framing limits text part

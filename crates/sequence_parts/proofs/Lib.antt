@@ -6,3 +6,4 @@ mod JoinedVerdicts
 mod RangeNumbers
 mod WholeText
 mod NotesOfParts
+pub mod NotesOfWholes
