@@ -1,5 +1,9 @@
 mod LinesOfParts
 mod DoubledWarnings
 mod SameSettings
+mod JoinedNotes
 mod WrittenItems
 mod ReadItems
+mod ReadTexts
+mod LinesRead
+mod LinesAgree

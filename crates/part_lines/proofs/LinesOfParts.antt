@@ -12,7 +12,7 @@ use Rattle.gj_rules.specs.declared.records.framing.Framing.{Framing}
 use Rattle.sequence_parts.specs.Checked.{IsPartOf}
 use Rattle.sequence_parts.specs.declared.checked.CheckedPart.{CheckedPart}
 use Rattle.part_lines.specs.declared.line.PartLine.{PartLine}
-use Rattle.part_lines.specs.Lines.{checked_in, IsLineOf, AreAmong, ArePlacedFrom}
+use Rattle.part_lines.specs.Lines.{checked_in, IsLineOf, IsListedLineOf, AreAmong, ArePlacedFrom}
 
 pub true_parts : (framing : Framing) (limits : Allowed) (text : List ℕ) (lines : List PartLine) (parts : List CheckedPart) → AreAmong (map checked_in lines) parts
     → All (IsLineOf framing limits text) lines
@@ -40,3 +40,11 @@ pub first_size : (framing : Framing) (limits : Allowed) (text : List ℕ) (lines
 first_size framing limits text lines first is all =
     let (some, here) = first_line lines first is in
     (all 0 first some).size ∙ ap (λ (line : PartLine). line.file.size) here
+
+-- what holds of all lines holds of the one that is there
+pub line_there : (P : PartLine → Type 0) (lines : List PartLine) (i : ℕ) (line : PartLine) → i < length lines → line ≡ get_or lines i line → All P lines → P line
+line_there P lines i line within is all = subst P (sym is) (all i line within)
+
+pub all_lines : (framing : Framing) (limits : Allowed) (text : List ℕ) (lines : List PartLine) → All (IsListedLineOf framing limits text) lines
+    → All (IsLineOf framing limits text) lines
+all_lines framing limits text lines all = λ k d within. (all k d within).line_of

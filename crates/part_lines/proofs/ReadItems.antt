@@ -8,7 +8,7 @@ use Rattle.gj_coords.specs.WarningsStand.{StandsFor}
 use Rattle.gj_coords.specs.declared.kind.Kind.{Kind}
 use Rattle.gj_coords.specs.declared.warnings.Warnings.{Warnings}
 use Rattle.geolint_report.specs.declared.every.listing.Note.{Note}
-use Rattle.serde_json.specs.Data.{Data, Items, no_items, item}
+use Rattle.serde_json.specs.Data.{Data, Items}
 use Rattle.serde_json.specs.View.{view, items_of}
 use Rattle.serde_json.specs.declared.value.Value.{Value}
 use Rattle.part_lines.specs.LineObject.{IsWarningIn, AreWarnings, AreWarningsOf, IsNoteIn, AreNotes}

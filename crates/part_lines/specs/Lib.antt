@@ -1,3 +1,6 @@
 pub mod Lines
 pub mod LineText
 pub mod LineObject
+pub mod Writable
+pub mod Agreed
+pub mod Internal

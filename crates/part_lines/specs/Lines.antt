@@ -1,12 +1,13 @@
 -- Lines that say what was found of the parts of a file.
-use Rattle.std.specs.Prelude.{◌≡◌, ℕ, List, length, codes, Bool, true, false, Option, IfSome}
+use Rattle.std.specs.Prelude.{◌≡◌, ℕ, List, length, codes, Bool, true, false, Option, Some, IfSome}
 use Rattle.std.specs.List.{All, Contains}
 use Rattle.std.specs.String.{string_bytes}
 use Rattle.gj_json.specs.Limits.{Allowed}
 use Rattle.gj_rules.specs.declared.records.framing.Framing.{Framing}
 use Rattle.gj_rules.specs.declared.records.framing.Framing.TheVariants.{Sequence, Lines}
-use Rattle.sequence_parts.specs.Checked.{IsPartOf}
+use Rattle.sequence_parts.specs.Checked.{IsPartOf, AreNotesOfPart}
 use Rattle.sequence_parts.specs.declared.checked.CheckedPart.{CheckedPart}
+use Rattle.part_lines.specs.declared.line.Listed.{Listed}
 use Rattle.part_lines.specs.declared.line.PartLine.{PartLine}
 
 abbrev pub checked_in : PartLine → CheckedPart
@@ -17,6 +18,11 @@ pub record IsLineOf (framing : Framing) (limits : Allowed) (text : List ℕ) (li
   pub size : length text ≡ line.file.size
   pub framed : line.settings.framing ≡ framing
   pub part : IsPartOf framing limits text line.checked
+
+-- and what it lists are the notes on the records of that part
+pub record IsListedLineOf (framing : Framing) (limits : Allowed) (text : List ℕ) (line : PartLine) : Type 0 where
+  pub line_of : IsLineOf framing limits text line
+  pub notes_of : (listed : Listed) → line.listed ≡ Some listed → AreNotesOfPart framing limits (Some listed.asked) text line.checked (Some listed.notes)
 
 -- of the same file, as it was, checked in the same way, and one of as many parts
 pub record IsLike (first line : PartLine) : Type 0 where

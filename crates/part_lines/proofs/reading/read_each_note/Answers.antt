@@ -1,4 +1,4 @@
-use Rattle.std.proofs.Common.{◌≡◌, ◌+◌, ◌++◌, ◌∷◌, [], List, take, sym, subst}
+use Rattle.std.proofs.Common.{◌+◌, ◌++◌, ◌∷◌, [], List, take, sym, subst}
 use Rattle.std.specs.Prelude.{map}
 use Rattle.geolint_report.specs.declared.every.listing.Note.{Note}
 use Rattle.serde_json.specs.Data.{Data}

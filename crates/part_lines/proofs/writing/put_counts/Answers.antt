@@ -1,4 +1,4 @@
-use Rattle.std.proofs.Common.{◌≡◌, ◌++◌, ℕ, Bool, List, true, [], refl, sym, append-nil}
+use Rattle.std.proofs.Common.{◌++◌, ℕ, List, true}
 use Rattle.std.specs.List.{flat_map}
 use Rattle.gj_coords.specs.Warnings.{kinds}
 use Rattle.geolint_report.specs.declared.texts.TheConstants.{RULES, CAUSES}
