@@ -7,3 +7,4 @@ mod ReadItems
 mod ReadTexts
 mod LinesRead
 mod LinesAgree
+mod LinesBack

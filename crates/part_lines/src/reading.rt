@@ -1,6 +1,6 @@
 //! A line is read.
 
-ghost use Rattle.std.specs.Prelude.{◌≡◌, ◌≢◌, ◌<◌, ◌^◌, ℕ, Bool, IfSome, IsSome, IfOk, Some, None, Err, option_map, map, codes, replicate};
+ghost use Rattle.std.specs.Prelude.{◌≡◌, ◌≢◌, ◌<◌, ◌^◌, ◌++◌, ℕ, Bool, IfSome, IsSome, IfOk, Some, None, Err, option_map, map, codes, replicate};
 ghost use Rattle.std.specs.List.{All};
 ghost use Rattle.gj_coords.specs.Warnings.{warning_at};
 ghost use Rattle.gj_coords.specs.WarningsStand.{StandsFor};
@@ -21,13 +21,17 @@ ghost use Rattle.serde_json.specs.View.{view, items_view};
 ghost use Rattle.part_lines.specs.LineObject.{number_in, text_in, truth_in, array_in, IsFileIn, IsSettingsIn, IsKindName, IsAllowedIn, IsShareIn, IsCheckedIn, IsLineIn};
 ghost use Rattle.part_lines.specs.LineObject.{IsPlaceIn, IsRecordIn, IsWarningIn, AreWarningsOf, AreWarningsIn, IsVerdictIn};
 ghost use Rattle.part_lines.specs.LineObject.{IsNoteIn, AreNotes, AreNotesIn, IsListedIn, IsListedIf};
+ghost use Rattle.part_lines.specs.Agreed.{Agree};
+ghost use Rattle.part_lines.specs.LineText.{line_text};
 ghost use Rattle.part_lines.specs.Lines.{every_word, framing_word};
+ghost use Rattle.part_lines.specs.Writable.{IsWritable};
 ghost use Rattle.part_lines.specs.declared.line.FileState.{FileState};
 ghost use Rattle.part_lines.specs.declared.line.PartLine.{PartLine};
 ghost use Rattle.part_lines.specs.declared.line.Settings.{Settings};
 ghost use Rattle.sequence_parts.specs.declared.checked.CheckedPart.{CheckedPart};
 ghost use Rattle.sequence_parts.specs.declared.ranges.Share.{Share};
 
+use crate::laws::{members_say_one_line, written_lines_are_read};
 use crate::line::{FileState, Listed, PartLine, Settings};
 use crate::warnings::warnings_at;
 use geolint_report::every::listing::{Asked, Item, Note, Notes};
@@ -71,7 +75,10 @@ pub fn read_line(alloc: Global, text: &str) -> Result<PartLine, NoLine>
     ensures line { IfOk result (λ line. (it : Data) × (read text.now ≡ Some it) × IsLineIn it line) }
     ensures refused { result ≡ Err NoLine.NoPart → (it : Data) → read text.now ≡ Some it → (line : PartLine) → line.listed ≡ None → ¬ (IsLineIn it line) }
     ensures version { result ≡ Err NoLine.OtherVersion → (it : Data) → read text.now ≡ Some it → number_in (codes "geolint_part") it ≢ Some 1 }
+    ensures written { IfOk result (λ line. (written : PartLine) → IsWritable written → line_text written ≡ text.now ++ codes "\n" → Agree written line) }
 {
+    written_lines_are_read();
+    members_say_one_line();
     let value = parse(alloc, text)?;
     read_value(alloc, &value)
 }
