@@ -143,7 +143,7 @@ export const ENGLISH = {
   rules: {
     G1: ["An object is due here, and another value stands there.", "Write a GeoJSON object. A bare list of features belongs into a FeatureCollection, and a missing location is null."],
     G2: ["This object has no “type”.", "Add it, spelled exactly so. If the data are of another format, export them as GeoJSON."],
-    G3: ["This type may not stand here.", "Use one of the nine types with their capitals. In “features” only a Feature may stand, and as “geometry” only a geometry."],
+    G3: ["This type is not allowed here.", "Use one of the nine types with their capitals. In “features” only a Feature may stand, and as “geometry” only a geometry."],
     G4: ["This geometry has no “coordinates”.", "Add them. Where the location is not known, write null for the whole geometry."],
     G5: ["This GeometryCollection has no “geometries”.", "Add them: an array of geometries, which may be empty."],
     G6: ["This Feature has no “geometry”.", "Add it. Where there is no location, write \"geometry\": null."],

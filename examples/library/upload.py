@@ -42,7 +42,7 @@ def too_large():
 
 
 def read_all(stream, count):
-    """The bytes of the next so many, in pieces."""
+    """The next bytes, as many as `count`, in pieces."""
     while count > 0:
         piece = stream.read(min(count, PIECE))
         if not piece:
@@ -201,7 +201,7 @@ class Server(ThreadingMixIn, WSGIServer):
     daemon_threads = True
 
     def shutdown_request(self, request):
-        """Drops what the client still sends for some time: if unread bytes are left, it may not get the answer."""
+        """Drops what the client still sends for some time: if unread bytes are left, it might not get the answer."""
         try:
             request.shutdown(socket.SHUT_WR)
             request.settimeout(1)

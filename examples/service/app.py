@@ -90,7 +90,7 @@ class Body:
             yield found.get("body", b"")
 
     async def drop(self) -> None:
-        """Reads what still comes for some time, and drops it: a client that has not sent all may not read the answer."""
+        """Reads what still comes for some time, and drops it: a client that has not sent all might not read the answer."""
         end = time.monotonic() + LINGER
         # Who waits for the word to go on has sent nothing.
         while not self.is_over and (self.has_begun or not self.is_awaited) and time.monotonic() < end:

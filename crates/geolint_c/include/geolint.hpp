@@ -403,7 +403,7 @@ public:
 private:
     static std::string message(const Verdict &verdict) {
         if (!verdict.judged())
-            return "not judged";
+            return "no verdict";
         return (verdict.broken() ? "broken G" + std::to_string(verdict.rule()) : std::string("not JSON")) + " at " +
                std::to_string(verdict.place()) + ": " + verdict.text();
     }

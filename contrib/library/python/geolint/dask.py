@@ -34,7 +34,7 @@ def check(
     """What is found in each file, as `geolint-files --format json` says it.
 
     One path is a text sequence, or newline-delimited texts. It is checked in `parts` ranges of its bytes, four for each thread of the workers where the number is
-    not given, and what is found is what one reading of it finds. Many paths are checked each as a whole, by so many tasks. Names that
+    not given, and what is found is what one reading of it finds. Many paths are checked each as a whole, by as many tasks. Names that
     are not absolute begin at the current folder of this process.
 
     With `every`, which is "faults" or "warnings", the findings of each feature or record follow those of their file, at most `most`
