@@ -1,6 +1,7 @@
 -- Lines and characters with one byte more.
 use Rattle.std.proofs.Common.{arith, refl, ◌≡◌, ℕ, ◌+◌, ◌++◌, ◌∷◌, [], List, ap}
 use Rattle.std.specs.Prelude.{Bool, true, false, ◌||◌, if◌then◌else◌}
+use Rattle.std.proofs.Math.Bool.{or-true}
 use Rattle.gj_places.specs.Lines.{is_line_feed, begins_character, line_feeds, characters, has_line_feed, last_line, column_of}
 
 -- what a byte adds to a count, by whether it counts
@@ -15,18 +16,10 @@ pub characters-more : (bytes : List ℕ) (byte : ℕ) → characters (bytes ++ b
 characters-more [] byte = omega arith
 characters-more (first ∷ more) byte = let rest = characters-more more byte in omega (arith, rest)
 
-or_true : (a : Bool) → (a || true) ≡ true
-or_true true = refl
-or_true false = refl
-
-or_false : (a : Bool) → (a || false) ≡ a
-or_false true = refl
-or_false false = refl
-
 -- a list that ends with LF has one
 has_line_feed-feed : (bytes : List ℕ) (byte : ℕ) → is_line_feed byte ≡ true → has_line_feed (bytes ++ byte ∷ []) ≡ true
 has_line_feed-feed [] byte is = rw is refl
-has_line_feed-feed (first ∷ more) byte is = rw (has_line_feed-feed more byte is) (or_true (is_line_feed first))
+has_line_feed-feed (first ∷ more) byte is = rw (has_line_feed-feed more byte is) (or-true (is_line_feed first))
 
 -- another byte at the end changes nothing
 pub has_line_feed-other : (bytes : List ℕ) (byte : ℕ) → is_line_feed byte ≡ false → has_line_feed (bytes ++ byte ∷ []) ≡ has_line_feed bytes

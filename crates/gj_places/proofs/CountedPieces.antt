@@ -1,8 +1,9 @@
 -- Lines and characters of bytes behind others.
-use Rattle.std.proofs.Common.{arith, ◌≡◌, ◌<◌, ◌≤◌, ◌∙◌, ℕ, suc, ◌+◌, ◌-◌, ◌++◌, ◌∷◌, [], List, ap, sym, refl, length, take, drop}
+use Rattle.std.proofs.Common.{arith, ◌≡◌, ◌<◌, ◌≤◌, ◌∙◌, ℕ, suc, ◌+◌, ◌++◌, ◌∷◌, [], List, ap, sym, refl, length, take, drop}
 use Rattle.std.proofs.Common.{get_or, append_assoc, length-drop}
-use Rattle.std.proofs.lemmas.List.{take_more, take_all, get_or-drop, take-append-drop}
-use Rattle.std.specs.Prelude.{Bool, true, false, ◌||◌, if◌then◌else◌}
+use Rattle.std.proofs.lemmas.List.{take_more, get_or-drop, take-append-drop}
+use Rattle.std.specs.Prelude.{Bool, true, false, if◌then◌else◌}
+use Rattle.std.proofs.lemmas.Bool.{or_parts, false_from_ne_true}
 use Rattle.gj_places.specs.Lines.{is_line_feed, begins_character, line_feeds, characters, has_line_feed, last_line, line_of, column_of}
 use Rattle.gj_places.proofs.CountedBytes.{counted, line_feeds-more, characters-more, column_of-feed}
 use Rattle.gj_places.proofs.KeptLines.{last_line-longer}
@@ -36,13 +37,9 @@ pub characters-take : (xs : List ℕ) (i : ℕ) → i < length xs →
     characters (take (i + 1) xs) ≡ characters (take i xs) + (if begins_character (get_or xs i 0) then 1 else 0)
 characters-take xs i within = ap characters (take_more xs i 0 within) ∙ characters-more (take i xs) (get_or xs i 0)
 
-neither : (a b : Bool) → (a || b) ≡ false → (a ≡ false) × (b ≡ false)
-neither true b e = absurd (cc)
-neither false b e = (refl, e)
-
 none_ends : (xs : List ℕ) → has_line_feed xs ≡ false → line_feeds xs ≡ 0
 none_ends [] none = refl
-none_ends (x ∷ xs) none = let both = neither (is_line_feed x) (has_line_feed xs) none in
+none_ends (x ∷ xs) none = let both = or_parts (is_line_feed x) (has_line_feed xs) none in
     let here = ap (λ (b : Bool). counted b) both.0 in
     omega (arith, here, none_ends xs both.1)
 
@@ -73,18 +70,11 @@ none-has (x ∷ xs) none =
     λ k within. (let next : is_line_feed (get_or (x ∷ xs) (suc k) 0) ≡ false = none (suc k) (omega arith) in next) in
     rw here (none-has xs more)
 
-not_true : (b : Bool) → (b ≡ true → ⊥) → b ≡ false
-not_true true never = absurd (never refl)
-not_true false never = refl
-
 -- the bytes from one on, where no LF is after it
 pub rest_has : (xs : List ℕ) (from : ℕ) → ((k : ℕ) → from ≤ k → k < length xs → is_line_feed (get_or xs k 0) ≡ true → ⊥) → has_line_feed (drop from xs) ≡ false
 rest_has xs from none = none-has (drop from xs) (λ k within.
     let at : get_or (drop from xs) k 0 ≡ get_or xs (from + k) 0 = get_or-drop from xs k 0 in
-    rw at (not_true (is_line_feed (get_or xs (from + k) 0)) (none (from + k) (omega arith) (omega (arith, within, length-drop from xs)))))
-
-pub all_rest : (xs : List ℕ) (from : ℕ) → take (length xs - from) (drop from xs) ≡ drop from xs
-all_rest xs from = take_all (length xs - from) (drop from xs) (omega (arith, length-drop from xs))
+    rw at (false_from_ne_true (is_line_feed (get_or xs (from + k) 0)) (none (from + k) (omega arith) (omega (arith, within, length-drop from xs)))))
 
 -- the lines and what comes after the last LF
 pub parted : (xs : List ℕ) (last byte : ℕ) → last < length xs → get_or xs last 0 ≡ byte → (take last xs ++ byte ∷ []) ++ drop (last + 1) xs ≡ xs

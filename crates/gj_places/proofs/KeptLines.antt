@@ -5,18 +5,15 @@ use Rattle.std.specs.Prelude.{Bool, true, false, ◌||◌, if◌then◌else◌, 
 use Rattle.std.proofs.lemmas.Grind.{common_steps}
 use Rattle.std.proofs.lemmas.List.{length-take, take-append-drop, take_more, take_all, take-append-le, drop-append-le, drop-drop, drop_at}
 use Rattle.std.proofs.lemmas.Str.{encodes-append}
+use Rattle.std.proofs.lemmas.Bool.{or_right}
 use Rattle.gj_places.specs.Lines.{is_line_feed, has_line_feed, last_line}
 use Rattle.gj_places.specs.Excerpts.{last_of, first_line, cut_back}
-
-or_true : (a b : Bool) → b ≡ true → (a || b) ≡ true
-or_true true b is = refl
-or_true false b is = is
 
 -- ---- LF in two lists, one behind the other
 
 pub has-behind : (xs ys : List ℕ) → has_line_feed ys ≡ true → has_line_feed (xs ++ ys) ≡ true
 has-behind [] ys is = is
-has-behind (x ∷ xs) ys is = or_true (is_line_feed x) (has_line_feed (xs ++ ys)) (has-behind xs ys is)
+has-behind (x ∷ xs) ys is = or_right (is_line_feed x) (has_line_feed (xs ++ ys)) (has-behind xs ys is)
 
 or_left : (a b c : Bool) → (b ≡ true → c ≡ true) → (a || b) ≡ true → (a || c) ≡ true
 or_left true b c more is = refl

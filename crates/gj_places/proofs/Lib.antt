@@ -1,4 +1,4 @@
-mod Blocks
+pub mod Blocks
 mod CountedBytes
 mod CountedPieces
 mod KeptLines

@@ -1,5 +1,6 @@
 -- The bytes before a place among those that are kept.
-use Rattle.std.proofs.Common.{arith, ap, sym, ◌∙◌, ◌≡◌, ◌≤◌, ◌<◌, ◌+◌, ◌-◌, ◌^◌, ◌++◌, [], ℕ, List, length, take, subst, append_assoc, append-nil, length-append}
+use Rattle.std.proofs.Common.{arith, ap, sym, ◌∙◌, ◌≡◌, ◌≤◌, ◌<◌, ◌+◌, ◌-◌, ◌^◌, ◌++◌, [], ℕ, List, length, take, subst, append_assoc, append-nil}
+use Rattle.std.proofs.Common.{length-append}
 use Rattle.std.proofs.lemmas.List.{take-append-le}
 use Rattle.std.proofs.Math.Seq.{take-append-add}
 use Rattle.std.specs.Io.Iter.{u64_saturate}
@@ -54,5 +55,6 @@ right-in-newer recent bytes place lines recalls from small beyond within after =
     recalls.all ∙ sym (append_assoc recalls.before (held recent.older) (held recent.newer))
     ∙ ap (λ (ys : List ℕ). front ++ ys) (sym (append-nil (held recent.newer))) in
     subst (Right place lines) (sym whole)
-    (right-within front (held recent.newer) [] place ((place - recent.passed) - length (held recent.older)) lines (omega (arith, exact, from, long, beyond)) within
+    (right-within front (held recent.newer) [] place ((place - recent.passed) - length (held recent.older)) lines
+    (omega (arith, exact, from, long, beyond)) within
     (after front recalls.at_newer))

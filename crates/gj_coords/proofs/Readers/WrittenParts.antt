@@ -6,16 +6,13 @@ use Rattle.std.proofs.Common.{ap, arith}
 use Rattle.std.proofs.Math.Bool.{and-false}
 use Rattle.std.proofs.lemmas.Int.{ints}
 use Rattle.std.proofs.lemmas.Bool.Decides.{nat_tests, Decides-int_eq}
+use Rattle.std.proofs.lemmas.Bool.{false_from_ne_true}
 use Rattle.gj_number.specs.Exact.{Exact, same_parts, zero_exact}
 use Rattle.gj_number.specs.Short.{short_value}
 use Rattle.gj_number.specs.Value.{stripped, tens_in}
 
-refuted : (b : Bool) → (b ≡ true → ⊥) → b ≡ false
-refuted true h = absurd (h refl)
-refuted false h = refl
-
 other_power : (a b : ℤ) → (a ≡ b → ⊥) → int_eq a b ≡ false
-other_power a b h = refuted (int_eq a b) (λ t. h ((Decides-int_eq a b).0 (let e : IsTrue (int_eq a b) = rw t refl in e)))
+other_power a b h = false_from_ne_true (int_eq a b) (λ t. h ((Decides-int_eq a b).0 (let e : IsTrue (int_eq a b) = rw t refl in e)))
 
 by_digits : (a b : Exact) → (a.digits == b.digits) ≡ false → same_parts a b ≡ false
 by_digits a b e = rw e (and-false (beq a.negative b.negative))

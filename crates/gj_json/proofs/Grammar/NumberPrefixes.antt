@@ -1,6 +1,7 @@
 -- The first bytes of a number, and the bytes with which one goes on.
-use Rattle.std.proofs.Common.{◌≡◌, ℕ, Bool, true, false, List, [], ◌∷◌, ◌++◌, refl, append_assoc}
+use Rattle.std.proofs.Common.{◌≡◌, ℕ, true, false, List, [], ◌∷◌, ◌++◌, append_assoc}
 use Rattle.std.proofs.lemmas.List.{append-nil}
+use Rattle.std.proofs.lemmas.Bool.{false_from_ne_true}
 use Rattle.gj_number.specs.Bytes.{IsNumberByte}
 use Rattle.gj_number.specs.Grammar.{IsNumber, BeginsNumber}
 use Rattle.gj_number.specs.DecidedNumbers.{begins_number}
@@ -16,10 +17,6 @@ number_begun literal i = ((λ e. no_number (rw e at i)), ([], rw (append-nil lit
 pub goes_on : (so_far more : List ℕ) (b : ℕ) → BeginsNumber (so_far ++ b ∷ more) → begins_number (so_far ++ b ∷ []) ≡ true
 goes_on so_far more b h = (begins (so_far ++ b ∷ [])).1 (number_front (so_far ++ b ∷ []) more (rw (append_assoc so_far (b ∷ []) more) h))
 
-pub is_false : (t : Bool) → (t ≡ true → ⊥) → t ≡ false
-is_false true h = absurd (h refl)
-is_false false h = refl
-
 -- no number goes on with a byte that none has
 pub stops : (so_far : List ℕ) (b : ℕ) → (IsNumberByte b → ⊥) → begins_number (so_far ++ b ∷ []) ≡ false
-stops so_far b never = is_false (begins_number (so_far ++ b ∷ [])) (λ e. never (last so_far b ((begins (so_far ++ b ∷ [])).0 e)))
+stops so_far b never = false_from_ne_true (begins_number (so_far ++ b ∷ [])) (λ e. never (last so_far b ((begins (so_far ++ b ∷ [])).0 e)))

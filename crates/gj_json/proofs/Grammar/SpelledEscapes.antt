@@ -1,7 +1,7 @@
 -- Escapes one after another, by what is seen at each byte.
 use Rattle.std.proofs.Common.{◌≡◌, ◌≢◌, ℕ, zero, suc, ◌+◌, ◌-◌, ◌≤◌, ◌<◌, ◌&&◌, ◌||◌, cond, eqb, not, Bool, inl, inr, ◌⊎◌, true, false, List, ◌++◌, length}
 use Rattle.std.proofs.Common.{take, drop, get_or, is_some, refl, sym, ap, subst, ◌∙◌, arith, eqb-true, eq-eqb}
-use Rattle.std.proofs.lemmas.Bool.{cases_lt, cases_eq, eqb-false, ne_eqb}
+use Rattle.std.proofs.lemmas.Bool.{cases_lt, cases_eq, eqb-false, ne_eqb, not-false}
 use Rattle.std.proofs.lemmas.List.{get_or-drop, length-drop}
 use Rattle.gj_json.specs.Bytes.{backslash, letter_u}
 use Rattle.gj_json.specs.Characters.{escape_of, hex_of}
@@ -14,12 +14,8 @@ use Rattle.gj_json.proofs.Pieces.PieceRests.{rest_of}
 
 -- ---- what a byte that is not wrong says
 
-was_true : (t : Bool) → not t ≡ false → t ≡ true
-was_true true h = refl
-was_true false h = cc
-
 after : (p q r a : ℕ) → wrong_at p q r a ≡ false → r ≡ backslash → may_follow a ≡ true
-after p q r a h e = go (eqb r 92) (eq-eqb _ _ e) (was_true _ h)
+after p q r a h e = go (eqb r 92) (eq-eqb _ _ e) (not-false _ h)
   where
     go : (t : Bool) → t ≡ true → cond t (may_follow a) (cond (eqb p 117 || (eqb q 92 && not (eqb r 117))) (eqb a 92) (is_some (hex_of a))) ≡ true
         → may_follow a ≡ true
@@ -27,7 +23,7 @@ after p q r a h e = go (eqb r 92) (eq-eqb _ _ e) (was_true _ h)
     go false e h = cc
 
 not_after : (p q r a : ℕ) → wrong_at p q r a ≡ false → r ≢ backslash → cond (eqb p 117 || (eqb q 92 && not (eqb r 117))) (eqb a 92) (is_some (hex_of a)) ≡ true
-not_after p q r a h n = go (eqb r 92) (ne_eqb _ _ n) (was_true _ h)
+not_after p q r a h n = go (eqb r 92) (ne_eqb _ _ n) (not-false _ h)
   where
     go : (t : Bool) → t ≡ false → cond t (may_follow a) (cond (eqb p 117 || (eqb q 92 && not (eqb r 117))) (eqb a 92) (is_some (hex_of a))) ≡ true
         → cond (eqb p 117 || (eqb q 92 && not (eqb r 117))) (eqb a 92) (is_some (hex_of a)) ≡ true

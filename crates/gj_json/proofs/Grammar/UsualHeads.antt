@@ -1,5 +1,6 @@
 -- A piece that starts with the known bytes of a member `geometry` around its type.
-use Rattle.std.proofs.Common.{◌≡◌, ℕ, ◌+◌, ◌-◌, ◌≤◌, ◌<◌, List, [], ◌∷◌, ◌++◌, codes, get_or, length, take, drop, take-add, refl, ap, subst, ◌∙◌, arith, append_assoc}
+use Rattle.std.proofs.Common.{◌≡◌, ℕ, ◌+◌, ◌-◌, ◌≤◌, ◌<◌, List, [], ◌∷◌, ◌++◌, codes, get_or, length, take, drop, take-add, refl, ap, subst, ◌∙◌}
+use Rattle.std.proofs.Common.{arith, append_assoc}
 use Rattle.std.proofs.lemmas.List.{length-append, length-take-le, take_more}
 use Rattle.std.specs.List.{AllByRecursion}
 use Rattle.gj_json.specs.Bytes.{IsWhite, open_brace, comma}

@@ -1,7 +1,7 @@
 -- The characters of several bytes are those whose first byte leads to the others.
-use Rattle.std.proofs.Common.{◌≡◌, ℕ, ◌+◌, ◌-◌, ◌*◌, ◌/◌, ◌%◌, zero, suc, ◌==◌, ◌⊎◌, ◌<◌, ◌≤◌, ◌≢◌, inl, inr, Bool, true, false, nat_le, ltb, if◌then◌else◌}
+use Rattle.std.proofs.Common.{◌≡◌, ℕ, ◌+◌, ◌-◌, ◌*◌, ◌/◌, ◌%◌, zero, suc, ◌==◌, ◌⊎◌, ◌<◌, ◌≤◌, ◌≢◌, inl, inr, Bool, true, false, nat_le, if◌then◌else◌}
 use Rattle.std.proofs.Common.{List, [], ◌∷◌, Option, Some, None, refl, sym, subst, arith}
-use Rattle.std.proofs.lemmas.Bool.{cases_lt}
+use Rattle.std.proofs.lemmas.Bool.{cases_lt, le-leb, lt-leb, lt-ltb, le-ltb}
 use Rattle.std.proofs.lemmas.Bool.Decides.{nat_tests}
 use lib.Utf8.{scalar, encode, next, scalar_cases, low_scalar}
 use Rattle.gj_json.specs.declared.mode.Bounds.{Bounds}
@@ -18,23 +18,11 @@ IsTail (suc more) bounds value c bytes =
 abbrev pub IsWide : ℕ → List ℕ → Type 0
 IsWide c bytes = (b : ℕ) × (rest : List ℕ) × (first : Lead) × (bytes ≡ b ∷ rest) × (lead_of b ≡ Some first) × IsTail first.more first.bounds first.value c rest
 
-le_yes : (a b : ℕ) → a ≤ b → nat_le a b ≡ true
-le_yes a b h = grind (arith, nat_tests)
-
-le_no : (a b : ℕ) → b < a → nat_le a b ≡ false
-le_no a b h = grind (arith, nat_tests)
-
-lt_yes : (a b : ℕ) → a < b → ltb a b ≡ true
-lt_yes a b h = grind (arith, nat_tests)
-
-lt_no : (a b : ℕ) → b ≤ a → ltb a b ≡ false
-lt_no a b h = grind (arith, nat_tests)
-
 -- ---- the first byte of a character
 
 pub lead_two : (b : ℕ) → 0xC1 < b → b ≤ 0xDF → lead_of b ≡ lead 0 Any (b - 0xC0)
 unfolding lead_of
-lead_two b l u = rw (le_no b 0xC1 l, le_yes b 0xDF u) refl
+lead_two b l u = rw (lt-leb b 0xC1 l, le-leb b 0xDF u) refl
 
 pub lead_e0 : (b : ℕ) → b ≡ 0xE0 → lead_of b ≡ lead 1 AfterE0 0
 unfolding lead_of
@@ -45,7 +33,7 @@ eq_no a b h = grind (arith, nat_tests)
 
 pub lead_low : (b : ℕ) → 0xE0 < b → b ≤ 0xEC → lead_of b ≡ lead 1 Any (b - 0xE0)
 unfolding lead_of
-lead_low b l u = rw (le_no b 0xC1 (omega arith), le_no b 0xDF (omega arith), eq_no b 0xE0 (λ e. omega arith), le_yes b 0xEC u) refl
+lead_low b l u = rw (lt-leb b 0xC1 (omega arith), lt-leb b 0xDF (omega arith), eq_no b 0xE0 (λ e. omega arith), le-leb b 0xEC u) refl
 
 pub lead_ed : (b : ℕ) → b ≡ 0xED → lead_of b ≡ lead 1 AfterED 13
 unfolding lead_of
@@ -54,13 +42,13 @@ lead_ed b e = rw e refl
 pub lead_high : (b : ℕ) → 0xED < b → b ≤ 0xEF → lead_of b ≡ lead 1 Any (b - 0xE0)
 unfolding lead_of
 lead_high b l u = rw (
-  le_no b 0xC1 (omega arith),
-  le_no b 0xDF (omega arith),
+  lt-leb b 0xC1 (omega arith),
+  lt-leb b 0xDF (omega arith),
   eq_no b 0xE0 (λ e. omega arith),
-  le_no b 0xEC (omega arith),
+  lt-leb b 0xEC (omega arith),
   eq_no b 0xED
       (λ e. omega arith),
-  le_yes b 0xEF u,
+  le-leb b 0xEF u,
 ) refl
 
 pub lead_f0 : (b : ℕ) → b ≡ 0xF0 → lead_of b ≡ lead 2 AfterF0 0
@@ -71,15 +59,15 @@ pub lead_four : (b : ℕ) → 0xF0 < b → b ≤ 0xF3 → lead_of b ≡ lead 2 A
 unfolding lead_of
 lead_four b l u =
     rw (
-      le_no b 0xC1 (omega arith),
-      le_no b 0xDF (omega arith),
+      lt-leb b 0xC1 (omega arith),
+      lt-leb b 0xDF (omega arith),
       eq_no b 0xE0 (λ e. omega arith),
-      le_no b 0xEC (omega arith),
+      lt-leb b 0xEC (omega arith),
       eq_no b 0xED
           (λ e. omega arith),
-      le_no b 0xEF (omega arith),
+      lt-leb b 0xEF (omega arith),
       eq_no b 0xF0 (λ e. omega arith),
-      le_yes b 0xF3 u,
+      le-leb b 0xF3 u,
     ) refl
 
 pub lead_f4 : (b : ℕ) → b ≡ 0xF4 → lead_of b ≡ lead 2 AfterF4 4
@@ -90,19 +78,19 @@ lead_f4 b e = rw e refl
 
 pub encode_one : (c : ℕ) → c < 128 → encode c ≡ c ∷ []
 unfolding encode
-encode_one c u = rw (lt_yes c 128 u) refl
+encode_one c u = rw (lt-ltb c 128 u) refl
 
 pub encode_two : (c : ℕ) → 128 ≤ c → c < 2048 → encode c ≡ (192 + c / 64) ∷ next c ∷ []
 unfolding encode
-encode_two c l u = rw (lt_no c 128 l, lt_yes c 2048 u) refl
+encode_two c l u = rw (le-ltb c 128 l, lt-ltb c 2048 u) refl
 
 pub encode_three : (c : ℕ) → 2048 ≤ c → c < 65536 → encode c ≡ (224 + c / 4096) ∷ next (c / 64) ∷ next c ∷ []
 unfolding encode
-encode_three c l u = rw (lt_no c 128 (omega arith), lt_no c 2048 l, lt_yes c 65536 u) refl
+encode_three c l u = rw (le-ltb c 128 (omega arith), le-ltb c 2048 l, lt-ltb c 65536 u) refl
 
 pub encode_four : (c : ℕ) → 65536 ≤ c → encode c ≡ (240 + c / 262144) ∷ next (c / 4096) ∷ next (c / 64) ∷ next c ∷ []
 unfolding encode
-encode_four c l = rw (lt_no c 128 (omega arith), lt_no c 2048 (omega arith), lt_no c 65536 l) refl
+encode_four c l = rw (le-ltb c 128 (omega arith), le-ltb c 2048 (omega arith), le-ltb c 65536 l) refl
 
 two : (c : ℕ) → 128 ≤ c → c < 2048 → IsWide c ((192 + c / 64) ∷ next c ∷ [])
 two c l u = (192 + c / 64, next c ∷ [], _, refl, lead_two (192 + c / 64) (omega arith) (omega arith), (next c, refl, omega arith, omega arith, omega arith))
@@ -210,7 +198,7 @@ by_bytes c bytes (s, l, e) = subst (IsWide c) (sym e) (elim (cases_lt c 2048) [
 -- ---- and back
 
 high_scalar : (c : ℕ) → 57344 ≤ c → c < 1114112 → scalar c ≡ true
-high_scalar c l u = rw (lt_no c 55296 (omega arith), le_yes 57344 c l, lt_yes c 1114112 u) refl
+high_scalar c l u = rw (le-ltb c 55296 (omega arith), le-leb 57344 c l, lt-ltb c 1114112 u) refl
 
 of_two : (b c : ℕ) (rest : List ℕ) → 0xC1 < b → b ≤ 0xDF → IsTail 0 Any (b - 0xC0) c rest → IsUtf8 c (b ∷ rest)
 of_two b c rest l u (x, e, m, w, v) =

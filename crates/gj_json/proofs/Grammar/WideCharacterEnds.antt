@@ -2,8 +2,8 @@
 use Rattle.std.proofs.Common.{◌≡◌, ◌≢◌, ℕ, zero, suc, ◌+◌, ◌-◌, ◌<◌, ◌≤◌, ◌⊎◌, Bool, true, false, not, ◌&&◌, ◌||◌, leb, ltb, eqb, List, [], ◌∷◌, ◌++◌, length}
 use Rattle.std.proofs.Common.{take, drop, get_or, inl, inr, refl, sym, ap, subst, ◌∙◌, arith}
 use Rattle.std.proofs.Math.Seq.{drop-cons}
-use Rattle.std.proofs.lemmas.Bool.{cases_lt}
-use Rattle.std.proofs.lemmas.Bool.Decides.{leb_tells, nat_tests}
+use Rattle.std.proofs.lemmas.Bool.{cases_lt, or_parts, or_right, lt-leb, le-leb}
+use Rattle.std.proofs.lemmas.Bool.Decides.{nat_tests}
 use Rattle.std.proofs.lemmas.List.{get_or-drop, length-drop}
 use Rattle.gj_json.specs.declared.mode.StringState.TheVariants.{Plain}
 use Rattle.gj_json.specs.Characters.{IsPlain}
@@ -14,10 +14,6 @@ use Rattle.gj_json.proofs.Pieces.QuietModes.{joined, reads_more}
 use Rattle.gj_json.proofs.Pieces.PieceRests.{rest_of}
 
 -- ---- one byte
-
-neither : (s t : Bool) → (s || t) ≡ false → (s ≡ false) × (t ≡ false)
-neither true t h = cc
-neither false t h = (refl, h)
 
 same : (g t : Bool) → (g && not t || not g && t) ≡ false → t ≡ g
 same true true h = refl
@@ -37,8 +33,8 @@ record Seen (p a b : ℕ) : Type 0 where
 
 seen : (p a b : ℕ) → ends_at p a b ≡ false → Seen p a b
 seen p a b h =
-    let u = neither (is_stop a || (goes_on p a && not (is_tail b) || not (goes_on p a) && is_tail b)) (is_narrow a b) h in
-    let v = neither (is_stop a) (goes_on p a && not (is_tail b) || not (goes_on p a) && is_tail b) u.0 in
+    let u = or_parts (is_stop a || (goes_on p a && not (is_tail b) || not (goes_on p a) && is_tail b)) (is_narrow a b) h in
+    let v = or_parts (is_stop a) (goes_on p a && not (is_tail b) || not (goes_on p a) && is_tail b) u.0 in
     record { stop = v.0; next = same (goes_on p a) (is_tail b) v.1; narrow = u.1 }
 
 record Bounded (a : ℕ) : Type 0 where
@@ -51,11 +47,11 @@ record Bounded (a : ℕ) : Type 0 where
 
 bounded : (a : ℕ) → is_stop a ≡ false → Bounded a
 bounded a h =
-    let u = neither (eqb a 34 || eqb a 92 || ltb a 32 || leb 0xF0 a || eqb a 0xC0) (eqb a 0xC1) h in
-    let v = neither (eqb a 34 || eqb a 92 || ltb a 32 || leb 0xF0 a) (eqb a 0xC0) u.0 in
-    let w = neither (eqb a 34 || eqb a 92 || ltb a 32) (leb 0xF0 a) v.0 in
-    let x = neither (eqb a 34 || eqb a 92) (ltb a 32) w.0 in
-    let y = neither (eqb a 34) (eqb a 92) x.0 in
+    let u = or_parts (eqb a 34 || eqb a 92 || ltb a 32 || leb 0xF0 a || eqb a 0xC0) (eqb a 0xC1) h in
+    let v = or_parts (eqb a 34 || eqb a 92 || ltb a 32 || leb 0xF0 a) (eqb a 0xC0) u.0 in
+    let w = or_parts (eqb a 34 || eqb a 92 || ltb a 32) (leb 0xF0 a) v.0 in
+    let x = or_parts (eqb a 34 || eqb a 92) (ltb a 32) w.0 in
+    let y = or_parts (eqb a 34) (eqb a 92) x.0 in
     record {
       quote = (let e = y.0 in grind (arith, nat_tests));
       backslash = (let e = y.1 in grind (arith, nat_tests));
@@ -75,25 +71,15 @@ no_tail b h = elim (cases_lt b 0x80)
     both : (b : ℕ) → 0x80 ≤ b → b ≤ 0xBF → is_tail b ≡ true
     both b l u = grind (arith, nat_tests)
 
-small : (n a : ℕ) → a < n → leb n a ≡ false
-small n a h = elim (leb_tells n a) [ inl k ↦ absurd (let m = k.1 in omega arith) | inr k ↦ k.0 ]
-
-large : (n a : ℕ) → n ≤ a → leb n a ≡ true
-large n a h = elim (leb_tells n a) [ inl k ↦ k.0 | inr k ↦ absurd (let m = k.1 in omega arith) ]
-
-or_true : (s t : Bool) → t ≡ true → (s || t) ≡ true
-or_true true t h = refl
-or_true false t h = h
-
 -- no byte of several goes on here, or one does
 done : (p a : ℕ) → p < 0xE0 → a < 0xC2 → goes_on p a ≡ false
-done p a h k = no_or (leb 0xC2 a) (leb 0xE0 p) (small 0xE0 p h) ∙ small 0xC2 a k
+done p a h k = no_or (leb 0xC2 a) (leb 0xE0 p) (lt-leb 0xE0 p h) ∙ lt-leb 0xC2 a k
 
 leads : (p a : ℕ) → p < 0xE0 → 0xC2 ≤ a → goes_on p a ≡ true
-leads p a h k = no_or (leb 0xC2 a) (leb 0xE0 p) (small 0xE0 p h) ∙ large 0xC2 a k
+leads p a h k = no_or (leb 0xC2 a) (leb 0xE0 p) (lt-leb 0xE0 p h) ∙ le-leb 0xC2 a k
 
 follows : (p a : ℕ) → 0xE0 ≤ p → goes_on p a ≡ true
-follows p a h = or_true (leb 0xC2 a) (leb 0xE0 p) (large 0xE0 p h)
+follows p a h = or_right (leb 0xC2 a) (leb 0xE0 p) (le-leb 0xE0 p h)
 
 -- ---- some bytes
 
@@ -138,7 +124,7 @@ two_more p a b n xs low high t more =
 
 -- what is known of the byte after some first bytes
 narrow_is : (a b : ℕ) → is_narrow a b ≡ false → (a ≡ 0xE0 → 0xA0 ≤ b) × (a ≡ 0xED → b ≤ 0x9F)
-narrow_is a b h = let u = neither (eqb a 0xE0 && ltb b 0xA0) (eqb a 0xED && leb 0xA0 b) h in (λ e. least e (rw e at u.0), λ e. most e (rw e at u.1))
+narrow_is a b h = let u = or_parts (eqb a 0xE0 && ltb b 0xA0) (eqb a 0xED && leb 0xA0 b) h in (λ e. least e (rw e at u.0), λ e. most e (rw e at u.1))
   where
     least : a ≡ 0xE0 → ltb b 0xA0 ≡ false → 0xA0 ≤ b
     least e h = grind (arith, nat_tests)

@@ -2,7 +2,7 @@
 use Rattle.std.proofs.Common.{◌≡◌, ℕ, ◌+◌, ◌-◌, ◌≤◌, List, [], ◌++◌, length, take, Option, Some, None, Result, Ok, Err, refl, sym, ap, subst, ◌∙◌, arith}
 use Rattle.std.proofs.Common.{append_assoc}
 use Rattle.std.specs.Prelude.{MatchResult}
-use Rattle.std.proofs.Math.Seq.{take-length, take-append-add}
+use Rattle.std.proofs.Math.Seq.{take-append-add}
 use Rattle.std.proofs.lemmas.List.{append-nil, length-take-le, take-append-le}
 use Rattle.gj_json.specs.declared.event.Event.{Event}
 use Rattle.gj_json.specs.declared.fault.JsonFault.{JsonFault}
@@ -34,9 +34,7 @@ use Rattle.gj_json.proofs.Paths.PathSteps.{outward, from_back}
 use Rattle.gj_json.proofs.Paths.EventTrails.{seen_trail}
 use Rattle.gj_json.proofs.Paths.PathsOfStates.{path_leads}
 use Rattle.gj_json.proofs.Grammar.NonemptyTokens.{whole_text}
-
-all_taken : (bytes : List ℕ) (n : ℕ) → n ≡ length bytes → take n bytes ≡ bytes
-all_taken bytes n e = rw e (take-length bytes)
+use Rattle.gj_json.proofs.Pieces.PieceRests.{take_all_of}
 
 -- ---- a piece
 
@@ -50,7 +48,7 @@ hears_to : (old new : Reader) (heard : List Event → Type 0) (events : List Eve
     → Hears heard events (length bytes) new.offset (take new.offset (bytes ++ given))
 hears_to old new heard events bytes given (Ok done) k live w =
     let n : new.offset ≡ length (bytes ++ given) = live_offset new (bytes ++ given) live k in
-    rw (all_taken (bytes ++ given) new.offset n, n) w
+    rw (take_all_of (bytes ++ given) new.offset n, n) w
 hears_to old new heard events bytes given (Err fault) k refused w = rw (sym (refused_offset new (bytes ++ given) fault refused k)) w
 
 trails_on : (old new : Locator) (bytes given : List ℕ) (events : List Event) → old.reader.offset ≡ length bytes → old.reader.offset ≤ new.reader.offset
@@ -70,7 +68,7 @@ trails_on old new bytes given events at on within before w = record { events = e
         let P : List ℕ → Type 0 = λ xs. IsText text (xs ++ rest) in
         let Q : List ℕ → Type 0 = λ xs. IsText text xs in
         let R : List ℕ → Type 0 = λ xs. IsText text (xs ++ (take more given ++ rest)) in
-        let g : take old.reader.offset bytes ≡ bytes = all_taken bytes old.reader.offset at in
+        let g : take old.reader.offset bytes ≡ bytes = take_all_of bytes old.reader.offset at in
         let u : IsText text (take old.reader.offset bytes ++ (take more given ++ rest)) =
         subst R (sym g) (subst Q (append_assoc bytes (take more given) rest) (subst P f t)) in
         let e : events_by (length bytes) text ≡ events = ap (λ xs. events_by (length xs) text) (sym g) ∙ before text (take more given ++ rest) u in
@@ -148,7 +146,7 @@ locator_leads locator bytes rest text h t = go locator.reader.fault refl
         (kept_steps (begins locator.reader.mode locator.reader.start locator.reader.offset) (inner_steps locator.trail)) []
     from taken more e w =
         let f : take locator.reader.offset bytes ≡ taken = ap (λ xs. take locator.reader.offset xs) e
-        ∙ take-append-le locator.reader.offset taken more (omega (arith, w.at)) ∙ all_taken taken locator.reader.offset w.at in
+        ∙ take-append-le locator.reader.offset taken more (omega (arith, w.at)) ∙ take_all_of taken locator.reader.offset w.at in
         let P : List ℕ → Type 0 = λ xs. Trails locator.trail xs in
         let Q : List ℕ → Type 0 = λ xs. IsText text (xs ++ rest) in
         well_leads locator.reader.limits locator.reader.mode
@@ -180,7 +178,7 @@ pub path_taken : (locator : Locator) (path : Path) → Keeps locator path
     → steps_of path ≡ path_at (length bytes) text
 path_taken locator path e bytes rest text h live t =
     let o : locator.reader.offset ≡ length bytes = live_offset locator.reader bytes live h.stands in
-    let f : bytes ≡ take locator.reader.offset bytes = sym (all_taken bytes locator.reader.offset o) in
+    let f : bytes ≡ take locator.reader.offset bytes = sym (take_all_of bytes locator.reader.offset o) in
     let u : IsText text (take locator.reader.offset bytes ++ rest) = subst (λ (xs : List ℕ). IsText text (xs ++ rest)) f t in
     path_told locator path e bytes rest text h u ∙ ap (λ n. path_at n text) o
 

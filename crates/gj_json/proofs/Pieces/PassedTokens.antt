@@ -43,7 +43,6 @@ use Rattle.gj_json.specs.Internal.WholeTokens.{bracket_of, names, may_begin, IsS
 use Rattle.gj_json.specs.Tree.{Tree, constant, string, depth}
 use Rattle.gj_json.specs.Internal.ToldEvents.{ending_event, event_at, opening_of, closing_of, is_on, in_number, text_state, NumberTurn}
 use Rattle.gj_json.specs.Internal.UnderWay.{nothing, under_leaf, under_of}
-use Rattle.gj_json.proofs.Grammar.CharacterPrefixes.{StringTo}
 use Rattle.gj_json.proofs.Grammar.ClassOfBytes.{class_is}
 use Rattle.gj_json.proofs.Machine.BytesUnderWay.{mode_under, mode_state}
 use Rattle.gj_json.proofs.Readers.CallsInTurn.{feeds_nothing, front_skipped, piece_all, rest_all}
@@ -58,7 +57,7 @@ use Rattle.gj_json.proofs.Pieces.PieceRests.{rest_of}
 use Rattle.gj_json.proofs.Pieces.QuietModes.{reads_more}
 use Rattle.gj_json.proofs.Grammar.SpelledTexts.{quote_on}
 use Rattle.gj_json.proofs.Events.EventTimes.{told}
-use Rattle.gj_json.proofs.Pieces.TakenTokens.{open_taken, end_closes, number_then, number_closed, IsNaming, is_naming}
+use Rattle.gj_json.proofs.Pieces.TakenTokens.{open_taken, end_closes, number_then, number_closed, IsNaming, is_naming, reads_to}
 use Rattle.gj_json.proofs.Machine.ReadValues.{InQuotes, a_string, a_name, text_leads, letters_lead}
 use Rattle.gj_json.proofs.Readers.Simulation.{levels_length}
 use Rattle.gj_number.specs.Grammar.{IsNumber}
@@ -110,16 +109,12 @@ module _ (limits : Allowed) (levels : List Level) (start : ℕ) where
 
 -- ---- values
 
-string_to : (bytes cs : List ℕ) (first last : StringState) → Reads first bytes cs last → StringTo first cs bytes last
-string_to [] cs first last h = (h.1, h.0)
-string_to (b ∷ bytes) cs first last h = (h.1, h.0, h.2, h.3, h.4, string_to bytes h.2 h.0 last h.5)
-
 -- a string or a name under way, up to its closing quote
 quoted_leads : {on : List ℕ → StringState → Leaf} {over : List ℕ → ℕ → Leaf} (stack : List Frame) → InQuotes stack on over → (run content : List ℕ) (n : ℕ)
     → Reads plain run content plain
     → Leads (at stack (on [] plain)) n (run ++ quote_byte ∷ []) (at stack (over content (n + length run + 1)))
 quoted_leads {on} {over} stack q run content n h =
-    leads_on run (quote_byte ∷ []) refl (text_leads stack q run [] content plain plain n (string_to run content plain plain h))
+    leads_on run (quote_byte ∷ []) refl (text_leads stack q run [] content plain plain n (reads_to plain plain run content h))
     (leads_byte (q.ends content plain (n + length run) quote_byte (quote_on quote_byte refl))
     (leads_none (at stack (over content (n + length run + 1))) (n + length run + 1)))
 
@@ -494,7 +489,7 @@ pub closed_floor : (floor : ℕ) (levels : List Level) → floor < length levels
 closed_floor floor levels w = omega (arith, outer_length levels (omega arith))
 
 -- where a value is awaited, one may begin
-may_begin_due : (mode : Mode) → awaits mode ≡ true → may_begin mode ≡ true
+pub may_begin_due : (mode : Mode) → awaits mode ≡ true → may_begin mode ≡ true
 may_begin_due ValueDue w = refl
 may_begin_due ArrayOpened w = refl
 may_begin_due _ w = cc

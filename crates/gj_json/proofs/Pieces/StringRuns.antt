@@ -1,6 +1,6 @@
 -- Where a run of characters goes on: after bytes that some byte of a character may follow.
 use Rattle.std.proofs.Common.{◌≡◌, ℕ, zero, suc, ◌==◌, ◌+◌, ◌≤◌, Bool, true, false, inl, inr, List, [], ◌∷◌, ◌++◌, length, take, slice_index, Option, Some}
-use Rattle.std.proofs.Common.{None, is_some, refl, subst, ◌∙◌, arith}
+use Rattle.std.proofs.Common.{None, refl, subst, ◌∙◌, arith}
 use Rattle.std.specs.List.{AllByRecursion}
 use Rattle.std.specs.Str.{IsUtf8}
 use Rattle.std.proofs.lemmas.List.{length-append}
@@ -176,10 +176,6 @@ module _ (reader : Reader) (bytes : List ℕ) (live : reader.fault ≡ None) (h 
       none_viable (bytes ++ character_byte ∷ []) (run-push bytes character_byte f.0 f.1 ∙ f.2)
 
 -- ---- the characters that are passed over
-
-pub live_of : {A : Type 0} (fault : Option A) → is_some fault ≡ false → fault ≡ None
-live_of None e = refl
-live_of (Some x) e = cc
 
 pub run_skips : (old mid new : Reader) (given : List ℕ) (count : ℕ) (mode : Mode) → old.mode ≡ mode → is_between mode ≡ true → length given ≡ count
     → Alike mid old → Passed count mode mid new → (utf8 : IsUtf8 given) → AllByRecursion IsUnescaped given

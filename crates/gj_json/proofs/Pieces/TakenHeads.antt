@@ -1,5 +1,6 @@
 -- The beginnings of objects, taken at once: the tokens that they are, one after another.
-use Rattle.std.proofs.Common.{◌≡◌, ℕ, ◌+◌, ◌≤◌, ◌<◌, true, List, [], ◌∷◌, ◌++◌, codes, length, take, take-add, drop, None, refl, sym, ap, subst, ◌∙◌, arith, append_assoc}
+use Rattle.std.proofs.Common.{◌≡◌, ℕ, ◌+◌, ◌≤◌, ◌<◌, true, List, [], ◌∷◌, ◌++◌, codes, length, take, take-add, drop, None, refl, sym, ap, subst, ◌∙◌}
+use Rattle.std.proofs.Common.{arith, append_assoc}
 use Rattle.std.proofs.lemmas.List.{length-append, length-take-le}
 use Rattle.std.specs.List.{AllByRecursion}
 use Rattle.gj_json.specs.Bytes.{IsWhite, open_brace, close_brace, comma, colon}
@@ -10,7 +11,7 @@ use Rattle.gj_json.specs.declared.levels.Level.{Level}
 use Rattle.gj_json.specs.declared.levels.Level.TheVariants.{Array, Object}
 use Rattle.gj_json.specs.declared.mode.Ending.{Ending}
 use Rattle.gj_json.specs.declared.mode.Mode.{Mode}
-use Rattle.gj_json.specs.declared.mode.Mode.TheVariants.{ValueDue, ValueDone, ArrayOpened, NameDue, ColonDue}
+use Rattle.gj_json.specs.declared.mode.Mode.TheVariants.{ValueDue, ValueDone, NameDue, ColonDue}
 use Rattle.gj_json.specs.declared.names.Known.TheVariants.{TypeName, Geometry, Coordinates}
 use Rattle.gj_json.specs.declared.names.Word.{Word}
 use Rattle.gj_json.specs.declared.reader.Reader.{Reader}
@@ -35,6 +36,7 @@ use Rattle.gj_json.proofs.Pieces.QuietModes.{quiet_leads}
 use Rattle.gj_json.proofs.Pieces.QuietRuns.{quiet_run}
 use Rattle.gj_json.proofs.Pieces.TakenFlats.{all_quiet, value_well}
 use Rattle.gj_json.proofs.Pieces.TakenTokens.{Moved, lands_feeds, done_go, done_close, string_leads, name_well, open_well}
+use Rattle.gj_json.proofs.Pieces.PassedTokens.{may_begin_due}
 
 -- ---- bytes that lead from one mode to another, wherever they stand, and what is complete behind them
 
@@ -195,11 +197,6 @@ module _ (limits : Allowed) where
 
 -- ---- from reader to reader
 
-begins_of : (mode : Mode) → awaits mode ≡ true → may_begin mode ≡ true
-begins_of ValueDue e = refl
-begins_of ArrayOpened e = refl
-begins_of _ e = cc
-
 pub typed_taken : {before after : List Event → Type 0} (old new : Reader) (piece : List ℕ) (count word_at : ℕ) (word : Word) → old.fault ≡ None
     → awaits old.mode ≡ true → old.offset + length piece ≤ old.limits.bytes → count ≤ length piece → length (levels_in old.levels) < old.limits.depth
     → IsTyped piece count word_at word → Lands count NameDue (Object ∷ levels_in old.levels) old new
@@ -210,7 +207,7 @@ typed_taken {before} {after} old new piece count word_at word live due room w de
     let levels = levels_in old.levels in
     let long : length (take count piece) ≡ count = length-take-le count piece w in
     let carries =
-    typed_carries old.limits old.mode levels 0 word_at word h.gap (take count piece) (begins_of old.mode due) (omega (arith, deep)) h.white h.begins in
+    typed_carries old.limits old.mode levels 0 word_at word h.gap (take count piece) (may_begin_due old.mode due) (omega (arith, deep)) h.white h.begins in
     let e : old.offset + word_at ≡ old.offset + 1 + length (named (codes "type") h.gap) = omega (arith, h.begins.word_place) in
     let P : ℕ → Type 0 = λ n. Lands n NameDue (Object ∷ levels) old new in
     let Q : ℕ → Type 0 = λ n. (events : List Event) → before events

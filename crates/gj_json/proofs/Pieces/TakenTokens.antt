@@ -266,7 +266,7 @@ end_closes {before} {after} old new piece level some live done room e p heard =
 
 -- ---- a string, a name, a literal name
 
-reads_to : (state last : StringState) (bytes characters : List ℕ) → Reads state bytes characters last → StringTo state characters bytes last
+pub reads_to : (state last : StringState) (bytes characters : List ℕ) → Reads state bytes characters last → StringTo state characters bytes last
 reads_to state last [] characters h = (h.1, h.0)
 reads_to state last (b ∷ bytes) characters h = (h.1, h.0, h.2, h.3, h.4, reads_to h.0 last bytes h.2 h.5)
 
@@ -416,7 +416,8 @@ module _ (limits : Allowed) (levels : List Level) (start : ℕ) where
       ∙ sym (append_assoc (mark_events marked) (stack_timed stack ++ (opening ∷ done_members done)) last) in
       rw e (ap told g ∙ map-append (λ (x : Timed). x.event) (mark_events marked ++ (stack_timed stack ++ (opening ∷ done_members done))) last)
 
-  pub name_well : (mode : Mode) (offset : ℕ) (bytes : List ℕ) (k : StandsWell limits mode levels start offset bytes) → names mode ≡ true → (content given : List ℕ)
+  pub name_well : (mode : Mode) (offset : ℕ) (bytes : List ℕ) (k : StandsWell limits mode levels start offset bytes) → names mode ≡ true
+      → (content given : List ℕ)
       → IsQuoted content given → offset + length given ≤ limits.bytes
       → Moved limits ColonDue levels offset (offset + length given) bytes given (event_at offset (What.Name (known_of content)) ∷ [])
   name_well mode offset bytes k w content given q room =
@@ -480,7 +481,8 @@ fits_in : (d : ℕ) (mode : Mode) (levels : List Level) (o : Option Broken) {A :
 fits_in d mode levels None a g = g
 fits_in d mode levels (Some s) a g = (g.0, g.1 a)
 
-pub open_well : (limits : Allowed) (levels : List Level) (start : ℕ) (mode : Mode) (offset : ℕ) (bytes : List ℕ) → StandsWell limits mode levels start offset bytes
+pub open_well : (limits : Allowed) (levels : List Level) (start : ℕ) (mode : Mode) (offset : ℕ) (bytes : List ℕ)
+    → StandsWell limits mode levels start offset bytes
     → may_begin mode ≡ true → (level : Level) → offset < limits.bytes → length levels + 1 ≤ limits.depth
     → Moved limits (opened level) (level ∷ levels) offset (offset + 1) bytes (bracket_of level ∷ []) (event_at offset (opening_of level) ∷ [])
 open_well limits levels start mode offset bytes k w level room deep =

@@ -1,5 +1,6 @@
 -- What the literal that is kept says of the number under way.
 use Rattle.std.proofs.Common.{◌≡◌, ℕ, true, false, List, [], ◌∷◌, ◌++◌, Option, Some, None, refl, sym, ◌∙◌}
+use Rattle.std.proofs.lemmas.Bool.{false_from_ne_true}
 use Rattle.gj_number.specs.Exact.{Exact}
 use Rattle.gj_number.specs.Grammar.{IsNumber}
 use Rattle.gj_number.specs.Value.{value_of}
@@ -17,13 +18,16 @@ use Rattle.gj_json.specs.Internal.KeptContent.{words_in}
 use Rattle.gj_json.specs.Internal.ContentWords.{Words, words_of}
 use Rattle.gj_json.proofs.Machine.BytesUnderWay.{has_number, state_under}
 use Rattle.gj_json.proofs.Readers.ContentLetters.{holds_words}
-use Rattle.gj_json.proofs.Grammar.NumberPrefixes.{is_false}
 
 turn_is : (xs : List ℕ) (b : ℕ) (turn : NumberTurn) → TurnSays turn xs b → turn ≡ turn_of (begins_number (xs ++ b ∷ [])) (is_number xs)
 turn_is xs b Goes h = rw ((begins (xs ++ b ∷ [])).1 h) refl
-turn_is xs b Ends h = rw (is_false (begins_number (xs ++ b ∷ [])) (λ e. h.0 ((begins (xs ++ b ∷ [])).0 e)), (decided_number xs).1 h.1) refl
+turn_is xs b Ends h = rw (false_from_ne_true (begins_number (xs ++ b ∷ [])) (λ e. h.0 ((begins (xs ++ b ∷ [])).0 e)), (decided_number xs).1 h.1) refl
 turn_is xs b Refuses h =
-    rw (is_false (begins_number (xs ++ b ∷ [])) (λ e. h.0 ((begins (xs ++ b ∷ [])).0 e)), is_false (is_number xs) (λ e. h.1 ((decided_number xs).0 e))) refl
+    rw (
+      false_from_ne_true (begins_number (xs ++ b ∷ [])) (λ e. h.0 ((begins (xs ++ b ∷ [])).0 e)),
+      false_from_ne_true (is_number xs)
+          (λ e. h.1 ((decided_number xs).0 e)),
+    ) refl
 
 ended : (bytes : List ℕ) (b : ℕ) (turn : NumberTurn) → TurnSays turn bytes b → turn ≡ Ends → IsNumber bytes
 ended bytes b Goes h e = cc

@@ -1,8 +1,7 @@
 -- The prefix of a piece that a literal takes, run by run and byte by byte.
-use Rattle.std.proofs.Common.{◌≡◌, ℕ, ◌+◌, ◌-◌, ◌<◌, ◌≤◌, Some, List, [], ◌∷◌, ◌++◌, take, drop, get_or, length, sym, ◌∙◌, ap, subst, arith, append_assoc}
-use Rattle.std.proofs.Common.{length-drop}
+use Rattle.std.proofs.Common.{◌≡◌, ℕ, ◌+◌, ◌-◌, ◌<◌, Some, List, [], ◌∷◌, ◌++◌, take, drop, get_or, length, sym, ◌∙◌, ap, subst, append_assoc}
 use Rattle.std.proofs.Math.Seq.{take-add}
-use Rattle.std.proofs.lemmas.List.{take_more}
+use Rattle.std.proofs.lemmas.List.{take_more, take_rest}
 use Rattle.gj_number.specs.Grammar.{BeginsNumber}
 use Rattle.gj_number.specs.Literal.{StandsFor}
 use Rattle.gj_number.specs.declared.literal.Literal.{Literal}
@@ -11,7 +10,7 @@ use Rattle.gj_number.specs.Internal.NumberMachine.{class_of, next_of, Scan, star
 use Rattle.gj_number.specs.declared.state.Class.TheVariants.{Other}
 use Rattle.gj_number.specs.declared.state.State.{State}
 use Rattle.gj_number.proofs.Grammar.StateMoves.{other_ends}
-use Rattle.gj_number.proofs.Shorts.PiecePrefixes.{first_is, rest_is}
+use Rattle.gj_number.proofs.Shorts.PiecePrefixes.{first_is}
 use Rattle.gj_number.proofs.Grammar.ScanPaths.{reaches_one}
 use Rattle.gj_number.proofs.Literals.LiteralBytes.{begins, begins_none}
 
@@ -54,7 +53,4 @@ pub run_stands : (bytes piece : List ℕ) (i n : ℕ) (mid new : Literal)
 run_stands bytes piece i n mid new run h =
     let P : List ℕ → Type 0 = λ xs. StandsFor new xs in
     let Q : List ℕ → Type 0 = λ xs. StandsFor new ((bytes ++ take i piece) ++ take n xs) in
-    subst P (run_more bytes piece i n) (subst Q (rest_is piece i) (run (bytes ++ take i piece) h))
-
-pub run_within : (piece : List ℕ) (i n : ℕ) → i ≤ length piece → n ≤ length (take (length piece - i) (drop i piece)) → i + n ≤ length piece
-run_within piece i n l h = omega (arith, ap length (rest_is piece i), length-drop i piece)
+    subst P (run_more bytes piece i n) (subst Q (take_rest piece i) (run (bytes ++ take i piece) h))

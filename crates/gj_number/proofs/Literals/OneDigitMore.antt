@@ -7,16 +7,13 @@ use Rattle.std.proofs.Math.Numerals.{add-one}
 use Rattle.gj_number.specs.Internal.KeptParts.{IsFar, HasNoDigit, HasDigits, IsKept, AddsOne}
 use Rattle.gj_number.proofs.Value.NormalForm.{ten_above_zero}
 use Rattle.gj_number.proofs.Value.UnheldNumbers.{ends_here, thirty, zero_more, far_natural, far_fraction}
+use Rattle.gj_number.proofs.Literals.DigitBounds.{digit_below}
 
 -- ---- a digit that is no zero
 
 -- the least number of so many digits and pending
 pub at_least : (kept count pending : ℕ) → 10 ^ count ≤ 10 * kept → 10 ^ (count + pending) ≤ 10 * (kept * 10 ^ pending)
 at_least kept count pending h = let g = mul-le-mul_right (10 ^ pending) h in rw (pow-add 10 count pending) (omega arith)
-
-at_most : (kept count pending digit : ℕ) → kept < 10 ^ count → digit < 10 ^ pending → kept * 10 ^ pending + digit < 10 ^ (count + pending)
-at_most kept count pending digit h k =
-    let step : kept + 1 ≤ 10 ^ count = omega arith in let g = mul-le-mul_right (10 ^ pending) step in rw (pow-add 10 count pending) (omega arith)
 
 pub digits_on : (kept count pending places whole fraction digit : ℕ) → 0 < digit → digit < 10 → count + pending < 30
     → HasDigits kept count pending places whole fraction → fraction ≡ places
@@ -26,7 +23,7 @@ digits_on kept count pending places whole fraction digit h k few d e places' p =
     let power : 10 ^ (pending + 1) ≡ 10 ^ pending * 10 = rw (add-one) (pow-suc 10 pending) in
     let above = ten_above_zero pending in
     let least = at_least kept count (pending + 1) d.least in
-    let most = at_most kept count (pending + 1) digit d.below (omega arith) in
+    let most = digit_below kept count (pending + 1) digit d.below (omega arith) in
     let same : count + (pending + 1) ≡ count + pending + 1 = omega arith in
     let is : whole ≡ kept * 10 ^ pending = rw tens_is at d.whole_is in
     let scaled : kept * 10 ^ (pending + 1) ≡ kept * 10 ^ pending * 10 = rw power (omega arith) in

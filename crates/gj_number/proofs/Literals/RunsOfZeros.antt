@@ -2,13 +2,13 @@
 use Rattle.std.proofs.Common.{◌≡◌, ℕ, ◌+◌, ◌-◌, ◌*◌, ◌≤◌, List, [], ◌∷◌, length, take, drop, All, fold, refl, sym, ◌∙◌, ap, subst, arith}
 use Rattle.std.specs.List.{AllByRecursion}
 use Rattle.std.proofs.lemmas.List.Elements.{recursion_from_All}
+use Rattle.std.proofs.lemmas.List.{take_rest}
 use Rattle.gj_number.specs.Bytes.{IsDigit}
 use Rattle.gj_number.specs.Internal.DigitRuns.{SpellsOn}
 use Rattle.gj_number.specs.Internal.KeptParts.{IsKept}
 use Rattle.gj_number.specs.Value.{with_digit}
 use Rattle.gj_number.proofs.Literals.OneDigitMore.{zero_fraction}
 use Rattle.gj_number.proofs.Literals.RunsOfDigits.{parts_fold, parts_digits}
-use Rattle.gj_number.proofs.Shorts.PiecePrefixes.{rest_is}
 use Rattle.gj_number.proofs.Shorts.RunEnds.{fold_grows}
 
 -- sixteen zeros more
@@ -19,9 +19,9 @@ zeros_on piece at count value s many none digits zeros =
     let Q : ℕ → Type 0 = λ n. All IsDigit (take (at + n) piece) in
     let R : ℕ → Type 0 = λ n. fold with_digit 0 (take (at + n) piece) ≡ 0 in
     let front : fold with_digit (fold with_digit 0 (take at piece)) (take count (drop at piece)) ≡ 0 =
-    ap (λ w. fold with_digit w (take count (drop at piece))) zeros ∙ ap (λ xs. fold with_digit 0 (take count xs)) (sym (rest_is piece at)) ∙ sym s.value_is
+    ap (λ w. fold with_digit w (take count (drop at piece))) zeros ∙ ap (λ xs. fold with_digit 0 (take count xs)) (sym (take_rest piece at)) ∙ sym s.value_is
     ∙ none in
-    (subst Q many (parts_digits piece at count digits (subst P (rest_is piece at) s.digits)), subst R many (sym (parts_fold piece at count 0) ∙ front))
+    (subst Q many (parts_digits piece at count digits (subst P (take_rest piece at) s.digits)), subst R many (sym (parts_fold piece at count 0) ∙ front))
 
 -- zeros past the places that are counted
 pub passed_zeros : (kept count pending places whole fraction total : ℕ) (zeros : List ℕ) → 1400 ≤ places → total ≡ fraction + length zeros → All IsDigit zeros

@@ -3,13 +3,12 @@ use Rattle.std.proofs.Common.{◌≡◌, ℕ, ◌+◌, ◌-◌, ◌^◌, ◌<◌
 use Rattle.std.proofs.Common.{subst, arith, length-drop}
 use mir.Val.{bool_byte}
 use Rattle.std.proofs.lemmas.Bool.Decides.{nat_tests}
-use Rattle.std.proofs.lemmas.List.{get_or-drop}
+use Rattle.std.proofs.lemmas.List.{get_or-drop, take_rest}
 use Rattle.gj_number.specs.Bytes.{comma, space, close_bracket}
 use Rattle.gj_number.specs.Internal.MovedPoint.{SpellsPlain}
 use Rattle.gj_number.specs.Internal.NumberMachine.{class_of}
 use Rattle.gj_number.specs.declared.state.Class.TheVariants.{Other}
 use Rattle.gj_number.specs.Short.{short_value, StartsWithNumber, StartsWithPair}
-use Rattle.gj_number.proofs.Shorts.PiecePrefixes.{rest_is}
 use Rattle.gj_number.proofs.Shorts.WrittenExponents.{plain_front}
 
 comma_other : class_of comma ≡ Other
@@ -32,7 +31,7 @@ module _ (piece : List ℕ) (negative minus : Bool) (digits places length_one mo
       → more_digits < 10 ^ 18 → more_places ≤ 18 → get_or (take (length piece - at) (drop at piece)) length_other 0 ≡ close_bracket
       → StartsWithPair piece (short_value negative digits places) (short_value minus more_digits more_places) length_one at (at + length_other)
   pair_front one small few within ends at_is room other more_small more_few closes =
-      let rest : take (length piece - at) (drop at piece) ≡ drop at piece = rest_is piece at in
+      let rest : take (length piece - at) (drop at piece) ≡ drop at piece = take_rest piece at in
       let P : List ℕ → Type 0 = λ xs. SpellsPlain xs minus more_digits more_places length_other in
       let closing : get_or (drop at piece) length_other 0 ≡ close_bracket = ap (λ xs. get_or xs length_other 0) (sym rest) ∙ closes in
       let back : length_other ≡ at + length_other - at = omega arith in

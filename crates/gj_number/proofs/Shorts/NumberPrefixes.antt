@@ -6,7 +6,7 @@ use Rattle.std.proofs.Math.Numerals.{add-one}
 use Rattle.std.proofs.Math.Seq.{take-add}
 use mir.Val.{bool_byte}
 use Rattle.std.proofs.lemmas.Bool.Decides.{eqb_tells, nat_tests}
-use Rattle.std.proofs.lemmas.List.{take_more, length-take, length-take-le, get_or-drop, drop-drop}
+use Rattle.std.proofs.lemmas.List.{take_more, length-take, length-take-le, get_or-drop, drop-drop, take_rest}
 use Rattle.std.proofs.lemmas.List.Elements.{recursion_from_All, All-append}
 use Rattle.std.proofs.lemmas.List.Sums.{fold-append}
 use Rattle.gj_number.specs.Bytes.{decimal_point, minus_sign, zero_digit, IsDigit}
@@ -16,7 +16,6 @@ use Rattle.gj_number.specs.Denotation.{SpellsSign}
 use Rattle.gj_number.specs.Internal.MovedPoint.{SpellsPlain}
 use Rattle.gj_number.specs.Internal.DigitRuns.{SpellsOn, SpellsUnsigned}
 use Rattle.gj_number.proofs.Literals.DigitBounds.{scaled_below}
-use Rattle.gj_number.proofs.Shorts.PiecePrefixes.{rest_is}
 use Rattle.gj_number.proofs.Value.NormalForm.{ten_above_zero, number_bounded}
 
 -- ---- a digit more
@@ -124,7 +123,7 @@ sign_at piece true e some = sign_is piece some (grind (arith, nat_tests))
 -- the slice after a place
 pub spells_rest : (piece : List ℕ) (i before count value : ℕ) → SpellsOn (take (length piece - i) (drop i piece)) before count value
     → SpellsOn (drop i piece) before count value
-spells_rest piece i before count value h = let P : List ℕ → Type 0 = λ xs. SpellsOn xs before count value in subst P (rest_is piece i) h
+spells_rest piece i before count value h = let P : List ℕ → Type 0 = λ xs. SpellsOn xs before count value in subst P (take_rest piece i) h
 
 -- so many digits spell a number below that power of ten
 pub below_power : (piece : List ℕ) (count value : ℕ) → SpellsOn piece 0 count value → value < 10 ^ count
@@ -144,7 +143,7 @@ pub first_some : (piece : List ℕ) (first n : ℕ) → (IsDigit (get_or (take (
 first_some piece first zero ends h =
     let z : first + 0 ≡ first = omega arith in
     let e : get_or (take (length piece - first) (drop first piece)) 0 0 ≡ get_or piece first 0 =
-    ap (λ xs. get_or xs 0 0) (rest_is piece first) ∙ get_or-drop first piece 0 0 ∙ ap (λ k. get_or piece k 0) z in
+    ap (λ xs. get_or xs 0 0) (take_rest piece first) ∙ get_or-drop first piece 0 0 ∙ ap (λ k. get_or piece k 0) z in
     let P : ℕ → Type 0 = λ b. IsDigit b in
     absurd (ends (subst P (sym e) (h refl)))
 first_some piece first (suc n) ends h = omega arith

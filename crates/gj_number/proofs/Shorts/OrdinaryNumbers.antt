@@ -3,7 +3,7 @@ use Rattle.std.proofs.Common.{suc, ◌≡◌, ℕ, ◌+◌, ◌-◌, ◌<◌, �
 use Rattle.std.proofs.Common.{refl, sym, ◌∙◌, ap, subst, arith, append_assoc, length-append}
 use Rattle.std.proofs.Math.Seq.{drop-append_seam, take-append_seam, drop-cons}
 use Rattle.std.proofs.lemmas.Bool.Decides.{nat_tests}
-use Rattle.std.proofs.lemmas.List.{get_or-append-add, take-append-drop, drop-drop, get_or-drop, length-take-le}
+use Rattle.std.proofs.lemmas.List.{get_or-append-add, take-append-drop, drop-drop, get_or-drop, length-take-le, take_rest}
 use Rattle.std.proofs.lemmas.List.Elements.{All-from_recursion}
 use mir.Val.{bool_byte}
 use Rattle.gj_number.specs.Bytes.{minus_sign, decimal_point, zero_digit, IsDigit, IsNumberByte}
@@ -11,7 +11,6 @@ use Rattle.gj_number.specs.Grammar.{IsNatural, IsDigits}
 use Rattle.gj_number.specs.Denotation.{SpellsSign, SpellsFraction}
 use Rattle.gj_number.specs.Short.{StartsOrdinary, StartsUsual}
 use Rattle.gj_number.specs.Internal.DigitRuns.{IsRun, IsPointed, StartsSigned}
-use Rattle.gj_number.proofs.Shorts.PiecePrefixes.{rest_is}
 use Rattle.gj_number.proofs.Grammar.FoundParts.{natural_digits, all_digits}
 
 -- the digits before the point from `first` on, those after it, and the byte after the number
@@ -164,7 +163,7 @@ pointed piece negative n behind s u =
     }
 
 pub run_rest : (piece : List ℕ) (i count : ℕ) → IsRun (drop i piece) count → IsRun (take (length piece - i) (drop i piece)) count
-run_rest piece i count h = rw (rest_is piece i) h
+run_rest piece i count h = rw (take_rest piece i) h
 
 -- so many digits are found, and then these bytes
 module _ (piece : List ℕ) (first natural fraction : ℕ) (l : IsLaid piece first natural fraction) (n : ℕ) (e : n ≡ natural) where

@@ -3,7 +3,7 @@ use Rattle.std.proofs.Common.{◌≡◌, ◌++◌, ◌∷◌, [], fold, not, rep
 use Rattle.std.proofs.Common.{map, take, drop, get_or, leb, All, Fits, refl, sym, ap, ◌∙◌, subst, arith, length-drop, w8}
 use lib.Lanes.{Each1, mask_l}
 use lib.Count.{count_trailing_zeros}
-use Rattle.std.proofs.lemmas.List.{get_or-drop, drop-append-le, length-append}
+use Rattle.std.proofs.lemmas.List.{get_or-drop, drop-append-le, length-append, take_rest}
 use Rattle.std.proofs.lemmas.Bool.{cases_lt}
 use Rattle.std.proofs.lemmas.List.Sums.{prefix_len-le-length}
 use Rattle.std.proofs.lemmas.Simd.{trailing_mask_l}
@@ -14,7 +14,6 @@ use Rattle.gj_number.specs.Short.{StartsUsual}
 use Rattle.gj_number.specs.Internal.DigitLanes.{lane_of, with_value, leading}
 use Rattle.gj_number.specs.Internal.DigitRuns.{IsPointed, StartsSigned, SpellsUnsigned}
 use Rattle.gj_number.proofs.Shorts.RunEnds.{digit_at, run_found}
-use Rattle.gj_number.proofs.Shorts.PiecePrefixes.{rest_is}
 use Rattle.gj_number.proofs.Shorts.OrdinaryNumbers.{laid, laid_length, natural_allowed, pointed}
 use Rattle.gj_number.proofs.Shorts.SixteenLanes.{lanes_long, leading_le, lane_ends, lanes_end, first_spell, mask_after, leading_ended, ended_some, next_small}
 use Rattle.gj_number.proofs.Shorts.SixteenLanes.{two_moved_small, two_spell}
@@ -117,7 +116,7 @@ module _ (piece : List ℕ) (negative : Bool) (n behind : ℕ) (s : StartsSigned
   pub slice_pointed : IsPointed slice (length u.number.ordinary.natural) (length u.number.ordinary.fraction)
   slice_pointed = let P : List ℕ
       → Type 0 = λ xs. IsPointed xs (length u.number.ordinary.natural) (length u.number.ordinary.fraction) in
-      subst P (sym (rest_is piece (bool_byte negative))) (pointed piece negative n behind s u)
+      subst P (sym (take_rest piece (bool_byte negative))) (pointed piece negative n behind s u)
 
   module _ (natural fraction bytes value : ℕ) (k : SpellsUnsigned slice natural fraction bytes value) (point : IsDigit (get_or slice natural 0) → ⊥)
       (ends : natural + 1 + fraction < 16 → IsDigit (get_or slice (natural + 1 + fraction) 0) → ⊥) (few : natural + 1 + fraction ≤ 16)

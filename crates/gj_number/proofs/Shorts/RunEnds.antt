@@ -1,11 +1,10 @@
 -- A run of digits is found by its end.
 use Rattle.std.proofs.Common.{◌≡◌, ℕ, ◌+◌, ◌-◌, ◌∙◌, ap, ◌<◌, ◌≤◌, List, [], ◌∷◌, length, take, drop, get_or, All, fold, inl, inr, subst, arith, length-drop}
 use Rattle.std.proofs.lemmas.Bool.{cases_lt}
-use Rattle.std.proofs.lemmas.List.{get_or-take, get_or-drop, drop-take, length-take-le}
+use Rattle.std.proofs.lemmas.List.{get_or-take, get_or-drop, drop-take, length-take-le, take_rest}
 use Rattle.std.proofs.lemmas.List.Elements.{All-get_or, All-drop}
 use Rattle.gj_number.specs.Bytes.{IsDigit}
 use Rattle.gj_number.specs.Internal.DigitRuns.{IsRun}
-use Rattle.gj_number.proofs.Shorts.PiecePrefixes.{rest_is}
 use Rattle.gj_number.specs.Value.{with_digit}
 
 pub digit_at : (xs : List ℕ) (n i : ℕ) → i < n → n ≤ length xs → All IsDigit (take n xs) → IsDigit (get_or xs i 0)
@@ -30,7 +29,7 @@ rest_of_run xs i k le r =
     let split : k ≡ i + (k - i) = omega arith in
     let P : ℕ → Type 0 = λ n. All IsDigit (drop i (take n xs)) in
     let Q : List ℕ → Type 0 = λ ys. All IsDigit ys in
-    rw (rest_is xs i) (record {
+    rw (take_rest xs i) (record {
       within = omega (arith, length-drop i xs);
       digits = subst Q (drop-take i (k - i) xs) (subst P split (All-drop IsDigit i (take k xs) r.digits));
       ends = λ d. r.ends (rw (← at) d);

@@ -11,7 +11,8 @@ use Rattle.std.proofs.Math.Numerals.{one-add}
 use Rattle.std.proofs.lemmas.Bool.Decides.{leb_tells}
 use Rattle.std.proofs.Math.Nat.{div-one, zero-div, pow-suc, div-div-eq-div-mul}
 use Rattle.std.proofs.Math.Seq.{take-append-add}
-use Rattle.std.proofs.lemmas.List.{take-map, take-take, length-take-le, length-map, get_or-map, get_or-take, get_or-drop, drop-map, drop-take, map-append}
+use Rattle.std.proofs.lemmas.List.{take-map, take-take, length-take-le, length-map, get_or-map, get_or-take, get_or-drop, drop-map, drop-take}
+use Rattle.std.proofs.lemmas.List.{map-append, take_rest}
 use Rattle.std.proofs.lemmas.List.{take-append-le}
 use Rattle.std.proofs.lemmas.List.Elements.{All-from_recursion, All-nil}
 use Rattle.std.proofs.lemmas.List.Sums.{prefix_len-le-length, prefix_len_stops}
@@ -23,7 +24,6 @@ use Rattle.gj_number.specs.Internal.DigitRuns.{IsRun, SpellsOn, SpellsUnsigned}
 use Rattle.gj_number.specs.Value.{with_digit}
 use Rattle.gj_number.proofs.Shorts.NumberPrefixes.{digit_byte}
 use Rattle.gj_number.proofs.Shorts.RunEnds.{digit_at, run_found}
-use Rattle.gj_number.proofs.Shorts.PiecePrefixes.{rest_is}
 use Rattle.gj_number.proofs.Literals.RunsOfDigits.{parts_digits}
 use Rattle.gj_number.specs.Internal.DigitLanes.{lane_of, with_value, by_twos, by_both, by_fours, by_eights, leading}
 
@@ -409,7 +409,7 @@ pub digits_on : (piece lanes : List ℕ) (at count : ℕ) → at + 16 ≤ length
 digits_on piece lanes at count long fits e c few front =
     let rest = drop at piece in
     let fits_on : (k : ℕ) → Fits w8 (get_or rest k 0) = λ k. rw (get_or-drop at piece k 0) (fits (at + k)) in
-    let same : lanes ≡ map lane_of (take 16 rest) = e ∙ ap (λ xs. map lane_of (take 16 xs)) (rest_is piece at) in
+    let same : lanes ≡ map lane_of (take 16 rest) = e ∙ ap (λ xs. map lane_of (take 16 xs)) (take_rest piece at) in
     let spelled = first_spell rest lanes count _ (omega (arith, length-drop at piece)) fits_on same c few refl in
     parts_digits piece at count front spelled.digits
 

@@ -1,6 +1,7 @@
 -- What the text's object has shown after some events of its members, and what comes of it at its end.
 use Rattle.std.proofs.Common.{◌≡◌, ℕ, ◌+◌, Bool, true, false, ◌&&◌, ◌||◌, if◌then◌else◌, List, [], ◌∷◌, ◌++◌, ◌⊎◌, inl, inr, Option, Some, None, is_some, refl}
 use Rattle.std.proofs.Common.{sym, ap, subst, ◌∙◌, append_assoc}
+use Rattle.std.proofs.Math.Bool.{or_assoc}
 use Rattle.gj_json.specs.declared.event.What.{What}
 use Rattle.gj_json.specs.declared.event.What.TheVariants as W
 use Rattle.gj_json.specs.declared.names.Known.{Known}
@@ -22,7 +23,7 @@ use Rattle.gj_rules.specs.Internal.OpenMembers.{judge}
 use Rattle.gj_rules.specs.Internal.FrameCalls as F
 use Rattle.gj_rules.specs.Internal.LostObjects.{slot_fails, is_lost}
 use Rattle.gj_rules.specs.Members.{is_known, same, mentions, again, type_of}
-use Rattle.gj_rules.specs.Internal.OpenMembers.{slot_of, uses, named, named_known, due_known, due_after, filled, member_taken, members_taken, type_set}
+use Rattle.gj_rules.specs.Internal.OpenMembers.{slot_of, uses, named, due_known, due_after, filled, member_taken, members_taken, type_set}
 use Rattle.gj_rules.specs.Internal.EventSteps.{State, step, run}
 use Rattle.gj_rules.specs.Internal.Summaries.{no_shapes, shapes_of, asked}
 use Rattle.gj_rules.specs.Internal.LabelledEvents.{Told, plain, told, members_told}
@@ -31,7 +32,8 @@ use Rattle.gj_rules.proofs.Objects.GrowingFaults.{Keeps, lesser_first, Worse, wo
 use Rattle.gj_rules.proofs.Objects.GrowingFaults.{grows_same, grows_joined, grows_shapes}
 use Rattle.gj_rules.proofs.Texts.ValuesByEvents.{st, due_st}
 use Rattle.gj_rules.proofs.Objects.OneMember.{same_is}
-use Rattle.gj_rules.proofs.Objects.AllMembers.{Mentions, mentions_step, member_object, type_from, type_after, stays_after, typed_after, shapes_from, shapes_one}
+use Rattle.gj_rules.proofs.Objects.AllMembers.{Mentions, mentions_step, member_object, type_from, type_after, stays_after, typed_after, shapes_from}
+use Rattle.gj_rules.proofs.Objects.AllMembers.{shapes_one, named_type, named_shapes}
 use Rattle.gj_rules.proofs.Objects.AllMembers.{repeated_after}
 use Rattle.gj_rules.proofs.Objects.AskedShapes.{TypeStays}
 use Rattle.gj_rules.proofs.Doom.InsideValues.{Thru, thru_run, thru_at, root, on_due, array_rest, object_rest}
@@ -118,18 +120,12 @@ due_from n m r true false None e d i =
     let j : is_known Other ≡ is_known m = ap is_known l in
     cc
 
-kept_shapes : (n : Known) (place : ℕ) (f : MemberSlots) (k : Bool) (o : Option Slot) → (if k then named_known n place o f else f).shapes ≡ f.shapes
-kept_shapes n place f false o = refl
-kept_shapes n place f true (Some slot) = refl
-kept_shapes TypeName place f true None = refl
-kept_shapes _ place f true None = refl
-
 due_shapes : (before : List Known) (n : Known) (place : ℕ) (f : MemberSlots) → Shows before f → due_after n f ≡ Coordinates
     → (named n place f).shapes ≡ no_shapes
 due_shapes before n place f h e =
     let d = due_from n Coordinates f.role (is_known n) (uses f.role n) (slot_of n f) refl e refl in
     let none : slot_of Coordinates f ≡ None = subst (λ (m : Known). slot_of m f ≡ None) d.0 d.1 in
-    kept_shapes n place f (is_known n) (slot_of n f) ∙ h.shaped (ap is_some none)
+    named_shapes n place f (is_known n) (slot_of n f) ∙ h.shaped (ap is_some none)
 
 filled_worse : (m : Known) (v : Tree) (f : MemberSlots) (b : Bool) → same TypeName m ≡ b → (m ≡ Coordinates → f.shapes ≡ no_shapes) → Worse f (filled m v f)
 filled_worse TypeName v f b e c = typed_worse (place_of v) (type_of v) f
@@ -209,10 +205,6 @@ word_one None None false v e = refl
 word_more : (name : List ℕ) (place end : ℕ) (v : Tree) (f : MemberSlots) → is_some f.type_value ≡ is_some f.type_name
     → word_in (member_taken place (known_of name) v f).type_value ≡ or_word (word_in f.type_value) (typed_by (same TypeName (known_of name)) v)
 word_more name place end v f e = ap word_in (type_one name place end v f) ∙ word_one f.type_name f.type_value (same TypeName (known_of name)) v e
-
-or_assoc : (a b c : Bool) → ((a || b) || c) ≡ (a || (b || c))
-or_assoc true b c = refl
-or_assoc false b c = refl
 
 or_words : (a b c : Option Word) → or_word (or_word a b) c ≡ or_word a (or_word b c)
 or_words None b c = refl
@@ -369,12 +361,6 @@ after_run : (f : MemberSlots) (a : Findings) (xs : List Told) (s t : State) → 
 after_run f a [] s t h = absurd h
 after_run f a (x ∷ xs) s t h = thru_run f f a xs (step x s) t h
 
-kept_typed : (n : Known) (place : ℕ) (f : MemberSlots) (k : Bool) (o : Option Slot) → (if k then named_known n place o f else f).type_value ≡ f.type_value
-kept_typed n place f false o = refl
-kept_typed n place f true (Some slot) = refl
-kept_typed TypeName place f true None = refl
-kept_typed _ place f true None = refl
-
 -- no type was there
 unset : (n : Known) (f : MemberSlots) → is_some f.type_value ≡ is_some f.type_name → due_after n f ≡ TypeName → f.type_value ≡ None
 unset n f k e = go f.type_value (k ∙ ap is_some none)
@@ -399,11 +385,11 @@ inside_type before name place end v f a [] more y h e t =
     let f1 : MemberSlots = named n place f.slots in
     let f2 : MemberSlots = type_set (place_of v) (type_of v) f1 in
     let is : member_taken place n v f.slots ≡ f2 = ap (λ (m : Known). filled m v f1) t in
-    let none : f1.type_value ≡ None = kept_typed n place f.slots (is_known n) (slot_of n f.slots) ∙ unset n f.slots h.typed t in record {
+    let none : f1.type_value ≡ None = named_type n place f.slots (is_known n) (slot_of n f.slots) ∙ unset n f.slots h.typed t in record {
       here = here_inside before name place end v f.slots f1 [] h refl
           (ap (λ (g : MemberSlots). g.repeated) (sym is))
           (λ q. ap (λ (g : MemberSlots). is_some (slot_of q g)) is ∙ ap is_some (slot_typed q (place_of v) (type_of v) f1))
-          (ap word_in (kept_typed n place f.slots (is_known n) (slot_of n f.slots))
+          (ap word_in (named_type n place f.slots (is_known n) (slot_of n f.slots))
           ∙ (or_none (word_in f.slots.type_value) ∙ ap (λ o. or_word (word_in f.slots.type_value) o) (sym (first_type_name n))));
       onward = subst (λ (g : MemberSlots). Keeps (is_lost f1) (is_lost g)) (sym is)
           (lost_worse f1 f2 (typed_worse (place_of v) (type_of v) f1) (subst (λ (o : Option TypeValue). TypeStays o f2.type_value) (sym none) tt));

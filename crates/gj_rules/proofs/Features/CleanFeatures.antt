@@ -1,5 +1,5 @@
 -- The events that most features have: an object that opens and closes, in which nothing is found, and an `id`.
-use Rattle.std.proofs.Common.{◌≡◌, ◌<◌, ℕ, zero, suc, Bool, true, false, [], ◌∷◌, refl, ◌∙◌, ap, arith}
+use Rattle.std.proofs.Common.{◌≡◌, ◌<◌, ℕ, zero, suc, Bool, true, [], ◌∷◌, refl, ◌∙◌, ap, arith}
 use Rattle.gj_json.specs.declared.names.Known.{Known}
 use Rattle.gj_json.specs.declared.event.What.{What}
 use Rattle.gj_rules.specs.declared.feature_count.FeatureCount.{FeatureCount}

@@ -19,7 +19,8 @@ use Rattle.gj_rules.specs.declared.feature_count.Stage.{Stage}
 use Rattle.gj_rules.specs.Internal.FrameMeaning.{Frame}
 use Rattle.gj_rules.specs.Internal.EventSteps.{State, run, start}
 use Rattle.gj_rules.specs.Internal.LabelledEvents.{Told, event_of, text_told}
-use Rattle.gj_rules.specs.Internal.FeatureSteps.{heard, count, counted, count_at, inner_step, tells, tells_at, features_in, no_count, concerned, ignored_of, starts_at, list_step}
+use Rattle.gj_rules.specs.Internal.FeatureSteps.{heard, count, counted, count_at, inner_step, tells, tells_at, features_in, no_count, concerned}
+use Rattle.gj_rules.specs.Internal.FeatureSteps.{ignored_of, starts_at, list_step}
 use Rattle.gj_rules.specs.Internal.FeatureSteps.{FeaturesAre, no_level}
 use Rattle.gj_rules.proofs.Features.CleanFeatures.{opens, opens_untold}
 use Rattle.gj_rules.proofs.Features.FeaturesSoFar.{small, count-last, heard-last}
@@ -192,7 +193,8 @@ InMembers c = (c.stage ≡ Stage.Element) × (c.id_due ≡ false)
 
 -- the type of an object, of which neither part concerns an element
 typed_passed : (Says : List Feature → Type 0) (typed : Typed) (c : FeatureCount) (events : List Event) → InMembers c → FeaturesAre Says c events
-    → FeaturesAre Says c (events ++ record { place = typed.place + 1; what = What.Name TypeName } ∷ record { place = typed.word_at; what = What.Text typed.word } ∷ [])
+    → FeaturesAre Says c (events ++ record { place = typed.place + 1; what = What.Name TypeName } ∷ record
+    { place = typed.word_at; what = What.Text typed.word } ∷ [])
 typed_passed Says typed c events m h =
     let name : Event = record { place = typed.place + 1; what = What.Name TypeName } in
     let text : Event = record { place = typed.word_at; what = What.Text typed.word } in

@@ -12,11 +12,10 @@ use Rattle.gj_json.specs.Text.{IsText}
 use Rattle.gj_json.specs.Tree as Tree
 use Rattle.gj_json.specs.Tree.{Tree, constant, number, string, array, object, end_of_array, element, Members, end_of_object, member, Text}
 use Rattle.gj_coords.specs.Items.{items, elements_of}
-use Rattle.gj_rules.specs.FeatureFindings.{complete_at, complete_in, elements_if, features_of, findings_from, findings_by, is_comma, commas}
+use Rattle.gj_rules.specs.FeatureFindings.{complete_at, complete_in, elements_if, features_of, findings_by, is_comma, commas}
 use Rattle.gj_rules.specs.Members.{same}
 use Rattle.gj_rules.specs.TextWarnings.{first_value}
 use Rattle.gj_rules.proofs.Features.FeaturesInTime.{complete_within, as_many}
-use Rattle.gj_rules.proofs.Texts.EventOrder.{then_length}
 
 -- ---- how many commas stand in the first bytes
 

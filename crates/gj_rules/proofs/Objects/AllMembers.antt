@@ -120,7 +120,7 @@ filled_type Features v f e = joined_type Features (least (judge Features v)) f.f
 filled_type Bbox v f e = joined_type Bbox (least (judge Bbox v)) f.bbox f
 filled_type Id v f e = joined_type Id (least (judge Id v)) f.id f
 
-named_type : (m : Known) (place : ℕ) (f : MemberSlots) (k : Bool) (o : Option Slot) → (if k then named_known m place o f else f).type_value ≡ f.type_value
+pub named_type : (m : Known) (place : ℕ) (f : MemberSlots) (k : Bool) (o : Option Slot) → (if k then named_known m place o f else f).type_value ≡ f.type_value
 named_type m place f true (Some slot) = refl
 named_type m place f true None = kept_type m (record { name_at = place; fault = None }) f
 named_type m place f false o = refl
@@ -219,7 +219,7 @@ filled_shapes Features v f e = joined_shapes Features (least (judge Features v))
 filled_shapes Bbox v f e = joined_shapes Bbox (least (judge Bbox v)) f.bbox f
 filled_shapes Id v f e = joined_shapes Id (least (judge Id v)) f.id f
 
-named_shapes : (m : Known) (place : ℕ) (f : MemberSlots) (k : Bool) (o : Option Slot) → (if k then named_known m place o f else f).shapes ≡ f.shapes
+pub named_shapes : (m : Known) (place : ℕ) (f : MemberSlots) (k : Bool) (o : Option Slot) → (if k then named_known m place o f else f).shapes ≡ f.shapes
 named_shapes m place f true (Some slot) = refl
 named_shapes m place f true None = kept_shapes m (record { name_at = place; fault = None }) f
 named_shapes m place f false o = refl

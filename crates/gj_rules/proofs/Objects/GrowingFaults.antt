@@ -18,7 +18,7 @@ use Rattle.gj_rules.specs.Internal.OpenMembers.{slot_of, with_slot, joined, join
 use Rattle.gj_rules.specs.Internal.Summaries.{no_shapes, shape_for}
 use Rattle.gj_rules.proofs.Objects.OneMember.{same_is, slot_of-other}
 use Rattle.gj_rules.proofs.Objects.MemberSlots.{slot_of-with, kept_shapes, kept_repeated, kept_type}
-use Rattle.gj_rules.proofs.Objects.AskedShapes.{TypeStays}
+use Rattle.gj_rules.proofs.Objects.AskedShapes.{TypeStays, no_fault}
 
 -- ---- truth
 
@@ -222,14 +222,6 @@ grows_joined_to m x f (Some slot) e =
 
 pub grows_joined : (m : Known) (x : Option Fault) (f : MemberSlots) → Grows f (joined m x f)
 grows_joined m x f = grows_joined_to m x f (slot_of m f) refl
-
-no_fault : (s : Simple) → shape_for s no_shapes ≡ None
-no_fault Simple.Point = refl
-no_fault Simple.MultiPoint = refl
-no_fault Simple.LineString = refl
-no_fault Simple.MultiLineString = refl
-no_fault Simple.Polygon = refl
-no_fault Simple.MultiPolygon = refl
 
 shapes_same : (n : Known) (x : Shapes) (f : MemberSlots) → slot_of n (shapes_set x f) ≡ slot_of n f
 shapes_same TypeName x f = refl

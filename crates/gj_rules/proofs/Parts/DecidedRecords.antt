@@ -1,6 +1,5 @@
 -- An input that a record has decided: each that begins so is the same as a whole.
-use Rattle.std.proofs.Common.{◌≡◌, ℕ, ◌-◌, ◌+◌, ◌≤◌, Bool, true, false, if◌then◌else◌, List, [], ◌∷◌, ◌++◌, length, take, refl, ap, sym, ◌∙◌, subst, arith}
-use Rattle.std.proofs.Math.Seq.{take-append-add}
+use Rattle.std.proofs.Common.{◌≡◌, ℕ, ◌-◌, ◌≤◌, Bool, true, false, if◌then◌else◌, List, [], ◌∷◌, ◌++◌, length, take, refl, ap, sym, ◌∙◌, subst}
 use Rattle.gj_json.specs.Limits.{Allowed}
 use Rattle.gj_rules.specs.declared.records.Records.{Records}
 use Rattle.gj_rules.specs.declared.records.framing.Framing.{Framing}
@@ -17,6 +16,7 @@ use Rattle.gj_rules.specs.Verdict.{IsVerdict}
 use Rattle.gj_rules.proofs.Parts.CountedParts.{entries-append}
 use Rattle.gj_rules.proofs.Parts.OneFinding.{some_findings}
 use Rattle.gj_rules.proofs.Parts.RecordSteps.{open_of, over_of, over_more}
+use Rattle.gj_rules.proofs.Texts.LinterEvents.{take_both}
 
 -- ---- what is found, with more after it
 
@@ -28,12 +28,13 @@ both_found framing levels [] others (other ∷ found) more h k = absurd h
 both_found framing levels (first ∷ entries) others [] more h k = absurd h
 both_found framing levels (first ∷ entries) others (other ∷ found) more h k = (h.0, both_found framing levels entries others found more h.1 k)
 
-whole_both : (verdict : SeqVerdict) (found more : List Record) → whole_from verdict (found ++ more) ≡ whole_from (whole_from verdict found) more
+pub whole_both : (verdict : SeqVerdict) (found more : List Record) → whole_from verdict (found ++ more) ≡ whole_from (whole_from verdict found) more
 whole_both verdict [] more = refl
 whole_both verdict (one ∷ found) more = whole_both (after verdict one) found more
 
 -- the first record that is not valid stays it
-failing_stays : (number : ℕ) (verdict : Verdict) (more : List Record) → whole_from (SeqVerdict.Record number verdict) more ≡ SeqVerdict.Record number verdict
+pub failing_stays : (number : ℕ) (verdict : Verdict) (more : List Record)
+    → whole_from (SeqVerdict.Record number verdict) more ≡ SeqVerdict.Record number verdict
 failing_stays number verdict [] = refl
 failing_stays number verdict (found ∷ more) = failing_stays number verdict more
 
@@ -42,11 +43,6 @@ whole_stays (SeqVerdict.Valid count warnings) more fails = absurd (cc)
 whole_stays (SeqVerdict.Record number verdict) more fails = failing_stays number verdict more
 
 -- ---- the parts, with more bytes
-
-take_both : (n : ℕ) (xs ys : List ℕ) → length xs ≤ n → take n (xs ++ ys) ≡ xs ++ take (n - length xs) ys
-take_both n xs ys l =
-    let sum : n ≡ length xs + (n - length xs) = omega (arith, l) in
-    ap (λ k. take k (xs ++ ys)) sum ∙ take-append-add xs ys (n - length xs)
 
 -- those that have ended are the first
 parts_more : (s : Records) (bytes more : List ℕ) (found : List Record) (h : IsOpen s bytes found) → (rest : List Part)
@@ -60,7 +56,7 @@ parts_more s bytes more found h = by_test (is_too_long s.limits (bytes ++ more))
     by_test true e = (
       parts_from s.framing Limit s.record.start (h.given ++ take room more),
       ap (λ t. if t then parts_from s.framing Limit 0 (take s.limits.bytes (bytes ++ more)) else parts_from s.framing Input 0 (bytes ++ more)) e
-          ∙ (ap (parts_from s.framing Limit 0) (take_both s.limits.bytes bytes more h.fits) ∙ h.cut Limit (take room more)),
+          ∙ (ap (parts_from s.framing Limit 0) (take_both bytes more s.limits.bytes h.fits) ∙ h.cut Limit (take room more)),
     )
     by_test false e = (
       parts_from s.framing Input s.record.start (h.given ++ more),

@@ -1,7 +1,7 @@
 -- What `Records` stand for, from step to step.
 use Rattle.std.proofs.Common.{◌≡◌, ℕ, zero, suc, ◌+◌, ◌-◌, ◌<◌, ◌≤◌, Bool, true, false, ◌&&◌, not, List, [], ◌∷◌, ◌++◌, length, length-append, take, drop}
 use Rattle.std.proofs.Common.{append_assoc, append-nil, refl, ap, sym, subst, ◌∙◌, arith, take-add}
-use Rattle.std.proofs.lemmas.List.{take_all, length-drop}
+use Rattle.std.proofs.lemmas.List.{take_all, length-drop, take-append-drop}
 use Rattle.gj_json.specs.Limits.{Allowed}
 use Rattle.gj_coords.specs.Internal.KeptWarnings.{no_warnings}
 use Rattle.gj_rules.specs.declared.records.Records.{Records}
@@ -321,18 +321,13 @@ pub first_few : (framing : Framing) → first_number framing ≤ 1
 first_few Framing.Sequence = omega arith
 first_few Framing.Lines = omega arith
 
-both_parts : (xs : List ℕ) (k : ℕ) → take k xs ++ drop k xs ≡ xs
-both_parts xs zero = refl
-both_parts [] (suc k) = refl
-both_parts (x ∷ xs) (suc k) = ap (λ ys. x ∷ ys) (both_parts xs k)
-
 -- the rest of a piece is beyond the limit
 pub over_rest : (told : List Record → Type 0) (s : Records) (bytes piece : List ℕ) (n : ℕ) (before found : List Record) → s.is_over ≡ true
     → HaveTold told s (bytes ++ take n piece) before found → HaveTold told s (bytes ++ piece) before found
 over_rest told s bytes piece n before found over h =
     let P : List ℕ → Type 0 = λ bs. StandsFor s bs (found ++ h.more) in
     have_told told s (bytes ++ piece) before found h.more
-    (subst P (append_assoc bytes (take n piece) (drop n piece) ∙ ap (λ xs. bytes ++ xs) (both_parts piece n))
+    (subst P (append_assoc bytes (take n piece) (drop n piece) ∙ ap (λ xs. bytes ++ xs) (take-append-drop n piece))
     (over_more s (bytes ++ take n piece) (drop n piece) (found ++ h.more) over h.stands))
     h.heard
 

@@ -20,6 +20,7 @@ use Rattle.gj_rules.specs.Records.{Part, Entry, part_at, entry_at, with_first, p
 use Rattle.gj_rules.specs.Sequence.{is_separator, begins_with_separator, has_separator, up_to_separator, SequenceRecord, records_from, not_json}
 use Rattle.gj_rules.specs.Sequence.{IsRecordVerdict, AllValid, IsFirstFailing, IsJudgedBy, IsSequenceVerdict, is_stray, is_valid}
 use Rattle.gj_rules.proofs.Sequences.RecordCuts.{record_at}
+use Rattle.gj_rules.proofs.Parts.DecidedRecords.{failing_stays}
 
 -- ---- the records of a sequence are the parts that count
 
@@ -129,7 +130,7 @@ counts_alike number Limit void some = refl
 counts_alike zero Input void some = absurd (omega (arith, some))
 counts_alike (suc n) Input void some = refl
 
-stays_some : (number : ℕ) → 0 < number → at_least_one number ≡ number
+pub stays_some : (number : ℕ) → 0 < number → at_least_one number ≡ number
 stays_some zero some = absurd (omega (arith, some))
 stays_some (suc n) some = refl
 
@@ -163,10 +164,6 @@ shown levels number (part ∷ parts) found some h =
         again number all some (subst N (stays_some number some) (rw e at k))
 
 -- ---- the verdict
-
-decided : (number : ℕ) (verdict : Verdict) (found : List Record) → whole_from (SeqVerdict.Record number verdict) found ≡ SeqVerdict.Record number verdict
-decided number verdict [] = refl
-decided number verdict (one ∷ found) = decided number verdict found
 
 -- all are valid, or one is the first that is not, after so many
 abbrev Judged : ℕ → ℕ → Warnings → List SequenceRecord → SeqVerdict → Type 0
@@ -228,7 +225,7 @@ stray_first : (levels : ℕ) (start : ℕ) (bytes : List ℕ) (end : RecordEnd) 
 stray_first levels start bytes end more [] h = absurd h
 stray_first levels start bytes end more (one ∷ found) h =
     ap (λ v. whole_from (joined_with no_warnings one.number v) found) h.0.verdict
-    ∙ (ap (λ n. whole_from (SeqVerdict.Record n (not_json start Syntax)) found) h.0.number ∙ decided 0 (not_json start Syntax) found)
+    ∙ (ap (λ n. whole_from (SeqVerdict.Record n (not_json start Syntax)) found) h.0.number ∙ failing_stays 0 (not_json start Syntax) found)
 
 module _ (none_first : (a : Warnings) → joined no_warnings a ≡ a) (none_last : (a : Warnings) → joined a no_warnings ≡ a)
     (grouping : (a b c : Warnings) → joined (joined a b) c ≡ joined a (joined b c)) where
@@ -240,7 +237,7 @@ module _ (none_first : (a : Warnings) → joined no_warnings a ≡ a) (none_last
     1,
     verdict,
     record { before = []; failing = r; after = more; split = refl; counted = refl; warnings = no_warnings; valid = refl; verdict_of_it = h; fails = f },
-    decided number verdict found ∙ ap (λ n. SeqVerdict.Record n verdict) e,
+    failing_stays number verdict found ∙ ap (λ n. SeqVerdict.Record n verdict) e,
   )
 
   later : (levels count : ℕ) (before first : Warnings) (r : SequenceRecord) (more : List SequenceRecord) (verdict : SeqVerdict)

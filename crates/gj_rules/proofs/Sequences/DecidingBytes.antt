@@ -2,13 +2,13 @@
 use Rattle.std.proofs.Common.{◌≡◌, ℕ, zero, suc, ◌+◌, ◌-◌, ◌<◌, ◌≤◌, Bool, true, false, ◌&&◌, not, nat_lt, if◌then◌else◌, List, [], ◌∷◌, ◌++◌, length}
 use Rattle.std.proofs.Common.{length-append, get_or, take, append_assoc, append-nil, add-zero, refl, ap, sym, subst, ◌∙◌, arith}
 use Rattle.std.proofs.lemmas.Bool.Decides.{nat_tests}
-use Rattle.std.proofs.Math.Seq.{take-append-add}
+use Rattle.std.proofs.Math.Seq.{take-append-add, take-append_seam}
 use Rattle.gj_json.specs.declared.fault.Cause.{Cause}
 use Rattle.gj_json.specs.declared.fault.Cause.TheVariants.{Syntax, Truncated, Depth, Length}
 use Rattle.gj_json.specs.declared.fault.JsonFault.{JsonFault}
 use Rattle.gj_json.specs.Limits.{Allowed}
 use Rattle.gj_json.specs.Refusal.{Stops, RefusedFor}
-use Rattle.gj_json.specs.Text.{IsTextWithin, IsViable, IsViableWithin}
+use Rattle.gj_json.specs.Text.{IsViable, IsViableWithin}
 use Rattle.gj_coords.specs.declared.warnings.Warnings.{Warnings}
 use Rattle.gj_rules.specs.declared.sequence.verdict.SeqVerdict.{SeqVerdict}
 use Rattle.gj_rules.specs.declared.verdict.Verdict.{Verdict}
@@ -21,16 +21,13 @@ use Rattle.gj_rules.specs.Internal.OpenSequence.{closed}
 use Rattle.gj_rules.specs.Verdict.{IsVerdict}
 use Rattle.gj_rules.proofs.Sequences.RecordCuts.{record_at, first_plain, rest_plain, up_to_plain, cut_at, cut_open}
 use Rattle.gj_rules.proofs.Sequences.BytesOfSequences.{going_on, ByByte, by_byte, Lasting, refused_record, snoc_last, undecided, undecided_none, still_open}
+use Rattle.gj_json.proofs.Machine.LongestPrefixes.{front_viable}
 
 -- ---- lists of bytes
 
 pub take_one : (rest : List ℕ) → 0 < length rest → take 1 rest ≡ get_or rest 0 0 ∷ []
 take_one [] l = absurd (omega (arith, l))
 take_one (byte ∷ more) l = refl
-
-take_front : (xs ys : List ℕ) → take (length xs) (xs ++ ys) ≡ xs
-take_front [] ys = refl
-take_front (x ∷ xs) ys = ap (λ zs. x ∷ zs) (take_front xs ys)
 
 take_next : (xs ys : List ℕ) (y : ℕ) → take (length xs + 1) (xs ++ y ∷ ys) ≡ xs ++ y ∷ []
 take_next [] ys y = refl
@@ -64,11 +61,6 @@ pub regroup : (done given more : List ℕ) → (done ++ separator ∷ given) ++ 
 regroup done given more = append_assoc done (separator ∷ given) more
 
 -- ---- viable prefixes
-
-pub viable_front : (levels : ℕ) (xs ys : List ℕ) → IsViableWithin levels (xs ++ ys) → IsViableWithin levels xs
-viable_front levels xs ys h =
-    let P : List ℕ → Type 0 = λ bs. IsTextWithin levels h.1 bs in
-    (ys ++ h.0, h.1, subst P (append_assoc xs ys h.0) h.2)
 
 without_levels : (levels : ℕ) (xs : List ℕ) → IsViableWithin levels xs → IsViable xs
 without_levels levels xs h = (h.0, h.1, h.2.0)
@@ -207,10 +199,10 @@ module _ (some_verdict : (limits : Allowed) (bytes : List ℕ) → (verdict : Ve
       by_cause Syntax place r =
           let P : List ℕ → Type 0 = λ bs. IsViableWithin levels bs in
           absurd (r.2 (without_levels levels (r.0.good ++ r.0.byte ∷ [])
-          (viable_front levels (r.0.good ++ r.0.byte ∷ []) r.0.rest (subst P (r.0.split ∙ split_next r.0.good r.0.rest r.0.byte) viable))))
+          (front_viable levels (r.0.good ++ r.0.byte ∷ []) r.0.rest (subst P (r.0.split ∙ split_next r.0.good r.0.rest r.0.byte) viable))))
       by_cause Depth place r =
           let P : List ℕ → Type 0 = λ bs. IsViableWithin levels bs in
-          absurd (r.3 (viable_front levels (r.0.good ++ r.0.byte ∷ []) r.0.rest (subst P (r.0.split ∙ split_next r.0.good r.0.rest r.0.byte) viable)))
+          absurd (r.3 (front_viable levels (r.0.good ++ r.0.byte ∷ []) r.0.rest (subst P (r.0.split ∙ split_next r.0.good r.0.rest r.0.byte) viable)))
 
   pub cut_record : (levels start : ℕ) (given : List ℕ) → IsViableWithin levels given
       → IsRecordVerdict levels (record_at start given true) (not_json (length given + start) Length)
@@ -247,7 +239,7 @@ module _ (some_verdict : (limits : Allowed) (bytes : List ℕ) → (verdict : Ve
       record {
         at = record {
           within = omega (arith, more_one, full);
-          before = subst U (sym (ap (λ n. take n (bytes ++ byte ∷ [])) (sym full) ∙ take_front bytes (byte ∷ [])))
+          before = subst U (sym (ap (λ n. take n (bytes ++ byte ∷ [])) (sym full) ∙ take-append_seam bytes (byte ∷ [])))
               (known_undecided limits bytes done given w number k);
           decides = λ u.
               let all : take (limits.bytes + 1) (bytes ++ byte ∷ []) ≡ bytes ++ byte ∷ [] =
@@ -279,7 +271,7 @@ settled_failing one limits bytes done given w number verdict k short some v fail
     record {
       at = record {
         within = omega (arith, more_one);
-        before = subst U (sym (take_front bytes (separator ∷ []))) (known_undecided limits bytes done given w number k);
+        before = subst U (sym (take-append_seam bytes (separator ∷ []))) (known_undecided limits bytes done given w number k);
         decides = λ u.
             let v2 = subst U (take_next bytes [] separator) u in
             let o = still_open limits (bytes ++ separator ∷ []) bytes [] refl refl v2 in
@@ -339,7 +331,7 @@ settled_refused limits most all done given w number fault split fits wide begun 
     let below : fault.place < length given = (let k = ap length is ∙ length-append s.good (s.byte ∷ s.rest) in omega (arith, k, s.at)) in
     let U : List ℕ → Type 0 = λ bs. IsUndecided limits bs in
     let V : List ℕ → Type 0 = λ bs. IsViableWithin limits.depth bs in
-    let front : take fault.place given ≡ s.good = ap (λ n. take n given) s.at ∙ (ap (take (length s.good)) is ∙ take_front s.good (s.byte ∷ s.rest)) in
+    let front : take fault.place given ≡ s.good = ap (λ n. take n given) s.at ∙ (ap (take (length s.good)) is ∙ take-append_seam s.good (s.byte ∷ s.rest)) in
     let front2 : take (fault.place + 1) given ≡ s.good ++ s.byte ∷ [] =
     ap (λ n. take (n + 1) given) s.at ∙ (ap (take (length s.good + 1)) is ∙ take_next s.good s.rest s.byte) in
     let to_place : take (fault.place + (length done + 1)) all ≡ done ++ separator ∷ take fault.place given =

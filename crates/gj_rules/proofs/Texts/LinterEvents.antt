@@ -59,8 +59,8 @@ pub told_so : (Old New : List Event → Type 0) (taken : List ℕ) (n : ℕ) →
 told_so Old New taken n so k = record { events = k.events; told = so k.events k.told; complete = k.complete }
 
 -- the prefix of a piece after the bytes before it
-front : (bytes given : List ℕ) (p : ℕ) → length bytes ≤ p → take p (bytes ++ given) ≡ bytes ++ take (p - length bytes) given
-front bytes given p l = let e : p ≡ length bytes + (p - length bytes) =
+pub take_both : (bytes given : List ℕ) (p : ℕ) → length bytes ≤ p → take p (bytes ++ given) ≡ bytes ++ take (p - length bytes) given
+take_both bytes given p l = let e : p ≡ length bytes + (p - length bytes) =
     omega arith in ap (λ n. take n (bytes ++ given)) e ∙ take-append-add bytes given (p - length bytes)
 
 module _ (live_at : (reader : Reader) (bytes : List ℕ) → ReaderStandsFor reader bytes → refusal_of reader ≡ None → offset_of reader ≡ length bytes)
@@ -88,7 +88,7 @@ module _ (live_at : (reader : Reader) (bytes : List ℕ) → ReaderStandsFor rea
       let p = refused new (bytes ++ given) fault t on in
       let j = taken_all Old bytes (offset_of old) e k in
       let m = more_told Old New bytes (take (fault.place - length bytes) given) (take fault.place (bytes ++ given)) fault.place j (hears j.events j.told)
-      (front bytes given fault.place (omega (arith, e, p, l))) in
+      (take_both bytes given fault.place (omega (arith, e, p, l))) in
       rw p m
 
   -- one was before

@@ -1,13 +1,13 @@
 -- The places that the faults and the warnings of a text name are places of it.
-use Rattle.std.proofs.Common.{◌≡◌, ℕ, zero, suc, ◌+◌, ◌≤◌, Bool, true, false, if◌then◌else◌, List, [], ◌∷◌, ◌++◌, length, length-append, take, drop, Option}
-use Rattle.std.proofs.Common.{Some, None, is_some, ap, ◌∙◌, subst, arith}
+use Rattle.std.proofs.Common.{◌≡◌, ℕ, zero, suc, ◌+◌, ◌≤◌, Bool, true, false, if◌then◌else◌, List, [], ◌∷◌, ◌++◌, length, take, drop, Option}
+use Rattle.std.proofs.Common.{Some, None, is_some, subst, arith}
 use Rattle.std.specs.List.{AllByRecursion, flat_map}
 use Rattle.gj_json.specs.declared.constant.Constant.{Constant}
 use Rattle.gj_json.specs.declared.constant.Constant.TheVariants.{Null, True, False}
 use Rattle.gj_json.specs.declared.names.Known.{Known}
 use Rattle.gj_json.specs.declared.names.Known.TheVariants.{TypeName, Coordinates, Geometries, Geometry, Properties, Features, Bbox, Id, Crs, Other}
 use Rattle.gj_json.specs.declared.names.Word.{Word}
-use Rattle.gj_json.specs.Grammar.{Then, Spells, SpellsElements, SpellsMoreElements, SpellsMembers, SpellsMoreMembers}
+use Rattle.gj_json.specs.Grammar.{Spells, SpellsElements, SpellsMoreElements, SpellsMembers, SpellsMoreMembers}
 use Rattle.gj_json.specs.Names.{known_of}
 use Rattle.gj_json.specs.Text.{IsText}
 use Rattle.gj_json.specs.Tree.{Tree, constant, number, string, array, object, Elements, end_of_array, element, Members, end_of_object, member, Text}
@@ -26,6 +26,7 @@ use Rattle.gj_rules.specs.declared.member_slots.TypeValue.{TypeValue}
 use Rattle.gj_rules.specs.Faults
 use Rattle.gj_rules.specs.Faults.{First, FirstMembers}
 use Rattle.gj_rules.specs.Members.{same, is_known, mentions, forbidden_by, first_type, again, repeated}
+use Rattle.gj_rules.proofs.Texts.EventOrder.{then_length}
 
 -- ---- the places of a tree
 
@@ -44,9 +45,6 @@ abbrev mutual
   pub WithinMembers : ℕ → Members → Type 0
   WithinMembers n end_of_object = Unit {0}
   WithinMembers n (member place name end value more) = (place ≤ n) × Within n value × WithinMembers n more
-
-then_length : {A B : ℕ → List ℕ → Type 0} {n : ℕ} {bytes : List ℕ} → (h : Then A B n bytes) → length bytes ≡ length h.first + length h.rest
-then_length h = ap length h.joined ∙ length-append h.first h.rest
 
 mutual
   within : (t : Tree) (all n : ℕ) (bytes : List ℕ) → n + length bytes ≤ all → Spells t n bytes → Within all t

@@ -1,5 +1,6 @@
 -- The first lane that differs, and the bytes before it.
-use Rattle.std.proofs.Common.{◌≡◌, ℕ, zero, suc, ◌+◌, ◌≤◌, ◌%◌, ◌^◌, Bool, true, false, not, cond, eqb, leb, w8, List, ◌∷◌, map, length, take, ◌&&◌, refl, sym, ap, ◌∙◌, arith}
+use Rattle.std.proofs.Common.{◌≡◌, ℕ, zero, suc, ◌+◌, ◌≤◌, ◌%◌, ◌^◌, Bool, true, false, not, cond, eqb, leb, w8, List, ◌∷◌, map, length, take, ◌&&◌}
+use Rattle.std.proofs.Common.{refl, sym, ap, ◌∙◌, arith}
 use Rattle.std.proofs.Math.Dec.{leb-zero, leb-suc-suc, leb-suc-zero}
 use Rattle.std.proofs.lemmas.Bool.{le-leb}
 use Rattle.std.proofs.lemmas.List.{map-id, take-take, length-take-le}
@@ -25,7 +26,8 @@ passed n failed few long = go (mask_l failed) refl
     go : (mask : ℕ) → mask_l failed ≡ mask → leb n (count_trailing_zeros 64 (mask_l failed)) ≡ leb n (prefix_len (λ b. not b) failed)
     go zero none =
         let all : prefix_len (λ b. not b) failed ≡ length failed = leading_from_mask_l (λ (b : Bool). b) failed (ap mask_l same ∙ none) in
-        ap (λ m. leb n (count_trailing_zeros 64 m)) none ∙ le-leb n 64 (omega (arith, few, long)) ∙ sym (le-leb n (prefix_len (λ b. not b) failed) (omega (arith, few, all)))
+        ap (λ m. leb n (count_trailing_zeros 64 m)) none ∙ le-leb n 64 (omega (arith, few, long))
+        ∙ sym (le-leb n (prefix_len (λ b. not b) failed) (omega (arith, few, all)))
     go (suc mask) some =
         let first : count_trailing_zeros 64 (mask_l (map (λ (b : Bool). b) failed)) ≡ prefix_len (λ b. not b) failed =
         trailing_mask_l (λ (b : Bool). b) 64 failed long (omega (arith, some, ap mask_l same)) in

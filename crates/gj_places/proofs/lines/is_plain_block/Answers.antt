@@ -1,21 +1,17 @@
-use Rattle.std.proofs.Common.{arith, ◌≡◌, ◌≤◌, ◌<◌, ap, ◌∙◌, refl, length, take, get_or}
-use Rattle.std.specs.Prelude.{Bool, true, false, ◌&&◌}
+use Rattle.std.proofs.Common.{arith, ◌≤◌, ◌<◌, ap, ◌∙◌, length, take, get_or}
 use Rattle.std.proofs.lemmas.List.{take_more, take_all}
+use Rattle.std.proofs.lemmas.Bool.{and_parts}
 use Rattle.gj_places.specs.Lines.{has_line_feed}
 use Rattle.gj_places.proofs.CountedBytes.{counted, has_line_feed-other}
 use Rattle.gj_places.proofs.CountedPieces.{characters-take}
 use Rattle.gj_places.proofs.lines.is_plain_block.Goals as goal
-
-both : (a b : Bool) → (a && b) ≡ true → (a ≡ true) × (b ≡ true)
-both true b is = (refl, is)
-both false b is = absurd (cc)
 
 pub loop-byte-preserved : goal.loop-byte-preserved
 loop-byte-preserved c = λ is.
     let i = c.loop-byte.byte-index in
     let block = c.args.block.now in
     let byte = get_or block i 0 in
-    let two = both c.loop-byte.all c.is_plain_byte-all.result is in
+    let two = and_parts c.loop-byte.all c.is_plain_byte-all.result is in
     let front = c.loop-byte.invariant two.0 in
     let within : i < length block = omega (arith, c.loop-byte-test.true, c.loop-byte.auto.byte-index-end) in
     let plain = c.is_plain_byte-all.ensures two.1 in

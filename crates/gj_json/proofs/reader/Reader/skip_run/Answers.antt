@@ -4,9 +4,10 @@ use Rattle.std.proofs.lemmas.List.{length-take-le}
 use Rattle.gj_json.specs.Internal.FedReader.{Skips}
 use Rattle.gj_json.specs.Reader.{Completed}
 use Rattle.gj_json.specs.Runs.{plain_run_of}
-use Rattle.gj_json.proofs.Pieces.StringRuns.{live_of, viable_between, not_viable_elsewhere, run_skips, skipped_stands, skipped_silent}
+use Rattle.gj_json.proofs.Pieces.StringRuns.{viable_between, not_viable_elsewhere, run_skips, skipped_stands, skipped_silent}
 use Rattle.gj_json.proofs.Grammar.Utf8Characters.{front_utf8, front_unescaped, front_within, allowed_within}
 use Rattle.gj_json.proofs.reader.Reader.skip_run.Goals as goal
+use Rattle.gj_json.proofs.Events.FinishedTexts.{none_is}
 
 pub returns-then-not-is_between-clause-longest : goal.returns-then-not-is_between-clause-longest
 returns-then-not-is_between-clause-longest c =
@@ -38,7 +39,7 @@ room c =
 
 pub returns-clause-stands : goal.returns-clause-stands
 returns-clause-stands c = λ bytes h.
-    let live = live_of c.args.self.now.fault (sym c.is_some.ensures ∙ c.if-is_some.false) in
+    let live = none_is c.args.self.now.fault (sym c.is_some.ensures ∙ c.if-is_some.false) in
     skipped_stands c.args.self.now c.skip.new.self (take c.skip.result c.args.piece.now) bytes live (room c) (skips c) h
 
 pub returns-clause-silent : goal.returns-clause-silent

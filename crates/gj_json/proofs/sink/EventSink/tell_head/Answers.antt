@@ -1,10 +1,8 @@
 -- The events, one after another.
-use Rattle.std.proofs.Common.{◌≡◌, ◌∷◌, ◌++◌, [], List, subst, append_assoc}
+use Rattle.std.proofs.Common.{List, subst}
 use Rattle.gj_json.specs.declared.event.Event.{Event}
 use Rattle.gj_json.proofs.sink.EventSink.tell_head.Goals as goal
-
-five : (xs : List Event) (a b c d e : Event) → ((((xs ++ a ∷ []) ++ b ∷ []) ++ c ∷ []) ++ d ∷ []) ++ e ∷ [] ≡ xs ++ (a ∷ b ∷ c ∷ d ∷ e ∷ [])
-five xs a b c d e = simp append_assoc
+use Rattle.gj_json.proofs.Events.EventsInTurn.{five}
 
 pub returns-in-Geometry : goal.returns-in-Geometry
 returns-in-Geometry g c = λ events h.

@@ -1,9 +1,9 @@
 -- Zeros, and digits after them.
 use Rattle.std.proofs.Common.{◌≡◌, ℕ, ◌+◌, List, take, fold, All, inl, subst, ◌∙◌, ap, arith}
+use Rattle.std.proofs.lemmas.List.{take_rest}
 use Rattle.gj_number.specs.Bytes.{IsDigit}
 use Rattle.gj_number.specs.Internal.KeptDigits.{Keeps, kept_of}
 use Rattle.gj_number.specs.Value.{with_digit}
-use Rattle.gj_number.proofs.Shorts.PiecePrefixes.{rest_is}
 use Rattle.gj_number.proofs.Literals.RunsOfDigits.{nothing_of, parts_fold, parts_digits, zeros_more}
 use Rattle.gj_number.proofs.digits.Digits.push_small_run.Goals as goal
 
@@ -12,7 +12,7 @@ returns-clause-digits c =
     let piece = c.args.piece.now in
     let zeros = c.zeros_in_front-zeros.result in
     let P : List ℕ → Type 0 = λ xs. All IsDigit (take c.push_first_run.result xs) in
-    parts_digits piece zeros c.push_first_run.result c.zeros_in_front-zeros.ensures.digits (subst P (rest_is piece zeros) c.push_first_run.ensures.digits)
+    parts_digits piece zeros c.push_first_run.result c.zeros_in_front-zeros.ensures.digits (subst P (take_rest piece zeros) c.push_first_run.ensures.digits)
 
 pub returns-clause-keeps : goal.returns-clause-keeps
 returns-clause-keeps c whole fraction old =
@@ -29,4 +29,4 @@ returns-clause-keeps c whole fraction old =
     let Whole : ℕ → Type 0 = λ w. Keeps c.push_first_run.new.self w (fraction + zeros + n) in
     let Places : ℕ → Type 0 = λ k. Keeps c.push_first_run.new.self (fold with_digit whole (take (zeros + n) piece)) k in
     let sum : fraction + zeros + n ≡ fraction + (zeros + n) = omega arith in
-    subst Places sum (subst Whole (parts_fold piece zeros n whole) (subst Rest (rest_is piece zeros) next))
+    subst Places sum (subst Whole (parts_fold piece zeros n whole) (subst Rest (take_rest piece zeros) next))

@@ -1,11 +1,10 @@
 use Rattle.std.proofs.Common.{ℕ, ◌+◌, ◌≤◌, List, ◌++◌, take, drop, length, All, sym, subst, arith, length-drop}
 use Rattle.std.proofs.Math.Seq.{take-add}
-use Rattle.std.proofs.lemmas.List.{take_more}
+use Rattle.std.proofs.lemmas.List.{take_more, take_rest}
 use Rattle.std.proofs.lemmas.List.Elements.{All-append, All-more}
 use Rattle.gj_number.specs.Bytes.{IsDigit}
 use Rattle.gj_number.specs.Grammar.{BeginsNumber}
 use Rattle.gj_number.specs.Literal.{StandsFor}
-use Rattle.gj_number.proofs.Shorts.PiecePrefixes.{rest_is}
 use Rattle.gj_number.proofs.Literals.LiteralPieces.{one_more, run_more, stands_begin}
 use Rattle.gj_number.proofs.literal.Literal.push_digits.Goals as goal
 
@@ -17,7 +16,7 @@ loop-at-preserved c =
     let run = c.push_run-at-in-loop-at in
     let n = run.result in
     let more = take_more piece i 0 c.loop-at-test.true in
-    let rest = rest_is piece (i + 1) in
+    let rest = take_rest piece (i + 1) in
     let digits = All-more IsDigit piece i 0 c.loop-at-test.true c.loop-at.invariant.digits (c.push_digit.ensures.digit taken) in
     let Within : List ℕ → Type 0 = λ xs. n ≤ length xs in
     let Digits : List ℕ → Type 0 = λ xs. All IsDigit (take n xs) in

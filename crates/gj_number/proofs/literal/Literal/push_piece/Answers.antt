@@ -3,15 +3,16 @@ use Rattle.std.proofs.Common.{ℕ, ◌+◌, ◌≤◌, List, ◌++◌, take, len
 use Rattle.std.proofs.lemmas.List.{take_more}
 use Rattle.gj_number.specs.Grammar.{BeginsNumber}
 use Rattle.gj_number.specs.Literal.{StandsFor}
-use Rattle.gj_number.proofs.Literals.LiteralPieces.{one_more, run_stands, run_within, stands_begin, stands_last}
+use Rattle.gj_number.proofs.Literals.LiteralPieces.{one_more, run_stands, stands_begin, stands_last}
 use Rattle.gj_number.proofs.literal.Literal.push_piece.Goals as goal
+use Rattle.gj_number.proofs.Shorts.PiecePrefixes.{more_within}
 
 pub loop-at-init : goal.loop-at-init
 loop-at-init c =
     let piece = c.args.piece.now in
     let i = c.push_first-first.result in
     record {
-      length = run_within piece i c.push_plain.result c.push_first-first.ensures.length c.push_plain.ensures.length;
+      length = more_within piece i c.push_plain.result c.push_first-first.ensures.length c.push_plain.ensures.length;
       stands = (λ bytes h. run_stands bytes piece i c.push_plain.result c.push_first-first.new.self c.push_plain.new.self c.push_plain.ensures.stands
           (c.push_first-first.ensures.stands bytes h));
     }
@@ -23,7 +24,7 @@ loop-at-preserved c =
     let n = c.push_digits-at.result in
     let less : i + 1 ≤ length piece = omega (arith, c.loop-at-test.true) in
     record {
-      length = run_within piece (i + 1) n less c.push_digits-at.ensures.length;
+      length = more_within piece (i + 1) n less c.push_digits-at.ensures.length;
       stands = (λ bytes h.
           let One : List ℕ → Type 0 = λ xs. StandsFor c.push.new.self xs in
           let one = subst One (one_more bytes piece i (take_more piece i 0 c.loop-at-test.true))

@@ -1,11 +1,10 @@
 use Rattle.std.proofs.Common.{◌≡◌, ◌+◌, ◌≤◌, List, ℕ, ◌-◌, ◌∙◌, get_or, length, drop, ap, length-drop, subst, arith}
-use Rattle.std.proofs.lemmas.List.{length-take}
+use Rattle.std.proofs.lemmas.List.{length-take, take_rest}
 use Rattle.std.specs.List.{fold}
 use mir.Val.{bool_byte}
 use Rattle.gj_number.specs.Bytes.{zero_digit}
 use Rattle.gj_number.specs.Internal.DigitLanes.{with_value}
 use Rattle.gj_number.specs.Internal.DigitRuns.{SpellsUnsigned}
-use Rattle.gj_number.proofs.Shorts.PiecePrefixes.{rest_is}
 use Rattle.gj_number.proofs.Shorts.NumberPrefixes.{sign_at, sign_length, one_of, short_small, short_plain}
 use Rattle.gj_number.proofs.Shorts.PointedNumbers.{slice_pointed, usual_one, usual_length, one_before_point, point_after_one}
 use Rattle.gj_number.proofs.short.pair.digits_before.Goals as goal
@@ -25,14 +24,14 @@ returns-clause-small c =
     let lead : get_or piece first 0 ≡ zero_digit → found.natural ≡ 1 = λ z. elim c.else-piece-first-eq48.branch [
       | else-piece-first-eq48-via-then-piece-first-eq48+else-piece-first-ne46 w ↦
           (let some = c.in-Some.ensures.some in
-          let all = subst P (rest_is piece first) c.in-Some.ensures.spells in
+          let all = subst P (take_rest piece first) c.in-Some.ensures.spells in
           let few = c.in-Some.ensures.few in
           let h = one_before_point piece first found.natural (omega (arith, length-drop first piece)) all.natural_digits w.if-piece-first-ne46.false in
           omega arith)
       | else-piece-first-eq48-via-else-piece-first-eq48 w ↦ absurd (w.if-piece-first-eq48.false z)
     ] in
     let s = short_small piece negative first found.natural found.fraction bytes value (sign_at piece negative c.requires.sign (omega arith))
-    (subst P (rest_is piece first) c.in-Some.ensures.spells) c.in-Some.ensures.some (one_of piece first found.natural lead) c.in-Some.ensures.few
+    (subst P (take_rest piece first) c.in-Some.ensures.spells) c.in-Some.ensures.some (one_of piece first found.natural lead) c.in-Some.ensures.few
     (omega arith) in
     s.1
 
@@ -49,14 +48,14 @@ returns-clause-spells c =
     let lead : get_or piece first 0 ≡ zero_digit → found.natural ≡ 1 = λ z. elim c.else-piece-first-eq48.branch [
       | else-piece-first-eq48-via-then-piece-first-eq48+else-piece-first-ne46 w ↦
           (let some = c.in-Some.ensures.some in
-          let all = subst P (rest_is piece first) c.in-Some.ensures.spells in
+          let all = subst P (take_rest piece first) c.in-Some.ensures.spells in
           let few = c.in-Some.ensures.few in
           let h = one_before_point piece first found.natural (omega (arith, length-drop first piece)) all.natural_digits w.if-piece-first-ne46.false in
           omega arith)
       | else-piece-first-eq48-via-else-piece-first-eq48 w ↦ absurd (w.if-piece-first-eq48.false z)
     ] in
     short_plain piece negative first found.natural found.fraction bytes value (sign_at piece negative c.requires.sign (omega arith))
-    (subst P (rest_is piece first) c.in-Some.ensures.spells) c.in-Some.ensures.some (one_of piece first found.natural lead) c.in-Some.ensures.few
+    (subst P (take_rest piece first) c.in-Some.ensures.spells) c.in-Some.ensures.some (one_of piece first found.natural lead) c.in-Some.ensures.few
     (omega arith)
 
 pub returns-in_default-clause-taken : goal.returns-in_default-clause-taken
@@ -74,7 +73,7 @@ returns-then-piece-first-ne46-clause-taken c = λ n u.
     (omega (arith, length-drop first piece, length-take (length piece - first) (drop first piece))) c.if-piece-first-eq48.true in
     let P : List ℕ → Type 0 =
     λ xs. SpellsUnsigned xs found.natural found.fraction (found.natural + 1 + found.fraction) (fold with_value 0 found.digits) in
-    absurd (c.if-piece-first-ne46.true (point_after_one piece first found.natural found.fraction _ (subst P (rest_is piece first) is.spells) one))
+    absurd (c.if-piece-first-ne46.true (point_after_one piece first found.natural found.fraction _ (subst P (take_rest piece first) is.spells) one))
 
 pub returns-then-piece-length-clause-taken : goal.returns-then-piece-length-clause-taken
 returns-then-piece-length-clause-taken c = λ n u.

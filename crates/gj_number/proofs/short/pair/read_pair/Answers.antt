@@ -1,10 +1,10 @@
 use Rattle.std.proofs.Common.{◌≡◌, ◌∙◌, ap, List, ◌+◌, ◌-◌, ◌==◌, ◌^◌, ◌<◌, ◌≤◌, ℕ, get_or, take, drop, length, subst, sym, arith}
+use Rattle.std.proofs.lemmas.List.{take_rest}
 use mir.Val.{bool_byte}
 use Rattle.gj_number.specs.Bytes.{minus_sign, space, close_bracket}
 use Rattle.gj_number.specs.Short.{StartsUsual}
 use Rattle.gj_number.specs.Internal.MovedPoint.{SpellsPlain}
 use Rattle.gj_number.proofs.Shorts.NumberPrefixes.{sign_length}
-use Rattle.gj_number.proofs.Shorts.PiecePrefixes.{rest_is}
 use Rattle.gj_number.proofs.Shorts.PointedNumbers.{second_is}
 use Rattle.gj_number.proofs.Shorts.NumberPairs.{pair_front}
 use Rattle.gj_number.proofs.short.pair.read_pair.Goals as goal
@@ -45,4 +45,4 @@ returns-in_default-digits_before-clause-taken c = λ u.
     ∙ second_is piece u.comma_at u.second_at u.length_other close_bracket u.between u.other in
     let P : List ℕ → Type 0 = λ xs. StartsUsual xs u.length_other close_bracket in
     let Q : ℕ → Type 0 = λ n. StartsUsual (drop n piece) u.length_other close_bracket in
-    c.in_default-digits_before.ensures.taken u.length_other (subst P (sym (rest_is piece at)) (subst Q (sym second) u.other))
+    c.in_default-digits_before.ensures.taken u.length_other (subst P (sym (take_rest piece at)) (subst Q (sym second) u.other))

@@ -1,7 +1,7 @@
 use Rattle.std.proofs.Common.{◌+◌, ◌≤◌, List, ℕ, subst, arith}
+use Rattle.std.proofs.lemmas.List.{take_rest}
 use mir.Val.{bool_byte}
 use Rattle.gj_number.specs.Internal.DigitRuns.{SpellsUnsigned}
-use Rattle.gj_number.proofs.Shorts.PiecePrefixes.{rest_is}
 use Rattle.gj_number.proofs.Shorts.NumberPrefixes.{sign_at, sign_length, one_of, first_some, short_small, short_plain}
 use Rattle.gj_number.proofs.Shorts.WrittenExponents.{plain_front}
 use Rattle.gj_number.proofs.short.prefix.short_number.Goals as goal
@@ -17,7 +17,7 @@ invariant_of-number c =
     let some = first_some piece first found.natural c.in-Some.ensures.ends (c.leads.ensures.some c.if-not-leads.false) in
     let lead = c.leads.ensures.one c.if-not-leads.false in
     let small = short_small piece negative first found.natural found.fraction found.length found.value (sign_at piece negative c.requires.sign (omega arith))
-    (subst P (rest_is piece first) c.in-Some.ensures.spells) some (one_of piece first found.natural lead) (omega (arith, c.in-Some.ensures.few))
+    (subst P (take_rest piece first) c.in-Some.ensures.spells) some (one_of piece first found.natural lead) (omega (arith, c.in-Some.ensures.few))
     (omega arith) in
     record { small = small.1; few = (let l = small.0 in omega arith) }
 
@@ -31,7 +31,7 @@ returns c = λ positive.
     let P : List ℕ → Type 0 = λ xs. SpellsUnsigned xs found.natural found.fraction found.length found.value in
     let some = first_some piece first found.natural c.in-Some.ensures.ends (c.leads.ensures.some c.if-not-leads.false) in
     let lead = c.leads.ensures.one c.if-not-leads.false in
-    let spells = subst P (rest_is piece first) c.in-Some.ensures.spells in
+    let spells = subst P (take_rest piece first) c.in-Some.ensures.spells in
     let sign = sign_at piece negative c.requires.sign (omega arith) in
     let one = one_of piece first found.natural lead in
     let small = short_small piece negative first found.natural found.fraction found.length found.value sign spells some one

@@ -1,8 +1,9 @@
 use Rattle.std.proofs.Common.{arith, ◌≡◌, ◌+◌, ◌++◌, ◌∷◌, [], List, ℕ, ap, subst, ◌∙◌, take, drop, get_or, append_assoc}
 use Rattle.std.proofs.lemmas.Bool.Decides.{nat_tests}
+use Rattle.std.proofs.lemmas.List.{take_rest}
 use Rattle.gj_places.specs.declared.lines.TheConstants.{LINE_FEED}
 use Rattle.gj_places.specs.Counting.{StandsFor}
-use Rattle.gj_places.proofs.CountedPieces.{line_of-on, column_of-on, rest_has, all_rest, parted}
+use Rattle.gj_places.proofs.CountedPieces.{line_of-on, column_of-on, rest_has, parted}
 use Rattle.gj_places.proofs.lines.Lines.feed.Goals as goal
 
 pub returns-then-is_plain : goal.returns-then-is_plain
@@ -16,7 +17,7 @@ returns-then-is_plain c = λ bytes stands.
     }
 
 pub go_on-requires : goal.go_on-requires
-go_on-requires c = rw (all_rest c.args.piece.now (c.in-Some.last + 1)) (rest_has c.args.piece.now (c.in-Some.last + 1)
+go_on-requires c = rw (take_rest c.args.piece.now (c.in-Some.last + 1)) (rest_has c.args.piece.now (c.in-Some.last + 1)
     (λ k from within is. c.in-Some.ensures.0.after k from within is))
 
 pub go_on-requires-in-None : goal.go_on-requires-in-None
@@ -30,4 +31,4 @@ returns-in-Some c = λ bytes stands.
     let joined : (bytes ++ (take last piece ++ LINE_FEED ∷ [])) ++ drop (last + 1) piece ≡ bytes ++ piece =
     append_assoc bytes _ _ ∙ ap (λ (ys : List ℕ). bytes ++ ys) (parted piece last LINE_FEED c.in-Some.ensures.0.high is) in
     let after = c.go_on.ensures (bytes ++ (take last piece ++ LINE_FEED ∷ [])) (c.end_lines.ensures bytes stands) in
-    subst (StandsFor c.go_on.new.self) (ap (λ (ys : List ℕ). (bytes ++ (take last piece ++ LINE_FEED ∷ [])) ++ ys) (all_rest piece (last + 1)) ∙ joined) after
+    subst (StandsFor c.go_on.new.self) (ap (λ (ys : List ℕ). (bytes ++ (take last piece ++ LINE_FEED ∷ [])) ++ ys) (take_rest piece (last + 1)) ∙ joined) after

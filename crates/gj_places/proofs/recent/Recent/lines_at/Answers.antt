@@ -13,6 +13,7 @@ returns-then-at-self-clause-right c = λ bytes recalls.
 -- src/recent.rt:72:5
 pub returns-then-rest-self-clause-right : goal.returns-then-rest-self-clause-right
 returns-then-rest-self-clause-right c = λ bytes recalls.
-    right-in-newer c.args.self.now bytes c.args.place c.after-then-rest-self.result recalls (search (arith, rules)) (search (arith, rules)) (search (arith, rules))
+    right-in-newer c.args.self.now bytes c.args.place c.after-then-rest-self.result recalls (search (arith, rules)) (search (arith, rules))
+    (search (arith, rules))
     (search (arith, rules))
     (λ before stands. search rules)

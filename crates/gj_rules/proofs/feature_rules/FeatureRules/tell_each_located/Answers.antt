@@ -1,13 +1,11 @@
 -- The name, the beginning of the object, and the name in it.
-use Rattle.std.proofs.Common.{◌≡◌, ◌∷◌, ◌++◌, [], List, subst, append_assoc}
+use Rattle.std.proofs.Common.{List, subst}
 use Rattle.gj_json.specs.declared.event.Event.{Event}
 use Rattle.gj_rules.specs.Internal.FeatureSteps.{Stand}
 use Rattle.gj_rules.proofs.feature_rules.FeatureRules.tell_each_located.Goals as goal
-
-by_object : (xs : List Event) (a b c d e : Event) → ((xs ++ a ∷ []) ++ (b ∷ c ∷ d ∷ [])) ++ e ∷ [] ≡ xs ++ (a ∷ b ∷ c ∷ d ∷ e ∷ [])
-by_object xs a b c d e = simp append_assoc
+use Rattle.gj_json.proofs.Events.EventsInTurn.{around_three}
 
 pub returns : goal.returns
 returns g c = λ events h.
     let H : List Event → Type 0 = λ es. Stand (g.S.FeatureSink.told c.tell-2.new.self.sink) c.tell-2.new.self.rules c.tell-2.new.self.count es in
-    subst H (by_object events _ _ _ _ _) (c.tell-2.ensures _ (c.tell_each_typed.ensures _ (c.tell.ensures events h)))
+    subst H (around_three events _ _ _ _ _) (c.tell-2.ensures _ (c.tell_each_typed.ensures _ (c.tell.ensures events h)))

@@ -8,5 +8,9 @@ pub returns-then-is_in_members : goal.returns-then-is_in_members
 returns-then-is_in_members g c = λ events h.
     let old = c.args.self.now in
     let Says = g.S.FeatureSink.told old.sink in
-    let inside = located_inside Says c.args.located.now old.count events (c.is_in_members.ensures.stage c.if-is_in_members.true, c.is_in_members.ensures.due c.if-is_in_members.true) h.1 in
-    (c.tell_located.ensures events h.0, same_count Says (opened old.count) c.pass_by.new.self (events ++ located_events c.args.located.now) (λ l. c.pass_by.ensures (omega (arith, l))) inside)
+    let inside = located_inside Says c.args.located.now old.count events
+    (c.is_in_members.ensures.stage c.if-is_in_members.true, c.is_in_members.ensures.due c.if-is_in_members.true) h.1 in (
+      c.tell_located.ensures events h.0,
+      same_count Says (opened old.count) c.pass_by.new.self (events ++ located_events c.args.located.now)
+          (λ l. c.pass_by.ensures (omega (arith, l))) inside,
+    )

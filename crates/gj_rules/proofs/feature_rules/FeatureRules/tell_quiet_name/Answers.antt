@@ -1,5 +1,5 @@
 -- A name that concerns no feature changes nothing, and reports none.
-use Rattle.std.proofs.Common.{None, sym, subst, ◌∙◌, append-nil}
+use Rattle.std.proofs.Common.{None, sym, subst, append-nil}
 use Rattle.gj_json.specs.declared.event.What.{What}
 use Rattle.gj_rules.specs.Internal.FeatureSteps.{starts_at}
 use Rattle.gj_rules.specs.Internal.RulesState.{core_of}

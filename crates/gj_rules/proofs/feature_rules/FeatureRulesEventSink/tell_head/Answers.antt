@@ -7,9 +7,11 @@ use Rattle.gj_rules.proofs.feature_rules.FeatureRulesEventSink.tell_head.Goals a
 pub returns-in-Object : goal.returns-in-Object
 returns-in-Object g c = λ events h.
     let new = c.tell_typed.new.self in
-    subst (λ (head : Head). Stand (g.S.FeatureSink.told new.sink) new.rules new.count (events ++ head_events head)) (sym c.in-Object.is) (c.tell_typed.ensures events h)
+    subst (λ (head : Head). Stand (g.S.FeatureSink.told new.sink) new.rules new.count (events ++ head_events head)) (sym c.in-Object.is)
+    (c.tell_typed.ensures events h)
 
 pub returns-in-Geometry : goal.returns-in-Geometry
 returns-in-Geometry g c = λ events h.
     let new = c.tell_located.new.self in
-    subst (λ (head : Head). Stand (g.S.FeatureSink.told new.sink) new.rules new.count (events ++ head_events head)) (sym c.in-Geometry.is) (c.tell_located.ensures events h)
+    subst (λ (head : Head). Stand (g.S.FeatureSink.told new.sink) new.rules new.count (events ++ head_events head)) (sym c.in-Geometry.is)
+    (c.tell_located.ensures events h)

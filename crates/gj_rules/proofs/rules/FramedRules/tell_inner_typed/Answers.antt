@@ -1,10 +1,8 @@
-use Rattle.std.proofs.Common.{◌≡◌, ◌∷◌, ◌++◌, [], List, subst, append_assoc}
+use Rattle.std.proofs.Common.{List, subst}
 use Rattle.gj_json.specs.declared.event.Event.{Event}
 use Rattle.gj_rules.specs.Rules.{StandsFor}
 use Rattle.gj_rules.proofs.rules.FramedRules.tell_inner_typed.Goals as goal
-
-three : (xs : List Event) (a b c : Event) → ((xs ++ a ∷ []) ++ b ∷ []) ++ c ∷ [] ≡ xs ++ (a ∷ b ∷ c ∷ [])
-three xs a b c = simp append_assoc
+use Rattle.gj_json.proofs.Events.EventsInTurn.{three}
 
 pub returns : goal.returns
 returns g c = λ events h.

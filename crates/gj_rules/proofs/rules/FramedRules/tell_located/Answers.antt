@@ -4,12 +4,10 @@ use Rattle.gj_json.specs.declared.event.Event.{Event}
 use Rattle.gj_rules.specs.Rules.{StandsFor}
 use Rattle.gj_rules.proofs.rules.FramedRules.tell_located.Goals as goal
 use Rattle.gj_rules.proofs.rules.FramedRules.tell_located.Goals.{then-is_at_geometry, else-is_at_geometry}
+use Rattle.gj_json.proofs.Events.EventsInTurn.{around_three}
 
 by_parts : (xs : List Event) (a b c d e : Event) → (((xs ++ a ∷ []) ++ b ∷ []) ++ (c ∷ d ∷ [])) ++ e ∷ [] ≡ xs ++ (a ∷ b ∷ c ∷ d ∷ e ∷ [])
 by_parts xs a b c d e = simp append_assoc
-
-by_object : (xs : List Event) (a b c d e : Event) → ((xs ++ a ∷ []) ++ (b ∷ c ∷ d ∷ [])) ++ e ∷ [] ≡ xs ++ (a ∷ b ∷ c ∷ d ∷ e ∷ [])
-by_object xs a b c d e = simp append_assoc
 
 pub returns : goal.returns
 returns g c = λ events h.
@@ -18,5 +16,5 @@ returns g c = λ events h.
     elim c.if-is_at_geometry.branch [
       | then-is_at_geometry w ↦ subst H (by_parts events _ _ _ _ _)
           (c.tell_member-2.ensures _ (rw (w.self-is) (w.tell_type.ensures _ (w.open_geometry.ensures _ named))))
-      | else-is_at_geometry w ↦ subst H (by_object events _ _ _ _ _) (c.tell_member-2.ensures _ (rw (w.self-is) (w.tell_inner_typed.ensures _ named)))
+      | else-is_at_geometry w ↦ subst H (around_three events _ _ _ _ _) (c.tell_member-2.ensures _ (rw (w.self-is) (w.tell_inner_typed.ensures _ named)))
     ]
