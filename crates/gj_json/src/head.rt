@@ -1,4 +1,4 @@
-//! The beginnings of features and geometries as most writers put them, which are told at once.
+//! The beginnings of features and geometries as most writers put them, each reported as one event.
 
 ghost use Rattle.std.specs.Prelude.{◌<◌};
 
@@ -25,7 +25,7 @@ pub struct Located {
     pub coordinates: u64,
 }
 
-/// A beginning that is told at once.
+/// A beginning that is reported as one event.
 #[derive(Clone, Copy)]
 pub enum Head {
     /// Of an object.

@@ -1,4 +1,4 @@
-//! The beginnings of features and geometries as most writers put them, each told from others by a comparison of words.
+//! The beginnings of features and geometries as most writers put them, each recognized by a comparison of words.
 
 ghost use Rattle.std.specs.Prelude.{◌≡◌, ◌+◌, ◌<◌, ◌≤◌, ◌∷◌, [], length, take, drop};
 ghost use Rattle.gj_json.specs.Bytes.{close_brace, comma};

@@ -13,7 +13,7 @@ use std::simd::prelude::*;
 /// How many bytes are looked at together.
 pub const LANES: usize = 16;
 
-/// Whether the piece begins with so many bytes of the word.
+/// Whether the piece begins with the first `count` bytes of the word.
 // A comparison of slices is a call, which costs as much as all else that tells a usual head from others.
 #[inline(always)]
 pub fn begins(piece: &[u8], word: &[u8; LANES], count: usize) -> bool
@@ -25,7 +25,7 @@ pub fn begins(piece: &[u8], word: &[u8; LANES], count: usize) -> bool
     differing.to_bitmask().trailing_zeros() as usize >= count
 }
 
-/// Whether the piece begins with a word, and then with so many bytes of the next.
+/// Whether the piece begins with a word, and then with the first `count` bytes of the next.
 #[inline(always)]
 pub fn begins_long(piece: &[u8], word: &[u8; LANES], next: &[u8; LANES], count: usize) -> bool
     requires room { 2 * LANES ≤ length piece.now }
@@ -68,7 +68,7 @@ fn ascii_stops(lanes: u8x16) -> u64
     (quotes | backslashes | controls | beyond).to_bitmask()
 }
 
-/// One bit for each lane that may not stand in a string unescaped.
+/// One bit for each lane that cannot stand in a string unescaped.
 #[inline(always)]
 fn plain_stops(lanes: u8x16) -> u64
     ensures { result ≡ mask_l (map (λ b. not (is_unescaped b)) lanes) }

@@ -42,7 +42,7 @@ impl Locator {
 
     /// Takes a piece of the text, of any size: what [`Locator::push`] of each byte in turn leaves, up to one that is refused.
     ///
-    /// The bytes before that one are taken; from then on each call answers the same fault and changes nothing.
+    /// The bytes before that one are taken; from then on each call returns the same fault and changes nothing.
     pub fn feed(&mut self, piece: &[u8]) -> Result<(), JsonFault>
         ensures stands { (bytes : List ℕ) → StandsFor self.old bytes → StandsFor self.new (bytes ++ piece.now) }
         ensures answer { (bytes : List ℕ) → StandsFor self.old bytes → Answers (limits_of self.old) (bytes ++ piece.now) result }
@@ -55,7 +55,7 @@ impl Locator {
 
     /// Takes the next byte.
     ///
-    /// A byte that is refused is not taken; from then on each call answers the same fault and changes nothing.
+    /// A byte that is refused is not taken; from then on each call returns the same fault and changes nothing.
     pub fn push(&mut self, byte: u8) -> Result<(), JsonFault>
         ensures stands { (bytes : List ℕ) → StandsFor self.old bytes → StandsFor self.new (bytes ++ byte ∷ []) }
         ensures answer { (bytes : List ℕ) → StandsFor self.old bytes → Answers (limits_of self.old) (bytes ++ byte ∷ []) result }

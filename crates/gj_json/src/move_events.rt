@@ -110,7 +110,7 @@ pub fn tell_move<S: EventSink>(sink: &mut S, made: Move, start: u64, offset: u64
     }
 }
 
-/// What is left to report where the text ends, or `None` where it may not end: the number under way may end or not, and has
+/// What is left to report where the text ends, or `None` where it cannot end: the number under way may end or not, and has
 /// this value, and `start` is the place of what is under way.
 pub fn last_event(
     mode: Mode,

@@ -65,7 +65,7 @@ impl Path {
         self.count
     }
 
-    /// The step at `i`, counted from 0 at the root, where it has so many.
+    /// The step at `i`, counted from 0 at the root; `None` where the path is shorter.
     pub fn step(&self, i: u16) -> Option<PathStep>
         ensures { result ≡ slice_get (steps_of self.now) i }
     {

@@ -70,7 +70,7 @@ impl Reader {
     /// Takes a piece of the text, of any size, and reports to the sink the events that are complete in it, in order.
     ///
     /// It is what `push` of each byte in turn leaves and reports, up to a byte that is refused. The bytes before that one
-    /// are taken; from then on each call answers the same fault and changes nothing.
+    /// are taken; from then on each call returns the same fault and changes nothing.
     pub fn feed<S: EventSink>(&mut self, piece: &[u8], sink: &mut S) -> Result<(), JsonFault>
         ensures stands { (bytes : List ℕ) → StandsFor self.old bytes → StandsFor self.new (bytes ++ piece.now) }
         ensures answer { (bytes : List ℕ) → StandsFor self.old bytes → Answers (limits_of self.old) (bytes ++ piece.now) result }
@@ -94,9 +94,9 @@ impl Reader {
         }
     }
 
-    /// Takes the next byte, and answers the events that it completes, two at the most.
+    /// Takes the next byte, and returns the events that it completes, two at the most.
     ///
-    /// A byte that is refused is not taken; from then on each call answers the same fault and changes nothing.
+    /// A byte that is refused is not taken; from then on each call returns the same fault and changes nothing.
     pub fn push(&mut self, byte: u8) -> Result<ArrayVec<Event, 2>, JsonFault>
         ensures stands { (bytes : List ℕ) → StandsFor self.old bytes → StandsFor self.new (bytes ++ byte ∷ []) }
         ensures answer { (bytes : List ℕ) → StandsFor self.old bytes → Answers (limits_of self.old) (bytes ++ byte ∷ []) result }
@@ -133,7 +133,7 @@ impl Reader {
         self.take_byte(byte, sink)
     }
 
-    /// Ends the text. Only now has a number at its end ended, which is the event that is answered.
+    /// Ends the text. Only now has a number at its end ended, which is the event that is returned.
     pub fn finish(self) -> Result<Option<Event>, JsonFault>
         ensures answer { (bytes : List ℕ) → StandsFor self bytes → FinishAnswers (limits_of self) bytes result }
         ensures again { (fault : JsonFault) → refusal_of self ≡ Some fault → result ≡ Err fault }
@@ -149,7 +149,7 @@ impl Reader {
         }
     }
 
-    /// Whether [`Reader::finish`] would answer `Ok(None)`: the text may end here, and no event is left to its end.
+    /// Whether [`Reader::finish`] would return `Ok(None)`: the text may end here, and no event waits for its end.
     #[inline]
     pub fn is_whole(&self) -> bool
         ensures live { IsTrue result → refusal_of self.now ≡ None }

@@ -99,7 +99,7 @@ pub trait EventSink {
     fn ignored(&self) -> u16
         ensures { result ≡ ignores self.now };
 
-    /// Events came within the levels that it ignores, whichever they are, and so many of these levels are left to close.
+    /// Events came within the levels that it ignores, whichever they are, and `left` of these levels are left to close.
     fn pass(&mut self, left: u16)
         ensures { (events inner : List Event) → 0 < ignores self.old → heard self.old events → Leaves (ignores self.old) inner left
             → heard self.new (events ++ inner) };

@@ -273,7 +273,7 @@ impl FeatureCount {
         self.id_due = false;
     }
 
-    /// Whether an event of this kind asks for more than [`FeatureCount::pass_by`].
+    /// Whether an event of this kind needs more than [`FeatureCount::pass_by`].
     #[inline(always)]
     pub fn concerns(&self, what: &What) -> bool
         ensures { result ≡ concerned what.now self.now.inner self.now.stage self.now.id_due }
@@ -321,7 +321,7 @@ impl FeatureCount {
         }
     }
 
-    /// After events within the innermost of these levels, of which so many are left.
+    /// After events within the innermost of `levels` levels, of which `left` are left.
     pub fn pass_levels(&mut self, levels: u16, left: u16)
         ensures { self.old.inner - levels + left < 2 ^ 63 → self.new ≡ record self.old { inner = self.old.inner - levels + left } }
     {

@@ -52,7 +52,7 @@ impl<S: FeatureSink> FeatureLinter<S> {
     }
 
     /// Takes the next bytes of the input, up to a byte that is refused, and reports the features that are complete in them,
-    /// in order. From a refusal on each call answers the same fault and changes nothing.
+    /// in order. After a refusal each call returns the same fault and changes nothing.
     pub fn feed(&mut self, piece: &[u8]) -> Progress
         ensures stands { (bytes : List ℕ) → StandsFor S.told self.old bytes → StandsFor S.told self.new (bytes ++ piece.now) }
         ensures answer { (bytes : List ℕ) → StandsFor S.told self.old bytes → Answers (limits_of self.old) (bytes ++ piece.now) result }
@@ -81,8 +81,8 @@ impl<S: FeatureSink> FeatureLinter<S> {
         (verdict, self.rules.into_sink())
     }
 
-    /// The verdict of the input that was fed, where the linter lies: all its features are reported, where it is a JSON text. What
-    /// the linter then stands for is not said.
+    /// The verdict of the input that was fed, in place: all its features are reported, where it is a JSON text. What
+    /// the linter stands for afterwards is not said.
     pub fn end(&mut self) -> Verdict
         ensures verdict { (bytes : List ℕ) → StandsFor S.told self.old bytes → IsVerdict (limits_of self.old) bytes result }
         ensures told { (bytes : List ℕ) (text : Text) → StandsFor S.told self.old bytes → IsAdmitted (limits_of self.old) text bytes
@@ -132,7 +132,7 @@ impl<S: FeatureSink> FeatureLinter<S> {
 impl<S: ForgetfulSink> FeatureLinter<S> {
     ghost use Rattle.gj_rules.specs.FeatureLinter.{StandsFor, limits_of, refusal_of, offset_of};
 
-    /// As a new linter under these limits, where it lies: little of it is written, and the sink forgets.
+    /// Begins anew under these limits, in place: little is written, and the sink forgets.
     pub fn begin_again(&mut self, limits: Limits)
         ensures stands { StandsFor S.told self.new [] }
         ensures limits { limits_of self.new ≡ limits }

@@ -57,7 +57,7 @@ impl Frame {
         self.slots.role
     }
 
-    /// Takes a name, and answers as the first member of which name its value is to be checked:
+    /// Takes a name, and returns as the first member of which name its value is to be checked:
     /// `Other` where it is not.
     pub fn name(&mut self, name: Known, place: u64) -> Known
         ensures frame { frame_in self.new ≡ named name place (frame_in self.old) }

@@ -9,8 +9,8 @@ ghost use Rattle.gj_rules.specs.Judged.{judged_at};
 ghost use Rattle.gj_rules.specs.Places.{IsPlaceIn};
 ghost use Rattle.gj_rules.specs.Verdict.{Judgement, IsJudgement};
 
-/// Of the arrays and objects that are open in a prefix of a text, at most half and one have a role:
-/// but for `geometry`, once on the way from the text's object, an array stands between two of them.
+/// At most half of the arrays and objects that are open in a prefix of a text, and one more, have a
+/// role: but for `geometry`, once on the way from the text's object, an array stands between two of them.
 pub fn judged_levels()
     ensures open { (text : Text) (n : ℕ) → judged_at n text ≤ open_at n text }
     ensures half { (text : Text) (bytes : List ℕ) (n : ℕ) → IsText text bytes → judged_at n text ≤ open_at n text / 2 + 1 }

@@ -1,6 +1,6 @@
 //! The rules of GeoJSON (RFC 7946), and the linter that checks an input by them.
 //!
-//! A [`Linter`] takes an input in pieces of any size and answers its [`Verdict`]. It is a
+//! A [`Linter`] takes an input in pieces of any size and returns its [`Verdict`]. It is a
 //! [`Reader`](gj_json::Reader) that reports its events to [`Rules`]. These find the least fault of a
 //! text: that of the least place, and at one place of the lowest number. Of a text without a fault they
 //! report what is likely wrong in use: of each kind of warning how many there are, and the least place.
@@ -8,7 +8,7 @@
 //! the length of the text and wherever an object's `type` stands.
 //!
 //! A [`FeatureLinter`] reports what is found in each feature of a text too, as soon as the feature has ended.
-//! [`check_text`] answers the verdict of a text in memory, and writes few frames for a small one.
+//! [`check_text`] returns the verdict of a text in memory, and writes few frames for a small one.
 #![tactic(auto)]
 
 mod feature;

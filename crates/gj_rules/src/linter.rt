@@ -87,7 +87,7 @@ impl Linter {
         }
     }
 
-    /// Takes the next bytes of the input, up to a byte that is refused. From then on each call answers
+    /// Takes the next bytes of the input, up to a byte that is refused. From then on each call returns
     /// the same fault and changes nothing. A broken rule never ends the reading.
     pub fn feed(&mut self, piece: &[u8]) -> Progress
         ensures stands { (bytes : List ℕ) → StandsFor self.old bytes → StandsFor self.new (bytes ++ piece.now) }
@@ -156,7 +156,7 @@ impl Linter {
         self.reader.is_whole() && self.rules.is_clean()
     }
 
-    /// As a new linter under these limits, where it lies: little of it is written.
+    /// Begins anew under these limits, in place: little is written.
     pub(crate) fn begin_again(&mut self, limits: Limits)
         ensures stands { StandsFor self.new [] }
         ensures limits { limits_of self.new ≡ limits }
@@ -168,8 +168,8 @@ impl Linter {
         self.reader = Reader::new(limits);
     }
 
-    /// The verdict of the input that was fed. From then on the linter is as a new one under these limits, where it lies, and
-    /// little of it is written: that costs less than a new one.
+    /// The verdict of the input that was fed. The linter begins anew under these limits, in place: little is written, so it costs
+    /// less than a new one.
     pub fn finish_and_begin(&mut self, limits: Limits) -> Verdict
         ensures verdict { (bytes : List ℕ) → StandsFor self.old bytes → IsVerdict (limits_of self.old) bytes result }
         ensures again { (fault : JsonFault) → refusal_of self.old ≡ Some fault → result ≡ Verdict.NotJson fault }
@@ -184,7 +184,7 @@ impl Linter {
         verdict
     }
 
-    /// An early no: where it answers true, no input that begins with the bytes fed is valid, so that nothing more
+    /// An early no: where it returns true, no input that begins with the bytes fed is valid, so that nothing more
     /// need be read for a yes or no.
     ///
     /// It is true after a refusal, and once the value of the text has begun and is no object, or its object shows a

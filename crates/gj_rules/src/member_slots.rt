@@ -273,7 +273,7 @@ impl MemberSlots {
         }
     }
 
-    /// Takes a name, and answers as the first member of which name its value is to be checked:
+    /// Takes a name, and returns as the first member of which name its value is to be checked:
     /// `Other` where it is not.
     // In each arm the name is a constant, so that what is done for it is all that is left of the rest.
     #[inline]

@@ -67,7 +67,7 @@ impl MemberWarnings {
         }
     }
 
-    /// Takes a name: each `crs` is warned of (RFC 7946, section 4).
+    /// Takes a name: each `crs` gets a warning (RFC 7946, section 4).
     pub fn name(&mut self, name: Known, place: u64)
         ensures { gathered_in self.new ≡ gathered_at name place (gathered_in self.old) }
     {

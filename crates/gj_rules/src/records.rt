@@ -84,7 +84,7 @@ impl Records {
         }
     }
 
-    /// As new ones, where they lie: little of them is written.
+    /// Begins anew, in place: little is written.
     pub fn begin_again(&mut self, framing: Framing, limits: Limits)
         ensures stands { StandsFor self.new [] [] }
         ensures framing { framing_of self.new ≡ framing }
@@ -196,7 +196,7 @@ impl Records {
         self.record.feed(run);
     }
 
-    /// Takes a separator: it ends the open record, where that is one, and answers whether it is.
+    /// Takes a separator: it ends the open record, where that is one, and returns whether it is.
     fn separate<S: RecordSink>(&mut self, sink: &mut S) -> bool
         requires room { self.old.record.end < self.old.limits.bytes }
         requires live { self.old.is_over ≡ false }
@@ -297,7 +297,7 @@ impl Records {
         })
     }
 
-    /// Reports the last record, and answers what the input is as a whole: all its records are valid, with the warnings of all, or
+    /// Reports the last record, and returns what the input is as a whole: all its records are valid, with the warnings of all, or
     /// one is the first that is not.
     pub fn finish<S: RecordSink>(mut self, sink: &mut S) -> SeqVerdict
         ensures told { (bytes : List ℕ) (before found : List Record) → StandsFor self bytes found → S.told sink.old (before ++ found)
@@ -306,7 +306,7 @@ impl Records {
         self.end(sink).verdict
     }
 
-    /// As `finish`, where they lie. What they then stand for is not said.
+    /// As `finish`, in place. What they stand for afterwards is not said.
     #[inline(never)]
     pub fn end<S: RecordSink>(&mut self, sink: &mut S) -> Whole
         ensures told { (bytes : List ℕ) (before found : List Record) → StandsFor self.old bytes found → S.told sink.old (before ++ found)

@@ -27,8 +27,8 @@ pub const MOST_FRAMES: usize = MOST_LEVELS as usize / 2 + 1;
 /// Only an object with a role has a frame, whatever its type and those of the objects around it. A
 /// value without a role is skipped by a count of its levels.
 ///
-/// There are `FRAMES` frames, which are written when the rules are made: that is what rules cost which see a small text. So
-/// many serve a text that nests at most `2 * FRAMES - 2` levels deep. [`Rules`] has enough of them for every text.
+/// There are `FRAMES` frames, which are written when the rules are made: on a small text, that is most of the cost. They are
+/// enough for a text that nests at most `2 * FRAMES - 2` levels deep. [`Rules`] has enough of them for every text.
 #[derive(Drop)]
 pub struct FramedRules<const FRAMES: usize> {
     /// The frames of the open objects with a role, the outermost first: up to that of the innermost one.
@@ -157,7 +157,7 @@ impl<const FRAMES: usize> FramedRules<FRAMES> {
         }
     }
 
-    /// In a prefix of a text the number of open objects with a role, which is that of the frames in use.
+    /// The number of open objects with a role in a prefix of a text, which is that of the frames in use.
     pub fn judged(&self) -> u16
         ensures { (text : Text) (bytes : List ℕ) (n : ℕ) → IsText text bytes → depth text.value ≤ levels_within FRAMES → StandsFor self.now (events_by n text)
             → result ≡ judged_at n text }

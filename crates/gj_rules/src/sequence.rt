@@ -85,7 +85,7 @@ impl Sequence {
     }
 
     /// Takes the next bytes of the input, up to one that decides that a record is not valid. From then on
-    /// each call answers so and changes nothing.
+    /// each call returns the same and changes nothing.
     pub fn feed(&mut self, piece: &[u8]) -> SeqProgress
         ensures stands { (bytes : List ℕ) → StandsFor self.old bytes → StandsFor self.new (bytes ++ piece.now) }
         ensures answer { (bytes : List ℕ) → StandsFor self.old bytes → Answers (limits_of self.old) (bytes ++ piece.now) result }
@@ -118,7 +118,7 @@ impl Sequence {
         }
     }
 
-    /// Takes the next byte, or the next bytes of the open record; answers how many.
+    /// Takes the next byte, or the next bytes of the open record; returns how many.
     fn take(&mut self, rest: &[u8]) -> usize
         requires some { 0 < length rest.now }
         requires live { is_decided self.old ≡ false }
@@ -289,7 +289,7 @@ impl Sequence {
 
 ghost use Rattle.gj_rules.specs.Sequence.{has_separator, begins_with_separator};
 
-/// How many bytes there are before the next separator, of at most so many.
+/// How many bytes there are before the next separator, at most `room`.
 fn run_length(rest: &[u8], room: u64) -> usize
     requires room { 0 < room }
     requires some { 0 < length rest.now }

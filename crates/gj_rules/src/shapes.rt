@@ -25,7 +25,7 @@ pub struct Shapes {
     pub multi_polygon: Warned,
 }
 
-/// As which an object of a type has its coordinates, where it has some.
+/// The simple type whose `coordinates` an object of the type `word` has, where it has some.
 #[inline]
 pub fn simple_of(word: Word) -> Option<Simple>
     ensures { result ≡ simple_of word }

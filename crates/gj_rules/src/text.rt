@@ -13,13 +13,13 @@ use crate::verdict::Verdict;
 use gj_coords::laws::kept_warnings;
 use gj_json::{Cause, Limits, Reader, bytes_taken, few_events};
 
-/// How many frames a small text is first read with: as many as a FeatureCollection of MultiPolygons asks for.
+/// How many frames a small text is first read with: as many as a FeatureCollection of MultiPolygons needs.
 const FEW_FRAMES: usize = 5;
 
-/// How deep a text may nest that so many serve.
+/// How deep a text may nest for which these frames are enough.
 const FEW_LEVELS: u16 = 2 * FEW_FRAMES as u16 - 2;
 
-/// Up to how many bytes a text is small. To read so many takes about as long as to write the frames that are spared.
+/// Up to how many bytes a text is small. To read that many takes about as long as to write the frames that are spared.
 const SMALL_BYTES: usize = 8192;
 
 /// The verdict of a text in memory under these limits: that of a linter which is fed the whole text.
@@ -48,7 +48,7 @@ fn small_verdict(text: &[u8], limits: Limits) -> Option<Verdict>
     }
 }
 
-/// The verdict with so many frames, under limits for which they are enough.
+/// The verdict with `FRAMES` frames, under limits for which they are enough.
 // Each has its own part of the stack, so that a small text does not pay for the frames of a large one.
 #[inline(never)]
 fn framed_verdict<const FRAMES: usize>(text: &[u8], limits: Limits) -> Verdict

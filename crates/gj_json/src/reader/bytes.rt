@@ -248,7 +248,7 @@ impl Reader {
         Ok(made)
     }
 
-    /// Takes a byte that the limit on the bytes allows, reports the events that it completes, and answers the move that it makes.
+    /// Takes a byte that the limit on the bytes allows, reports the events that it completes, and returns the move that it makes.
     pub(super) fn take_byte<S: EventSink>(
         &mut self,
         byte: u8,

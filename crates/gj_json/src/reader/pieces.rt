@@ -13,7 +13,7 @@ use crate::sink::EventSink;
 impl Reader {
     ghost use Rattle.gj_json.specs.Internal.FedReader.{Passed, Skips, FeedsAll, FeedsTo};
 
-    /// Passes over so many bytes, after which this is the mode.
+    /// Passes over `count` bytes, after which this is the mode.
     pub(super) fn skip(&mut self, count: usize, mode: Mode) -> usize
         requires room { self.old.offset + count ≤ self.old.limits.bytes }
         requires small { self.old.limits.bytes ≤ 2 ^ 60 }

@@ -26,7 +26,7 @@ impl Reader {
     }
 
     /// Takes the whole characters at the start of the piece that stand unescaped in the string or the name that is open, as
-    /// far as the limit on the bytes allows, and answers how many bytes they have.
+    /// far as the limit on the bytes allows, and returns how many bytes they have.
     ///
     /// It takes nothing where no string and no name is open, where a character or an escape is under way in it, and after a
     /// refusal. A character that the end of the piece cuts is left to [`Reader::push`].

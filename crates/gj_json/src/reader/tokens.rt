@@ -67,7 +67,7 @@ const MANY: u8 = 4;
 /// A number of more bytes with the byte after it is hardly one that is reported at once.
 const LONG: usize = 20;
 
-/// Whether this byte is one of arrays of numbers that are not reported at once: so many numbers were in the last of them.
+/// Whether this byte is one of arrays of numbers that are not reported at once: the last of them has `numbers` so far.
 #[inline(always)]
 fn goes_on(byte: u8, numbers: u8) -> bool {
     match byte {
@@ -77,7 +77,7 @@ fn goes_on(byte: u8, numbers: u8) -> bool {
     }
 }
 
-/// How many numbers are in the array after a token that begins by this byte and has so many bytes. One that is not reported at
+/// How many numbers are in the array after a token that begins with this byte and has `count` bytes. One that is not reported at
 /// once counts as many.
 #[inline(always)]
 fn numbers_with(byte: u8, count: usize, numbers: u8) -> u8 {
@@ -250,7 +250,7 @@ impl Reader {
         self.skip(1, opened_mode(level))
     }
 
-    /// Takes so many bytes, of which the last closes the innermost level, which is this.
+    /// Takes `count` bytes, of which the last closes the innermost level, which is this.
     #[inline(always)]
     fn take_close<S: EventSink>(&mut self, level: Level, count: usize, sink: &mut S) -> usize
         requires some { 0 < count }
@@ -269,7 +269,7 @@ impl Reader {
         self.skip(count, Mode::ValueDone)
     }
 
-    /// Takes the number of so many bytes that the piece starts with, and the byte after it: how many bytes, or 0 where that
+    /// Takes the number that the piece starts with, whose length is given, and the byte after it: how many bytes, or 0 where that
     /// byte ends no value.
     #[inline(always)]
     fn end_number<S: EventSink>(

@@ -95,7 +95,7 @@ impl<S: FeatureSink> FeatureRules<S> {
         }
     }
 
-    /// The start of an object. Mostly it is one in a feature, since that of a feature is told as a head.
+    /// The start of an object. Mostly it is one in a feature, since that of a feature is reported as a head.
     #[inline(never)]
     pub(super) fn tell_open_object(&mut self, place: u64)
         ensures { (events : List Event) → Stand (S.told self.old.sink) self.old.rules self.old.count events

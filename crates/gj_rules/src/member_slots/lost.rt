@@ -29,21 +29,21 @@ impl MemberSlots {
         }
     }
 
-    /// A member is there that a geometry may not have (RFC 7946, section 7.1).
+    /// A member is there that a geometry must not have (RFC 7946, section 7.1).
     fn geometry_is_forbidden(&self) -> bool
         ensures { result ≡ geometry_forbids (slots_in self.now) }
     {
         self.has(Known::Geometry) || (self.has(Known::Properties) || self.has(Known::Features))
     }
 
-    /// A member is there that a Feature may not have.
+    /// A member is there that a Feature must not have.
     fn feature_is_forbidden(&self) -> bool
         ensures { result ≡ feature_forbids (slots_in self.now) }
     {
         self.has(Known::Coordinates) || (self.has(Known::Geometries) || self.has(Known::Features))
     }
 
-    /// A member is there that a FeatureCollection may not have.
+    /// A member is there that a FeatureCollection must not have.
     fn features_are_forbidden(&self) -> bool
         ensures { result ≡ features_forbid (slots_in self.now) }
     {

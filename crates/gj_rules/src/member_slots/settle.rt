@@ -83,7 +83,7 @@ impl MemberSlots {
         }
     }
 
-    /// The least of the members that a geometry may not have (RFC 7946, section 7.1).
+    /// The least of the members that a geometry must not have (RFC 7946, section 7.1).
     fn geometry_forbids(&self) -> Option<Fault>
         ensures { result ≡ geometry_forbids (slots_in self.now) }
     {
@@ -94,7 +94,7 @@ impl MemberSlots {
         lesser_fault(MemberSlots::forbidden(self.slot(Known::Geometry)), rest)
     }
 
-    /// The least of the members that a Feature may not have.
+    /// The least of the members that a Feature must not have.
     fn feature_forbids(&self) -> Option<Fault>
         ensures { result ≡ feature_forbids (slots_in self.now) }
     {
@@ -116,7 +116,7 @@ impl MemberSlots {
         lesser_fault(self.due(self.slot(Known::Geometry), Rule::G6), rest)
     }
 
-    /// The least of the members that a FeatureCollection may not have.
+    /// The least of the members that a FeatureCollection must not have.
     fn features_forbid(&self) -> Option<Fault>
         ensures { result ≡ features_forbid (slots_in self.now) }
     {

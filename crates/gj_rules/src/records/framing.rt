@@ -1,4 +1,4 @@
-//! What parts the records of an input.
+//! What separates the records of an input.
 ghost use Rattle.std.specs.Prelude.{◌≡◌, ℕ, ◌<◌, ◌≤◌, List, length, take, false, ◌&&◌};
 ghost use Rattle.gj_rules.specs.Records.{separator_of, is_blank, are_blank, is_void, first_number};
 ghost use Rattle.gj_rules.specs.Internal.BytesBefore.{has_byte, begins_with};
@@ -51,7 +51,7 @@ impl Framing {
         }
     }
 
-    /// Whether such bytes alone are no record: in a sequence where there is none, of a line where they are white space.
+    /// Whether these bytes alone are no record: in a sequence where there are none, in lines where they are white space.
     #[inline]
     pub fn is_void(self, bytes: &[u8]) -> bool
         ensures { result ≡ is_void self bytes.now }
@@ -84,7 +84,7 @@ fn are_blank(bytes: &[u8]) -> bool
     bytes.iter().all(|byte| is_blank(*byte))
 }
 
-/// How many bytes there are before the next such byte, of at most so many.
+/// How many bytes there are before the next such byte, at most `room`.
 #[inline]
 pub fn run_before(separator: u8, rest: &[u8], room: u64) -> usize
     requires room { 0 < room }

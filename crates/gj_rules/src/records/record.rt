@@ -8,7 +8,7 @@ use gj_coords::laws::joined_warnings;
 /// What is found in a record of an input.
 #[derive(Clone, Copy, Debug, PartialEq, Eq)]
 pub struct Record {
-    /// Counted from 1. It is 0 of the bytes before the first RS of a text sequence, which are no record.
+    /// Counted from 1. It is 0 for the bytes before the first RS of a text sequence, which are no record.
     pub number: u64,
     /// The place of its first byte: the byte offset in the input.
     pub place: u64,

@@ -1,4 +1,4 @@
-//! Beginnings of objects that are told at once.
+//! Beginnings of objects that are reported as one event.
 
 ghost use Rattle.std.specs.Prelude.{◌≡◌, ◌+◌, ◌++◌, ◌∷◌, [], List, IsTrue};
 ghost use Rattle.gj_json.specs.declared.event.Event.{Event};

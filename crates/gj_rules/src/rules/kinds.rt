@@ -1,4 +1,4 @@
-//! An event by its kind. In each of these functions the kind is known, so that only what it asks for is looked at.
+//! An event by its kind. In each of these functions the kind is known, so that only what it needs is looked at.
 ghost use Rattle.std.specs.Prelude.{◌≡◌, ◌++◌, ◌∷◌, [], List, IsTrue};
 ghost use Rattle.gj_json.specs.declared.event.Event.{Event};
 ghost use Rattle.gj_json.specs.declared.event.What.TheVariants as W;
@@ -49,7 +49,7 @@ impl<const FRAMES: usize> FramedRules<FRAMES> {
         }
     }
 
-    /// A name that is told by itself.
+    /// A name that is reported by itself.
     #[inline(never)]
     pub(crate) fn tell_name(&mut self, name: Known, place: u64)
         ensures { (events : List Event) → StandsFor self.old events → StandsFor self.new (events ++ record { place = place; what = W.Name name } ∷ []) }

@@ -195,7 +195,7 @@ impl OpenRecord {
         self.last = SEPARATOR; // It has no byte.
     }
 
-    /// As a new record under these limits, where it lies.
+    /// Begins anew as a record under these limits, in place.
     pub fn begin_under(&mut self, limits: Limits, start: u64)
         requires within { start ≤ 2 ^ 60 }
         requires wide { limits.bytes ≡ 2 ^ 60 }

@@ -35,7 +35,7 @@ pub fn one_sequence_verdict()
     one_verdict();
 }
 
-/// The verdict of a record that has so many bytes, given that of its bytes: a text that is not ended
+/// The verdict of a record of `end` bytes, given that of its bytes: a text that is not ended
 /// by LF is truncated.
 pub fn if_ended(verdict: Verdict, ended: bool, end: u64) -> Verdict
     ensures { result ≡ if_ended ended end verdict }
@@ -69,7 +69,7 @@ pub fn if_cut(verdict: Verdict, end: u64) -> Verdict
     }
 }
 
-/// The verdict of a record that has so many bytes and ends so, given that of its bytes.
+/// The verdict of a record by how it ends, given that of its bytes.
 pub fn ended_as(
     verdict: Verdict,
     framing: Framing,
@@ -86,7 +86,7 @@ pub fn ended_as(
     }
 }
 
-/// The verdict with each place so many bytes further on.
+/// The verdict with each place `by` bytes further on.
 pub fn shifted(verdict: Verdict, by: u64) -> Verdict
     requires { (place : ℕ) → TellsPlace place verdict → place + by ≤ 2 ^ 61 }
     ensures { result ≡ shifted_verdict by verdict }
@@ -101,7 +101,7 @@ pub fn shifted(verdict: Verdict, by: u64) -> Verdict
     }
 }
 
-/// The refusal so many bytes further on.
+/// The refusal `by` bytes further on.
 pub fn shifted_fault(fault: JsonFault, by: u64) -> JsonFault
     requires { fault.place + by ≤ 2 ^ 61 }
     ensures { result ≡ record { place = fault.place + by; cause = fault.cause } }
