@@ -5,7 +5,7 @@ use Rattle.gj_json.specs.declared.flat.Flat.{Flat}
 use Rattle.gj_coords.specs.declared.array.Stage.TheVariants.{Done}
 use Rattle.gj_coords.specs.declared.coordinates.Coordinates.{Coordinates}
 use Rattle.gj_coords.specs.declared.walk.depth.Depth.{Depth}
-use Rattle.gj_coords.specs.declared.walk.depth.Depth.TheVariants.{Unknown, First, Second, Third, OrEmpty}
+use Rattle.gj_coords.specs.declared.walk.depth.Depth.TheVariants.{Unknown, First, Second, Third, Whole}
 use Rattle.gj_coords.specs.Internal.ValueMachine.{ReadsOn}
 use Rattle.gj_coords.specs.Internal.GatheredWarnings.{no_warned}
 use Rattle.gj_coords.specs.Internal.PositionGather.{sound_noted}
@@ -31,7 +31,7 @@ Holds Unknown floor events walk = IsAt events walk
 Holds First floor events walk = IsAt events walk × IsFirst floor walk
 Holds Second floor events walk = IsAt events walk × IsSecond floor walk
 Holds Third floor events walk = IsAt events walk × IsThird floor walk
-Holds OrEmpty floor events walk = IsWhole events walk
+Holds Whole floor events walk = IsWhole events walk
 
 -- What it says is internal: a caller needs that `new` stands for no events, and that each call keeps it.
 pub record StandsFor (coordinates : Coordinates) (events : List Event) : Type 0 where

@@ -160,7 +160,7 @@ impl Coordinates {
     {
         self.walk.gather.hold_flat(flat);
         self.walk.stage = Stage::Done;
-        self.depth = Depth::OrEmpty;
+        self.depth = Depth::Whole;
     }
 
     /// Takes the events of an array of numbers within the value.

@@ -71,7 +71,7 @@ fn dense_typed(piece: &[u8]) -> UsualTyped
     NOT_TYPED
 }
 
-/// The same of a feature, with a space after each colon and comma.
+/// The beginning of an object by its `type`, with a space after the colon and the comma.
 #[inline(always)]
 fn spaced_typed(piece: &[u8]) -> UsualTyped
     requires room { ROOM ≤ length piece.now }
@@ -90,7 +90,7 @@ fn spaced_typed(piece: &[u8]) -> UsualTyped
     NOT_TYPED
 }
 
-/// The same with either.
+/// The beginning of an object by its `type`, with such spaces or without.
 #[inline(always)]
 pub fn usual_typed(piece: &[u8]) -> UsualTyped
     ensures within { result.count ≤ length piece.now }
@@ -155,7 +155,7 @@ fn dense_located(piece: &[u8]) -> UsualLocated
     NOT_LOCATED
 }
 
-/// The same with a space after each colon and comma.
+/// The beginning of a member `geometry`, with a space after each colon and comma.
 #[inline(always)]
 fn spaced_located(piece: &[u8]) -> UsualLocated
     requires room { ROOM ≤ length piece.now }
@@ -184,7 +184,7 @@ fn spaced_located(piece: &[u8]) -> UsualLocated
     NOT_LOCATED
 }
 
-/// The same with either.
+/// The beginning of a member `geometry`, with such spaces or without.
 #[inline(always)]
 pub fn usual_located(piece: &[u8]) -> UsualLocated
     ensures within { result.count ≤ length piece.now }

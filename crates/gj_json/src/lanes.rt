@@ -4,7 +4,7 @@ ghost use Rattle.std.specs.Prelude.{◌≡◌, ◌≤◌, ◌+◌, ◌*◌, ◌+
 ghost use Rattle.std.specs.List.{prefix_len};
 ghost use Rattle.std.specs.Simd.Lanes.{mask_l};
 ghost use Rattle.std.specs.Str.{bytes_eq};
-ghost use Rattle.gj_json.specs.Internal.QuietBytes.{is_plain, is_white};
+ghost use Rattle.gj_json.specs.Internal.QuietBytes.{is_unescaped_ascii, is_white};
 ghost use Rattle.gj_json.specs.Runs.{is_unescaped};
 ghost use Rattle.gj_json.specs.declared.lanes.TheConstants.{LANES};
 
@@ -36,8 +36,8 @@ pub fn begins_long(piece: &[u8], word: &[u8; LANES], next: &[u8; LANES], count: 
 }
 
 /// Whether the byte is a character by itself.
-fn is_plain(byte: u8) -> bool
-    ensures { result ≡ is_plain byte }
+fn is_unescaped_ascii(byte: u8) -> bool
+    ensures { result ≡ is_unescaped_ascii byte }
 {
     b' ' <= byte && byte <= 0x7F && byte != b'"' && byte != b'\\'
 }
@@ -59,7 +59,7 @@ pub fn is_white(byte: u8) -> bool
 /// One bit for each lane that is no character by itself.
 #[inline(always)]
 fn ascii_stops(lanes: u8x16) -> u64
-    ensures { result ≡ mask_l (map (λ b. not (is_plain b)) lanes) }
+    ensures { result ≡ mask_l (map (λ b. not (is_unescaped_ascii b)) lanes) }
 {
     let quotes = lanes.simd_eq(u8x16::splat(b'"'));
     let backslashes = lanes.simd_eq(u8x16::splat(b'\\'));
@@ -94,9 +94,12 @@ fn white_stops(lanes: u8x16) -> u64
 }
 
 fn few_ascii(piece: &[u8]) -> usize
-    ensures { result ≡ prefix_len is_plain piece.now }
+    ensures { result ≡ prefix_len is_unescaped_ascii piece.now }
 {
-    piece.iter().take_while(|byte| is_plain(**byte)).count()
+    piece
+        .iter()
+        .take_while(|byte| is_unescaped_ascii(**byte))
+        .count()
 }
 
 fn few_plain(piece: &[u8]) -> usize
@@ -114,7 +117,7 @@ fn few_white(piece: &[u8]) -> usize
 /// How many bytes at the start of the piece are characters by themselves.
 #[inline(always)]
 pub fn ascii_run(piece: &[u8]) -> usize
-    ensures { result ≡ prefix_len is_plain piece.now }
+    ensures { result ≡ prefix_len is_unescaped_ascii piece.now }
 {
     if piece.len() >= LANES {
         let stops = ascii_stops(u8x16::from_slice(piece));
@@ -128,7 +131,7 @@ pub fn ascii_run(piece: &[u8]) -> usize
 /// As `ascii_run`, of a run of any length.
 #[inline(never)]
 fn long_ascii_run(piece: &[u8]) -> usize
-    ensures { result ≡ prefix_len is_plain piece.now }
+    ensures { result ≡ prefix_len is_unescaped_ascii piece.now }
 {
     let (blocks, rest) = piece.as_chunks::<LANES>();
     let mut index = 0;

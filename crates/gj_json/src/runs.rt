@@ -3,7 +3,7 @@
 ghost use Rattle.std.specs.Prelude.{◌≡◌, ◌≤◌, ◌<◌, ◌++◌, ℕ, List, if◌then◌else◌, get_or, length, take};
 ghost use Rattle.std.specs.List.{AllByRecursion, prefix_len};
 ghost use Rattle.gj_json.specs.Internal.Transitions.{IsStringState};
-ghost use Rattle.gj_json.specs.Internal.QuietBytes.{IsQuiet, Reads, StopsString, awaits_token, is_between, is_plain, is_white};
+ghost use Rattle.gj_json.specs.Internal.QuietBytes.{IsQuiet, Reads, StopsString, awaits_token, is_between, is_unescaped_ascii, is_white};
 ghost use Rattle.gj_json.specs.Runs.{IsLongestUtf8, plain_run_of};
 ghost use Rattle.gj_json.specs.Internal.KeptContent.{IsAscii, Holds};
 ghost use Rattle.gj_json.specs.declared.mode.StringState.TheVariants.{Plain};
@@ -44,7 +44,7 @@ pub struct StringRun {
 fn plain_front(state: StringState, piece: &[u8]) -> usize
     ensures within { result ≤ length piece.now }
     ensures ascii { AllByRecursion IsAscii (take result piece.now) }
-    ensures longest { state ≡ Plain → result ≡ prefix_len is_plain piece.now }
+    ensures longest { state ≡ Plain → result ≡ prefix_len is_unescaped_ascii piece.now }
     ensures reads { Reads state (take result piece.now) (take result piece.now) state }
 {
     match state {

@@ -119,7 +119,7 @@ fn part_of(
     Ok(listed_part_of(rt, bytes, number, parts, framing, most, None)?.part)
 }
 
-/// The same, with the notes on its records.
+/// What is found of a part, with the notes on its records.
 fn listed_part_of(
     rt: &HostRuntime,
     bytes: &'static [u8],
@@ -345,7 +345,7 @@ fn parts_are_one_reading(rt: HostRuntime) -> io::Result<()> {
 const LINES: &[u8] =
     b"{\"type\":\"Point\",\"coordinates\":[1,2]}\n\n \t\r\n{\"type\":\"Point\",\"coordinates\":[181,2]}\r\n{\"type\":\"Point\",\"coordinates\":[1,2]}";
 
-/// The same of lines.
+/// The verdict of up to nine parts of lines is that of one reading.
 #[test]
 fn parts_of_lines_are_one_reading(rt: HostRuntime) -> io::Result<()> {
     let rows: [(&[u8], u64, &str); 7] = [

@@ -33,7 +33,7 @@ use Rattle.gj_coords.proofs.Readers.RestsOfValues.{reads_on_none, reads_on_more,
 use Rattle.gj_coords.specs.Internal.CoordinatesKept.{third_answer, second_answer, first_answer, coordinates_kept}
 use Rattle.gj_coords.proofs.Walks.FaultsOfLevels.{first_least}
 use Rattle.gj_coords.specs.declared.walk.depth.Depth.{Depth}
-use Rattle.gj_coords.specs.declared.walk.depth.Depth.TheVariants.{Unknown, First, Second, Third, OrEmpty}
+use Rattle.gj_coords.specs.declared.walk.depth.Depth.TheVariants.{Unknown, First, Second, Third, Whole}
 use Rattle.gj_coords.specs.Internal.SteadyWalk.{IsFirst, IsSecond, IsThird, IsSteady, IsPast, is_whole, third_steady, second_steady, first_steady}
 use Rattle.gj_coords.proofs.Walks.FlatLaws.{flat_leads, value_leads}
 use Rattle.gj_coords.proofs.Walks.HeldPositions.{flat_fault, flat_warned, is_no_warned, quiet_none}
@@ -92,7 +92,7 @@ steady_holds Unknown floor es walk k steady = k
 steady_holds First floor es walk k steady = (k, steady)
 steady_holds Second floor es walk k steady = (k, steady)
 steady_holds Third floor es walk k steady = (k, steady)
-steady_holds OrEmpty floor es walk k steady = absurd steady
+steady_holds Whole floor es walk k steady = absurd steady
 
 pub holds_at : (depth at : Depth) (floor : ℕ) (es : List Event) (walk : Walk) → depth ≡ at → Holds depth floor es walk → Holds at floor es walk
 holds_at depth at floor es walk e k = let P : Depth → Type 0 = λ d. Holds d floor es walk in subst P e k
@@ -105,14 +105,14 @@ holds_whole Unknown floor es walk e k = cc
 holds_whole First floor es walk e k = cc
 holds_whole Second floor es walk e k = cc
 holds_whole Third floor es walk e k = cc
-holds_whole OrEmpty floor es walk e k = k
+holds_whole Whole floor es walk e k = k
 
 pub holds_walk : (depth : Depth) (floor : ℕ) (es : List Event) (walk : Walk) → is_whole depth ≡ false → Holds depth floor es walk → IsAt es walk
 holds_walk Unknown floor es walk e k = k
 holds_walk First floor es walk e k = k.0
 holds_walk Second floor es walk e k = k.0
 holds_walk Third floor es walk e k = k.0
-holds_walk OrEmpty floor es walk e k = cc
+holds_walk Whole floor es walk e k = cc
 
 -- a whole value has ended
 whole_ended : (stage : Stage) (other : Element) → stage ≡ Done → ended_at stage other ≡ true
@@ -128,7 +128,7 @@ holds_more Unknown floor es e more walk next k step = step k
 holds_more First floor es e more walk next k step = step k.0
 holds_more Second floor es e more walk next k step = step k.0
 holds_more Third floor es e more walk next k step = step k.0
-holds_more OrEmpty floor es e more walk next k step = λ v rest p room.
+holds_more Whole floor es e more walk next k step = λ v rest p room.
     let h = k.reads_on v (e ∷ (more ++ rest)) (sym (append_assoc es (e ∷ more) rest) ∙ p) room in
     absurd (never (ended_at walk.stage walk.other) (whole_ended walk.stage walk.other k.ended) h.0)
 
@@ -138,7 +138,7 @@ holds_ended Unknown floor v es rest walk k e room = reads_on_ended walk_machine 
 holds_ended First floor v es rest walk k e room = reads_on_ended walk_machine first_answer walk v es rest k.0 e room
 holds_ended Second floor v es rest walk k e room = reads_on_ended walk_machine first_answer walk v es rest k.0 e room
 holds_ended Third floor v es rest walk k e room = reads_on_ended walk_machine first_answer walk v es rest k.0 e room
-holds_ended OrEmpty floor v es rest walk k e room =
+holds_ended Whole floor v es rest walk k e room =
     reads_on_ended walk_machine first_answer (record walk { gather = flat_first k.position }) v es rest k.reads_on e room
 
 -- where the walk is steady, an array is open
@@ -157,7 +157,7 @@ steady_open Unknown floor es walk e k = cc
 steady_open First floor es walk e k = first_open floor walk k.1
 steady_open Second floor es walk e k = second_open floor walk k.1
 steady_open Third floor es walk e k = third_open floor walk k.1
-steady_open OrEmpty floor es walk e k = cc
+steady_open Whole floor es walk e k = cc
 
 -- so the value has not ended
 pub steady_goes_on : (depth : Depth) (floor : ℕ) (v : Tree) (es rest : List Event) (walk : Walk) → is_steady depth ≡ true →

@@ -8,7 +8,7 @@ use Rattle.gj_coords.specs.declared.element.Element.{Element}
 use Rattle.gj_coords.specs.declared.fault.Fault.{Fault}
 use Rattle.gj_coords.specs.declared.position.Numbers.{Numbers}
 use Rattle.gj_coords.specs.declared.walk.depth.Depth.{Depth}
-use Rattle.gj_coords.specs.declared.walk.depth.Depth.TheVariants.{Unknown, First, Second, Third, OrEmpty}
+use Rattle.gj_coords.specs.declared.walk.depth.Depth.TheVariants.{Unknown, First, Second, Third, Whole}
 use Rattle.gj_coords.specs.declared.walk.outer_array.OuterArray.{OuterArray}
 use Rattle.gj_coords.specs.declared.walk.middle_array.MiddleArray.{MiddleArray}
 use Rattle.gj_coords.specs.declared.walk.inner_array.InnerArray.{InnerArray}
@@ -78,7 +78,7 @@ IsSteady Unknown floor s = Unit {0}
 IsSteady First floor s = IsFirst floor s
 IsSteady Second floor s = IsSecond floor s
 IsSteady Third floor s = IsThird floor s
-IsSteady OrEmpty floor s = ⊥
+IsSteady Whole floor s = ⊥
 
 -- what a position more, which is reported as one, then changes
 abbrev pub third_steady : Flat → InnerArray → InnerArray
@@ -103,5 +103,5 @@ pub record IsPast (floor : ℕ) (position : Flat) : Type 0 where
 
 -- it is a position that was reported as one
 abbrev pub is_whole : Depth → Bool
-is_whole OrEmpty = true
+is_whole Whole = true
 is_whole _ = false

@@ -23,7 +23,7 @@ pub enum Depth {
     Third,
     /// None: the value is a position that came as one `Flat`. Of what the walk gathers, only two things are then held:
     /// the least fault as positions, which is that of each type but `Point`, and the warnings for `Point`.
-    OrEmpty,
+    Whole,
 }
 
 impl Depth {
@@ -70,7 +70,7 @@ impl Depth {
         ensures { result ≡ is_whole self.now }
     {
         match self {
-            Depth::OrEmpty => true,
+            Depth::Whole => true,
             _ => false,
         }
     }

@@ -6,7 +6,7 @@ use Rattle.gj_json.specs.Bytes.{backslash, letter_u}
 use Rattle.gj_json.specs.Characters.{escape_of, hex_of}
 use Rattle.gj_json.specs.declared.mode.StringState.TheVariants.{Plain}
 use Rattle.std.specs.List.{prefix_len}
-use Rattle.gj_json.specs.Internal.QuietBytes.{is_plain}
+use Rattle.gj_json.specs.Internal.QuietBytes.{is_unescaped_ascii}
 use Rattle.gj_json.specs.Internal.WholeTokens.{IsCharacter, AreCharacters}
 use Rattle.gj_json.proofs.Pieces.QuietModes
 use Rattle.gj_json.proofs.Grammar.SpelledTexts.{content_on}
@@ -133,6 +133,6 @@ pub characters_read_at : (piece : List ℕ) (n : ℕ) → (0 < n → IsCharacter
 characters_read_at piece zero h = ([], (refl, refl))
 characters_read_at piece (suc n) h = character_read (take (suc n) piece) (h (omega arith))
 
-pub plain_characters : (piece : List ℕ) (n : ℕ) → n ≡ prefix_len is_plain piece → AreCharacters (take n piece)
+pub plain_characters : (piece : List ℕ) (n : ℕ) → n ≡ prefix_len is_unescaped_ascii piece → AreCharacters (take n piece)
 plain_characters piece n e = let P : ℕ → Type 0 =
-    λ k. AreCharacters (take k piece) in subst P (sym e) (take (prefix_len is_plain piece) piece, (QuietModes.plain_run piece).0)
+    λ k. AreCharacters (take k piece) in subst P (sym e) (take (prefix_len is_unescaped_ascii piece) piece, (QuietModes.plain_run piece).0)

@@ -7,7 +7,7 @@ use Rattle.gj_json.specs.declared.mode.Mode.{Mode}
 use Rattle.gj_json.specs.declared.mode.Mode.TheVariants.{ValueDue, ColonDue}
 use Rattle.gj_json.specs.declared.mode.StringState.TheVariants.{Plain}
 use Rattle.gj_json.specs.Internal.FlatParts.{cut}
-use Rattle.gj_json.specs.Internal.QuietBytes.{LeadsBy, Leads, Reads, is_plain, is_white}
+use Rattle.gj_json.specs.Internal.QuietBytes.{LeadsBy, Leads, Reads, is_unescaped_ascii, is_white}
 use Rattle.gj_json.specs.Internal.WholeTokens.{IsQuoted}
 use Rattle.gj_json.proofs.Grammar.ClassOfBytes.{class_is}
 use Rattle.gj_json.proofs.Pieces.PieceCuts.{cut_joins, cut_byte}
@@ -28,7 +28,7 @@ byte_cut piece a c v w =
     ∙ ap (λ xs. take a piece ++ xs) (cut_byte piece a c (omega arith) v)
 
 pub quoted_cut : (piece : List ℕ) (n : ℕ) → n + 1 < length piece → get_or piece 0 0 ≡ quote → get_or piece (n + 1) 0 ≡ quote
-    → n ≡ prefix_len is_plain (drop 1 piece) → IsQuoted (cut piece 1 (n + 2 - 1)) (take (n + 2) piece)
+    → n ≡ prefix_len is_unescaped_ascii (drop 1 piece) → IsQuoted (cut piece 1 (n + 2 - 1)) (take (n + 2) piece)
 quoted_cut piece n w first last plain =
     let z : n + 2 - 1 ≡ n + 1 = omega arith in
     let m : n + 1 - 1 ≡ n = omega arith in

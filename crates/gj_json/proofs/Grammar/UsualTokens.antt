@@ -5,7 +5,7 @@ use Rattle.std.specs.Str.{bytes_eq}
 use Rattle.std.proofs.lemmas.List.{take-append-drop}
 use Rattle.std.proofs.lemmas.Slice.Eq.{bytes_eq-Decides}
 use Rattle.gj_json.specs.declared.mode.StringState.TheVariants.{Plain}
-use Rattle.gj_json.specs.Internal.QuietBytes.{Reads, is_plain}
+use Rattle.gj_json.specs.Internal.QuietBytes.{Reads, is_unescaped_ascii}
 use Rattle.gj_json.proofs.Pieces.QuietModes
 
 pub same_bytes : (xs ys : List ℕ) → true ≡ bytes_eq xs ys → xs ≡ ys
@@ -18,5 +18,5 @@ by_first P n piece told first same e h =
     subst P (ap (λ xs. xs ++ drop n piece) f ∙ take-append-drop n piece) h
 
 -- plain characters, read as they stand
-pub plain : (xs : List ℕ) → Reads Plain (take (prefix_len is_plain xs) xs) (take (prefix_len is_plain xs) xs) Plain
+pub plain : (xs : List ℕ) → Reads Plain (take (prefix_len is_unescaped_ascii xs) xs) (take (prefix_len is_unescaped_ascii xs) xs) Plain
 plain xs = (QuietModes.plain_run xs).0

@@ -17,7 +17,7 @@ use Rattle.gj_json.proofs.Pieces.PieceRests.{rest_of}
 use Rattle.gj_json.specs.declared.mode.StringState.TheVariants.{Plain}
 use Rattle.gj_json.specs.Internal.ByteClasses.{class_of}
 use Rattle.gj_json.specs.Internal.KeptContent.{IsAscii}
-use Rattle.gj_json.specs.Internal.QuietBytes.{IsQuiet, Leads, Reads, is_plain, is_white}
+use Rattle.gj_json.specs.Internal.QuietBytes.{IsQuiet, Leads, Reads, is_unescaped_ascii, is_white}
 use Rattle.gj_json.proofs.Grammar.ClassOfBytes.{class_is}
 use Rattle.gj_json.proofs.Grammar.SpelledTexts.{plain_on}
 
@@ -40,7 +40,7 @@ all_run p P f (x ∷ xs) = go (p x) refl (all_run p P f xs)
     go true e h = rw one-add (f x e, h)
     go false e h = tt
 
-plain_is : (b : ℕ) → is_plain b ≡ true → IsPlain b
+plain_is : (b : ℕ) → is_unescaped_ascii b ≡ true → IsPlain b
 plain_is b e = (grind (arith, nat_tests), grind (arith, nat_tests), grind (arith, nat_tests), grind (arith, nat_tests))
 
 plain_reads : (xs : List ℕ) → AllByRecursion IsPlain xs → Reads Plain xs xs Plain
@@ -66,10 +66,10 @@ quiet_white NameDue h b e = record { moves = λ turn inner words. rw (class_whit
 quiet_white ColonDue h b e = record { moves = λ turn inner words. rw (class_white b e) refl; on = refl }
 quiet_white _ h b e = absurd h
 
-pub plain_run : (xs : List ℕ) → Reads Plain (take (prefix_len is_plain xs) xs) (take (prefix_len is_plain xs) xs) Plain
-    × AllByRecursion IsAscii (take (prefix_len is_plain xs) xs)
+pub plain_run : (xs : List ℕ) → Reads Plain (take (prefix_len is_unescaped_ascii xs) xs) (take (prefix_len is_unescaped_ascii xs) xs) Plain
+    × AllByRecursion IsAscii (take (prefix_len is_unescaped_ascii xs) xs)
 plain_run xs = let h =
-    all_run is_plain IsPlain plain_is xs in (plain_reads (take (prefix_len is_plain xs) xs) h, plain_ascii (take (prefix_len is_plain xs) xs) h)
+    all_run is_unescaped_ascii IsPlain plain_is xs in (plain_reads (take (prefix_len is_unescaped_ascii xs) xs) h, plain_ascii (take (prefix_len is_unescaped_ascii xs) xs) h)
 
 pub white_run : (mode : Mode) → PassesWhite mode → (xs : List ℕ) → AllByRecursion (IsQuiet mode) (take (prefix_len is_white xs) xs)
 white_run mode h xs = all_run is_white (IsQuiet mode) (quiet_white mode h) xs

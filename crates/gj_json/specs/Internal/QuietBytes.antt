@@ -21,8 +21,8 @@ pub record LeadsBy (mode : Mode) (b : ℕ) (next : Mode) : Type 0 where
 abbrev pub IsQuiet : Mode → ℕ → Type 0
 IsQuiet mode b = LeadsBy mode b mode
 
-abbrev pub is_plain : ℕ → Bool
-is_plain b = nat_le space b && nat_le b 0x7F && not (b == quote) && not (b == backslash)
+abbrev pub is_unescaped_ascii : ℕ → Bool
+is_unescaped_ascii b = nat_le space b && nat_le b 0x7F && not (b == quote) && not (b == backslash)
 
 abbrev pub is_white : ℕ → Bool
 is_white b = b == space || b == tab || b == line_feed || b == carriage_return

@@ -61,7 +61,7 @@ impl Reader {
         self.skip(typed.count, Mode::NameDue)
     }
 
-    /// The same, of which a look at one byte mostly shows whether it may begin by its type.
+    /// Takes the beginning of an object. A look at one byte mostly shows whether it may begin by its type.
     #[inline(always)]
     pub(super) fn take_object<S: EventSink>(&mut self, piece: &[u8], sink: &mut S) -> usize
         requires some { 0 < length piece.now }
@@ -112,7 +112,7 @@ impl Reader {
         self.skip(3 + typed.count, Mode::NameDue)
     }
 
-    /// The same, of which a look at two bytes mostly shows whether a feature may end there.
+    /// Takes the end of an object. A look at two bytes mostly shows whether a feature may end there.
     #[inline(always)]
     pub(super) fn take_ends<S: EventSink>(&mut self, piece: &[u8], sink: &mut S) -> usize
         requires some { 0 < length piece.now }

@@ -68,7 +68,7 @@ impl Frame {
             && (self.slots.is_unwarned() && (!self.slots.is_nested() && self.slots.is_sound()))
     }
 
-    /// The same of an object that stands as a feature. With its role and its type known, fewer looks show it.
+    /// Whether nothing is found in an object that stands as a feature. With its role and its type known, fewer looks show it.
     #[inline]
     pub fn is_clean_element(&self) -> bool
         ensures role { IsTrue result → self.now.slots.role ≡ Role.Feature }

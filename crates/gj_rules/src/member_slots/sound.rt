@@ -83,7 +83,7 @@ impl MemberSlots {
         }
     }
 
-    /// The same of an object that stands as a feature, where it names itself one.
+    /// Whether a few looks show that nothing is wrong with an object that stands as a feature, where it names itself one.
     #[inline]
     pub fn is_sound_element(&self) -> bool
         ensures role { IsTrue result → self.now.role ≡ Role.Feature }

@@ -1,7 +1,7 @@
 -- One character, or a run of them.
 use Rattle.std.proofs.Common.{◌++◌, arith}
 use Rattle.std.proofs.lemmas.List.Sums.{prefix_len-le-length}
-use Rattle.gj_json.specs.Internal.QuietBytes.{is_plain}
+use Rattle.gj_json.specs.Internal.QuietBytes.{is_unescaped_ascii}
 use Rattle.gj_json.specs.declared.mode.StringState.TheVariants.{Plain}
 use Rattle.gj_json.proofs.Grammar.SpelledCharacters.{plain_characters}
 use Rattle.gj_json.proofs.Pieces.QuietModes.{reads_more}
@@ -11,7 +11,7 @@ use Rattle.gj_json.proofs.characters.some_characters.Goals as goal
 pub returns-then-piece-eq92-clause-within : goal.returns-then-piece-eq92-clause-within
 returns-then-piece-eq92-clause-within c =
     more_within c.args.piece.now c.escapes_run-escaped.result c.ascii_run.result c.escapes_run-escaped.ensures.within
-    (rw (c.ascii_run.ensures) (prefix_len-le-length is_plain _))
+    (rw (c.ascii_run.ensures) (prefix_len-le-length is_unescaped_ascii _))
 
 pub returns-then-piece-eq92-clause-characters : goal.returns-then-piece-eq92-clause-characters
 returns-then-piece-eq92-clause-characters c =
@@ -20,7 +20,7 @@ returns-then-piece-eq92-clause-characters c =
     (before.0 ++ more.0, reads_more Plain Plain Plain c.args.piece.now before.0 more.0 c.escapes_run-escaped.result c.ascii_run.result before.1 more.1)
 
 pub returns-then-piece-lt128-clause-within : goal.returns-then-piece-lt128-clause-within
-returns-then-piece-lt128-clause-within c = rw (c.ascii_run-then-piece-lt128.ensures) (prefix_len-le-length is_plain c.args.piece.now)
+returns-then-piece-lt128-clause-within c = rw (c.ascii_run-then-piece-lt128.ensures) (prefix_len-le-length is_unescaped_ascii c.args.piece.now)
 
 pub returns-then-piece-lt128-clause-characters : goal.returns-then-piece-lt128-clause-characters
 returns-then-piece-lt128-clause-characters c = plain_characters c.args.piece.now c.ascii_run-then-piece-lt128.result c.ascii_run-then-piece-lt128.ensures
@@ -28,5 +28,5 @@ returns-then-piece-lt128-clause-characters c = plain_characters c.args.piece.now
 pub overflow_add-result : goal.overflow_add-result
 overflow_add-result c =
     let all = more_within c.args.piece.now c.escapes_run-escaped.result c.ascii_run.result c.escapes_run-escaped.ensures.within
-    (rw (c.ascii_run.ensures) (prefix_len-le-length is_plain _)) in
+    (rw (c.ascii_run.ensures) (prefix_len-le-length is_unescaped_ascii _)) in
     record { fits = omega (arith, all) }

@@ -1,12 +1,12 @@
 use Rattle.std.proofs.Common.{◌≡◌, ◌+◌, ◌-◌, ◌*◌, ◌≤◌, length, drop}
 use Rattle.std.specs.List.{prefix_len}
-use Rattle.gj_json.specs.Internal.QuietBytes.{is_plain}
+use Rattle.gj_json.specs.Internal.QuietBytes.{is_unescaped_ascii}
 use Rattle.gj_json.proofs.lanes.long_ascii_run.Given as goal
 
 abbrev pub invariant-loop-index : goal.invariant-loop-index
 invariant-loop-index l = record {
   within : l.index ≤ length l.blocks;
-  run : prefix_len is_plain l.fn.piece ≡ l.index * 16 + prefix_len is_plain (drop (l.index * 16) l.fn.piece);
+  run : prefix_len is_unescaped_ascii l.fn.piece ≡ l.index * 16 + prefix_len is_unescaped_ascii (drop (l.index * 16) l.fn.piece);
 }
 
 abbrev pub decreases-loop-index : goal.decreases-loop-index

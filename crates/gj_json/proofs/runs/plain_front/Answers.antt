@@ -1,11 +1,11 @@
 -- Characters by themselves leave no character under way.
 use Rattle.std.proofs.lemmas.List.Sums.{prefix_len-le-length}
-use Rattle.gj_json.specs.Internal.QuietBytes.{is_plain}
+use Rattle.gj_json.specs.Internal.QuietBytes.{is_unescaped_ascii}
 use Rattle.gj_json.proofs.Pieces.QuietModes
 use Rattle.gj_json.proofs.runs.plain_front.Goals as goal
 
 pub returns-in-Plain-clause-within : goal.returns-in-Plain-clause-within
-returns-in-Plain-clause-within c = rw (c.ascii_run.ensures) (prefix_len-le-length is_plain c.args.piece.now)
+returns-in-Plain-clause-within c = rw (c.ascii_run.ensures) (prefix_len-le-length is_unescaped_ascii c.args.piece.now)
 
 pub returns-in-Plain-clause-ascii : goal.returns-in-Plain-clause-ascii
 returns-in-Plain-clause-ascii c = rw (c.ascii_run.ensures) (QuietModes.plain_run c.args.piece.now).1

@@ -1,7 +1,7 @@
 -- The quotes, and plain characters between them.
 use Rattle.std.proofs.Common.{ap, ◌∙◌, arith}
 use Rattle.std.specs.List.{prefix_len}
-use Rattle.gj_json.specs.Internal.QuietBytes.{is_plain}
+use Rattle.gj_json.specs.Internal.QuietBytes.{is_unescaped_ascii}
 use Rattle.gj_json.proofs.Pieces.PieceRests.{rest_of}
 use Rattle.gj_json.proofs.Grammar.SpelledTokens.{quoted_cut}
 use Rattle.gj_json.proofs.tokens.plain_quoted_run.Goals as goal
@@ -9,4 +9,4 @@ use Rattle.gj_json.proofs.tokens.plain_quoted_run.Goals as goal
 pub returns-then-piece-count-eq34-clause-quoted : goal.returns-then-piece-count-eq34-clause-quoted
 returns-then-piece-count-eq34-clause-quoted c = λ some.
     quoted_cut c.args.piece.now c.ascii_run-count.result (omega (arith, c.if-count-piece.true)) c.requires.begins c.if-piece-count-eq34.true
-    (c.ascii_run-count.ensures ∙ ap (λ xs. prefix_len is_plain xs) (rest_of c.args.piece.now 1))
+    (c.ascii_run-count.ensures ∙ ap (λ xs. prefix_len is_unescaped_ascii xs) (rest_of c.args.piece.now 1))
