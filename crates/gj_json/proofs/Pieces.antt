@@ -14,3 +14,4 @@ pub mod TakenFlats
 pub mod TakenTokens
 pub mod TakenHeads
 pub mod PassedTokens
+pub mod FlatsInTurn

@@ -43,13 +43,6 @@ fn begins_array(piece: &[u8]) -> bool
     !piece.is_empty() && piece[0] == b'['
 }
 
-/// An array that was taken: how many bytes, and whether another begins after them where one is due.
-#[derive(Clone, Copy)]
-struct Taken {
-    count: usize,
-    begins: bool,
-}
-
 impl Reader {
     ghost use Rattle.gj_json.specs.Internal.FedReader.{FeedsAll};
 
@@ -71,55 +64,6 @@ impl Reader {
         ensures deep { IsTrue result → length (levels_in self.now.levels) < self.now.limits.depth }
     {
         is_due(self.mode) && self.levels.len() < self.limits.depth()
-    }
-
-    /// Takes an array of two or three ordinary numbers that stands whole at the start of the piece, in an array with a comma
-    /// after it and the white space after that, and reports it at once. Where none does, nothing is taken.
-    #[inline(always)]
-    fn take_flat<S: EventSink>(
-        &mut self,
-        piece: &[u8],
-        in_array: bool,
-        flat: &mut Flat,
-        sink: &mut S,
-    ) -> Option<Taken>
-        requires some { 0 < length piece.now }
-        requires bracket { get_or piece.now 0 0 ≡ open_bracket }
-        requires live { self.old.fault ≡ None }
-        requires due { awaits self.old.mode ≡ true }
-        requires deep { length (levels_in self.old.levels) < self.old.limits.depth }
-        requires inner { IsTrue in_array → inner_of (levels_in self.old.levels) ≡ Some Array }
-        requires room { self.old.offset + length piece.now ≤ self.old.limits.bytes }
-        requires small { self.old.limits.bytes ≤ 2 ^ 60 }
-        ensures some { IfSome result (λ taken. 0 < taken.count) }
-        ensures within { IfSome result (λ taken. taken.count ≤ length piece.now) }
-        ensures next { IfSome result (λ taken. IsTrue taken.begins → IsDueAt self.new.mode (drop taken.count piece.now)) }
-        ensures levels { self.new.levels ≡ self.old.levels }
-        ensures feeds { IfSome result (λ taken. FeedsAll (S.heard sink.old) (S.heard sink.new) self.old self.new (take taken.count piece.now)) }
-        ensures nothing { result ≡ None → FeedsAll (S.heard sink.old) (S.heard sink.new) self.old self.new [] }
-    {
-        let Some(count) = read_flat(piece, self.offset, flat) else {
-            return None;
-        };
-        sink.tell_flat(flat);
-        if in_array && begins_next(&piece[count..]) {
-            return Some(Taken {
-                count: self.skip(count + 1, Mode::ValueDue),
-                begins: true,
-            });
-        }
-        let comma = comma_run(&piece[count..]);
-        if in_array && comma > 0 {
-            let count = self.skip(count + comma, Mode::ValueDue);
-            return Some(Taken {
-                count,
-                begins: begins_array(&piece[count..]),
-            });
-        }
-        Some(Taken {
-            count: self.skip(count, Mode::ValueDone),
-            begins: false,
-        })
     }
 
     /// Takes the arrays of two or three ordinary numbers that stand whole at the start of the piece, one after another:
@@ -154,13 +98,14 @@ impl Reader {
         ensures feeds { FeedsAll (S.heard sink.old) (S.heard sink.new) self.old self.new (take result piece.now) }
     {
         let mut flat = Flat::blank();
-        match self.take_flat(piece, false, &mut flat, sink) {
-            Some(taken) => taken.count,
-            None => 0,
-        }
+        let Some(count) = read_flat(piece, self.offset, &mut flat) else {
+            return 0;
+        };
+        sink.tell_flat(&flat);
+        self.skip(count, Mode::ValueDone)
     }
 
-    /// Such arrays within an array.
+    /// Such arrays within an array, each with a comma after it and the white space after that.
     #[inline(never)]
     fn take_several<S: EventSink>(&mut self, piece: &[u8], sink: &mut S) -> usize
         requires next { IsDueAt self.old.mode piece.now }
@@ -176,11 +121,23 @@ impl Reader {
         let mut rest = piece;
         let mut begins = true;
         while begins {
-            let Some(taken) = self.take_flat(rest, true, &mut flat, sink) else {
+            let Some(count) = read_flat(rest, self.offset, &mut flat) else {
                 return piece.len() - rest.len();
             };
-            rest = &rest[taken.count..];
-            begins = taken.begins;
+            sink.tell_flat(&flat);
+            if begins_next(&rest[count..]) {
+                self.skip(count + 1, Mode::ValueDue);
+                rest = &rest[count + 1..];
+            } else {
+                let comma = comma_run(&rest[count..]);
+                if comma == 0 {
+                    self.skip(count, Mode::ValueDone);
+                    return piece.len() - rest.len() + count;
+                }
+                self.skip(count + comma, Mode::ValueDue);
+                rest = &rest[count + comma..];
+                begins = begins_array(rest);
+            }
         }
         piece.len() - rest.len()
     }

@@ -1,10 +1,9 @@
 -- The arrays, one after another.
-use Rattle.std.proofs.Common.{◌≡◌, ◌∙◌, refl, sym, ap, ◌+◌, ◌-◌, ℕ, List, length, take, drop, subst, arith}
-use Rattle.std.proofs.lemmas.List.{length-take-le}
+use Rattle.std.proofs.Common.{◌≡◌, ◌∙◌, refl, ap, ◌+◌, ◌-◌, ◌≤◌, ◌<◌, ℕ, length, take, drop, subst, arith}
 use Rattle.gj_json.specs.Internal.FedReader.{FeedsAll}
-use Rattle.gj_json.specs.Internal.FlatParts.{IsDueAt}
 use Rattle.gj_json.proofs.Readers.CallsInTurn
-use Rattle.gj_json.proofs.Pieces.PieceRests.{rest_of, left_within, left_smaller, left_is}
+use Rattle.gj_json.proofs.Pieces.PieceRests.{more_within, left_within, left_is}
+use Rattle.gj_json.proofs.Pieces.FlatsInTurn.{next_due, goes_on, ends}
 use Rattle.gj_json.proofs.reader.Reader.take_several.Goals as goal
 
 pub loop-begins-init : goal.loop-begins-init
@@ -21,53 +20,57 @@ loop-begins-init g c =
       levels = refl;
     }
 
-pub take_flat-requires-clause-deep : goal.take_flat-requires-clause-deep
-take_flat-requires-clause-deep g c = rw (c.loop-begins.invariant.levels, c.loop-begins.invariant.fed.feeds.limits) c.requires.deep
-
-pub take_flat-requires-clause-inner : goal.take_flat-requires-clause-inner
-take_flat-requires-clause-inner g c = λ inside. rw (c.loop-begins.invariant.levels) c.requires.inner
-
-pub take_flat-requires-clause-room : goal.take_flat-requires-clause-room
-take_flat-requires-clause-room g c =
+pub loop-begins-preserved-then-begins_next : goal.loop-begins-preserved-then-begins_next
+loop-begins-preserved-then-begins_next g c =
+    let invariant = c.loop-begins.invariant in
     let piece = c.args.piece.now in
     let rest = c.loop-begins.rest.now in
-    let within = c.loop-begins.invariant.within in
-    let l = length-take-le (length piece - length rest) piece (omega arith) in
-    let e = c.loop-begins.invariant.fed.offset in
-    rw (c.loop-begins.invariant.fed.feeds.limits) (omega (arith, c.requires.room))
+    let count = c.in-Some.count in
+    let some = c.in-Some.ensures in
+    let is = c.begins_next.ensures in
+    let begun = c.if-begins_next.true in
+    let enough : 1 ≤ length (take (length rest - count) (drop count rest)) = omega (arith, is.within begun) in
+    let few = more_within rest count 1 some.within enough in
+    record {
+      within = left_within piece rest (count + 1) invariant.within few;
+      rest_is = left_is piece rest (count + 1) invariant.within few invariant.rest_is;
+      fed = goes_on c.args.self.now c.loop-begins.self c.skip.new.self c.read_flat.new.flat piece rest count invariant.within invariant.rest_is
+          invariant.fed (invariant.next c.loop-begins-test.true) invariant.levels c.requires.deep c.requires.inner c.requires.room some.within some.flat
+          (λ events h. c.tell_flat.ensures events h) 1 (omega arith) enough (is.comma begun) tt c.skip.ensures.passed;
+      next = λ begins. next_due c.skip.new.self.mode rest count c.skip.ensures.passed.mode_is (is.within begun) (is.bracket begun);
+      levels = c.skip.ensures.passed.levels ∙ invariant.levels;
+    }
 
-pub returns-in_default-clause-feeds : goal.returns-in_default-clause-feeds
-returns-in_default-clause-feeds g c =
-    let none = c.take_flat.ensures.nothing c.in_default.is in
-    let at = length c.args.piece.now - length c.loop-begins.rest.now in
-    let e : at + 0 ≡ at = omega arith in
-    let P : ℕ → Type 0 =
-    λ n. FeedsAll (g.S.EventSink.heard c.args.sink.now) (g.S.EventSink.heard c.take_flat.new.sink) c.args.self.now c.take_flat.new.self
-    (take n c.args.piece.now) in
-    subst P e
-    (CallsInTurn.piece_all c.args.self.now c.loop-begins.self c.take_flat.new.self c.args.piece.now at 0 c.loop-begins.invariant.fed none)
-
-pub loop-begins-smaller : goal.loop-begins-smaller
-loop-begins-smaller g c =
-    left_smaller c.args.piece.now c.loop-begins.rest.now c.in-Some.taken.count c.loop-begins.invariant.within c.in-Some.ensures.within
-    c.in-Some.ensures.some
+pub returns-then-comma-eq0-clause-feeds : goal.returns-then-comma-eq0-clause-feeds
+returns-then-comma-eq0-clause-feeds g c =
+    let invariant = c.loop-begins.invariant in
+    let some = c.in-Some.ensures in
+    ends c.args.self.now c.loop-begins.self c.skip-then-comma-eq0.new.self c.read_flat.new.flat c.args.piece.now c.loop-begins.rest.now c.in-Some.count
+    invariant.within invariant.rest_is invariant.fed (invariant.next c.loop-begins-test.true) invariant.levels c.requires.deep c.requires.inner
+    c.requires.room some.within some.flat (λ events h. c.tell_flat.ensures events h) c.skip-then-comma-eq0.ensures.passed
 
 pub loop-begins-preserved : goal.loop-begins-preserved
 loop-begins-preserved g c =
     let invariant = c.loop-begins.invariant in
     let piece = c.args.piece.now in
     let rest = c.loop-begins.rest.now in
-    let count = c.in-Some.taken.count in
+    let count = c.in-Some.count in
     let some = c.in-Some.ensures in
-    let P : List ℕ → Type 0 = λ xs. IsDueAt c.take_flat.new.self.mode xs in
+    let run = c.comma_run-comma in
+    let comma = run.result in
+    let positive : 0 < comma = omega (arith, c.if-comma-eq0.false) in
+    let few = more_within rest count comma some.within run.ensures.within in
     record {
-      within = left_within piece rest count invariant.within some.within;
-      rest_is = left_is piece rest count invariant.within some.within invariant.rest_is;
-      fed = CallsInTurn.piece_left c.args.self.now c.loop-begins.self c.take_flat.new.self piece rest count invariant.within invariant.rest_is some.within
-          invariant.fed some.feeds;
-      next = λ begins. subst P (sym (rest_of rest count)) (some.next begins);
-      levels = c.take_flat.ensures.levels ∙ invariant.levels;
+      within = left_within piece rest (count + comma) invariant.within few;
+      rest_is = left_is piece rest (count + comma) invariant.within few invariant.rest_is;
+      fed = goes_on c.args.self.now c.loop-begins.self c.skip-else-begins_next.new.self c.read_flat.new.flat piece rest count invariant.within
+          invariant.rest_is invariant.fed (invariant.next c.loop-begins-test.true) invariant.levels c.requires.deep c.requires.inner c.requires.room
+          some.within some.flat (λ events h. c.tell_flat.ensures events h) comma positive run.ensures.within (run.ensures.comma positive)
+          (run.ensures.white positive) c.skip-else-begins_next.ensures.passed;
+      next = λ begins. record {
+        due = rw (c.skip-else-begins_next.ensures.passed.mode_is) refl;
+        some = c.begins_array-begins.ensures.within begins;
+        bracket = c.begins_array-begins.ensures.bracket begins;
+      };
+      levels = c.skip-else-begins_next.ensures.passed.levels ∙ invariant.levels;
     }
-
-pub returns-clause-feeds : goal.returns-clause-feeds
-returns-clause-feeds g c = c.loop-begins.invariant.fed
