@@ -4,8 +4,8 @@
 #     make npm                       # out/npm/geolint-VERSION.tgz, the package: geolint.js with the module, and a command
 #     make library TARGET=aarch64    # out/library-aarch64/libgeolint.a and .so, for Linux on 64-bit ARM
 #
-# They need rt (the Rattle toolchain). The page and the package also need binaryen and Python's package markdown, the library for
-# ARM a cross compiler; where one is missing, a line says how to install it.
+# They need rt (the Rattle toolchain). The page and the package also need binaryen, the page terser and Python's package markdown, the
+# library for ARM a cross compiler; where one is missing, a line says how to install it.
 top := $(abspath $(GEOLINT_ROOT))
 WEB := $(top)/contrib/web
 WEB_OUT ?= $(top)/web
@@ -55,9 +55,10 @@ $(WEB_BUILD)/geolint_64.wasm: $(WEB_BUILD)/libgeolint_c.a
 $(WEB_BUILD)/geolint.wasm: $(WEB_BUILD)/geolint_64.wasm $(WEB)/plain-loads
 	@$(call needs,wasm-opt,binaryen)
 	wasm-dis --all-features $< | $(WEB)/plain-loads >$(WEB_BUILD)/plain.wat
-	wasm-opt --all-features $(WEB_BUILD)/plain.wat --memory64-lowering -O3 -o $@
+	wasm-opt --all-features $(WEB_BUILD)/plain.wat --memory64-lowering -O3 --converge -o $@
 
 $(WEB_OUT)/index.html: $(WEB_BUILD)/geolint.wasm $(wildcard $(WEB)/*) $(top)/docs/rules.md
+	@$(call needs,terser,terser)
 	@mkdir -p $(WEB_OUT)
 	$(WEB_PYTHON) $(WEB)/build $< $@
 	@echo "geolint: the page is $@, $$(($$(gzip -9c $@ | wc -c) / 1000)) kB as a server sends it" >&2
