@@ -1,16 +1,10 @@
 -- How many commas the first blocks of a piece have.
-use Rattle.std.proofs.Common.{◌≡◌, ℕ, zero, suc, ◌+◌, ◌*◌, ◌<◌, ◌≤◌, List, [], length, take, drop, drop-drop, get_or, ap, sym, ◌∙◌, arith, take-add}
+use Rattle.std.proofs.Common.{◌≡◌, ℕ, ◌+◌, ◌*◌, ◌<◌, ◌≤◌, List, [], length, take, drop, get_or, ap, sym, ◌∙◌, arith, take-add}
 use Rattle.std.proofs.lemmas.List.Sums.{sum_by-append, sum_by-take-le, sum_by-take-drop, count_by-le-length}
 use Rattle.std.specs.Simd.{first_chunks}
 use Rattle.gj_rules.specs.FeatureFindings.{is_comma, commas}
 use Rattle.gj_rules.proofs.Features.FeaturesByCommas.{one_if}
-
-block_at : (n k i : ℕ) (piece : List ℕ) → i < k → get_or (first_chunks n k piece) i [] ≡ take n (drop (i * n) piece)
-block_at n zero i piece h = absurd (omega arith)
-block_at n (suc k) zero piece h = let e : 0 * n ≡ 0 = omega arith in ap (λ m. take n (drop m piece)) (sym e)
-block_at n (suc k) (suc i) piece h =
-    let e : n + i * n ≡ suc i * n = omega arith in
-    block_at n k i (drop n piece) (omega arith) ∙ ap (take n) (drop-drop (i * n) n piece) ∙ ap (λ m. take n (drop m piece)) e
+use Rattle.gj_places.proofs.Blocks.{block_at}
 
 pub one_block_more : (piece : List ℕ) (index k : ℕ) (blocks : List (List ℕ)) → blocks ≡ first_chunks 64 k piece → index < k
     → commas (take ((index + 1) * 64) piece) ≡ commas (take (index * 64) piece) + commas (get_or blocks index [])

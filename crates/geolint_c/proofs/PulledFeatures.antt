@@ -4,6 +4,7 @@ use Rattle.std.proofs.Common.{length-append, take, slice_get, append_assoc, Opti
 use Rattle.std.proofs.lemmas.Bool.Decides.{nat_tests}
 use Rattle.std.proofs.lemmas.List.{take_all, take-append-le, length-take-le}
 use Rattle.std.proofs.lemmas.List.Sums.{sum_by-take-le}
+use Rattle.std.proofs.lemmas.Option.{slice_get_past}
 use Rattle.gj_json.specs.Limits.{Allowed}
 use Rattle.gj_json.specs.Text.{IsText, IsTextWithin}
 use Rattle.gj_json.specs.Tree.{Tree, Text}
@@ -21,15 +22,9 @@ use Rattle.geolint_c.specs.Internal.Pulling.{Counted, OfLinter, HasRoomFor, most
 use Rattle.geolint_c.specs.Latest.{Keeps}
 use Rattle.gj_rules.proofs.Features.FeaturesInTime.{as_many}
 use Rattle.gj_rules.proofs.Features.FeaturesByCommas.{one_if}
+use Rattle.gj_rules.proofs.Texts.LinterEvents.{take_both}
 
 -- ---- lists
-
-take_on : (xs ys : List ℕ) (m : ℕ) → length xs ≤ m → take m (xs ++ ys) ≡ xs ++ take (m - length xs) ys
-take_on [] ys m l = let e : m ≡ m - 0 = omega arith in ap (λ k. take k ys) e
-take_on (x ∷ xs) ys zero l = absurd (omega (arith, l))
-take_on (x ∷ xs) ys (suc m) l =
-    let e : m - length xs ≡ suc m - suc (length xs) = omega arith in
-    ap (λ zs. x ∷ zs) (take_on xs ys m (omega (arith, l)) ∙ ap (λ k. xs ++ take k ys) e)
 
 -- ---- what is told and what is found
 
@@ -54,11 +49,6 @@ some_at [] i l = absurd (omega (arith, l))
 some_at (f ∷ fs) zero l = (f, refl)
 some_at (f ∷ fs) (suc i) l = some_at fs i (omega (arith, l))
 
-none_at : (found : List FeatureFinding) (i : ℕ) → length found ≤ i → slice_get found i ≡ None
-none_at [] i l = refl
-none_at (f ∷ fs) zero l = absurd (omega (arith, l))
-none_at (f ∷ fs) (suc i) l = none_at fs i (omega (arith, l))
-
 -- the feature that is kept at a place is the next of those that were found
 pub next_found : (latest : LatestFeatures) (found : List FeatureFinding) (pulled : ℕ) (feature : Feature) (told : Finding) → length found < 2 ^ 64
     → TellFindings (Keeps latest) found
@@ -82,7 +72,7 @@ none_next None pulled ready told limits bytes e r counts j = absurd j
 none_next (Some linter) pulled ready told limits bytes e r counts j = λ text rest t few.
     let n = counts limits bytes j.stands j.under text rest t few in
     let l : (sink_of linter).told ≤ pulled = grind (arith, nat_tests) in
-    subst (λ (o : Option FeatureFinding). IsNextOf o ready told) (sym (none_at (findings_by (offset_of linter) text) pulled (omega (arith, n, l)))) e
+    subst (λ (o : Option FeatureFinding). IsNextOf o ready told) (sym (slice_get_past (findings_by (offset_of linter) text) pulled (omega (arith, n, l)))) e
 
 -- one more was pulled
 pub pulled_on : (linter : Judging) (pulled : ℕ) (limits : Allowed) (bytes : List ℕ) → tells_more linter pulled ≡ true → Counted linter
@@ -160,7 +150,7 @@ room_on in_time by_commas old new pulled limits bytes chunk on within taken all 
         let m = offset_of new in
         let full : n ≡ length bytes = all e in
         let part = take (m - length bytes) chunk in
-        let at : take m (bytes ++ chunk) ≡ bytes ++ part = take_on bytes chunk m (omega (arith, on, full)) in
+        let at : take m (bytes ++ chunk) ≡ bytes ++ part = take_both bytes chunk m (omega (arith, on, full)) in
         let start : take n bytes ≡ bytes = take_all n bytes (omega (arith, full)) in
         let same : take m (bytes ++ chunk) ++ rest ≡ take n bytes ++ (part ++ rest) =
         ap (λ bs. bs ++ rest) at ∙ (append_assoc bytes part rest ∙ ap (λ bs. bs ++ (part ++ rest)) (sym start)) in
