@@ -2,6 +2,7 @@
 use Rattle.std.proofs.Common.{◌≡◌, ℕ, ◌+◌, ◌-◌, ◌≤◌, false, List, [], ◌∷◌, ◌++◌, length, take, drop, map, Option, Some, None, refl, sym, ap, subst, ◌∙◌, arith}
 use Rattle.std.proofs.lemmas.List.{append-nil}
 use Rattle.std.specs.List.{AllByRecursion}
+use Rattle.std.proofs.Math.Seq.{take-append_seam, drop-append_seam}
 use Rattle.gj_json.specs.Bytes.{IsWhite}
 use Rattle.gj_json.specs.Grammar.{Spells}
 use Rattle.gj_json.specs.Text.{IsText, IsTextWithin}
@@ -21,14 +22,6 @@ use Rattle.gj_coords.proofs.Readers.LeastOfSome.{least_none}
 
 -- ---- the bytes of a value
 
-pub cut_after : {A : Type 0} (xs ys : List A) → drop (length xs) (xs ++ ys) ≡ ys
-cut_after [] ys = refl
-cut_after (x ∷ xs) ys = cut_after xs ys
-
-cut_before : {A : Type 0} (xs ys : List A) → take (length xs) (xs ++ ys) ≡ xs
-cut_before [] ys = refl
-cut_before (x ∷ xs) ys = ap (λ zs. x ∷ zs) (cut_before xs ys)
-
 -- of a value that stands in a text, those from its place to its end are its own
 pub own_bytes : (v : Tree) (bytes : List ℕ) (s : StandsIn v 0 bytes) → bytes_between (place_of v) (end_of v) bytes ≡ s.own
 own_bytes v bytes s =
@@ -36,7 +29,7 @@ own_bytes v bytes s =
     let e = (value_ends v _ s.own s.spelled).0 in
     by_places (place_of v) (end_of v) (length s.before) (length s.own) p e
     ∙ (ap (λ xs. take (length s.own) (drop (length s.before) xs)) s.joined
-    ∙ (ap (λ xs. take (length s.own) xs) (cut_after s.before (s.own ++ s.after)) ∙ cut_before s.own s.after))
+    ∙ (ap (λ xs. take (length s.own) xs) (drop-append_seam s.before (s.own ++ s.after)) ∙ take-append_seam s.own s.after))
   where
     by_places : (place end a b : ℕ) → place ≡ 0 + a → end ≡ 0 + a + b → bytes_between place end bytes ≡ take b (drop a bytes)
     by_places place end a b p e =

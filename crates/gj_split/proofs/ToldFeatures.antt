@@ -1,8 +1,9 @@
 -- What was told of the features of a text, where each ends, is what is found in them.
-use Rattle.std.proofs.Common.{◌≡◌, ℕ, suc, ◌+◌, ◌≤◌, ◌<◌, inl, inr, Bool, true, false, ◌||◌, ◌==◌, if◌then◌else◌, eqb, List, [], ◌∷◌, ◌++◌, length, drop}
+use Rattle.std.proofs.Common.{◌≡◌, ℕ, suc, ◌+◌, ◌≤◌, ◌<◌, inl, inr, true, false, ◌==◌, if◌then◌else◌, eqb, List, [], ◌∷◌, ◌++◌, length, drop}
 use Rattle.std.proofs.Common.{Option, Some, None, refl, sym, ap, subst, ◌∙◌, arith, append_assoc, length-append}
-use Rattle.std.proofs.lemmas.Bool.{ne_eqb}
+use Rattle.std.proofs.lemmas.Bool.{ne_eqb, or_from}
 use Rattle.std.specs.List.{AllByRecursion}
+use Rattle.std.proofs.Math.Seq.{drop-append_seam}
 use Rattle.gj_number.specs.Bytes.{IsNumberByte}
 use Rattle.gj_json.specs.declared.constant.Constant.{Constant}
 use Rattle.gj_json.specs.declared.constant.Constant.TheVariants.{Null, True, False}
@@ -23,7 +24,6 @@ use Rattle.gj_split.specs.Internal.HeldRecords.{Holds}
 use Rattle.gj_split.specs.declared.splitter.Counts.{Counts}
 use Rattle.gj_split.proofs.ElementBytes.{Follows, IsFollowed, IsElementIn, features_in}
 use Rattle.gj_split.proofs.SpelledBytes.{IsHigh, high_all, number_all, value_ends, value_begins}
-use Rattle.gj_split.proofs.TextsAlone.{cut_after}
 
 -- ---- bytes within a value
 
@@ -72,10 +72,6 @@ number_bounds b (inr (inr (inr (inl e)))) = (omega (arith, e), (λ f. omega (ari
 number_bounds b (inr (inr (inr (inr (inl e))))) = (omega (arith, e), (λ f. omega (arith, e, f)), (λ f. omega (arith, e, f)))
 number_bounds b (inr (inr (inr (inr (inr e))))) = (omega (arith, e), (λ f. omega (arith, e, f)), (λ f. omega (arith, e, f)))
 
-or_none : (s t : Bool) → s ≡ false → t ≡ false → (s || t) ≡ false
-or_none true t e f = cc
-or_none false t e f = f
-
 below : (b c : ℕ) → 43 ≤ b → c < 43 → eqb b c ≡ false
 below b c l m = ne_eqb b c (λ e. omega (arith, l, m, e))
 
@@ -83,9 +79,9 @@ below b c l m = ne_eqb b c (λ e. omega (arith, l, m, e))
 goes_on : (b : ℕ) → IsNumberByte b → ends_word b ≡ false
 goes_on b h =
     let n = number_bounds b h in
-    or_none _ _ (below b 32 n.0 (omega arith))
-    (or_none _ _ (below b 9 n.0 (omega arith)) (or_none _ _ (below b 10 n.0 (omega arith)) (or_none _ _ (below b 13 n.0 (omega arith))
-    (or_none _ _ (ne_eqb b 44 n.1) (ne_eqb b 93 n.2)))))
+    or_from _ _ (below b 32 n.0 (omega arith))
+    (or_from _ _ (below b 9 n.0 (omega arith)) (or_from _ _ (below b 10 n.0 (omega arith)) (or_from _ _ (below b 13 n.0 (omega arith))
+    (or_from _ _ (ne_eqb b 44 n.1) (ne_eqb b 93 n.2)))))
 
 word_on : (b : ℕ) → IsNumberByte b → scan_next Scan.Word b ≡ Scan.Word
 word_on b h = ap (λ t. if t then Scan.Past else Scan.Word) (goes_on b h)
@@ -233,7 +229,7 @@ end_is v bytes None s e k =
     let place = value_begins v _ t.own t.spelled in
     let end = (value_ends v _ t.own t.spelled).0 in
     let rest : drop (place_of v) bytes ≡ t.own ++ t.after =
-    ap (λ n. drop n bytes) (at_front place) ∙ (ap (λ xs. drop (length t.before) xs) t.joined ∙ cut_after t.before (t.own ++ t.after)) in
+    ap (λ n. drop n bytes) (at_front place) ∙ (ap (λ xs. drop (length t.before) xs) t.joined ∙ drop-append_seam t.before (t.own ++ t.after)) in
     let flat : is_flat (t.own ++ t.after) ≡ true = subst (λ xs. is_flat xs ≡ true) rest k in
     counted (place_of v) (length t.before) (length t.own) (scan_length Scan.Start (drop (place_of v) bytes)) (end_of v) place end
     (ap (scan_length Scan.Start) rest ∙ scalar_length v _ t.own t.after t.spelled s.followed flat)
