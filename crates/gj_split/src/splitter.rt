@@ -32,7 +32,7 @@ pub struct Counts {
     pub broken: u64,
 }
 
-/// After so many records the writers are flushed.
+/// The writers are flushed each time this many records were written.
 const FLUSHED: u64 = 256;
 
 /// The writers of the records.
