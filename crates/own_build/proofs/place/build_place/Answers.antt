@@ -1,15 +1,16 @@
 use Rattle.std.proofs.Common.{◌+◌, Some, ap, sym, refl, ◌∙◌, subst, true≢false}
+use Rattle.std.proofs.lemmas.List.{take_rest}
 use Rattle.memchr.specs.Find.{FindsLastNeedle, IsFirstByte, is_byte}
 use Rattle.own_build.specs.declared.place.TheConstants.{MARK}
 use Rattle.own_build.specs.BuildPlaces.{is_text}
-use Rattle.own_build.proofs.Rests.{rest_of}
 use Rattle.own_build.proofs.place.build_place.Goals as goal
 
 pub returns-then-not-is_text-clause-place : goal.returns-then-not-is_text-clause-place
 returns-then-not-is_text-clause-place c = (
   Some c.in-Some.mark,
   subst (FindsLastNeedle c.args.file.now MARK) c.in-Some.is c.rfind.ensures,
-  λ starts. absurd (true≢false (sym starts ∙ (ap is_text (sym (rest_of c.args.file.now (c.in-Some.mark + 14))) ∙ (sym c.is_text.ensures ∙ c.if-not-is_text.true)))),
+  λ starts. absurd (true≢false (sym starts
+      ∙ (ap is_text (sym (take_rest c.args.file.now (c.in-Some.mark + 14))) ∙ (sym c.is_text.ensures ∙ c.if-not-is_text.true)))),
 )
 
 pub returns-in-Some-memchr-clause-place : goal.returns-in-Some-memchr-clause-place
@@ -17,9 +18,10 @@ returns-in-Some-memchr-clause-place c = (
   Some c.in-Some.mark,
   subst (FindsLastNeedle c.args.file.now MARK) c.in-Some.is c.rfind.ensures,
   (
-    ap is_text (sym (rest_of c.args.file.now (c.in-Some.mark + 14))) ∙ (sym c.is_text.ensures ∙ c.if-not-is_text.false),
+    ap is_text (sym (take_rest c.args.file.now (c.in-Some.mark + 14))) ∙ (sym c.is_text.ensures ∙ c.if-not-is_text.false),
     c.in-Some-memchr.count,
-    subst (λ rest. IsFirstByte (is_byte 0) rest (Some c.in-Some-memchr.count)) (rest_of c.args.file.now (c.in-Some.mark + 14)) (subst (IsFirstByte (is_byte 0) _) c.in-Some-memchr.is c.memchr.ensures),
+    subst (λ rest. IsFirstByte (is_byte 0) rest (Some c.in-Some-memchr.count)) (take_rest c.args.file.now (c.in-Some.mark + 14))
+        (subst (IsFirstByte (is_byte 0) _) c.in-Some-memchr.is c.memchr.ensures),
     refl,
     refl,
   ),
