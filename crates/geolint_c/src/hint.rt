@@ -64,7 +64,7 @@ fn wrong_if_valid(report: &Report) -> Option<Wrong>
     }
 }
 
-/// What is wrong with an input of this report, where so many arrays and objects are open before its place.
+/// What is wrong with an input of this report, where `levels` arrays and objects are open before its place.
 fn wrong_of(report: &Report, levels: u32) -> Option<Wrong>
     ensures { result ≡ wrong_of report.now levels }
 {
@@ -183,7 +183,7 @@ pub extern "C" fn geolint_hint_text(report: &Report, bytes: &[u8], text: &mut &'
 }
 
 /// The hint for an input of this report, by its first bytes, and those before the place and from it on; an empty text where
-/// there is none. Before the place so many arrays and objects are open.
+/// there is none. Before the place `levels` arrays and objects are open.
 #[unsafe(no_mangle)]
 pub extern "C" fn geolint_hint_around(
     report: &Report,

@@ -71,7 +71,7 @@ fn step_text(step: PathStep) -> StepText
     text
 }
 
-/// The text of a step of a path, where it has so many.
+/// The text of the step at `i` of a path; that there is none, where the path is shorter.
 fn step_in(path: &Path, i: u32) -> StepText
     ensures { Shows (slice_get (steps_of path.now) i) result }
 {
