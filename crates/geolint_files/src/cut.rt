@@ -1,20 +1,22 @@
 //! A file of records is checked in parts, and their lines are joined.
 //!
 //! No contract can say what an open file gives. Those here say which part a line is of and with which options, and that what is
-//! joined is the verdict of the file, if the lines are true.
+//! joined is the verdict of the file, with the notes on its records that are asked for, if the lines are true.
 
 ghost use Rattle.std.specs.Prelude.{◌≡◌, ℕ, List, IfOk, Some};
 ghost use Rattle.std.specs.List.{All};
 ghost use Rattle.gj_json.specs.Limits.{Allowed};
 ghost use Rattle.gj_join.specs.Joined.{IsVerdictOf};
 ghost use Rattle.gj_rules.specs.declared.records.framing.Framing.{Framing};
-ghost use Rattle.part_lines.specs.Lines.{IsLineOf};
+ghost use Rattle.part_lines.specs.Lines.{IsLineOf, IsListedLineOf};
 ghost use Rattle.part_lines.specs.LineObject.{IsLineIn};
 ghost use Rattle.part_lines.specs.LineText.{line_text};
 ghost use Rattle.part_lines.specs.declared.line.PartLine.{PartLine};
 ghost use Rattle.serde_json.specs.Data.{Data};
 ghost use Rattle.serde_json.specs.Read.{read};
+ghost use Rattle.sequence_parts.specs.Checked.{AreNotesIf};
 ghost use Rattle.geolint_files.specs.AskedLine.{IsAskedLine};
+ghost use Rattle.geolint_files.specs.Listed.{asked_in};
 
 use crate::files::{look_up, reason};
 use crate::outcome::Outcome;
@@ -187,8 +189,11 @@ fn join_given(
     order: &Order,
     given: &Given,
 ) -> Result<(SeqVerdict, Option<Notes>), Refusal>
-    ensures { IfOk result (λ found. (framing : Framing) (limits : Allowed) (text : List ℕ) → All (IsLineOf framing limits text) given.now.lines.items
-        → IsVerdictOf framing limits text found.0) }
+    ensures verdict { IfOk result (λ found. (framing : Framing) (limits : Allowed) (text : List ℕ)
+        → All (IsLineOf framing limits text) given.now.lines.items → IsVerdictOf framing limits text found.0) }
+    ensures notes { IfOk result (λ found. (framing : Framing) (limits : Allowed) (text : List ℕ)
+        → All (IsListedLineOf framing limits text) given.now.lines.items
+        → AreNotesIf framing limits (asked_in order.now.options) text found.1) }
 {
     let lines = given.lines.as_slice();
     let verdict = join_lines(alloc, lines)?;

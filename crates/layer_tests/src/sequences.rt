@@ -635,6 +635,7 @@ fn findings_of_parts_are_those_of_one_reading(rt: HostRuntime) -> io::Result<()>
                     return Err(io::Error::from(io::ErrorKind::InvalidInput));
                 };
                 let mut line = line_of(&rt, 1, found.part)?;
+                line.file.size = bytes.len() as u64;
                 line.share = share;
                 line.listed = match found.notes {
                     Some(notes) => Some(Listed {
