@@ -5,6 +5,7 @@ mod JoinedNotes
 mod WrittenItems
 mod ReadItems
 mod ReadTexts
+mod MembersRead
 mod LinesRead
 mod LinesAgree
 mod LinesBack
