@@ -1,6 +1,6 @@
 -- Lemmas on where the count of a code lies, and on counts with one more.
 use Rattle.std.specs.Prelude.{cond}
-use Rattle.std.proofs.Common.{arith, nat_le, inl, inr, set, length, ◌≡◌, ◌≤◌, ◌<◌, ◌+◌, ◌-◌, ℕ, Bool, true, false, List, [], ◌∷◌, ◌++◌, get_or, ap}
+use Rattle.std.proofs.Common.{arith, inl, inr, set, length, ◌≡◌, ◌≤◌, ◌<◌, ◌+◌, ◌-◌, ℕ, Bool, true, false, List, [], ◌∷◌, ◌++◌, get_or, ap}
 use Rattle.std.proofs.Common.{sym, ◌∙◌, nat_eq}
 use Rattle.std.specs.Io.Iter.{u64_saturate}
 use Rattle.std.specs.List.{count_by}
@@ -19,6 +19,7 @@ use Rattle.geolint_report.specs.declared.texts.Code.{Code}
 use Rattle.geolint_report.specs.declared.texts.TheConstants.{CODES}
 use Rattle.geolint_report.specs.Slots.{same, slot_of, more}
 use Rattle.geolint_report.specs.Texts.{cause_number}
+pub use Rattle.std.proofs.lemmas.Bool.{le-leb as below, lt-leb as above}
 
 rule-range : (rule : Rule) → (1 ≤ number_of rule) × (number_of rule ≤ 21)
 rule-range G1 = (omega arith, omega arith)
@@ -58,12 +59,6 @@ kind-slot kind = let w = kind_range kind in omega (arith, w.0, w.1)
 
 pub cause-slot : (cause : Cause) → slot_of (Code.Cause cause) < CODES
 cause-slot cause = let w = cause-range cause in omega (arith, w.0, w.1)
-
-pub below : (m n : ℕ) → m ≤ n → nat_le m n ≡ true
-below m n less = grind (arith, nat_tests, less)
-
-pub above : (m n : ℕ) → n < m → nat_le m n ≡ false
-above m n more = grind (arith, nat_tests, more)
 
 lessened : (m n : ℕ) → 1 ≤ m → 1 ≤ n → nat_eq m n ≡ nat_eq (m - 1) (n - 1)
 lessened m n positive also = grind (arith, nat_tests, positive, also)

@@ -1,9 +1,10 @@
 -- Lemmas on the paths that a second reading finds.
-use Rattle.std.proofs.Common.{arith, refl, ◌≡◌, ◌<◌, ◌≤◌, ℕ, suc, ◌+◌, ◌-◌, ◌++◌, ◌∷◌, ◌||◌, [], List, Bool, length, take, drop, get_or, set, ap, sym, ◌∙◌}
+use Rattle.std.proofs.Common.{arith, refl, ◌≡◌, ◌<◌, ◌≤◌, ℕ, suc, ◌+◌, ◌++◌, ◌∷◌, ◌||◌, [], List, Bool, length, take, drop, get_or, set, ap, sym, ◌∙◌}
 use Rattle.std.proofs.Common.{subst, true, false, append_assoc, append-nil, length-append, length-drop, length-take-le, if◌then◌else◌, Option, Some, None}
 use Rattle.std.proofs.Common.{IfSome}
 use Rattle.std.specs.Io.KnownBytes.{Consumes}
-use Rattle.std.proofs.lemmas.List.{take-append-le, take_at, take_all, take_more, get_or-drop, take-append-drop}
+use Rattle.std.proofs.lemmas.List.{take-append-le, take_at, take_more, get_or-drop, take-append-drop}
+use Rattle.std.proofs.Math.Bool.{or-false, or_assoc}
 use Rattle.gj_json.specs.declared.path.Path.{Path}
 use Rattle.gj_rules.specs.declared.records.framing.Framing.{Framing}
 use Rattle.geolint_report.specs.declared.sites.Site.{Site}
@@ -18,16 +19,8 @@ module _ (framing : Framing) where
 
   has_separator-more : (bytes : List ℕ) (byte : ℕ) → has_separator framing (bytes ++ byte ∷ []) ≡ (has_separator framing bytes || is_separator framing byte)
   has_separator-more [] byte = or-false (is_separator framing byte)
-    where
-      or-false : (b : Bool) → (b || false) ≡ b
-      or-false true = refl
-      or-false false = refl
   has_separator-more (first ∷ more) byte = ap (λ (b : Bool). is_separator framing first || b) (has_separator-more more byte)
-      ∙ or-assoc (is_separator framing first) (has_separator framing more) (is_separator framing byte)
-    where
-      or-assoc : (a b c : Bool) → (a || (b || c)) ≡ ((a || b) || c)
-      or-assoc true b c = refl
-      or-assoc false b c = refl
+      ∙ sym (or_assoc (is_separator framing first) (has_separator framing more) (is_separator framing byte))
 
   or-true : (a : Bool) → (a || true) ≡ true
   or-true true = refl
@@ -114,8 +107,10 @@ module _ (framing : Framing) where
       ap (last_record framing) (sym parted) ∙ last_record-longer (front ++ byte ∷ []) rest none
       ∙ ap (λ (ys : List ℕ). ys ++ rest) (last_record-begun front byte is)
 
-pub all_rest : (xs : List ℕ) (from : ℕ) → take (length xs - from) (drop from xs) ≡ drop from xs
-all_rest xs from = take_all (length xs - from) (drop from xs) (omega (arith, length-drop from xs))
+-- a text that is no record goes on with the bytes
+pub text_of-more : (framing : Option Framing) (text bytes : List ℕ) → framing ≡ None → text_of framing (text ++ bytes) ≡ text_of framing text ++ bytes
+text_of-more framing text bytes plain =
+    ap (λ (f : Option Framing). text_of f (text ++ bytes)) plain ∙ ap (λ (f : Option Framing). text_of f text ++ bytes) (sym plain)
 
 pub text_of-nil : (framing : Option Framing) → text_of framing [] ≡ []
 text_of-nil None = refl

@@ -4,7 +4,7 @@ use Rattle.std.proofs.Common.{get_or, ap, sym, ◌∙◌, subst, true, false, no
 use Rattle.std.specs.List.{Contains}
 use Rattle.std.proofs.lemmas.Bool.Decides.{nat_tests}
 use Rattle.std.proofs.lemmas.List.{take-append-drop, take-take, length-take}
-use Rattle.std.proofs.lemmas.Bool.{or_right}
+use Rattle.std.proofs.lemmas.Bool.{or_right, or_from}
 use Rattle.gj_json.specs.Limits.{Allowed, IsAllowed}
 use Rattle.gj_json.specs.Text.{IsTextWithin}
 use Rattle.gj_json.specs.Tree.{Text}
@@ -30,10 +30,6 @@ CanGoOn-take limits bytes n text is within fits = (
 
 -- ---- parts
 
-or-false : (a b : Bool) → a ≡ false → b ≡ false → (a || b) ≡ false
-or-false true b first second = absurd (cc)
-or-false false b first second = second
-
 -- the bytes before the next separator
 abbrev up_to : Framing → List ℕ → List ℕ
 up_to framing [] = []
@@ -58,7 +54,7 @@ module _ (framing : Framing) where
   plain-by b byte zero more is within rest = refl
   plain-by true byte (suc n) more is within rest = absurd (omega (arith, within))
   plain-by false byte (suc n) more is within rest =
-      or-false (is_separator framing byte) (has_separator framing (take n more)) is (rest n (omega (arith, within)))
+      or_from (is_separator framing byte) (has_separator framing (take n more)) is (rest n (omega (arith, within)))
 
   plain-front : (bytes : List ℕ) (n : ℕ) → n ≤ length (up_to framing bytes) → has_separator framing (take n bytes) ≡ false
   plain-front [] zero within = refl

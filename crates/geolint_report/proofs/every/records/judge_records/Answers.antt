@@ -9,7 +9,15 @@ use Rattle.geolint_report.proofs.every.records.judge_records.Goals as goal
 
 pub loop-error-init : goal.loop-error-init
 loop-error-init g c = record {
-  read = ([], [], Consumes-nil _, refl, c.new-records.ensures.stands, KeepsRecords-none _ c.new-listing.ensures.keeps c.new-listing.ensures.items, λ begun. begun);
+  read = (
+    [],
+    [],
+    Consumes-nil _,
+    refl,
+    c.new-records.ensures.stands,
+    KeepsRecords-none _ c.new-listing.ensures.keeps c.new-listing.ensures.items,
+    λ begun. begun,
+  );
   framing = c.new-records.ensures.framing;
   limits = c.new-records.ensures.limits;
   unfailed = refl;

@@ -4,17 +4,13 @@ use Rattle.geolint_report.specs.Sites.{text_of, text_limits, has_begun}
 use Rattle.geolint_report.specs.Internal.SecondReading.{Stands}
 use Rattle.geolint_report.proofs.ToldPaths.{KeepsIn-more}
 use Rattle.geolint_report.proofs.sites.Finder.locate.Goals as goal
+use Rattle.geolint_report.proofs.FollowedPaths.{text_of-more}
 
 pub returns-in-Some-clause-stands : goal.returns-in-Some-clause-stands
 returns-in-Some-clause-stands c = λ text stands. c.locate_in_record.ensures.stands text c.in-Some.is stands
 
 pub returns-in-Some-clause-keeps : goal.returns-in-Some-clause-keeps
 returns-in-Some-clause-keeps c = λ text stands keeps. c.locate_in_record.ensures.keeps text c.in-Some.is stands keeps
-
--- a text that is no record goes on with the bytes
-joined : (framing : Option Framing) (text bytes : List ℕ) → framing ≡ None → text_of framing (text ++ bytes) ≡ text_of framing text ++ bytes
-joined framing text bytes plain =
-    ap (λ (f : Option Framing). text_of f (text ++ bytes)) plain ∙ ap (λ (f : Option Framing). text_of f text ++ bytes) (sym plain)
 
 begun : (framing : Option Framing) (text bytes : List ℕ) → framing ≡ None → has_begun framing (text ++ bytes) ≡ has_begun framing text
 begun framing text bytes plain = ap (λ (f : Option Framing). has_begun f (text ++ bytes)) plain ∙ ap (λ (f : Option Framing). has_begun f text) (sym plain)
@@ -24,7 +20,7 @@ returns-in-None-clause-stands c = λ text stands.
     let old = c.args.self.now in
     let bytes = c.args.bytes.now in
     let kind = ap (λ (f : Option Framing). text_of f (text ++ bytes)) c.locate_in_text.ensures.same.kind in
-    subst (Stands c.locate_in_text.new.self) (sym (kind ∙ joined old.framing text bytes c.in-None.is))
+    subst (Stands c.locate_in_text.new.self) (sym (kind ∙ text_of-more old.framing text bytes c.in-None.is))
     (c.locate_in_text.ensures.stands (text_of old.framing text) stands)
 
 pub returns-in-None-clause-keeps : goal.returns-in-None-clause-keeps
@@ -33,5 +29,5 @@ returns-in-None-clause-keeps c = λ text stands keeps.
     let bytes = c.args.bytes.now in
     let plain = c.in-None.is in
     KeepsIn-more old c.locate_in_text.new.self text bytes c.locate_in_text.ensures.same.kind c.locate_in_text.ensures.same.limits
-    (joined old.framing text bytes plain)
+    (text_of-more old.framing text bytes plain)
     (begun old.framing text bytes plain) (c.locate_in_text.ensures.keeps (text_limits old.framing old.limits) (text_of old.framing text) stands) keeps

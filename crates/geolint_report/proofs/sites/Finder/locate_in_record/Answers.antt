@@ -1,10 +1,11 @@
 use Rattle.std.proofs.Common.{refl, ◌≡◌, ◌+◌, ◌++◌, [], ℕ, List, true, false, ap, sym, subst, ◌∙◌, drop, get_or, nat_eq, Option, Some}
+use Rattle.std.proofs.lemmas.List.{take_rest}
 use Rattle.gj_json.specs.Limits.{Allowed}
 use Rattle.gj_rules.specs.declared.records.framing.Framing.{Framing}
 use Rattle.gj_rules.specs.declared.records.framing.Framing.TheVariants.{Sequence, Lines}
 use Rattle.geolint_report.specs.Sites.{is_separator, has_separator, CanGoOn, has_begun, text_of, text_limits}
 use Rattle.geolint_report.specs.Internal.SecondReading.{Stands}
-use Rattle.geolint_report.proofs.FollowedPaths.{last_record-longer, has_separator-longer, rest-separates, last_record-parted, all_rest}
+use Rattle.geolint_report.proofs.FollowedPaths.{last_record-longer, has_separator-longer, rest-separates, last_record-parted}
 use Rattle.geolint_report.proofs.ToldPaths.{KeepsIn-more}
 use Rattle.geolint_report.proofs.sites.Finder.locate_in_record.Goals as goal
 
@@ -27,7 +28,7 @@ pub returns-in-Some-clause-stands : goal.returns-in-Some-clause-stands
 returns-in-Some-clause-stands c = λ text kind stands.
     let after = c.locate_in_text.ensures.stands [] (λ live. (c.new-self.ensures.stands, c.new-self.ensures.open)) in
     let same = ap (λ (f : Option Framing). text_of f (text ++ c.args.bytes.now)) (sym c.locate_in_text.ensures.same.kind) in
-    subst (Stands c.locate_in_text.new.self) (all_rest c.args.bytes.now (c.in-Some.last + 1) ∙ sym (record-is c text kind) ∙ same) after
+    subst (Stands c.locate_in_text.new.self) (take_rest c.args.bytes.now (c.in-Some.last + 1) ∙ sym (record-is c text kind) ∙ same) after
 
 pub returns-in-Some-clause-keeps : goal.returns-in-Some-clause-keeps
 returns-in-Some-clause-keeps c = λ text kind stands keeps under.
@@ -38,7 +39,7 @@ returns-in-Some-clause-keeps c = λ text kind stands keeps under.
     ap (λ (f : Option Framing). text_limits f new.limits) (c.locate_in_text.ensures.same.kind ∙ kind)
     ∙ ap (λ (l : Allowed). text_limits (Some c.args.framing) l) c.locate_in_text.ensures.same.limits in
     let is = ap (λ (f : Option Framing). text_of f (text ++ bytes)) c.locate_in_text.ensures.same.kind ∙ record-is c text kind
-    ∙ sym (all_rest bytes (c.in-Some.last + 1)) in
+    ∙ sym (take_rest bytes (c.in-Some.last + 1)) in
     let here = subst (λ (l : Allowed). CanGoOn l (text_of new.framing (text ++ bytes))) lim under.1 in
     let goes = subst (λ (ys : List ℕ). CanGoOn limits ys) is here in
     let after = c.locate_in_text.ensures.keeps limits [] (λ live. (c.new-self.ensures.stands, c.new-self.ensures.open))

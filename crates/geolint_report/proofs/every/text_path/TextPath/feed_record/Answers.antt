@@ -1,9 +1,9 @@
 use Rattle.std.proofs.Common.{◌≡◌, ◌+◌, ◌++◌, [], true, false, ap, sym, subst, ◌∙◌, drop, get_or, nat_eq, Option}
+use Rattle.std.proofs.lemmas.List.{take_rest}
 use Rattle.gj_rules.specs.declared.records.framing.Framing.{Framing}
 use Rattle.geolint_report.specs.Sites.{is_separator, has_separator, text_of}
 use Rattle.geolint_report.specs.Internal.TextPaths.{Follows}
 use Rattle.geolint_report.proofs.FollowedPaths.{last_record-longer, rest-separates, last_record-parted}
-use Rattle.geolint_report.proofs.FollowedPaths.{all_rest}
 use Rattle.geolint_report.proofs.every.text_path.TextPath.feed_record.Goals as goal
 
 -- the bytes have a separator
@@ -19,7 +19,7 @@ returns-in-Some-clause-stands c = λ front kind stands.
     let after = c.feed_text.ensures.follows [] (λ live. (c.new-self.ensures.stands, c.new-self.ensures.open)) in
     let same = ap (λ (f : Option Framing). text_of f (front ++ bytes)) (c.feed_text.ensures.framing ∙ kind) in
     let record_is = last_record-parted c.args.framing front bytes last c.in-Some.ensures.0.high is none in
-    subst (Follows c.feed_text.new.self) (all_rest bytes (last + 1) ∙ sym record_is ∙ sym same) after
+    subst (Follows c.feed_text.new.self) (take_rest bytes (last + 1) ∙ sym record_is ∙ sym same) after
 
 -- they have none
 pub returns-in-None-clause-stands : goal.returns-in-None-clause-stands
