@@ -122,7 +122,7 @@ fn allowed_types(path: &Path) -> &'static [u8] {
     }
 }
 
-/// The name of the member that holds the value after so many steps, or the array that it is in.
+/// The name of the member that holds the value after the first `steps` steps, or the array that it is in.
 fn member_around(path: &Path, steps: u16) -> Option<Known> {
     let last = path.step(steps.checked_sub(1)?)?;
     match last {

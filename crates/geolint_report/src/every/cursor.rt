@@ -37,7 +37,7 @@ impl Mark {
     }
 }
 
-/// After so many bytes of a file.
+/// A place in a file, with what is known of the bytes before it.
 #[derive(Clone, Copy)]
 pub struct Cursor {
     text_path: TextPath,
@@ -147,7 +147,7 @@ impl Cursor {
         }
     }
 
-    /// Passes the bytes before a place: whether there are so many.
+    /// Passes the bytes before a place: whether there are that many.
     fn pass_to<S: Rewind>(&mut self, source: &mut S, place: u64) -> io::Result<bool>
         ensures stands { StandsBy (S.text source.old) self.old → StandsBy (S.text source.old) self.new }
         ensures there { self.old.passed ≤ place → IfOk result (λ there. there ≡ true → self.new.passed ≡ place) }

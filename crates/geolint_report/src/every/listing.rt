@@ -1,4 +1,4 @@
-//! The features or records of a file in which something is found, as the linter reports them: so many are kept, and all are counted.
+//! The features or records of a file in which something is found, as the linter reports them: as many are kept as are asked for, and all are counted.
 ghost use Rattle.std.specs.Prelude.{◌≡◌, ℕ, List, Option, IfOk, IfSome};
 ghost use Rattle.gj_json.specs.Limits.{Allowed};
 ghost use Rattle.gj_rules.specs.declared.records.framing.Framing.{Framing};
@@ -74,7 +74,7 @@ pub struct Asked {
 impl Asked {
     ghost use Rattle.std.specs.Prelude.{◌<◌, ◌≤◌, ◌^◌, ◌↔◌, IsTrue};
 
-    /// Whether a note is kept that comes after so many, of which so many are kept.
+    /// Whether a note is kept that comes after `count` others, of which `kept` are kept.
     fn keeps(self, count: u64, kept: u64) -> bool
         ensures keeps { IsTrue result ↔ ((self.skipped ≤ count) × (kept < self.room)) }
         // as each u64 is
